@@ -1,0 +1,9 @@
+pub mod Calendar
+pub mod Clock
+pub mod Digits
+pub mod Month
+pub mod Parts
+pub mod Range
+pub mod Refusals
+pub mod Texts
+pub mod WallClock

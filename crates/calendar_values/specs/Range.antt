@@ -1,0 +1,33 @@
+-- The range of the library: the years -9999 to 9999.
+use Rattle.std.specs.Prelude.{◌||◌, if◌then◌else◌, ℤ, pos, neg_ℤ, ◌≤ℤ◌, int_lt, Bool, Option, Some, None}
+
+-- the first year and the last
+abbrev pub first_year : ℤ
+first_year = neg_ℤ (pos 9999)
+
+abbrev pub last_year : ℤ
+last_year = pos 9999
+
+-- the day number of the first day, 1 January of the first year
+abbrev pub first_day : ℤ
+first_day = neg_ℤ (pos 4_371_587)
+
+-- the day number of the last day, 31 December of the last year
+abbrev pub last_day : ℤ
+last_day = pos 2_932_896
+
+-- a year of the range
+abbrev pub IsYear : ℤ → Type 0
+IsYear y = (first_year ≤ℤ y) × (y ≤ℤ last_year)
+
+-- a day of the range
+abbrev pub IsDay : ℤ → Type 0
+IsDay n = (first_day ≤ℤ n) × (n ≤ℤ last_day)
+
+-- the number lies before the first or after the last
+abbrev pub is_outside : ℤ → ℤ → ℤ → Bool
+is_outside first last n = int_lt n first || int_lt last n
+
+-- the day, if the range has it
+unfoldable pub checked_day : ℤ → Option ℤ
+checked_day n = if is_outside first_day last_day n then None else Some n

@@ -1,0 +1,25 @@
+-- How dates and times of day print.
+use Rattle.std.specs.Prelude.{ℕ, List, [], ◌++◌, codes, decimal, if◌then◌else◌, nat_lt, int_lt, ℤ, pos, unsigned_abs}
+use Rattle.calendar_values.specs.Calendar.{year_of, month_of, day_of_month_of}
+use Rattle.calendar_values.specs.Clock.{hour_of, minute_of, second_of, nanosecond_of}
+use Rattle.calendar_values.specs.Digits.{last_digits, fraction_digits}
+use Rattle.calendar_values.specs.Range.{last_year}
+
+-- `-` before a negative year, `+` before one above 9999
+abbrev pub year_sign : ℤ → List ℕ
+year_sign y = if int_lt y (pos 0) then codes "-" else (if int_lt (pos 9999) y then codes "+" else [])
+
+-- the year with at least four digits
+abbrev pub year_text : ℤ → List ℕ
+year_text y =
+    let n = unsigned_abs y in year_sign y ++ (if nat_lt n 10_000 then last_digits 4 n else decimal n)
+
+-- the year, `-`, two digits of the month, `-`, two digits of the day
+unfoldable pub date_text : ℤ → List ℕ
+date_text n =
+    year_text (year_of n) ++ codes "-" ++ last_digits 2 (month_of n) ++ codes "-" ++ last_digits 2 (day_of_month_of n)
+
+-- the hour with no zero in front, `:`, two digits of the minute, `:`, two digits of the second, `.`, the fraction
+unfoldable pub time_text : ℕ → List ℕ
+time_text c =
+    decimal (hour_of c) ++ codes ":" ++ last_digits 2 (minute_of c) ++ codes ":" ++ last_digits 2 (second_of c) ++ codes "." ++ fraction_digits 9 (nanosecond_of c)

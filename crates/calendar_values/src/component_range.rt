@@ -1,0 +1,134 @@
+//! The refusal of a part that is out of its range.
+ghost use Rattle.std.specs.Prelude.{◌≡◌};
+ghost use Rattle.std.proofs.Common.{rules};
+ghost use Rattle.std.specs.Cmp.Rules.{comparing};
+ghost use Rattle.calendar_values.specs.Refusals.{refusal_eq};
+
+use std::marker::Model;
+
+// The parts that can be refused.
+#[derive(Clone, Copy, Debug, PartialEq, Eq)]
+enum Part {
+    Year,
+    Month,
+    Day,
+    Ordinal,
+    JulianDay,
+    Hour,
+    Minute,
+    Second,
+    Millisecond,
+    Microsecond,
+    Nanosecond,
+    Hours,
+    Minutes,
+    Seconds,
+    OffsetSeconds,
+    Timestamp,
+    Milliseconds,
+    Microseconds,
+    Nanoseconds,
+}
+
+/// A part is out of its range. A contract sees the part's name and the conditional mark.
+#[derive(Clone, Copy, Debug)]
+pub struct ComponentRange {
+    part: Part,
+    conditional: bool,
+}
+
+impl Model for ComponentRange {
+    ghost use Rattle.calendar_values.specs.Refusals.{Refusal};
+
+    ghost Value = { Refusal };
+
+    ghost use Rattle.calendar_values.specs.Parts.{part_name, part_named, part_named-part_name};
+
+    ghost view = { λ c. record { name = part_name c.part; conditional = c.conditional } };
+
+    ghost inverse = { λ r. record { part = part_named r.name; conditional = r.conditional } };
+
+    ghost inverse_ok = { λ c h i. record { part = part_named-part_name c.part i; conditional = c.conditional } };
+}
+
+impl ComponentRange {
+    ghost use Rattle.calendar_values.specs.Parts.{IsPartName};
+
+    /// The refusal of the part of this name. `conditional` says that the value is possible for some
+    /// year and month, and not with the other parts.
+    pub fn new(name: &'static str, conditional: bool) -> ComponentRange
+        requires { IsPartName name.now }
+        ensures { result ≡ record { name = name.now; conditional = conditional } }
+    {
+        let part = match name {
+            "year" => Part::Year,
+            "month" => Part::Month,
+            "day" => Part::Day,
+            "ordinal" => Part::Ordinal,
+            "julian_day" => Part::JulianDay,
+            "hour" => Part::Hour,
+            "minute" => Part::Minute,
+            "second" => Part::Second,
+            "millisecond" => Part::Millisecond,
+            "microsecond" => Part::Microsecond,
+            "nanosecond" => Part::Nanosecond,
+            "hours" => Part::Hours,
+            "minutes" => Part::Minutes,
+            "seconds" => Part::Seconds,
+            "offset_seconds" => Part::OffsetSeconds,
+            "timestamp" => Part::Timestamp,
+            "milliseconds" => Part::Milliseconds,
+            "microseconds" => Part::Microseconds,
+            _ => Part::Nanoseconds,
+        };
+        ComponentRange { part, conditional }
+    }
+
+    /// The name of the part.
+    pub fn name(self) -> &'static str
+        ensures { result.now ≡ self.name }
+    {
+        match self.part {
+            Part::Year => "year",
+            Part::Month => "month",
+            Part::Day => "day",
+            Part::Ordinal => "ordinal",
+            Part::JulianDay => "julian_day",
+            Part::Hour => "hour",
+            Part::Minute => "minute",
+            Part::Second => "second",
+            Part::Millisecond => "millisecond",
+            Part::Microsecond => "microsecond",
+            Part::Nanosecond => "nanosecond",
+            Part::Hours => "hours",
+            Part::Minutes => "minutes",
+            Part::Seconds => "seconds",
+            Part::OffsetSeconds => "offset_seconds",
+            Part::Timestamp => "timestamp",
+            Part::Milliseconds => "milliseconds",
+            Part::Microseconds => "microseconds",
+            Part::Nanoseconds => "nanoseconds",
+        }
+    }
+
+    /// Whether the value is possible for some year and month, and not with the other parts.
+    pub fn is_conditional(self) -> bool
+        ensures { result ≡ self.conditional }
+    {
+        self.conditional
+    }
+}
+
+impl PartialEq for ComponentRange {
+    ghost eq = { refusal_eq };
+
+    ghost laws = { Prim.search (comparing, rules) };
+
+    fn eq(&self, other: &ComponentRange) -> bool {
+        self.part == other.part && self.conditional == other.conditional
+    }
+}
+
+impl Eq for ComponentRange {
+    ghost laws = { Prim.search (comparing, rules) };
+}
