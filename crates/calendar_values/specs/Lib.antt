@@ -5,5 +5,6 @@ pub mod Month
 pub mod Parts
 pub mod Range
 pub mod Refusals
+pub mod SignedArith
 pub mod Texts
 pub mod WallClock
