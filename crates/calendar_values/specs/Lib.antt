@@ -1,6 +1,8 @@
 pub mod Calendar
 pub mod Clock
 pub mod Digits
+pub mod DurationLaws
+pub mod Durations
 pub mod Month
 pub mod Parts
 pub mod Range

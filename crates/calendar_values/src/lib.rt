@@ -3,8 +3,10 @@
 
 mod component_range;
 mod month;
+mod signed_duration;
 mod text;
 
 pub use component_range::ComponentRange;
 pub use month::Month;
+pub use signed_duration::SignedDuration;
 pub use text::Text;
