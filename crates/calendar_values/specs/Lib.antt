@@ -1,10 +1,13 @@
 pub mod Calendar
 pub mod Clock
+pub mod DayLaws
 pub mod Digits
 pub mod Month
+pub mod MonthLaws
 pub mod Parts
 pub mod Range
 pub mod Refusals
 pub mod SignedArith
 pub mod Texts
 pub mod WallClock
+pub mod YearLaws
