@@ -1,1 +1,3 @@
 pub mod DigitLemmas
+pub mod MonthLemmas
+pub mod YearLemmas

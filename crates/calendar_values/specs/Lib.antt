@@ -7,7 +7,10 @@ pub mod MonthLaws
 pub mod Parts
 pub mod Range
 pub mod Refusals
+pub mod Replacements
 pub mod SignedArith
 pub mod Texts
 pub mod WallClock
+pub mod Weekday
+pub mod Weeks
 pub mod YearLaws

@@ -35,8 +35,8 @@ in_last_begun zero b ordinal last low high = absurd (omega (arith, days_in_month
 in_last_begun (suc n) b ordinal last low high = choose (nat_lt (days_in_months b n) ordinal) refl (λ h. in_last_begun n b ordinal (omega arith) low h) where
   choose : (t : Bool) → nat_lt (days_in_months b n) ordinal ≡ t → (ordinal ≤ days_in_months b n → IsInMonth b ordinal (last_month_begun n b ordinal)) → IsInMonth b ordinal (cond t (suc n) (last_month_begun n b ordinal))
   choose true t earlier =
-    let back : suc n - 1 ≡ n = omega arith in
-    record { first = omega arith; last = last; low = rw back (omega (arith, ltb-true)); high = rw back (omega (arith, days_in_months-suc b n)) }
+      let back : suc n - 1 ≡ n = omega arith in
+      record { first = omega arith; last = last; low = rw back (omega (arith, ltb-true)); high = rw back (omega (arith, days_in_months-suc b n)) }
   choose false t earlier = earlier (omega (arith, ltb-false))
 
 -- each day of the year lies in its month

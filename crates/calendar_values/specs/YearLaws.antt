@@ -48,13 +48,13 @@ unfolding days_from_1970 days_until_1970
 year_start-next y = step (y -ℤ pos 1970) y refl where
   step : (k y : ℤ) → y -ℤ pos 1970 ≡ k → year_start (y +ℤ pos 1) ≡ year_start y +ℤ pos (days_in_year y)
   step (pos n) y e =
-    let here : y ≡ pos 1970 +ℤ pos n = omega (arith, signed_arith) in
-    let next : y +ℤ pos 1 ≡ pos 1970 +ℤ pos (suc n) = omega (arith, signed_arith) in
-    rw (next, here, year_start_forward (suc n), year_start_forward n) refl
+      let here : y ≡ pos 1970 +ℤ pos n = omega (arith, signed_arith) in
+      let next : y +ℤ pos 1 ≡ pos 1970 +ℤ pos (suc n) = omega (arith, signed_arith) in
+      rw (next, here, year_start_forward (suc n), year_start_forward n) refl
   step (negsuc n) y e =
-    let here : y ≡ pos 1970 -ℤ pos (suc n) = omega (arith, signed_arith) in
-    let next : y +ℤ pos 1 ≡ pos 1970 -ℤ pos n = omega (arith, signed_arith) in
-    rw (next, here, year_start_backward (suc n), year_start_backward n) (omega (arith, signed_arith))
+      let here : y ≡ pos 1970 -ℤ pos (suc n) = omega (arith, signed_arith) in
+      let next : y +ℤ pos 1 ≡ pos 1970 -ℤ pos n = omega (arith, signed_arith) in
+      rw (next, here, year_start_backward (suc n), year_start_backward n) (omega (arith, signed_arith))
 
 closed_forward : (j k n : ℕ) → 1970 + j + 400 * k ≡ n → days_from_1970 j + 719528 + 146097 * k ≡ days_from_0 n
 unfolding days_from_1970
@@ -77,11 +77,11 @@ pub year_start-closed : (k n : ℕ) (y : ℤ) → y +ℤ pos (400 * k) ≡ pos n
 year_start-closed k n y e = by_sign (y -ℤ pos 1970) refl where
   by_sign : (j : ℤ) → y -ℤ pos 1970 ≡ j → year_start y +ℤ pos (719528 + 146097 * k) ≡ pos (days_from_0 n)
   by_sign (pos j) h =
-    let here : y ≡ pos 1970 +ℤ pos j = omega (arith, signed_arith) in
-    rw (here, year_start_forward j) (omega (arith, signed_arith, closed_forward j k n (omega (arith, signed_arith))))
+      let here : y ≡ pos 1970 +ℤ pos j = omega (arith, signed_arith) in
+      rw (here, year_start_forward j) (omega (arith, signed_arith, closed_forward j k n (omega (arith, signed_arith))))
   by_sign (negsuc j) h =
-    let here : y ≡ pos 1970 -ℤ pos (suc j) = omega (arith, signed_arith) in
-    rw (here, year_start_backward (suc j)) (omega (arith, signed_arith, closed_backward (suc j) k n (omega (arith, signed_arith))))
+      let here : y ≡ pos 1970 -ℤ pos (suc j) = omega (arith, signed_arith) in
+      rw (here, year_start_backward (suc j)) (omega (arith, signed_arith, closed_backward (suc j) k n (omega (arith, signed_arith))))
 
 days_from_0-later : (m n : ℕ) → m < n → days_from_0 m + 365 ≤ days_from_0 n
 days_from_0-later m n h = omega arith
