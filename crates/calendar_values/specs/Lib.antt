@@ -1,5 +1,6 @@
 pub mod Calendar
 pub mod Clock
+pub mod ClockLaws
 pub mod Digits
 pub mod Month
 pub mod Parts

@@ -4,7 +4,9 @@
 mod component_range;
 mod month;
 mod text;
+mod time;
 
 pub use component_range::ComponentRange;
 pub use month::Month;
 pub use text::Text;
+pub use time::Time;
