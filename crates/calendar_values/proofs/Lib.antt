@@ -1,3 +1,4 @@
 pub mod DigitLemmas
 pub mod MonthLemmas
+pub mod TimeTextLemmas
 pub mod YearLemmas

@@ -1,5 +1,6 @@
 pub mod Calendar
 pub mod Clock
+pub mod ClockLaws
 pub mod DayLaws
 pub mod Digits
 pub mod Month

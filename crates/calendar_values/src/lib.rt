@@ -6,10 +6,14 @@ mod component_range;
 mod month;
 mod range;
 mod text;
+
+mod time;
 mod weekday;
 
 pub use calendar::{days_in_year, is_leap_year};
 pub use component_range::ComponentRange;
 pub use month::Month;
 pub use text::Text;
+
+pub use time::Time;
 pub use weekday::Weekday;
