@@ -1,3 +1,5 @@
+pub mod CountLemmas
+pub mod DateLemmas
 pub mod DigitLemmas
 pub mod MonthLemmas
 pub mod TimeTextLemmas

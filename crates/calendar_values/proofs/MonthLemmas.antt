@@ -2,6 +2,7 @@
 use Rattle.std.proofs.Common.{◌≡◌, ℕ, zero, suc, ◌+◌, ◌-◌, ◌*◌, ◌/◌, ◌<◌, ◌≤◌, Bool, true, false, ◌&&◌, ◌==◌, cond, inl, inr, refl, arith}
 use Rattle.std.proofs.lemmas.Bool.{cases_order, eqb-true}
 use Rattle.std.proofs.lemmas.Bool.Decides.{nat_tests}
+use Rattle.calendar_values.specs.MonthLaws.{IsMonthDay-of_ordinal, days_in_month_bounds}
 use Rattle.calendar_values.specs.Calendar.{year_length, days_in_months, last_month_begun, month_of_ordinal, day_of_ordinal}
 
 -- the days that end before March
@@ -75,4 +76,10 @@ late-day b ordinal low high =
     let most : ordinal - until_march b ≤ 306 = grind arith in
     rw same at (agrees-at b (until_march b) 2 306 (ordinal - until_march b) (agrees-late b) (omega arith) most).1
 
-pub ruleset products = (early-month, early-day, late-month, late-day)
+-- either way the day of the month is counted from 1
+pub day_of_ordinal_bounds : (b : Bool) (ordinal : ℕ) → 1 ≤ ordinal → ordinal ≤ year_length b → (1 ≤ day_of_ordinal b ordinal) × (day_of_ordinal b ordinal ≤ 31)
+day_of_ordinal_bounds b ordinal low high =
+    let h = IsMonthDay-of_ordinal b ordinal low high in
+    (h.day_first, omega (arith, h.day_last, days_in_month_bounds b (month_of_ordinal b ordinal)))
+
+pub ruleset products = (early-month, early-day, late-month, late-day, day_of_ordinal_bounds)

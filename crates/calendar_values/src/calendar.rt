@@ -1,5 +1,6 @@
 //! The rules of the proleptic Gregorian calendar.
 ghost use Rattle.std.specs.Prelude.{◌≡◌, ◌+◌, ◌-◌, ◌*◌, ◌/◌, ◌≤◌, pos, neg_ℤ, ◌+ℤ◌, ◌≤ℤ◌};
+ghost use Rattle.std.specs.Int.{IsInRange};
 ghost use Rattle.calendar_values.specs.Calendar.{is_leap_year, days_in_year, year_length, days_in_month, days_before_month, month_of_ordinal, day_of_ordinal, year_start};
 ghost use Rattle.calendar_values.specs.Range.{IsYear, first_day, last_day};
 ghost use Rattle.calendar_values.specs.Month.{month_number};
@@ -65,7 +66,7 @@ pub(crate) fn month_and_day(is_leap: bool, ordinal: u16) -> (Month, u8)
     requires last { ordinal ≤ year_length is_leap }
     ensures month { month_number result.0 ≡ month_of_ordinal is_leap ordinal }
     ensures day { result.1 ≡ day_of_ordinal is_leap ordinal }
-    ensures in_range { result.1 ≤ 31 }
+    ensures in_range { IsInRange 1 31 result.1 }
 {
     let until_march = if is_leap { 60 } else { 59 };
     if ordinal <= until_march {
