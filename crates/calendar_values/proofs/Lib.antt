@@ -3,5 +3,6 @@ pub mod DateLemmas
 pub mod DigitLemmas
 pub mod DurationLemmas
 pub mod MonthLemmas
+pub mod OffsetLemmas
 pub mod TimeTextLemmas
 pub mod YearLemmas

@@ -7,6 +7,8 @@ pub mod DurationLaws
 pub mod Durations
 pub mod Month
 pub mod MonthLaws
+pub mod OffsetLaws
+pub mod Offsets
 pub mod Parts
 pub mod Range
 pub mod Refusals
