@@ -2,5 +2,8 @@ pub mod CountLemmas
 pub mod DateLemmas
 pub mod DigitLemmas
 pub mod MonthLemmas
+pub mod OrderLemmas
+pub mod StepLemmas
 pub mod TimeTextLemmas
+pub mod WeekLemmas
 pub mod YearLemmas
