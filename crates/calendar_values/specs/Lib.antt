@@ -3,6 +3,8 @@ pub mod Clock
 pub mod ClockLaws
 pub mod DayLaws
 pub mod Digits
+pub mod DurationLaws
+pub mod Durations
 pub mod Month
 pub mod MonthLaws
 pub mod Parts
