@@ -20,3 +20,5 @@ checked_day-before n h = grind (arith, ints)
 -- the day of a year of the range is kept
 pub checked_day-date : (n y : ℤ) (ordinal : ℕ) → IsYear y → IsOrdinalDate y ordinal → day_of_ordinal_date y ordinal ≡ n → Some (day_of_ordinal_date y ordinal) ≡ checked_day n
 checked_day-date n y ordinal year date e = checked_day-in (day_of_ordinal_date y ordinal) n (IsDay-ordinal_date y ordinal year date) e
+
+pub ruleset checked_days = (ints, checked_day-in, checked_day-after, checked_day-before)

@@ -1,5 +1,8 @@
 //! The days of the calendar.
-ghost use Rattle.std.specs.Prelude.{◌≡◌, ◌+◌, ◌≤◌, ◌<◌, ℕ, ℤ, pos, neg_ℤ, ◌+ℤ◌, ◌-ℤ◌, ◌≤ℤ◌, length, Some};
+ghost use Rattle.std.specs.Prelude.{◌≡◌, ◌+◌, ◌≤◌, ◌<◌, ℕ, ℤ, pos, neg_ℤ, ◌+ℤ◌, ◌-ℤ◌, ◌≤ℤ◌, ◌*ℤ◌, ◌/◌, ◌^◌, unsigned_abs, length, Some};
+ghost use Rattle.std.specs.Duration.{as_nanos};
+ghost use Rattle.calendar_values.specs.Clock.{nanos_per_day};
+ghost use Rattle.calendar_values.specs.Durations.{whole_days_of};
 ghost use Rattle.std.proofs.Common.{rules};
 ghost use Rattle.std.specs.Cmp.{partial_order_from_own_ties};
 ghost use Rattle.std.specs.Cmp.Rules.{comparing, hashing};
@@ -12,15 +15,19 @@ ghost use Rattle.calendar_values.specs.Texts.{year_text, date_text};
 ghost use Rattle.calendar_values.specs.Weeks.{weekday_of};
 
 use crate::calendar::{days_before_month, days_in_month, month_and_day, year_start};
-use crate::range::{FIRST_JULIAN_DAY, FIRST_YEAR, LAST_JULIAN_DAY, LAST_YEAR};
-use crate::{ComponentRange, Month, Text, Weekday, days_in_year, is_leap_year};
+use crate::range::{FIRST_DAY, FIRST_YEAR, LAST_DAY, LAST_YEAR};
+use crate::{ComponentRange, Month, SignedDuration, Text, Weekday, days_in_year, is_leap_year};
 use std::cmp::Ordering;
 use std::fmt;
 use std::hash::{Hash, Hasher};
 use std::marker::Model;
+use std::ops::Sub;
+use std::time::Duration;
 
 // The Julian day of 1 January 1970.
 const EPOCH_JULIAN_DAY: i32 = 2_440_588;
+
+const SECONDS_PER_DAY: u64 = 86_400;
 
 /// A date of the proleptic Gregorian calendar, from -9999-01-01 to 9999-12-31. A contract sees its
 /// day number, 0 for 1970-01-01.
@@ -122,7 +129,7 @@ impl Date {
     pub fn from_julian_day(julian_day: i32) -> Result<Date, ComponentRange>
         ensures { result ≡ julian_date julian_day }
     {
-        if julian_day < FIRST_JULIAN_DAY || julian_day > LAST_JULIAN_DAY {
+        if julian_day < FIRST_DAY + EPOCH_JULIAN_DAY || julian_day > LAST_DAY + EPOCH_JULIAN_DAY {
             return Err(ComponentRange::new("julian_day", false));
         }
         Ok(Date::from_day(julian_day - EPOCH_JULIAN_DAY))
@@ -294,12 +301,20 @@ impl Date {
     }
 
     /// The Julian day, -1,930,999 to 5,373,484; it is 2,440,588 on 1970-01-01.
-    #[tactic(auto, using(crate::specs::SignedArith::signed_arith))]
     pub fn to_julian_day(self) -> i32
         ensures value { result ≡ julian_day_of self }
         ensures in_range { IsDay self }
     {
-        year_start(self.year) + i32::from(self.ordinal) + (EPOCH_JULIAN_DAY - 1)
+        self.day_number() + EPOCH_JULIAN_DAY
+    }
+
+    // The day number.
+    #[tactic(auto, using(crate::specs::SignedArith::signed_arith))]
+    fn day_number(self) -> i32
+        ensures value { result ≡ self }
+        ensures in_range { IsDay self }
+    {
+        year_start(self.year) + i32::from(self.ordinal) - 1
     }
 
     /// The next date, or None at the last.
@@ -341,6 +356,55 @@ impl Date {
             year,
             ordinal: days_in_year(year),
         })
+    }
+
+    /// The date so many whole days later, or earlier for a negative duration, whose days are rounded
+    /// towards zero. None outside the range.
+    pub fn checked_add(self, duration: SignedDuration) -> Option<Date>
+        ensures { result ≡ checked_day (self +ℤ whole_days_of duration) }
+    {
+        self.moved_by(duration.whole_days())
+    }
+
+    /// The date so many whole days earlier, or later for a negative duration, whose days are rounded
+    /// towards zero. None outside the range.
+    pub fn checked_sub(self, duration: SignedDuration) -> Option<Date>
+        ensures { result ≡ checked_day (self -ℤ whole_days_of duration) }
+    {
+        self.moved_by(-duration.whole_days())
+    }
+
+    /// The date so many whole days later. None outside the range.
+    pub fn checked_add_std(self, duration: Duration) -> Option<Date>
+        ensures { result ≡ checked_day (self +ℤ pos (as_nanos duration / nanos_per_day)) }
+    {
+        self.moved_by((duration.as_secs() / SECONDS_PER_DAY) as i64)
+    }
+
+    /// The date so many whole days earlier. None outside the range.
+    pub fn checked_sub_std(self, duration: Duration) -> Option<Date>
+        ensures { result ≡ checked_day (self -ℤ pos (as_nanos duration / nanos_per_day)) }
+    {
+        self.moved_by(-((duration.as_secs() / SECONDS_PER_DAY) as i64))
+    }
+
+    // The date so many days later, if the range has it.
+    fn moved_by(self, days: i64) -> Option<Date>
+        requires { unsigned_abs days < 2 ^ 62 }
+        ensures { result ≡ checked_day (self +ℤ days) }
+    {
+        Date::checked_from_day(self.day_number() as i64 + days)
+    }
+
+    // The date of a day number, which is compared before it is narrowed.
+    #[tactic(auto, using(crate::proofs::StepLemmas::checked_days))]
+    fn checked_from_day(day: i64) -> Option<Date>
+        ensures { result ≡ checked_day day }
+    {
+        if day < FIRST_DAY as i64 || day > LAST_DAY as i64 {
+            return None;
+        }
+        Some(Date::from_day(day as i32))
     }
 
     /// The date with another year, and the month and the day of the month kept. Refused `year`
@@ -412,6 +476,16 @@ fn year_text(year: i32) -> Text
     }
     text.push_digits(year.unsigned_abs(), 4);
     text
+}
+
+impl Sub for Date {
+    type Output = SignedDuration;
+
+    ghost sub_gives = { λ a b difference. difference ≡ (a -ℤ b) *ℤ pos nanos_per_day };
+
+    fn sub(self, other: Date) -> SignedDuration {
+        SignedDuration::days(self.day_number() as i64 - other.day_number() as i64)
+    }
 }
 
 impl fmt::Display for Date {
