@@ -1,3 +1,4 @@
+pub mod AcceptedLemmas
 pub mod CountLemmas
 pub mod DateLemmas
 pub mod DigitLemmas
