@@ -5,6 +5,7 @@ pub mod DayLaws
 pub mod Digits
 pub mod DurationLaws
 pub mod Durations
+pub mod Laws
 pub mod Month
 pub mod MonthLaws
 pub mod OffsetLaws

@@ -4,6 +4,7 @@
 mod calendar;
 mod component_range;
 mod date;
+pub mod laws;
 mod month;
 mod range;
 mod signed_duration;
