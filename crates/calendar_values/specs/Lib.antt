@@ -8,9 +8,12 @@ pub mod MonthLaws
 pub mod Parts
 pub mod Range
 pub mod Refusals
+pub mod ReplacementLaws
 pub mod Replacements
 pub mod SignedArith
 pub mod Texts
+pub mod TruncationLaws
+pub mod Truncations
 pub mod WallClock
 pub mod Weekday
 pub mod Weeks

@@ -1,9 +1,11 @@
 //! Times of day.
-ghost use Rattle.std.specs.Prelude.{◌≡◌, ◌-◌, ◌≤◌, length, Some};
+ghost use Rattle.std.specs.Prelude.{◌≡◌, ℕ, ◌+◌, ◌-◌, ◌*◌, ◌<◌, ◌≤◌, length, Some, if◌then◌else◌};
 ghost use Rattle.std.specs.Fmt.{padded};
-ghost use Rattle.calendar_values.specs.Clock.{nanos_per_day, hour_of, minute_of, second_of, nanosecond_of};
-ghost use Rattle.calendar_values.specs.Refusals.{clock_time};
+ghost use Rattle.calendar_values.specs.Clock.{IsClock, IsTimeOfDay, nanos_per_day, nanos_per_hour, nanos_per_minute, nanos_per_second, nanos_per_millisecond, nanos_per_microsecond, hour_of, minute_of, second_of, millisecond_of, microsecond_of, nanosecond_of};
+ghost use Rattle.calendar_values.specs.Refusals.{clock_time, clock_time_milli, clock_time_micro, clock_time_nano};
+ghost use Rattle.calendar_values.specs.Replacements.{with_hour, with_minute, with_second, with_millisecond, with_microsecond, with_nanosecond};
 ghost use Rattle.calendar_values.specs.Texts.{time_text};
+ghost use Rattle.calendar_values.specs.Truncations.{truncated};
 
 use crate::component_range::ComponentRange;
 use crate::text::Text;
@@ -80,6 +82,77 @@ impl Time {
         })
     }
 
+    /// The time of an hour, a minute, a second and a millisecond of the second. Refused as in
+    /// [`Time::from_hms`], and then as `millisecond` above 999.
+    pub fn from_hms_milli(
+        hour: u8,
+        minute: u8,
+        second: u8,
+        millisecond: u16,
+    ) -> Result<Time, ComponentRange>
+        ensures { result ≡ clock_time_milli hour minute second millisecond }
+    {
+        Time::from_hms(hour, minute, second)?.replace_millisecond(millisecond)
+    }
+
+    /// The time of an hour, a minute, a second and a microsecond of the second. Refused as in
+    /// [`Time::from_hms`], and then as `microsecond` above 999,999.
+    pub fn from_hms_micro(
+        hour: u8,
+        minute: u8,
+        second: u8,
+        microsecond: u32,
+    ) -> Result<Time, ComponentRange>
+        ensures { result ≡ clock_time_micro hour minute second microsecond }
+    {
+        Time::from_hms(hour, minute, second)?.replace_microsecond(microsecond)
+    }
+
+    /// The time of an hour, a minute, a second and a nanosecond of the second. Refused as in
+    /// [`Time::from_hms`], and then as `nanosecond` above 999,999,999.
+    pub fn from_hms_nano(
+        hour: u8,
+        minute: u8,
+        second: u8,
+        nanosecond: u32,
+    ) -> Result<Time, ComponentRange>
+        ensures { result ≡ clock_time_nano hour minute second nanosecond }
+    {
+        Time::from_hms(hour, minute, second)?.replace_nanosecond(nanosecond)
+    }
+
+    /// The hour, the minute and the second.
+    pub fn as_hms(self) -> (u8, u8, u8)
+        ensures value { result ≡ (hour_of self, minute_of self, second_of self) }
+        ensures in_range { IsTimeOfDay result.0 result.1 result.2 0 }
+    {
+        (self.hour, self.minute, self.second)
+    }
+
+    /// The hour, the minute, the second and the millisecond of the second.
+    pub fn as_hms_milli(self) -> (u8, u8, u8, u16)
+        ensures value { result ≡ (hour_of self, minute_of self, second_of self, millisecond_of self) }
+        ensures in_range { IsTimeOfDay result.0 result.1 result.2 (result.3 * nanos_per_millisecond) }
+    {
+        (self.hour, self.minute, self.second, self.millisecond())
+    }
+
+    /// The hour, the minute, the second and the microsecond of the second.
+    pub fn as_hms_micro(self) -> (u8, u8, u8, u32)
+        ensures value { result ≡ (hour_of self, minute_of self, second_of self, microsecond_of self) }
+        ensures in_range { IsTimeOfDay result.0 result.1 result.2 (result.3 * nanos_per_microsecond) }
+    {
+        (self.hour, self.minute, self.second, self.microsecond())
+    }
+
+    /// The hour, the minute, the second and the nanosecond of the second.
+    pub fn as_hms_nano(self) -> (u8, u8, u8, u32)
+        ensures value { result ≡ (hour_of self, minute_of self, second_of self, nanosecond_of self) }
+        ensures in_range { IsTimeOfDay result.0 result.1 result.2 result.3 }
+    {
+        (self.hour, self.minute, self.second, self.nanosecond)
+    }
+
     /// The hour, 0 to 23.
     pub fn hour(self) -> u8
         ensures value { result ≡ hour_of self }
@@ -104,12 +177,204 @@ impl Time {
         self.second
     }
 
+    /// The millisecond of the second, 0 to 999.
+    pub fn millisecond(self) -> u16
+        ensures value { result ≡ millisecond_of self }
+        ensures in_range { result ≤ 999 }
+    {
+        (self.nanosecond / 1_000_000) as u16
+    }
+
+    /// The microsecond of the second, 0 to 999,999.
+    pub fn microsecond(self) -> u32
+        ensures value { result ≡ microsecond_of self }
+        ensures in_range { result ≤ 999_999 }
+    {
+        self.nanosecond / 1_000
+    }
+
     /// The nanosecond of the second, 0 to 999,999,999.
     pub fn nanosecond(self) -> u32
         ensures value { result ≡ nanosecond_of self }
         ensures in_range { result ≤ 999_999_999 }
     {
         self.nanosecond
+    }
+
+    /// The same time with another hour, 0 to 23. A greater one is refused as `hour`.
+    pub fn replace_hour(self, hour: u8) -> Result<Time, ComponentRange>
+        ensures { result ≡ with_hour self hour }
+    {
+        if hour > 23 {
+            return Err(ComponentRange::new("hour", false));
+        }
+        Ok(Time { hour, ..self })
+    }
+
+    /// The hour that the time is in, from its first nanosecond.
+    pub fn truncate_to_hour(self) -> Time
+        ensures { result ≡ truncated nanos_per_hour self }
+    {
+        Time {
+            minute: 0,
+            second: 0,
+            nanosecond: 0,
+            ..self
+        }
+    }
+
+    /// The same time with another minute, 0 to 59. A greater one is refused as `minute`.
+    pub fn replace_minute(self, minute: u8) -> Result<Time, ComponentRange>
+        ensures { result ≡ with_minute self minute }
+    {
+        if minute > 59 {
+            return Err(ComponentRange::new("minute", false));
+        }
+        Ok(Time { minute, ..self })
+    }
+
+    /// The first nanosecond of the minute that the time is in.
+    pub fn truncate_to_minute(self) -> Time
+        ensures { result ≡ truncated nanos_per_minute self }
+    {
+        Time {
+            second: 0,
+            nanosecond: 0,
+            ..self
+        }
+    }
+
+    /// The same time with another second, 0 to 59. A greater one is refused as `second`.
+    pub fn replace_second(self, second: u8) -> Result<Time, ComponentRange>
+        ensures { result ≡ with_second self second }
+    {
+        if second > 59 {
+            return Err(ComponentRange::new("second", false));
+        }
+        Ok(Time { second, ..self })
+    }
+
+    /// The first nanosecond of the second that the time is in.
+    pub fn truncate_to_second(self) -> Time
+        ensures { result ≡ truncated nanos_per_second self }
+    {
+        Time {
+            nanosecond: 0,
+            ..self
+        }
+    }
+
+    /// The same time with another millisecond of the second, 0 to 999, and nothing finer. A greater
+    /// one is refused as `millisecond`.
+    pub fn replace_millisecond(self, millisecond: u16) -> Result<Time, ComponentRange>
+        ensures { result ≡ with_millisecond self millisecond }
+    {
+        if millisecond > 999 {
+            return Err(ComponentRange::new("millisecond", false));
+        }
+        Ok(Time {
+            nanosecond: millisecond as u32 * 1_000_000,
+            ..self
+        })
+    }
+
+    /// The first nanosecond of the millisecond that the time is in.
+    pub fn truncate_to_millisecond(self) -> Time
+        ensures { result ≡ truncated nanos_per_millisecond self }
+    {
+        Time {
+            nanosecond: self.nanosecond - self.nanosecond % 1_000_000,
+            ..self
+        }
+    }
+
+    /// The same time with another microsecond of the second, 0 to 999,999, and nothing finer. A
+    /// greater one is refused as `microsecond`.
+    pub fn replace_microsecond(self, microsecond: u32) -> Result<Time, ComponentRange>
+        ensures { result ≡ with_microsecond self microsecond }
+    {
+        if microsecond > 999_999 {
+            return Err(ComponentRange::new("microsecond", false));
+        }
+        Ok(Time {
+            nanosecond: microsecond * 1_000,
+            ..self
+        })
+    }
+
+    /// The first nanosecond of the microsecond that the time is in.
+    pub fn truncate_to_microsecond(self) -> Time
+        ensures { result ≡ truncated nanos_per_microsecond self }
+    {
+        Time {
+            nanosecond: self.nanosecond - self.nanosecond % 1_000,
+            ..self
+        }
+    }
+
+    /// The same time with another nanosecond of the second, 0 to 999,999,999. A greater one is
+    /// refused as `nanosecond`.
+    pub fn replace_nanosecond(self, nanosecond: u32) -> Result<Time, ComponentRange>
+        ensures { result ≡ with_nanosecond self nanosecond }
+    {
+        if nanosecond > 999_999_999 {
+            return Err(ComponentRange::new("nanosecond", false));
+        }
+        Ok(Time { nanosecond, ..self })
+    }
+
+    // The nanoseconds since midnight.
+    fn nanoseconds(self) -> u64
+        ensures value { result ≡ self }
+        ensures in_range { IsClock result }
+    {
+        let seconds = (self.hour as u32 * 60 + self.minute as u32) * 60 + self.second as u32;
+        seconds as u64 * 1_000_000_000 + self.nanosecond as u64
+    }
+
+    // The time at so many nanoseconds since midnight.
+    fn at_nanosecond(nanoseconds: u64) -> Time
+        requires { IsClock nanoseconds }
+        ensures { result ≡ nanoseconds }
+    {
+        let seconds = (nanoseconds / 1_000_000_000) as u32;
+        Time {
+            hour: (seconds / 3_600) as u8,
+            minute: (seconds / 60 % 60) as u8,
+            second: (seconds % 60) as u8,
+            nanosecond: (nanoseconds % 1_000_000_000) as u32,
+        }
+    }
+
+    // The time so many nanoseconds later, less than a day, and whether that is on the next day.
+    fn later(self, nanoseconds: u64) -> (bool, Time)
+        requires { IsClock nanoseconds }
+        ensures sum { self + nanoseconds ≡ (if result.0 then nanos_per_day else 0) + result.1 }
+        ensures in_range { IsClock result.1 }
+    {
+        let sum = self.nanoseconds() + nanoseconds;
+        if sum < 86_400_000_000_000 {
+            (false, Time::at_nanosecond(sum))
+        } else {
+            (true, Time::at_nanosecond(sum - 86_400_000_000_000))
+        }
+    }
+
+    // The time so many nanoseconds earlier, less than a day, and whether that is on the day before.
+    fn earlier(self, nanoseconds: u64) -> (bool, Time)
+        requires { IsClock nanoseconds }
+        ensures difference { self + (if result.0 then nanos_per_day else 0) ≡ nanoseconds + result.1 }
+        ensures in_range { IsClock result.1 }
+    {
+        let clock = self.nanoseconds();
+        if clock < nanoseconds {
+            (
+                true,
+                Time::at_nanosecond(clock + 86_400_000_000_000 - nanoseconds),
+            )
+        } else {
+            (false, Time::at_nanosecond(clock - nanoseconds))
+        }
     }
 
     /// The first time of a day and the last.
