@@ -1,3 +1,4 @@
+pub mod Adjustments
 pub mod Calendar
 pub mod Clock
 pub mod ClockLaws

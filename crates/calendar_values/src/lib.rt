@@ -4,6 +4,7 @@
 mod calendar;
 mod component_range;
 mod date;
+mod date_adjustment;
 mod month;
 mod range;
 mod text;
@@ -13,6 +14,7 @@ mod weekday;
 pub use calendar::{days_in_year, is_leap_year};
 pub use component_range::ComponentRange;
 pub use date::Date;
+pub use date_adjustment::DateAdjustment;
 pub use month::Month;
 pub use text::Text;
 pub use time::Time;

@@ -1,16 +1,27 @@
 //! Times of day.
-ghost use Rattle.std.specs.Prelude.{◌≡◌, ℕ, ◌+◌, ◌-◌, ◌*◌, ◌<◌, ◌≤◌, length, Some, if◌then◌else◌};
+ghost use Rattle.std.specs.Prelude.{◌≡◌, ℕ, ◌+◌, ◌-◌, ◌*◌, ◌<◌, ◌≤◌, ◌==◌, length, Some, if◌then◌else◌, ℤ, pos, neg_ℤ, ◌+ℤ◌, ◌-ℤ◌, ◌<ℤ◌};
+ghost use Rattle.std.proofs.Common.{rules};
+ghost use Rattle.std.specs.Cmp.{partial_order_from_own_ties};
+ghost use Rattle.std.specs.Cmp.Rules.{comparing, hashing};
 ghost use Rattle.std.specs.Fmt.{padded};
+ghost use Rattle.std.specs.Hash as fed;
+ghost use Rattle.std.specs.Ordering.{nat_cmp, as_partial_cmp};
+ghost use Rattle.calendar_values.specs.Adjustments.{adjustment_days};
 ghost use Rattle.calendar_values.specs.Clock.{IsClock, IsTimeOfDay, nanos_per_day, nanos_per_hour, nanos_per_minute, nanos_per_second, nanos_per_millisecond, nanos_per_microsecond, hour_of, minute_of, second_of, millisecond_of, microsecond_of, nanosecond_of};
 ghost use Rattle.calendar_values.specs.Refusals.{clock_time, clock_time_milli, clock_time_micro, clock_time_nano};
 ghost use Rattle.calendar_values.specs.Replacements.{with_hour, with_minute, with_second, with_millisecond, with_microsecond, with_nanosecond};
 ghost use Rattle.calendar_values.specs.Texts.{time_text};
 ghost use Rattle.calendar_values.specs.Truncations.{truncated};
+ghost use Rattle.calendar_values.specs.WallClock.{wall_clock};
 
-use crate::component_range::ComponentRange;
-use crate::text::Text;
+use crate::{ComponentRange, DateAdjustment, Text};
+use std::cmp::Ordering;
 use std::fmt;
+use std::hash::{Hash, Hasher};
 use std::marker::Model;
+
+// A day has 86,400 seconds.
+const NANOS_PER_DAY: i64 = 86_400_000_000_000;
 
 /// A time of day, from 0:00:00.0 to 23:59:59.999999999, to the nanosecond. There are no leap
 /// seconds. A contract sees the nanoseconds since midnight.
@@ -346,42 +357,24 @@ impl Time {
         }
     }
 
-    // The time so many nanoseconds later, less than a day, and whether that is on the next day.
-    fn later(self, nanoseconds: u64) -> (bool, Time)
-        requires { IsClock nanoseconds }
-        ensures sum { self + nanoseconds ≡ (if result.0 then nanos_per_day else 0) + result.1 }
+    // The time so many nanoseconds later, or earlier where they are negative, and the day it is on.
+    #[tactic(auto, using(crate::specs::SignedArith::signed_casts))]
+    fn moved_by(self, nanoseconds: i64) -> (DateAdjustment, Time)
+        requires low { neg_ℤ (pos nanos_per_day) <ℤ nanoseconds }
+        requires high { nanoseconds <ℤ pos nanos_per_day }
+        ensures sum { wall_clock (adjustment_days result.0) result.1 ≡ pos self +ℤ nanoseconds }
         ensures in_range { IsClock result.1 }
     {
-        let sum = self.nanoseconds() + nanoseconds;
-        if sum < 86_400_000_000_000 {
-            (false, Time::at_nanosecond(sum))
+        let sum = self.nanoseconds() as i64 + nanoseconds;
+        if sum < 0 {
+            let previous = Time::at_nanosecond((sum + NANOS_PER_DAY) as u64);
+            (DateAdjustment::Previous, previous)
+        } else if sum < NANOS_PER_DAY {
+            (DateAdjustment::Same, Time::at_nanosecond(sum as u64))
         } else {
-            (true, Time::at_nanosecond(sum - 86_400_000_000_000))
+            let next = Time::at_nanosecond((sum - NANOS_PER_DAY) as u64);
+            (DateAdjustment::Next, next)
         }
-    }
-
-    // The time so many nanoseconds earlier, less than a day, and whether that is on the day before.
-    fn earlier(self, nanoseconds: u64) -> (bool, Time)
-        requires { IsClock nanoseconds }
-        ensures difference { self + (if result.0 then nanos_per_day else 0) ≡ nanoseconds + result.1 }
-        ensures in_range { IsClock result.1 }
-    {
-        let clock = self.nanoseconds();
-        if clock < nanoseconds {
-            (
-                true,
-                Time::at_nanosecond(clock + 86_400_000_000_000 - nanoseconds),
-            )
-        } else {
-            (false, Time::at_nanosecond(clock - nanoseconds))
-        }
-    }
-
-    /// The first time of a day and the last.
-    fn ends() -> (Time, Time)
-        ensures { result ≡ (0, nanos_per_day - 1) }
-    {
-        (Time::MIDNIGHT, Time::MAX)
     }
 
     /// The text of the time: the hour with no zero in front, the minute and the second with two
@@ -416,5 +409,53 @@ impl fmt::Debug for Time {
 
     fn fmt<W: fmt::Write>(&self, f: &mut fmt::Formatter<W>) -> fmt::Result {
         fmt::Debug::fmt(&self.text(), f)
+    }
+}
+
+impl PartialEq for Time {
+    ghost eq = { ◌==◌ };
+
+    ghost laws = { Prim.search (comparing, rules) };
+
+    fn eq(&self, other: &Time) -> bool {
+        self.nanoseconds() == other.nanoseconds()
+    }
+}
+
+impl Eq for Time {
+    ghost laws = { Prim.search (comparing, rules) };
+}
+
+impl Ord for Time {
+    ghost cmp = { nat_cmp };
+
+    ghost total = { Prim.search (comparing, rules) };
+
+    ghost matches_partial_cmp = { Prim.search (comparing, rules) };
+
+    ghost matches_eq = { Prim.search (comparing, rules) };
+
+    fn cmp(&self, other: &Time) -> Ordering {
+        self.nanoseconds().cmp(&other.nanoseconds())
+    }
+}
+
+impl PartialOrd for Time {
+    ghost partial_cmp = { as_partial_cmp nat_cmp };
+
+    ghost laws = { partial_order_from_own_ties (Prim.search (comparing, rules)) (Prim.search (comparing, rules)) };
+
+    fn partial_cmp(&self, other: &Time) -> Option<Ordering> {
+        Some(self.cmp(other))
+    }
+}
+
+impl Hash for Time {
+    ghost hash_input = { fed.u64 };
+
+    ghost respects_eq = { Prim.search (hashing, rules) };
+
+    fn hash<H: Hasher>(&self, state: &mut H) {
+        self.nanoseconds().hash(state);
     }
 }
