@@ -1,6 +1,7 @@
 pub mod CountLemmas
 pub mod DateLemmas
 pub mod DigitLemmas
+pub mod DurationLemmas
 pub mod MonthLemmas
 pub mod TimeTextLemmas
 pub mod YearLemmas

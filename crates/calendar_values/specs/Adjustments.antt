@@ -19,5 +19,5 @@ abbrev pub days_earlier : Bool → ℤ
 days_earlier changes = if changes then negsuc 0 else pos 0
 
 -- the nanoseconds that the whole days of a duration leave, of the duration's sign
-abbrev pub subday_nanoseconds_of : ℤ → ℤ
+unfoldable pub subday_nanoseconds_of : ℤ → ℤ
 subday_nanoseconds_of d = int_rem d (pos nanos_per_day)

@@ -1,9 +1,12 @@
+pub mod AdjustmentLaws
 pub mod Adjustments
 pub mod Calendar
 pub mod Clock
 pub mod ClockLaws
 pub mod DayLaws
 pub mod Digits
+pub mod DurationLaws
+pub mod Durations
 pub mod Month
 pub mod MonthLaws
 pub mod Parts

@@ -1,24 +1,28 @@
 //! Times of day.
-ghost use Rattle.std.specs.Prelude.{◌≡◌, ℕ, ◌+◌, ◌-◌, ◌*◌, ◌<◌, ◌≤◌, ◌==◌, length, Some, if◌then◌else◌, ℤ, pos, neg_ℤ, ◌+ℤ◌, ◌-ℤ◌, ◌<ℤ◌};
+ghost use Rattle.std.specs.Prelude.{◌≡◌, ℕ, ◌+◌, ◌-◌, ◌*◌, ◌%◌, ◌<◌, ◌≤◌, ◌==◌, length, Some, if◌then◌else◌, ℤ, pos, neg_ℤ, ◌+ℤ◌, ◌-ℤ◌, ◌<ℤ◌};
 ghost use Rattle.std.proofs.Common.{rules};
 ghost use Rattle.std.specs.Cmp.{partial_order_from_own_ties};
 ghost use Rattle.std.specs.Cmp.Rules.{comparing, hashing};
+ghost use Rattle.std.specs.Duration.{as_nanos};
 ghost use Rattle.std.specs.Fmt.{padded};
 ghost use Rattle.std.specs.Hash as fed;
 ghost use Rattle.std.specs.Ordering.{nat_cmp, as_partial_cmp};
-ghost use Rattle.calendar_values.specs.Adjustments.{adjustment_days};
+ghost use Rattle.calendar_values.specs.Adjustments.{adjustment_days, days_later, days_earlier, subday_nanoseconds_of};
 ghost use Rattle.calendar_values.specs.Clock.{IsClock, IsTimeOfDay, nanos_per_day, nanos_per_hour, nanos_per_minute, nanos_per_second, nanos_per_millisecond, nanos_per_microsecond, hour_of, minute_of, second_of, millisecond_of, microsecond_of, nanosecond_of};
+ghost use Rattle.calendar_values.specs.Durations.{duration_of_parts};
 ghost use Rattle.calendar_values.specs.Refusals.{clock_time, clock_time_milli, clock_time_micro, clock_time_nano};
 ghost use Rattle.calendar_values.specs.Replacements.{with_hour, with_minute, with_second, with_millisecond, with_microsecond, with_nanosecond};
 ghost use Rattle.calendar_values.specs.Texts.{time_text};
 ghost use Rattle.calendar_values.specs.Truncations.{truncated};
 ghost use Rattle.calendar_values.specs.WallClock.{wall_clock};
 
-use crate::{ComponentRange, DateAdjustment, Text};
+use crate::{ComponentRange, DateAdjustment, SignedDuration, Text};
 use std::cmp::Ordering;
 use std::fmt;
 use std::hash::{Hash, Hasher};
 use std::marker::Model;
+use std::ops::Sub;
+use std::time::Duration;
 
 // A day has 86,400 seconds.
 const NANOS_PER_DAY: i64 = 86_400_000_000_000;
@@ -212,6 +216,43 @@ impl Time {
         self.nanosecond
     }
 
+    /// Adds what the whole days of a duration leave of it: the day that the sum is on, and the time.
+    pub fn adjusting_add(self, duration: SignedDuration) -> (DateAdjustment, Time)
+        ensures sum { wall_clock (adjustment_days result.0) result.1 ≡ pos self +ℤ subday_nanoseconds_of duration }
+        ensures in_range { IsClock result.1 }
+    {
+        self.moved_by(subday_nanoseconds(duration))
+    }
+
+    /// Takes away what the whole days of a duration leave of it: the day that the difference is on,
+    /// and the time.
+    pub fn adjusting_sub(self, duration: SignedDuration) -> (DateAdjustment, Time)
+        ensures difference { wall_clock (adjustment_days result.0) result.1 ≡ pos self -ℤ subday_nanoseconds_of duration }
+        ensures in_range { IsClock result.1 }
+    {
+        self.moved_by(-subday_nanoseconds(duration))
+    }
+
+    /// Adds what the whole days of a duration leave of it: whether the sum is on the next day, and
+    /// the time.
+    pub fn adjusting_add_std(self, duration: Duration) -> (bool, Time)
+        ensures sum { wall_clock (days_later result.0) result.1 ≡ pos self +ℤ pos (as_nanos duration % nanos_per_day) }
+        ensures in_range { IsClock result.1 }
+    {
+        let (adjustment, time) = self.moved_by(subday_nanoseconds_std(duration));
+        (adjustment == DateAdjustment::Next, time)
+    }
+
+    /// Takes away what the whole days of a duration leave of it: whether the difference is on the
+    /// day before, and the time.
+    pub fn adjusting_sub_std(self, duration: Duration) -> (bool, Time)
+        ensures difference { wall_clock (days_earlier result.0) result.1 ≡ pos self -ℤ pos (as_nanos duration % nanos_per_day) }
+        ensures in_range { IsClock result.1 }
+    {
+        let (adjustment, time) = self.moved_by(-subday_nanoseconds_std(duration));
+        (adjustment == DateAdjustment::Previous, time)
+    }
+
     /// The same time with another hour, 0 to 23. A greater one is refused as `hour`.
     pub fn replace_hour(self, hour: u8) -> Result<Time, ComponentRange>
         ensures { result ≡ with_hour self hour }
@@ -364,6 +405,7 @@ impl Time {
         requires high { nanoseconds <ℤ pos nanos_per_day }
         ensures sum { wall_clock (adjustment_days result.0) result.1 ≡ pos self +ℤ nanoseconds }
         ensures in_range { IsClock result.1 }
+        ensures from { IsClock self }
     {
         let sum = self.nanoseconds() as i64 + nanoseconds;
         if sum < 0 {
@@ -392,6 +434,42 @@ impl Time {
         text.push_fraction(self.nanosecond);
         text
     }
+}
+
+// The constants, as a contract sees them.
+fn constants() -> (Time, Time)
+    ensures midnight { result.0 ≡ 0 }
+    ensures last { result.1 ≡ nanos_per_day - 1 }
+{
+    (Time::MIDNIGHT, Time::MAX)
+}
+
+// What the whole days of a duration leave.
+fn subday_nanoseconds(duration: SignedDuration) -> i64
+    ensures value { result ≡ subday_nanoseconds_of duration }
+    ensures low { neg_ℤ (pos nanos_per_day) <ℤ result }
+    ensures high { result <ℤ pos nanos_per_day }
+{
+    nanoseconds_of(duration.whole_seconds() % 86_400, duration.subsec_nanoseconds())
+}
+
+// The nanoseconds of seconds that are less than a day, and of nanoseconds of a second.
+#[tactic(auto, using(crate::specs::SignedArith::signed_casts))]
+fn nanoseconds_of(seconds: i64, nanoseconds: i32) -> i64
+    requires low { neg_ℤ (pos 86_400) <ℤ seconds }
+    requires high { seconds <ℤ pos 86_400 }
+    ensures { result ≡ duration_of_parts seconds nanoseconds }
+{
+    seconds * 1_000_000_000 + nanoseconds as i64
+}
+
+// What the whole days of a duration leave.
+fn subday_nanoseconds_std(duration: Duration) -> i64
+    ensures value { result ≡ pos (as_nanos duration % nanos_per_day) }
+    ensures high { result <ℤ pos nanos_per_day }
+{
+    let seconds = duration.as_secs() % 86_400;
+    (seconds * 1_000_000_000 + duration.subsec_nanos() as u64) as i64
 }
 
 impl fmt::Display for Time {
@@ -457,5 +535,15 @@ impl Hash for Time {
 
     fn hash<H: Hasher>(&self, state: &mut H) {
         self.nanoseconds().hash(state);
+    }
+}
+
+impl Sub for Time {
+    type Output = SignedDuration;
+
+    ghost sub_gives = { λ a b difference. difference ≡ pos a -ℤ pos b };
+
+    fn sub(self, other: Time) -> SignedDuration {
+        SignedDuration::nanoseconds(self.nanoseconds() as i64 - other.nanoseconds() as i64)
     }
 }
