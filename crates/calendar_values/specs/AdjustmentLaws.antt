@@ -1,5 +1,5 @@
 -- A duration is its whole days and what they leave, which is less than a day and has the duration's sign.
-use Rattle.std.proofs.Common.{◌≡◌, ℕ, ℤ, pos, negsuc, neg_ℤ, ◌+ℤ◌, ◌*ℤ◌, ◌≤ℤ◌, ◌<ℤ◌, int_rem, arith}
+use Rattle.std.proofs.Common.{◌≡◌, ℤ, pos, negsuc, neg_ℤ, ◌+ℤ◌, ◌*ℤ◌, ◌<ℤ◌, int_rem, arith}
 use Rattle.std.proofs.lemmas.Int.{ints}
 use Rattle.calendar_values.specs.Adjustments.{subday_nanoseconds_of}
 use Rattle.calendar_values.specs.Clock.{nanos_per_day}

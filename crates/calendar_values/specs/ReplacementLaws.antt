@@ -1,10 +1,10 @@
 -- A replacement is accepted exactly where a clock shows the part as given, the kept parts as before and 0 for the cleared parts; it gives that clock, which is the only one.
-use Rattle.std.proofs.Common.{◌≡◌, ℕ, ◌+◌, ◌*◌, ◌/◌, ◌%◌, ◌<◌, ◌≤◌, List, Result, Ok, sym, ap, subst, ◌∙◌, arith}
+use Rattle.std.proofs.Common.{◌≡◌, ℕ, ◌*◌, ◌≤◌, List, Ok, sym, subst, ◌∙◌, arith}
 use Rattle.std.specs.Prelude.{if◌then◌else◌, nat_lt, ◌↔◌, codes}
 use Rattle.std.proofs.lemmas.Bool.Decides.{nat_tests}
 use Rattle.calendar_values.specs.Clock.{IsClock, IsTimeOfDay, clock_of_parts, hour_of, minute_of, second_of, millisecond_of, microsecond_of, nanosecond_of, nanos_per_millisecond, nanos_per_microsecond}
 use Rattle.calendar_values.specs.ClockLaws.{IsClock-clock_of_parts, IsTimeOfDay-of, clock_of_parts-of, hour_of-clock_of_parts, minute_of-clock_of_parts, second_of-clock_of_parts, nanosecond_of-clock_of_parts}
-use Rattle.calendar_values.specs.Refusals.{Refusal, out_of_range}
+use Rattle.calendar_values.specs.Refusals.{out_of_range}
 use Rattle.calendar_values.specs.Replacements.{with_hour, with_minute, with_second, with_millisecond, with_microsecond, with_nanosecond}
 
 -- the clock shows this hour, minute, second and nanosecond of the second

@@ -450,7 +450,10 @@ fn subday_nanoseconds(duration: SignedDuration) -> i64
     ensures low { neg_ℤ (pos nanos_per_day) <ℤ result }
     ensures high { result <ℤ pos nanos_per_day }
 {
-    nanoseconds_of(duration.whole_seconds() % 86_400, duration.subsec_nanoseconds())
+    nanoseconds_of(
+        duration.whole_seconds() % 86_400,
+        duration.subsec_nanoseconds(),
+    )
 }
 
 // The nanoseconds of seconds that are less than a day, and of nanoseconds of a second.

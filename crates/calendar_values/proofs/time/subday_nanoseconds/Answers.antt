@@ -1,4 +1,4 @@
-use Rattle.std.proofs.Common.{arith, rules, sym, ◌∙◌, FitsSigned, w32, w64, to_z-of_z, pos, int_rem, ◌≡◌}
+use Rattle.std.proofs.Common.{arith, rules, sym, ◌∙◌, FitsSigned, w32, w64, to_z-of_z, pos, int_rem}
 use Rattle.calendar_values.specs.AdjustmentLaws.{subday_nanoseconds_of-parts}
 use Rattle.calendar_values.specs.SignedArith.{signed_arith}
 use Rattle.calendar_values.proofs.time.subday_nanoseconds.Goals as goal

@@ -1,4 +1,4 @@
-use Rattle.std.proofs.Common.{◌≡◌, ℕ, Bool, ◌<◌, ◌%◌, pos, ◌-ℤ◌, arith, rules, to_z-of_z, FitsSigned, w64}
+use Rattle.std.proofs.Common.{◌≡◌, ℕ, Bool, ◌%◌, pos, ◌-ℤ◌, arith, rules}
 use Rattle.std.proofs.lemmas.Int.{ints}
 use Rattle.std.specs.Duration.{as_nanos}
 use denote.Enum.Bare.{sameb}
