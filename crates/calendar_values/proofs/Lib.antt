@@ -3,5 +3,8 @@ pub mod DateLemmas
 pub mod DigitLemmas
 pub mod DurationLemmas
 pub mod MonthLemmas
+pub mod OrderLemmas
+pub mod StepLemmas
 pub mod TimeTextLemmas
+pub mod WeekLemmas
 pub mod YearLemmas

@@ -27,6 +27,9 @@ use std::time::Duration;
 // A day has 86,400 seconds.
 const NANOS_PER_DAY: i64 = 86_400_000_000_000;
 
+#[cfg(test)]
+mod tests;
+
 /// A time of day, from 0:00:00.0 to 23:59:59.999999999, to the nanosecond. There are no leap
 /// seconds. A contract sees the nanoseconds since midnight.
 #[derive(Clone, Copy)]
@@ -216,7 +219,8 @@ impl Time {
         self.nanosecond
     }
 
-    /// Adds what the whole days of a duration leave of it: the day that the sum is on, and the time.
+    /// The time after a duration whose whole days, rounded towards zero, are left out, and the day
+    /// that this time is on.
     pub fn adjusting_add(self, duration: SignedDuration) -> (DateAdjustment, Time)
         ensures sum { wall_clock (adjustment_days result.0) result.1 ≡ pos self +ℤ subday_nanoseconds_of duration }
         ensures in_range { IsClock result.1 }
@@ -224,8 +228,8 @@ impl Time {
         self.moved_by(subday_nanoseconds(duration))
     }
 
-    /// Takes away what the whole days of a duration leave of it: the day that the difference is on,
-    /// and the time.
+    /// The time before a duration whose whole days, rounded towards zero, are left out, and the day
+    /// that this time is on.
     pub fn adjusting_sub(self, duration: SignedDuration) -> (DateAdjustment, Time)
         ensures difference { wall_clock (adjustment_days result.0) result.1 ≡ pos self -ℤ subday_nanoseconds_of duration }
         ensures in_range { IsClock result.1 }
@@ -233,8 +237,7 @@ impl Time {
         self.moved_by(-subday_nanoseconds(duration))
     }
 
-    /// Adds what the whole days of a duration leave of it: whether the sum is on the next day, and
-    /// the time.
+    /// The time after a duration whose whole days are left out, and whether it is on the next day.
     pub fn adjusting_add_std(self, duration: Duration) -> (bool, Time)
         ensures sum { wall_clock (days_later result.0) result.1 ≡ pos self +ℤ pos (as_nanos duration % nanos_per_day) }
         ensures in_range { IsClock result.1 }
@@ -243,8 +246,7 @@ impl Time {
         (adjustment == DateAdjustment::Next, time)
     }
 
-    /// Takes away what the whole days of a duration leave of it: whether the difference is on the
-    /// day before, and the time.
+    /// The time before a duration whose whole days are left out, and whether it is on the day before.
     pub fn adjusting_sub_std(self, duration: Duration) -> (bool, Time)
         ensures difference { wall_clock (days_earlier result.0) result.1 ≡ pos self -ℤ pos (as_nanos duration % nanos_per_day) }
         ensures in_range { IsClock result.1 }
@@ -263,7 +265,7 @@ impl Time {
         Ok(Time { hour, ..self })
     }
 
-    /// The hour that the time is in, from its first nanosecond.
+    /// The first nanosecond of the hour that the time is in.
     pub fn truncate_to_hour(self) -> Time
         ensures { result ≡ truncated nanos_per_hour self }
     {
@@ -444,7 +446,7 @@ fn constants() -> (Time, Time)
     (Time::MIDNIGHT, Time::MAX)
 }
 
-// What the whole days of a duration leave.
+// The nanoseconds that the whole days of a duration leave, of its sign.
 fn subday_nanoseconds(duration: SignedDuration) -> i64
     ensures value { result ≡ subday_nanoseconds_of duration }
     ensures low { neg_ℤ (pos nanos_per_day) <ℤ result }
@@ -466,7 +468,7 @@ fn nanoseconds_of(seconds: i64, nanoseconds: i32) -> i64
     seconds * 1_000_000_000 + nanoseconds as i64
 }
 
-// What the whole days of a duration leave.
+// The nanoseconds that the whole days of a duration leave.
 fn subday_nanoseconds_std(duration: Duration) -> i64
     ensures value { result ≡ pos (as_nanos duration % nanos_per_day) }
     ensures high { result <ℤ pos nanos_per_day }
