@@ -1,3 +1,5 @@
+pub mod AdjustmentLaws
+pub mod Adjustments
 pub mod Calendar
 pub mod Clock
 pub mod ClockLaws
@@ -11,9 +13,12 @@ pub mod MonthLaws
 pub mod Parts
 pub mod Range
 pub mod Refusals
+pub mod ReplacementLaws
 pub mod Replacements
 pub mod SignedArith
 pub mod Texts
+pub mod TruncationLaws
+pub mod Truncations
 pub mod WallClock
 pub mod Weekday
 pub mod Weeks
