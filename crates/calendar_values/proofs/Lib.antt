@@ -4,6 +4,7 @@ pub mod DateLemmas
 pub mod DigitLemmas
 pub mod DurationLemmas
 pub mod MonthLemmas
+pub mod OffsetLemmas
 pub mod OrderLemmas
 pub mod StepLemmas
 pub mod TimeTextLemmas

@@ -10,6 +10,8 @@ pub mod Durations
 pub mod Laws
 pub mod Month
 pub mod MonthLaws
+pub mod OffsetLaws
+pub mod Offsets
 pub mod Parts
 pub mod Range
 pub mod Refusals

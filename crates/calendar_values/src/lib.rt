@@ -11,6 +11,7 @@ mod range;
 mod signed_duration;
 mod text;
 mod time;
+mod utc_offset;
 mod weekday;
 
 pub use calendar::{days_in_year, is_leap_year};
@@ -21,4 +22,5 @@ pub use month::Month;
 pub use signed_duration::SignedDuration;
 pub use text::Text;
 pub use time::Time;
+pub use utc_offset::UtcOffset;
 pub use weekday::Weekday;
