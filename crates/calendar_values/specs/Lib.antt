@@ -8,3 +8,4 @@ pub mod Refusals
 pub mod SignedArith
 pub mod Texts
 pub mod WallClock
+pub mod WallClockLaws
