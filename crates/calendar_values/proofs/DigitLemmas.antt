@@ -1,5 +1,6 @@
 -- The lengths and the steps of digits.
-use Rattle.std.proofs.Common.{◌≡◌, ℕ, zero, suc, ◌+◌, ◌-◌, ◌/◌, ◌%◌, ◌<◌, ◌≤◌, List, [], ◌∷◌, ◌++◌, length, length-append, append_assoc, append-nil, refl, sym, ◌∙◌, ap, arith}
+use Rattle.std.proofs.Common.{◌≡◌, ◌≢◌, ℕ, zero, suc, ◌+◌, ◌-◌, ◌/◌, ◌%◌, ◌<◌, ◌≤◌, List, [], ◌∷◌, ◌++◌, length, length-append, append_assoc, append-nil, refl, sym, ◌∙◌, ap, arith}
+use Rattle.std.proofs.lemmas.Bool.Decides.{nat_tests}
 use Rattle.calendar_values.specs.Digits.{last_digits, fraction_digits}
 
 pub length-last_digits : (k n : ℕ) → length (last_digits k n) ≡ k
@@ -8,12 +9,7 @@ length-last_digits zero n = refl
 length-last_digits (suc k) n =
     omega (arith, length-last_digits k (n / 10), length-append (last_digits k (n / 10)) ((48 + n % 10) ∷ []))
 
--- a text that was given all digits but the last has that many bytes more
-pub length_before_last : (old new : List ℕ) (k n : ℕ) → 0 < k → new ≡ old ++ last_digits (k - 1) (n / 10) → length new + 1 ≡ length old + k
-length_before_last old new k n some e =
-    omega (arith, ap (length {A = ℕ}) e, length-append old (last_digits (k - 1) (n / 10)), length-last_digits (k - 1) (n / 10))
-
--- and the last digit completes it
+-- the last digit completes it
 pub last_digits-push : (old middle new : List ℕ) (k n : ℕ) → 0 < k → middle ≡ old ++ last_digits (k - 1) (n / 10) → new ≡ middle ++ (48 + n % 10) ∷ [] → new ≡ old ++ last_digits k n
 unfolding last_digits
 last_digits-push old middle new zero n some e f = absurd (omega arith)
@@ -25,3 +21,32 @@ pub last_digits-none : (old : List ℕ) (k n : ℕ) → k ≤ 0 → old ≡ old 
 unfolding last_digits
 last_digits-none old zero n none = sym (append-nil old)
 last_digits-none old (suc k) n none = absurd (omega arith)
+
+-- a digit 0 at the end of a fraction is dropped
+pub fraction_digits-dropped : (k n : ℕ) → 1 < k → n % 10 ≡ 0 → fraction_digits k n ≡ fraction_digits (k - 1) (n / 10)
+unfolding fraction_digits
+fraction_digits-dropped zero n more e = absurd (omega arith)
+fraction_digits-dropped (suc zero) n more e = absurd (omega arith)
+fraction_digits-dropped (suc (suc k)) n more e =
+    let back : suc (suc k) - 1 ≡ suc k = omega arith in rw (back, e) refl
+
+-- any other digit ends it
+pub fraction_digits-kept : (k n : ℕ) → 1 < k → n % 10 ≢ 0 → fraction_digits k n ≡ last_digits k n
+unfolding fraction_digits
+fraction_digits-kept zero n more e = absurd (omega arith)
+fraction_digits-kept (suc zero) n more e = absurd (omega arith)
+fraction_digits-kept (suc (suc k)) n more e = grind (arith, nat_tests)
+
+-- and so does its first digit
+pub fraction_digits-first : (k n : ℕ) → 1 ≤ k → k ≤ 1 → fraction_digits k n ≡ last_digits k n
+unfolding fraction_digits
+fraction_digits-first zero n low high = absurd (omega arith)
+fraction_digits-first (suc zero) n low high = refl
+fraction_digits-first (suc (suc k)) n low high = absurd (omega arith)
+
+pub length-fraction_digits : (k n : ℕ) → length (fraction_digits k n) ≤ k
+unfolding fraction_digits
+length-fraction_digits zero n = omega arith
+length-fraction_digits (suc zero) n = omega (arith, length-last_digits 1 n)
+length-fraction_digits (suc (suc k)) n =
+    grind (arith, nat_tests, length-last_digits (suc (suc k)) n, length-fraction_digits (suc k) (n / 10))

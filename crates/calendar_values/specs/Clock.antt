@@ -1,5 +1,5 @@
 -- The clock of a day: the nanoseconds since midnight. There are no leap seconds.
-use Rattle.std.specs.Prelude.{ℕ, ◌+◌, ◌*◌, ◌/◌, ◌%◌, ◌<◌}
+use Rattle.std.specs.Prelude.{ℕ, ◌+◌, ◌*◌, ◌/◌, ◌%◌, ◌<◌, ◌≤◌}
 
 abbrev pub nanos_per_microsecond : ℕ
 nanos_per_microsecond = 1_000
@@ -23,6 +23,13 @@ nanos_per_day = 86_400_000_000_000
 -- a nanosecond of the day
 abbrev pub IsClock : ℕ → Type 0
 IsClock c = c < nanos_per_day
+
+-- the day has this hour, minute, second and nanosecond of the second
+pub record IsTimeOfDay (h m s n : ℕ) : Type 0 where
+  pub hour : h ≤ 23
+  pub minute : m ≤ 59
+  pub second : s ≤ 59
+  pub nanosecond : n ≤ 999_999_999
 
 -- the clock that shows these parts: `n` is the nanosecond of the second
 abbrev pub clock_of_parts : ℕ → ℕ → ℕ → ℕ → ℕ

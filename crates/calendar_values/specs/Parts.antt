@@ -1,5 +1,6 @@
 -- The names of the parts that a refusal can name.
-use Rattle.std.specs.Prelude.{◌≡◌, ℕ, List, [], ◌∷◌, codes, find, unwrap_or, nat_eq, refl}
+use Rattle.std.specs.Prelude.{◌≡◌, ℕ, Bool, List, [], ◌∷◌, codes, find, unwrap_or, nat_eq, refl}
+use Rattle.std.specs.List.{list_any}
 use Rattle.std.specs.Cmp.Lexicographic.{pointwise}
 use Rattle.calendar_values.specs.declared.component_range.Part.{Part}
 use Rattle.calendar_values.specs.declared.component_range.Part.TheVariants.{Year, Month, Day, Ordinal, JulianDay, Hour, Minute, Second, Millisecond, Microsecond, Nanosecond, Hours, Minutes, Seconds, OffsetSeconds, Timestamp, Milliseconds, Microseconds, Nanoseconds}
@@ -25,15 +26,22 @@ part_name Milliseconds = codes "milliseconds"
 part_name Microseconds = codes "microseconds"
 part_name Nanoseconds = codes "nanoseconds"
 
--- a name of a part
-abbrev pub IsPartName : List ℕ → Type 0
-IsPartName name = (part : Part) × (part_name part ≡ name)
+-- all parts
+abbrev pub all_parts : List Part
+all_parts =
+    Year ∷ Month ∷ Day ∷ Ordinal ∷ JulianDay ∷ Hour ∷ Minute ∷ Second ∷ Millisecond ∷ Microsecond ∷ Nanosecond ∷ Hours ∷ Minutes ∷ Seconds ∷ OffsetSeconds ∷ Timestamp ∷ Milliseconds ∷ Microseconds ∷ Nanoseconds ∷ []
+
+-- this is the name of the part
+abbrev pub is_name_of : List ℕ → Part → Bool
+is_name_of name part = pointwise nat_eq name (part_name part)
+
+-- some part has this name
+abbrev pub is_part_name : List ℕ → Bool
+is_part_name name = list_any (is_name_of name) all_parts
 
 -- the part of a name
 abbrev pub part_named : List ℕ → Part
-part_named name = unwrap_or (find (λ part. pointwise nat_eq (part_name part) name) all_parts) Year where
-  all_parts : List Part
-  all_parts = Year ∷ Month ∷ Day ∷ Ordinal ∷ JulianDay ∷ Hour ∷ Minute ∷ Second ∷ Millisecond ∷ Microsecond ∷ Nanosecond ∷ Hours ∷ Minutes ∷ Seconds ∷ OffsetSeconds ∷ Timestamp ∷ Milliseconds ∷ Microseconds ∷ Nanoseconds ∷ []
+part_named name = unwrap_or (find (is_name_of name) all_parts) Year
 
 pub part_named-part_name : (part : Part) → part_named (part_name part) ≡ part
 part_named-part_name Year = refl

@@ -44,6 +44,14 @@ julian_date julian_day =
     if is_outside first_day last_day (julian_day -ℤ pos 2_440_588) then out_of_range (codes "julian_day")
     else Ok (julian_day -ℤ pos 2_440_588)
 
+-- the clock of an hour, a minute and a second
+abbrev pub clock_time : ℕ → ℕ → ℕ → Result ℕ Refusal
+clock_time h m s =
+    if nat_lt 23 h then out_of_range (codes "hour")
+    else (if nat_lt 59 m then out_of_range (codes "minute")
+    else (if nat_lt 59 s then out_of_range (codes "second")
+    else Ok (clock_of_parts h m s 0)))
+
 -- the clock of an hour, a minute, a second and a part of the second: the part has a name, a limit, and a length in nanoseconds
 abbrev pub clock_with : ℕ → ℕ → ℕ → List ℕ → ℕ → ℕ → ℕ → Result ℕ Refusal
 clock_with h m s name limit nanos part =

@@ -1,5 +1,5 @@
 //! The refusal of a part that is out of its range.
-ghost use Rattle.std.specs.Prelude.{◌≡◌};
+ghost use Rattle.std.specs.Prelude.{◌≡◌, IsTrue};
 ghost use Rattle.std.proofs.Common.{rules};
 ghost use Rattle.std.specs.Cmp.Rules.{comparing};
 ghost use Rattle.calendar_values.specs.Refusals.{refusal_eq};
@@ -30,6 +30,64 @@ enum Part {
     Nanoseconds,
 }
 
+impl Part {
+    ghost use Rattle.calendar_values.specs.Parts.{part_name, is_part_name};
+
+    fn named(name: &str) -> Part
+        requires { IsTrue (is_part_name name.now) }
+        ensures { part_name result ≡ name.now }
+    {
+        match name {
+            "year" => Part::Year,
+            "month" => Part::Month,
+            "day" => Part::Day,
+            "ordinal" => Part::Ordinal,
+            "julian_day" => Part::JulianDay,
+            "hour" => Part::Hour,
+            "minute" => Part::Minute,
+            "second" => Part::Second,
+            "millisecond" => Part::Millisecond,
+            "microsecond" => Part::Microsecond,
+            "nanosecond" => Part::Nanosecond,
+            "hours" => Part::Hours,
+            "minutes" => Part::Minutes,
+            "seconds" => Part::Seconds,
+            "offset_seconds" => Part::OffsetSeconds,
+            "timestamp" => Part::Timestamp,
+            "milliseconds" => Part::Milliseconds,
+            "microseconds" => Part::Microseconds,
+            "nanoseconds" => Part::Nanoseconds,
+            _ => unreachable!(),
+        }
+    }
+
+    fn name(self) -> &'static str
+        ensures { result.now ≡ part_name self }
+    {
+        match self {
+            Part::Year => "year",
+            Part::Month => "month",
+            Part::Day => "day",
+            Part::Ordinal => "ordinal",
+            Part::JulianDay => "julian_day",
+            Part::Hour => "hour",
+            Part::Minute => "minute",
+            Part::Second => "second",
+            Part::Millisecond => "millisecond",
+            Part::Microsecond => "microsecond",
+            Part::Nanosecond => "nanosecond",
+            Part::Hours => "hours",
+            Part::Minutes => "minutes",
+            Part::Seconds => "seconds",
+            Part::OffsetSeconds => "offset_seconds",
+            Part::Timestamp => "timestamp",
+            Part::Milliseconds => "milliseconds",
+            Part::Microseconds => "microseconds",
+            Part::Nanoseconds => "nanoseconds",
+        }
+    }
+}
+
 /// A part is out of its range. A contract sees the part's name and the conditional mark.
 #[derive(Clone, Copy, Debug)]
 pub struct ComponentRange {
@@ -52,63 +110,25 @@ impl Model for ComponentRange {
 }
 
 impl ComponentRange {
-    ghost use Rattle.calendar_values.specs.Parts.{IsPartName};
+    ghost use Rattle.calendar_values.specs.Parts.{is_part_name};
 
     /// The refusal of the part of this name. `conditional` says that the value is possible for some
     /// year and month, and not with the other parts.
     pub fn new(name: &'static str, conditional: bool) -> ComponentRange
-        requires { IsPartName name.now }
+        requires { IsTrue (is_part_name name.now) }
         ensures { result ≡ record { name = name.now; conditional = conditional } }
     {
-        let part = match name {
-            "year" => Part::Year,
-            "month" => Part::Month,
-            "day" => Part::Day,
-            "ordinal" => Part::Ordinal,
-            "julian_day" => Part::JulianDay,
-            "hour" => Part::Hour,
-            "minute" => Part::Minute,
-            "second" => Part::Second,
-            "millisecond" => Part::Millisecond,
-            "microsecond" => Part::Microsecond,
-            "nanosecond" => Part::Nanosecond,
-            "hours" => Part::Hours,
-            "minutes" => Part::Minutes,
-            "seconds" => Part::Seconds,
-            "offset_seconds" => Part::OffsetSeconds,
-            "timestamp" => Part::Timestamp,
-            "milliseconds" => Part::Milliseconds,
-            "microseconds" => Part::Microseconds,
-            _ => Part::Nanoseconds,
-        };
-        ComponentRange { part, conditional }
+        ComponentRange {
+            part: Part::named(name),
+            conditional,
+        }
     }
 
     /// The name of the part.
     pub fn name(self) -> &'static str
         ensures { result.now ≡ self.name }
     {
-        match self.part {
-            Part::Year => "year",
-            Part::Month => "month",
-            Part::Day => "day",
-            Part::Ordinal => "ordinal",
-            Part::JulianDay => "julian_day",
-            Part::Hour => "hour",
-            Part::Minute => "minute",
-            Part::Second => "second",
-            Part::Millisecond => "millisecond",
-            Part::Microsecond => "microsecond",
-            Part::Nanosecond => "nanosecond",
-            Part::Hours => "hours",
-            Part::Minutes => "minutes",
-            Part::Seconds => "seconds",
-            Part::OffsetSeconds => "offset_seconds",
-            Part::Timestamp => "timestamp",
-            Part::Milliseconds => "milliseconds",
-            Part::Microseconds => "microseconds",
-            Part::Nanoseconds => "nanoseconds",
-        }
+        self.part.name()
     }
 
     /// Whether the value is possible for some year and month, and not with the other parts.

@@ -41,7 +41,8 @@ impl Text {
     pub fn push(&mut self, byte: u8)
         requires room { length self.old < 48 }
         requires ascii { byte < 128 }
-        ensures { self.new ≡ self.old ++ byte ∷ [] }
+        ensures value { self.new ≡ self.old ++ byte ∷ [] }
+        ensures length { length self.new ≡ length self.old + 1 }
     {
         self.bytes[self.len] = byte;
         self.len += 1;
@@ -51,7 +52,8 @@ impl Text {
     pub fn push_bytes(&mut self, bytes: &[u8])
         requires room { length self.old + length bytes.now ≤ 48 }
         requires ascii { IsAscii bytes.now }
-        ensures { self.new ≡ self.old ++ bytes.now }
+        ensures value { self.new ≡ self.old ++ bytes.now }
+        ensures length { length self.new ≡ length self.old + length bytes.now }
     {
         for byte in bytes {
             self.push(*byte);
@@ -61,12 +63,40 @@ impl Text {
     /// Adds the last `count` decimal digits of a number, with zeros in front where it has fewer.
     pub fn push_digits(&mut self, number: u32, count: usize)
         requires { length self.old + count ≤ 48 }
-        ensures { self.new ≡ self.old ++ last_digits count number }
+        ensures value { self.new ≡ self.old ++ last_digits count number }
+        ensures length { length self.new ≡ length self.old + count }
     {
         if count > 0 {
             self.push_digits(number / 10, count - 1);
             self.push(b'0' + (number % 10) as u8);
         }
+    }
+
+    /// Adds an ASCII mark and the last two digits of a number, as `:05`.
+    pub fn push_part(&mut self, mark: u8, number: u8)
+        requires room { length self.old + 3 ≤ 48 }
+        requires ascii { mark < 128 }
+        ensures value { self.new ≡ self.old ++ mark ∷ [] ++ last_digits 2 number }
+        ensures length { length self.new ≡ length self.old + 3 }
+    {
+        self.push(mark);
+        self.push_digits(number as u32, 2);
+    }
+
+    /// Adds a nanosecond of the second as the digits of a fraction: nine digits without the zeros
+    /// at their end, but at least one digit.
+    pub fn push_fraction(&mut self, nanosecond: u32)
+        requires { length self.old ≤ 39 }
+        ensures value { self.new ≡ self.old ++ fraction_digits 9 nanosecond }
+        ensures length { length self.new ≤ length self.old + 9 }
+    {
+        let mut digits = nanosecond;
+        let mut count = 9;
+        while count > 1 && digits % 10 == 0 {
+            digits /= 10;
+            count -= 1;
+        }
+        self.push_digits(digits, count);
     }
 
     /// The bytes.

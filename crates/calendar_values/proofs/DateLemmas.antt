@@ -1,0 +1,22 @@
+-- What the year and the day of the year of a date say of its day number.
+use Rattle.std.proofs.Common.{◌≤◌, arith}
+use Rattle.calendar_values.specs.DayLaws.{year_of-is, ordinal_of-is}
+use Rattle.calendar_values.specs.Month.{month_number}
+use Rattle.calendar_values.specs.declared.month.Month.{Month}
+use Rattle.calendar_values.specs.declared.month.Month.TheVariants.{January, February, March, April, May, June, July, August, September, October, November, December}
+
+pub ruleset fields = (year_of-is, ordinal_of-is)
+
+pub month_number_bounds : (m : Month) → (1 ≤ month_number m) × (month_number m ≤ 12)
+month_number_bounds January = omega arith
+month_number_bounds February = omega arith
+month_number_bounds March = omega arith
+month_number_bounds April = omega arith
+month_number_bounds May = omega arith
+month_number_bounds June = omega arith
+month_number_bounds July = omega arith
+month_number_bounds August = omega arith
+month_number_bounds September = omega arith
+month_number_bounds October = omega arith
+month_number_bounds November = omega arith
+month_number_bounds December = omega arith

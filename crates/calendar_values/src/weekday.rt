@@ -1,0 +1,81 @@
+//! The days of the week.
+ghost use Rattle.std.specs.Prelude.{◌≡◌, ◌<◌, Some};
+ghost use Rattle.std.specs.Fmt.{padded};
+
+use std::fmt;
+
+/// A day of the week.
+#[derive(Clone, Copy, PartialEq, Eq)]
+pub enum Weekday {
+    Monday,
+    Tuesday,
+    Wednesday,
+    Thursday,
+    Friday,
+    Saturday,
+    Sunday,
+}
+
+impl Weekday {
+    ghost use Rattle.calendar_values.specs.Weekday.{weekday_number, weekday_name};
+
+    /// The number of days from Monday: 0 for Monday to 6 for Sunday.
+    pub fn number_days_from_monday(self) -> u8
+        ensures value { result ≡ weekday_number self }
+        ensures in_range { result < 7 }
+    {
+        self as u8
+    }
+
+    pub(crate) fn numbered(number: u8) -> Weekday
+        requires { number < 7 }
+        ensures { weekday_number result ≡ number }
+    {
+        match number {
+            0 => Weekday::Monday,
+            1 => Weekday::Tuesday,
+            2 => Weekday::Wednesday,
+            3 => Weekday::Thursday,
+            4 => Weekday::Friday,
+            5 => Weekday::Saturday,
+            _ => Weekday::Sunday,
+        }
+    }
+
+    // The English name.
+    fn name(self) -> &'static str
+        ensures { result.now ≡ weekday_name self }
+    {
+        match self {
+            Weekday::Monday => "Monday",
+            Weekday::Tuesday => "Tuesday",
+            Weekday::Wednesday => "Wednesday",
+            Weekday::Thursday => "Thursday",
+            Weekday::Friday => "Friday",
+            Weekday::Saturday => "Saturday",
+            Weekday::Sunday => "Sunday",
+        }
+    }
+}
+
+impl fmt::Display for Weekday {
+    ghost use Rattle.calendar_values.specs.Weekday.{weekday_name};
+
+    ghost output = { λ weekday. Some (weekday_name weekday) };
+
+    ghost styled_output = { λ weekday spec. Some (padded spec (weekday_name weekday)) };
+
+    fn fmt<W: fmt::Write>(&self, f: &mut fmt::Formatter<W>) -> fmt::Result {
+        f.pad(self.name())
+    }
+}
+
+impl fmt::Debug for Weekday {
+    ghost use Rattle.calendar_values.specs.Weekday.{weekday_name};
+
+    ghost debug_output = { λ weekday. Some (weekday_name weekday) };
+
+    fn fmt<W: fmt::Write>(&self, f: &mut fmt::Formatter<W>) -> fmt::Result {
+        f.write_str(self.name())
+    }
+}
