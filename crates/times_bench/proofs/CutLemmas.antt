@@ -67,10 +67,11 @@ behind-pieces_of piece [] = ap (λ (z : List ℕ). z ∷ []) (append-nil piece)
 behind-pieces_of piece (byte ∷ input) =
     elim (nat_eq byte 10) as (λ t. behind piece (cond t ([] ∷ pieces_of input) (onto_first byte (pieces_of input)))
     ≡ cond t (piece ∷ ended_from [] input) (ended_from (piece ++ byte ∷ []) input)
-    ++ cond t (rest_from [] input) (rest_from (piece ++ byte ∷ []) input) ∷ [])
-    [ true ↦ ap (λ (z : List ℕ). z ∷ pieces_of input) (append-nil piece)
-        ∙ ap (λ (z : List (List ℕ)). piece ∷ z) (sym (behind-nil (pieces_of input) (some_pieces input)) ∙ behind-pieces_of [] input)
-    | false ↦ behind-onto_first piece byte (pieces_of input) ∙ behind-pieces_of (piece ++ byte ∷ []) input ]
+    ++ cond t (rest_from [] input) (rest_from (piece ++ byte ∷ []) input) ∷ []) [
+      | true ↦ ap (λ (z : List ℕ). z ∷ pieces_of input) (append-nil piece)
+          ∙ ap (λ (z : List (List ℕ)). piece ∷ z) (sym (behind-nil (pieces_of input) (some_pieces input)) ∙ behind-pieces_of [] input)
+      | false ↦ behind-onto_first piece byte (pieces_of input) ∙ behind-pieces_of (piece ++ byte ∷ []) input
+    ]
 
 -- the pieces of an input are the lines that a line feed ends, and the rest
 pub pieces_of-parts : (input : List ℕ) → pieces_of input ≡ ended_from [] input ++ rest_from [] input ∷ []

@@ -4,3 +4,4 @@ pub mod LineLemmas
 pub mod NumberLemmas
 pub mod ReadLemmas
 pub mod SendingLemmas
+pub mod UtcLemmas

@@ -1,7 +1,7 @@
 -- Reading an input to its end, a block at a time.
 use Rattle.std.proofs.Common.{◌≡◌, ℕ, List, [], ◌++◌, Option, Some, None, refl, sym, ◌∙◌, ap, subst, append_assoc, append-nil}
 use Rattle.std.specs.Prelude.{All, IfSome}
-use Rattle.std.specs.Io.KnownBytes.{Appends, Consumes, IsAtEnd}
+use Rattle.std.specs.Io.KnownBytes.{Appends, Consumes, Keeps, IsAtEnd}
 use Rattle.std.proofs.lemmas.Grind.{flat_map-append}
 use Rattle.times_bench.specs.Writing.{AppendsBeginning}
 use Rattle.times_bench.specs.Lines.{lines_of, whole_lines_of, unless_empty}
@@ -24,6 +24,13 @@ Consumes-append (Some a) (Some b) (Some c) xs ys h k = h ∙ ap (λ (z : List �
 -- a read of no byte
 pub Consumes-none : (a b c : Option (List ℕ)) (xs : List ℕ) → Consumes a b xs → Consumes b c [] → Consumes a c xs
 Consumes-none a b c xs h k = subst (Consumes a c) (append-nil xs) (Consumes-append a b c xs [] h k)
+
+-- a read that keeps what is left takes nothing
+pub Consumes-keep : (a b c : Option (List ℕ)) (xs : List ℕ) → Consumes a b xs → Keeps b c → Consumes a c xs
+Consumes-keep None b c xs h k = tt
+Consumes-keep (Some a) None c xs h k = absurd h
+Consumes-keep (Some a) (Some b) None xs h k = absurd k
+Consumes-keep (Some a) (Some b) (Some c) xs h k = h ∙ ap (λ (z : List ℕ). xs ++ z) (sym k)
 
 -- at the end no byte is left
 pub left-end : (a b : Option (List ℕ)) (taken : List ℕ) → Consumes a b taken → IsAtEnd b → IfSome a (λ _. b ≡ Some [])
@@ -69,10 +76,10 @@ answers-lines_of a b c taken line held h k =
     let rest = rest_from [] taken in
     subst (λ (z : List (List ℕ)). All IsUnixLine z → Appends a c (answers z)) (sym (lines_of-parts taken))
     (λ all.
-        let last = All-back IsUnixLine (ended_from [] taken) (unless_empty rest) all in
-        let known = subst (λ (z : List ℕ). All IsUnixLine (unless_empty z) → Appends b c (answers (unless_empty z))) (Holds-last rest line held last) k in
-        subst (Appends a c) (sym (flat_map-append answer_to (ended_from [] taken) (unless_empty rest)))
-        (Appends-append a b c _ _ (h (All-front IsUnixLine _ _ all)) (known last)))
+    let last = All-back IsUnixLine (ended_from [] taken) (unless_empty rest) all in
+    let known = subst (λ (z : List ℕ). All IsUnixLine (unless_empty z) → Appends b c (answers (unless_empty z))) (Holds-last rest line held last) k in
+    subst (Appends a c) (sym (flat_map-append answer_to (ended_from [] taken) (unless_empty rest)))
+    (Appends-append a b c _ _ (h (All-front IsUnixLine _ _ all)) (known last)))
 
 -- the answer to the last line was cut short
 pub beginning-last : (a b c : Option (List ℕ)) (taken line : List ℕ) → Holds (rest_from [] taken) line → AnswersWritten a b taken
@@ -82,10 +89,10 @@ beginning-last a b c taken line held h k =
     let rest = rest_from [] taken in
     subst (λ (z : List (List ℕ)). All IsUnixLine z → AppendsBeginning a c (answers z)) (sym (lines_of-parts taken))
     (λ all.
-        let last = All-back IsUnixLine (ended_from [] taken) (unless_empty rest) all in
-        let known = subst (λ (z : List ℕ). All IsUnixLine (unless_empty z) → AppendsBeginning b c (answers (unless_empty z))) (Holds-last rest line held last) k in
-        subst (AppendsBeginning a c) (sym (flat_map-append answer_to (ended_from [] taken) (unless_empty rest)))
-        (AppendsBeginning-append a b c _ _ (h (All-front IsUnixLine _ _ all)) (known last)))
+    let last = All-back IsUnixLine (ended_from [] taken) (unless_empty rest) all in
+    let known = subst (λ (z : List ℕ). All IsUnixLine (unless_empty z) → AppendsBeginning b c (answers (unless_empty z))) (Holds-last rest line held last) k in
+    subst (AppendsBeginning a c) (sym (flat_map-append answer_to (ended_from [] taken) (unless_empty rest)))
+    (AppendsBeginning-append a b c _ _ (h (All-front IsUnixLine _ _ all)) (known last)))
 
 -- the answers to the lines of a block were cut short, and so are those of the input
 pub beginning-block : (a b c : Option (List ℕ)) (taken block rest : List ℕ) → AnswersWritten a b taken
@@ -101,8 +108,8 @@ beginning-block a b c taken block rest h k =
     ∙ append_assoc (answers (ended_from [] read)) (answers (ended_from (rest_from [] read) rest)) (answers last) in
     subst (λ (z : List (List ℕ)). All IsUnixLine z → AppendsBeginning a c (answers z)) (sym (lines_of-parts (read ++ rest)))
     (λ all.
-        let read_all = All-ended_from [] read rest (All-front IsUnixLine (ended_from [] (read ++ rest)) last all) in
-        let each = subst (All IsUnixLine) (ended_from-append [] taken block) read_all in
-        let cut = AppendsBeginning-append a b c _ _ (h (All-front IsUnixLine _ _ each)) (k (All-back IsUnixLine _ _ each)) in
-        subst (AppendsBeginning a c) (sym whole)
-        (AppendsBeginning-longer a c (answers (ended_from [] read)) more (subst (AppendsBeginning a c) (sym (answers-append [] taken block)) cut)))
+    let read_all = All-ended_from [] read rest (All-front IsUnixLine (ended_from [] (read ++ rest)) last all) in
+    let each = subst (All IsUnixLine) (ended_from-append [] taken block) read_all in
+    let cut = AppendsBeginning-append a b c _ _ (h (All-front IsUnixLine _ _ each)) (k (All-back IsUnixLine _ _ each)) in
+    subst (AppendsBeginning a c) (sym whole)
+    (AppendsBeginning-longer a c (answers (ended_from [] read)) more (subst (AppendsBeginning a c) (sym (answers-append [] taken block)) cut)))

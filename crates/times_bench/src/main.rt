@@ -7,6 +7,7 @@ mod feed;
 mod line;
 mod pending;
 mod unix;
+mod utc_date_time;
 
 use bench::bench;
 use devices::Device;

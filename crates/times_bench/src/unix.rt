@@ -3,6 +3,7 @@ ghost use Rattle.std.specs.Prelude.{◌≡◌, [], ◌∷◌, ◌++◌, SomeIff}
 ghost use Rattle.times_bench.specs.UnixLines.{IsNumber, HasUnixWord, number_of, number_value};
 ghost use Rattle.times_bench.specs.UtcText.{second_text};
 
+use super::utc_date_time::UtcDateTime;
 use calendar_values::Text;
 
 /// The second of a line `unix S`.
@@ -29,6 +30,14 @@ fn parse_number(text: &[u8]) -> Option<i64>
 pub fn answer_to_second(second: i64) -> Text
     ensures { result ≡ second_text second ++ 10 ∷ [] }
 {
-    let _ = second;
-    Text::new()
+    let mut text = match UtcDateTime::from_unix_timestamp(second) {
+        Ok(moment) => moment.text(),
+        Err(_) => {
+            let mut refused = Text::new();
+            refused.push_bytes(b"refused timestamp");
+            refused
+        }
+    };
+    text.push(b'\n');
+    text
 }

@@ -1,12 +1,12 @@
-use Rattle.std.proofs.Common.{rules, arith, ◌≡◌, ◌∙◌, ℕ, ◌+◌, ◌<◌, ◌≤◌, List, [], ◌∷◌, ◌++◌, length, take, subst, refl, length-append}
+use Rattle.std.proofs.Common.{arith, ◌≡◌, ◌∙◌, ℕ, ◌≤◌, [], ◌++◌, length, take, subst, length-append}
 use Rattle.std.specs.Prelude.{All}
-use Rattle.std.specs.Io.KnownBytes.{Appends, Consumes, IsAtEnd}
+use Rattle.std.specs.Io.KnownBytes.{Appends, Consumes}
 use Rattle.times_bench.specs.Writing.{AppendsBeginning}
 use Rattle.times_bench.specs.Lines.{lines_of}
 use Rattle.times_bench.specs.LineParts.{ended_from, rest_from}
 use Rattle.times_bench.specs.UnixLines.{IsUnixLine, answers}
 use Rattle.times_bench.proofs.CutLemmas.{rest_from-append}
-use Rattle.times_bench.proofs.ReadLemmas.{Consumes-nil, Consumes-append, Consumes-none, left-end, input-end, input-begin, AnswersWritten-append, answers-whole_lines_of, answers-lines_of, beginning-last, beginning-block}
+use Rattle.times_bench.proofs.ReadLemmas.{Consumes-nil, Consumes-append, Consumes-keep, Consumes-none, left-end, input-end, input-begin, AnswersWritten-append, answers-whole_lines_of, answers-lines_of, beginning-last, beginning-block}
 use Rattle.times_bench.proofs.SendingLemmas.{Appends-nil}
 use Rattle.times_bench.proofs.bench.bench.Goals as goal
 
@@ -79,3 +79,12 @@ reads-preserved g c =
         writer_mark = c.in-Ok-absorb.ensures.mark ∙ so_far.1.writer_mark;
       },
     )
+
+pub returns-in_default-clause-whole_lines : goal.returns-in_default-clause-whole_lines
+returns-in_default-clause-whole_lines g c _ =
+    let so_far = c.reads.invariant in
+    (so_far.0, Consumes-keep _ _ _ so_far.0 so_far.1.consumed c.in_default.ensures.bytes, answers-whole_lines_of _ _ so_far.0 so_far.1.sent)
+
+pub returns-clause-whole_lines : goal.returns-clause-whole_lines
+returns-clause-whole_lines g c _ =
+    let so_far = c.reads.invariant in (so_far.0, so_far.1.consumed, answers-whole_lines_of _ _ so_far.0 so_far.1.sent)

@@ -1,4 +1,4 @@
-use Rattle.std.proofs.Common.{rules, arith, ◌≡◌, ◌≢◌, ℕ, List, [], ◌∷◌, ◌++◌}
+use Rattle.std.proofs.Common.{arith, ◌≢◌, []}
 use Rattle.std.proofs.lemmas.Result.{err_from_is_err_and}
 use Rattle.times_bench.proofs.FeedLemmas.{IsUnixLine-last, answers-last}
 use Rattle.times_bench.proofs.SendingLemmas.{flush_sent, AppendsBeginning-alone}

@@ -1,4 +1,4 @@
-use Rattle.std.proofs.Common.{◌∙◌, arith, take, drop}
+use Rattle.std.proofs.Common.{◌∙◌, arith}
 use Rattle.std.proofs.lemmas.Grind.{common_steps}
 use Rattle.times_bench.proofs.SendingLemmas.{Appends-take}
 use Rattle.times_bench.proofs.devices.write_whole.Goals as goal

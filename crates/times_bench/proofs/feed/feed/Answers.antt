@@ -1,11 +1,11 @@
 use Rattle.std.proofs.Common.{rules, arith, ◌≡◌, ℕ, ◌+◌, List, [], ◌∷◌, ◌++◌, take, drop, sym, ◌∙◌, ap, subst, append-nil, get_or}
-use Rattle.std.specs.Prelude.{All, MatchResult}
+use Rattle.std.specs.Prelude.{All}
 use Rattle.std.proofs.lemmas.Grind.{common_steps}
 use Rattle.std.proofs.lemmas.Result.{err_from_is_err_and}
-use Rattle.std.proofs.lemmas.List.{take-append-drop, take_all}
+use Rattle.std.proofs.lemmas.List.{take-append-drop}
 use Rattle.times_bench.specs.Writing.{AppendsBeginning, Sends}
 use Rattle.times_bench.specs.LineParts.{ended_from, rest_from}
-use Rattle.times_bench.specs.UnixLines.{IsUnixLine, answer_to, answers}
+use Rattle.times_bench.specs.UnixLines.{IsUnixLine, answer_to}
 use Rattle.times_bench.proofs.CutLemmas.{ended_from-byte, rest_from-byte, rest_from-line_feed}
 use Rattle.times_bench.proofs.FeedLemmas.{All-ended_from, IsUnixLine-rest_from, Holds-unix, Sends-line, AppendsBeginning-line}
 use Rattle.times_bench.proofs.LineLemmas.{Holds-push, Holds-nil}
