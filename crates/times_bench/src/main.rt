@@ -6,6 +6,8 @@ mod devices;
 mod feed;
 mod line;
 mod pending;
+#[cfg(test)]
+mod tests;
 mod unix;
 mod utc_date_time;
 
