@@ -22,6 +22,7 @@ pub mod Texts
 pub mod TruncationLaws
 pub mod Truncations
 pub mod WallClock
+pub mod WallClockLaws
 pub mod Weekday
 pub mod Weeks
 pub mod YearLaws
