@@ -1,3 +1,5 @@
+pub mod AdjustmentLaws
+pub mod Adjustments
 pub mod Calendar
 pub mod Clock
 pub mod ClockLaws
@@ -13,10 +15,14 @@ pub mod Offsets
 pub mod Parts
 pub mod Range
 pub mod Refusals
+pub mod ReplacementLaws
 pub mod Replacements
 pub mod SignedArith
 pub mod Texts
+pub mod TruncationLaws
+pub mod Truncations
 pub mod WallClock
+pub mod WallClockLaws
 pub mod Weekday
 pub mod Weeks
 pub mod YearLaws

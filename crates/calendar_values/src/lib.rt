@@ -4,6 +4,7 @@
 mod calendar;
 mod component_range;
 mod date;
+mod date_adjustment;
 pub mod laws;
 mod month;
 mod range;
@@ -16,6 +17,7 @@ mod weekday;
 pub use calendar::{days_in_year, is_leap_year};
 pub use component_range::ComponentRange;
 pub use date::Date;
+pub use date_adjustment::DateAdjustment;
 pub use month::Month;
 pub use signed_duration::SignedDuration;
 pub use text::Text;
