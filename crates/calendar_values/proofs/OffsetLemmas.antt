@@ -1,16 +1,42 @@
 -- The signs, the parts and the texts of offsets.
-use Rattle.std.proofs.Common.{lit≤, ◌≡◌, ℕ, ℤ, pos, negsuc, ◌/◌, ◌%◌, ◌<ℤ◌, neg_ℤ, unsigned_abs, inl, inr, List, ◌++◌, refl, arith, IsTrue, false, ◌≤◌}
+use Rattle.std.proofs.Common.{lit≤, ◌≡◌, ℕ, ℤ, FitsSigned, w8, w32, to_z, of_z, to_z-of_z, int_div, int_rem, pos, negsuc, ◌/◌, ◌%◌, ◌<ℤ◌, neg_ℤ, unsigned_abs, inl, inr, List, ◌++◌, refl, arith, IsTrue, false, ◌≤◌}
 use Rattle.std.proofs.lemmas.Int.{by_lt_z, ints}
 use Rattle.std.specs.Prelude.{Ok, codes, int_lt, if◌then◌else◌}
 use Rattle.calendar_values.specs.Digits.{last_digits}
 use Rattle.calendar_values.specs.OffsetLaws.{offset_signs}
-use Rattle.calendar_values.specs.Offsets.{IsOffset, IsOffsetParts, seconds_of_parts, with_sign_of, offset_of_seconds}
+use Rattle.calendar_values.specs.Offsets.{IsOffset, IsOffsetParts, seconds_of_parts, offset_hours_of, offset_minutes_of, offset_seconds_of, with_sign_of, offset_of_seconds}
 use Rattle.calendar_values.specs.SignedArith.{signed_arith, one_part}
 use Rattle.calendar_values.specs.Texts.{offset_text}
 
 -- an offset in range is not refused
 pub offset_of_seconds-in : (o : ℤ) → IsOffset o → offset_of_seconds o ≡ Ok o
 offset_of_seconds-in o p = grind (arith, ints)
+
+-- the parts of an offset, as the code computes them
+pub computed_hours : (o : ℤ) → IsOffset o → to_z w8 (of_z w8 (to_z w32 (of_z w32 (int_div (to_z w32 (of_z w32 o)) (pos 3_600))))) ≡ offset_hours_of o
+unfolding offset_hours_of
+computed_hours o p =
+    let fits : FitsSigned w32 o = omega (arith, signed_arith) in
+    let hours : FitsSigned w32 (int_div o (pos 3_600)) = omega (arith, signed_arith, one_part o) in
+    let hours' : FitsSigned w8 (int_div o (pos 3_600)) = omega (arith, signed_arith, one_part o) in
+    simp to_z-of_z
+
+pub computed_minutes : (o : ℤ) → IsOffset o → to_z w8 (of_z w8 (to_z w32 (of_z w32 (int_rem (to_z w32 (of_z w32 (int_div (to_z w32 (of_z w32 o)) (pos 60)))) (pos 60))))) ≡ offset_minutes_of o
+unfolding offset_minutes_of
+computed_minutes o p =
+    let fits : FitsSigned w32 o = omega (arith, signed_arith) in
+    let quotient : FitsSigned w32 (int_div o (pos 60)) = omega (arith, signed_arith, one_part o) in
+    let minutes : FitsSigned w32 (int_rem (int_div o (pos 60)) (pos 60)) = omega (arith, signed_arith) in
+    let minutes' : FitsSigned w8 (int_rem (int_div o (pos 60)) (pos 60)) = omega (arith, signed_arith) in
+    simp to_z-of_z
+
+pub computed_seconds : (o : ℤ) → IsOffset o → to_z w8 (of_z w8 (to_z w32 (of_z w32 (int_rem (to_z w32 (of_z w32 o)) (pos 60))))) ≡ offset_seconds_of o
+unfolding offset_seconds_of
+computed_seconds o p =
+    let fits : FitsSigned w32 o = omega (arith, signed_arith) in
+    let seconds : FitsSigned w32 (int_rem o (pos 60)) = omega (arith, signed_arith) in
+    let seconds' : FitsSigned w8 (int_rem o (pos 60)) = omega (arith, signed_arith) in
+    simp to_z-of_z
 
 pub with_sign_of-positive : (greater part : ℤ) → pos 0 <ℤ greater → with_sign_of greater part ≡ pos (unsigned_abs part)
 with_sign_of-positive greater part h = grind (arith, ints)

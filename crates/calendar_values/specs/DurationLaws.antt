@@ -1,8 +1,10 @@
 -- The seconds and the nanoseconds of a duration are the only ones of one sign that make it.
-use Rattle.std.specs.Prelude.{◌≡◌, ℤ, pos, negsuc}
-use Rattle.std.proofs.Common.{arith}
+use Rattle.std.specs.Prelude.{◌≡◌, ◌⊎◌, ℤ, pos, negsuc}
+use Rattle.std.proofs.Common.{arith, inl, inr}
 use Rattle.std.proofs.lemmas.Int.{ints}
+use borrow.Author.Differences.{up, down}
 use Rattle.calendar_values.specs.Durations.{duration_of_parts, whole_seconds_of, subsec_nanoseconds_of, IsDurationParts}
+use Rattle.calendar_values.specs.SignedArith.{signed_arith, one_part}
 
 pub duration_of_parts-of : (d : ℤ) → duration_of_parts (whole_seconds_of d) (subsec_nanoseconds_of d) ≡ d
 unfolding whole_seconds_of subsec_nanoseconds_of
@@ -11,19 +13,29 @@ duration_of_parts-of (negsuc n) = omega (arith, ints)
 
 pub IsDurationParts-of : (d : ℤ) → IsDurationParts (whole_seconds_of d) (subsec_nanoseconds_of d)
 unfolding whole_seconds_of subsec_nanoseconds_of
-IsDurationParts-of (pos n) = record { low = omega (arith, ints); high = omega (arith, ints); positive = λ h. omega (arith, ints); negative = λ h. omega (arith, ints) }
-IsDurationParts-of (negsuc n) = record { low = omega (arith, ints); high = omega (arith, ints); positive = λ h. omega (arith, ints); negative = λ h. omega (arith, ints) }
+IsDurationParts-of (pos n) = record {
+  in_range = omega (arith, signed_arith);
+  one_sign = inl (omega (arith, ints), omega (arith, ints));
+}
+IsDurationParts-of (negsuc n) = record {
+  in_range = omega (arith, signed_arith);
+  one_sign = inr (omega (arith, ints), omega (arith, ints));
+}
 
-pub duration_of_parts-injective : (s t m n : ℤ) → IsDurationParts s m → IsDurationParts t n → duration_of_parts s m ≡ duration_of_parts t n → (s ≡ t) × (m ≡ n)
-duration_of_parts-injective s t m n p q e =
-    let same : s ≡ t = grind (arith, ints) in (same, omega (arith, ints))
+-- no part is negative, or none is positive
+pub duration_signs : (s n : ℤ) → IsDurationParts s n → ((down s ≡ 0) × (down n ≡ 0)) ⊎ ((up s ≡ 0) × (up n ≡ 0))
+duration_signs s n p =
+    elim p.one_sign [
+      | inl q ↦ inl (omega (arith, signed_arith, one_part s, q), omega (arith, signed_arith, one_part n, q))
+      | inr q ↦ inr (omega (arith, signed_arith, one_part s, q), omega (arith, signed_arith, one_part n, q))
+    ]
 
 pub whole_seconds_of-parts : (s n : ℤ) → IsDurationParts s n → whole_seconds_of (duration_of_parts s n) ≡ s
+unfolding whole_seconds_of
 whole_seconds_of-parts s n p =
-    let d : ℤ = duration_of_parts s n in
-    (duration_of_parts-injective (whole_seconds_of d) s (subsec_nanoseconds_of d) n (IsDurationParts-of d) p (duration_of_parts-of d)).0
+    omega (arith, signed_arith, duration_signs s n p, one_part (duration_of_parts s n))
 
 pub subsec_nanoseconds_of-parts : (s n : ℤ) → IsDurationParts s n → subsec_nanoseconds_of (duration_of_parts s n) ≡ n
+unfolding subsec_nanoseconds_of
 subsec_nanoseconds_of-parts s n p =
-    let d : ℤ = duration_of_parts s n in
-    (duration_of_parts-injective (whole_seconds_of d) s (subsec_nanoseconds_of d) n (IsDurationParts-of d) p (duration_of_parts-of d)).1
+    omega (arith, signed_arith, duration_signs s n p, one_part (duration_of_parts s n))

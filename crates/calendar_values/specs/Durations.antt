@@ -1,5 +1,5 @@
 -- A duration is a whole number of nanoseconds. Its seconds and days are whole ones, rounded towards zero.
-use Rattle.std.specs.Prelude.{ℤ, pos, neg_ℤ, ◌+ℤ◌, ◌*ℤ◌, ◌≤ℤ◌, ◌<ℤ◌, int_div, int_rem}
+use Rattle.std.specs.Prelude.{◌≤◌, ◌⊎◌, ℤ, pos, neg_ℤ, ◌+ℤ◌, ◌*ℤ◌, ◌≤ℤ◌, int_div, int_rem, unsigned_abs}
 use Rattle.calendar_values.specs.Clock.{nanos_per_second, nanos_per_day}
 
 -- the duration of so many seconds and nanoseconds
@@ -29,9 +29,7 @@ subsec_nanoseconds_of d = int_rem d (pos nanos_per_second)
 unfoldable pub whole_days_of : ℤ → ℤ
 whole_days_of d = int_div d (pos nanos_per_day)
 
--- seconds, and nanoseconds that make less than a second, of no opposite signs
+-- seconds, and nanoseconds that make less than a second, of one sign
 pub record IsDurationParts (s n : ℤ) : Type 0 where
-  pub low : neg_ℤ (pos 999_999_999) ≤ℤ n
-  pub high : n ≤ℤ pos 999_999_999
-  pub positive : pos 0 <ℤ s → pos 0 ≤ℤ n
-  pub negative : s <ℤ pos 0 → n ≤ℤ pos 0
+  pub in_range : unsigned_abs n ≤ 999_999_999
+  pub one_sign : ((pos 0 ≤ℤ s) × (pos 0 ≤ℤ n)) ⊎ ((s ≤ℤ pos 0) × (n ≤ℤ pos 0))

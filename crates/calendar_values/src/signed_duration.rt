@@ -1,5 +1,5 @@
 //! Durations, which may be negative.
-ghost use Rattle.std.specs.Prelude.{◌≡◌, ℤ, pos, neg_ℤ, ◌≤◌, ◌<◌, ◌↔◌, IsTrue, ◌+ℤ◌, ◌-ℤ◌, ◌*ℤ◌, ◌≤ℤ◌, ◌<ℤ◌, unsigned_abs};
+ghost use Rattle.std.specs.Prelude.{◌≡◌, ℤ, pos, ◌≤◌, ◌↔◌, IsTrue, ◌+ℤ◌, ◌-ℤ◌, ◌*ℤ◌, ◌<ℤ◌, unsigned_abs};
 ghost use Rattle.std.proofs.Common.{rules};
 ghost use Rattle.std.specs.Cmp.{partial_order_from_own_ties};
 ghost use Rattle.std.specs.Cmp.Rules.{comparing};
@@ -13,8 +13,9 @@ use std::ops::{Add, Sub};
 
 const NANOS_PER_SECOND: i32 = 1_000_000_000;
 
-/// A duration of -2^63 to 2^63 - 1 seconds and -999,999,999 to 999,999,999 nanoseconds, which are
-/// never of opposite signs. A contract sees the number of its nanoseconds, a second being 10^9.
+/// A duration of -2^63 to 2^63 - 1 seconds and -999,999,999 to 999,999,999 nanoseconds beside them,
+/// never of opposite signs, as in the `time` crate. A contract sees the number of nanoseconds that
+/// they make together.
 #[derive(Clone, Copy, Debug)]
 pub struct SignedDuration {
     seconds: i64,
@@ -68,7 +69,8 @@ impl SignedDuration {
     }
 
     /// The duration of so many seconds and nanoseconds together: `new(1, -1)` has 0 seconds and
-    /// 999,999,999 nanoseconds. The sum must lie from `MIN` to `MAX`.
+    /// 999,999,999 nanoseconds. They must make a number from `MIN` to `MAX`: where the `time` crate
+    /// panics, the caller has to show that.
     pub fn new(seconds: i64, nanoseconds: i32) -> SignedDuration
         requires { IsDuration (duration_of_parts seconds nanoseconds) }
         ensures { result ≡ duration_of_parts seconds nanoseconds }
@@ -79,8 +81,7 @@ impl SignedDuration {
 
     // Brings the two parts to one sign.
     fn of_one_sign(seconds: i64, nanoseconds: i32) -> SignedDuration
-        requires low { neg_ℤ (pos 999_999_999) ≤ℤ nanoseconds }
-        requires high { nanoseconds ≤ℤ pos 999_999_999 }
+        requires { unsigned_abs nanoseconds ≤ 999_999_999 }
         ensures { result ≡ duration_of_parts seconds nanoseconds }
     {
         if seconds > 0 && nanoseconds < 0 {
@@ -101,8 +102,8 @@ impl SignedDuration {
         }
     }
 
-    /// The duration of so many days of 86,400 seconds, whose absolute value must be at most
-    /// 106,751,991,167,300.
+    /// The duration of so many days of 86,400 seconds. Their absolute value must be at most
+    /// 106,751,991,167,300, the most that fits.
     pub fn days(days: i64) -> SignedDuration
         requires { unsigned_abs days ≤ 106_751_991_167_300 }
         ensures { result ≡ days *ℤ pos nanos_per_day }
@@ -110,7 +111,8 @@ impl SignedDuration {
         SignedDuration::seconds(days * 86_400)
     }
 
-    /// The duration of so many hours, whose absolute value must be at most 2,562,047,788,015,215.
+    /// The duration of so many hours. Their absolute value must be at most 2,562,047,788,015,215, the
+    /// most that fits.
     pub fn hours(hours: i64) -> SignedDuration
         requires { unsigned_abs hours ≤ 2_562_047_788_015_215 }
         ensures { result ≡ hours *ℤ pos nanos_per_hour }
@@ -146,7 +148,7 @@ impl SignedDuration {
         self.seconds / 86_400
     }
 
-    /// The whole seconds, rounded towards zero.
+    /// The whole seconds, rounded towards zero: -2^63 to 2^63 - 1.
     pub fn whole_seconds(self) -> i64
         ensures value { result ≡ whole_seconds_of self }
         ensures in_range { IsDuration self }
@@ -246,7 +248,7 @@ impl Sub for SignedDuration {
         let nanoseconds = self.nanoseconds - other.nanoseconds;
         match self.seconds.checked_sub(other.seconds) {
             Some(seconds) => SignedDuration::new(seconds, nanoseconds),
-            // These are 2^63 seconds, and the nanoseconds are negative: they borrow a second.
+            // The seconds are 2^63 and the nanoseconds negative, so that they borrow a second.
             None => SignedDuration::new(i64::MAX, nanoseconds + NANOS_PER_SECOND),
         }
     }

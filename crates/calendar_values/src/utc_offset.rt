@@ -12,8 +12,8 @@ use crate::text::Text;
 use std::fmt;
 use std::marker::Model;
 
-/// An offset from UTC of -25:59:59 to 25:59:59. A contract sees the number of its seconds, -93,599
-/// to 93,599.
+/// An offset from UTC, -25:59:59 to 25:59:59, as in the `time` crate. It is positive east of
+/// Greenwich, where clocks show more. A contract sees the number of its seconds, -93,599 to 93,599.
 #[derive(Clone, Copy)]
 pub struct UtcOffset {
     hours: i8,
@@ -51,9 +51,9 @@ impl UtcOffset {
     };
 
     /// The offset of hours, -25 to 25, and of minutes and seconds, -59 to 59. The sign of the hours,
-    /// or of the minutes if the hours are 0, is given to the smaller parts: `from_hms(1, -2, -3)` is
-    /// 1:02:03. A part out of its range is refused as `hours`, `minutes` or `seconds`, the first of
-    /// them, and not conditionally.
+    /// or of the minutes if the hours are 0, is given to the smaller parts, as the `time` crate
+    /// documents: `from_hms(1, -2, -3)` is 1:02:03. The first part that is out of its range is
+    /// refused, as `hours`, `minutes` or `seconds`, not conditionally.
     pub fn from_hms(hours: i8, minutes: i8, seconds: i8) -> Result<UtcOffset, ComponentRange>
         ensures { result ≡ offset_of_parts hours minutes seconds }
     {
@@ -73,8 +73,8 @@ impl UtcOffset {
         })
     }
 
-    /// The offset of so many seconds. A number that is not -93,599 to 93,599 is refused as
-    /// `offset_seconds`, not conditionally.
+    /// The offset of so many seconds. Refused `offset_seconds`, not conditionally, outside -93,599 to
+    /// 93,599.
     pub fn from_whole_seconds(seconds: i32) -> Result<UtcOffset, ComponentRange>
         ensures { result ≡ offset_of_seconds seconds }
     {
