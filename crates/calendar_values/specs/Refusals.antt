@@ -2,7 +2,7 @@
 use Rattle.std.specs.Prelude.{◌≡◌, ℕ, ◌*◌, ◌||◌, ◌&&◌, not, nat_eq, ◌==◌, Bool, true, false, List, Result, Ok, Err, if◌then◌else◌, nat_lt, ℤ, pos, ◌-ℤ◌, codes}
 use Rattle.std.specs.Cmp.Lexicographic.{pointwise}
 use Rattle.calendar_values.specs.Calendar.{is_leap_year, days_in_year, days_in_month, day_of_calendar_date, day_of_ordinal_date}
-use Rattle.calendar_values.specs.Clock.{clock_of_parts}
+use Rattle.calendar_values.specs.Clock.{nanos_per_microsecond, nanos_per_millisecond, clock_of_parts}
 use Rattle.calendar_values.specs.Range.{first_year, last_year, first_day, last_day, is_outside}
 
 -- the name of a part, and whether its value is possible with other parts
@@ -60,3 +60,15 @@ clock_with h m s name limit nanos part =
     else (if nat_lt 59 s then out_of_range (codes "second")
     else (if nat_lt limit part then out_of_range name
     else Ok (clock_of_parts h m s (part * nanos)))))
+
+-- the clock of an hour, a minute, a second and a millisecond of the second
+abbrev pub clock_time_milli : ℕ → ℕ → ℕ → ℕ → Result ℕ Refusal
+clock_time_milli h m s milli = clock_with h m s (codes "millisecond") 999 nanos_per_millisecond milli
+
+-- the clock of an hour, a minute, a second and a microsecond of the second
+abbrev pub clock_time_micro : ℕ → ℕ → ℕ → ℕ → Result ℕ Refusal
+clock_time_micro h m s micro = clock_with h m s (codes "microsecond") 999_999 nanos_per_microsecond micro
+
+-- the clock of an hour, a minute, a second and a nanosecond of the second
+abbrev pub clock_time_nano : ℕ → ℕ → ℕ → ℕ → Result ℕ Refusal
+clock_time_nano h m s n = clock_with h m s (codes "nanosecond") 999_999_999 1 n

@@ -1,18 +1,33 @@
 //! The days of the calendar.
-ghost use Rattle.std.specs.Prelude.{◌≡◌, ◌+◌, ◌≤◌, ◌<◌, ℕ, ℤ, pos, neg_ℤ, ◌+ℤ◌, ◌-ℤ◌, ◌≤ℤ◌, length, Some};
+ghost use Rattle.std.specs.Prelude.{◌≡◌, ◌+◌, ◌≤◌, ◌<◌, ℕ, ℤ, pos, neg_ℤ, ◌+ℤ◌, ◌-ℤ◌, ◌≤ℤ◌, ◌*ℤ◌, ◌/◌, ◌^◌, unsigned_abs, length, Some};
+ghost use Rattle.std.specs.Duration.{as_nanos};
+ghost use Rattle.calendar_values.specs.Clock.{nanos_per_day};
+ghost use Rattle.calendar_values.specs.Durations.{whole_days_of};
+ghost use Rattle.std.proofs.Common.{rules};
+ghost use Rattle.std.specs.Cmp.{partial_order_from_own_ties};
+ghost use Rattle.std.specs.Cmp.Rules.{comparing, hashing};
 ghost use Rattle.std.specs.Fmt.{padded};
+ghost use Rattle.std.specs.Hash as fed;
 ghost use Rattle.std.specs.Int.{IsInRange};
+ghost use Rattle.std.specs.Ordering.{int_eq, int_cmp, as_partial_cmp};
 ghost use Rattle.calendar_values.specs.Range.{IsYear};
 ghost use Rattle.calendar_values.specs.Texts.{year_text, date_text};
+ghost use Rattle.calendar_values.specs.Weeks.{weekday_of};
 
 use crate::calendar::{days_before_month, days_in_month, month_and_day, year_start};
-use crate::range::{FIRST_JULIAN_DAY, FIRST_YEAR, LAST_JULIAN_DAY, LAST_YEAR};
-use crate::{ComponentRange, Month, Text, Weekday, days_in_year, is_leap_year};
+use crate::range::{FIRST_DAY, FIRST_YEAR, LAST_DAY, LAST_YEAR};
+use crate::{ComponentRange, Month, SignedDuration, Text, Weekday, days_in_year, is_leap_year};
+use std::cmp::Ordering;
 use std::fmt;
+use std::hash::{Hash, Hasher};
 use std::marker::Model;
+use std::ops::Sub;
+use std::time::Duration;
 
 // The Julian day of 1 January 1970.
 const EPOCH_JULIAN_DAY: i32 = 2_440_588;
+
+const SECONDS_PER_DAY: u64 = 86_400;
 
 /// A date of the proleptic Gregorian calendar, from -9999-01-01 to 9999-12-31. A contract sees its
 /// day number, 0 for 1970-01-01.
@@ -49,7 +64,7 @@ impl Date {
     ghost use Rattle.calendar_values.specs.Refusals.{calendar_date, ordinal_date, julian_date};
     ghost use Rattle.calendar_values.specs.Replacements.{with_year, with_month, with_day, with_ordinal};
     ghost use Rattle.calendar_values.specs.Weekday.{weekday_number};
-    ghost use Rattle.calendar_values.specs.Weeks.{weekday_of, thursday_of, iso_year_of, iso_week_of, sunday_week_of, monday_week_of};
+    ghost use Rattle.calendar_values.specs.Weeks.{thursday_of, iso_year_of, iso_week_of, sunday_week_of, monday_week_of};
 
     /// The first date, -9999-01-01.
     pub const MIN: Date = Date {
@@ -114,7 +129,7 @@ impl Date {
     pub fn from_julian_day(julian_day: i32) -> Result<Date, ComponentRange>
         ensures { result ≡ julian_date julian_day }
     {
-        if julian_day < FIRST_JULIAN_DAY || julian_day > LAST_JULIAN_DAY {
+        if julian_day < FIRST_DAY + EPOCH_JULIAN_DAY || julian_day > LAST_DAY + EPOCH_JULIAN_DAY {
             return Err(ComponentRange::new("julian_day", false));
         }
         Ok(Date::from_day(julian_day - EPOCH_JULIAN_DAY))
@@ -187,13 +202,242 @@ impl Date {
         self.ordinal
     }
 
+    /// The ISO week, 1 to 53 (ISO 8601): it belongs to the year of its Thursday.
+    pub fn iso_week(self) -> u8
+        ensures value { result ≡ iso_week_of self }
+        ensures in_range { IsInRange 1 53 result }
+    {
+        self.to_iso_week_date().1
+    }
+
+    /// The week counted by Sundays, 0 to 53: how many Sundays of the year lie on or before the date.
+    #[tactic(auto, using(crate::proofs::WeekLemmas::week_numbers))]
+    pub fn sunday_based_week(self) -> u8
+        ensures value { result ≡ sunday_week_of self }
+        ensures in_range { result ≤ 53 }
+    {
+        let days_from_sunday = (self.weekday().number_days_from_monday() + 1) % 7;
+        ((self.ordinal() + 6 - u16::from(days_from_sunday)) / 7) as u8
+    }
+
+    /// The week counted by Mondays, 0 to 53: how many Mondays of the year lie on or before the date.
+    #[tactic(auto, using(crate::proofs::WeekLemmas::week_numbers))]
+    pub fn monday_based_week(self) -> u8
+        ensures value { result ≡ monday_week_of self }
+        ensures in_range { result ≤ 53 }
+    {
+        let days_from_monday = self.weekday().number_days_from_monday();
+        ((self.ordinal() + 6 - u16::from(days_from_monday)) / 7) as u8
+    }
+
+    /// The year, the month and the day of the month.
+    pub fn to_calendar_date(self) -> (i32, Month, u8)
+        ensures year { result.0 ≡ year_of self }
+        ensures month { month_number result.1 ≡ month_of self }
+        ensures day { result.2 ≡ day_of_month_of self }
+        ensures year_in_range { IsYear result.0 }
+        ensures day_in_range { IsInRange 1 31 result.2 }
+    {
+        let (month, day) = self.month_day();
+        (self.year(), month, day)
+    }
+
+    /// The year and the day of the year.
+    pub fn to_ordinal_date(self) -> (i32, u16)
+        ensures year { result.0 ≡ year_of self }
+        ensures ordinal { result.1 ≡ ordinal_of self }
+        ensures year_in_range { IsYear result.0 }
+        ensures ordinal_in_range { IsInRange 1 366 result.1 }
+    {
+        (self.year(), self.ordinal())
+    }
+
+    /// The ISO year, the ISO week and the day of the week (ISO 8601).
+    #[tactic(auto, using(crate::proofs::WeekLemmas::week_numbers))]
+    pub fn to_iso_week_date(self) -> (i32, u8, Weekday)
+        ensures year { result.0 ≡ iso_year_of self }
+        ensures week { result.1 ≡ iso_week_of self }
+        ensures weekday { weekday_number result.2 ≡ weekday_of self }
+        ensures year_in_range { IsYear result.0 }
+        ensures week_in_range { IsInRange 1 53 result.1 }
+    {
+        let (year, ordinal) = self.thursday().to_ordinal_date();
+        (year, ((ordinal + 6) / 7) as u8, self.weekday())
+    }
+
+    // The Thursday of the date's week. It lies in the range too, which begins on a Monday and ends on
+    // a Friday.
+    fn thursday(self) -> Date
+        ensures { result ≡ thursday_of self }
+    {
+        let days_from_monday = u16::from(self.weekday().number_days_from_monday());
+        let ordinal = self.ordinal + 3;
+        if ordinal <= days_from_monday {
+            let year = self.year - 1;
+            return Date {
+                year,
+                ordinal: days_in_year(year) + ordinal - days_from_monday,
+            };
+        }
+        let ordinal = ordinal - days_from_monday;
+        let length = days_in_year(self.year);
+        if ordinal > length {
+            return Date {
+                year: self.year + 1,
+                ordinal: ordinal - length,
+            };
+        }
+        Date {
+            year: self.year,
+            ordinal,
+        }
+    }
+
+    /// The day of the week.
+    pub fn weekday(self) -> Weekday
+        ensures { weekday_number result ≡ weekday_of self }
+    {
+        Weekday::numbered(days_from_monday(self.to_julian_day()))
+    }
+
     /// The Julian day, -1,930,999 to 5,373,484; it is 2,440,588 on 1970-01-01.
-    #[tactic(auto, using(crate::specs::SignedArith::signed_arith))]
     pub fn to_julian_day(self) -> i32
         ensures value { result ≡ julian_day_of self }
         ensures in_range { IsDay self }
     {
-        year_start(self.year) + i32::from(self.ordinal) + (EPOCH_JULIAN_DAY - 1)
+        self.day_number() + EPOCH_JULIAN_DAY
+    }
+
+    // The day number.
+    #[tactic(auto, using(crate::specs::SignedArith::signed_arith))]
+    fn day_number(self) -> i32
+        ensures value { result ≡ self }
+        ensures in_range { IsDay self }
+    {
+        year_start(self.year) + i32::from(self.ordinal) - 1
+    }
+
+    /// The next date, or None at the last.
+    #[tactic(auto, using(crate::specs::SignedArith::signed_arith))]
+    pub fn next_day(self) -> Option<Date>
+        ensures { result ≡ checked_day (self +ℤ pos 1) }
+    {
+        if self.ordinal < days_in_year(self.year) {
+            return Some(Date {
+                year: self.year,
+                ordinal: self.ordinal + 1,
+            });
+        }
+        if self.year >= LAST_YEAR {
+            return None;
+        }
+        Some(Date {
+            year: self.year + 1,
+            ordinal: 1,
+        })
+    }
+
+    /// The date before, or None at the first.
+    #[tactic(auto, using(crate::specs::SignedArith::signed_arith))]
+    pub fn previous_day(self) -> Option<Date>
+        ensures { result ≡ checked_day (self -ℤ pos 1) }
+    {
+        if self.ordinal > 1 {
+            return Some(Date {
+                year: self.year,
+                ordinal: self.ordinal - 1,
+            });
+        }
+        if self.year <= FIRST_YEAR {
+            return None;
+        }
+        let year = self.year - 1;
+        Some(Date {
+            year,
+            ordinal: days_in_year(year),
+        })
+    }
+
+    /// The date so many whole days later, or earlier for a negative duration, whose days are rounded
+    /// towards zero. None outside the range.
+    pub fn checked_add(self, duration: SignedDuration) -> Option<Date>
+        ensures { result ≡ checked_day (self +ℤ whole_days_of duration) }
+    {
+        self.moved_by(duration.whole_days())
+    }
+
+    /// The date so many whole days earlier, or later for a negative duration, whose days are rounded
+    /// towards zero. None outside the range.
+    pub fn checked_sub(self, duration: SignedDuration) -> Option<Date>
+        ensures { result ≡ checked_day (self -ℤ whole_days_of duration) }
+    {
+        self.moved_by(-duration.whole_days())
+    }
+
+    /// The date so many whole days later. None outside the range.
+    pub fn checked_add_std(self, duration: Duration) -> Option<Date>
+        ensures { result ≡ checked_day (self +ℤ pos (as_nanos duration / nanos_per_day)) }
+    {
+        self.moved_by((duration.as_secs() / SECONDS_PER_DAY) as i64)
+    }
+
+    /// The date so many whole days earlier. None outside the range.
+    pub fn checked_sub_std(self, duration: Duration) -> Option<Date>
+        ensures { result ≡ checked_day (self -ℤ pos (as_nanos duration / nanos_per_day)) }
+    {
+        self.moved_by(-((duration.as_secs() / SECONDS_PER_DAY) as i64))
+    }
+
+    // The date so many days later, if the range has it.
+    fn moved_by(self, days: i64) -> Option<Date>
+        requires { unsigned_abs days < 2 ^ 62 }
+        ensures { result ≡ checked_day (self +ℤ days) }
+    {
+        Date::checked_from_day(self.day_number() as i64 + days)
+    }
+
+    // The date of a day number, which is compared before it is narrowed.
+    #[tactic(auto, using(crate::proofs::StepLemmas::checked_days))]
+    fn checked_from_day(day: i64) -> Option<Date>
+        ensures { result ≡ checked_day day }
+    {
+        if day < FIRST_DAY as i64 || day > LAST_DAY as i64 {
+            return None;
+        }
+        Some(Date::from_day(day as i32))
+    }
+
+    /// The date with another year, and the month and the day of the month kept. Refused `year`
+    /// outside -9999 to 9999, and, conditionally, `day` for 29 February in a common year.
+    pub fn replace_year(self, year: i32) -> Result<Date, ComponentRange>
+        ensures { result ≡ with_year self year }
+    {
+        let (month, day) = self.month_day();
+        Date::from_calendar_date(year, month, day)
+    }
+
+    /// The date with another month, and the year and the day of the month kept. Refused, conditionally,
+    /// `day` if the month is too short.
+    pub fn replace_month(self, month: Month) -> Result<Date, ComponentRange>
+        ensures { result ≡ with_month self (month_number month) }
+    {
+        Date::from_calendar_date(self.year(), month, self.day())
+    }
+
+    /// The date with another day of the month. Refused `day` at 0 or above 31, or, conditionally, past
+    /// the end of the month.
+    pub fn replace_day(self, day: u8) -> Result<Date, ComponentRange>
+        ensures { result ≡ with_day self day }
+    {
+        Date::from_calendar_date(self.year(), self.month(), day)
+    }
+
+    /// The date with another day of the year. Refused `ordinal` at 0 or above 366, or, conditionally,
+    /// at 366 in a common year.
+    pub fn replace_ordinal(self, ordinal: u16) -> Result<Date, ComponentRange>
+        ensures { result ≡ with_ordinal self ordinal }
+    {
+        Date::from_ordinal_date(self.year(), ordinal)
     }
 
     /// The text, as `1970-01-01`: a year of at least four digits, with `-` before a negative one, a
@@ -211,6 +455,15 @@ impl Date {
     }
 }
 
+// How many days a Julian day comes after a Monday: Julian day 0 is one.
+#[tactic(auto, using(crate::proofs::WeekLemmas::weekdays))]
+fn days_from_monday(julian_day: i32) -> u8
+    ensures value { result ≡ weekday_of (julian_day -ℤ pos 2_440_588) }
+    ensures in_range { result < 7 }
+{
+    julian_day.rem_euclid(7) as u8
+}
+
 // The year with its sign, as `-0005`.
 fn year_text(year: i32) -> Text
     requires { IsYear year }
@@ -223,6 +476,16 @@ fn year_text(year: i32) -> Text
     }
     text.push_digits(year.unsigned_abs(), 4);
     text
+}
+
+impl Sub for Date {
+    type Output = SignedDuration;
+
+    ghost sub_gives = { λ a b difference. difference ≡ (a -ℤ b) *ℤ pos nanos_per_day };
+
+    fn sub(self, other: Date) -> SignedDuration {
+        SignedDuration::days(self.day_number() as i64 - other.day_number() as i64)
+    }
 }
 
 impl fmt::Display for Date {
@@ -242,3 +505,56 @@ impl fmt::Debug for Date {
         fmt::Debug::fmt(&self.text(), f)
     }
 }
+
+impl PartialEq for Date {
+    ghost eq = { int_eq };
+
+    ghost laws = { Prim.search (comparing, rules) };
+
+    fn eq(&self, other: &Date) -> bool {
+        self.year == other.year && self.ordinal == other.ordinal
+    }
+}
+
+impl Eq for Date {
+    ghost laws = { Prim.search (comparing, rules) };
+}
+
+impl Ord for Date {
+    ghost cmp = { int_cmp };
+
+    ghost total = { Prim.search (comparing, rules) };
+
+    ghost matches_partial_cmp = { Prim.search (comparing, rules) };
+
+    ghost matches_eq = { Prim.search (comparing, rules) };
+
+    fn cmp(&self, other: &Date) -> Ordering {
+        self.year
+            .cmp(&other.year)
+            .then(self.ordinal.cmp(&other.ordinal))
+    }
+}
+
+impl PartialOrd for Date {
+    ghost partial_cmp = { as_partial_cmp int_cmp };
+
+    ghost laws = { partial_order_from_own_ties (Prim.search (comparing, rules)) (Prim.search (comparing, rules)) };
+
+    fn partial_cmp(&self, other: &Date) -> Option<Ordering> {
+        Some(self.cmp(other))
+    }
+}
+
+impl Hash for Date {
+    ghost hash_input = { λ n. fed.i32 (n +ℤ pos 2_440_588) };
+
+    ghost respects_eq = { Prim.search (hashing, rules) };
+
+    fn hash<H: Hasher>(&self, state: &mut H) {
+        self.to_julian_day().hash(state);
+    }
+}
+
+#[cfg(test)]
+mod tests;

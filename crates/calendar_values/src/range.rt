@@ -5,7 +5,8 @@ pub(crate) const FIRST_YEAR: i32 = -9999;
 
 pub(crate) const LAST_YEAR: i32 = 9999;
 
-// The Julian days of 1 January of the first year and of 31 December of the last.
-pub(crate) const FIRST_JULIAN_DAY: i32 = -1_930_999;
+// The day numbers of 1 January of the first year and of 31 December of the last, counted from
+// 1 January 1970.
+pub(crate) const FIRST_DAY: i32 = -4_371_587;
 
-pub(crate) const LAST_JULIAN_DAY: i32 = 5_373_484;
+pub(crate) const LAST_DAY: i32 = 2_932_896;

@@ -2,7 +2,7 @@ use Rattle.std.proofs.Common.{arith, rules, ◌≡◌, pos, ◌+ℤ◌, ◌-ℤ�
 use Rattle.calendar_values.specs.SignedArith.{signed_arith}
 use Rattle.calendar_values.specs.Calendar.{year_start}
 use Rattle.calendar_values.specs.DayLaws.{IsDay-ordinal_date}
-use Rattle.calendar_values.proofs.date.Date.to_julian_day.Goals as goal
+use Rattle.calendar_values.proofs.date.Date.day_number.Goals as goal
 
 pub returns-clause-value : goal.returns-clause-value
 returns-clause-value c =
