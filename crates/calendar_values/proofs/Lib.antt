@@ -1,8 +1,10 @@
+pub mod AcceptedLemmas
 pub mod CountLemmas
 pub mod DateLemmas
 pub mod DigitLemmas
 pub mod DurationLemmas
 pub mod MonthLemmas
+pub mod OffsetLemmas
 pub mod OrderLemmas
 pub mod StepLemmas
 pub mod TimeTextLemmas

@@ -7,8 +7,11 @@ pub mod DayLaws
 pub mod Digits
 pub mod DurationLaws
 pub mod Durations
+pub mod Laws
 pub mod Month
 pub mod MonthLaws
+pub mod OffsetLaws
+pub mod Offsets
 pub mod Parts
 pub mod Range
 pub mod Refusals
@@ -19,6 +22,7 @@ pub mod Texts
 pub mod TruncationLaws
 pub mod Truncations
 pub mod WallClock
+pub mod WallClockLaws
 pub mod Weekday
 pub mod Weeks
 pub mod YearLaws

@@ -1,9 +1,8 @@
--- How dates and times of day print.
-use Rattle.std.specs.Prelude.{ℕ, List, [], ◌++◌, codes, decimal, if◌then◌else◌, nat_lt, int_lt, ℤ, pos, unsigned_abs}
+-- How dates, times of day and offsets print.
+use Rattle.std.specs.Prelude.{ℕ, ◌/◌, ◌%◌, List, [], ◌++◌, codes, decimal, if◌then◌else◌, nat_lt, int_lt, ℤ, pos, unsigned_abs}
 use Rattle.calendar_values.specs.Calendar.{year_of, month_of, day_of_month_of}
 use Rattle.calendar_values.specs.Clock.{hour_of, minute_of, second_of, nanosecond_of}
 use Rattle.calendar_values.specs.Digits.{last_digits, fraction_digits}
-use Rattle.calendar_values.specs.Range.{last_year}
 
 -- `-` before a negative year, `+` before one above 9999
 abbrev pub year_sign : ℤ → List ℕ
@@ -23,3 +22,9 @@ date_text n =
 unfoldable pub time_text : ℕ → List ℕ
 time_text c =
     decimal (hour_of c) ++ codes ":" ++ last_digits 2 (minute_of c) ++ codes ":" ++ last_digits 2 (second_of c) ++ codes "." ++ fraction_digits 9 (nanosecond_of c)
+
+-- `-` before a negative offset, else `+`, then two digits each of the hours, the minutes and the seconds with `:` between
+unfoldable pub offset_text : ℤ → List ℕ
+offset_text o =
+    let n = unsigned_abs o in
+    (if int_lt o (pos 0) then codes "-" else codes "+") ++ last_digits 2 (n / 3_600) ++ codes ":" ++ last_digits 2 (n / 60 % 60) ++ codes ":" ++ last_digits 2 (n % 60)

@@ -555,3 +555,6 @@ impl Hash for Date {
         self.to_julian_day().hash(state);
     }
 }
+
+#[cfg(test)]
+mod tests;

@@ -1,0 +1,49 @@
+-- What an accepted date says of its parts.
+use Rattle.std.proofs.Common.{◌≡◌, ℕ, ◌<◌, ◌≤◌, Bool, true, false, ◌||◌, ◌==◌, cond, refl, arith, ap, sym, ◌∙◌, ℤ, pos, ◌+ℤ◌, ◌-ℤ◌, ◌≤ℤ◌, Result, Ok, Err, nat_lt, int_lt}
+use Rattle.std.proofs.lemmas.Bool.Decides.{nat_tests}
+use Rattle.std.proofs.lemmas.Int.{ints}
+use Rattle.calendar_values.specs.Calendar.{is_leap_year, days_in_year, days_in_month, year_of, ordinal_of, month_of, day_of_month_of, day_of_calendar_date, day_of_ordinal_date, IsCalendarDate, IsOrdinalDate}
+use Rattle.calendar_values.specs.Range.{first_year, last_year, is_outside}
+use Rattle.calendar_values.specs.Refusals.{Refusal, calendar_date, ordinal_date}
+use Rattle.calendar_values.specs.Laws.{IsOnlyDay}
+use Rattle.calendar_values.specs.MonthLaws.{day_of_calendar_date-of, year_of-calendar_date, month_of-calendar_date, day_of_month_of-calendar_date}
+
+-- where a test does not refuse, what follows it is accepted
+not_refused : {A : Type 0} (test : Bool) (refusal : Refusal) (rest : Result A Refusal) (x : A) → cond test (Err refusal) rest ≡ Ok x → (test ≡ false) × (rest ≡ Ok x)
+not_refused true refusal rest x e = cc
+not_refused false refusal rest x e = (refl, e)
+
+-- an accepted date is one of the calendar, and is its day number
+pub calendar_date-accepted : (y n : ℤ) (m d : ℕ) → 1 ≤ m → m ≤ 12 → calendar_date y m d ≡ Ok n → IsCalendarDate y m d × (day_of_calendar_date y m d ≡ n)
+calendar_date-accepted y n m d first last e =
+    let year = not_refused (is_outside first_year last_year y) _ _ n e in
+    let day = not_refused ((d == 0) || nat_lt 31 d) _ _ n year.1 in
+    let month = not_refused (nat_lt (days_in_month (is_leap_year y) m) d) _ _ n day.1 in
+    let tested = day.0 in
+    let fits = month.0 in (
+      record { month_first = first; month_last = last; day_first = grind (arith, nat_tests); day_last = grind (arith, nat_tests) },
+      cc,
+    )
+
+pub ordinal_date-accepted : (y n : ℤ) (o : ℕ) → ordinal_date y o ≡ Ok n → IsOrdinalDate y o × (day_of_ordinal_date y o ≡ n)
+ordinal_date-accepted y n o e =
+    let year = not_refused (is_outside first_year last_year y) _ _ n e in
+    let place = not_refused ((o == 0) || nat_lt 366 o) _ _ n year.1 in
+    let length = not_refused (nat_lt (days_in_year y) o) _ _ n place.1 in
+    let tested = place.0 in
+    let fits = length.0 in
+    (record { first = grind (arith, nat_tests); last = grind (arith, nat_tests) }, cc)
+
+same_date : (y z : ℤ) (m l d e : ℕ) → y ≡ z → m ≡ l → d ≡ e → day_of_calendar_date y m d ≡ day_of_calendar_date z l e
+same_date y z m l d e year month day = rw (year, month, day)
+
+-- it is the only day that shows its parts
+pub IsOnlyDay-accepted : (y n : ℤ) (m d : ℕ) → 1 ≤ m → m ≤ 12 → calendar_date y m d ≡ Ok n → IsOnlyDay n y m d
+IsOnlyDay-accepted y n m d first last e =
+    let accepted = calendar_date-accepted y n m d first last e in
+    record {
+      year = rw (← accepted.1) (year_of-calendar_date y m d accepted.0);
+      month = rw (← accepted.1) (month_of-calendar_date y m d accepted.0);
+      day = rw (← accepted.1) (day_of_month_of-calendar_date y m d accepted.0);
+      only = λ k year month day. sym (day_of_calendar_date-of k) ∙ same_date (year_of k) y (month_of k) m (day_of_month_of k) d year month day ∙ accepted.1;
+    }

@@ -1,0 +1,115 @@
+-- The signs, the parts and the texts of offsets.
+use Rattle.std.proofs.Common.{lit≤, ◌≡◌, ℕ, ℤ, pos, negsuc, ◌/◌, ◌%◌, ◌<ℤ◌, neg_ℤ, unsigned_abs, inl, inr, List, ◌++◌, refl, arith, IsTrue, false, ◌≤◌}
+use Rattle.std.proofs.lemmas.Int.{by_lt_z, ints}
+use Rattle.std.specs.Prelude.{Ok, codes, int_lt, if◌then◌else◌}
+use Rattle.calendar_values.specs.Digits.{last_digits}
+use Rattle.calendar_values.specs.OffsetLaws.{offset_signs}
+use Rattle.calendar_values.specs.Offsets.{IsOffset, IsOffsetParts, seconds_of_parts, with_sign_of, offset_of_seconds}
+use Rattle.calendar_values.specs.SignedArith.{signed_arith, one_part}
+use Rattle.calendar_values.specs.Texts.{offset_text}
+
+-- an offset in range is not refused
+pub offset_of_seconds-in : (o : ℤ) → IsOffset o → offset_of_seconds o ≡ Ok o
+offset_of_seconds-in o p = grind (arith, ints)
+
+pub with_sign_of-positive : (greater part : ℤ) → pos 0 <ℤ greater → with_sign_of greater part ≡ pos (unsigned_abs part)
+with_sign_of-positive greater part h = grind (arith, ints)
+
+pub with_sign_of-negative : (greater part : ℤ) → greater <ℤ pos 0 → with_sign_of greater part ≡ neg_ℤ (pos (unsigned_abs part))
+with_sign_of-negative greater part h = grind (arith, ints)
+
+pub unsigned_abs-with_sign_of : (greater part : ℤ) → unsigned_abs (with_sign_of greater part) ≡ unsigned_abs part
+unsigned_abs-with_sign_of greater part = grind (arith, signed_arith)
+
+-- seconds alone
+IsOffsetParts-seconds : (s : ℤ) → unsigned_abs s ≤ 59 → IsOffsetParts (pos 0) (pos 0) s
+IsOffsetParts-seconds (pos s) b = record {
+  hours_in_range = lit≤ tt;
+  minutes_in_range = lit≤ tt;
+  seconds_in_range = b;
+  one_sign = inl (omega (arith, ints), omega (arith, ints), omega (arith, ints));
+}
+IsOffsetParts-seconds (negsuc s) b = record {
+  hours_in_range = lit≤ tt;
+  minutes_in_range = lit≤ tt;
+  seconds_in_range = b;
+  one_sign = inr (omega (arith, ints), omega (arith, ints), omega (arith, ints));
+}
+
+-- parts with the sign of hours that are not 0
+IsOffsetParts-positive : (h m s : ℤ) → pos 0 <ℤ h → unsigned_abs h ≤ 25 → unsigned_abs m ≤ 59 → unsigned_abs s ≤ 59 → IsOffsetParts h (with_sign_of h m) (with_sign_of h s)
+IsOffsetParts-positive h m s p a b d =
+    rw (with_sign_of-positive h m p, with_sign_of-positive h s p) (record {
+      hours_in_range = a;
+      minutes_in_range = b;
+      seconds_in_range = d;
+      one_sign = inl (omega (arith, signed_arith), omega (arith, signed_arith), omega (arith, signed_arith));
+    })
+
+IsOffsetParts-negative : (h m s : ℤ) → h <ℤ pos 0 → unsigned_abs h ≤ 25 → unsigned_abs m ≤ 59 → unsigned_abs s ≤ 59 → IsOffsetParts h (with_sign_of h m) (with_sign_of h s)
+IsOffsetParts-negative h m s p a b d =
+    rw (with_sign_of-negative h m p, with_sign_of-negative h s p) (record {
+      hours_in_range = a;
+      minutes_in_range = omega (arith, signed_arith);
+      seconds_in_range = omega (arith, signed_arith);
+      one_sign = inr (omega (arith, signed_arith), omega (arith, signed_arith), omega (arith, signed_arith));
+    })
+
+-- parts of less than an hour
+IsOffsetParts-minutes : (m s : ℤ) → unsigned_abs m ≤ 59 → unsigned_abs s ≤ 59 → IsOffsetParts (pos 0) m (with_sign_of m s)
+IsOffsetParts-minutes m s a b =
+    by_lt_z (pos 0) m
+    (λ more. rw (with_sign_of-positive m s more) (record {
+      hours_in_range = lit≤ tt;
+      minutes_in_range = a;
+      seconds_in_range = b;
+      one_sign = inl (omega (arith, signed_arith), omega (arith, signed_arith), omega (arith, signed_arith));
+    }))
+    (λ at_most. by_lt_z m (pos 0)
+    (λ less. rw (with_sign_of-negative m s less) (record {
+      hours_in_range = lit≤ tt;
+      minutes_in_range = a;
+      seconds_in_range = omega (arith, signed_arith);
+      one_sign = inr (omega (arith, signed_arith), omega (arith, signed_arith), omega (arith, signed_arith));
+    }))
+    (λ at_least. let none : m ≡ pos 0 = omega (arith, signed_arith) in rw none (IsOffsetParts-seconds s b)))
+
+-- parts that have been given their signs are parts of an offset
+pub IsOffsetParts-with_sign_of : (h m s : ℤ) → unsigned_abs h ≤ 25 → unsigned_abs m ≤ 59 → unsigned_abs s ≤ 59 → IsOffsetParts h (with_sign_of h m) (with_sign_of h (with_sign_of m s))
+IsOffsetParts-with_sign_of h m s a b d =
+    let bound : unsigned_abs (with_sign_of m s) ≤ 59 = rw (unsigned_abs-with_sign_of m s) d in
+    by_lt_z (pos 0) h
+    (λ more. IsOffsetParts-positive h m (with_sign_of m s) more a b bound)
+    (λ at_most. by_lt_z h (pos 0)
+    (λ less. IsOffsetParts-negative h m (with_sign_of m s) less a b bound)
+    (λ at_least. let none : h ≡ pos 0 = omega (arith, signed_arith) in rw none (IsOffsetParts-minutes m s b d)))
+
+-- the absolute parts of an offset
+pub unsigned_abs-hours : (h m s : ℤ) → IsOffsetParts h m s → unsigned_abs (seconds_of_parts h m s) / 3_600 ≡ unsigned_abs h
+unsigned_abs-hours h m s p =
+    omega (arith, signed_arith, offset_signs h m s p, one_part (seconds_of_parts h m s))
+
+pub unsigned_abs-minutes : (h m s : ℤ) → IsOffsetParts h m s → unsigned_abs (seconds_of_parts h m s) / 60 % 60 ≡ unsigned_abs m
+unsigned_abs-minutes h m s p =
+    omega (arith, signed_arith, offset_signs h m s p, one_part (seconds_of_parts h m s))
+
+pub unsigned_abs-seconds : (h m s : ℤ) → IsOffsetParts h m s → unsigned_abs (seconds_of_parts h m s) % 60 ≡ unsigned_abs s
+unsigned_abs-seconds h m s p =
+    omega (arith, signed_arith, offset_signs h m s p, one_part (seconds_of_parts h m s))
+
+-- the sign of an offset
+abbrev pub sign_text : ℤ → List ℕ
+sign_text o = if int_lt o (pos 0) then codes "-" else codes "+"
+
+pub sign_text-negative : (o : ℤ) → o <ℤ pos 0 → codes "-" ≡ sign_text o
+sign_text-negative (pos n) h = absurd (omega (arith, ints))
+sign_text-negative (negsuc n) h = refl
+
+pub sign_text-not_negative : (o : ℤ) → (o <ℤ pos 0 → IsTrue false) → codes "+" ≡ sign_text o
+sign_text-not_negative o h = grind (arith, ints)
+
+-- what an offset shows, by its parts
+pub offset_text-parts : (h m s : ℤ) → IsOffsetParts h m s → offset_text (seconds_of_parts h m s) ≡ sign_text (seconds_of_parts h m s) ++ last_digits 2 (unsigned_abs h) ++ codes ":" ++ last_digits 2 (unsigned_abs m) ++ codes ":" ++ last_digits 2 (unsigned_abs s)
+unfolding offset_text
+offset_text-parts h m s p =
+    rw (unsigned_abs-hours h m s p, unsigned_abs-minutes h m s p, unsigned_abs-seconds h m s p) refl

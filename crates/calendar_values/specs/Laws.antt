@@ -1,0 +1,52 @@
+-- What shows that the definitions are those of the calendar: laws of all years and days, each proved by a function of `src/laws.rt`.
+use Rattle.std.specs.Prelude.{◌≡◌, ℕ, ◌≤◌, ℤ, pos, ◌+ℤ◌, Ok}
+use Rattle.calendar_values.specs.Calendar.{days_in_year, year_start, year_of, ordinal_of, month_of, day_of_month_of, day_of_calendar_date, day_of_ordinal_date, IsInYear, IsCalendarDate, IsOrdinalDate}
+use Rattle.calendar_values.specs.Range.{first_year, last_year, first_day, last_day}
+use Rattle.calendar_values.specs.Replacements.{with_year, with_month, with_day, with_ordinal}
+use Rattle.calendar_values.specs.Weeks.{weekday_of}
+
+-- 1970 begins on day 0, and each year begins after the days of the year before
+pub record YearsFollow : Type 0 where
+  pub epoch : year_start (pos 1970) ≡ pos 0
+  pub next : (y : ℤ) → year_start (y +ℤ pos 1) ≡ year_start y +ℤ pos (days_in_year y)
+
+-- each day lies in its year, and in no other
+pub record YearIsUnique : Type 0 where
+  pub lies : (n : ℤ) → IsInYear n (year_of n)
+  pub only : (n y : ℤ) → IsInYear n y → year_of n ≡ y
+
+-- each day shows a date of the calendar whose day number it is, and each date of the calendar is shown by its day number
+pub record CalendarDatesAreDays : Type 0 where
+  pub shown : (n : ℤ) → IsCalendarDate (year_of n) (month_of n) (day_of_month_of n)
+  pub numbered : (n : ℤ) → day_of_calendar_date (year_of n) (month_of n) (day_of_month_of n) ≡ n
+  pub year : (y : ℤ) (m d : ℕ) → IsCalendarDate y m d → year_of (day_of_calendar_date y m d) ≡ y
+  pub month : (y : ℤ) (m d : ℕ) → IsCalendarDate y m d → month_of (day_of_calendar_date y m d) ≡ m
+  pub day : (y : ℤ) (m d : ℕ) → IsCalendarDate y m d → day_of_month_of (day_of_calendar_date y m d) ≡ d
+
+-- the same for a year and a day of the year
+pub record OrdinalDatesAreDays : Type 0 where
+  pub shown : (n : ℤ) → IsOrdinalDate (year_of n) (ordinal_of n)
+  pub numbered : (n : ℤ) → day_of_ordinal_date (year_of n) (ordinal_of n) ≡ n
+  pub year : (y : ℤ) (ordinal : ℕ) → IsOrdinalDate y ordinal → year_of (day_of_ordinal_date y ordinal) ≡ y
+  pub ordinal : (y : ℤ) (ordinal : ℕ) → IsOrdinalDate y ordinal → ordinal_of (day_of_ordinal_date y ordinal) ≡ ordinal
+
+-- the range begins on 1 January of its first year, a Monday, and ends on 31 December of its last, a Friday
+pub record RangeIsWholeYears : Type 0 where
+  pub first : day_of_calendar_date first_year 1 1 ≡ first_day
+  pub last : day_of_calendar_date last_year 12 31 ≡ last_day
+  pub monday : weekday_of first_day ≡ 0
+  pub friday : weekday_of last_day ≡ 4
+
+-- this is the only day that shows the year, the month and the day of the month
+pub record IsOnlyDay (n y : ℤ) (m d : ℕ) : Type 0 where
+  pub year : year_of n ≡ y
+  pub month : month_of n ≡ m
+  pub day : day_of_month_of n ≡ d
+  pub only : (k : ℤ) → year_of k ≡ y → month_of k ≡ m → day_of_month_of k ≡ d → k ≡ n
+
+-- an accepted replacement gives the only day whose named part is as given and whose other parts are as before
+pub record ReplacementsKeepTheRest : Type 0 where
+  pub year : (n y k : ℤ) → with_year n y ≡ Ok k → IsOnlyDay k y (month_of n) (day_of_month_of n)
+  pub month : (n k : ℤ) (m : ℕ) → 1 ≤ m → m ≤ 12 → with_month n m ≡ Ok k → IsOnlyDay k (year_of n) m (day_of_month_of n)
+  pub day : (n k : ℤ) (d : ℕ) → with_day n d ≡ Ok k → IsOnlyDay k (year_of n) (month_of n) d
+  pub ordinal : (n k : ℤ) (o : ℕ) → with_ordinal n o ≡ Ok k → (year_of k ≡ year_of n) × (ordinal_of k ≡ o)

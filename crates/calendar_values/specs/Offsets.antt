@@ -1,0 +1,57 @@
+-- An offset from UTC is a whole number of seconds, from -25:59:59 to 25:59:59. Its hours, minutes and seconds have one sign.
+use Rattle.std.specs.Prelude.{◌≤◌, ◌⊎◌, if◌then◌else◌, ℤ, pos, neg_ℤ, ◌+ℤ◌, ◌*ℤ◌, ◌≤ℤ◌, int_lt, int_div, int_rem, unsigned_abs, codes, Result, Ok}
+use Rattle.calendar_values.specs.Range.{is_outside}
+use Rattle.calendar_values.specs.Refusals.{Refusal, out_of_range}
+
+-- the least offset and the greatest
+abbrev pub least_offset : ℤ
+least_offset = neg_ℤ (pos 93_599)
+
+abbrev pub greatest_offset : ℤ
+greatest_offset = pos 93_599
+
+-- an offset of the range
+abbrev pub IsOffset : ℤ → Type 0
+IsOffset o = (least_offset ≤ℤ o) × (o ≤ℤ greatest_offset)
+
+-- the seconds of so many hours, minutes and seconds
+abbrev pub seconds_of_parts : ℤ → ℤ → ℤ → ℤ
+seconds_of_parts h m s = ((h *ℤ pos 3_600) +ℤ (m *ℤ pos 60)) +ℤ s
+
+-- the whole hours, rounded towards zero
+unfoldable pub offset_hours_of : ℤ → ℤ
+offset_hours_of o = int_div o (pos 3_600)
+
+-- the minutes past the hour
+unfoldable pub offset_minutes_of : ℤ → ℤ
+offset_minutes_of o = int_rem (int_div o (pos 60)) (pos 60)
+
+-- the seconds past the minute
+unfoldable pub offset_seconds_of : ℤ → ℤ
+offset_seconds_of o = int_rem o (pos 60)
+
+-- hours, minutes and seconds in their ranges, of one sign
+pub record IsOffsetParts (h m s : ℤ) : Type 0 where
+  pub hours_in_range : unsigned_abs h ≤ 25
+  pub minutes_in_range : unsigned_abs m ≤ 59
+  pub seconds_in_range : unsigned_abs s ≤ 59
+  pub one_sign : ((pos 0 ≤ℤ h) × (pos 0 ≤ℤ m) × (pos 0 ≤ℤ s)) ⊎ ((h ≤ℤ pos 0) × (m ≤ℤ pos 0) × (s ≤ℤ pos 0))
+
+-- a part, with the sign of a greater part; it keeps its own where that one is 0
+abbrev pub with_sign_of : ℤ → ℤ → ℤ
+with_sign_of greater part =
+    if int_lt greater (pos 0) then neg_ℤ (pos (unsigned_abs part))
+    else (if int_lt (pos 0) greater then pos (unsigned_abs part) else part)
+
+-- the offset of hours, minutes and seconds: the sign of the hours, or of the minutes if the hours are 0, is that of the smaller parts
+abbrev pub offset_of_parts : ℤ → ℤ → ℤ → Result ℤ Refusal
+offset_of_parts h m s =
+    if is_outside (neg_ℤ (pos 25)) (pos 25) h then out_of_range (codes "hours")
+    else (if is_outside (neg_ℤ (pos 59)) (pos 59) m then out_of_range (codes "minutes")
+    else (if is_outside (neg_ℤ (pos 59)) (pos 59) s then out_of_range (codes "seconds")
+    else Ok (seconds_of_parts h (with_sign_of h m) (with_sign_of h (with_sign_of m s)))))
+
+-- the offset of so many seconds
+abbrev pub offset_of_seconds : ℤ → Result ℤ Refusal
+offset_of_seconds o =
+    if is_outside least_offset greatest_offset o then out_of_range (codes "offset_seconds") else Ok o

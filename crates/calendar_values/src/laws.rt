@@ -1,0 +1,35 @@
+//! Laws of the definitions that the contracts cite: each function here proves one, for every year and
+//! every day, and does nothing when it is called.
+ghost use Rattle.calendar_values.specs.Laws.{YearsFollow, YearIsUnique, CalendarDatesAreDays, OrdinalDatesAreDays, RangeIsWholeYears, ReplacementsKeepTheRest};
+
+/// 1970 begins on day 0, and each year begins after the days of the year before.
+pub fn years_follow()
+    ensures { YearsFollow }
+{}
+
+/// Each day lies in its year, and in no other.
+pub fn year_is_unique()
+    ensures { YearIsUnique }
+{}
+
+/// Each day shows one year, month and day of the month, and they have that day number.
+pub fn calendar_dates_are_days()
+    ensures { CalendarDatesAreDays }
+{}
+
+/// Each day shows one year and day of the year, and they have that day number.
+pub fn ordinal_dates_are_days()
+    ensures { OrdinalDatesAreDays }
+{}
+
+/// The range begins on a Monday, 1 January of its first year, and ends on a Friday, 31 December of
+/// its last.
+pub fn range_is_whole_years()
+    ensures { RangeIsWholeYears }
+{}
+
+/// An accepted replacement gives the only day whose named part is as given and whose other parts are
+/// as before.
+pub fn replacements_keep_the_rest()
+    ensures { ReplacementsKeepTheRest }
+{}
