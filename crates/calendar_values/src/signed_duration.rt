@@ -251,3 +251,6 @@ impl Sub for SignedDuration {
         }
     }
 }
+
+#[cfg(test)]
+mod tests;

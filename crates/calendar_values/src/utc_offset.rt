@@ -161,6 +161,13 @@ impl UtcOffset {
     }
 }
 
+// The constant, as a contract sees it.
+fn constant() -> UtcOffset
+    ensures { result ≡ pos 0 }
+{
+    UtcOffset::UTC
+}
+
 // A part, with the sign of a greater part; it keeps its own where that one is 0.
 fn with_sign_of(greater: i8, part: i8) -> i8
     requires { unsigned_abs part ≤ 59 }
@@ -204,3 +211,6 @@ impl fmt::Debug for UtcOffset {
         fmt::Debug::fmt(&self.text(), f)
     }
 }
+
+#[cfg(test)]
+mod tests;
