@@ -1,5 +1,5 @@
 -- The clock of a day: the nanoseconds since midnight. There are no leap seconds.
-use Rattle.std.specs.Prelude.{ℕ, ◌+◌, ◌*◌, ◌/◌, ◌%◌, ◌<◌, ◌≤◌}
+use Rattle.std.specs.Prelude.{ℕ, ◌≡◌, ◌+◌, ◌*◌, ◌/◌, ◌%◌, ◌<◌, ◌≤◌}
 
 abbrev pub nanos_per_microsecond : ℕ
 nanos_per_microsecond = 1_000
@@ -56,3 +56,11 @@ microsecond_of c = nanosecond_of c / nanos_per_microsecond
 
 abbrev pub millisecond_of : ℕ → ℕ
 millisecond_of c = nanosecond_of c / nanos_per_millisecond
+
+-- the clock shows this hour, minute, second and nanosecond of the second
+pub record Shows (c h m s n : ℕ) : Type 0 where
+  pub clock : IsClock c
+  pub hour : hour_of c ≡ h
+  pub minute : minute_of c ≡ m
+  pub second : second_of c ≡ s
+  pub nanosecond : nanosecond_of c ≡ n

@@ -23,5 +23,5 @@ clock_of_parts-of c = omega arith
 pub IsTimeOfDay-of : (c : ℕ) → IsClock c → IsTimeOfDay (hour_of c) (minute_of c) (second_of c) (nanosecond_of c)
 IsTimeOfDay-of c p = record { hour = omega arith; minute = omega arith; second = omega arith; nanosecond = omega arith }
 
--- for the proofs of functions on times of day
-pub ruleset clock_parts = (hour_of-clock_of_parts, minute_of-clock_of_parts, second_of-clock_of_parts, nanosecond_of-clock_of_parts)
+pub IsClock-IsTimeOfDay : (c : ℕ) → IsTimeOfDay (hour_of c) (minute_of c) (second_of c) (nanosecond_of c) → IsClock c
+IsClock-IsTimeOfDay c p = omega arith

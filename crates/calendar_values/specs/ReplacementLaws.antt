@@ -2,18 +2,10 @@
 use Rattle.std.proofs.Common.{◌≡◌, ℕ, ◌*◌, ◌≤◌, List, Ok, sym, subst, ◌∙◌, arith}
 use Rattle.std.specs.Prelude.{if◌then◌else◌, nat_lt, ◌↔◌, codes}
 use Rattle.std.proofs.lemmas.Bool.Decides.{nat_tests}
-use Rattle.calendar_values.specs.Clock.{IsClock, IsTimeOfDay, clock_of_parts, hour_of, minute_of, second_of, millisecond_of, microsecond_of, nanosecond_of, nanos_per_millisecond, nanos_per_microsecond}
+use Rattle.calendar_values.specs.Clock.{IsClock, IsTimeOfDay, Shows, clock_of_parts, hour_of, minute_of, second_of, millisecond_of, microsecond_of, nanosecond_of, nanos_per_millisecond, nanos_per_microsecond}
 use Rattle.calendar_values.specs.ClockLaws.{IsClock-clock_of_parts, IsTimeOfDay-of, clock_of_parts-of, hour_of-clock_of_parts, minute_of-clock_of_parts, second_of-clock_of_parts, nanosecond_of-clock_of_parts}
 use Rattle.calendar_values.specs.Refusals.{out_of_range}
 use Rattle.calendar_values.specs.Replacements.{with_hour, with_minute, with_second, with_millisecond, with_microsecond, with_nanosecond}
-
--- the clock shows this hour, minute, second and nanosecond of the second
-pub record Shows (c h m s n : ℕ) : Type 0 where
-  pub clock : IsClock c
-  pub hour : hour_of c ≡ h
-  pub minute : minute_of c ≡ m
-  pub second : second_of c ≡ s
-  pub nanosecond : nanosecond_of c ≡ n
 
 pub Shows-clock_of_parts : (h m s n : ℕ) → IsTimeOfDay h m s n → Shows (clock_of_parts h m s n) h m s n
 Shows-clock_of_parts h m s n p = record {

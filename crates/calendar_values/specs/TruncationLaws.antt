@@ -2,13 +2,7 @@
 use Rattle.std.proofs.Common.{◌≡◌, ℕ, ◌*◌, ◌/◌, ◌<◌, ◌≤◌, refl, arith}
 use Rattle.std.proofs.lemmas.Nat.{div-add-mod', le-div}
 use Rattle.std.proofs.Math.Nat.{mul-le-mul_right}
-use Rattle.calendar_values.specs.Truncations.{truncated}
-
--- t is the greatest multiple of the unit that is not above c
-pub record IsGreatestMultiple (unit c t : ℕ) : Type 0 where
-  pub multiple : (q : ℕ) × (t ≡ q * unit)
-  pub not_above : t ≤ c
-  pub greatest : (q : ℕ) → q * unit ≤ c → q * unit ≤ t
+use Rattle.calendar_values.specs.Truncations.{truncated, IsGreatestMultiple}
 
 pub IsGreatestMultiple-truncated : (unit c : ℕ) → 0 < unit → IsGreatestMultiple unit c (truncated unit c)
 IsGreatestMultiple-truncated unit c some = record {

@@ -530,9 +530,8 @@ impl Ord for Date {
     ghost matches_eq = { Prim.search (comparing, rules) };
 
     fn cmp(&self, other: &Date) -> Ordering {
-        self.year
-            .cmp(&other.year)
-            .then(self.ordinal.cmp(&other.ordinal))
+        let by_year = self.year.cmp(&other.year);
+        by_year.then(self.ordinal.cmp(&other.ordinal))
     }
 }
 

@@ -1,6 +1,6 @@
-//! Laws of the definitions that the contracts cite: each function here proves one, for every year and
-//! every day, and does nothing when it is called.
-ghost use Rattle.calendar_values.specs.Laws.{YearsFollow, YearIsUnique, CalendarDatesAreDays, OrdinalDatesAreDays, RangeIsWholeYears, ReplacementsKeepTheRest};
+//! Laws of the definitions that the contracts cite: each function here proves one, for every year,
+//! day and clock, and does nothing when it is called.
+ghost use Rattle.calendar_values.specs.Laws.{YearsFollow, YearIsUnique, CalendarDatesAreDays, OrdinalDatesAreDays, RangeIsWholeYears, ReplacementsKeepTheRest, ClockReplacementsKeepTheRest, TruncationIsGreatestMultiple};
 
 /// 1970 begins on day 0, and each year begins after the days of the year before.
 pub fn years_follow()
@@ -32,4 +32,15 @@ pub fn range_is_whole_years()
 /// as before.
 pub fn replacements_keep_the_rest()
     ensures { ReplacementsKeepTheRest }
+{}
+
+/// A replacement of a part of a time is accepted exactly where a time of day has that part and the
+/// kept parts, and gives the only one.
+pub fn clock_replacements_keep_the_rest()
+    ensures { ClockReplacementsKeepTheRest }
+{}
+
+/// A truncation of a time gives the greatest multiple of the unit that is not above it.
+pub fn truncation_is_greatest_multiple()
+    ensures { TruncationIsGreatestMultiple }
 {}

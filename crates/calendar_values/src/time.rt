@@ -78,8 +78,8 @@ impl Time {
         nanosecond: 999_999_999,
     };
 
-    /// The time of an hour, a minute and a second. Refused are an `hour` above 23, a `minute` above
-    /// 59 and a `second` above 59; the first of them that is out of range is named.
+    /// The time of an hour, a minute and a second. Refused `hour` above 23, `minute` above 59 and
+    /// `second` above 59, in this order.
     pub fn from_hms(hour: u8, minute: u8, second: u8) -> Result<Time, ComponentRange>
         ensures { result ≡ clock_time hour minute second }
     {
@@ -100,8 +100,8 @@ impl Time {
         })
     }
 
-    /// The time of an hour, a minute, a second and a millisecond of the second. Refused as in
-    /// [`Time::from_hms`], and then as `millisecond` above 999.
+    /// The time of an hour, a minute, a second and a millisecond of the second. Refused as by
+    /// [`Time::from_hms`], then `millisecond` above 999.
     pub fn from_hms_milli(
         hour: u8,
         minute: u8,
@@ -113,8 +113,8 @@ impl Time {
         Time::from_hms(hour, minute, second)?.replace_millisecond(millisecond)
     }
 
-    /// The time of an hour, a minute, a second and a microsecond of the second. Refused as in
-    /// [`Time::from_hms`], and then as `microsecond` above 999,999.
+    /// The time of an hour, a minute, a second and a microsecond of the second. Refused as by
+    /// [`Time::from_hms`], then `microsecond` above 999,999.
     pub fn from_hms_micro(
         hour: u8,
         minute: u8,
@@ -126,8 +126,8 @@ impl Time {
         Time::from_hms(hour, minute, second)?.replace_microsecond(microsecond)
     }
 
-    /// The time of an hour, a minute, a second and a nanosecond of the second. Refused as in
-    /// [`Time::from_hms`], and then as `nanosecond` above 999,999,999.
+    /// The time of an hour, a minute, a second and a nanosecond of the second. Refused as by
+    /// [`Time::from_hms`], then `nanosecond` above 999,999,999.
     pub fn from_hms_nano(
         hour: u8,
         minute: u8,
@@ -255,14 +255,15 @@ impl Time {
         (adjustment == DateAdjustment::Previous, time)
     }
 
-    /// The same time with another hour, 0 to 23. A greater one is refused as `hour`.
+    /// The same time with another hour. Refused `hour` above 23.
     pub fn replace_hour(self, hour: u8) -> Result<Time, ComponentRange>
         ensures { result ≡ with_hour self hour }
     {
-        if hour > 23 {
-            return Err(ComponentRange::new("hour", false));
+        if hour <= 23 {
+            Ok(Time { hour, ..self })
+        } else {
+            Err(ComponentRange::new("hour", false))
         }
-        Ok(Time { hour, ..self })
     }
 
     /// The first nanosecond of the hour that the time is in.
@@ -277,14 +278,15 @@ impl Time {
         }
     }
 
-    /// The same time with another minute, 0 to 59. A greater one is refused as `minute`.
+    /// The same time with another minute. Refused `minute` above 59.
     pub fn replace_minute(self, minute: u8) -> Result<Time, ComponentRange>
         ensures { result ≡ with_minute self minute }
     {
-        if minute > 59 {
-            return Err(ComponentRange::new("minute", false));
+        if minute <= 59 {
+            Ok(Time { minute, ..self })
+        } else {
+            Err(ComponentRange::new("minute", false))
         }
-        Ok(Time { minute, ..self })
     }
 
     /// The first nanosecond of the minute that the time is in.
@@ -298,14 +300,15 @@ impl Time {
         }
     }
 
-    /// The same time with another second, 0 to 59. A greater one is refused as `second`.
+    /// The same time with another second. Refused `second` above 59.
     pub fn replace_second(self, second: u8) -> Result<Time, ComponentRange>
         ensures { result ≡ with_second self second }
     {
-        if second > 59 {
-            return Err(ComponentRange::new("second", false));
+        if second <= 59 {
+            Ok(Time { second, ..self })
+        } else {
+            Err(ComponentRange::new("second", false))
         }
-        Ok(Time { second, ..self })
     }
 
     /// The first nanosecond of the second that the time is in.
@@ -318,18 +321,19 @@ impl Time {
         }
     }
 
-    /// The same time with another millisecond of the second, 0 to 999, and nothing finer. A greater
-    /// one is refused as `millisecond`.
+    /// The same time with another millisecond of the second, and nothing finer. Refused `millisecond`
+    /// above 999.
     pub fn replace_millisecond(self, millisecond: u16) -> Result<Time, ComponentRange>
         ensures { result ≡ with_millisecond self millisecond }
     {
-        if millisecond > 999 {
-            return Err(ComponentRange::new("millisecond", false));
+        if millisecond <= 999 {
+            Ok(Time {
+                nanosecond: millisecond as u32 * 1_000_000,
+                ..self
+            })
+        } else {
+            Err(ComponentRange::new("millisecond", false))
         }
-        Ok(Time {
-            nanosecond: millisecond as u32 * 1_000_000,
-            ..self
-        })
     }
 
     /// The first nanosecond of the millisecond that the time is in.
@@ -342,18 +346,19 @@ impl Time {
         }
     }
 
-    /// The same time with another microsecond of the second, 0 to 999,999, and nothing finer. A
-    /// greater one is refused as `microsecond`.
+    /// The same time with another microsecond of the second, and nothing finer. Refused `microsecond`
+    /// above 999,999.
     pub fn replace_microsecond(self, microsecond: u32) -> Result<Time, ComponentRange>
         ensures { result ≡ with_microsecond self microsecond }
     {
-        if microsecond > 999_999 {
-            return Err(ComponentRange::new("microsecond", false));
+        if microsecond <= 999_999 {
+            Ok(Time {
+                nanosecond: microsecond * 1_000,
+                ..self
+            })
+        } else {
+            Err(ComponentRange::new("microsecond", false))
         }
-        Ok(Time {
-            nanosecond: microsecond * 1_000,
-            ..self
-        })
     }
 
     /// The first nanosecond of the microsecond that the time is in.
@@ -366,15 +371,15 @@ impl Time {
         }
     }
 
-    /// The same time with another nanosecond of the second, 0 to 999,999,999. A greater one is
-    /// refused as `nanosecond`.
+    /// The same time with another nanosecond of the second. Refused `nanosecond` above 999,999,999.
     pub fn replace_nanosecond(self, nanosecond: u32) -> Result<Time, ComponentRange>
         ensures { result ≡ with_nanosecond self nanosecond }
     {
-        if nanosecond > 999_999_999 {
-            return Err(ComponentRange::new("nanosecond", false));
+        if nanosecond <= 999_999_999 {
+            Ok(Time { nanosecond, ..self })
+        } else {
+            Err(ComponentRange::new("nanosecond", false))
         }
-        Ok(Time { nanosecond, ..self })
     }
 
     // The nanoseconds since midnight.

@@ -1,5 +1,5 @@
 //! Bytes on their way to a sink.
-ghost use Rattle.std.specs.Prelude.{◌≡◌, ℕ, ◌≤◌, true, List, [], ◌++◌, take, MatchResult, OnOk};
+ghost use Rattle.std.specs.Prelude.{◌≡◌, ℕ, ◌≤◌, true, List, [], ◌++◌, take, MatchResult};
 ghost use Rattle.std.specs.Io.KnownBytes.{Appends};
 ghost use Rattle.times_bench.specs.Writing.{AppendsBeginning, Sends};
 
@@ -35,11 +35,11 @@ impl Pending {
         }
     }
 
-    /// Writes all of them.
+    /// Writes all of them. After a fault they are kept as they were.
     pub fn flush<W: Sink>(&mut self, writer: &mut W) -> Result<(), DeviceFault>
         ensures bytes { MatchResult result (λ _. Appends (W.written writer.old) (W.written writer.new) self.old)
             (λ _. AppendsBeginning (W.written writer.old) (W.written writer.new) self.old) }
-        ensures empty { OnOk result (self.new ≡ []) }
+        ensures rest { MatchResult result (λ _. self.new ≡ []) (λ _. self.new ≡ self.old) }
         ensures mark { MatchResult result (λ _. W.is_marked writer.new ≡ W.is_marked writer.old) (λ _. W.is_marked writer.new ≡ true) }
     {
         write_whole(writer, &self.bytes[..self.len])?;

@@ -70,7 +70,7 @@ impl UtcDateTime {
     }
 }
 
-// The date of a Unix second, if the range has it.
+/// The date of a Unix second, if the range has it.
 fn date_of_second(second: i64) -> Option<Date>
     ensures { result ≡ checked_day (int_div_euclid second (pos 86_400)) }
 {
@@ -80,7 +80,7 @@ fn date_of_second(second: i64) -> Option<Date>
     }
 }
 
-// The time of day of a Unix second.
+/// The time of day of a Unix second.
 fn time_of_second(second: i64) -> Time
     ensures { pos result ≡ int_rem_euclid second (pos 86_400) *ℤ pos nanos_per_second }
 {

@@ -387,4 +387,6 @@ fn laws_are_called() {
     laws::ordinal_dates_are_days();
     laws::range_is_whole_years();
     laws::replacements_keep_the_rest();
+    laws::clock_replacements_keep_the_rest();
+    laws::truncation_is_greatest_multiple();
 }
