@@ -300,23 +300,6 @@ impl Date {
         Weekday::numbered(days_from_monday(self.to_julian_day()))
     }
 
-    /// The Julian day, -1,930,999 to 5,373,484; it is 2,440,588 on 1970-01-01.
-    pub fn to_julian_day(self) -> i32
-        ensures value { result ≡ julian_day_of self }
-        ensures in_range { IsDay self }
-    {
-        self.day_number() + EPOCH_JULIAN_DAY
-    }
-
-    // The day number.
-    #[tactic(auto, using(crate::specs::SignedArith::signed_arith))]
-    fn day_number(self) -> i32
-        ensures value { result ≡ self }
-        ensures in_range { IsDay self }
-    {
-        year_start(self.year) + i32::from(self.ordinal) - 1
-    }
-
     /// The next date, or None at the last.
     #[tactic(auto, using(crate::specs::SignedArith::signed_arith))]
     pub fn next_day(self) -> Option<Date>
@@ -356,6 +339,23 @@ impl Date {
             year,
             ordinal: days_in_year(year),
         })
+    }
+
+    /// The Julian day, -1,930,999 to 5,373,484; it is 2,440,588 on 1970-01-01.
+    pub fn to_julian_day(self) -> i32
+        ensures value { result ≡ julian_day_of self }
+        ensures in_range { IsDay self }
+    {
+        self.day_number() + EPOCH_JULIAN_DAY
+    }
+
+    // The day number.
+    #[tactic(auto, using(crate::specs::SignedArith::signed_arith))]
+    fn day_number(self) -> i32
+        ensures value { result ≡ self }
+        ensures in_range { IsDay self }
+    {
+        year_start(self.year) + i32::from(self.ordinal) - 1
     }
 
     /// The date so many whole days later, or earlier for a negative duration, whose days are rounded
