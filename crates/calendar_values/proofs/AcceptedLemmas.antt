@@ -1,8 +1,7 @@
 -- What an accepted date says of its parts.
-use Rattle.std.proofs.Common.{◌≡◌, ℕ, ◌<◌, ◌≤◌, Bool, true, false, ◌||◌, ◌==◌, cond, refl, arith, ap, sym, ◌∙◌, ℤ, pos, ◌+ℤ◌, ◌-ℤ◌, ◌≤ℤ◌, Result, Ok, Err, nat_lt, int_lt}
+use Rattle.std.proofs.Common.{◌≡◌, ℕ, ◌≤◌, Bool, true, false, ◌||◌, ◌==◌, cond, refl, arith, sym, ◌∙◌, ℤ, Result, Ok, Err, nat_lt}
 use Rattle.std.proofs.lemmas.Bool.Decides.{nat_tests}
-use Rattle.std.proofs.lemmas.Int.{ints}
-use Rattle.calendar_values.specs.Calendar.{is_leap_year, days_in_year, days_in_month, year_of, ordinal_of, month_of, day_of_month_of, day_of_calendar_date, day_of_ordinal_date, IsCalendarDate, IsOrdinalDate}
+use Rattle.calendar_values.specs.Calendar.{is_leap_year, days_in_year, days_in_month, year_of, month_of, day_of_month_of, day_of_calendar_date, day_of_ordinal_date, IsCalendarDate, IsOrdinalDate}
 use Rattle.calendar_values.specs.Range.{first_year, last_year, is_outside}
 use Rattle.calendar_values.specs.Refusals.{Refusal, calendar_date, ordinal_date}
 use Rattle.calendar_values.specs.Laws.{IsOnlyDay}

@@ -1,7 +1,7 @@
 -- Counting years from 1970, one at a time, to the year of a day.
-use Rattle.std.proofs.Common.{◌≡◌, ℕ, ◌+◌, arith, ℤ, pos, ◌+ℤ◌, ◌-ℤ◌, ◌<ℤ◌, ◌≤ℤ◌}
+use Rattle.std.proofs.Common.{◌≡◌, arith, ℤ, pos, ◌+ℤ◌, ◌<ℤ◌, ◌≤ℤ◌}
 use Rattle.std.proofs.lemmas.Int.{by_lt_z}
-use Rattle.calendar_values.specs.Calendar.{year_start, days_in_year, IsOrdinalDate, day_of_ordinal_date}
+use Rattle.calendar_values.specs.Calendar.{year_start, days_in_year}
 use Rattle.calendar_values.specs.Range.{first_year, last_year, IsYear, IsDay}
 use Rattle.calendar_values.specs.SignedArith.{signed_arith}
 use Rattle.calendar_values.specs.YearLaws.{year_start-1970, year_start-next, year_start-mono, year_start-first, year_start-after_last}

@@ -1,11 +1,11 @@
 -- The order of days is that of their years and days of the year.
-use Rattle.std.proofs.Common.{◌≡◌, ℕ, ◌<◌, Bool, false, inl, inr, refl, sym, ap, ◌∙◌, arith, ℤ, pos, ◌+ℤ◌, ◌<ℤ◌, nat_cmp}
+use Rattle.std.proofs.Common.{◌≡◌, ℕ, false, inl, inr, refl, sym, ap, ◌∙◌, arith, ℤ, pos, ◌+ℤ◌, ◌<ℤ◌, nat_cmp}
 use Rattle.std.proofs.lemmas.Bool.{cases_order}
 use Rattle.std.proofs.lemmas.Int.{by_lt_z}
 use Rattle.std.specs.Cmp.{int_cmp_is, nat_cmp_is}
 use Rattle.std.specs.Ordering.{int_cmp, int_eq, ordering_then}
 use Rattle.std.specs.declared.cmp.Ordering.TheVariants.{Less, Equal, Greater}
-use Rattle.calendar_values.specs.Calendar.{year_start, year_of, day_of_ordinal_date, IsOrdinalDate}
+use Rattle.calendar_values.specs.Calendar.{year_of, day_of_ordinal_date, IsOrdinalDate}
 use Rattle.calendar_values.specs.SignedArith.{signed_arith}
 use Rattle.calendar_values.specs.DayLaws.{year_of-is}
 use Rattle.calendar_values.specs.YearLaws.{year_start-next, year_start-mono}

@@ -1,5 +1,5 @@
 -- A day is kept exactly if the range has it.
-use Rattle.std.proofs.Common.{◌≡◌, ℕ, arith, ℤ, pos, ◌+ℤ◌, ◌<ℤ◌, Option, Some, None}
+use Rattle.std.proofs.Common.{◌≡◌, ℕ, arith, ℤ, ◌<ℤ◌, Some, None}
 use Rattle.std.proofs.lemmas.Int.{ints}
 use Rattle.calendar_values.specs.Calendar.{day_of_ordinal_date, IsOrdinalDate}
 use Rattle.calendar_values.specs.Range.{IsDay, IsYear, checked_day, first_day, last_day}

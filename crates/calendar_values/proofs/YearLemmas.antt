@@ -1,5 +1,5 @@
 -- Where the years of the range begin, in forms that `omega` applies by itself.
-use Rattle.std.proofs.Common.{ℕ, ◌+◌, ◌-◌, ◌≡◌, ◌≤◌, arith, ℤ, pos, ◌+ℤ◌}
+use Rattle.std.proofs.Common.{◌+◌, ◌-◌, ◌≡◌, ◌≤◌, arith, ℤ, pos, ◌+ℤ◌}
 use borrow.Author.Differences.{up, down}
 use Rattle.calendar_values.specs.Calendar.{year_start}
 use Rattle.calendar_values.specs.Range.{IsYear, first_year, last_year}

@@ -1,7 +1,7 @@
 -- Each day lies in one year, and shows one day of that year.
-use Rattle.std.proofs.Common.{◌≡◌, ℕ, zero, suc, ◌+◌, ◌-◌, ◌<◌, ◌≤◌, refl, cond, Bool, true, false, arith, ℤ, pos, negsuc, neg_ℤ, ◌+ℤ◌, ◌-ℤ◌, ◌<ℤ◌, ◌≤ℤ◌, int_lt}
+use Rattle.std.proofs.Common.{◌≡◌, ℕ, zero, suc, refl, cond, Bool, true, false, arith, ℤ, pos, negsuc, neg_ℤ, ◌+ℤ◌, ◌-ℤ◌, int_lt}
 use Rattle.std.proofs.lemmas.Int.{by_lt_z}
-use Rattle.calendar_values.specs.Calendar.{days_in_year, year_start, IsInYear, IsOrdinalDate, year_after_1970, year_before_1970, year_of, ordinal_of, day_of_ordinal_date}
+use Rattle.calendar_values.specs.Calendar.{year_start, IsInYear, IsOrdinalDate, year_after_1970, year_before_1970, year_of, ordinal_of, day_of_ordinal_date}
 use Rattle.calendar_values.specs.Range.{first_year, last_year, first_day, last_day, IsYear, IsDay}
 use Rattle.calendar_values.specs.SignedArith.{signed_arith, one_part}
 use Rattle.calendar_values.specs.YearLaws.{year_start-1970, year_start-next, year_start-mono, year_start-first, year_start-after_last, IsInYear-unique, days_in_year_bounds}

@@ -1,5 +1,5 @@
 -- Each day of the year is one day of one month, and the parts of a date and its day number determine each other.
-use Rattle.std.proofs.Common.{◌≡◌, ℕ, zero, suc, ◌+◌, ◌-◌, ◌<◌, ◌≤◌, inl, inr, refl, cond, Bool, true, false, arith, ℤ, pos, ◌+ℤ◌, ◌-ℤ◌, nat_lt}
+use Rattle.std.proofs.Common.{◌≡◌, ℕ, zero, suc, ◌+◌, ◌-◌, ◌<◌, ◌≤◌, inl, inr, refl, cond, Bool, true, false, arith, ℤ, nat_lt}
 use Rattle.std.proofs.lemmas.Bool.{cases_order, ltb-true, ltb-false}
 use Rattle.calendar_values.specs.Calendar.{is_leap_year, year_length, days_in_month, days_in_months, days_before_month, last_month_begun, month_of_ordinal, day_of_ordinal, year_of, ordinal_of, month_of, day_of_month_of, day_of_calendar_date, IsOrdinalDate, IsCalendarDate}
 use Rattle.calendar_values.specs.SignedArith.{signed_arith}

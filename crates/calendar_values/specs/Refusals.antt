@@ -1,5 +1,5 @@
 -- What a refused part is called, and when a constructor refuses: its parts are tested in order, and the first that is out of its range is named.
-use Rattle.std.specs.Prelude.{◌≡◌, ℕ, ◌*◌, ◌||◌, ◌&&◌, not, nat_eq, ◌==◌, Bool, true, false, List, Result, Ok, Err, if◌then◌else◌, nat_lt, ℤ, pos, ◌-ℤ◌, codes}
+use Rattle.std.specs.Prelude.{ℕ, ◌*◌, ◌||◌, ◌&&◌, not, nat_eq, ◌==◌, Bool, true, false, List, Result, Ok, Err, if◌then◌else◌, nat_lt, ℤ, pos, ◌-ℤ◌, codes}
 use Rattle.std.specs.Cmp.Lexicographic.{pointwise}
 use Rattle.calendar_values.specs.Calendar.{is_leap_year, days_in_year, days_in_month, day_of_calendar_date, day_of_ordinal_date}
 use Rattle.calendar_values.specs.Clock.{nanos_per_microsecond, nanos_per_millisecond, clock_of_parts}

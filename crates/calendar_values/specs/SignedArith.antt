@@ -1,5 +1,5 @@
 -- Signed numbers for the tactic `omega`, which reads z as `up z - down z`: std's set `ints`, in forms that need no case split.
-use Rattle.std.proofs.Common.{◌≡◌, ℕ, zero, suc, ◌+◌, ◌-◌, ◌*◌, ◌/◌, ◌%◌, ◌^◌, ◌<◌, ◌≤◌, ◌⊎◌, inl, inr, refl, sym, ◌∙◌, arith, ℤ, pos, negsuc, to_z, of_z, to_z-of_z, FitsSigned, ◌<ℤ◌, ap, int_rem, unsigned_abs}
+use Rattle.std.proofs.Common.{◌≡◌, ℕ, suc, ◌+◌, ◌*◌, ◌%◌, ◌^◌, ◌<◌, ◌≤◌, ◌⊎◌, inl, inr, refl, sym, ◌∙◌, arith, ℤ, pos, negsuc, to_z, of_z, FitsSigned, int_rem, unsigned_abs}
 use Rattle.std.specs.Int.{Width, int_div_euclid, int_rem_euclid}
 use borrow.Author.Differences.{up, down, fits_out, same_out, Apart-out, lt_T, le_T, lt_not, le_not, lt-true, lt-false, le-true, le-false, true-lt, false-lt, true-le, false-le, not_negative_out, lt_out, le_out, fits_in, same_in, lt_in, le_in, below_in, at_most_in, not_negative_in, sum_is_lem, neg_is, product_is, quot_is, back_is, small_is, read_fits}
 use mir.Val.{hbits}

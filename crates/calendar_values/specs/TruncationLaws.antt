@@ -1,5 +1,5 @@
 -- A truncation is what its name says.
-use Rattle.std.proofs.Common.{◌≡◌, ℕ, ◌*◌, ◌/◌, ◌<◌, ◌≤◌, refl, arith}
+use Rattle.std.proofs.Common.{ℕ, ◌/◌, ◌<◌, refl, arith}
 use Rattle.std.proofs.lemmas.Nat.{div-add-mod', le-div}
 use Rattle.std.proofs.Math.Nat.{mul-le-mul_right}
 use Rattle.calendar_values.specs.Truncations.{truncated, IsGreatestMultiple}

@@ -1,5 +1,5 @@
 -- A wall clock: the day number times the nanoseconds of a day plus the nanosecond of the day. An instant is counted from 1970-01-01 0:00 UTC.
-use Rattle.std.specs.Prelude.{ℕ, ◌≡◌, ℤ, pos, ◌+ℤ◌, ◌-ℤ◌, ◌*ℤ◌, ◌≤ℤ◌, unsigned_abs}
+use Rattle.std.specs.Prelude.{ℕ, ℤ, pos, ◌+ℤ◌, ◌-ℤ◌, ◌*ℤ◌, ◌≤ℤ◌, unsigned_abs}
 use Rattle.std.specs.Int.{int_div_euclid, int_rem_euclid}
 use Rattle.calendar_values.specs.Clock.{nanos_per_day, nanos_per_second}
 use Rattle.calendar_values.specs.Range.{first_day, last_day}

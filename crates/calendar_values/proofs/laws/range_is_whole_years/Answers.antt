@@ -1,4 +1,4 @@
-use Rattle.std.proofs.Common.{arith, refl}
+use Rattle.std.proofs.Common.{refl}
 use Rattle.calendar_values.specs.Calendar.{days_in_months}
 use Rattle.calendar_values.specs.Weeks.{weekday_of}
 use Rattle.calendar_values.specs.DayLaws.{day_of_ordinal_date-first, day_of_ordinal_date-last}

@@ -1,4 +1,4 @@
-use Rattle.std.proofs.Common.{arith, ◌≡◌, ℤ}
+use Rattle.std.proofs.Common.{arith, ◌≡◌}
 use Rattle.calendar_values.specs.SignedArith.{signed_arith}
 use Rattle.calendar_values.proofs.StepLemmas.{checked_day-in}
 use Rattle.calendar_values.proofs.date.Date.checked_from_day.Goals as goal

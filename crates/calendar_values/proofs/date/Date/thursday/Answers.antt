@@ -1,5 +1,5 @@
 use Rattle.std.proofs.Common.{rules, arith, ◌≡◌, ◌+◌, ◌-◌, ◌∙◌, pos, ◌+ℤ◌, ◌-ℤ◌, FitsSigned, to_z, of_z, w32, to_z-of_z}
-use Rattle.calendar_values.specs.Calendar.{days_in_year, day_of_ordinal_date}
+use Rattle.calendar_values.specs.Calendar.{days_in_year}
 use Rattle.calendar_values.specs.Weeks.{weekday_of}
 use Rattle.calendar_values.specs.DayLaws.{IsDay-ordinal_date}
 use Rattle.calendar_values.specs.SignedArith.{signed_arith}
