@@ -1,5 +1,6 @@
 -- The lengths and the steps of digits.
-use Rattle.std.proofs.Common.{◌≡◌, ◌≢◌, ℕ, zero, suc, ◌+◌, ◌-◌, ◌/◌, ◌%◌, ◌<◌, ◌≤◌, List, [], ◌∷◌, ◌++◌, length, length-append, append_assoc, append-nil, refl, sym, ◌∙◌, ap, arith}
+use Rattle.std.proofs.Common.{◌≡◌, ◌≢◌, ℕ, zero, suc, ◌+◌, ◌-◌, ◌/◌, ◌%◌, ◌<◌, ◌≤◌, List, [], ◌∷◌, ◌++◌, length, length-append, append_assoc, append-nil, refl, sym, ◌∙◌, ap, arith, ◌^◌, decimal}
+use Rattle.std.proofs.lemmas.Fmt.{decimal_digit, decimal_step, length-decimal-le}
 use Rattle.std.proofs.lemmas.Bool.Decides.{nat_tests}
 use Rattle.calendar_values.specs.Digits.{last_digits, fraction_digits}
 
@@ -50,3 +51,17 @@ length-fraction_digits zero n = omega arith
 length-fraction_digits (suc zero) n = omega (arith, length-last_digits 1 n)
 length-fraction_digits (suc (suc k)) n =
     grind (arith, nat_tests, length-last_digits (suc (suc k)) n, length-fraction_digits (suc k) (n / 10))
+
+-- a text that was given all digits of a decimal number but the last has room for it
+pub length_before_last_decimal : (old new : List ℕ) (n : ℕ) → n < 2 ^ 64 → new ≡ old ++ decimal (n / 10) → length new ≤ length old + 19
+length_before_last_decimal old new n low e =
+    omega (arith, ap (length {A = ℕ}) e, length-append old (decimal (n / 10)), length-decimal-le 19 (n / 10) (omega arith) (omega arith) (omega arith))
+
+-- and the last digit completes it
+pub decimal-push : (old middle new : List ℕ) (n : ℕ) → 10 ≤ n → n < 2 ^ 64 → middle ≡ old ++ decimal (n / 10) → new ≡ middle ++ (48 + n % 10) ∷ [] → new ≡ old ++ decimal n
+decimal-push old middle new n high low e f =
+    f ∙ ap (λ (z : List ℕ). z ++ (48 + n % 10) ∷ []) e ∙ append_assoc old (decimal (n / 10)) ((48 + n % 10) ∷ [])
+    ∙ ap (λ (z : List ℕ). old ++ z) (sym (decimal_step n high low))
+
+pub decimal-only : (old new : List ℕ) (n : ℕ) → n < 10 → new ≡ old ++ (48 + n) ∷ [] → new ≡ old ++ decimal n
+decimal-only old new n low e = e ∙ ap (λ (z : List ℕ). old ++ z) (sym (decimal_digit n low))

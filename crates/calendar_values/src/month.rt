@@ -1,8 +1,8 @@
 //! The months.
-ghost use Rattle.std.specs.Prelude.{◌≡◌, ◌≤◌, ◌↔◌, ◌<◌, IsOk, IfOk, IfErr, Some, codes, false, length};
+ghost use Rattle.std.specs.Prelude.{◌≡◌, ◌≤◌, ◌↔◌, ◌<◌, IsOk, IfOk, IfErr, Some, codes, false, length, IsAscii};
 ghost use Rattle.std.specs.Fmt.{padded};
 
-use crate::ComponentRange;
+use crate::{ComponentRange, Text};
 use std::fmt;
 
 /// A month of the year.
@@ -58,23 +58,34 @@ impl Month {
         }
     }
 
-    // The English name.
-    fn name(self) -> &'static str
-        ensures { result.now ≡ month_name self }
+    /// The English name.
+    pub fn text(self) -> Text
+        ensures text { result ≡ month_name self }
+        ensures length { length result ≤ 9 }
+    {
+        let mut text = Text::new();
+        text.push_bytes(self.name());
+        text
+    }
+
+    fn name(self) -> &'static [u8]
+        ensures name { result.now ≡ month_name self }
+        ensures length { length result.now ≤ 9 }
+        ensures ascii { IsAscii result.now }
     {
         match self {
-            Month::January => "January",
-            Month::February => "February",
-            Month::March => "March",
-            Month::April => "April",
-            Month::May => "May",
-            Month::June => "June",
-            Month::July => "July",
-            Month::August => "August",
-            Month::September => "September",
-            Month::October => "October",
-            Month::November => "November",
-            Month::December => "December",
+            Month::January => b"January",
+            Month::February => b"February",
+            Month::March => b"March",
+            Month::April => b"April",
+            Month::May => b"May",
+            Month::June => b"June",
+            Month::July => b"July",
+            Month::August => b"August",
+            Month::September => b"September",
+            Month::October => b"October",
+            Month::November => b"November",
+            Month::December => b"December",
         }
     }
 }
@@ -97,7 +108,7 @@ impl fmt::Display for Month {
     ghost styled_output = { λ month spec. Some (padded spec (month_name month)) };
 
     fn fmt<W: fmt::Write>(&self, f: &mut fmt::Formatter<W>) -> fmt::Result {
-        f.pad(self.name())
+        fmt::Display::fmt(&self.text(), f)
     }
 }
 
@@ -107,6 +118,6 @@ impl fmt::Debug for Month {
     ghost debug_output = { λ month. Some (month_name month) };
 
     fn fmt<W: fmt::Write>(&self, f: &mut fmt::Formatter<W>) -> fmt::Result {
-        f.write_str(self.name())
+        fmt::Debug::fmt(&self.text(), f)
     }
 }

@@ -1,5 +1,5 @@
 //! Texts, in a table of fixed size that takes no memory of an allocator.
-ghost use Rattle.std.specs.Prelude.{◌≡◌, ◌+◌, ◌<◌, ◌≤◌, List, ℕ, [], ◌∷◌, ◌++◌, length, Some, IsAscii};
+ghost use Rattle.std.specs.Prelude.{◌≡◌, ◌+◌, ◌<◌, ◌≤◌, List, ℕ, [], ◌∷◌, ◌++◌, length, Some, IsAscii, decimal};
 ghost use Rattle.std.specs.Fmt.{padded};
 ghost use Rattle.calendar_values.specs.Digits.{last_digits, fraction_digits};
 
@@ -68,6 +68,20 @@ impl Text {
     {
         if count > 0 {
             self.push_digits(number / 10, count - 1);
+            self.push(b'0' + (number % 10) as u8);
+        }
+    }
+
+    /// Adds a number in decimal digits, with no zeros in front.
+    pub fn push_decimal(&mut self, number: u64)
+        requires { length self.old ≤ 28 }
+        ensures value { self.new ≡ self.old ++ decimal number }
+        ensures length { length self.new ≤ length self.old + 20 }
+    {
+        if number < 10 {
+            self.push(b'0' + number as u8);
+        } else {
+            self.push_decimal(number / 10);
             self.push(b'0' + (number % 10) as u8);
         }
     }

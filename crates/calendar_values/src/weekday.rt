@@ -1,7 +1,8 @@
 //! The days of the week.
-ghost use Rattle.std.specs.Prelude.{◌≡◌, ◌<◌, Some};
+ghost use Rattle.std.specs.Prelude.{◌≡◌, ◌<◌, ◌≤◌, Some, length, IsAscii};
 ghost use Rattle.std.specs.Fmt.{padded};
 
+use crate::Text;
 use std::fmt;
 
 /// A day of the week.
@@ -42,18 +43,29 @@ impl Weekday {
         }
     }
 
-    // The English name.
-    fn name(self) -> &'static str
-        ensures { result.now ≡ weekday_name self }
+    /// The English name.
+    pub fn text(self) -> Text
+        ensures text { result ≡ weekday_name self }
+        ensures length { length result ≤ 9 }
+    {
+        let mut text = Text::new();
+        text.push_bytes(self.name());
+        text
+    }
+
+    fn name(self) -> &'static [u8]
+        ensures name { result.now ≡ weekday_name self }
+        ensures length { length result.now ≤ 9 }
+        ensures ascii { IsAscii result.now }
     {
         match self {
-            Weekday::Monday => "Monday",
-            Weekday::Tuesday => "Tuesday",
-            Weekday::Wednesday => "Wednesday",
-            Weekday::Thursday => "Thursday",
-            Weekday::Friday => "Friday",
-            Weekday::Saturday => "Saturday",
-            Weekday::Sunday => "Sunday",
+            Weekday::Monday => b"Monday",
+            Weekday::Tuesday => b"Tuesday",
+            Weekday::Wednesday => b"Wednesday",
+            Weekday::Thursday => b"Thursday",
+            Weekday::Friday => b"Friday",
+            Weekday::Saturday => b"Saturday",
+            Weekday::Sunday => b"Sunday",
         }
     }
 }
@@ -66,7 +78,7 @@ impl fmt::Display for Weekday {
     ghost styled_output = { λ weekday spec. Some (padded spec (weekday_name weekday)) };
 
     fn fmt<W: fmt::Write>(&self, f: &mut fmt::Formatter<W>) -> fmt::Result {
-        f.pad(self.name())
+        fmt::Display::fmt(&self.text(), f)
     }
 }
 
@@ -76,6 +88,6 @@ impl fmt::Debug for Weekday {
     ghost debug_output = { λ weekday. Some (weekday_name weekday) };
 
     fn fmt<W: fmt::Write>(&self, f: &mut fmt::Formatter<W>) -> fmt::Result {
-        f.write_str(self.name())
+        fmt::Debug::fmt(&self.text(), f)
     }
 }
