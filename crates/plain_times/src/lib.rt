@@ -1,0 +1,6 @@
+//! Dates with a time of day.
+#![tactic(auto)]
+
+mod plain_date_time;
+
+pub use plain_date_time::PlainDateTime;
