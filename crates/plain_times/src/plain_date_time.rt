@@ -51,6 +51,12 @@ impl PlainDateTime {
         time: Time::MAX,
     };
 
+    /// 1970-01-01 0:00:00.0, from which wall clocks are counted.
+    pub const UNIX_EPOCH: PlainDateTime = PlainDateTime {
+        date: Date::UNIX_EPOCH,
+        time: Time::MIDNIGHT,
+    };
+
     /// The date with the time of day.
     pub fn new(date: Date, time: Time) -> PlainDateTime
         ensures { result ≡ wall_clock date time }
