@@ -1,11 +1,15 @@
 //! A date with a time of day, and no offset from UTC.
-ghost use Rattle.std.specs.Prelude.{◌≡◌, ℤ};
-ghost use Rattle.calendar_values.specs.Calendar.{year_of};
-ghost use Rattle.calendar_values.specs.Clock.{hour_of, minute_of, second_of};
+ghost use Rattle.std.specs.Prelude.{◌≡◌, ◌≤◌, ◌*◌, ℤ};
+ghost use Rattle.std.specs.Int.{IsInRange};
+ghost use Rattle.calendar_values.specs.Calendar.{year_of, month_of, day_of_month_of, ordinal_of, julian_day_of};
+ghost use Rattle.calendar_values.specs.Clock.{IsTimeOfDay, nanos_per_millisecond, nanos_per_microsecond, hour_of, minute_of, second_of, millisecond_of, microsecond_of, nanosecond_of};
+ghost use Rattle.calendar_values.specs.Month.{month_number};
 ghost use Rattle.calendar_values.specs.Range.{IsYear};
 ghost use Rattle.calendar_values.specs.WallClock.{wall_clock, wall_day, wall_time, first_wall_clock, last_wall_clock, IsWallClock};
+ghost use Rattle.calendar_values.specs.Weekday.{weekday_number};
+ghost use Rattle.calendar_values.specs.Weeks.{iso_year_of, iso_week_of, sunday_week_of, monday_week_of, weekday_of};
 
-use calendar_values::{Date, Time};
+use calendar_values::{Date, Month, Time, Weekday};
 use std::marker::Model;
 
 /// A date with a time of day, from -9999-01-01 0:00:00.0 to 9999-12-31 23:59:59.999999999. A contract
@@ -73,15 +77,6 @@ impl PlainDateTime {
         self.date
     }
 
-    /// The year, -9999 to 9999.
-    #[tactic(auto, using(crate::proofs::FieldLemmas::fields))]
-    pub fn year(self) -> i32
-        ensures value { result ≡ year_of (wall_day self) }
-        ensures in_range { IsYear result }
-    {
-        self.date.year()
-    }
-
     /// The time of day.
     #[tactic(auto, using(crate::proofs::FieldLemmas::fields))]
     pub fn time(self) -> Time
@@ -91,10 +86,207 @@ impl PlainDateTime {
         self.time
     }
 
+    /// The year, -9999 to 9999.
+    #[tactic(auto, using(crate::proofs::FieldLemmas::fields))]
+    pub fn year(self) -> i32
+        ensures value { result ≡ year_of (wall_day self) }
+        ensures in_range { IsYear result }
+    {
+        self.date.year()
+    }
+
+    /// The month.
+    #[tactic(auto, using(crate::proofs::FieldLemmas::fields))]
+    pub fn month(self) -> Month
+        ensures { month_number result ≡ month_of (wall_day self) }
+    {
+        self.date.month()
+    }
+
+    /// The day of the month, 1 to 31.
+    #[tactic(auto, using(crate::proofs::FieldLemmas::fields))]
+    pub fn day(self) -> u8
+        ensures value { result ≡ day_of_month_of (wall_day self) }
+        ensures in_range { IsInRange 1 31 result }
+    {
+        self.date.day()
+    }
+
+    /// The day of the year, 1 to 366.
+    #[tactic(auto, using(crate::proofs::FieldLemmas::fields))]
+    pub fn ordinal(self) -> u16
+        ensures value { result ≡ ordinal_of (wall_day self) }
+        ensures in_range { IsInRange 1 366 result }
+    {
+        self.date.ordinal()
+    }
+
+    /// The ISO week, 1 to 53 (ISO 8601): it belongs to the year of its Thursday.
+    #[tactic(auto, using(crate::proofs::FieldLemmas::fields))]
+    pub fn iso_week(self) -> u8
+        ensures value { result ≡ iso_week_of (wall_day self) }
+        ensures in_range { IsInRange 1 53 result }
+    {
+        self.date.iso_week()
+    }
+
+    /// The week counted by Sundays, 0 to 53: how many Sundays of the year lie on or before the date.
+    #[tactic(auto, using(crate::proofs::FieldLemmas::fields))]
+    pub fn sunday_based_week(self) -> u8
+        ensures value { result ≡ sunday_week_of (wall_day self) }
+        ensures in_range { result ≤ 53 }
+    {
+        self.date.sunday_based_week()
+    }
+
+    /// The week counted by Mondays, 0 to 53: how many Mondays of the year lie on or before the date.
+    #[tactic(auto, using(crate::proofs::FieldLemmas::fields))]
+    pub fn monday_based_week(self) -> u8
+        ensures value { result ≡ monday_week_of (wall_day self) }
+        ensures in_range { result ≤ 53 }
+    {
+        self.date.monday_based_week()
+    }
+
+    /// The year, the month and the day of the month.
+    #[tactic(auto, using(crate::proofs::FieldLemmas::fields))]
+    pub fn to_calendar_date(self) -> (i32, Month, u8)
+        ensures year { result.0 ≡ year_of (wall_day self) }
+        ensures month { month_number result.1 ≡ month_of (wall_day self) }
+        ensures day { result.2 ≡ day_of_month_of (wall_day self) }
+        ensures year_in_range { IsYear result.0 }
+        ensures day_in_range { IsInRange 1 31 result.2 }
+    {
+        self.date.to_calendar_date()
+    }
+
+    /// The year and the day of the year.
+    #[tactic(auto, using(crate::proofs::FieldLemmas::fields))]
+    pub fn to_ordinal_date(self) -> (i32, u16)
+        ensures year { result.0 ≡ year_of (wall_day self) }
+        ensures ordinal { result.1 ≡ ordinal_of (wall_day self) }
+        ensures year_in_range { IsYear result.0 }
+        ensures ordinal_in_range { IsInRange 1 366 result.1 }
+    {
+        self.date.to_ordinal_date()
+    }
+
+    /// The ISO year, the ISO week and the day of the week (ISO 8601).
+    #[tactic(auto, using(crate::proofs::FieldLemmas::fields))]
+    pub fn to_iso_week_date(self) -> (i32, u8, Weekday)
+        ensures year { result.0 ≡ iso_year_of (wall_day self) }
+        ensures week { result.1 ≡ iso_week_of (wall_day self) }
+        ensures weekday { weekday_number result.2 ≡ weekday_of (wall_day self) }
+        ensures year_in_range { IsYear result.0 }
+        ensures week_in_range { IsInRange 1 53 result.1 }
+    {
+        self.date.to_iso_week_date()
+    }
+
+    /// The day of the week.
+    #[tactic(auto, using(crate::proofs::FieldLemmas::fields))]
+    pub fn weekday(self) -> Weekday
+        ensures { weekday_number result ≡ weekday_of (wall_day self) }
+    {
+        self.date.weekday()
+    }
+
+    /// The Julian day of the date, -1,930,999 to 5,373,484; it is 2,440,588 on 1970-01-01.
+    #[tactic(auto, using(crate::proofs::FieldLemmas::fields))]
+    pub fn to_julian_day(self) -> i32
+        ensures value { result ≡ julian_day_of (wall_day self) }
+        ensures in_range { IsWallClock self }
+    {
+        self.date.to_julian_day()
+    }
+
+    /// The hour, the minute and the second.
     #[tactic(auto, using(crate::proofs::FieldLemmas::fields))]
     pub fn as_hms(self) -> (u8, u8, u8)
         ensures value { result ≡ (hour_of (wall_time self), minute_of (wall_time self), second_of (wall_time self)) }
+        ensures in_range { IsTimeOfDay result.0 result.1 result.2 0 }
     {
         self.time.as_hms()
+    }
+
+    /// The hour, the minute, the second and the millisecond of the second.
+    #[tactic(auto, using(crate::proofs::FieldLemmas::fields))]
+    pub fn as_hms_milli(self) -> (u8, u8, u8, u16)
+        ensures value { result ≡ (hour_of (wall_time self), minute_of (wall_time self), second_of (wall_time self), millisecond_of (wall_time self)) }
+        ensures in_range { IsTimeOfDay result.0 result.1 result.2 (result.3 * nanos_per_millisecond) }
+    {
+        self.time.as_hms_milli()
+    }
+
+    /// The hour, the minute, the second and the microsecond of the second.
+    #[tactic(auto, using(crate::proofs::FieldLemmas::fields))]
+    pub fn as_hms_micro(self) -> (u8, u8, u8, u32)
+        ensures value { result ≡ (hour_of (wall_time self), minute_of (wall_time self), second_of (wall_time self), microsecond_of (wall_time self)) }
+        ensures in_range { IsTimeOfDay result.0 result.1 result.2 (result.3 * nanos_per_microsecond) }
+    {
+        self.time.as_hms_micro()
+    }
+
+    /// The hour, the minute, the second and the nanosecond of the second.
+    #[tactic(auto, using(crate::proofs::FieldLemmas::fields))]
+    pub fn as_hms_nano(self) -> (u8, u8, u8, u32)
+        ensures value { result ≡ (hour_of (wall_time self), minute_of (wall_time self), second_of (wall_time self), nanosecond_of (wall_time self)) }
+        ensures in_range { IsTimeOfDay result.0 result.1 result.2 result.3 }
+    {
+        self.time.as_hms_nano()
+    }
+
+    /// The hour, 0 to 23.
+    #[tactic(auto, using(crate::proofs::FieldLemmas::fields))]
+    pub fn hour(self) -> u8
+        ensures value { result ≡ hour_of (wall_time self) }
+        ensures in_range { result ≤ 23 }
+    {
+        self.time.hour()
+    }
+
+    /// The minute of the hour, 0 to 59.
+    #[tactic(auto, using(crate::proofs::FieldLemmas::fields))]
+    pub fn minute(self) -> u8
+        ensures value { result ≡ minute_of (wall_time self) }
+        ensures in_range { result ≤ 59 }
+    {
+        self.time.minute()
+    }
+
+    /// The second of the minute, 0 to 59.
+    #[tactic(auto, using(crate::proofs::FieldLemmas::fields))]
+    pub fn second(self) -> u8
+        ensures value { result ≡ second_of (wall_time self) }
+        ensures in_range { result ≤ 59 }
+    {
+        self.time.second()
+    }
+
+    /// The millisecond of the second, 0 to 999.
+    #[tactic(auto, using(crate::proofs::FieldLemmas::fields))]
+    pub fn millisecond(self) -> u16
+        ensures value { result ≡ millisecond_of (wall_time self) }
+        ensures in_range { result ≤ 999 }
+    {
+        self.time.millisecond()
+    }
+
+    /// The microsecond of the second, 0 to 999,999.
+    #[tactic(auto, using(crate::proofs::FieldLemmas::fields))]
+    pub fn microsecond(self) -> u32
+        ensures value { result ≡ microsecond_of (wall_time self) }
+        ensures in_range { result ≤ 999_999 }
+    {
+        self.time.microsecond()
+    }
+
+    /// The nanosecond of the second, 0 to 999,999,999.
+    #[tactic(auto, using(crate::proofs::FieldLemmas::fields))]
+    pub fn nanosecond(self) -> u32
+        ensures value { result ≡ nanosecond_of (wall_time self) }
+        ensures in_range { result ≤ 999_999_999 }
+    {
+        self.time.nanosecond()
     }
 }
