@@ -1,13 +1,15 @@
 -- Unix seconds as days and times of day.
 use Rattle.std.specs.Prelude.{codes}
-use Rattle.std.proofs.Common.{◌≡◌, ℕ, ◌+◌, ◌*◌, ◌<◌, Bool, true, false, cond, Some, None, Ok, Err, refl, sym, ◌∙◌, ap, subst, arith, ℤ, pos, negsuc, ◌+ℤ◌, ◌-ℤ◌, ◌*ℤ◌, FitsSigned}
+use Rattle.std.proofs.Common.{◌≡◌, ℕ, ◌/◌, ◌<◌, Bool, true, false, cond, Some, None, Ok, Err, refl, sym, ◌∙◌, ap, subst, arith, ℤ, pos, negsuc, ◌+ℤ◌, ◌-ℤ◌, ◌*ℤ◌, FitsSigned}
 use Rattle.std.specs.Int.{w32, w64, w128, int_div_euclid, int_rem_euclid}
 use Rattle.std.specs.Result.{result_ok}
 use Rattle.std.proofs.lemmas.Int.{ints}
-use Rattle.calendar_values.specs.Clock.{IsClock, nanos_per_second, hour_of, minute_of, second_of, nanosecond_of}
+use Rattle.calendar_values.specs.Clock.{nanos_per_second, nanosecond_of}
 use Rattle.calendar_values.specs.Range.{IsDay, first_day, last_day, is_outside, checked_day}
 use Rattle.calendar_values.specs.Refusals.{Refusal, out_of_range, julian_date}
-use Rattle.calendar_values.specs.WallClock.{wall_clock, wall_day, wall_time, first_wall_clock, last_wall_clock, unix_seconds_of, IsWallClock}
+use Rattle.calendar_values.specs.SignedArith.{signed_casts}
+use Rattle.calendar_values.specs.WallClockLaws.{IsDay-wall_day}
+use Rattle.calendar_values.specs.WallClock.{wall_clock, wall_day, wall_time, first_wall_clock, last_wall_clock, unix_seconds_of}
 use Rattle.utc_times.specs.UnixTime.{instant_of_second, unix_instant_of_nanos}
 
 -- the wall clock of the day of a second, and of the clock so many nanoseconds after its beginning
@@ -111,9 +113,12 @@ pub unix_instant-large : (w : ℤ) → (FitsSigned w64 (int_div_euclid w (pos na
 unfolding unix_instant_of_nanos
 unix_instant-large w h = refused-large (is_outside first_wall_clock last_wall_clock w) w (λ e. h (FitsSigned-second w e))
 
+pub FitsSigned-second-128 : (w : ℤ) → FitsSigned w128 w → FitsSigned w128 (int_div_euclid w (pos nanos_per_second))
+FitsSigned-second-128 (pos a) h = omega (arith, ints)
+FitsSigned-second-128 (negsuc a) h = omega (arith, ints)
+
 -- the Unix second of a day and a clock
-pub unix_seconds_of-parts : (w : ℤ)
-    → wall_day w *ℤ pos 86_400 +ℤ pos (hour_of (wall_time w) * 3_600 + minute_of (wall_time w) * 60 + second_of (wall_time w)) ≡ unix_seconds_of w
+pub unix_seconds_of-parts : (w : ℤ) → wall_day w *ℤ pos 86_400 +ℤ pos (wall_time w / nanos_per_second) ≡ unix_seconds_of w
 unfolding wall_day wall_time
 unix_seconds_of-parts (pos a) = omega (arith, ints)
 unix_seconds_of-parts (negsuc a) = omega (arith, ints)
@@ -123,3 +128,7 @@ pub unix_seconds_of-nanosecond : (w : ℤ) → unix_seconds_of w *ℤ pos nanos_
 unfolding wall_time
 unix_seconds_of-nanosecond (pos a) = omega (arith, ints)
 unix_seconds_of-nanosecond (negsuc a) = omega (arith, ints)
+
+pub ruleset days = (signed_casts, IsDay-wall_day)
+
+pub ruleset unix_seconds = (signed_casts, unix_seconds_of-parts, unix_seconds_of-nanosecond)

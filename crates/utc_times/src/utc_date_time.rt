@@ -1,14 +1,18 @@
 //! A date and a time of day in UTC.
-ghost use Rattle.std.specs.Prelude.{◌≡◌, ◌<◌, ◌≤◌, length, Some, pos, ◌+ℤ◌, ◌*ℤ◌};
+ghost use Rattle.std.specs.Prelude.{◌≡◌, ◌<◌, ◌≤◌, ◌*◌, ◌/◌, length, Some, pos, ◌+ℤ◌, ◌*ℤ◌};
 ghost use Rattle.std.specs.Fmt.{padded};
-ghost use Rattle.std.specs.Int.{int_div_euclid, int_rem_euclid};
-ghost use Rattle.calendar_values.specs.Clock.{nanos_per_second};
-ghost use Rattle.calendar_values.specs.Range.{checked_day};
-ghost use Rattle.calendar_values.specs.WallClock.{wall_clock, unix_seconds_of, IsWallClock};
+ghost use Rattle.std.specs.Int.{IsInRange, int_div_euclid, int_rem_euclid};
+ghost use Rattle.calendar_values.specs.Calendar.{year_of, month_of, day_of_month_of, ordinal_of, julian_day_of};
+ghost use Rattle.calendar_values.specs.Clock.{IsTimeOfDay, nanos_per_second, nanos_per_millisecond, nanos_per_microsecond, hour_of, minute_of, second_of, millisecond_of, microsecond_of, nanosecond_of};
+ghost use Rattle.calendar_values.specs.Month.{month_number};
+ghost use Rattle.calendar_values.specs.Range.{IsYear, IsDay, checked_day};
+ghost use Rattle.calendar_values.specs.WallClock.{wall_clock, wall_day, wall_time, unix_seconds_of, IsWallClock};
+ghost use Rattle.calendar_values.specs.Weekday.{weekday_number};
+ghost use Rattle.calendar_values.specs.Weeks.{iso_year_of, iso_week_of, sunday_week_of, monday_week_of, weekday_of};
 ghost use Rattle.utc_times.specs.Texts.{utc_text};
 ghost use Rattle.utc_times.specs.UnixTime.{instant_of_second, unix_instant, unix_instant_of_nanos};
 
-use calendar_values::{ComponentRange, Date, Text, Time};
+use calendar_values::{ComponentRange, Date, Month, Text, Time, Weekday};
 use plain_times::PlainDateTime;
 use std::fmt;
 use std::marker::Model;
@@ -108,23 +112,228 @@ impl UtcDateTime {
 
     /// The Unix second, -377,705,116,800 to 253,402,300,799: the whole seconds from 1970-01-01 0:00
     /// UTC, rounded down.
+    #[tactic(auto, using(crate::proofs::UnixLemmas::unix_seconds))]
     pub fn unix_timestamp(self) -> i64
         ensures value { result ≡ unix_seconds_of self }
         ensures in_range { IsWallClock self }
     {
-        let day = self.inner.date().to_julian_day() as i64 - EPOCH_JULIAN_DAY;
-        let (hour, minute, second) = self.inner.time().as_hms();
-        let second_of_day = hour as i64 * 3_600 + minute as i64 * 60 + second as i64;
-        day * SECONDS_PER_DAY + second_of_day
+        self.day_number() * SECONDS_PER_DAY + second_of_day(self.inner.time()) as i64
+    }
+
+    // The day number of the date.
+    #[tactic(auto, using(crate::proofs::UnixLemmas::days))]
+    fn day_number(self) -> i64
+        ensures value { result ≡ wall_day self }
+        ensures in_range { IsDay result }
+    {
+        self.inner.to_julian_day() as i64 - EPOCH_JULIAN_DAY
     }
 
     /// The nanoseconds from 1970-01-01 0:00 UTC.
+    #[tactic(auto, using(crate::proofs::UnixLemmas::unix_seconds))]
     pub fn unix_timestamp_nanos(self) -> i128
         ensures value { result ≡ self }
         ensures in_range { IsWallClock self }
     {
-        let nanosecond = self.inner.time().nanosecond();
-        self.unix_timestamp() as i128 * NANOS_PER_SECOND + nanosecond as i128
+        self.unix_timestamp() as i128 * NANOS_PER_SECOND + self.inner.nanosecond() as i128
+    }
+
+    /// The date.
+    pub fn date(self) -> Date
+        ensures value { result ≡ wall_day self }
+        ensures in_range { IsWallClock self }
+    {
+        self.inner.date()
+    }
+
+    /// The time of day.
+    pub fn time(self) -> Time
+        ensures value { result ≡ wall_time self }
+        ensures in_range { IsWallClock self }
+    {
+        self.inner.time()
+    }
+
+    /// The year, -9999 to 9999.
+    pub fn year(self) -> i32
+        ensures value { result ≡ year_of (wall_day self) }
+        ensures in_range { IsYear result }
+    {
+        self.inner.year()
+    }
+
+    /// The month.
+    pub fn month(self) -> Month
+        ensures { month_number result ≡ month_of (wall_day self) }
+    {
+        self.inner.month()
+    }
+
+    /// The day of the month, 1 to 31.
+    pub fn day(self) -> u8
+        ensures value { result ≡ day_of_month_of (wall_day self) }
+        ensures in_range { IsInRange 1 31 result }
+    {
+        self.inner.day()
+    }
+
+    /// The day of the year, 1 to 366.
+    pub fn ordinal(self) -> u16
+        ensures value { result ≡ ordinal_of (wall_day self) }
+        ensures in_range { IsInRange 1 366 result }
+    {
+        self.inner.ordinal()
+    }
+
+    /// The ISO week, 1 to 53 (ISO 8601): it belongs to the year of its Thursday.
+    pub fn iso_week(self) -> u8
+        ensures value { result ≡ iso_week_of (wall_day self) }
+        ensures in_range { IsInRange 1 53 result }
+    {
+        self.inner.iso_week()
+    }
+
+    /// The week counted by Sundays, 0 to 53: how many Sundays of the year lie on or before the date.
+    pub fn sunday_based_week(self) -> u8
+        ensures value { result ≡ sunday_week_of (wall_day self) }
+        ensures in_range { result ≤ 53 }
+    {
+        self.inner.sunday_based_week()
+    }
+
+    /// The week counted by Mondays, 0 to 53: how many Mondays of the year lie on or before the date.
+    pub fn monday_based_week(self) -> u8
+        ensures value { result ≡ monday_week_of (wall_day self) }
+        ensures in_range { result ≤ 53 }
+    {
+        self.inner.monday_based_week()
+    }
+
+    /// The year, the month and the day of the month.
+    pub fn to_calendar_date(self) -> (i32, Month, u8)
+        ensures year { result.0 ≡ year_of (wall_day self) }
+        ensures month { month_number result.1 ≡ month_of (wall_day self) }
+        ensures day { result.2 ≡ day_of_month_of (wall_day self) }
+        ensures year_in_range { IsYear result.0 }
+        ensures day_in_range { IsInRange 1 31 result.2 }
+    {
+        self.inner.to_calendar_date()
+    }
+
+    /// The year and the day of the year.
+    pub fn to_ordinal_date(self) -> (i32, u16)
+        ensures year { result.0 ≡ year_of (wall_day self) }
+        ensures ordinal { result.1 ≡ ordinal_of (wall_day self) }
+        ensures year_in_range { IsYear result.0 }
+        ensures ordinal_in_range { IsInRange 1 366 result.1 }
+    {
+        self.inner.to_ordinal_date()
+    }
+
+    /// The ISO year, the ISO week and the day of the week (ISO 8601).
+    pub fn to_iso_week_date(self) -> (i32, u8, Weekday)
+        ensures year { result.0 ≡ iso_year_of (wall_day self) }
+        ensures week { result.1 ≡ iso_week_of (wall_day self) }
+        ensures weekday { weekday_number result.2 ≡ weekday_of (wall_day self) }
+        ensures year_in_range { IsYear result.0 }
+        ensures week_in_range { IsInRange 1 53 result.1 }
+    {
+        self.inner.to_iso_week_date()
+    }
+
+    /// The day of the week.
+    pub fn weekday(self) -> Weekday
+        ensures { weekday_number result ≡ weekday_of (wall_day self) }
+    {
+        self.inner.weekday()
+    }
+
+    /// The Julian day of the date, -1,930,999 to 5,373,484; it is 2,440,588 on 1970-01-01.
+    pub fn to_julian_day(self) -> i32
+        ensures value { result ≡ julian_day_of (wall_day self) }
+        ensures in_range { IsWallClock self }
+    {
+        self.inner.to_julian_day()
+    }
+
+    /// The hour, the minute and the second.
+    pub fn as_hms(self) -> (u8, u8, u8)
+        ensures value { result ≡ (hour_of (wall_time self), minute_of (wall_time self), second_of (wall_time self)) }
+        ensures in_range { IsTimeOfDay result.0 result.1 result.2 0 }
+    {
+        self.inner.as_hms()
+    }
+
+    /// The hour, the minute, the second and the millisecond of the second.
+    pub fn as_hms_milli(self) -> (u8, u8, u8, u16)
+        ensures value { result ≡ (hour_of (wall_time self), minute_of (wall_time self), second_of (wall_time self), millisecond_of (wall_time self)) }
+        ensures in_range { IsTimeOfDay result.0 result.1 result.2 (result.3 * nanos_per_millisecond) }
+    {
+        self.inner.as_hms_milli()
+    }
+
+    /// The hour, the minute, the second and the microsecond of the second.
+    pub fn as_hms_micro(self) -> (u8, u8, u8, u32)
+        ensures value { result ≡ (hour_of (wall_time self), minute_of (wall_time self), second_of (wall_time self), microsecond_of (wall_time self)) }
+        ensures in_range { IsTimeOfDay result.0 result.1 result.2 (result.3 * nanos_per_microsecond) }
+    {
+        self.inner.as_hms_micro()
+    }
+
+    /// The hour, the minute, the second and the nanosecond of the second.
+    pub fn as_hms_nano(self) -> (u8, u8, u8, u32)
+        ensures value { result ≡ (hour_of (wall_time self), minute_of (wall_time self), second_of (wall_time self), nanosecond_of (wall_time self)) }
+        ensures in_range { IsTimeOfDay result.0 result.1 result.2 result.3 }
+    {
+        self.inner.as_hms_nano()
+    }
+
+    /// The hour, 0 to 23.
+    pub fn hour(self) -> u8
+        ensures value { result ≡ hour_of (wall_time self) }
+        ensures in_range { result ≤ 23 }
+    {
+        self.inner.hour()
+    }
+
+    /// The minute of the hour, 0 to 59.
+    pub fn minute(self) -> u8
+        ensures value { result ≡ minute_of (wall_time self) }
+        ensures in_range { result ≤ 59 }
+    {
+        self.inner.minute()
+    }
+
+    /// The second of the minute, 0 to 59.
+    pub fn second(self) -> u8
+        ensures value { result ≡ second_of (wall_time self) }
+        ensures in_range { result ≤ 59 }
+    {
+        self.inner.second()
+    }
+
+    /// The millisecond of the second, 0 to 999.
+    pub fn millisecond(self) -> u16
+        ensures value { result ≡ millisecond_of (wall_time self) }
+        ensures in_range { result ≤ 999 }
+    {
+        self.inner.millisecond()
+    }
+
+    /// The microsecond of the second, 0 to 999,999.
+    pub fn microsecond(self) -> u32
+        ensures value { result ≡ microsecond_of (wall_time self) }
+        ensures in_range { result ≤ 999_999 }
+    {
+        self.inner.microsecond()
+    }
+
+    /// The nanosecond of the second, 0 to 999,999,999.
+    pub fn nanosecond(self) -> u32
+        ensures value { result ≡ nanosecond_of (wall_time self) }
+        ensures in_range { result ≤ 999_999_999 }
+    {
+        self.inner.nanosecond()
     }
 
     /// The text, as `1970-01-01 0:00:00.0 +00`: the date, a space, the time of day, and ` +00`.
@@ -148,6 +357,15 @@ fn date_of_second(second: i64) -> Option<Date>
         Ok(julian_day) => Date::from_julian_day(julian_day).ok(),
         Err(_) => None,
     }
+}
+
+// The second of the day that a time of day belongs to.
+fn second_of_day(time: Time) -> u32
+    ensures value { result ≡ time / nanos_per_second }
+    ensures in_range { result < 86_400 }
+{
+    let (hour, minute, second) = time.as_hms();
+    u32::from(hour) * 3600 + u32::from(minute) * 60 + u32::from(second)
 }
 
 // The time of day so many nanoseconds after the beginning of a Unix second.
