@@ -1,2 +1,6 @@
-pub mod Sums
+pub mod Replacements
 pub mod SumLaws
+pub mod Sums
+pub mod Texts
+pub mod TruncationLaws
+pub mod Truncations
