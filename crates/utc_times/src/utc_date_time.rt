@@ -1,14 +1,17 @@
 //! A date and a time of day in UTC.
-ghost use Rattle.std.specs.Prelude.{◌≡◌, ◌<◌, ◌≤◌, ◌*◌, ◌/◌, length, Some, pos, ◌+ℤ◌, ◌*ℤ◌};
+ghost use Rattle.std.specs.Prelude.{◌≡◌, ◌<◌, ◌≤◌, ◌*◌, ◌/◌, length, Some, pos, ◌+ℤ◌, ◌*ℤ◌, ℤ};
 ghost use Rattle.std.specs.Fmt.{padded};
 ghost use Rattle.std.specs.Int.{IsInRange, int_div_euclid, int_rem_euclid};
 ghost use Rattle.calendar_values.specs.Calendar.{year_of, month_of, day_of_month_of, ordinal_of, julian_day_of};
-ghost use Rattle.calendar_values.specs.Clock.{IsTimeOfDay, nanos_per_second, nanos_per_millisecond, nanos_per_microsecond, hour_of, minute_of, second_of, millisecond_of, microsecond_of, nanosecond_of};
+ghost use Rattle.calendar_values.specs.Clock.{IsTimeOfDay, nanos_per_second, nanos_per_millisecond, nanos_per_microsecond, hour_of, minute_of, second_of, millisecond_of, microsecond_of, nanosecond_of, nanos_per_day, nanos_per_hour, nanos_per_minute};
 ghost use Rattle.calendar_values.specs.Month.{month_number};
 ghost use Rattle.calendar_values.specs.Range.{IsYear, IsDay, checked_day};
+ghost use Rattle.calendar_values.specs.Replacements.{with_year, with_month, with_day, with_ordinal, with_hour, with_minute, with_second, with_millisecond, with_microsecond, with_nanosecond};
 ghost use Rattle.calendar_values.specs.WallClock.{wall_clock, wall_day, wall_time, unix_seconds_of, IsWallClock};
 ghost use Rattle.calendar_values.specs.Weekday.{weekday_number};
 ghost use Rattle.calendar_values.specs.Weeks.{iso_year_of, iso_week_of, sunday_week_of, monday_week_of, weekday_of};
+ghost use Rattle.plain_times.specs.Replacements.{with_date, with_time, keeping_time, keeping_day};
+ghost use Rattle.plain_times.specs.Truncations.{rounded_down};
 ghost use Rattle.utc_times.specs.Texts.{utc_text};
 ghost use Rattle.utc_times.specs.UnixTime.{instant_of_second, unix_instant, unix_instant_of_nanos};
 
@@ -78,6 +81,15 @@ impl UtcDateTime {
         ensures { result ≡ plain }
     {
         UtcDateTime { inner: plain }
+    }
+
+    // The same read as UTC, or the same refusal.
+    fn or_refused(
+        plain: Result<PlainDateTime, ComponentRange>,
+    ) -> Result<UtcDateTime, ComponentRange>
+        ensures { result ≡ plain }
+    {
+        Ok(UtcDateTime { inner: plain? })
     }
 
     /// The instant of a Unix second. Refused `timestamp` outside -377,705,116,800 to 253,402,300,799.
@@ -336,14 +348,162 @@ impl UtcDateTime {
         self.inner.nanosecond()
     }
 
+    /// The same date with another time of day.
+    pub fn replace_time(self, time: Time) -> UtcDateTime
+        ensures { result ≡ with_time self time }
+    {
+        UtcDateTime {
+            inner: self.inner.replace_time(time),
+        }
+    }
+
+    /// The same time of day on another date.
+    pub fn replace_date(self, date: Date) -> UtcDateTime
+        ensures { result ≡ with_date self date }
+    {
+        UtcDateTime {
+            inner: self.inner.replace_date(date),
+        }
+    }
+
+    /// The same with another year, and the month, the day of the month and the time of day kept. Refused
+    /// `year` outside -9999 to 9999, and, conditionally, `day` for 29 February in a common year.
+    pub fn replace_year(self, year: i32) -> Result<UtcDateTime, ComponentRange>
+        ensures { result ≡ keeping_time self (with_year (wall_day self) year) }
+    {
+        UtcDateTime::or_refused(self.inner.replace_year(year))
+    }
+
+    /// The same with another month, and the year, the day of the month and the time of day kept. Refused,
+    /// conditionally, `day` if the month is too short.
+    pub fn replace_month(self, month: Month) -> Result<UtcDateTime, ComponentRange>
+        ensures { result ≡ keeping_time self (with_month (wall_day self) (month_number month)) }
+    {
+        UtcDateTime::or_refused(self.inner.replace_month(month))
+    }
+
+    /// The same with another day of the month. Refused `day` at 0 or above 31, or, conditionally, past the
+    /// end of the month.
+    pub fn replace_day(self, day: u8) -> Result<UtcDateTime, ComponentRange>
+        ensures { result ≡ keeping_time self (with_day (wall_day self) day) }
+    {
+        UtcDateTime::or_refused(self.inner.replace_day(day))
+    }
+
+    /// The same with another day of the year. Refused `ordinal` at 0 or above 366, or, conditionally, at
+    /// 366 in a common year.
+    pub fn replace_ordinal(self, ordinal: u16) -> Result<UtcDateTime, ComponentRange>
+        ensures { result ≡ keeping_time self (with_ordinal (wall_day self) ordinal) }
+    {
+        UtcDateTime::or_refused(self.inner.replace_ordinal(ordinal))
+    }
+
+    /// The first nanosecond of the day.
+    pub fn truncate_to_day(self) -> UtcDateTime
+        ensures { result ≡ rounded_down nanos_per_day self }
+    {
+        UtcDateTime {
+            inner: self.inner.truncate_to_day(),
+        }
+    }
+
+    /// The same with another hour, 0 to 23. A greater one is refused as `hour`.
+    pub fn replace_hour(self, hour: u8) -> Result<UtcDateTime, ComponentRange>
+        ensures { result ≡ keeping_day self (with_hour (wall_time self) hour) }
+    {
+        UtcDateTime::or_refused(self.inner.replace_hour(hour))
+    }
+
+    /// The first nanosecond of the hour.
+    pub fn truncate_to_hour(self) -> UtcDateTime
+        ensures { result ≡ rounded_down nanos_per_hour self }
+    {
+        UtcDateTime {
+            inner: self.inner.truncate_to_hour(),
+        }
+    }
+
+    /// The same with another minute, 0 to 59. A greater one is refused as `minute`.
+    pub fn replace_minute(self, minute: u8) -> Result<UtcDateTime, ComponentRange>
+        ensures { result ≡ keeping_day self (with_minute (wall_time self) minute) }
+    {
+        UtcDateTime::or_refused(self.inner.replace_minute(minute))
+    }
+
+    /// The first nanosecond of the minute.
+    pub fn truncate_to_minute(self) -> UtcDateTime
+        ensures { result ≡ rounded_down nanos_per_minute self }
+    {
+        UtcDateTime {
+            inner: self.inner.truncate_to_minute(),
+        }
+    }
+
+    /// The same with another second, 0 to 59. A greater one is refused as `second`.
+    pub fn replace_second(self, second: u8) -> Result<UtcDateTime, ComponentRange>
+        ensures { result ≡ keeping_day self (with_second (wall_time self) second) }
+    {
+        UtcDateTime::or_refused(self.inner.replace_second(second))
+    }
+
+    /// The first nanosecond of the second.
+    pub fn truncate_to_second(self) -> UtcDateTime
+        ensures { result ≡ rounded_down nanos_per_second self }
+    {
+        UtcDateTime {
+            inner: self.inner.truncate_to_second(),
+        }
+    }
+
+    /// The same with another millisecond of the second, 0 to 999, and nothing finer. A greater one is
+    /// refused as `millisecond`.
+    pub fn replace_millisecond(self, millisecond: u16) -> Result<UtcDateTime, ComponentRange>
+        ensures { result ≡ keeping_day self (with_millisecond (wall_time self) millisecond) }
+    {
+        UtcDateTime::or_refused(self.inner.replace_millisecond(millisecond))
+    }
+
+    /// The first nanosecond of the millisecond.
+    pub fn truncate_to_millisecond(self) -> UtcDateTime
+        ensures { result ≡ rounded_down nanos_per_millisecond self }
+    {
+        UtcDateTime {
+            inner: self.inner.truncate_to_millisecond(),
+        }
+    }
+
+    /// The same with another microsecond of the second, 0 to 999,999, and nothing finer. A greater one is
+    /// refused as `microsecond`.
+    pub fn replace_microsecond(self, microsecond: u32) -> Result<UtcDateTime, ComponentRange>
+        ensures { result ≡ keeping_day self (with_microsecond (wall_time self) microsecond) }
+    {
+        UtcDateTime::or_refused(self.inner.replace_microsecond(microsecond))
+    }
+
+    /// The first nanosecond of the microsecond.
+    pub fn truncate_to_microsecond(self) -> UtcDateTime
+        ensures { result ≡ rounded_down nanos_per_microsecond self }
+    {
+        UtcDateTime {
+            inner: self.inner.truncate_to_microsecond(),
+        }
+    }
+
+    /// The same with another nanosecond of the second, 0 to 999,999,999. A greater one is refused as
+    /// `nanosecond`.
+    pub fn replace_nanosecond(self, nanosecond: u32) -> Result<UtcDateTime, ComponentRange>
+        ensures { result ≡ keeping_day self (with_nanosecond (wall_time self) nanosecond) }
+    {
+        UtcDateTime::or_refused(self.inner.replace_nanosecond(nanosecond))
+    }
+
     /// The text, as `1970-01-01 0:00:00.0 +00`: the date, a space, the time of day, and ` +00`.
+    #[tactic(auto, unfolding(crate::specs::Texts::utc_text, plain_times::specs::Texts::plain_text))]
     pub fn text(self) -> Text
         ensures text { result ≡ utc_text self }
         ensures length { length result ≤ 36 }
     {
-        let mut text = self.inner.date().text();
-        text.push(b' ');
-        text.push_bytes(self.inner.time().text().as_bytes());
+        let mut text = self.inner.text();
         text.push_bytes(b" +00");
         text
     }
