@@ -485,3 +485,6 @@ impl fmt::Debug for PlainDateTime {
         fmt::Debug::fmt(&self.text(), f)
     }
 }
+
+#[cfg(test)]
+mod tests;
