@@ -2,7 +2,8 @@
 use Rattle.std.proofs.Common.{◌≡◌, ℕ, ◌<◌, ◌==◌, Bool, true, false, inl, inr, refl, sym, ap, ◌∙◌, arith, ℤ, ◌<ℤ◌, nat_cmp}
 use Rattle.std.proofs.lemmas.Bool.{cases_order}
 use Rattle.std.proofs.lemmas.Int.{by_lt_z, ints}
-use Rattle.std.specs.Cmp.{int_cmp_is, nat_cmp_is}
+use Rattle.std.specs.Cmp.{int_cmp_is, nat_cmp_is, signed_Decides, unsigned_Decides}
+use Rattle.std.specs.Bool.{one_answer}
 use Rattle.std.specs.Ordering.{int_cmp, int_eq, ordering_then}
 use Rattle.std.specs.declared.cmp.Ordering.TheVariants.{Less, Equal, Greater}
 use Rattle.calendar_values.specs.Clock.{IsClock}
@@ -29,3 +30,13 @@ cmp-wall_clocks m n c d h k =
 pub cmp-wall_days : (w v : ℤ) → ordering_then (int_cmp (wall_day w) (wall_day v)) (nat_cmp (wall_time w) (wall_time v)) ≡ int_cmp w v
 cmp-wall_days w v =
     rw (wall_clock-parts w, wall_clock-parts v) at (cmp-wall_clocks (wall_day w) (wall_day v) (wall_time w) (wall_time v) (IsClock-wall_time w) (IsClock-wall_time v))
+
+same_wall_clock : (m n : ℤ) (c d : ℕ) → m ≡ n → c ≡ d → wall_clock m c ≡ wall_clock n d
+same_wall_clock m n c d e f = rw (e, f) refl
+
+-- of one day, two wall clocks are equal if their clocks are
+pub eq-wall_times : (w v : ℤ) → wall_day w ≡ wall_day v → (wall_time w == wall_time v) ≡ int_eq w v
+eq-wall_times w v same =
+    one_answer (wall_time w == wall_time v) (int_eq w v)
+    (λ e. sym (wall_clock-parts w) ∙ same_wall_clock _ _ _ _ same ((unsigned_Decides (wall_time w) (wall_time v)).0 e) ∙ wall_clock-parts v, λ e. (unsigned_Decides (wall_time w) (wall_time v)).1 (ap wall_time e))
+    (signed_Decides w v)

@@ -466,6 +466,14 @@ impl PlainDateTime {
     }
 }
 
+// The constants, as a contract sees them.
+fn ends() -> (PlainDateTime, PlainDateTime)
+    ensures first { result.0 ≡ first_wall_clock }
+    ensures last { result.1 ≡ last_wall_clock }
+{
+    (PlainDateTime::MIN, PlainDateTime::MAX)
+}
+
 impl fmt::Display for PlainDateTime {
     ghost output = { λ w. Some (plain_text w) };
 
@@ -483,3 +491,6 @@ impl fmt::Debug for PlainDateTime {
         fmt::Debug::fmt(&self.text(), f)
     }
 }
+
+#[cfg(test)]
+mod tests;
