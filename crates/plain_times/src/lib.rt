@@ -2,6 +2,7 @@
 #![tactic(auto)]
 
 mod comparisons;
+pub mod laws;
 mod plain_date_time;
 
 pub use plain_date_time::PlainDateTime;

@@ -18,6 +18,9 @@ use calendar_values::{ComponentRange, Date, Month, Text, Time, Weekday};
 use std::fmt;
 use std::marker::Model;
 
+mod operators;
+mod sums;
+
 /// A date with a time of day, from -9999-01-01 0:00:00.0 to 9999-12-31 23:59:59.999999999. A contract
 /// sees the wall clock: the day number times the 86,400 * 10^9 nanoseconds of a day, plus the
 /// nanosecond of the day.
