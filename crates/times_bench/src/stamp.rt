@@ -50,6 +50,7 @@ pub fn answer_to_stamp<W: Sink>(
     }
 }
 
+// The second with its nanosecond replaced, or the first refusal.
 fn moment_of(second: i64, nanosecond: u32) -> Result<UtcDateTime, ComponentRange> {
     UtcDateTime::from_unix_timestamp(second)?.replace_nanosecond(nanosecond)
 }

@@ -2,6 +2,8 @@
 #![tactic(auto)]
 
 mod as_utc;
+mod comparisons;
+mod operators;
 mod utc_date_time;
 
 pub use as_utc::AsUtc;

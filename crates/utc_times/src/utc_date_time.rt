@@ -1,31 +1,26 @@
 //! A date and a time of day in UTC.
-ghost use Rattle.std.specs.Prelude.{◌≡◌, ◌<◌, ◌≤◌, ◌*◌, ◌/◌, length, Some, pos, ◌+ℤ◌, ◌*ℤ◌, ℤ};
+ghost use Rattle.std.specs.Prelude.{◌≡◌, ◌≤◌, ◌*◌, length, Some, pos};
 ghost use Rattle.std.specs.Fmt.{padded};
-ghost use Rattle.std.specs.Int.{IsInRange, int_div_euclid, int_rem_euclid};
+ghost use Rattle.std.specs.Int.{IsInRange};
 ghost use Rattle.calendar_values.specs.Calendar.{year_of, month_of, day_of_month_of, ordinal_of, julian_day_of};
 ghost use Rattle.calendar_values.specs.Clock.{IsTimeOfDay, nanos_per_second, nanos_per_millisecond, nanos_per_microsecond, hour_of, minute_of, second_of, millisecond_of, microsecond_of, nanosecond_of, nanos_per_day, nanos_per_hour, nanos_per_minute};
 ghost use Rattle.calendar_values.specs.Month.{month_number};
-ghost use Rattle.calendar_values.specs.Range.{IsYear, IsDay, checked_day};
+ghost use Rattle.calendar_values.specs.Range.{IsYear};
 ghost use Rattle.calendar_values.specs.Replacements.{with_year, with_month, with_day, with_ordinal, with_hour, with_minute, with_second, with_millisecond, with_microsecond, with_nanosecond};
-ghost use Rattle.calendar_values.specs.WallClock.{wall_clock, wall_day, wall_time, unix_seconds_of, IsWallClock};
+ghost use Rattle.calendar_values.specs.WallClock.{wall_clock, wall_day, wall_time, first_wall_clock, last_wall_clock, IsWallClock};
 ghost use Rattle.calendar_values.specs.Weekday.{weekday_number};
 ghost use Rattle.calendar_values.specs.Weeks.{iso_year_of, iso_week_of, sunday_week_of, monday_week_of, weekday_of};
 ghost use Rattle.plain_times.specs.Replacements.{with_date, with_time, keeping_time, keeping_day};
 ghost use Rattle.plain_times.specs.Truncations.{rounded_down};
 ghost use Rattle.utc_times.specs.Texts.{utc_text};
-ghost use Rattle.utc_times.specs.UnixTime.{instant_of_second, unix_instant, unix_instant_of_nanos};
 
 use calendar_values::{ComponentRange, Date, Month, Text, Time, Weekday};
 use plain_times::PlainDateTime;
 use std::fmt;
 use std::marker::Model;
 
-const SECONDS_PER_DAY: i64 = 86_400;
-
-const NANOS_PER_SECOND: i128 = 1_000_000_000;
-
-// The Julian day of 1970-01-01.
-const EPOCH_JULIAN_DAY: i64 = 2_440_588;
+mod sums;
+mod unix_time;
 
 /// A date with a time of day in UTC, from -9999-01-01 0:00:00.0 to 9999-12-31 23:59:59.999999999. A
 /// contract sees the instant: the nanoseconds from 1970-01-01 0:00 UTC, with no leap seconds.
@@ -90,64 +85,6 @@ impl UtcDateTime {
         ensures { result ≡ plain }
     {
         Ok(UtcDateTime { inner: plain? })
-    }
-
-    /// The instant of a Unix second. Refused `timestamp` outside -377,705,116,800 to 253,402,300,799.
-    pub fn from_unix_timestamp(timestamp: i64) -> Result<UtcDateTime, ComponentRange>
-        ensures { result ≡ unix_instant timestamp }
-    {
-        UtcDateTime::after_second(timestamp, 0)
-    }
-
-    /// The instant so many nanoseconds from 1970-01-01 0:00 UTC. Refused `timestamp` outside
-    /// -377,705,116,800 * 10^9 to 253,402,300,800 * 10^9 - 1.
-    pub fn from_unix_timestamp_nanos(timestamp: i128) -> Result<UtcDateTime, ComponentRange>
-        ensures { result ≡ unix_instant_of_nanos timestamp }
-    {
-        let nanosecond = timestamp.rem_euclid(NANOS_PER_SECOND) as u32;
-        match i64::try_from(timestamp.div_euclid(NANOS_PER_SECOND)) {
-            Ok(second) => UtcDateTime::after_second(second, nanosecond),
-            Err(_) => Err(ComponentRange::new("timestamp", false)),
-        }
-    }
-
-    // The instant so many nanoseconds after the beginning of a Unix second.
-    fn after_second(second: i64, nanosecond: u32) -> Result<UtcDateTime, ComponentRange>
-        requires { nanosecond < nanos_per_second }
-        ensures { result ≡ unix_instant_of_nanos (instant_of_second second +ℤ pos nanosecond) }
-    {
-        match date_of_second(second) {
-            Some(date) => Ok(UtcDateTime::new(date, time_of_second(second, nanosecond))),
-            None => Err(ComponentRange::new("timestamp", false)),
-        }
-    }
-
-    /// The Unix second, -377,705,116,800 to 253,402,300,799: the whole seconds from 1970-01-01 0:00
-    /// UTC, rounded down.
-    #[tactic(auto, using(crate::proofs::UnixLemmas::unix_seconds))]
-    pub fn unix_timestamp(self) -> i64
-        ensures value { result ≡ unix_seconds_of self }
-        ensures in_range { IsWallClock self }
-    {
-        self.day_number() * SECONDS_PER_DAY + second_of_day(self.inner.time()) as i64
-    }
-
-    // The day number of the date.
-    #[tactic(auto, using(crate::proofs::UnixLemmas::days))]
-    fn day_number(self) -> i64
-        ensures value { result ≡ wall_day self }
-        ensures in_range { IsDay result }
-    {
-        self.inner.to_julian_day() as i64 - EPOCH_JULIAN_DAY
-    }
-
-    /// The nanoseconds from 1970-01-01 0:00 UTC.
-    #[tactic(auto, using(crate::proofs::UnixLemmas::unix_seconds))]
-    pub fn unix_timestamp_nanos(self) -> i128
-        ensures value { result ≡ self }
-        ensures in_range { IsWallClock self }
-    {
-        self.unix_timestamp() as i128 * NANOS_PER_SECOND + self.inner.nanosecond() as i128
     }
 
     /// The date.
@@ -509,34 +446,19 @@ impl UtcDateTime {
     }
 }
 
-// The date of a Unix second, if the range has it.
-fn date_of_second(second: i64) -> Option<Date>
-    ensures { result ≡ checked_day (int_div_euclid second (pos 86_400)) }
+// The constants, as a contract sees them.
+fn ends() -> (UtcDateTime, UtcDateTime)
+    ensures first { result.0 ≡ first_wall_clock }
+    ensures last { result.1 ≡ last_wall_clock }
 {
-    match i32::try_from(second.div_euclid(SECONDS_PER_DAY) + EPOCH_JULIAN_DAY) {
-        Ok(julian_day) => Date::from_julian_day(julian_day).ok(),
-        Err(_) => None,
-    }
+    (UtcDateTime::MIN, UtcDateTime::MAX)
 }
 
-// The second of the day that a time of day belongs to.
-fn second_of_day(time: Time) -> u32
-    ensures value { result ≡ time / nanos_per_second }
-    ensures in_range { result < 86_400 }
+// The beginning of Unix time, as a contract sees it.
+fn epoch() -> UtcDateTime
+    ensures { result ≡ pos 0 }
 {
-    let (hour, minute, second) = time.as_hms();
-    u32::from(hour) * 3600 + u32::from(minute) * 60 + u32::from(second)
-}
-
-// The time of day so many nanoseconds after the beginning of a Unix second.
-fn time_of_second(second: i64, nanosecond: u32) -> Time
-    requires { nanosecond < nanos_per_second }
-    ensures { pos result ≡ int_rem_euclid second (pos 86_400) *ℤ pos nanos_per_second +ℤ pos nanosecond }
-{
-    let second_of_day = second.rem_euclid(SECONDS_PER_DAY) as u32;
-    let hour = (second_of_day / 3600) as u8;
-    let minute = (second_of_day / 60 % 60) as u8;
-    Time::from_hms_nano(hour, minute, (second_of_day % 60) as u8, nanosecond).unwrap()
+    UtcDateTime::UNIX_EPOCH
 }
 
 impl fmt::Display for UtcDateTime {
@@ -556,3 +478,6 @@ impl fmt::Debug for UtcDateTime {
         fmt::Debug::fmt(&self.text(), f)
     }
 }
+
+#[cfg(test)]
+mod tests;

@@ -4,7 +4,7 @@ use Rattle.std.specs.Int.{w32, w64, int_div_euclid}
 use Rattle.std.specs.Result.{result_ok}
 use Rattle.calendar_values.specs.Refusals.{julian_date}
 use Rattle.utc_times.proofs.UnixLemmas.{FitsSigned-day, FitsSigned-julian_day, checked_day-large, result_ok-julian_date}
-use Rattle.utc_times.proofs.utc_date_time.date_of_second.Goals as goal
+use Rattle.utc_times.proofs.utc_date_time.unix_time.date_of_second.Goals as goal
 
 -- the Julian day as the code computes it
 julian_day : (second day : ℤ) → FitsSigned w64 second → day ≡ int_div_euclid (to_z w64 (of_z w64 second)) (pos 86_400)
