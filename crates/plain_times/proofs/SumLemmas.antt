@@ -125,15 +125,17 @@ pub checked-is_sum : (w v : ℤ) → checked w ≡ Some v → v ≡ w
 unfolding checked
 checked-is_sum w v e = grind (arith, ints)
 
-pub checked-is : (w v : ℤ) → IsWallClock w → checked w ≡ Some v → v ≡ w
-checked-is w v h e = let accepted = checked-in w h in cc
-
 pub IsSome-checked : (w : ℤ) (result : Option ℤ) → IsWallClock w → result ≡ checked w → IsSome result
 IsSome-checked w result h e = rw (e, checked-in w h) (search rules)
 
 -- the difference of two date-times is that of their dates and of their times
-pub wall_clock-difference : (v w m n : ℤ) (c t : ℕ) → wall_clock m c ≡ v → wall_clock n t ≡ w → ((m -ℤ n) *ℤ pos nanos_per_day) +ℤ (pos c -ℤ pos t) ≡ v -ℤ w
-wall_clock-difference v w m n c t first second = omega (arith, ints)
+pub wall_clock-difference : (v w m n days rest : ℤ) (c t : ℕ) → wall_clock m c ≡ v → wall_clock n t ≡ w → days ≡ (m -ℤ n) *ℤ pos nanos_per_day → rest ≡ pos c -ℤ pos t → days +ℤ rest ≡ v -ℤ w
+wall_clock-difference v w m n days rest c t first second date time = omega (arith, ints)
 
-pub IsDuration-difference : (m n : ℤ) (c t : ℕ) → IsDay m → IsDay n → IsClock c → IsClock t → IsDuration (((m -ℤ n) *ℤ pos nanos_per_day) +ℤ (pos c -ℤ pos t))
-IsDuration-difference m n c t first second clock time = (omega (arith, ints), omega (arith, ints))
+pub IsDuration-difference : (m n days rest : ℤ) (c t : ℕ) → IsDay m → IsDay n → IsClock c → IsClock t → days ≡ (m -ℤ n) *ℤ pos nanos_per_day → rest ≡ pos c -ℤ pos t → IsDuration (days +ℤ rest)
+IsDuration-difference m n days rest c t first second clock other date time = (omega (arith, ints), omega (arith, ints))
+
+-- a sum that is accepted lies in the range
+pub IsWallClock-accepted : (w v : ℤ) → checked w ≡ Some v → IsWallClock w
+unfolding checked
+IsWallClock-accepted w v e = (grind (arith, ints), grind (arith, ints))
