@@ -1,3 +1,4 @@
+pub mod PartLaws
 pub mod Replacements
 pub mod SumLaws
 pub mod Sums

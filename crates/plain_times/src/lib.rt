@@ -2,6 +2,7 @@
 #![tactic(auto)]
 
 mod comparisons;
+pub mod part_laws;
 mod plain_date_time;
 
 pub use plain_date_time::PlainDateTime;
