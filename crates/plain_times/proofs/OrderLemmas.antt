@@ -31,7 +31,7 @@ pub cmp-wall_days : (w v : ℤ) → ordering_then (int_cmp (wall_day w) (wall_da
 cmp-wall_days w v =
     rw (wall_clock-parts w, wall_clock-parts v) at (cmp-wall_clocks (wall_day w) (wall_day v) (wall_time w) (wall_time v) (IsClock-wall_time w) (IsClock-wall_time v))
 
-same_wall_clock : (m n : ℤ) (c d : ℕ) → m ≡ n → c ≡ d → wall_clock m c ≡ wall_clock n d
+pub same_wall_clock : (m n : ℤ) (c d : ℕ) → m ≡ n → c ≡ d → wall_clock m c ≡ wall_clock n d
 same_wall_clock m n c d e f = rw (e, f) refl
 
 -- of one day, two wall clocks are equal if their clocks are

@@ -1,4 +1,5 @@
 pub mod Laws
+pub mod PartLaws
 pub mod Replacements
 pub mod SumLaws
 pub mod Sums

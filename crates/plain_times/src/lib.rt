@@ -3,6 +3,7 @@
 
 mod comparisons;
 pub mod laws;
+pub mod part_laws;
 mod plain_date_time;
 
 pub use plain_date_time::PlainDateTime;
