@@ -4,4 +4,4 @@ pub mod LineLemmas
 pub mod NumberLemmas
 pub mod ReadLemmas
 pub mod SendingLemmas
-pub mod UtcLemmas
+pub mod SecondLemmas

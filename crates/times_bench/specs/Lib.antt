@@ -2,5 +2,4 @@ pub mod Device
 pub mod Lines
 pub mod LineParts
 pub mod UnixLines
-pub mod UtcText
 pub mod Writing

@@ -2,7 +2,10 @@
 use Rattle.std.specs.Int.{w64}
 use Rattle.std.specs.Prelude.{◌≡◌, ℕ, ◌≤◌, List, [], ◌∷◌, ◌++◌, length, take, drop, codes, flat_map, if◌then◌else◌, ℤ, pos, neg_ℤ, FitsSigned}
 use Rattle.std.specs.Str.Parse.{starts_with_minus, IsNumeral, digits_value}
-use Rattle.times_bench.specs.UtcText.{second_text}
+use Rattle.calendar_values.specs.Range.{is_outside}
+use Rattle.calendar_values.specs.WallClock.{first_wall_clock, last_wall_clock}
+use Rattle.utc_times.specs.Texts.{utc_text}
+use Rattle.utc_times.specs.UnixTime.{instant_of_second}
 
 -- the digits of a number: what stands after the `-`, if it has one
 abbrev pub number_digits : List ℕ → List ℕ
@@ -32,6 +35,12 @@ pub record IsUnixLine (line : List ℕ) : Type 0 where
   pub size : length line ≤ 1024
   pub word : HasUnixWord line
   pub number : IsNumber (number_of line)
+
+-- the text of a Unix second, or its refusal
+unfoldable pub second_text : ℤ → List ℕ
+second_text second =
+    if is_outside first_wall_clock last_wall_clock (instant_of_second second) then codes "refused timestamp"
+    else utc_text (instant_of_second second)
 
 -- the answer to a well formed line, with its line feed
 unfoldable pub answer_to : List ℕ → List ℕ

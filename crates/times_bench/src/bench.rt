@@ -30,8 +30,11 @@ const BLOCK: usize = 65_536;
 ///
 /// A line is what stands before a line feed; a last line without one counts if it is not empty.
 /// `unix S`, where S is a Unix second of 64 bits, is answered with the text of that second in UTC, or
-/// with `refused timestamp` if the years -9999 to 9999 do not have it; each other line, and each of
-/// more than 1,024 bytes, with `bad line`.
+/// with `refused timestamp` if the years -9999 to 9999 do not have it. `stamp S N` replaces the
+/// nanosecond of that second by N, a number of 32 bits, and is answered with the text, the day of the
+/// year, the day of the week and the Julian day, or with `refused` and the name of the first part that
+/// is out of its range. Each other line, and each of more than 1,024 bytes, is answered with
+/// `bad line`.
 ///
 /// A fault ends the work: `Read` and `Write` after a failed call of the reader or the writer.
 /// `Read` also comes after 2^64 - 1 reads that reached no end. Nothing takes memory.

@@ -7,6 +7,7 @@ ghost use Rattle.times_bench.specs.UnixLines.{IsUnixLine, answer_to, answers, nu
 use super::devices::{DeviceFault, Sink};
 use super::line::Line;
 use super::pending::Pending;
+use super::stamp::{answer_to_stamp, stamp_of_line};
 use super::unix::{answer_to_second, second_of_line};
 
 /// Takes in a block, and sends the answer to each line that ends in it.
@@ -46,8 +47,27 @@ pub fn answer<W: Sink>(
 {
     match second_of(line) {
         Some(second) => pending.send(writer, answer_to_second(second).as_bytes()),
+        None => answer_without_second(writer, pending, line),
+    }
+}
+
+// Sends the answer to a line that is none of the lines `unix S`.
+fn answer_without_second<W: Sink>(
+    writer: &mut W,
+    pending: &mut Pending,
+    line: &Line,
+) -> Result<(), DeviceFault>
+    ensures { MatchResult result (λ _. W.is_marked writer.new ≡ W.is_marked writer.old) (λ _. W.is_marked writer.new ≡ true) }
+{
+    match stamp_of(line) {
+        Some((second, nanosecond)) => answer_to_stamp(writer, pending, second, nanosecond),
         None => pending.send(writer, b"bad line\n"),
     }
+}
+
+// The second and the nanosecond of a line `stamp S N`, if the line is not too long.
+fn stamp_of(line: &Line) -> Option<(i64, u32)> {
+    stamp_of_line(line.whole()?)
 }
 
 /// The second of a line `unix S`, if the line is not too long.

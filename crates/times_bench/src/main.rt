@@ -6,10 +6,10 @@ mod devices;
 mod feed;
 mod line;
 mod pending;
+mod stamp;
 #[cfg(test)]
 mod tests;
 mod unix;
-mod utc_date_time;
 
 use bench::bench;
 use devices::Device;

@@ -1,10 +1,9 @@
 //! Lines `unix S`: a Unix second, counted from 1970-01-01 0:00 UTC.
 ghost use Rattle.std.specs.Prelude.{◌≡◌, [], ◌∷◌, ◌++◌, SomeIff};
-ghost use Rattle.times_bench.specs.UnixLines.{IsNumber, HasUnixWord, number_of, number_value};
-ghost use Rattle.times_bench.specs.UtcText.{second_text};
+ghost use Rattle.times_bench.specs.UnixLines.{IsNumber, HasUnixWord, number_of, number_value, second_text};
 
-use super::utc_date_time::UtcDateTime;
 use calendar_values::Text;
+use utc_times::UtcDateTime;
 
 /// The second of a line `unix S`.
 pub fn second_of_line(line: &[u8]) -> Option<i64>
@@ -14,7 +13,7 @@ pub fn second_of_line(line: &[u8]) -> Option<i64>
 }
 
 /// The value of a number, if it fits: an optional `-`, then at least one digit.
-fn parse_number(text: &[u8]) -> Option<i64>
+pub fn parse_number(text: &[u8]) -> Option<i64>
     ensures { SomeIff result (IsNumber text.now) (number_value text.now) }
 {
     if text.first() == Some(&b'+') {

@@ -3,8 +3,7 @@ use Rattle.std.proofs.lemmas.Int.{to_z-of_z}
 use Rattle.std.specs.Int.{w64}
 use Rattle.std.specs.Prelude.{MatchResult}
 use Rattle.times_bench.specs.Writing.{AppendsBeginning, Sends}
-use Rattle.times_bench.specs.UnixLines.{answer_to}
-use Rattle.times_bench.specs.UtcText.{second_text}
+use Rattle.times_bench.specs.UnixLines.{answer_to, second_text}
 use Rattle.times_bench.proofs.feed.answer.Goals as goal
 
 pub returns-in-Some-clause-bytes : goal.returns-in-Some-clause-bytes

@@ -1,8 +1,9 @@
 use Rattle.std.specs.Int.{w64}
 use Rattle.std.proofs.Common.{◌≡◌, ◌∙◌, ℕ, List, [], ◌∷◌, ◌++◌, ap, sym}
 use Rattle.std.proofs.lemmas.Int.{to_z-of_z}
-use Rattle.times_bench.specs.UtcText.{unix_instant, second_text}
-use Rattle.times_bench.proofs.UtcLemmas.{second_text-ok, second_text-err}
+use Rattle.utc_times.specs.UnixTime.{unix_instant}
+use Rattle.times_bench.specs.UnixLines.{second_text}
+use Rattle.times_bench.proofs.SecondLemmas.{second_text-ok, second_text-err}
 use Rattle.times_bench.proofs.unix.answer_to_second.Goals as goal
 use Rattle.times_bench.proofs.unix.answer_to_second.Goals.{in-Ok, in-Err}
 

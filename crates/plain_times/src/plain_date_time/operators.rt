@@ -1,0 +1,107 @@
+//! Sums and differences by operators.
+ghost use Rattle.std.specs.Prelude.{◌≡◌, pos, ◌+ℤ◌, ◌-ℤ◌};
+ghost use Rattle.std.specs.Duration.{as_nanos};
+ghost use Rattle.calendar_values.specs.WallClock.{IsWallClock};
+
+use crate::PlainDateTime;
+use calendar_values::SignedDuration;
+use std::ops::{Add, AddAssign, Sub, SubAssign};
+use std::time::Duration;
+
+impl Add<SignedDuration> for PlainDateTime {
+    type Output = PlainDateTime;
+
+    ghost can_add = { λ at duration. IsWallClock (at +ℤ duration) };
+
+    ghost add_gives = { λ at duration sum. sum ≡ at +ℤ duration };
+
+    fn add(self, duration: SignedDuration) -> PlainDateTime {
+        self.saturating_add(duration)
+    }
+}
+
+impl AddAssign<SignedDuration> for PlainDateTime {
+    ghost can_add_assign = { λ at duration. IsWallClock (at +ℤ duration) };
+
+    ghost add_assign_gives = { λ at duration sum. sum ≡ at +ℤ duration };
+
+    fn add_assign(&mut self, duration: SignedDuration) {
+        *self = *self + duration;
+    }
+}
+
+impl Add<Duration> for PlainDateTime {
+    type Output = PlainDateTime;
+
+    ghost can_add = { λ at duration. IsWallClock (at +ℤ pos (as_nanos duration)) };
+
+    ghost add_gives = { λ at duration sum. sum ≡ at +ℤ pos (as_nanos duration) };
+
+    fn add(self, duration: Duration) -> PlainDateTime {
+        self.checked_add_std(duration).unwrap()
+    }
+}
+
+impl AddAssign<Duration> for PlainDateTime {
+    ghost can_add_assign = { λ at duration. IsWallClock (at +ℤ pos (as_nanos duration)) };
+
+    ghost add_assign_gives = { λ at duration sum. sum ≡ at +ℤ pos (as_nanos duration) };
+
+    fn add_assign(&mut self, duration: Duration) {
+        *self = *self + duration;
+    }
+}
+
+impl Sub<SignedDuration> for PlainDateTime {
+    type Output = PlainDateTime;
+
+    ghost can_sub = { λ at duration. IsWallClock (at -ℤ duration) };
+
+    ghost sub_gives = { λ at duration difference. difference ≡ at -ℤ duration };
+
+    fn sub(self, duration: SignedDuration) -> PlainDateTime {
+        self.saturating_sub(duration)
+    }
+}
+
+impl SubAssign<SignedDuration> for PlainDateTime {
+    ghost can_sub_assign = { λ at duration. IsWallClock (at -ℤ duration) };
+
+    ghost sub_assign_gives = { λ at duration difference. difference ≡ at -ℤ duration };
+
+    fn sub_assign(&mut self, duration: SignedDuration) {
+        *self = *self - duration;
+    }
+}
+
+impl Sub<Duration> for PlainDateTime {
+    type Output = PlainDateTime;
+
+    ghost can_sub = { λ at duration. IsWallClock (at -ℤ pos (as_nanos duration)) };
+
+    ghost sub_gives = { λ at duration difference. difference ≡ at -ℤ pos (as_nanos duration) };
+
+    fn sub(self, duration: Duration) -> PlainDateTime {
+        self.checked_sub_std(duration).unwrap()
+    }
+}
+
+impl SubAssign<Duration> for PlainDateTime {
+    ghost can_sub_assign = { λ at duration. IsWallClock (at -ℤ pos (as_nanos duration)) };
+
+    ghost sub_assign_gives = { λ at duration difference. difference ≡ at -ℤ pos (as_nanos duration) };
+
+    fn sub_assign(&mut self, duration: Duration) {
+        *self = *self - duration;
+    }
+}
+
+impl Sub for PlainDateTime {
+    type Output = SignedDuration;
+
+    ghost sub_gives = { λ at other difference. difference ≡ at -ℤ other };
+
+    fn sub(self, other: PlainDateTime) -> SignedDuration {
+        (self.date - other.date) + (self.time - other.time)
+    }
+}
