@@ -1,5 +1,5 @@
 -- The order of wall clocks is that of their days and clocks.
-use Rattle.std.proofs.Common.{◌≡◌, ℕ, ◌<◌, ◌==◌, Bool, true, false, inl, inr, refl, sym, ap, ◌∙◌, arith, ℤ, ◌<ℤ◌, nat_cmp}
+use Rattle.std.proofs.Common.{◌≡◌, ℕ, ◌==◌, inl, inr, refl, sym, ap, ◌∙◌, arith, ℤ, ◌<ℤ◌, nat_cmp}
 use Rattle.std.proofs.lemmas.Bool.{cases_order}
 use Rattle.std.proofs.lemmas.Int.{by_lt_z, ints}
 use Rattle.std.specs.Cmp.{int_cmp_is, nat_cmp_is, signed_Decides, unsigned_Decides}

@@ -1,5 +1,5 @@
 -- A truncation is what its name says, and keeps the date.
-use Rattle.std.proofs.Common.{◌≡◌, ℕ, zero, suc, ◌*◌, ◌/◌, ◌<◌, ◌≤◌, refl, arith, ℤ, pos, negsuc, ◌*ℤ◌, ◌≤ℤ◌}
+use Rattle.std.proofs.Common.{◌≡◌, ℕ, suc, ◌*◌, ◌/◌, ◌<◌, ◌≤◌, refl, arith, ℤ, pos, negsuc, ◌*ℤ◌, ◌≤ℤ◌}
 use Rattle.std.proofs.lemmas.Int.{ints}
 use Rattle.std.proofs.lemmas.Nat.{le-div}
 use Rattle.std.proofs.Math.IntN.{pos-*ℤ-pos, negsuc-*ℤ-pos}
@@ -7,7 +7,7 @@ use Rattle.std.proofs.Math.Nat.{div-mul-le_self, div-lt_iff_lt-mul, lt-div-mul-a
 use Rattle.std.specs.Int.{int_div_euclid}
 use Rattle.calendar_values.specs.Clock.{nanos_per_day, nanos_per_hour, nanos_per_minute, nanos_per_second, nanos_per_millisecond, nanos_per_microsecond}
 use Rattle.calendar_values.specs.Truncations.{truncated}
-use Rattle.calendar_values.specs.WallClock.{wall_clock, wall_day, wall_time}
+use Rattle.calendar_values.specs.WallClock.{wall_day, wall_time}
 use Rattle.plain_times.specs.Replacements.{with_time}
 use Rattle.plain_times.specs.Truncations.{rounded_down}
 

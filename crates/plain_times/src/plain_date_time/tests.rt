@@ -88,28 +88,57 @@ fn replacements(rt: HostRuntime) -> Result<(), Fail> {
     }
     let end_of_january = at((2022, Month::January, 30), 12, 0, 0, 0)?;
     let leap_day = at((2000, Month::February, 29), 0, 0, 0, 0)?;
-    for (refused, name, conditional) in [
-        (end_of_january.replace_month(Month::February), "day", true),
-        (shown.replace_day(0), "day", false),
-        (shown.replace_day(29), "day", true),
-        (shown.replace_day(32), "day", false),
-        (leap_day.replace_year(1900), "day", true),
-        (leap_day.replace_year(10_000), "year", false),
-        (shown.replace_ordinal(0), "ordinal", false),
-        (shown.replace_ordinal(366), "ordinal", true),
-        (shown.replace_ordinal(367), "ordinal", false),
-        (shown.replace_hour(24), "hour", false),
-        (shown.replace_minute(60), "minute", false),
-        (shown.replace_second(60), "second", false),
-        (shown.replace_millisecond(1_000), "millisecond", false),
-        (shown.replace_microsecond(1_000_000), "microsecond", false),
-        (shown.replace_nanosecond(1_000_000_000), "nanosecond", false),
+    for (result, refusal) in [
+        (
+            end_of_january.replace_month(Month::February),
+            ComponentRange::new("day", true),
+        ),
+        (shown.replace_day(0), ComponentRange::new("day", false)),
+        (shown.replace_day(29), ComponentRange::new("day", true)),
+        (shown.replace_day(32), ComponentRange::new("day", false)),
+        (
+            leap_day.replace_year(1900),
+            ComponentRange::new("day", true),
+        ),
+        (
+            leap_day.replace_year(10_000),
+            ComponentRange::new("year", false),
+        ),
+        (
+            shown.replace_ordinal(0),
+            ComponentRange::new("ordinal", false),
+        ),
+        (
+            shown.replace_ordinal(366),
+            ComponentRange::new("ordinal", true),
+        ),
+        (
+            shown.replace_ordinal(367),
+            ComponentRange::new("ordinal", false),
+        ),
+        (shown.replace_hour(24), ComponentRange::new("hour", false)),
+        (
+            shown.replace_minute(60),
+            ComponentRange::new("minute", false),
+        ),
+        (
+            shown.replace_second(60),
+            ComponentRange::new("second", false),
+        ),
+        (
+            shown.replace_millisecond(1_000),
+            ComponentRange::new("millisecond", false),
+        ),
+        (
+            shown.replace_microsecond(1_000_000),
+            ComponentRange::new("microsecond", false),
+        ),
+        (
+            shown.replace_nanosecond(1_000_000_000),
+            ComponentRange::new("nanosecond", false),
+        ),
     ] {
-        assert_eq!(rt;
-            refused,
-            Err(ComponentRange::new(name, conditional)),
-            "{name}"
-        );
+        assert_eq!(rt; result, Err(refusal));
     }
     Ok(())
 }

@@ -1,4 +1,4 @@
-use Rattle.std.proofs.Common.{◌≡◌, ℕ, ℤ, refl, sym, ◌∙◌}
+use Rattle.std.proofs.Common.{ℕ, ℤ, sym, ◌∙◌}
 use Rattle.calendar_values.specs.Clock.{IsClock}
 use Rattle.calendar_values.specs.WallClock.{wall_clock, wall_day, wall_time}
 use Rattle.calendar_values.specs.WallClockLaws.{wall_clock-parts, IsClock-wall_time, wall_day-wall_clock, wall_time-wall_clock}

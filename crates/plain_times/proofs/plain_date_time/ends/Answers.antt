@@ -1,9 +1,9 @@
-use Rattle.std.proofs.Common.{◌≡◌, ap, arith}
+use Rattle.std.proofs.Common.{ap, arith}
 use Rattle.std.proofs.lemmas.Int.{ints}
 use Rattle.calendar_values.specs.Calendar.{day_of_ordinal_date}
 use Rattle.calendar_values.specs.DayLaws.{day_of_ordinal_date-first, day_of_ordinal_date-last}
 use Rattle.calendar_values.specs.Range.{first_year, last_year, IsDay}
-use Rattle.calendar_values.specs.WallClock.{wall_clock, first_wall_clock, last_wall_clock}
+use Rattle.calendar_values.specs.WallClock.{wall_clock}
 use Rattle.plain_times.proofs.plain_date_time.ends.Goals as goal
 
 first : IsDay (day_of_ordinal_date first_year 1)
