@@ -1,3 +1,8 @@
 pub mod Laws
-pub mod Sums
+pub mod PartLaws
+pub mod Replacements
 pub mod SumLaws
+pub mod Sums
+pub mod Texts
+pub mod TruncationLaws
+pub mod Truncations

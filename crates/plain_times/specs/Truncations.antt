@@ -1,0 +1,7 @@
+-- Truncation of a wall clock or an instant to a unit of time.
+use Rattle.std.specs.Prelude.{ℕ, ℤ, pos, ◌*ℤ◌}
+use Rattle.std.specs.Int.{int_div_euclid}
+
+-- the greatest multiple of the unit that is not above w, before 1970 too
+unfoldable pub rounded_down : ℕ → ℤ → ℤ
+rounded_down unit w = int_div_euclid w (pos unit) *ℤ pos unit
