@@ -117,3 +117,6 @@ fn earlier(date: Date, is_previous_day: bool) -> Option<Date>
         Some(date)
     }
 }
+
+#[cfg(test)]
+mod tests;
