@@ -12,19 +12,8 @@ pub fn stamp_of_line(line: &[u8]) -> Option<(i64, u32)> {
     let words = line.strip_prefix(b"stamp ".as_slice())?;
     let space = words.iter().position(|byte| *byte == b' ')?;
     let second = parse_number(&words[..space])?;
-    let nanosecond = parse_nanosecond(&words[space + 1..])?;
-    Some((second, nanosecond))
-}
-
-// The value of at least one digit, if it fits.
-fn parse_nanosecond(text: &[u8]) -> Option<u32> {
-    if text.first() == Some(&b'+') {
-        return None;
-    }
-    match str::from_utf8(text) {
-        Ok(text) => text.parse::<u32>().ok(),
-        Err(_) => None,
-    }
+    let nanosecond = parse_number(&words[space + 1..])?;
+    Some((second, u32::try_from(nanosecond).ok()?))
 }
 
 /// Sends the answer to a second and a nanosecond: the text in UTC, the day of the year, the day of
@@ -40,7 +29,7 @@ pub fn answer_to_stamp<W: Sink>(
     match moment_of(second, nanosecond) {
         Ok(moment) => {
             pending.send(writer, moment.text().as_bytes())?;
-            pending.send(writer, day_text(moment).as_bytes())?;
+            pending.send(writer, days_text(moment).as_bytes())?;
             pending.send(writer, julian_day_text(moment).as_bytes())
         }
         Err(refusal) => {
@@ -57,7 +46,7 @@ fn moment_of(second: i64, nanosecond: u32) -> Result<UtcDateTime, ComponentRange
 }
 
 // The day of the year and the day of the week, each after a space.
-fn day_text(moment: UtcDateTime) -> Text {
+fn days_text(moment: UtcDateTime) -> Text {
     let mut text = Text::new();
     text.push(b' ');
     text.push_decimal(u64::from(moment.ordinal()));
