@@ -4,7 +4,7 @@ use Rattle.std.proofs.lemmas.Int.{ints}
 use Rattle.calendar_values.specs.WallClock.{IsWallClock}
 use Rattle.plain_times.specs.Sums.{checked}
 use Rattle.plain_times.specs.SumLaws.{checked-in}
-use Rattle.plain_times.proofs.SumLemmas.{clamped-Some, checked-is_sum}
+use Rattle.plain_times.proofs.SumLemmas.{checked-is_sum}
 
 pub checked-undone : (w d sum : ℤ) → IsWallClock w → checked (w +ℤ d) ≡ Some sum → checked (sum -ℤ d) ≡ Some w
 checked-undone w d sum h e =

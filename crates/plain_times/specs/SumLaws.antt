@@ -1,10 +1,9 @@
 -- Where sums are accepted.
-use Rattle.std.proofs.Common.{◌≡◌, ℕ, ◌<◌, arith, refl, ap, ◌∙◌, cond, Bool, true, false, ℤ, pos, ◌+ℤ◌, ◌<ℤ◌, ◌≤ℤ◌, Option, Some, None}
-use Rattle.std.specs.Prelude.{IfSome}
+use Rattle.std.proofs.Common.{◌≡◌, ℕ, arith, ℤ, ◌<ℤ◌, Some, None}
 use Rattle.std.specs.Option.{option_map}
 use Rattle.std.proofs.lemmas.Int.{ints}
 use Rattle.calendar_values.specs.Clock.{IsClock}
-use Rattle.calendar_values.specs.Range.{IsDay, first_day, last_day, checked_day, is_outside}
+use Rattle.calendar_values.specs.Range.{checked_day}
 use Rattle.calendar_values.specs.WallClock.{wall_clock, first_wall_clock, last_wall_clock, IsWallClock}
 use Rattle.plain_times.specs.Sums.{checked, clamped}
 

@@ -6,7 +6,7 @@ use std::io;
 use std::io::{Read, Write};
 use std::test::Fail;
 
-const INPUTS: [(&str, &str); 34] = [
+const INPUTS: [(&str, &str); 35] = [
     ("unix 0\n", "1970-01-01 0:00:00.0 +00\n"),
     ("unix -1\n", "1969-12-31 23:59:59.0 +00\n"),
     ("unix 253402300799\n", "9999-12-31 23:59:59.0 +00\n"),
@@ -33,6 +33,10 @@ const INPUTS: [(&str, &str); 34] = [
         "-9999-01-01 0:00:00.000000001 +00 1 Monday -1930999\n",
     ),
     ("stamp 253402300800 1000000000\n", "refused timestamp\n"),
+    (
+        "stamp 0 -0\n",
+        "1970-01-01 0:00:00.0 +00 1 Thursday 2440588\n",
+    ),
     ("stamp 0 1000000000\n", "refused nanosecond\n"),
     ("stamp 0 4294967296\n", "bad line\n"),
     ("stamp 9223372036854775808 0\n", "bad line\n"),

@@ -1,4 +1,4 @@
-use Rattle.std.proofs.Common.{◌≡◌, sym, ◌∙◌, pos, neg_ℤ}
+use Rattle.std.proofs.Common.{sym, ◌∙◌, pos}
 use Rattle.std.specs.Duration.{as_nanos}
 use Rattle.calendar_values.specs.Adjustments.{days_later}
 use Rattle.plain_times.proofs.SumLemmas.{Splits-std, checked_day-is, checked-outside, checked-adjusted}

@@ -1,5 +1,4 @@
-use Rattle.std.proofs.Common.{◌≡◌, sym, ◌∙◌, pos, neg_ℤ}
-use Rattle.std.specs.Duration.{as_nanos}
+use Rattle.std.proofs.Common.{sym, ◌∙◌, neg_ℤ}
 use Rattle.calendar_values.specs.Adjustments.{adjustment_days}
 use Rattle.plain_times.proofs.SumLemmas.{Splits-of, Splits-neg, checked_day-is, checked-outside, checked-adjusted}
 use Rattle.plain_times.proofs.plain_date_time.PlainDateTime.checked_sub.Goals as goal
