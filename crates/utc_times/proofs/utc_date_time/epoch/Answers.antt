@@ -1,4 +1,4 @@
-use Rattle.std.proofs.Common.{◌≡◌, ap, arith, ℤ, pos}
+use Rattle.std.proofs.Common.{◌≡◌, ap, arith, pos}
 use Rattle.std.proofs.lemmas.Int.{ints}
 use Rattle.calendar_values.specs.Calendar.{day_of_ordinal_date}
 use Rattle.calendar_values.specs.Range.{IsDay}
