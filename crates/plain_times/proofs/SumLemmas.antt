@@ -134,8 +134,3 @@ wall_clock-difference v w m n days rest c t first second date time = omega (arit
 
 pub IsDuration-difference : (m n days rest : ℤ) (c t : ℕ) → IsDay m → IsDay n → IsClock c → IsClock t → days ≡ (m -ℤ n) *ℤ pos nanos_per_day → rest ≡ pos c -ℤ pos t → IsDuration (days +ℤ rest)
 IsDuration-difference m n days rest c t first second clock other date time = (omega (arith, ints), omega (arith, ints))
-
--- a sum that is accepted lies in the range
-pub IsWallClock-accepted : (w v : ℤ) → checked w ≡ Some v → IsWallClock w
-unfolding checked
-IsWallClock-accepted w v e = (grind (arith, ints), grind (arith, ints))

@@ -11,6 +11,11 @@ pub checked-in : (w : ℤ) → IsWallClock w → checked w ≡ Some w
 unfolding checked
 checked-in w h = grind (arith, ints)
 
+-- a sum that is accepted lies in the range
+pub IsWallClock-accepted : (w v : ℤ) → checked w ≡ Some v → IsWallClock w
+unfolding checked
+IsWallClock-accepted w v e = (grind (arith, ints), grind (arith, ints))
+
 pub checked-before : (w : ℤ) → w <ℤ first_wall_clock → checked w ≡ None
 unfolding checked
 checked-before w h = grind (arith, ints)

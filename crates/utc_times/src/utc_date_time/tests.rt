@@ -287,3 +287,35 @@ fn differences(rt: HostRuntime) -> Result<(), Fail> {
     );
     Ok(())
 }
+
+#[test]
+fn operators(rt: HostRuntime) -> Result<(), Fail> {
+    let at = utc((2019, Month::November, 25), 15, 30, 0, 0)?;
+    let later = utc((2019, Month::November, 26), 18, 30, 0, 0)?;
+    let hours_27 = SignedDuration::hours(27);
+    let hours_27_std = Duration::from_secs(97_200);
+    assert_eq!(rt; by_operators(later, hours_27, hours_27_std), Some(at));
+    Ok(())
+}
+
+// Takes the duration away once more than it adds it, by each operator.
+fn by_operators(at: UtcDateTime, duration: SignedDuration, same: Duration) -> Option<UtcDateTime> {
+    at.checked_sub(duration)?;
+    let mut difference = at;
+    difference -= duration;
+    difference.checked_add_std(same)?;
+    difference += same;
+    difference.checked_sub_std(same)?;
+    difference -= same;
+    difference.checked_add(duration)?;
+    difference += duration;
+    difference.checked_sub(duration)?;
+    let difference = difference - duration;
+    difference.checked_add(duration)?;
+    let sum = difference + duration;
+    sum.checked_sub_std(same)?;
+    let difference = sum - same;
+    difference.checked_add_std(same)?;
+    let sum = difference + same;
+    sum.checked_sub(duration)
+}

@@ -1,5 +1,5 @@
 use Rattle.std.proofs.Common.{sym, ◌∙◌}
-use Rattle.plain_times.proofs.SumLemmas.{IsWallClock-accepted}
+use Rattle.plain_times.specs.SumLaws.{IsWallClock-accepted}
 use Rattle.plain_times.proofs.plain_date_time.sums.tests.by_operators.Goals as goal
 
 pub sub_assign-requires : goal.sub_assign-requires
