@@ -1,20 +1,20 @@
--- The range of the library: the years -9999 to 9999.
+-- The range of the library: the years -999999 to 999999.
 use Rattle.std.specs.Prelude.{◌||◌, if◌then◌else◌, ℤ, pos, neg_ℤ, ◌≤ℤ◌, int_lt, Bool, Option, Some, None}
 
 -- the first year and the last
 abbrev pub first_year : ℤ
-first_year = neg_ℤ (pos 9999)
+first_year = neg_ℤ (pos 999_999)
 
 abbrev pub last_year : ℤ
-last_year = pos 9999
+last_year = pos 999_999
 
 -- the day number of the first day, 1 January of the first year
 abbrev pub first_day : ℤ
-first_day = neg_ℤ (pos 4_371_587)
+first_day = neg_ℤ (pos 365_961_662)
 
 -- the day number of the last day, 31 December of the last year
 abbrev pub last_day : ℤ
-last_day = pos 2_932_896
+last_day = pos 364_522_971
 
 -- a year of the range
 abbrev pub IsYear : ℤ → Type 0

@@ -72,7 +72,7 @@ closed_backward (suc j) k n e =
     let here : y +ℤ pos (400 * k) ≡ pos n = omega (arith, signed_arith) in
     omega (arith, closed_backward j k (suc n) (omega arith), days_from_0-suc n, leap_day-shift k n y here, days_in_year-leap_day y)
 
--- counted from a multiple of 400 years days_before_month the year 0, so that no number is negative
+-- counted from a multiple of 400 years before the year 0, so that no number is negative
 pub year_start-closed : (k n : ℕ) (y : ℤ) → y +ℤ pos (400 * k) ≡ pos n → year_start y +ℤ pos (719528 + 146097 * k) ≡ pos (days_from_0 n)
 year_start-closed k n y e = by_sign (y -ℤ pos 1970) refl where
   by_sign : (j : ℤ) → y -ℤ pos 1970 ≡ j → year_start y +ℤ pos (719528 + 146097 * k) ≡ pos (days_from_0 n)
@@ -109,7 +109,7 @@ IsInYear-unique n y z h k =
 
 -- the ends of the range
 pub year_start-first : year_start first_year ≡ first_day
-year_start-first = omega (arith, signed_arith, year_start-closed 25 1 first_year refl)
+year_start-first = omega (arith, signed_arith, year_start-closed 2500 1 first_year refl)
 
 pub year_start-after_last : year_start (last_year +ℤ pos 1) ≡ last_day +ℤ pos 1
-year_start-after_last = omega (arith, signed_arith, year_start-closed 0 10000 (last_year +ℤ pos 1) refl)
+year_start-after_last = omega (arith, signed_arith, year_start-closed 0 1_000_000 (last_year +ℤ pos 1) refl)

@@ -1,12 +1,12 @@
 //! The range of the library. Every other limit is computed from the numbers here.
 
 // The first year and the last.
-pub(crate) const FIRST_YEAR: i32 = -9999;
+pub(crate) const FIRST_YEAR: i32 = -999_999;
 
-pub(crate) const LAST_YEAR: i32 = 9999;
+pub(crate) const LAST_YEAR: i32 = 999_999;
 
 // The day numbers of 1 January of the first year and of 31 December of the last, counted from
 // 1 January 1970.
-pub(crate) const FIRST_DAY: i32 = -4_371_587;
+pub(crate) const FIRST_DAY: i32 = -365_961_662;
 
-pub(crate) const LAST_DAY: i32 = 2_932_896;
+pub(crate) const LAST_DAY: i32 = 364_522_971;
