@@ -1,6 +1,10 @@
 -- Decimal digits, as the bytes of a text.
 use Rattle.std.specs.Prelude.{ℕ, zero, suc, ◌+◌, ◌/◌, ◌%◌, ◌==◌, List, [], ◌∷◌, ◌++◌, if◌then◌else◌}
 
+-- the most bytes that a text of the library has
+abbrev pub text_capacity : ℕ
+text_capacity = 64
+
 -- the last k decimal digits of n, with zeros in front where it has fewer
 unfoldable pub last_digits : ℕ → ℕ → List ℕ
 last_digits zero n = []

@@ -8,10 +8,13 @@ use Rattle.calendar_values.specs.Digits.{last_digits, fraction_digits}
 abbrev pub year_sign : ℤ → List ℕ
 year_sign y = if int_lt y (pos 0) then codes "-" else (if int_lt (pos 9999) y then codes "+" else [])
 
--- the year with at least four digits
+-- a year that is not negative, with at least four digits
+unfoldable pub year_digits : ℕ → List ℕ
+year_digits n = if nat_lt n 10_000 then last_digits 4 n else decimal n
+
+-- the year with its sign
 abbrev pub year_text : ℤ → List ℕ
-year_text y =
-    let n = unsigned_abs y in year_sign y ++ (if nat_lt n 10_000 then last_digits 4 n else decimal n)
+year_text y = year_sign y ++ year_digits (unsigned_abs y)
 
 -- the year, `-`, two digits of the month, `-`, two digits of the day
 unfoldable pub date_text : ℤ → List ℕ
