@@ -35,11 +35,11 @@ not_IsDay-days w d n days rest c r day range splits not e =
     let clock = IsClock-wall_time w in
     let sum = splits.sum in
     rw e (λ h. not (
-      by_lt_z days (pos 0)
-      (λ negative. let rest_is = splits.earlier negative in (omega (arith, ints), omega (arith, ints)))
-      (λ from_zero. by_lt_z (pos 0) days
-      (λ positive. let rest_is = splits.later positive in (omega (arith, ints), omega (arith, ints)))
-      (λ to_zero. (omega (arith, ints), omega (arith, ints))))))
+    by_lt_z days (pos 0)
+    (λ negative. let rest_is = splits.earlier negative in (omega (arith, ints), omega (arith, ints)))
+    (λ from_zero. by_lt_z (pos 0) days
+    (λ positive. let rest_is = splits.later positive in (omega (arith, ints), omega (arith, ints)))
+    (λ to_zero. (omega (arith, ints), omega (arith, ints))))))
 
 -- a duration that is added to a wall clock w of the day n: its whole days lead to the day `moved` of the range, and what they leave leads to the clock t, k days further
 pub record Leads (w d n days moved k : ℤ) (t : ℕ) : Type 0 where

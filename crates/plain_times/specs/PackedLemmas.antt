@@ -89,9 +89,12 @@ packed_wall_clock-lt w v lt =
     rw (wall_clock_of_parts-of w, wall_clock_of_parts-of v) at (packed_parts-lt _ _ _ _ _ _ (IsParts-of w) (IsParts-of v) lt)
 
 pub packed_wall_clock-earlier : (w v : ℤ) → (packed_wall_clock w <ℤ packed_wall_clock v) ↔ (w <ℤ v)
-packed_wall_clock-earlier w v = (packed_wall_clock-lt w v, λ lt.
-    by_lt_z (packed_wall_clock w) (packed_wall_clock v) (λ below. below)
-    (λ ge. by_lt_z (packed_wall_clock v) (packed_wall_clock w) (λ gt. let back = packed_wall_clock-lt v w gt in absurd (omega (arith, ints)))
-    (λ le. let same = packed_wall_clock-same w v (omega (arith, ints)) in absurd (omega (arith, ints)))))
+packed_wall_clock-earlier w v = (
+  packed_wall_clock-lt w v,
+  λ lt.
+      by_lt_z (packed_wall_clock w) (packed_wall_clock v) (λ below. below)
+      (λ ge. by_lt_z (packed_wall_clock v) (packed_wall_clock w) (λ gt. let back = packed_wall_clock-lt v w gt in absurd (omega (arith, ints)))
+      (λ le. let same = packed_wall_clock-same w v (omega (arith, ints)) in absurd (omega (arith, ints)))),
+)
 
 pub ruleset packed_order = (int_cmp-packed_wall_clock, int_eq-packed_wall_clock)
