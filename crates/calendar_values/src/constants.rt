@@ -7,7 +7,7 @@ ghost use Rattle.calendar_values.specs.Range.{first_day, last_day};
 use crate::{Date, SignedDuration, Time, UtcOffset};
 
 /// [`Date::MIN`], [`Date::MAX`] and [`Date::UNIX_EPOCH`].
-#[tactic(auto, using(crate::specs::Callers::constants))]
+#[tactic(auto, using(crate::specs::Constants::constants))]
 pub fn dates() -> (Date, Date, Date)
     ensures first { result.0 ≡ first_day }
     ensures last { result.1 ≡ last_day }

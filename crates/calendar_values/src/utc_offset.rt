@@ -59,7 +59,7 @@ impl UtcOffset {
     #[tactic(auto, unfolding(crate::specs::Offsets::offset_of_parts))]
     pub fn from_hms(hours: i8, minutes: i8, seconds: i8) -> Result<UtcOffset, ComponentRange>
         ensures value { OkIff result (AreOffsetParts hours minutes seconds)
-          (seconds_of_signed_parts hours minutes seconds) }
+            (seconds_of_signed_parts hours minutes seconds) }
         ensures refused { IfErr result (λ refusal. refusal ≡ offset_refusal hours minutes) }
         ensures equation { result ≡ offset_of_parts hours minutes seconds }
     {
