@@ -20,8 +20,8 @@ checked_day-SomeIff n =
     by_lt_z n first_day
     (λ low. rw (checked_day-before n low) (λ day. omega (arith, ints)))
     (λ first. by_lt_z last_day n
-      (λ high. rw (checked_day-after n high) (λ day. omega (arith, ints)))
-      (λ last. rw (checked_day-in n (first, last)) ((first, last), refl)))
+    (λ high. rw (checked_day-after n high) (λ day. omega (arith, ints)))
+    (λ last. rw (checked_day-in n (first, last)) ((first, last), refl)))
 
 pub SomeIff-checked_day : (r : Option ℤ) (n : ℤ) → SomeIff r (IsDay n) n → r ≡ checked_day n
 SomeIff-checked_day (Some m) n h = ap Some h.1 ∙ sym (checked_day-in n h.0)
