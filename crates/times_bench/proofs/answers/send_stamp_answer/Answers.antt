@@ -42,7 +42,7 @@ pub returns-in_ok-send-in-Err-clause-sent : goal.returns-in_ok-send-in-Err-claus
 returns-in_ok-send-in-Err-clause-sent g c =
     let known = c.moment_of.ensures ∙ ap (λ (z : ℤ). with_instant_nanosecond (unix_instant z) c.args.nanosecond) (to_z-of_z w64 c.args.second c.ranges.second) in
     let refusal = c.in-Err.refusal in
-    let whole = ap (λ (z : List ℕ). codes "refused " ++ z) (c.as_bytes-in-Err.ensures.value ∙ c.name.ensures)
+    let whole = ap (λ (z : List ℕ). codes "refused " ++ z) (c.as_bytes-in-Err.ensures.value ∙ c.name.ensures.value)
     ∙ sym (stamp_answer-err c.args.second c.args.nanosecond refusal (sym known ∙ c.in-Err.is)) in
     SendsAll-parts _ _ _ c.args.pending.now c.send-in-Err.new.pending c.send_line-in-Err.new.pending (codes "refused ") c.as_bytes-in-Err.result.now (10 ∷ []) _ c.send_line-in-Err.result whole
     c.in_ok-send-in-Err.ensures.sent c.send_line-in-Err.ensures.sent
