@@ -23,11 +23,7 @@ pub fn flush<W: Sink>(writer: &mut W, pending: &mut Pending) -> Result<(), Devic
 }
 
 /// Adds a text to what is pending. Where it has no room there, all of that is written before.
-pub fn send<W: Sink>(
-    writer: &mut W,
-    pending: &mut Pending,
-    text: &[u8],
-) -> Result<(), DeviceFault>
+pub fn send<W: Sink>(writer: &mut W, pending: &mut Pending, text: &[u8]) -> Result<(), DeviceFault>
     ensures sent { SendsAll result (W.written writer.old) (W.written writer.new) pending.new (pending.old ++ text.now) }
     ensures mark { MarksFailure result (W.is_marked writer.old) (W.is_marked writer.new) }
 {

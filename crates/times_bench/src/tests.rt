@@ -296,8 +296,12 @@ fn each_write_fails(rt: HostRuntime) -> Result<(), Fail> {
 fn no_call_fails(rt: HostRuntime) -> Result<(), Fail> {
     // 51 bytes are written.
     for (step, calls) in [(10usize, 6usize), (1, 51)] {
-        let (written, result, read_failed, write_failed) =
-            run(rt.alloc(), step, Some(4), Some(calls));
+        let (written, result, read_failed, write_failed) = run(
+            rt.alloc(),
+            step,
+            Some(4),
+            Some(calls),
+        );
         assert_eq!(rt; result, Ok(()));
         assert_eq!(rt; written.as_slice(), ANSWERS.as_bytes());
         assert!(rt; !read_failed);
