@@ -33,6 +33,10 @@ request_of_words (kind ∷ words) =
     else (if bytes_eq kind (codes "stamp") then stamp_request words
     else None)
 
--- what a line asks for; one of more than 1,024 bytes asks for nothing
+-- the most bytes of a line that asks for something
+abbrev pub longest_line : ℕ
+longest_line = 1024
+
+-- what a line asks for; one that is too long asks for nothing
 unfoldable pub request_of : List ℕ → Option Request
-request_of line = if nat_lt 1024 (length line) then None else request_of_words (words_of line)
+request_of line = if nat_lt longest_line (length line) then None else request_of_words (words_of line)

@@ -124,9 +124,9 @@ pub fn write_whole<W: Sink>(writer: &mut W, text: &[u8]) -> Result<(), DeviceFau
     ensures written { WritesAll result (W.written writer.old) (W.written writer.new) text.now }
     ensures mark { MarksFailure result (W.is_marked writer.old) (W.is_marked writer.new) }
 {
-    let mut at = 0;
-    while at < text.len() {
-        at += writer.write_some(&text[at..])?;
+    let mut place = 0;
+    while place < text.len() {
+        place += writer.write_some(&text[place..])?;
     }
     Ok(())
 }

@@ -60,7 +60,7 @@ pub fn place_of(byte: u8, text: &[u8], from: usize) -> usize
     requires { from ≤ length text.now }
     ensures bounds { (from ≤ result) × (result ≤ length text.now) }
     ensures before { HasNone byte text.now from result }
-    ensures at { result < length text.now → get_or text.now result 0 ≡ byte }
+    ensures byte_there { result < length text.now → get_or text.now result 0 ≡ byte }
 {
     let mut place = from;
     while place < text.len() && text[place] != byte {

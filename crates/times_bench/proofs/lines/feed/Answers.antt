@@ -53,7 +53,7 @@ returns-in_err-end_line-clause-sent g c = λ piece h.
     let more = drop (end + 1) block in
     let low : end < length block = omega (arith, found.bounds) in
     let whole : block ≡ (read ++ 10 ∷ []) ++ more
-    = sym (take-append-drop (end + 1) block) ∙ ap (λ (z : List ℕ). z ++ more) (line_feed_at block end low (found.at low)) in
+    = sym (take-append-drop (end + 1) block) ∙ ap (λ (z : List ℕ). z ++ more) (line_feed_at block end low (found.byte_there low)) in
     let before = subst (λ (z : List (List ℕ)). Sends (written c.args.writer.now) (written c.lines.writer) c.lines.pending (c.args.pending.now ++ answers_of z))
     (sym (ended_from-until piece block from end found.bounds.0 found.bounds.1 found.before)) (so_far.sends piece h) in
     let cut = subst (λ (z : List ℕ). AppendsBeginning (written c.lines.writer) (written c.end_line.new.writer) (c.lines.pending ++ answer_of z))
@@ -71,7 +71,7 @@ lines-preserved g c =
     let so_far = c.lines.invariant in
     let read = take end block in
     let low : end < length block = omega (arith, found.bounds) in
-    let next = line_feed_at block end low (found.at low) in
+    let next = line_feed_at block end low (found.byte_there low) in
     record {
       within = omega arith;
       line = λ piece h. rw (next, rest_from-line_feed piece read) (Holds-nil _ c.in_ok-end_line.ensures.line);

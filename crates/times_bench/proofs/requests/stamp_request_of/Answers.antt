@@ -20,7 +20,7 @@ returns-in_err-second c =
     let low : end < length text = omega (arith, found.bounds, c.if-space-words.false) in
     let none : i64_of (take end text) ≡ None = search rules in
     let refused : c.from_residual.result ≡ None = search rules in
-    refused ∙ sym (stamp_request-numbers text end low found.before (found.at low) ∙ ap (λ (z : Option ℤ). stamp_of z (u32_of (drop (end + 1) text))) none)
+    refused ∙ sym (stamp_request-numbers text end low found.before (found.byte_there low) ∙ ap (λ (z : Option ℤ). stamp_of z (u32_of (drop (end + 1) text))) none)
 
 pub returns-in_err-nanosecond : goal.returns-in_err-nanosecond
 returns-in_err-nanosecond c =
@@ -32,7 +32,7 @@ returns-in_err-nanosecond c =
     let read : c.parse_u32.result ≡ None = search rules in
     let none : u32_of (drop (end + 1) text) ≡ None = ap u32_of (sym behind) ∙ sym c.parse_u32.ensures ∙ read in
     let refused : c.from_residual-in_err-nanosecond.result ≡ None = search rules in
-    refused ∙ sym (stamp_request-numbers text end low found.before (found.at low) ∙ ap (stamp_of (i64_of (take end text))) none ∙ stamp_of-none (i64_of (take end text)))
+    refused ∙ sym (stamp_request-numbers text end low found.before (found.byte_there low) ∙ ap (stamp_of (i64_of (take end text))) none ∙ stamp_of-none (i64_of (take end text)))
 
 pub returns : goal.returns
 returns c =
@@ -47,4 +47,4 @@ returns c =
     let read : c.parse_u32.result ≡ Some c.in_ok-nanosecond.nanosecond = search rules in
     let nanosecond : u32_of (drop (end + 1) text) ≡ Some c.in_ok-nanosecond.nanosecond = ap u32_of (sym behind) ∙ sym c.parse_u32.ensures ∙ read in
     ap (λ (z : ℤ). Some (Stamp z c.in_ok-nanosecond.nanosecond)) (to_z-of_z w64 s fits)
-    ∙ sym (stamp_request-numbers text end low found.before (found.at low) ∙ ap (λ (z : Option ℤ). stamp_of z (u32_of (drop (end + 1) text))) second ∙ ap (stamp_of (Some s)) nanosecond)
+    ∙ sym (stamp_request-numbers text end low found.before (found.byte_there low) ∙ ap (λ (z : Option ℤ). stamp_of z (u32_of (drop (end + 1) text))) second ∙ ap (stamp_of (Some s)) nanosecond)
