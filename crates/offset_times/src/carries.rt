@@ -3,21 +3,70 @@
 //! range too.
 ghost use Rattle.std.specs.Prelude.{◌≡◌, ◌<◌, ◌≤◌, ℤ, pos, neg_ℤ, ◌+ℤ◌, ◌-ℤ◌, ◌*ℤ◌, ◌≤ℤ◌, ◌<ℤ◌};
 ghost use Rattle.calendar_values.specs.Calendar.{days_in_year, IsOrdinalDate, day_of_ordinal_date};
-ghost use Rattle.calendar_values.specs.Clock.{IsTimeOfDay, clock_of_parts};
+ghost use Rattle.calendar_values.specs.Clock.{IsClock, IsTimeOfDay, clock_of_parts};
 ghost use Rattle.calendar_values.specs.Range.{IsYear};
+ghost use Rattle.calendar_values.specs.WallClock.{wall_clock, wall_day, wall_time};
 ghost use Rattle.offset_times.specs.Carries.{days_carried, carried_clock, IsWithin, CarriesWithin};
+ghost use Rattle.offset_times.specs.Local.{instant_of, offset_nanos, shown_at};
 
-use calendar_values::{Date, Time, UtcOffset, days_in_year};
+use crate::OffsetDateTime;
+use calendar_values::{Time, UtcOffset, days_in_year};
+use plain_times::PlainDateTime;
+use utc_times::UtcDateTime;
+
+/// The year, the day of the year and the time of day that clocks at the offset show at the instant of a
+/// date-time. The second, the minute and the hour carry at most 2, 2 and 3, either way, into the minute, the
+/// hour and the day.
+pub fn to_offset_raw(at: OffsetDateTime, offset: UtcOffset) -> (i32, u16, Time)
+    ensures date { IsOrdinalDate result.0 result.1 }
+    ensures clock { IsClock result.2 }
+    ensures shown { wall_clock (day_of_ordinal_date result.0 result.1) result.2 ≡ shown_at (instant_of at) offset }
+    ensures day_step { day_of_ordinal_date result.0 result.1 ≡ wall_day at.wall +ℤ days_carried (wall_time at.wall) at.offset offset }
+    ensures carried { result.2 ≡ carried_clock (wall_time at.wall) at.offset offset }
+    ensures within { CarriesWithin 2 2 3 (wall_time at.wall) at.offset offset }
+{
+    moved(at.date_time(), at.offset(), offset)
+}
+
+/// The year, the day of the year and the time of day that clocks in UTC show at the instant of a date-time.
+/// The second, the minute and the hour carry at most 1, 1 and 2, either way, into the minute, the hour and
+/// the day.
+pub fn to_utc_raw(at: OffsetDateTime) -> (i32, u16, Time)
+    ensures date { IsOrdinalDate result.0 result.1 }
+    ensures clock { IsClock result.2 }
+    ensures shown { wall_clock (day_of_ordinal_date result.0 result.1) result.2 ≡ instant_of at }
+    ensures day_step { day_of_ordinal_date result.0 result.1 ≡ wall_day at.wall +ℤ days_carried (wall_time at.wall) at.offset (pos 0) }
+    ensures carried { result.2 ≡ carried_clock (wall_time at.wall) at.offset (pos 0) }
+    ensures within { CarriesWithin 1 1 2 (wall_time at.wall) at.offset (pos 0) }
+{
+    moved(at.date_time(), at.offset(), UtcOffset::UTC)
+}
+
+/// The year, the day of the year and the time of day that clocks at the offset show at an instant. The
+/// second, the minute and the hour carry at most 1, 1 and 2, either way, into the minute, the hour and the
+/// day.
+pub fn utc_to_offset_raw(at: UtcDateTime, offset: UtcOffset) -> (i32, u16, Time)
+    ensures date { IsOrdinalDate result.0 result.1 }
+    ensures clock { IsClock result.2 }
+    ensures shown { wall_clock (day_of_ordinal_date result.0 result.1) result.2 ≡ shown_at at offset }
+    ensures day_step { day_of_ordinal_date result.0 result.1 ≡ wall_day at +ℤ days_carried (wall_time at) (pos 0) offset }
+    ensures carried { result.2 ≡ carried_clock (wall_time at) (pos 0) offset }
+    ensures within { CarriesWithin 1 1 2 (wall_time at) (pos 0) offset }
+{
+    moved(at.as_plain(), UtcOffset::UTC, offset)
+}
 
 // The day of the year and the time of day that clocks at `to` show when clocks at `from` show these.
-fn moved(date: Date, time: Time, from: UtcOffset, to: UtcOffset) -> (i32, u16, Time)
+fn moved(at: PlainDateTime, from: UtcOffset, to: UtcOffset) -> (i32, u16, Time)
     ensures date { IsOrdinalDate result.0 result.1 }
-    ensures day_step { day_of_ordinal_date result.0 result.1 ≡ date +ℤ days_carried time from to }
-    ensures clock { result.2 ≡ carried_clock time from to }
-    ensures within { CarriesWithin 2 2 3 time from to }
+    ensures clock { IsClock result.2 }
+    ensures shown { wall_clock (day_of_ordinal_date result.0 result.1) result.2 ≡ at +ℤ offset_nanos (to -ℤ from) }
+    ensures day_step { day_of_ordinal_date result.0 result.1 ≡ wall_day at +ℤ days_carried (wall_time at) from to }
+    ensures carried { result.2 ≡ carried_clock (wall_time at) from to }
+    ensures within { CarriesWithin 2 2 3 (wall_time at) from to }
 {
-    let (time, days) = moved_time(time, from, to);
-    let (year, ordinal) = date.to_ordinal_date();
+    let (time, days) = moved_time(at.time(), from, to);
+    let (year, ordinal) = at.date().to_ordinal_date();
     let (year, ordinal) = days_later(year, ordinal, days);
     (year, ordinal, time)
 }

@@ -1,0 +1,1 @@
+//! Date-times with an offset compare, and feed a hasher, by their instants.
