@@ -88,7 +88,7 @@ ok-cond false d r = refl
 
 -- the date of a Julian day
 pub result_ok-julian_date : (d : ℤ) → result_ok (julian_date (d +ℤ pos 2_440_588)) ≡ checked_day d
-unfolding checked_day
+unfolding checked_day julian_date
 result_ok-julian_date d =
     let e : (d +ℤ pos 2_440_588) -ℤ pos 2_440_588 ≡ d = omega (arith, ints) in
     rw e (ok-cond (is_outside first_day last_day d) d _)

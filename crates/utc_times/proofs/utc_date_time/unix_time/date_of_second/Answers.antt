@@ -24,5 +24,5 @@ pub returns-in-Ok : goal.returns-in-Ok
 returns-in-Ok c =
     let e = julian_day c.args.second c.div_euclid.result c.ranges.second c.div_euclid.ensures in
     let fits : FitsSigned w32 c.in-Ok.julian_day = subst (FitsSigned w32) (sym c.in-Ok.ensures.1) c.in-Ok.ensures.0 in
-    c.ok.ensures.value ∙ ap result_ok (c.from_julian_day.ensures ∙ ap julian_date (to_z-of_z w32 _ fits ∙ c.in-Ok.ensures.1 ∙ e))
+    c.ok.ensures.value ∙ ap result_ok (c.from_julian_day.ensures.equation ∙ ap julian_date (to_z-of_z w32 _ fits ∙ c.in-Ok.ensures.1 ∙ e))
     ∙ result_ok-julian_date (int_div_euclid c.args.second (pos 86_400))
