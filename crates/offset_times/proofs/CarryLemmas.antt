@@ -1,15 +1,14 @@
 -- A clock that is moved from one offset to another by carries is the clock that its nanoseconds give.
-use Rattle.std.proofs.Common.{◌≡◌, refl, ℕ, Ok, ◌<◌, ◌≤◌, arith, sym, ◌∙◌, ap, ℤ, pos, negsuc, ◌+ℤ◌, ◌-ℤ◌, ◌*ℤ◌, unsigned_abs}
+use Rattle.std.proofs.Common.{◌≡◌, refl, ℕ, ◌<◌, ◌≤◌, arith, sym, ◌∙◌, ap, ℤ, pos, negsuc, ◌+ℤ◌, ◌-ℤ◌, ◌*ℤ◌, unsigned_abs}
 use Rattle.std.specs.Int.{int_div_euclid, int_rem_euclid}
-use Rattle.std.proofs.lemmas.Bool.Decides.{nat_tests}
 use Rattle.std.proofs.lemmas.Int.{ints}
 use Rattle.calendar_values.specs.Clock.{IsClock, IsTimeOfDay, clock_of_parts, hour_of, minute_of, second_of, nanosecond_of}
 use Rattle.calendar_values.specs.ClockLaws.{clock_of_parts-of, IsTimeOfDay-of, IsClock-clock_of_parts}
 use Rattle.calendar_values.specs.Offsets.{IsOffset, IsOffsetParts, seconds_of_parts, offset_hours_of, offset_minutes_of, offset_seconds_of}
 use Rattle.calendar_values.specs.OffsetLaws.{seconds_of_parts-of, IsOffsetParts-of}
-use Rattle.calendar_values.specs.Refusals.{clock_time_nano}
 use Rattle.calendar_values.specs.SignedArith.{signed_arith}
-use Rattle.calendar_values.specs.WallClock.{wall_clock}
+use Rattle.calendar_values.specs.WallClock.{wall_clock, wall_day, wall_time}
+use Rattle.calendar_values.specs.WallClockLaws.{wall_clock-parts}
 use Rattle.offset_times.specs.Carries.{moved_second, moved_minute, moved_hour, minutes_carried, hours_carried, days_carried, carried_clock, IsWithin, CarriesWithin}
 use Rattle.offset_times.specs.Local.{offset_nanos}
 
@@ -97,6 +96,11 @@ wall_clock-carried n c from to =
     let k = Carried-of c from to in
     let moment = carried_moment n (days_carried c from to) (hours_carried c from to) (minutes_carried c from to) (offset_hours_of from) (offset_minutes_of from) (offset_seconds_of from) (offset_hours_of to) (offset_minutes_of to) (offset_seconds_of to) (hour_of c) (minute_of c) (second_of c) (nanosecond_of c) _ _ _ k.second_sum k.minute_sum k.hour_sum in
     moment ∙ ap (λ (d : ℕ). wall_clock n d +ℤ offset_nanos (seconds_of_parts (offset_hours_of to) (offset_minutes_of to) (offset_seconds_of to) -ℤ seconds_of_parts (offset_hours_of from) (offset_minutes_of from) (offset_seconds_of from))) (clock_of_parts-of c) ∙ ap (λ (o : ℤ). wall_clock n c +ℤ offset_nanos (o -ℤ seconds_of_parts (offset_hours_of from) (offset_minutes_of from) (offset_seconds_of from))) (seconds_of_parts-of to) ∙ ap (λ (o : ℤ). wall_clock n c +ℤ offset_nanos (to -ℤ o)) (seconds_of_parts-of from)
+
+-- so the day and the clock that the carries give are what clocks at the other offset show
+pub wall_clock-shown : (w n : ℤ) (c : ℕ) (from to : ℤ) → n ≡ wall_day w +ℤ days_carried (wall_time w) from to → c ≡ carried_clock (wall_time w) from to → wall_clock n c ≡ w +ℤ offset_nanos (to -ℤ from)
+wall_clock-shown w n c from to e f =
+    rw (e, f) (wall_clock-carried (wall_day w) (wall_time w) from to ∙ ap (λ (v : ℤ). v +ℤ offset_nanos (to -ℤ from)) (wall_clock-parts w))
 
 pub IsClock-carried_clock : (c : ℕ) (from to : ℤ) → IsClock (carried_clock c from to)
 unfolding carried_clock
@@ -186,7 +190,3 @@ CarriesWithin-from_utc c to clock q =
 
 pub IsWithin_abs : (n : ℕ) (z : ℤ) → unsigned_abs z ≤ n → IsWithin n z
 IsWithin_abs n z h = (omega (arith, signed_arith), omega (arith, signed_arith))
-
--- a time of day is accepted
-pub clock_time_nano_accepted : (h m s n : ℕ) → IsTimeOfDay h m s n → clock_time_nano h m s n ≡ Ok (clock_of_parts h m s n)
-clock_time_nano_accepted h m s n p = grind (arith, nat_tests)

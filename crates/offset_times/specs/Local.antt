@@ -1,11 +1,17 @@
 -- A wall clock at an offset from UTC, and its instant.
 use Rattle.std.specs.Prelude.{ℤ, pos, ◌+ℤ◌, ◌-ℤ◌, ◌*ℤ◌}
 use Rattle.calendar_values.specs.Clock.{nanos_per_second}
+use Rattle.calendar_values.specs.Offsets.{IsOffset}
+use Rattle.calendar_values.specs.WallClock.{IsWallClock}
 
 -- the wall clock, in nanoseconds, and the offset of the clocks that show it, in seconds
 pub record Local : Type 0 where
   pub wall : ℤ
   pub offset : ℤ
+
+-- a wall clock and an offset of their ranges; the instant may lie outside the range of wall clocks
+abbrev pub IsLocal : Local → Type 0
+IsLocal at = IsWallClock at.wall × IsOffset at.offset
 
 -- the nanoseconds of an offset
 abbrev pub offset_nanos : ℤ → ℤ

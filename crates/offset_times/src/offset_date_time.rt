@@ -1,8 +1,7 @@
 //! A date and a time of day at an offset from UTC.
 ghost use Rattle.std.specs.Prelude.{◌≡◌, pos};
-ghost use Rattle.calendar_values.specs.Offsets.{IsOffset};
-ghost use Rattle.calendar_values.specs.WallClock.{wall_clock, IsWallClock};
-ghost use Rattle.offset_times.specs.Local.{local};
+ghost use Rattle.calendar_values.specs.WallClock.{wall_clock};
+ghost use Rattle.offset_times.specs.Local.{local, IsLocal};
 
 use calendar_values::{Date, Time, UtcOffset};
 use plain_times::PlainDateTime;
@@ -44,8 +43,8 @@ impl Model for OffsetDateTime {
     ghost inverse = { λ at. record { date = wall_day at.wall; time = wall_time at.wall; offset = at.offset } };
 
     ghost inverse_ok = { λ at h i. record {
-      date = wall_day-wall_clock at.date at.time h.1.0 i;
-      time = wall_time-wall_clock at.date at.time h.1.0 i;
+      date = wall_day-wall_clock at.date at.time h.1 i;
+      time = wall_time-wall_clock at.date at.time h.1 i;
       offset = at.offset;
     } };
 }
@@ -75,18 +74,19 @@ impl OffsetDateTime {
     }
 
     /// The offset.
+    #[tactic(auto, using(crate::proofs::LocalLemmas::fields))]
     pub fn offset(self) -> UtcOffset
         ensures value { result ≡ self.offset }
-        ensures in_range { IsOffset self.offset }
+        ensures in_range { IsLocal self }
     {
         self.offset
     }
 
     /// The date and the time of day, without the offset.
-    #[tactic(auto, using(calendar_values::specs::WallClockLaws::parts))]
+    #[tactic(auto, using(crate::proofs::LocalLemmas::fields))]
     pub fn date_time(self) -> PlainDateTime
         ensures value { result ≡ self.wall }
-        ensures in_range { IsWallClock self.wall }
+        ensures in_range { IsLocal self }
     {
         PlainDateTime::new(self.date, self.time)
     }

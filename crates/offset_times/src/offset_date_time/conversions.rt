@@ -26,7 +26,7 @@ impl OffsetDateTime {
     pub fn checked_to_offset(self, offset: UtcOffset) -> Option<OffsetDateTime>
         ensures { SomeIff result (IsWallClock (shown_at (instant_of self) offset)) (local_at (instant_of self) offset) }
     {
-        if self.offset == offset {
+        if self.offset() == offset {
             return Some(self);
         }
         let (year, ordinal, time) = to_offset_raw(self, offset);
@@ -46,7 +46,7 @@ impl OffsetDateTime {
     pub fn checked_to_utc(self) -> Option<UtcDateTime>
         ensures { SomeIff result (IsWallClock (instant_of self)) (instant_of self) }
     {
-        if self.offset.is_utc() {
+        if self.offset().is_utc() {
             return Some(self.date_time().as_utc());
         }
         let (year, ordinal, time) = to_utc_raw(self);
@@ -60,6 +60,8 @@ pub(crate) fn in_range(year: i32, ordinal: u16, time: Time) -> Option<PlainDateT
     requires clock { IsClock time }
     ensures { SomeIff result (IsWallClock (wall_clock (day_of_ordinal_date year ordinal) time)) (wall_clock (day_of_ordinal_date year ordinal) time) }
 {
-    let date = Date::from_ordinal_date(year, ordinal).ok()?;
-    Some(PlainDateTime::new(date, time))
+    match Date::from_ordinal_date(year, ordinal) {
+        Ok(date) => Some(PlainDateTime::new(date, time)),
+        Err(_) => None,
+    }
 }

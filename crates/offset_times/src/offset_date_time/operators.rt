@@ -12,7 +12,7 @@ impl Sub for OffsetDateTime {
     ghost sub_gives = { λ at other difference. difference ≡ instant_of at -ℤ instant_of other };
 
     fn sub(self, other: OffsetDateTime) -> SignedDuration {
-        let offsets = other.offset.whole_seconds() - self.offset.whole_seconds();
-        (self.date_time() - other.date_time()) + SignedDuration::seconds(offsets as i64)
+        let offsets = other.offset().whole_seconds() - self.offset().whole_seconds();
+        self.date_time() - other.date_time() + SignedDuration::seconds(offsets as i64)
     }
 }

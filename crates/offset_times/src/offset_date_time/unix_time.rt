@@ -35,14 +35,14 @@ impl OffsetDateTime {
     pub fn unix_timestamp(self) -> i64
         ensures { result ≡ unix_seconds_of (instant_of self) }
     {
-        self.date_time().as_utc().unix_timestamp() - self.offset.whole_seconds() as i64
+        self.date_time().as_utc().unix_timestamp() - self.offset().whole_seconds() as i64
     }
 
     /// The nanoseconds from 1970-01-01 0:00 UTC to the instant, outside the range too.
     pub fn unix_timestamp_nanos(self) -> i128
         ensures { result ≡ instant_of self }
     {
-        let offset = self.offset.whole_seconds() as i128;
+        let offset = self.offset().whole_seconds() as i128;
         self.date_time().as_utc().unix_timestamp_nanos() - offset * 1_000_000_000
     }
 }

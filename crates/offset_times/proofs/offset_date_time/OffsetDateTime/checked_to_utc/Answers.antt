@@ -1,0 +1,4 @@
+use Rattle.offset_times.proofs.offset_date_time.OffsetDateTime.checked_to_utc.Goals as goal
+
+pub returns-in_err-in_range : goal.returns-in_err-in_range
+returns-in_err-in_range c = ?
