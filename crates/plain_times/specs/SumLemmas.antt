@@ -1,5 +1,5 @@
 -- Where sums are accepted.
-use Rattle.std.proofs.Common.{◌≡◌, ℕ, sym, ap, ◌∙◌, arith, ℤ, ◌<ℤ◌, Option, Some, None, SomeIff}
+use Rattle.std.proofs.Common.{◌≡◌, ℕ, sym, ap, ◌∙◌, arith, ℤ, pos, ◌+ℤ◌, ◌≤ℤ◌, ◌<ℤ◌, Option, Some, None, SomeIff}
 use Rattle.std.specs.Option.{option_map}
 use Rattle.std.proofs.lemmas.Int.{ints, by_lt_z}
 use Rattle.calendar_values.specs.Clock.{IsClock}
@@ -55,6 +55,20 @@ clamped-before w h = grind (arith, ints)
 pub clamped-after : (w : ℤ) → last_wall_clock <ℤ w → clamped w ≡ last_wall_clock
 unfolding clamped
 clamped-after w h = grind (arith, ints)
+
+-- a later time does not come before, however it is brought into the range
+pub clamped-not_before : (w d v : ℤ) → IsWallClock w → v ≡ clamped (w +ℤ d) → pos 0 ≤ℤ d → w ≤ℤ v
+clamped-not_before w d v h e later =
+    by_lt_z last_wall_clock (w +ℤ d)
+    (λ after. let last = e ∙ clamped-after (w +ℤ d) after in omega (arith, ints))
+    (λ to_last. let inside = e ∙ clamped-in (w +ℤ d) (omega (arith, ints), to_last) in omega (arith, ints))
+
+-- nor an earlier one after
+pub clamped-not_after : (w d v : ℤ) → IsWallClock w → v ≡ clamped (w +ℤ d) → d ≤ℤ pos 0 → v ≤ℤ w
+clamped-not_after w d v h e earlier =
+    by_lt_z (w +ℤ d) first_wall_clock
+    (λ before. let first = e ∙ clamped-before (w +ℤ d) before in omega (arith, ints))
+    (λ from_first. let inside = e ∙ clamped-in (w +ℤ d) (from_first, omega (arith, ints)) in omega (arith, ints))
 
 -- a wall clock of some day is accepted exactly if the day is
 pub checked-wall_clock : (n : ℤ) (c : ℕ) → IsClock c → checked (wall_clock n c) ≡ option_map (λ m. wall_clock m c) (checked_day n)

@@ -1,24 +1,6 @@
-//! Laws of the definitions that the contracts cite: each function here but [`constants`] proves one,
-//! for every wall clock and every duration, and does nothing when it is called.
-ghost use Rattle.std.specs.Prelude.{◌≡◌, pos};
-ghost use Rattle.calendar_values.specs.WallClock.{first_wall_clock, last_wall_clock};
+//! Laws of the definitions that the contracts cite: each function here proves one, for every wall clock
+//! and every duration, and does nothing when it is called.
 ghost use Rattle.plain_times.specs.Laws.{DifferencesUndoSums, DifferencesLeadBack, ReplacementsKeepTheRest, TruncationsRoundDown, TruncationsRoundDownOnce, PackedNumbersKeepTheOrder};
-
-use crate::PlainDateTime;
-
-/// The constants `MIN`, `MAX` and `UNIX_EPOCH`, in this order: the ends of the range, and the wall
-/// clock from which the others are counted.
-pub fn constants() -> (PlainDateTime, PlainDateTime, PlainDateTime)
-    ensures min { result.0 ≡ first_wall_clock }
-    ensures max { result.1 ≡ last_wall_clock }
-    ensures unix_epoch { result.2 ≡ pos 0 }
-{
-    (
-        PlainDateTime::MIN,
-        PlainDateTime::MAX,
-        PlainDateTime::UNIX_EPOCH,
-    )
-}
 
 /// Where a wall clock and its sum with a duration lie in the range, taking the duration from the sum
 /// gives the wall clock back.

@@ -1,11 +1,11 @@
 //! Date-times in UTC compare, and feed a hasher, by their instants.
-ghost use Rattle.std.specs.Prelude.{◌++◌, Some, pos, ◌+ℤ◌};
+ghost use Rattle.std.specs.Prelude.{Some};
 ghost use Rattle.std.proofs.Common.{rules};
 ghost use Rattle.std.specs.Cmp.{partial_order_from_own_ties};
 ghost use Rattle.std.specs.Cmp.Rules.{comparing, hashing};
 ghost use Rattle.std.specs.Hash as fed;
 ghost use Rattle.std.specs.Ordering.{int_eq, int_cmp, as_partial_cmp};
-ghost use Rattle.calendar_values.specs.WallClock.{wall_day, wall_time};
+ghost use Rattle.plain_times.specs.Packed.{packed_wall_clock};
 
 use crate::UtcDateTime;
 use std::cmp::Ordering;
@@ -49,8 +49,9 @@ impl PartialOrd for UtcDateTime {
     }
 }
 
+// The packed number is what a hasher is fed today. It is no promise to callers.
 impl Hash for UtcDateTime {
-    ghost hash_input = { λ i. fed.i32 (wall_day i +ℤ pos 2_440_588) ++ fed.u64 (wall_time i) };
+    ghost hash_input = { λ i. fed.i128 (packed_wall_clock i) };
 
     ghost respects_eq = { Prim.search (hashing, rules) };
 
