@@ -18,13 +18,13 @@ later_date : (y z : ℤ) (o p : ℕ) → IsOrdinalDate y o → IsOrdinalDate z p
 later_date y z o p h k far =
     by_lt_z z y
     (λ lt. by_lt_z (z +ℤ pos 1) y
-      (λ more. omega (arith, signed_arith, year_start-later (z +ℤ pos 1) y more, year_start-next z, days_in_year_bounds z, h.first, k.last))
-      (λ ge. let e : y ≡ z +ℤ pos 1 = omega (arith, signed_arith) in
-        let next = rw (← e) at (year_start-next z) in
-        omega (arith, signed_arith, next, days_in_year_bounds z)))
+    (λ more. omega (arith, signed_arith, year_start-later (z +ℤ pos 1) y more, year_start-next z, days_in_year_bounds z, h.first, k.last))
+    (λ ge. let e : y ≡ z +ℤ pos 1 = omega (arith, signed_arith) in
+    let next = rw (← e) at (year_start-next z) in
+    omega (arith, signed_arith, next, days_in_year_bounds z)))
     (λ ge. by_lt_z y z
-      (λ lt. absurd (omega (arith, signed_arith, days_in_year_bounds y, h.last, k.first)))
-      (λ le. let e : y ≡ z = omega (arith, signed_arith) in rw e (omega (arith, signed_arith))))
+    (λ lt. absurd (omega (arith, signed_arith, days_in_year_bounds y, h.last, k.first)))
+    (λ le. let e : y ≡ z = omega (arith, signed_arith) in rw e (omega (arith, signed_arith))))
 
 -- and three days are more than two offsets lie apart
 later_instant : (m n o p : ℤ) (c d : ℕ) → (m +ℤ pos 3) <ℤ n → IsClock d → IsOffset o → IsOffset p → (wall_clock m d -ℤ offset_nanos p) <ℤ (wall_clock n c -ℤ offset_nanos o)

@@ -1,8 +1,9 @@
 -- A wall clock at an offset from UTC, and its instant.
-use Rattle.std.specs.Prelude.{ℤ, pos, ◌+ℤ◌, ◌-ℤ◌, ◌*ℤ◌}
+use Rattle.std.specs.Prelude.{ℤ, pos, ◌+ℤ◌, ◌-ℤ◌, ◌*ℤ◌, Option, option_map}
 use Rattle.calendar_values.specs.Clock.{nanos_per_second}
 use Rattle.calendar_values.specs.Offsets.{IsOffset}
 use Rattle.calendar_values.specs.WallClock.{IsWallClock}
+use Rattle.plain_times.specs.Sums.{checked}
 
 -- the wall clock, in nanoseconds, and the offset of the clocks that show it, in seconds
 pub record Local : Type 0 where
@@ -32,3 +33,7 @@ local_at instant o = record { wall = shown_at instant o; offset = o }
 -- a wall clock at an offset
 abbrev pub local : ℤ → ℤ → Local
 local wall o = record { wall = wall; offset = o }
+
+-- the same instant at another offset, if the range has what clocks there show
+unfoldable pub converted : Local → ℤ → Option Local
+converted at o = option_map (λ wall. local wall o) (checked (shown_at (instant_of at) o))

@@ -3,6 +3,7 @@
 
 mod assume;
 pub mod carries;
+pub mod constants;
 pub mod laws;
 mod offset_date_time;
 mod to_offset;

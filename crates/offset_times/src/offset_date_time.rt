@@ -74,7 +74,6 @@ impl OffsetDateTime {
     }
 
     /// The offset.
-    #[tactic(auto, using(crate::proofs::LocalLemmas::fields))]
     pub fn offset(self) -> UtcOffset
         ensures value { result ≡ self.offset }
         ensures in_range { IsLocal self }
@@ -83,7 +82,7 @@ impl OffsetDateTime {
     }
 
     /// The date and the time of day, without the offset.
-    #[tactic(auto, using(crate::proofs::LocalLemmas::fields))]
+    #[tactic(auto, using(calendar_values::specs::WallClockLaws::parts))]
     pub fn date_time(self) -> PlainDateTime
         ensures value { result ≡ self.wall }
         ensures in_range { IsLocal self }
@@ -100,9 +99,5 @@ impl From<UtcDateTime> for OffsetDateTime {
     }
 }
 
-// The constant, as a contract sees it.
-fn constant() -> OffsetDateTime
-    ensures { result ≡ local (pos 0) (pos 0) }
-{
-    OffsetDateTime::UNIX_EPOCH
-}
+#[cfg(test)]
+mod tests;

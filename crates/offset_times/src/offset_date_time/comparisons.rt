@@ -1,10 +1,11 @@
 //! Date-times with an offset compare, and feed a hasher, by their instants.
-ghost use Rattle.std.specs.Prelude.{◌≡◌, pos, neg_ℤ, ◌<ℤ◌};
+ghost use Rattle.std.specs.Prelude.{◌≡◌, ◌≤◌, pos, neg_ℤ, ◌+ℤ◌, ◌*ℤ◌, ◌<ℤ◌};
 ghost use Rattle.std.proofs.Common.{rules};
 ghost use Rattle.std.specs.Cmp.{partial_order_from_own_ties};
 ghost use Rattle.std.specs.Cmp.Rules.{comparing, hashing};
 ghost use Rattle.std.specs.Hash as fed;
 ghost use Rattle.std.specs.Ordering.{on, int_eq, int_cmp, as_partial_cmp};
+ghost use Rattle.calendar_values.specs.Range.{IsYear};
 ghost use Rattle.offset_times.specs.Local.{instant_of};
 ghost use Rattle.plain_times.specs.Packed.{packed_wall_clock};
 
@@ -32,7 +33,16 @@ impl OffsetDateTime {
         }
         let (year, ordinal, time) = to_offset_raw(other, self.offset());
         let at = self.date_time();
-        packed(at.year(), at.ordinal(), at.time()).cmp(&packed(year, ordinal, time))
+        let own = packed(at.year(), at.ordinal(), at.time());
+        own.cmp(&packed(year, ordinal, time))
+    }
+
+    // What clocks in UTC show then, in one number, which is told of an instant outside the range too.
+    fn packed_instant(self) -> i128
+        ensures { result ≡ packed_wall_clock (instant_of self) }
+    {
+        let (year, ordinal, time) = to_utc_raw(self);
+        packed(year, ordinal, time)
     }
 
     // The days from the other date to this one, where no year has more than 365.
@@ -42,8 +52,18 @@ impl OffsetDateTime {
     {
         let (year, ordinal) = self.date_time().to_ordinal_date();
         let (other_year, other_ordinal) = other.date_time().to_ordinal_date();
-        (year - other_year) * 365 + i32::from(ordinal) - i32::from(other_ordinal)
+        common_day(year, ordinal) - common_day(other_year, other_ordinal)
     }
+}
+
+// The days up to a day of a year, where each year has 365.
+#[tactic(auto, using(calendar_values::specs::SignedArith::signed_casts))]
+fn common_day(year: i32, ordinal: u16) -> i32
+    requires year { IsYear year }
+    requires ordinal { ordinal ≤ 366 }
+    ensures { result ≡ year *ℤ pos 365 +ℤ pos ordinal }
+{
+    year * 365 + i32::from(ordinal)
 }
 
 impl PartialEq for OffsetDateTime {
@@ -91,7 +111,6 @@ impl Hash for OffsetDateTime {
     ghost respects_eq = { Prim.search (hashing, rules) };
 
     fn hash<H: Hasher>(&self, state: &mut H) {
-        let (year, ordinal, time) = to_utc_raw(*self);
-        packed(year, ordinal, time).hash(state);
+        self.packed_instant().hash(state);
     }
 }

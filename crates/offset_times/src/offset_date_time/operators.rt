@@ -1,9 +1,9 @@
 //! Differences by operators.
 ghost use Rattle.std.specs.Prelude.{◌≡◌, ◌-ℤ◌};
-ghost use Rattle.offset_times.specs.Local.{instant_of};
+ghost use Rattle.offset_times.specs.Local.{instant_of, offset_nanos};
 
 use crate::OffsetDateTime;
-use calendar_values::SignedDuration;
+use calendar_values::{SignedDuration, UtcOffset};
 use std::ops::Sub;
 
 impl Sub for OffsetDateTime {
@@ -12,7 +12,14 @@ impl Sub for OffsetDateTime {
     ghost sub_gives = { λ at other difference. difference ≡ instant_of at -ℤ instant_of other };
 
     fn sub(self, other: OffsetDateTime) -> SignedDuration {
-        let offsets = other.offset().whole_seconds() - self.offset().whole_seconds();
-        self.date_time() - other.date_time() + SignedDuration::seconds(offsets as i64)
+        let offsets = apart(self.offset(), other.offset());
+        self.date_time() - other.date_time() + offsets
     }
+}
+
+// How far clocks at the second offset are ahead of clocks at the first.
+fn apart(from: UtcOffset, to: UtcOffset) -> SignedDuration
+    ensures { result ≡ offset_nanos (to -ℤ from) }
+{
+    SignedDuration::seconds((to.whole_seconds() - from.whole_seconds()) as i64)
 }

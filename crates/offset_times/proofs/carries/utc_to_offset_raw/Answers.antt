@@ -12,4 +12,4 @@ returns-clause-shown c =
     omega (arith, ints)
 
 pub returns-clause-within : goal.returns-clause-within
-returns-clause-within c = CarriesWithin-from_utc (wall_time c.args.at) c.args.offset (IsClock-wall_time c.args.at) c.whole_seconds.ensures.in_range
+returns-clause-within c = CarriesWithin-from_utc (wall_time c.args.at) c.args.offset (IsClock-wall_time c.args.at) c.whole_seconds-in_range.ensures.in_range
