@@ -6,5 +6,6 @@ pub mod constants;
 pub mod expiry;
 pub mod invoices;
 pub mod log;
+pub mod meeting;
 pub mod midnight;
 pub mod retry;
