@@ -7,7 +7,7 @@ use Rattle.times_bench.specs.Writing.{AppendsBeginning}
 use Rattle.times_bench.specs.Lines.{lines_of, whole_lines_of, unless_empty}
 use Rattle.times_bench.specs.LineParts.{ended_from, rest_from, Holds}
 use Rattle.times_bench.specs.Answers.{answer_of, answers_of}
-use Rattle.times_bench.proofs.CutLemmas.{ended_from-append, lines_of-parts, whole_lines_of-parts}
+use Rattle.times_bench.proofs.CutLemmas.{lines_of-parts, whole_lines_of-parts}
 use Rattle.times_bench.proofs.FeedLemmas.{answers_of-append, answers_of-held}
 use Rattle.times_bench.proofs.SendingLemmas.{Appends-append, AppendsBeginning-append, AppendsBeginning-longer}
 

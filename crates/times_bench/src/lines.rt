@@ -6,7 +6,8 @@ ghost use Rattle.times_bench.specs.Writing.{MarksFailure, SendsAll};
 
 use super::answers::answer;
 use super::devices::{DeviceFault, Sink};
-use super::requests::{LONGEST_LINE, place_of};
+use super::places::place_of;
+use super::requests::LONGEST_LINE;
 use super::sending::Pending;
 use super::table::Table;
 

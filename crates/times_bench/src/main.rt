@@ -6,6 +6,7 @@ mod bench;
 mod devices;
 mod lines;
 mod numbers;
+mod places;
 mod requests;
 mod sending;
 mod table;

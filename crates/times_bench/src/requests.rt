@@ -1,9 +1,9 @@
 //! What a line asks for.
-ghost use Rattle.std.specs.Prelude.{◌≡◌, ◌≤◌, ◌<◌, length, get_or};
-ghost use Rattle.times_bench.specs.LineParts.{HasNone};
+ghost use Rattle.std.specs.Prelude.{◌≡◌};
 ghost use Rattle.times_bench.specs.Requests.{words_of, unix_request, stamp_request, request_of};
 
 use super::numbers::{parse_i64, parse_u32};
+use super::places::place_of;
 
 /// The most bytes of a line that asks for something.
 pub const LONGEST_LINE: usize = 1024;
@@ -53,18 +53,4 @@ fn stamp_request_of(words: &[u8]) -> Option<Request>
     let second = parse_i64(&words[..space])?;
     let nanosecond = parse_u32(&words[space + 1..])?;
     Some(Request::Stamp(second, nanosecond))
-}
-
-/// The first place of a byte from a place on, or the end of the text.
-pub fn place_of(byte: u8, text: &[u8], from: usize) -> usize
-    requires { from ≤ length text.now }
-    ensures bounds { (from ≤ result) × (result ≤ length text.now) }
-    ensures before { HasNone byte text.now from result }
-    ensures byte_there { result < length text.now → get_or text.now result 0 ≡ byte }
-{
-    let mut place = from;
-    while place < text.len() && text[place] != byte {
-        place += 1;
-    }
-    place
 }

@@ -1,6 +1,5 @@
-use Rattle.std.proofs.Common.{◌≡◌, ◌∙◌, List, ℕ, ◌++◌, ap, subst}
+use Rattle.std.proofs.Common.{◌∙◌, List, ℕ, ◌++◌, subst}
 use Rattle.std.proofs.lemmas.Result.{err_from_is_err_and}
-use Rattle.times_bench.specs.Answers.{answer_of}
 use Rattle.times_bench.specs.Writing.{AppendsBeginning, Sends}
 use Rattle.times_bench.proofs.FeedLemmas.{answer_of-pushed}
 use Rattle.times_bench.proofs.lines.end_line.Goals as goal

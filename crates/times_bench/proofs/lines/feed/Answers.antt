@@ -3,7 +3,7 @@ use Rattle.std.proofs.Math.Seq.{take-suc}
 use Rattle.std.proofs.lemmas.Result.{err_from_is_err_and}
 use Rattle.std.proofs.lemmas.List.{take_all, take-append-drop}
 use Rattle.times_bench.specs.Answers.{answer_of, answers_of}
-use Rattle.times_bench.specs.LineParts.{Holds, ended_from, rest_from}
+use Rattle.times_bench.specs.LineParts.{ended_from, rest_from}
 use Rattle.times_bench.specs.Writing.{AppendsBeginning, Sends}
 use Rattle.times_bench.proofs.CutLemmas.{ended_from-until, rest_from-until, rest_from-line_feed}
 use Rattle.times_bench.proofs.FeedLemmas.{Sends-line, AppendsBeginning-line}

@@ -1,8 +1,6 @@
-use Rattle.std.specs.Int.{w64}
 use Rattle.std.proofs.Common.{rules, arith, length, ◌≤◌, ◌≡◌, ◌∙◌, ap, sym, List, ℕ, ◌++◌, Some, None}
 use Rattle.std.specs.Str.Parse.{digits_value}
 use Rattle.std.proofs.lemmas.Bool.Decides.{Decides-eqb}
-use Rattle.std.proofs.lemmas.Int.{to_z-of_z}
 use Rattle.std.proofs.lemmas.Slice.Eq.{strip_prefix_is}
 use Rattle.times_bench.proofs.NumberLemmas.{i64_of-minus, i64_of-minus_none, i64_of-plain, negated, below}
 use Rattle.times_bench.proofs.numbers.parse_i64.Goals as goal

@@ -1,4 +1,4 @@
-use Rattle.std.proofs.Common.{rules, arith, ◌≡◌, ◌<◌, length, ◌+◌, ◌-◌, take, drop, length-drop, ◌∙◌, sym, ap, None, Some, ℤ, ℕ, Option, w64, FitsSigned, subst}
+use Rattle.std.proofs.Common.{rules, arith, ◌≡◌, ◌<◌, length, ◌+◌, ◌-◌, take, drop, length-drop, ◌∙◌, sym, ap, None, Some, ℤ, Option, w64, FitsSigned, subst}
 use Rattle.std.proofs.lemmas.Int.{to_z-of_z}
 use Rattle.std.proofs.lemmas.List.{take_all}
 use Rattle.times_bench.specs.declared.requests.Request.TheVariants.{Stamp}

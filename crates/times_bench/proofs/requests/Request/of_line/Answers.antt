@@ -1,5 +1,4 @@
-use Rattle.std.proofs.Common.{arith, ◌≡◌, ◌≤◌, length, List, ℕ, ◌++◌, ap, ◌∙◌, sym, Some, None}
-use Rattle.std.specs.Prelude.{codes}
+use Rattle.std.proofs.Common.{arith, List, ℕ, ◌++◌, ap, ◌∙◌, sym, Some, None}
 use Rattle.std.proofs.lemmas.Bool.Decides.{Decides-eqb}
 use Rattle.std.proofs.lemmas.Slice.Eq.{strip_prefix_is}
 use Rattle.times_bench.proofs.WordLemmas.{request_of-long, request_of-unix, request_of-stamp, request_of-other}

@@ -1,6 +1,6 @@
 use Rattle.std.proofs.Common.{◌≤◌, ◌-◌, length}
 use Rattle.times_bench.specs.LineParts.{HasNone}
-use Rattle.times_bench.proofs.requests.place_of.Given as goal
+use Rattle.times_bench.proofs.places.place_of.Given as goal
 
 abbrev pub invariant-loop-place : goal.invariant-loop-place
 invariant-loop-place l = record {
