@@ -244,10 +244,7 @@ fn texts(rt: HostRuntime) -> Result<(), Fail> {
     for (at, text) in [
         (first, "-999999-01-01 0:00:00.0 +25:59:59"),
         (last, "+999999-12-31 23:59:59.999999999 -25:59:59"),
-        (
-            OffsetDateTime::UNIX_EPOCH,
-            "1970-01-01 0:00:00.0 +00:00:00",
-        ),
+        (OffsetDateTime::UNIX_EPOCH, "1970-01-01 0:00:00.0 +00:00:00"),
     ] {
         assert_eq!(rt; format!(in rt.alloc(); "{at}")?.as_str(), text);
         assert_eq!(rt; format!(in rt.alloc(); "{at:?}")?.as_str(), text);
@@ -350,7 +347,8 @@ fn parts(rt: HostRuntime) -> Result<(), Fail> {
     assert_eq!(rt; (at.weekday(), at.ordinal()), (Weekday::Friday, 49));
     let at = plain((2019, Month::January, 1), (23, 59, 59))?.assume_utc();
     assert_eq!(rt;
-        at.checked_to_offset(offset(0, 30, 0)?).map(|there| there.minute()),
+        at.checked_to_offset(offset(0, 30, 0)?)
+            .map(|there| there.minute()),
         Some(29)
     );
     for stored in [offset(25, 59, 59)?, offset(-25, -59, -59)?] {
