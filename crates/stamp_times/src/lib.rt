@@ -1,0 +1,4 @@
+//! Instants by their Unix seconds.
+#![tactic(auto)]
+
+pub mod reciprocal;
