@@ -1,1 +1,2 @@
+pub mod InstantLemmas
 pub mod ReciprocalLemmas

@@ -1,1 +1,4 @@
+pub mod InstantLaws
+pub mod Instants
 pub mod Reciprocal
+pub mod Texts

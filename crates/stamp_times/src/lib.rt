@@ -2,3 +2,6 @@
 #![tactic(auto)]
 
 pub mod reciprocal;
+mod timestamp;
+
+pub use timestamp::Timestamp;

@@ -1,0 +1,67 @@
+-- What the second and the nanosecond of a timestamp say of its instant.
+use Rattle.std.proofs.Common.{◌≡◌, ℕ, ◌/◌, ◌%◌, ◌<◌, ◌≤ℤ◌, arith, ℤ, pos, negsuc, ◌+ℤ◌, ◌*ℤ◌, unsigned_abs, Ok}
+use Rattle.std.specs.Int.{int_div_euclid, int_rem_euclid}
+use Rattle.std.proofs.lemmas.Int.{ints}
+use Rattle.std.proofs.lemmas.Bool.Decides.{nat_tests}
+use Rattle.calendar_values.specs.Calendar.{year_of, ordinal_of, day_of_ordinal_date}
+use Rattle.calendar_values.specs.Clock.{nanos_per_second}
+use Rattle.calendar_values.specs.DayLaws.{IsYear-year_of, IsOrdinalDate-of, day_of_ordinal_date-of}
+use Rattle.calendar_values.specs.Range.{IsDay}
+use Rattle.calendar_values.specs.Refusals.{ordinal_date}
+use Rattle.calendar_values.specs.SignedArith.{signed_arith, signed_casts}
+use Rattle.calendar_values.specs.WallClock.{unix_seconds_of, wall_day, wall_time}
+use Rattle.calendar_values.specs.WallClockLaws.{IsDay-wall_day}
+use Rattle.calendar_values.specs.Weeks.{weekday_of}
+use Rattle.calendar_values.specs.YearLaws.{days_in_year_bounds}
+use Rattle.stamp_times.specs.Instants.{instant_of_parts, unix_nanosecond_of, unix_milliseconds_of, unix_microseconds_of}
+use Rattle.stamp_times.specs.InstantLaws.{unix_seconds_of-parts, unix_nanosecond_of-parts}
+
+pub unix_seconds_of-is : (i s : ℤ) (n : ℕ) → n < nanos_per_second → instant_of_parts s n ≡ i → unix_seconds_of i ≡ s
+unix_seconds_of-is i s n p e = rw (← e) (unix_seconds_of-parts s n p)
+
+pub unix_nanosecond_of-is : (i s : ℤ) (n : ℕ) → n < nanos_per_second → instant_of_parts s n ≡ i → unix_nanosecond_of i ≡ n
+unix_nanosecond_of-is i s n p e = rw (← e) (unix_nanosecond_of-parts s n p)
+
+pub unix_milliseconds_of-is : (i s : ℤ) (n : ℕ) → n < nanos_per_second → instant_of_parts s n ≡ i → unix_milliseconds_of i ≡ s *ℤ pos 1_000 +ℤ pos (n / 1_000_000)
+unix_milliseconds_of-is (pos a) s n p e = omega (arith, ints)
+unix_milliseconds_of-is (negsuc a) s n p e = omega (arith, ints)
+
+pub unix_microseconds_of-is : (i s : ℤ) (n : ℕ) → n < nanos_per_second → instant_of_parts s n ≡ i → unix_microseconds_of i ≡ s *ℤ pos 1_000_000 +ℤ pos (n / 1_000)
+unix_microseconds_of-is (pos a) s n p e = omega (arith, ints)
+unix_microseconds_of-is (negsuc a) s n p e = omega (arith, ints)
+
+-- the day of an instant and the second of the day, by its Unix second
+pub wall_day-second : (i : ℤ) → int_div_euclid (unix_seconds_of i) (pos 86_400) ≡ wall_day i
+unfolding wall_day
+wall_day-second (pos a) = omega (arith, ints)
+wall_day-second (negsuc a) = omega (arith, ints)
+
+pub wall_time-second : (i : ℤ) → int_rem_euclid (unix_seconds_of i) (pos 86_400) ≡ pos (wall_time i / nanos_per_second)
+unfolding wall_time
+wall_time-second (pos a) = omega (arith, ints)
+wall_time-second (negsuc a) = omega (arith, ints)
+
+-- the days of the week, of a day of the range counted from a Monday
+pub weekday_of-Monday : (n : ℤ) → IsDay n → weekday_of n ≡ unsigned_abs (n +ℤ pos 365_961_669) % 7
+unfolding weekday_of
+weekday_of-Monday n h = omega (arith, signed_arith)
+
+-- the date of a day of the range
+pub ordinal_date-is : (n y : ℤ) (ordinal : ℕ) → IsDay n → y ≡ year_of n → ordinal ≡ ordinal_of n → ordinal_date y ordinal ≡ Ok n
+ordinal_date-is n y ordinal h year place =
+    let years = rw (← year) at (IsYear-year_of n h) in
+    let date = rw (← year, ← place) at (IsOrdinalDate-of n) in
+    let length = days_in_year_bounds y in
+    let day : day_of_ordinal_date y ordinal ≡ n = rw (year, place) (day_of_ordinal_date-of n) in
+    rw day (grind (arith, nat_tests, ints))
+
+pub ordinal_date-only : (n date y : ℤ) (ordinal : ℕ) → IsDay n → y ≡ year_of n → ordinal ≡ ordinal_of n → ordinal_date y ordinal ≡ Ok date → date ≡ n
+ordinal_date-only n date y ordinal h year place e = let is = ordinal_date-is n y ordinal h year place in cc
+
+pub ruleset fields = (unix_seconds_of-is, unix_nanosecond_of-is)
+
+pub ruleset counts = (signed_casts, unix_milliseconds_of-is, unix_microseconds_of-is)
+
+pub ruleset days = (signed_casts, wall_day-second, wall_time-second, IsDay-wall_day)
+
+pub ruleset weekdays = (signed_casts, weekday_of-Monday)
