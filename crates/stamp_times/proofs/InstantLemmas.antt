@@ -65,3 +65,5 @@ pub ruleset counts = (signed_casts, unix_milliseconds_of-is, unix_microseconds_o
 pub ruleset days = (signed_casts, wall_day-second, wall_time-second, IsDay-wall_day)
 
 pub ruleset weekdays = (signed_casts, weekday_of-Monday)
+
+pub ruleset nanoseconds = (signed_casts)

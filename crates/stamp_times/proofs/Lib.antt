@@ -1,2 +1,6 @@
 pub mod InstantLemmas
+pub mod OrderLemmas
 pub mod ReciprocalLemmas
+pub mod ReplacementLemmas
+pub mod SumLemmas
+pub mod TextLemmas

@@ -22,3 +22,5 @@ unix_seconds_of-parts s n p =
 pub unix_nanosecond_of-parts : (s : ℤ) (n : ℕ) → n < nanos_per_second → unix_nanosecond_of (instant_of_parts s n) ≡ n
 unix_nanosecond_of-parts s n p =
     let i = instant_of_parts s n in (instant_of_parts-injective (unix_seconds_of i) s (unix_nanosecond_of i) n (omega arith) p (instant_of_parts-of i)).1
+
+pub ruleset parts = (ints, instant_of_parts-of)

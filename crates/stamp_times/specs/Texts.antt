@@ -7,10 +7,11 @@ use Rattle.calendar_values.specs.Digits.{fraction_digits}
 unfoldable pub fraction_text : ℕ → List ℕ
 fraction_text n = if n == 0 then [] else codes "." ++ fraction_digits 9 n
 
--- a number of nanoseconds in seconds
-unfoldable pub seconds_text : ℕ → List ℕ
-seconds_text n = decimal (n / nanos_per_second) ++ fraction_text (n % nanos_per_second)
+-- so many seconds, and nanoseconds that are less than a second
+unfoldable pub seconds_text : ℕ → ℕ → List ℕ
+seconds_text s n = decimal s ++ fraction_text n
 
 -- the signed decimal of the instant in seconds: `-` before a negative one
 unfoldable pub timestamp_text : ℤ → List ℕ
-timestamp_text i = (if int_lt i (pos 0) then codes "-" else []) ++ seconds_text (unsigned_abs i)
+timestamp_text i =
+    (if int_lt i (pos 0) then codes "-" else []) ++ seconds_text (unsigned_abs i / nanos_per_second) (unsigned_abs i % nanos_per_second)

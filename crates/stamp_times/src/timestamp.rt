@@ -8,7 +8,13 @@ ghost use Rattle.stamp_times.specs.Instants.{instant_of_parts, instant_of_second
 use calendar_values::ComponentRange;
 use std::marker::Model;
 
+mod comparisons;
+mod conversions;
+mod operators;
 mod reads;
+mod replacements;
+mod sums;
+mod text;
 
 // The seconds of the first instant of the range and of the last.
 const FIRST_SECOND: i64 = -31_619_087_596_800;
