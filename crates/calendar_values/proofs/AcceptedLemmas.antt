@@ -14,6 +14,7 @@ not_refused false refusal rest x e = (refl, e)
 
 -- an accepted date is one of the calendar, and is its day number
 pub calendar_date-accepted : (y n : ℤ) (m d : ℕ) → 1 ≤ m → m ≤ 12 → calendar_date y m d ≡ Ok n → IsCalendarDate y m d × (day_of_calendar_date y m d ≡ n)
+unfolding calendar_date
 calendar_date-accepted y n m d first last e =
     let year = not_refused (is_outside first_year last_year y) _ _ n e in
     let day = not_refused ((d == 0) || nat_lt 31 d) _ _ n year.1 in
@@ -25,6 +26,7 @@ calendar_date-accepted y n m d first last e =
     )
 
 pub ordinal_date-accepted : (y n : ℤ) (o : ℕ) → ordinal_date y o ≡ Ok n → IsOrdinalDate y o × (day_of_ordinal_date y o ≡ n)
+unfolding ordinal_date
 ordinal_date-accepted y n o e =
     let year = not_refused (is_outside first_year last_year y) _ _ n e in
     let place = not_refused ((o == 0) || nat_lt 366 o) _ _ n year.1 in

@@ -10,6 +10,7 @@ use Rattle.calendar_values.specs.Texts.{offset_text}
 
 -- an offset in range is not refused
 pub offset_of_seconds-in : (o : ℤ) → IsOffset o → offset_of_seconds o ≡ Ok o
+unfolding offset_of_seconds
 offset_of_seconds-in o p = grind (arith, ints)
 
 -- the parts of an offset, as the code computes them

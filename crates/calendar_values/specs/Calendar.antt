@@ -120,6 +120,10 @@ month_of n = month_of_ordinal (is_leap_year (year_of n)) (ordinal_of n)
 abbrev pub day_of_month_of : ℤ → ℕ
 day_of_month_of n = day_of_ordinal (is_leap_year (year_of n)) (ordinal_of n)
 
--- the Julian day of a day: that of 1 January 1970 is 2,440,588
+-- the Julian day of 1 January 1970
+abbrev pub epoch_julian_day : ℤ
+epoch_julian_day = pos 2_440_588
+
+-- the Julian day of a day
 abbrev pub julian_day_of : ℤ → ℤ
-julian_day_of n = n +ℤ pos 2_440_588
+julian_day_of n = n +ℤ epoch_julian_day

@@ -1,7 +1,7 @@
 -- An offset from UTC is a whole number of seconds, from -25:59:59 to 25:59:59. Its hours, minutes and seconds have one sign.
 use Rattle.std.specs.Prelude.{◌≤◌, ◌⊎◌, if◌then◌else◌, ℤ, pos, neg_ℤ, ◌+ℤ◌, ◌*ℤ◌, ◌≤ℤ◌, int_lt, int_div, int_rem, unsigned_abs, codes, Result, Ok}
 use Rattle.calendar_values.specs.Range.{is_outside}
-use Rattle.calendar_values.specs.Refusals.{Refusal, out_of_range}
+use Rattle.calendar_values.specs.Refusals.{Refusal, out_of_range, outright_refusal}
 
 -- the least offset and the greatest
 abbrev pub least_offset : ℤ
@@ -43,15 +43,31 @@ with_sign_of greater part =
     if int_lt greater (pos 0) then neg_ℤ (pos (unsigned_abs part))
     else (if int_lt (pos 0) greater then pos (unsigned_abs part) else part)
 
--- the offset of hours, minutes and seconds: the sign of the hours, or of the minutes if the hours are 0, is that of the smaller parts
-abbrev pub offset_of_parts : ℤ → ℤ → ℤ → Result ℤ Refusal
+-- hours, minutes and seconds that make an offset
+abbrev pub AreOffsetParts : ℤ → ℤ → ℤ → Type 0
+AreOffsetParts h m s = (unsigned_abs h ≤ 25) × (unsigned_abs m ≤ 59) × (unsigned_abs s ≤ 59)
+
+-- what hours, minutes, or else seconds are refused by
+abbrev pub offset_refusal : ℤ → ℤ → Refusal
+offset_refusal h m =
+    if is_outside (neg_ℤ (pos 25)) (pos 25) h then outright_refusal (codes "hours")
+    else (if is_outside (neg_ℤ (pos 59)) (pos 59) m then outright_refusal (codes "minutes")
+    else outright_refusal (codes "seconds"))
+
+-- the seconds of parts of which the smaller take the sign of the hours, or of the minutes if the hours are 0
+abbrev pub seconds_of_signed_parts : ℤ → ℤ → ℤ → ℤ
+seconds_of_signed_parts h m s =
+    seconds_of_parts h (with_sign_of h m) (with_sign_of h (with_sign_of m s))
+
+-- the offset of hours, minutes and seconds
+unfoldable pub offset_of_parts : ℤ → ℤ → ℤ → Result ℤ Refusal
 offset_of_parts h m s =
     if is_outside (neg_ℤ (pos 25)) (pos 25) h then out_of_range (codes "hours")
     else (if is_outside (neg_ℤ (pos 59)) (pos 59) m then out_of_range (codes "minutes")
     else (if is_outside (neg_ℤ (pos 59)) (pos 59) s then out_of_range (codes "seconds")
-    else Ok (seconds_of_parts h (with_sign_of h m) (with_sign_of h (with_sign_of m s)))))
+    else Ok (seconds_of_signed_parts h m s)))
 
 -- the offset of so many seconds
-abbrev pub offset_of_seconds : ℤ → Result ℤ Refusal
+unfoldable pub offset_of_seconds : ℤ → Result ℤ Refusal
 offset_of_seconds o =
     if is_outside least_offset greatest_offset o then out_of_range (codes "offset_seconds") else Ok o

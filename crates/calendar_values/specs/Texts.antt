@@ -2,6 +2,7 @@
 use Rattle.std.specs.Prelude.{ℕ, ◌/◌, ◌%◌, List, [], ◌++◌, codes, decimal, if◌then◌else◌, nat_lt, int_lt, ℤ, pos, unsigned_abs}
 use Rattle.calendar_values.specs.Calendar.{year_of, month_of, day_of_month_of}
 use Rattle.calendar_values.specs.Clock.{hour_of, minute_of, second_of, nanosecond_of}
+use Rattle.calendar_values.specs.Refusals.{Refusal}
 use Rattle.calendar_values.specs.Digits.{last_digits, fraction_digits}
 
 -- `-` before a negative year, `+` before one above 9999
@@ -31,3 +32,8 @@ unfoldable pub offset_text : ℤ → List ℕ
 offset_text o =
     let n = unsigned_abs o in
     (if int_lt o (pos 0) then codes "-" else codes "+") ++ last_digits 2 (n / 3_600) ++ codes ":" ++ last_digits 2 (n / 60 % 60) ++ codes ":" ++ last_digits 2 (n % 60)
+
+-- the name of the part, and that it is out of range, by itself or with the other parts
+unfoldable pub refusal_text : Refusal → List ℕ
+refusal_text refusal =
+    refusal.name ++ codes " is out of range" ++ (if refusal.conditional then codes " given the other parts" else [])

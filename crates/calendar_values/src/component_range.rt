@@ -1,9 +1,14 @@
 //! The refusal of a part that is out of its range.
-ghost use Rattle.std.specs.Prelude.{◌≡◌, IsTrue};
+ghost use Rattle.std.specs.Prelude.{◌≡◌, ◌≤◌, IsTrue, IsAscii, Some, length};
 ghost use Rattle.std.proofs.Common.{rules};
 ghost use Rattle.std.specs.Cmp.Rules.{comparing};
+ghost use Rattle.std.specs.Fmt.{padded};
 ghost use Rattle.calendar_values.specs.Refusals.{refusal_eq};
+ghost use Rattle.calendar_values.specs.Texts.{refusal_text};
 
+use crate::Text;
+use std::error::Error;
+use std::fmt;
 use std::marker::Model;
 
 // The parts that can be refused.
@@ -62,7 +67,9 @@ impl Part {
     }
 
     fn name(self) -> &'static str
-        ensures { result.now ≡ part_name self }
+        ensures value { result.now ≡ part_name self }
+        ensures ascii { IsAscii result.now }
+        ensures length { length result.now ≤ 14 }
     {
         match self {
             Part::Year => "year",
@@ -124,9 +131,11 @@ impl ComponentRange {
         }
     }
 
-    /// The name of the part.
+    /// The name of the part: ASCII, and at most 14 bytes long.
     pub fn name(self) -> &'static str
-        ensures { result.now ≡ self.name }
+        ensures value { result.now ≡ self.name }
+        ensures ascii { IsAscii result.now }
+        ensures length { length result.now ≤ 14 }
     {
         self.part.name()
     }
@@ -137,7 +146,35 @@ impl ComponentRange {
     {
         self.conditional
     }
+
+    /// The text, as `day is out of range`, followed by ` given the other parts` where the refusal is
+    /// conditional.
+    #[tactic(auto, unfolding(crate::specs::Texts::refusal_text))]
+    pub fn text(self) -> Text
+        ensures text { result ≡ refusal_text self }
+        ensures length { length result ≤ 52 }
+    {
+        let mut text = Text::new();
+        text.push_bytes(self.name().as_bytes());
+        text.push_bytes(b" is out of range");
+        if self.is_conditional() {
+            text.push_bytes(b" given the other parts");
+        }
+        text
+    }
 }
+
+impl fmt::Display for ComponentRange {
+    ghost output = { λ refusal. Some (refusal_text refusal) };
+
+    ghost styled_output = { λ refusal spec. Some (padded spec (refusal_text refusal)) };
+
+    fn fmt<W: fmt::Write>(&self, f: &mut fmt::Formatter<W>) -> fmt::Result {
+        fmt::Display::fmt(&self.text(), f)
+    }
+}
+
+impl Error for ComponentRange {}
 
 impl PartialEq for ComponentRange {
     ghost eq = { refusal_eq };

@@ -1,6 +1,7 @@
 //! The months.
-ghost use Rattle.std.specs.Prelude.{◌≡◌, ◌≤◌, ◌↔◌, ◌<◌, IsOk, IfOk, IfErr, Some, codes, false, length, IsAscii};
+ghost use Rattle.std.specs.Prelude.{◌≡◌, ◌≤◌, ◌↔◌, ◌<◌, IsOk, IfOk, IfErr, Some, codes, length, IsAscii};
 ghost use Rattle.std.specs.Fmt.{padded};
+ghost use Rattle.calendar_values.specs.Refusals.{outright_refusal};
 
 use crate::{ComponentRange, Text};
 use std::fmt;
@@ -29,7 +30,7 @@ impl Month {
     pub fn from_number(number: u8) -> Result<Month, ComponentRange>
         ensures accepted { IsOk result ↔ ((1 ≤ number) × (number ≤ 12)) }
         ensures value { IfOk result (λ month. month_number month ≡ number) }
-        ensures refused { IfErr result (λ refusal. refusal ≡ record { name = codes "month"; conditional = false }) }
+        ensures refused { IfErr result (λ refusal. refusal ≡ outright_refusal (codes "month")) }
     {
         if number == 0 || number > 12 {
             return Err(ComponentRange::new("month", false));

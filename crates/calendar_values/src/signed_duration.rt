@@ -169,19 +169,6 @@ impl SignedDuration {
     }
 }
 
-// The constants, as a contract sees them.
-fn constants() -> (SignedDuration, SignedDuration, SignedDuration)
-    ensures zero { result.0 ≡ pos 0 }
-    ensures least { result.1 ≡ least_duration }
-    ensures greatest { result.2 ≡ greatest_duration }
-{
-    (
-        SignedDuration::ZERO,
-        SignedDuration::MIN,
-        SignedDuration::MAX,
-    )
-}
-
 impl PartialEq for SignedDuration {
     ghost eq = { int_eq };
 

@@ -1,10 +1,12 @@
 //! Offsets from UTC.
-ghost use Rattle.std.specs.Prelude.{◌≡◌, ℕ, ℤ, pos, unsigned_abs, ◌<◌, ◌≤◌, ◌↔◌, IsTrue, Some, length, ◌<ℤ◌};
+ghost use Rattle.std.specs.Prelude.{◌≡◌, ℕ, ℤ, pos, unsigned_abs, ◌+◌, ◌<◌, ◌≤◌, ◌↔◌, ◌++◌, IsTrue, Some, OkIff, IfErr, codes, length, ◌<ℤ◌};
 ghost use Rattle.std.proofs.Common.{rules};
 ghost use Rattle.std.specs.Cmp.Rules.{comparing};
 ghost use Rattle.std.specs.Fmt.{padded};
 ghost use Rattle.std.specs.Ordering.{int_eq};
-ghost use Rattle.calendar_values.specs.Offsets.{IsOffset, IsOffsetParts, seconds_of_parts, offset_hours_of, offset_minutes_of, offset_seconds_of, with_sign_of, offset_of_parts, offset_of_seconds};
+ghost use Rattle.calendar_values.specs.Digits.{text_capacity};
+ghost use Rattle.calendar_values.specs.Offsets.{IsOffset, IsOffsetParts, AreOffsetParts, seconds_of_parts, seconds_of_signed_parts, offset_hours_of, offset_minutes_of, offset_seconds_of, with_sign_of, offset_of_parts, offset_of_seconds, offset_refusal};
+ghost use Rattle.calendar_values.specs.Refusals.{outright_refusal};
 ghost use Rattle.calendar_values.specs.Texts.{offset_text};
 
 use crate::component_range::ComponentRange;
@@ -54,8 +56,12 @@ impl UtcOffset {
     /// or of the minutes if the hours are 0, is given to the smaller parts, as the `time` crate
     /// documents: `from_hms(1, -2, -3)` is 1:02:03. The first part that is out of its range is
     /// refused, as `hours`, `minutes` or `seconds`, not conditionally.
+    #[tactic(auto, unfolding(crate::specs::Offsets::offset_of_parts))]
     pub fn from_hms(hours: i8, minutes: i8, seconds: i8) -> Result<UtcOffset, ComponentRange>
-        ensures { result ≡ offset_of_parts hours minutes seconds }
+        ensures value { OkIff result (AreOffsetParts hours minutes seconds)
+            (seconds_of_signed_parts hours minutes seconds) }
+        ensures refused { IfErr result (λ refusal. refusal ≡ offset_refusal hours minutes) }
+        ensures equation { result ≡ offset_of_parts hours minutes seconds }
     {
         if hours < -25 || hours > 25 {
             return Err(ComponentRange::new("hours", false));
@@ -75,8 +81,11 @@ impl UtcOffset {
 
     /// The offset of so many seconds. Refused `offset_seconds`, not conditionally, outside -93,599 to
     /// 93,599.
+    #[tactic(auto, unfolding(crate::specs::Offsets::offset_of_seconds))]
     pub fn from_whole_seconds(seconds: i32) -> Result<UtcOffset, ComponentRange>
-        ensures { result ≡ offset_of_seconds seconds }
+        ensures value { OkIff result (IsOffset seconds) seconds }
+        ensures refused { IfErr result (λ refusal. refusal ≡ outright_refusal (codes "offset_seconds")) }
+        ensures equation { result ≡ offset_of_seconds seconds }
     {
         if seconds < -93_599 || seconds > 93_599 {
             return Err(ComponentRange::new("offset_seconds", false));
@@ -151,21 +160,21 @@ impl UtcOffset {
         ensures length { length result ≡ 9 }
     {
         let mut text = Text::new();
-        text.push_part(
-            if self.is_negative() { b'-' } else { b'+' },
-            self.hours.unsigned_abs(),
-        );
-        text.push_part(b':', self.minutes.unsigned_abs());
-        text.push_part(b':', self.seconds.unsigned_abs());
+        self.append_to(&mut text);
         text
     }
-}
 
-// The constant, as a contract sees it.
-fn constant() -> UtcOffset
-    ensures { result ≡ pos 0 }
-{
-    UtcOffset::UTC
+    /// Adds the text of the offset.
+    pub fn append_to(self, text: &mut Text)
+        requires { length text.old + 9 ≤ text_capacity }
+        ensures text { text.new ≡ text.old ++ offset_text self }
+        ensures length { length text.new ≡ length text.old + 9 }
+    {
+        let sign = if self.is_negative() { b'-' } else { b'+' };
+        text.push_part(sign, self.hours.unsigned_abs());
+        text.push_part(b':', self.minutes.unsigned_abs());
+        text.push_part(b':', self.seconds.unsigned_abs());
+    }
 }
 
 // A part, with the sign of a greater part; it keeps its own where that one is 0.

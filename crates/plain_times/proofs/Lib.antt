@@ -1,4 +1,3 @@
 pub mod FieldLemmas
 pub mod LawLemmas
-pub mod OrderLemmas
-pub mod SumLemmas
+pub mod StepLemmas

@@ -1,6 +1,6 @@
 //! Laws of the definitions that the contracts cite: each function here proves one, for every wall clock
 //! and every duration, and does nothing when it is called.
-ghost use Rattle.plain_times.specs.Laws.{DifferencesUndoSums, DifferencesLeadBack};
+ghost use Rattle.plain_times.specs.Laws.{DifferencesUndoSums, DifferencesLeadBack, ReplacementsKeepTheRest, TruncationsRoundDown, TruncationsRoundDownOnce, PackedNumbersKeepTheOrder};
 
 /// Where a wall clock and its sum with a duration lie in the range, taking the duration from the sum
 /// gives the wall clock back.
@@ -11,4 +11,26 @@ pub fn differences_undo_sums()
 /// The difference of two wall clocks of the range leads from the second to the first.
 pub fn differences_lead_back()
     ensures { DifferencesLeadBack }
+{}
+
+/// A replacement gives the only wall clock with the date or the time of day as given and the other as
+/// before.
+pub fn replacements_keep_the_rest()
+    ensures { ReplacementsKeepTheRest }
+{}
+
+/// A truncation gives the greatest multiple of its unit that is not above the wall clock.
+pub fn truncations_round_down()
+    ensures { TruncationsRoundDown }
+{}
+
+/// Truncating twice to a unit is truncating once.
+pub fn truncations_round_down_once()
+    ensures { TruncationsRoundDownOnce }
+{}
+
+/// The packed numbers by which date-times compare are equal, and in order, exactly where their wall
+/// clocks are.
+pub fn packed_numbers_keep_the_order()
+    ensures { PackedNumbersKeepTheOrder }
 {}

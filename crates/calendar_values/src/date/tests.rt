@@ -1,5 +1,6 @@
 use crate::{
-    ComponentRange, Date, Month, SignedDuration, Weekday, days_in_year, is_leap_year, laws,
+    ComponentRange, Date, Month, SignedDuration, Time, UtcOffset, Weekday, constants,
+    days_in_month, days_in_year, is_leap_year, laws, leap_ordinal_to_month_day,
 };
 use std::hash::{DefaultHasher, Hash, Hasher};
 use std::test::Fail;
@@ -187,13 +188,193 @@ const DAYS: [Day; 21] = [
     },
 ];
 
+// As `tools/day_by_day` counts them, one day at a time.
+const FAR_DAYS: [Day; 22] = [
+    Day {
+        date: (-999_999, 1, 1),
+        julian_day: -363_521_074,
+        ordinal: 1,
+        iso_week: (-999_999, 1, Weekday::Monday),
+        sunday_week: 0,
+        monday_week: 1,
+    },
+    Day {
+        date: (-999_999, 12, 31),
+        julian_day: -363_520_710,
+        ordinal: 365,
+        iso_week: (-999_998, 1, Weekday::Monday),
+        sunday_week: 52,
+        monday_week: 53,
+    },
+    Day {
+        date: (-400_001, 3, 1),
+        julian_day: -144_376_246,
+        ordinal: 60,
+        iso_week: (-400_001, 9, Weekday::Monday),
+        sunday_week: 9,
+        monday_week: 9,
+    },
+    Day {
+        date: (-400_000, 2, 29),
+        julian_day: -144_375_881,
+        ordinal: 60,
+        iso_week: (-400_000, 9, Weekday::Tuesday),
+        sunday_week: 9,
+        monday_week: 9,
+    },
+    Day {
+        date: (-10_000, 12, 31),
+        julian_day: -1_931_000,
+        ordinal: 366,
+        iso_week: (-10_000, 52, Weekday::Sunday),
+        sunday_week: 53,
+        monday_week: 52,
+    },
+    Day {
+        date: (-4713, 11, 24),
+        julian_day: 0,
+        ordinal: 328,
+        iso_week: (-4713, 48, Weekday::Monday),
+        sunday_week: 47,
+        monday_week: 47,
+    },
+    Day {
+        date: (-400, 2, 29),
+        julian_day: 1_575_022,
+        ordinal: 60,
+        iso_week: (-400, 9, Weekday::Tuesday),
+        sunday_week: 9,
+        monday_week: 9,
+    },
+    Day {
+        date: (-101, 12, 31),
+        julian_day: 1_684_535,
+        ordinal: 365,
+        iso_week: (-101, 52, Weekday::Sunday),
+        sunday_week: 53,
+        monday_week: 52,
+    },
+    Day {
+        date: (-100, 2, 28),
+        julian_day: 1_684_594,
+        ordinal: 59,
+        iso_week: (-100, 9, Weekday::Wednesday),
+        sunday_week: 8,
+        monday_week: 9,
+    },
+    Day {
+        date: (-5, 3, 1),
+        julian_day: 1_719_293,
+        ordinal: 60,
+        iso_week: (-5, 9, Weekday::Wednesday),
+        sunday_week: 9,
+        monday_week: 9,
+    },
+    Day {
+        date: (-1, 12, 31),
+        julian_day: 1_721_059,
+        ordinal: 365,
+        iso_week: (-1, 52, Weekday::Friday),
+        sunday_week: 52,
+        monday_week: 52,
+    },
+    Day {
+        date: (0, 1, 1),
+        julian_day: 1_721_060,
+        ordinal: 1,
+        iso_week: (-1, 52, Weekday::Saturday),
+        sunday_week: 0,
+        monday_week: 0,
+    },
+    Day {
+        date: (0, 2, 29),
+        julian_day: 1_721_119,
+        ordinal: 60,
+        iso_week: (0, 9, Weekday::Tuesday),
+        sunday_week: 9,
+        monday_week: 9,
+    },
+    Day {
+        date: (0, 12, 31),
+        julian_day: 1_721_425,
+        ordinal: 366,
+        iso_week: (0, 52, Weekday::Sunday),
+        sunday_week: 53,
+        monday_week: 52,
+    },
+    Day {
+        date: (10_000, 1, 1),
+        julian_day: 5_373_485,
+        ordinal: 1,
+        iso_week: (9999, 52, Weekday::Saturday),
+        sunday_week: 0,
+        monday_week: 0,
+    },
+    Day {
+        date: (10_000, 2, 29),
+        julian_day: 5_373_544,
+        ordinal: 60,
+        iso_week: (10_000, 9, Weekday::Tuesday),
+        sunday_week: 9,
+        monday_week: 9,
+    },
+    Day {
+        date: (12_345, 6, 7),
+        julian_day: 6_230_136,
+        ordinal: 158,
+        iso_week: (12_345, 23, Weekday::Thursday),
+        sunday_week: 22,
+        monday_week: 23,
+    },
+    Day {
+        date: (99_999, 12, 31),
+        julian_day: 38_245_309,
+        ordinal: 365,
+        iso_week: (99_999, 52, Weekday::Friday),
+        sunday_week: 52,
+        monday_week: 52,
+    },
+    Day {
+        date: (100_000, 3, 1),
+        julian_day: 38_245_370,
+        ordinal: 61,
+        iso_week: (100_000, 9, Weekday::Wednesday),
+        sunday_week: 9,
+        monday_week: 9,
+    },
+    Day {
+        date: (400_000, 2, 29),
+        julian_day: 147_818_119,
+        ordinal: 60,
+        iso_week: (400_000, 9, Weekday::Tuesday),
+        sunday_week: 9,
+        monday_week: 9,
+    },
+    Day {
+        date: (999_999, 1, 1),
+        julian_day: 366_963_195,
+        ordinal: 1,
+        iso_week: (999_998, 53, Weekday::Friday),
+        sunday_week: 0,
+        monday_week: 0,
+    },
+    Day {
+        date: (999_999, 12, 31),
+        julian_day: 366_963_559,
+        ordinal: 365,
+        iso_week: (999_999, 52, Weekday::Friday),
+        sunday_week: 52,
+        monday_week: 52,
+    },
+];
+
 fn date(year: i32, month: u8, day: u8) -> Result<Date, ComponentRange> {
     Date::from_calendar_date(year, Month::from_number(month)?, day)
 }
 
 #[test]
 fn days_of_another_calendar(rt: HostRuntime) -> Result<(), Fail> {
-    for day in &DAYS {
+    for day in DAYS.iter().chain(FAR_DAYS.iter()) {
         let (year, month, day_of_month) = day.date;
         let date = date(year, month, day_of_month)?;
         assert_eq!(rt; date.to_julian_day(), day.julian_day, "{date}");
@@ -219,22 +400,26 @@ fn days_of_another_calendar(rt: HostRuntime) -> Result<(), Fail> {
 
 #[test]
 fn ends_of_the_range(rt: HostRuntime) -> Result<(), Fail> {
-    assert_eq!(rt; Date::from_julian_day(-1_930_999)?, Date::MIN);
-    assert_eq!(rt; Date::from_julian_day(5_373_484)?, Date::MAX);
+    assert_eq!(rt; Date::from_julian_day(-363_521_074)?, Date::MIN);
+    assert_eq!(rt; Date::from_julian_day(366_963_559)?, Date::MAX);
+    assert_eq!(rt; Date::MIN, date(-999_999, 1, 1)?);
+    assert_eq!(rt; Date::MAX, date(999_999, 12, 31)?);
     assert_eq!(rt; Date::MIN.weekday(), Weekday::Monday);
+    assert_eq!(rt; Date::MAX.weekday(), Weekday::Friday);
     assert_eq!(rt; Date::MIN.previous_day(), None);
     assert_eq!(rt; Date::MAX.next_day(), None);
     assert_eq!(rt;
         Date::MIN.next_day(),
-        Date::from_ordinal_date(-9999, 2).ok()
+        Date::from_ordinal_date(-999_999, 2).ok()
     );
     assert_eq!(rt;
         Date::MAX.previous_day(),
-        Date::from_ordinal_date(9999, 364).ok()
+        Date::from_ordinal_date(999_999, 364).ok()
     );
     assert_eq!(rt; date(-4713, 11, 24)?.to_julian_day(), 0);
     assert_eq!(rt; Date::UNIX_EPOCH.to_julian_day(), 2_440_588);
-    assert_eq!(rt; Date::MAX.to_iso_week_date(), (9999, 52, Weekday::Friday));
+    assert_eq!(rt; date(2000, 1, 1)?.to_julian_day(), 2_451_545);
+    assert_eq!(rt; date(2019, 1, 1)?.to_julian_day(), 2_458_485);
     Ok(())
 }
 
@@ -244,18 +429,18 @@ fn refusals(rt: HostRuntime) -> Result<(), Fail> {
     let february = date(2022, 2, 18)?;
     let rows = [
         (
-            Date::from_julian_day(-1_931_000),
+            Date::from_julian_day(-363_521_075),
             ComponentRange::new("julian_day", false),
         ),
         (
-            Date::from_julian_day(5_373_485),
+            Date::from_julian_day(366_963_560),
             ComponentRange::new("julian_day", false),
         ),
-        (date(10_000, 13, 0), ComponentRange::new("month", false)),
+        (date(1_000_000, 13, 0), ComponentRange::new("month", false)),
         (date(2022, 0, 1), ComponentRange::new("month", false)),
-        (date(-10_000, 2, 30), ComponentRange::new("year", false)),
+        (date(-1_000_000, 2, 30), ComponentRange::new("year", false)),
         (
-            Date::from_ordinal_date(10_000, 0),
+            Date::from_ordinal_date(1_000_000, 0),
             ComponentRange::new("year", false),
         ),
         (
@@ -271,7 +456,7 @@ fn refusals(rt: HostRuntime) -> Result<(), Fail> {
             ComponentRange::new("ordinal", false),
         ),
         (
-            february.replace_year(10_000),
+            february.replace_year(1_000_000),
             ComponentRange::new("year", false),
         ),
         (february.replace_day(0), ComponentRange::new("day", false)),
@@ -295,6 +480,15 @@ fn refusals(rt: HostRuntime) -> Result<(), Fail> {
     }
     let refusal = ComponentRange::new("ordinal", true);
     assert_eq!(rt; refusal.name(), "ordinal");
+    let alloc = rt.alloc();
+    assert_eq!(rt;
+        format!(in alloc; "{refusal}")?.as_str(),
+        "ordinal is out of range given the other parts"
+    );
+    assert_eq!(rt;
+        format!(in alloc; "{:>22}", ComponentRange::new("day", false))?.as_str(),
+        "   day is out of range"
+    );
     assert!(rt; refusal.is_conditional());
     assert_ne!(rt; refusal, ComponentRange::new("ordinal", false));
     Ok(())
@@ -311,6 +505,12 @@ fn replaced_parts(rt: HostRuntime) -> Result<(), Fail> {
         is_leap_year(0) && is_leap_year(-4) && !is_leap_year(-100) && is_leap_year(i32::MIN)
     );
     assert_eq!(rt; (days_in_year(1900), days_in_year(2000)), (365, 366));
+    assert_eq!(rt; days_in_month(2000, Month::February), 29);
+    assert_eq!(rt; days_in_month(1900, Month::February), 28);
+    assert_eq!(rt; days_in_month(2022, Month::September), 30);
+    assert_eq!(rt; leap_ordinal_to_month_day(true, 60), (Month::February, 29));
+    assert_eq!(rt; leap_ordinal_to_month_day(false, 60), (Month::March, 1));
+    assert_eq!(rt; leap_ordinal_to_month_day(true, 366), (Month::December, 31));
     Ok(())
 }
 
@@ -333,7 +533,7 @@ fn moves_by_durations(rt: HostRuntime) -> Result<(), Fail> {
         Some(date(2000, 2, 29)?)
     );
     assert_eq!(rt; Date::MAX.checked_sub_std(Duration::MAX), None);
-    assert_eq!(rt; Date::MAX - Date::MIN, SignedDuration::days(7_304_483));
+    assert_eq!(rt; Date::MAX - Date::MIN, SignedDuration::days(730_484_633));
     Ok(())
 }
 
@@ -371,16 +571,53 @@ fn texts(rt: HostRuntime) -> Result<(), Fail> {
         format!(in alloc; "{early:14}|")?.as_str(),
         "-0005-03-01   |"
     );
-    assert_eq!(rt; Date::MAX.text().as_str(), "9999-12-31");
+    assert_eq!(rt; date(9_999, 12, 31)?.text().as_str(), "9999-12-31");
+    assert_eq!(rt; date(10_000, 1, 1)?.text().as_str(), "+10000-01-01");
+    assert_eq!(rt; date(-10_000, 1, 1)?.text().as_str(), "-10000-01-01");
+    assert_eq!(rt; Date::MIN.text().as_str(), "-999999-01-01");
+    assert_eq!(rt; Date::MAX.text().as_str(), "+999999-12-31");
+    assert_eq!(rt; Date::MAX.text().as_bytes().len(), 13);
+    Ok(())
+}
+
+#[test]
+fn names(rt: HostRuntime) -> Result<(), Fail> {
+    let alloc = rt.alloc();
+    let mut months = String::new(alloc);
+    for number in 1..13u8 {
+        let month = Month::from_number(number)?;
+        months.push_str(format!(in alloc; "{month} ")?.as_str())?;
+    }
     assert_eq!(rt;
-        format!(in alloc; "{} {:>9}", Month::January, Weekday::Monday)?.as_str(),
-        "January    Monday"
+        months.as_str(),
+        "January February March April May June July August September October November December "
+    );
+    let mut weekdays = String::new(alloc);
+    let mut day = date(2022, 2, 14)?;
+    for _ in 0..7 {
+        weekdays.push_str(format!(in alloc; "{:?} ", day.weekday())?.as_str())?;
+        day = day.next_day().ok_or("the last day")?;
+    }
+    assert_eq!(rt;
+        weekdays.as_str(),
+        "Monday Tuesday Wednesday Thursday Friday Saturday Sunday "
+    );
+    assert_eq!(rt;
+        format!(in alloc; "{:?} {:>9}{:*^8}", Month::May, Weekday::Monday, Month::May)?.as_str(),
+        "May    Monday**May***"
     );
     Ok(())
 }
 
 #[test]
-fn laws_are_called() {
+fn constants_and_laws_are_called(rt: HostRuntime) {
+    assert_eq!(rt;
+        constants::dates(),
+        (Date::MIN, Date::MAX, Date::UNIX_EPOCH)
+    );
+    assert_eq!(rt; constants::times(), (Time::MIDNIGHT, Time::MAX));
+    assert_eq!(rt; constants::offsets(), UtcOffset::UTC);
+    assert_eq!(rt; constants::durations().0, SignedDuration::ZERO);
     laws::years_follow();
     laws::year_is_unique();
     laws::calendar_dates_are_days();

@@ -1,5 +1,5 @@
 use super::*;
-use std::hash::DefaultHasher;
+use std::hash::{DefaultHasher, Hash, Hasher};
 use std::test::Fail;
 
 fn time(hour: u8, minute: u8, second: u8, nanosecond: u32) -> Result<Time, Fail> {

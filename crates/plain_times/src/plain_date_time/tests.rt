@@ -1,6 +1,8 @@
-use super::*;
+use crate::PlainDateTime;
+use calendar_values::{ComponentRange, Date, Month, SignedDuration, Time, Weekday};
 use std::hash::{DefaultHasher, Hash, Hasher};
 use std::test::Fail;
+use std::time::Duration;
 
 fn at(
     date: (i32, Month, u8),
@@ -101,7 +103,7 @@ fn replacements(rt: HostRuntime) -> Result<(), Fail> {
             ComponentRange::new("day", true),
         ),
         (
-            leap_day.replace_year(10_000),
+            leap_day.replace_year(1_000_000),
             ComponentRange::new("year", false),
         ),
         (
@@ -176,22 +178,50 @@ fn truncations(rt: HostRuntime) -> Result<(), Fail> {
 #[test]
 fn texts(rt: HostRuntime) -> Result<(), Fail> {
     let alloc = rt.alloc();
-    let (first, last) = ends();
+    for (shown, text) in [
+        (PlainDateTime::MIN, "-999999-01-01 0:00:00.0"),
+        (PlainDateTime::MAX, "+999999-12-31 23:59:59.999999999"),
+        (PlainDateTime::UNIX_EPOCH, "1970-01-01 0:00:00.0"),
+        (
+            at((9999, Month::December, 31), 23, 59, 59, 999_999_999)?,
+            "9999-12-31 23:59:59.999999999",
+        ),
+        (
+            at((10_000, Month::January, 1), 0, 0, 0, 0)?,
+            "+10000-01-01 0:00:00.0",
+        ),
+        (
+            at((-9999, Month::January, 1), 0, 0, 0, 0)?,
+            "-9999-01-01 0:00:00.0",
+        ),
+        (
+            at((-10_000, Month::December, 31), 9, 5, 0, 250_000_000)?,
+            "-10000-12-31 9:05:00.25",
+        ),
+    ] {
+        assert_eq!(rt; format!(in alloc; "{shown}")?.as_str(), text);
+        assert_eq!(rt; format!(in alloc; "{shown:?}")?.as_str(), text);
+        assert_eq!(rt; shown.text().as_str(), text);
+    }
+    assert_eq!(rt; PlainDateTime::MAX.text().as_bytes().len(), 32);
+    Ok(())
+}
+
+#[test]
+fn padding(rt: HostRuntime) -> Result<(), Fail> {
+    let alloc = rt.alloc();
+    let first = PlainDateTime::MIN;
     assert_eq!(rt;
-        format!(in alloc; "{first}")?.as_str(),
-        "-9999-01-01 0:00:00.0"
+        format!(in alloc; "{first:26}|")?.as_str(),
+        "-999999-01-01 0:00:00.0   |"
     );
     assert_eq!(rt;
-        format!(in alloc; "{last:?}")?.as_str(),
-        "9999-12-31 23:59:59.999999999"
+        format!(in alloc; "{first:>26}")?.as_str(),
+        "   -999999-01-01 0:00:00.0"
     );
     assert_eq!(rt;
-        format!(in alloc; "{first:>24}")?.as_str(),
-        "   -9999-01-01 0:00:00.0"
-    );
-    assert_eq!(rt;
-        format!(in alloc; "{first:*^24}")?.as_str(),
-        "*-9999-01-01 0:00:00.0**"
+        format!(in alloc; "{first:*^26}")?.as_str(),
+        "*-999999-01-01 0:00:00.0**"
     );
     Ok(())
 }
@@ -213,4 +243,96 @@ fn comparisons(rt: HostRuntime) -> Result<(), Fail> {
     assert_eq!(rt; hashed(later), hashed(latest.truncate_to_hour()));
     assert!(rt; hashed(later) != hashed(latest));
     Ok(())
+}
+
+#[test]
+fn ends_of_the_range(rt: HostRuntime) -> Result<(), Fail> {
+    let (first, last) = (PlainDateTime::MIN, PlainDateTime::MAX);
+    let whole_range = Duration::new(63_113_872_377_599, 999_999_999);
+    let too_long = Duration::from_secs(63_113_872_377_600);
+    let whole_range_signed = SignedDuration::new(63_113_872_377_599, 999_999_999);
+    let too_long_signed = SignedDuration::seconds(63_113_872_377_600);
+    for (sum, expected) in [
+        (first.checked_add_std(whole_range), Some(last)),
+        (first.checked_add_std(too_long), None),
+        (last.checked_sub_std(whole_range), Some(first)),
+        (last.checked_sub_std(too_long), None),
+        (last.checked_sub_std(Duration::MAX), None),
+        (first.checked_add(whole_range_signed), Some(last)),
+        (first.checked_add(too_long_signed), None),
+        (last.checked_sub(whole_range_signed), Some(first)),
+        (last.checked_sub(too_long_signed), None),
+        (first.checked_add(SignedDuration::MAX), None),
+        (first.checked_add(SignedDuration::MIN), None),
+        (first.checked_sub(SignedDuration::MIN), None),
+        (last.checked_add(SignedDuration::ZERO), Some(last)),
+        (last.checked_add(SignedDuration::nanoseconds(1)), None),
+        (first.checked_sub(SignedDuration::nanoseconds(1)), None),
+    ] {
+        assert_eq!(rt; sum, expected);
+    }
+    for (sum, expected) in [
+        (first.saturating_add(SignedDuration::MAX), last),
+        (last.saturating_add(SignedDuration::MIN), first),
+        (last.saturating_sub(SignedDuration::MIN), last),
+        (last.saturating_sub(SignedDuration::MAX), first),
+        (first.saturating_add(whole_range_signed), last),
+        (last.saturating_sub(whole_range_signed), first),
+    ] {
+        assert_eq!(rt; sum, expected);
+    }
+    let difference = last - first;
+    assert_eq!(rt; difference.whole_seconds(), 63_113_872_377_599);
+    assert_eq!(rt; difference.subsec_nanoseconds(), 999_999_999);
+    Ok(())
+}
+
+#[test]
+fn sums_within_the_range(rt: HostRuntime) -> Result<(), Fail> {
+    let afternoon = at((2019, Month::November, 25), 15, 30, 0, 0)?;
+    let later = at((2019, Month::November, 26), 18, 30, 0, 0)?;
+    let earlier = at((2019, Month::November, 24), 12, 30, 0, 0)?;
+    let hours_27 = SignedDuration::hours(27);
+    let hours_27_back = SignedDuration::hours(-27);
+    let hours_27_std = Duration::from_secs(97_200);
+    for (sum, expected) in [
+        (afternoon.checked_add(hours_27), later),
+        (afternoon.checked_sub(hours_27_back), later),
+        (afternoon.checked_add_std(hours_27_std), later),
+        (afternoon.checked_sub(hours_27), earlier),
+        (afternoon.checked_add(hours_27_back), earlier),
+        (afternoon.checked_sub_std(hours_27_std), earlier),
+        (Some(afternoon.saturating_add(hours_27)), later),
+        (Some(afternoon.saturating_sub(hours_27)), earlier),
+        (by_operators(later, hours_27, hours_27_std), afternoon),
+    ] {
+        assert_eq!(rt; sum, Some(expected));
+    }
+    Ok(())
+}
+
+// Takes the duration away once more than it adds it, by each operator.
+fn by_operators(
+    start: PlainDateTime,
+    duration: SignedDuration,
+    same: Duration,
+) -> Option<PlainDateTime> {
+    start.checked_sub(duration)?;
+    let mut difference = start;
+    difference -= duration;
+    difference.checked_add_std(same)?;
+    difference += same;
+    difference.checked_sub_std(same)?;
+    difference -= same;
+    difference.checked_add(duration)?;
+    difference += duration;
+    difference.checked_sub(duration)?;
+    let difference = difference - duration;
+    difference.checked_add(duration)?;
+    let sum = difference + duration;
+    sum.checked_sub_std(same)?;
+    let difference = sum - same;
+    difference.checked_add_std(same)?;
+    let sum = difference + same;
+    sum.checked_sub(duration)
 }

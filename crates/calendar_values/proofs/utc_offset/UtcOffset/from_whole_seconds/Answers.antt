@@ -12,8 +12,14 @@ invariant_of-result c =
     let in_range : IsOffset o = (omega (arith, signed_arith), omega (arith, signed_arith)) in
     rw (computed_hours o in_range, computed_minutes o in_range, computed_seconds o in_range) (IsOffsetParts-of o in_range)
 
-pub returns : goal.returns
-returns c =
+pub returns-clause-value : goal.returns-clause-value
+returns-clause-value c =
+    let o = c.args.seconds in
+    let in_range : IsOffset o = (omega (arith, signed_arith), omega (arith, signed_arith)) in
+    (in_range, rw (computed_hours o in_range, computed_minutes o in_range, computed_seconds o in_range) (seconds_of_parts-of o))
+
+pub returns-clause-equation : goal.returns-clause-equation
+returns-clause-equation c =
     let o = c.args.seconds in
     let in_range : IsOffset o = (omega (arith, signed_arith), omega (arith, signed_arith)) in
     rw (computed_hours o in_range, computed_minutes o in_range, computed_seconds o in_range) (ap Ok (seconds_of_parts-of o) ∙ sym (offset_of_seconds-in o in_range))

@@ -1,0 +1,100 @@
+-- Packed numbers are in the order of the wall clocks that they stand for.
+use Rattle.std.proofs.Common.{◌≡◌, ◌↔◌, ℕ, sym, ◌∙◌, ap, arith, ℤ, pos, ◌+ℤ◌, ◌<ℤ◌, int_cmp}
+use Rattle.std.proofs.lemmas.Int.{ints, by_lt_z}
+use Rattle.std.specs.Bool.{one_answer}
+use Rattle.std.specs.Cmp.{signed_Decides}
+use Rattle.std.specs.Ordering.{int_eq}
+use Rattle.calendar_values.specs.Calendar.{year_of, ordinal_of}
+use Rattle.calendar_values.specs.DayLaws.{IsOrdinalDate-of, day_of_ordinal_date-of}
+use Rattle.calendar_values.specs.SignedArith.{signed_arith}
+use Rattle.calendar_values.specs.WallClock.{wall_day, wall_time}
+use Rattle.calendar_values.specs.WallClockLaws.{wall_clock-parts, IsClock-wall_time}
+use Rattle.calendar_values.specs.YearLaws.{year_start-mono, year_start-next, days_in_year_bounds}
+use Rattle.plain_times.specs.Packed.{IsParts, wall_clock_of_parts, packed_parts, packed_wall_clock}
+
+later_year : (y z : ℤ) (o p c d : ℕ) → IsParts y o c → IsParts z p d → y <ℤ z → wall_clock_of_parts y o c <ℤ wall_clock_of_parts z p d
+later_year y z o p c d h k lt =
+    let in_year = h.date in
+    let in_day = h.clock in
+    let in_other_year = k.date in
+    omega (arith, signed_arith, year_start-mono (y +ℤ pos 1) z (omega (arith, signed_arith)), year_start-next y)
+
+later_year_packed : (y z : ℤ) (o p c d : ℕ) → IsParts y o c → IsParts z p d → y <ℤ z → packed_parts y o c <ℤ packed_parts z p d
+later_year_packed y z o p c d h k lt =
+    let in_year = h.date in
+    let in_day = h.clock in
+    omega (arith, ints, days_in_year_bounds y)
+
+same_year : (y : ℤ) (o p c d : ℕ) → IsParts y o c → IsParts y p d → packed_parts y o c <ℤ packed_parts y p d → wall_clock_of_parts y o c <ℤ wall_clock_of_parts y p d
+same_year y o p c d h k lt = let in_day = h.clock in let in_other_day = k.clock in omega (arith, ints)
+
+same_parts : (y : ℤ) (o p c d : ℕ) → IsParts y o c → IsParts y p d → packed_parts y o c ≡ packed_parts y p d → wall_clock_of_parts y o c ≡ wall_clock_of_parts y p d
+same_parts y o p c d h k e = let in_day = h.clock in let in_other_day = k.clock in omega (arith, ints)
+
+-- a smaller packed number is that of an earlier wall clock
+pub packed_parts-lt : (y z : ℤ) (o p c d : ℕ) → IsParts y o c → IsParts z p d → packed_parts y o c <ℤ packed_parts z p d → wall_clock_of_parts y o c <ℤ wall_clock_of_parts z p d
+packed_parts-lt y z o p c d h k lt =
+    by_lt_z y z (later_year y z o p c d h k) (λ ge. by_lt_z z y
+    (λ gt. absurd (omega (arith, ints, later_year_packed z y p o d c k h gt)))
+    (λ le. let e : z ≡ y = omega (arith, ints) in rw e (same_year y o p c d h (rw e at k) (rw e at lt))))
+
+-- equal packed numbers are those of one wall clock
+pub packed_parts-same : (y z : ℤ) (o p c d : ℕ) → IsParts y o c → IsParts z p d → packed_parts y o c ≡ packed_parts z p d → wall_clock_of_parts y o c ≡ wall_clock_of_parts z p d
+packed_parts-same y z o p c d h k same =
+    by_lt_z y z
+    (λ lt. absurd (omega (arith, ints, later_year_packed y z o p c d h k lt)))
+    (λ ge. by_lt_z z y
+    (λ gt. absurd (omega (arith, ints, later_year_packed z y p o d c k h gt)))
+    (λ le. let e : z ≡ y = omega (arith, ints) in rw e (same_parts y o p c d h (rw e at k) (rw e at same))))
+
+int_cmp_agrees : (a b x y : ℤ) → (a <ℤ b → x <ℤ y) → (b <ℤ a → y <ℤ x) → (a ≡ b → x ≡ y) → int_cmp a b ≡ int_cmp x y
+int_cmp_agrees a b x y l g s = grind (arith, ints)
+
+-- so parts compare as their wall clocks do
+pub int_cmp-packed_parts : (y z : ℤ) (o p c d : ℕ) → IsParts y o c → IsParts z p d → int_cmp (packed_parts y o c) (packed_parts z p d) ≡ int_cmp (wall_clock_of_parts y o c) (wall_clock_of_parts z p d)
+int_cmp-packed_parts y z o p c d h k =
+    int_cmp_agrees _ _ _ _ (packed_parts-lt y z o p c d h k) (packed_parts-lt z y p o d c k h) (packed_parts-same y z o p c d h k)
+
+-- each wall clock has parts, and is theirs
+pub IsParts-of : (w : ℤ) → IsParts (year_of (wall_day w)) (ordinal_of (wall_day w)) (wall_time w)
+IsParts-of w = record { date = IsOrdinalDate-of (wall_day w); clock = IsClock-wall_time w }
+
+pub wall_clock_of_parts-of : (w : ℤ) → wall_clock_of_parts (year_of (wall_day w)) (ordinal_of (wall_day w)) (wall_time w) ≡ w
+wall_clock_of_parts-of w = rw (day_of_ordinal_date-of (wall_day w)) (wall_clock-parts w)
+
+-- so wall clocks compare as their packed numbers do
+pub int_cmp-packed_wall_clock : (w v : ℤ) → int_cmp (packed_wall_clock w) (packed_wall_clock v) ≡ int_cmp w v
+unfolding packed_wall_clock
+int_cmp-packed_wall_clock w v =
+    rw (wall_clock_of_parts-of w, wall_clock_of_parts-of v) at (int_cmp-packed_parts _ _ _ _ _ _ (IsParts-of w) (IsParts-of v))
+
+-- and are equal where those are
+packed_wall_clock-same : (w v : ℤ) → packed_wall_clock w ≡ packed_wall_clock v → w ≡ v
+unfolding packed_wall_clock
+packed_wall_clock-same w v e =
+    rw (wall_clock_of_parts-of w, wall_clock_of_parts-of v) at (packed_parts-same _ _ _ _ _ _ (IsParts-of w) (IsParts-of v) e)
+
+pub int_eq-packed_wall_clock : (w v : ℤ) → int_eq (packed_wall_clock w) (packed_wall_clock v) ≡ int_eq w v
+int_eq-packed_wall_clock w v =
+    one_answer (int_eq (packed_wall_clock w) (packed_wall_clock v)) (int_eq w v)
+    (λ t. packed_wall_clock-same w v ((signed_Decides (packed_wall_clock w) (packed_wall_clock v)).0 t), λ e. (signed_Decides (packed_wall_clock w) (packed_wall_clock v)).1 (ap packed_wall_clock e))
+    (signed_Decides w v)
+
+pub packed_wall_clock-equal : (w v : ℤ) → (packed_wall_clock w ≡ packed_wall_clock v) ↔ (w ≡ v)
+packed_wall_clock-equal w v = (packed_wall_clock-same w v, ap packed_wall_clock)
+
+packed_wall_clock-lt : (w v : ℤ) → packed_wall_clock w <ℤ packed_wall_clock v → w <ℤ v
+unfolding packed_wall_clock
+packed_wall_clock-lt w v lt =
+    rw (wall_clock_of_parts-of w, wall_clock_of_parts-of v) at (packed_parts-lt _ _ _ _ _ _ (IsParts-of w) (IsParts-of v) lt)
+
+pub packed_wall_clock-earlier : (w v : ℤ) → (packed_wall_clock w <ℤ packed_wall_clock v) ↔ (w <ℤ v)
+packed_wall_clock-earlier w v = (
+  packed_wall_clock-lt w v,
+  λ lt.
+      by_lt_z (packed_wall_clock w) (packed_wall_clock v) (λ below. below)
+      (λ ge. by_lt_z (packed_wall_clock v) (packed_wall_clock w) (λ gt. let back = packed_wall_clock-lt v w gt in absurd (omega (arith, ints)))
+      (λ le. let same = packed_wall_clock-same w v (omega (arith, ints)) in absurd (omega (arith, ints)))),
+)
+
+pub ruleset packed_order = (int_cmp-packed_wall_clock, int_eq-packed_wall_clock)
