@@ -1,18 +1,14 @@
 -- What the second and the nanosecond of a timestamp say of its instant.
-use Rattle.std.proofs.Common.{◌≡◌, ℕ, ◌/◌, ◌%◌, ◌<◌, ◌≤ℤ◌, arith, ℤ, pos, negsuc, ◌+ℤ◌, ◌*ℤ◌, unsigned_abs, Ok}
+use Rattle.std.proofs.Common.{◌≡◌, ℕ, ◌/◌, ◌%◌, ◌<◌, ◌≤ℤ◌, arith, ℤ, pos, negsuc, ◌+ℤ◌, ◌*ℤ◌, unsigned_abs, ap, ◌∙◌}
 use Rattle.std.specs.Int.{int_div_euclid, int_rem_euclid}
 use Rattle.std.proofs.lemmas.Int.{ints}
-use Rattle.std.proofs.lemmas.Bool.Decides.{nat_tests}
-use Rattle.calendar_values.specs.Calendar.{year_of, ordinal_of, day_of_ordinal_date}
-use Rattle.calendar_values.specs.Clock.{nanos_per_second}
-use Rattle.calendar_values.specs.DayLaws.{IsYear-year_of, IsOrdinalDate-of, day_of_ordinal_date-of}
+use Rattle.calendar_values.specs.Clock.{nanos_per_second, clock_of_parts, hour_of, minute_of, second_of}
 use Rattle.calendar_values.specs.Range.{IsDay}
-use Rattle.calendar_values.specs.Refusals.{ordinal_date}
 use Rattle.calendar_values.specs.SignedArith.{signed_arith, signed_casts}
 use Rattle.calendar_values.specs.WallClock.{unix_seconds_of, wall_day, wall_time}
 use Rattle.calendar_values.specs.WallClockLaws.{IsDay-wall_day}
 use Rattle.calendar_values.specs.Weeks.{weekday_of}
-use Rattle.calendar_values.specs.YearLaws.{days_in_year_bounds}
+use Rattle.plain_times.specs.Replacements.{with_time}
 use Rattle.stamp_times.specs.Instants.{instant_of_parts, unix_nanosecond_of, unix_milliseconds_of, unix_microseconds_of}
 use Rattle.stamp_times.specs.InstantLaws.{unix_seconds_of-parts, unix_nanosecond_of-parts}
 
@@ -46,17 +42,14 @@ pub weekday_of-Monday : (n : ℤ) → IsDay n → weekday_of n ≡ unsigned_abs 
 unfolding weekday_of
 weekday_of-Monday n h = omega (arith, signed_arith)
 
--- the date of a day of the range
-pub ordinal_date-is : (n y : ℤ) (ordinal : ℕ) → IsDay n → y ≡ year_of n → ordinal ≡ ordinal_of n → ordinal_date y ordinal ≡ Ok n
-ordinal_date-is n y ordinal h year place =
-    let years = rw (← year) at (IsYear-year_of n h) in
-    let date = rw (← year, ← place) at (IsOrdinalDate-of n) in
-    let length = days_in_year_bounds y in
-    let day : day_of_ordinal_date y ordinal ≡ n = rw (year, place) (day_of_ordinal_date-of n) in
-    rw day (grind (arith, nat_tests, ints))
+-- another nanosecond of the same second
+with_time-second : (i : ℤ) (n : ℕ) → with_time i (clock_of_parts (hour_of (wall_time i)) (minute_of (wall_time i)) (second_of (wall_time i)) n) ≡ instant_of_parts (unix_seconds_of i) n
+unfolding with_time wall_day wall_time
+with_time-second (pos a) n = omega (arith, ints)
+with_time-second (negsuc a) n = omega (arith, ints)
 
-pub ordinal_date-only : (n date y : ℤ) (ordinal : ℕ) → IsDay n → y ≡ year_of n → ordinal ≡ ordinal_of n → ordinal_date y ordinal ≡ Ok date → date ≡ n
-ordinal_date-only n date y ordinal h year place e = let is = ordinal_date-is n y ordinal h year place in cc
+pub with_time-nanosecond : (i s : ℤ) (n m : ℕ) → n < nanos_per_second → instant_of_parts s n ≡ i → with_time i (clock_of_parts (hour_of (wall_time i)) (minute_of (wall_time i)) (second_of (wall_time i)) m) ≡ instant_of_parts s m
+with_time-nanosecond i s n m p e = with_time-second i m ∙ ap (λ (t : ℤ). instant_of_parts t m) (unix_seconds_of-is i s n p e)
 
 pub ruleset fields = (unix_seconds_of-is, unix_nanosecond_of-is)
 
@@ -66,4 +59,4 @@ pub ruleset days = (signed_casts, wall_day-second, wall_time-second, IsDay-wall_
 
 pub ruleset weekdays = (signed_casts, weekday_of-Monday)
 
-pub ruleset nanoseconds = (signed_casts)
+pub ruleset nanoseconds = (signed_casts, with_time-nanosecond)

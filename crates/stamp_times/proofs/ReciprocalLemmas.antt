@@ -2,10 +2,12 @@
 use Rattle.std.proofs.Common.{◌≡◌, ℕ, suc, ◌+◌, ◌*◌, ◌^◌, ◌<◌, ◌≤◌, sym, ◌∙◌, arith, ℤ, pos, negsuc, ◌+ℤ◌, ◌-ℤ◌}
 use Rattle.std.proofs.lemmas.Bool.Decides.{nat_tests}
 use Rattle.std.proofs.lemmas.Int.{ints}
+use Rattle.std.specs.Int.{IsInRange}
 use Rattle.calendar_values.specs.Calendar.{is_leap_year, days_in_year, year_start, year_of, ordinal_of, day_of_ordinal_date, IsOrdinalDate}
 use Rattle.calendar_values.specs.DayLaws.{year_of-is, ordinal_of-is, IsYear-year_of}
-use Rattle.calendar_values.specs.Range.{IsDay, IsYear}
-use Rattle.calendar_values.specs.YearLaws.{days_from_0, days_from_0-suc, leap_day-shift, days_in_year-leap_day, year_start-closed}
+use Rattle.calendar_values.specs.Range.{IsDay}
+use Rattle.calendar_values.specs.Refusals.{IsOrdinalDateOfRange}
+use Rattle.calendar_values.specs.YearLaws.{days_from_0, days_from_0-suc, leap_day-shift, days_in_year-leap_day, days_in_year_bounds, year_start-closed}
 use Rattle.stamp_times.specs.Reciprocal.{shifted_day, IsShiftedDay, years_of, step_year, step_leap, step_ordinal}
 
 -- the days before the year and the day of the year make the day
@@ -65,12 +67,25 @@ year_of-step n h = year_of-is n (step_year (shifted_day n)) (step_ordinal (shift
 pub ordinal_of-step : (n : ℤ) → IsDay n → ordinal_of n ≡ step_ordinal (shifted_day n)
 ordinal_of-step n h = ordinal_of-is n (step_year (shifted_day n)) (step_ordinal (shifted_day n)) (IsOrdinalDate-step n h) (day_of_ordinal_date-step n h)
 
-pub IsOrdinalDate-found : (n y : ℤ) (ordinal : ℕ) → IsDay n → y ≡ step_year (shifted_day n) → ordinal ≡ step_ordinal (shifted_day n) → IsOrdinalDate y ordinal
-IsOrdinalDate-found n y ordinal h year place = rw (year, place) (IsOrdinalDate-step n h)
+pub IsOrdinalDateOfRange-found : (n y : ℤ) (ordinal : ℕ) → IsDay n → y ≡ step_year (shifted_day n) → ordinal ≡ step_ordinal (shifted_day n) → IsOrdinalDateOfRange y ordinal
+IsOrdinalDateOfRange-found n y ordinal h year place =
+    let date = IsOrdinalDate-step n h in
+    rw (year, place) (rw (year_of-step n h) at (IsYear-year_of n h), (date.first, date.last))
+
+pub day_of_ordinal_date-found : (n y : ℤ) (ordinal : ℕ) → IsDay n → y ≡ step_year (shifted_day n) → ordinal ≡ step_ordinal (shifted_day n) → day_of_ordinal_date y ordinal ≡ n
+day_of_ordinal_date-found n y ordinal h year place = rw (year, place) (day_of_ordinal_date-step n h)
+
+pub IsInRange-found : (n : ℤ) (ordinal : ℕ) → IsDay n → ordinal ≡ step_ordinal (shifted_day n) → IsInRange 1 366 ordinal
+IsInRange-found n ordinal h place =
+    let date = IsOrdinalDate-step n h in
+    let first = date.first in
+    let last = date.last in
+    let length = days_in_year_bounds (step_year (shifted_day n)) in
+    rw place (omega arith)
 
 pub is_leap_year-step : (n : ℤ) → IsDay n → is_leap_year (year_of n) ≡ step_leap (shifted_day n)
 is_leap_year-step n h =
     let day = shifted_day n in
     rw (year_of-step n h) (is_leap_year-shift (step_year day) (years_of day) (step_year-is day) ∙ sym (leap_is day (IsShiftedDay-shifted_day n h)))
 
-pub ruleset steps = (years_of-bound, IsShiftedDay-shifted_day, IsYear-year_of)
+pub ruleset steps = (years_of-bound, IsShiftedDay-shifted_day)

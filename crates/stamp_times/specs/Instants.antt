@@ -1,17 +1,15 @@
 -- An instant is a Unix second and a nanosecond of that second, and has counts in larger units that are rounded down, before 1970 too.
 use Rattle.std.specs.Prelude.{ℕ, ℤ, pos, ◌+ℤ◌, ◌*ℤ◌}
 use Rattle.std.specs.Int.{int_div_euclid}
-use Rattle.calendar_values.specs.Clock.{nanos_per_second, nanos_per_millisecond, nanos_per_microsecond, nanosecond_of}
+use Rattle.calendar_values.specs.Clock.{nanos_per_millisecond, nanos_per_microsecond, nanosecond_of}
 use Rattle.calendar_values.specs.WallClock.{wall_time}
+use Rattle.utc_times.specs.UnixTime.{instant_of_second}
 
 -- the instant of a Unix second and a nanosecond of that second
 abbrev pub instant_of_parts : ℤ → ℕ → ℤ
-instant_of_parts s n = (s *ℤ pos nanos_per_second) +ℤ pos n
+instant_of_parts s n = instant_of_second s +ℤ pos n
 
--- the instants of so many seconds, milliseconds and microseconds from 1970 on
-abbrev pub instant_of_seconds : ℤ → ℤ
-instant_of_seconds count = count *ℤ pos nanos_per_second
-
+-- the instants of so many milliseconds and microseconds from 1970 on
 abbrev pub instant_of_milliseconds : ℤ → ℤ
 instant_of_milliseconds count = count *ℤ pos nanos_per_millisecond
 

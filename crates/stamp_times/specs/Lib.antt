@@ -1,4 +1,5 @@
 pub mod InstantLaws
 pub mod Instants
 pub mod Reciprocal
+pub mod Refusals
 pub mod Texts

@@ -1,6 +1,7 @@
 //! Instants by their Unix seconds.
 #![tactic(auto)]
 
+pub mod constants;
 pub mod reciprocal;
 mod timestamp;
 

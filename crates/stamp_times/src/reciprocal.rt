@@ -6,8 +6,9 @@
 //! words: the quotient, and the fraction of the quotient.
 ghost use Rattle.std.specs.Prelude.{◌≡◌, ◌<◌, ◌≤◌, ◌^◌, ◌+◌, ◌*◌, ◌/◌, ◌%◌, pos, ◌-ℤ◌};
 ghost use Rattle.std.specs.Int.{IsInRange};
-ghost use Rattle.calendar_values.specs.Calendar.{is_leap_year, year_of, ordinal_of, IsOrdinalDate};
-ghost use Rattle.calendar_values.specs.Range.{IsDay, IsYear};
+ghost use Rattle.calendar_values.specs.Calendar.{is_leap_year, year_of, ordinal_of, day_of_ordinal_date};
+ghost use Rattle.calendar_values.specs.Range.{IsDay};
+ghost use Rattle.calendar_values.specs.Refusals.{IsOrdinalDateOfRange};
 ghost use Rattle.stamp_times.specs.Reciprocal.{shifted_day, IsShiftedDay, century_of, century_fraction_of, julian_count, IsJulianCount, julian_year_of, julian_year_fraction_of, years_of, step_year, step_leap, step_ordinal};
 
 // Days and years are counted from the year 0 by so many spans of 400 years, and from there to 1970.
@@ -61,16 +62,16 @@ fn words(scaled: u64) -> (u32, u32)
 }
 
 /// The year of a day, whether it is a leap year, and the day of the year, counted from 1 (Gregorian
-/// calendar). The day is counted from 1970-01-01, and must be from -365,961,662 to 364,522,971, the days of
-/// the years -999999 to 999999.
+/// calendar). The day is counted from 1970-01-01, and must be one of the range, from -365,961,662 to
+/// 364,522,971.
 #[tactic(auto, using(crate::proofs::ReciprocalLemmas::steps))]
 pub fn year_leap_ordinal(day: i32) -> (i32, bool, u16)
     requires { IsDay day }
     ensures year { result.0 ≡ year_of day }
     ensures leap { result.1 ≡ is_leap_year (year_of day) }
     ensures ordinal { result.2 ≡ ordinal_of day }
-    ensures year_in_range { IsYear result.0 }
-    ensures date { IsOrdinalDate result.0 result.2 }
+    ensures date { IsOrdinalDateOfRange result.0 result.2 }
+    ensures day { day_of_ordinal_date result.0 result.2 ≡ day }
     ensures ordinal_in_range { IsInRange 1 366 result.2 }
     ensures year_by_steps { result.0 ≡ step_year (shifted_day day) }
     ensures leap_by_steps { result.1 ≡ step_leap (shifted_day day) }

@@ -52,7 +52,7 @@ impl Timestamp {
     /// The date.
     pub fn date(self) -> Date
         ensures value { result ≡ wall_day self }
-        ensures in_range { IsWallClock self }
+        ensures self_in_range { IsWallClock self }
     {
         let (year, _, ordinal) = year_leap_ordinal(self.day_number());
         Date::from_ordinal_date(year, ordinal).unwrap()
@@ -61,13 +61,13 @@ impl Timestamp {
     /// The time of day.
     pub fn time(self) -> Time
         ensures value { result ≡ wall_time self }
-        ensures in_range { IsWallClock self }
+        ensures self_in_range { IsWallClock self }
     {
         let (hour, minute, second, nanosecond) = self.as_hms_nano();
         Time::from_hms_nano(hour, minute, second, nanosecond).unwrap()
     }
 
-    /// The year, -999999 to 999999.
+    /// As [`UtcDateTime::year`].
     pub fn year(self) -> i32
         ensures value { result ≡ year_of (wall_day self) }
         ensures in_range { IsYear result }
@@ -75,7 +75,7 @@ impl Timestamp {
         year_leap_ordinal(self.day_number()).0
     }
 
-    /// The month.
+    /// As [`UtcDateTime::month`].
     pub fn month(self) -> Month
         ensures { month_number result ≡ month_of (wall_day self) }
     {
@@ -83,7 +83,7 @@ impl Timestamp {
         leap_ordinal_to_month_day(is_leap, ordinal).0
     }
 
-    /// The day of the month, 1 to 31.
+    /// As [`UtcDateTime::day`].
     pub fn day(self) -> u8
         ensures value { result ≡ day_of_month_of (wall_day self) }
         ensures in_range { IsInRange 1 31 result }
@@ -92,7 +92,7 @@ impl Timestamp {
         leap_ordinal_to_month_day(is_leap, ordinal).1
     }
 
-    /// The day of the year, 1 to 366.
+    /// As [`UtcDateTime::ordinal`].
     pub fn ordinal(self) -> u16
         ensures value { result ≡ ordinal_of (wall_day self) }
         ensures in_range { IsInRange 1 366 result }
@@ -100,7 +100,7 @@ impl Timestamp {
         year_leap_ordinal(self.day_number()).2
     }
 
-    /// The ISO week, 1 to 53 (ISO 8601): it belongs to the year of its Thursday.
+    /// As [`UtcDateTime::iso_week`].
     pub fn iso_week(self) -> u8
         ensures value { result ≡ iso_week_of (wall_day self) }
         ensures in_range { IsInRange 1 53 result }
@@ -108,7 +108,7 @@ impl Timestamp {
         self.date().iso_week()
     }
 
-    /// The week counted by Sundays, 0 to 53: how many Sundays of the year lie on or before the date.
+    /// As [`UtcDateTime::sunday_based_week`].
     pub fn sunday_based_week(self) -> u8
         ensures value { result ≡ sunday_week_of (wall_day self) }
         ensures in_range { result ≤ 53 }
@@ -116,7 +116,7 @@ impl Timestamp {
         self.date().sunday_based_week()
     }
 
-    /// The week counted by Mondays, 0 to 53: how many Mondays of the year lie on or before the date.
+    /// As [`UtcDateTime::monday_based_week`].
     pub fn monday_based_week(self) -> u8
         ensures value { result ≡ monday_week_of (wall_day self) }
         ensures in_range { result ≤ 53 }
@@ -124,7 +124,7 @@ impl Timestamp {
         self.date().monday_based_week()
     }
 
-    /// The year, the month and the day of the month.
+    /// As [`UtcDateTime::to_calendar_date`].
     pub fn to_calendar_date(self) -> (i32, Month, u8)
         ensures year { result.0 ≡ year_of (wall_day self) }
         ensures month { month_number result.1 ≡ month_of (wall_day self) }
@@ -137,7 +137,7 @@ impl Timestamp {
         (year, month, day)
     }
 
-    /// The year and the day of the year.
+    /// As [`UtcDateTime::to_ordinal_date`].
     pub fn to_ordinal_date(self) -> (i32, u16)
         ensures year { result.0 ≡ year_of (wall_day self) }
         ensures ordinal { result.1 ≡ ordinal_of (wall_day self) }
@@ -148,7 +148,7 @@ impl Timestamp {
         (year, ordinal)
     }
 
-    /// The ISO year, the ISO week and the day of the week (ISO 8601).
+    /// As [`UtcDateTime::to_iso_week_date`].
     pub fn to_iso_week_date(self) -> (i32, u8, Weekday)
         ensures year { result.0 ≡ iso_year_of (wall_day self) }
         ensures week { result.1 ≡ iso_week_of (wall_day self) }
@@ -159,7 +159,7 @@ impl Timestamp {
         self.date().to_iso_week_date()
     }
 
-    /// The day of the week.
+    /// As [`UtcDateTime::weekday`].
     #[tactic(auto, using(crate::proofs::InstantLemmas::weekdays))]
     pub fn weekday(self) -> Weekday
         ensures { weekday_number result ≡ weekday_of (wall_day self) }
@@ -175,17 +175,17 @@ impl Timestamp {
         }
     }
 
-    /// The Julian day of the date, -363,521,074 to 366,963,559; it is 2,440,588 on 1970-01-01.
+    /// As [`UtcDateTime::to_julian_day`].
     pub fn to_julian_day(self) -> i32
         ensures value { result ≡ julian_day_of (wall_day self) }
-        ensures in_range { IsWallClock self }
+        ensures self_in_range { IsWallClock self }
     {
         self.day_number() + EPOCH_JULIAN_DAY
     }
 
-    /// The hour, the minute and the second.
+    /// As [`UtcDateTime::as_hms`].
     pub fn as_hms(self) -> (u8, u8, u8)
-        ensures value { result ≡ (hour_of (wall_time self), minute_of (wall_time self), second_of (wall_time self)) }
+        ensures value { let c = wall_time self in result ≡ (hour_of c, minute_of c, second_of c) }
         ensures in_range { IsTimeOfDay result.0 result.1 result.2 0 }
     {
         let second = self.second_of_day();
@@ -196,34 +196,34 @@ impl Timestamp {
         )
     }
 
-    /// The hour, the minute, the second and the millisecond of the second.
+    /// As [`UtcDateTime::as_hms_milli`].
     pub fn as_hms_milli(self) -> (u8, u8, u8, u16)
-        ensures value { result ≡ (hour_of (wall_time self), minute_of (wall_time self), second_of (wall_time self), millisecond_of (wall_time self)) }
+        ensures value { let c = wall_time self in result ≡ (hour_of c, minute_of c, second_of c, millisecond_of c) }
         ensures in_range { IsTimeOfDay result.0 result.1 result.2 (result.3 * nanos_per_millisecond) }
     {
         let (hour, minute, second) = self.as_hms();
         (hour, minute, second, self.millisecond())
     }
 
-    /// The hour, the minute, the second and the microsecond of the second.
+    /// As [`UtcDateTime::as_hms_micro`].
     pub fn as_hms_micro(self) -> (u8, u8, u8, u32)
-        ensures value { result ≡ (hour_of (wall_time self), minute_of (wall_time self), second_of (wall_time self), microsecond_of (wall_time self)) }
+        ensures value { let c = wall_time self in result ≡ (hour_of c, minute_of c, second_of c, microsecond_of c) }
         ensures in_range { IsTimeOfDay result.0 result.1 result.2 (result.3 * nanos_per_microsecond) }
     {
         let (hour, minute, second) = self.as_hms();
         (hour, minute, second, self.microsecond())
     }
 
-    /// The hour, the minute, the second and the nanosecond of the second.
+    /// As [`UtcDateTime::as_hms_nano`].
     pub fn as_hms_nano(self) -> (u8, u8, u8, u32)
-        ensures value { result ≡ (hour_of (wall_time self), minute_of (wall_time self), second_of (wall_time self), nanosecond_of (wall_time self)) }
+        ensures value { let c = wall_time self in result ≡ (hour_of c, minute_of c, second_of c, nanosecond_of c) }
         ensures in_range { IsTimeOfDay result.0 result.1 result.2 result.3 }
     {
         let (hour, minute, second) = self.as_hms();
         (hour, minute, second, self.nanosecond())
     }
 
-    /// The hour, 0 to 23.
+    /// As [`UtcDateTime::hour`].
     pub fn hour(self) -> u8
         ensures value { result ≡ hour_of (wall_time self) }
         ensures in_range { result ≤ 23 }
@@ -231,7 +231,7 @@ impl Timestamp {
         (self.second_of_day() / 3_600) as u8
     }
 
-    /// The minute of the hour, 0 to 59.
+    /// As [`UtcDateTime::minute`].
     pub fn minute(self) -> u8
         ensures value { result ≡ minute_of (wall_time self) }
         ensures in_range { result ≤ 59 }
@@ -239,7 +239,7 @@ impl Timestamp {
         (self.second_of_day() / 60 % 60) as u8
     }
 
-    /// The second of the minute, 0 to 59.
+    /// As [`UtcDateTime::second`].
     pub fn second(self) -> u8
         ensures value { result ≡ second_of (wall_time self) }
         ensures in_range { result ≤ 59 }
@@ -247,7 +247,7 @@ impl Timestamp {
         (self.second_of_day() % 60) as u8
     }
 
-    /// The millisecond of the second, 0 to 999.
+    /// As [`UtcDateTime::millisecond`].
     pub fn millisecond(self) -> u16
         ensures value { result ≡ millisecond_of (wall_time self) }
         ensures in_range { result ≤ 999 }
@@ -255,7 +255,7 @@ impl Timestamp {
         (self.nanosecond() / 1_000_000) as u16
     }
 
-    /// The microsecond of the second, 0 to 999,999.
+    /// As [`UtcDateTime::microsecond`].
     pub fn microsecond(self) -> u32
         ensures value { result ≡ microsecond_of (wall_time self) }
         ensures in_range { result ≤ 999_999 }
@@ -263,7 +263,7 @@ impl Timestamp {
         self.nanosecond() / 1_000
     }
 
-    /// The nanosecond of the second, 0 to 999,999,999.
+    /// As [`UtcDateTime::nanosecond`].
     #[tactic(auto, using(crate::proofs::InstantLemmas::fields))]
     pub fn nanosecond(self) -> u32
         ensures value { result ≡ nanosecond_of (wall_time self) }

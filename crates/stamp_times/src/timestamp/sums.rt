@@ -1,5 +1,5 @@
 //! Sums of a timestamp and a duration, in seconds and nanoseconds.
-ghost use Rattle.std.specs.Prelude.{◌≡◌, ◌<◌, pos, ◌+ℤ◌, ◌-ℤ◌, unsigned_abs, SomeIff};
+ghost use Rattle.std.specs.Prelude.{◌≡◌, ◌<◌, pos, ◌+ℤ◌, ◌-ℤ◌, ◌≤ℤ◌, unsigned_abs, SomeIff};
 ghost use Rattle.std.specs.Duration.{as_nanos};
 ghost use Rattle.calendar_values.specs.Clock.{nanos_per_second};
 ghost use Rattle.calendar_values.specs.WallClock.{IsWallClock};
@@ -14,7 +14,7 @@ use std::time::Duration;
 const NANOS_PER_SECOND: i32 = 1_000_000_000;
 
 impl Timestamp {
-    /// The instant so much later, or earlier for a negative duration. None outside the range.
+    /// As [`utc_times::UtcDateTime::checked_add`].
     pub fn checked_add(self, duration: SignedDuration) -> Option<Timestamp>
         ensures { SomeIff result (IsWallClock (self +ℤ duration)) (self +ℤ duration) }
     {
@@ -22,7 +22,7 @@ impl Timestamp {
         carried(seconds, self.nanosecond(), duration.subsec_nanoseconds())
     }
 
-    /// The instant so much earlier, or later for a negative duration. None outside the range.
+    /// As [`utc_times::UtcDateTime::checked_sub`].
     pub fn checked_sub(self, duration: SignedDuration) -> Option<Timestamp>
         ensures { SomeIff result (IsWallClock (self -ℤ duration)) (self -ℤ duration) }
     {
@@ -30,7 +30,7 @@ impl Timestamp {
         carried(seconds, self.nanosecond(), -duration.subsec_nanoseconds())
     }
 
-    /// The instant so much later. None outside the range.
+    /// As [`utc_times::UtcDateTime::checked_add_std`].
     pub fn checked_add_std(self, duration: Duration) -> Option<Timestamp>
         ensures { SomeIff result (IsWallClock (self +ℤ pos (as_nanos duration))) (self +ℤ pos (as_nanos duration)) }
     {
@@ -38,7 +38,7 @@ impl Timestamp {
         carried(seconds, self.nanosecond(), duration.subsec_nanos() as i32)
     }
 
-    /// The instant so much earlier. None outside the range.
+    /// As [`utc_times::UtcDateTime::checked_sub_std`].
     pub fn checked_sub_std(self, duration: Duration) -> Option<Timestamp>
         ensures { SomeIff result (IsWallClock (self -ℤ pos (as_nanos duration))) (self -ℤ pos (as_nanos duration)) }
     {
@@ -50,11 +50,12 @@ impl Timestamp {
         )
     }
 
-    /// The instant so much later, or earlier for a negative duration; outside the range the end of it that
-    /// lies in this direction.
+    /// As [`utc_times::UtcDateTime::saturating_add`].
     #[tactic(auto, using(std::proofs::lemmas::Int::ints), unfolding(plain_times::specs::Sums::clamped))]
     pub fn saturating_add(self, duration: SignedDuration) -> Timestamp
-        ensures { result ≡ clamped (self +ℤ duration) }
+        ensures value { result ≡ clamped (self +ℤ duration) }
+        ensures not_before { pos 0 ≤ℤ duration → self ≤ℤ result }
+        ensures not_after { duration ≤ℤ pos 0 → result ≤ℤ self }
     {
         let _in_range = self.as_seconds();
         match self.checked_add(duration) {
@@ -69,11 +70,12 @@ impl Timestamp {
         }
     }
 
-    /// The instant so much earlier, or later for a negative duration; outside the range the end of it that
-    /// lies in this direction.
+    /// As [`utc_times::UtcDateTime::saturating_sub`].
     #[tactic(auto, using(std::proofs::lemmas::Int::ints), unfolding(plain_times::specs::Sums::clamped))]
     pub fn saturating_sub(self, duration: SignedDuration) -> Timestamp
-        ensures { result ≡ clamped (self -ℤ duration) }
+        ensures value { result ≡ clamped (self -ℤ duration) }
+        ensures not_before { duration ≤ℤ pos 0 → self ≤ℤ result }
+        ensures not_after { pos 0 ≤ℤ duration → result ≤ℤ self }
     {
         let _in_range = self.as_seconds();
         match self.checked_sub(duration) {

@@ -1,6 +1,6 @@
 use Rattle.std.proofs.Common.{◌≡◌, ◌∙◌, sym, rules, w32, to_z, of_z}
 use Rattle.stamp_times.specs.Reciprocal.{shifted_day, step_year, step_leap, step_ordinal}
-use Rattle.stamp_times.proofs.ReciprocalLemmas.{year_of-step, is_leap_year-step, ordinal_of-step, IsOrdinalDate-found}
+use Rattle.stamp_times.proofs.ReciprocalLemmas.{year_of-step, is_leap_year-step, ordinal_of-step, IsOrdinalDateOfRange-found, day_of_ordinal_date-found, IsInRange-found}
 use Rattle.stamp_times.proofs.reciprocal.year_leap_ordinal.Goals as goal
 
 pub returns-clause-year : goal.returns-clause-year
@@ -22,4 +22,15 @@ pub returns-clause-date : goal.returns-clause-date
 returns-clause-date c =
     let year : to_z w32 (of_z w32 c.unshifted.result) ≡ step_year (shifted_day c.args.day) = search rules in
     let ordinal : c.years_leap_ordinal-years.result.2 ≡ step_ordinal (shifted_day c.args.day) = search rules in
-    IsOrdinalDate-found c.args.day _ _ c.requires year ordinal
+    IsOrdinalDateOfRange-found c.args.day _ _ c.requires year ordinal
+
+pub returns-clause-day : goal.returns-clause-day
+returns-clause-day c =
+    let year : to_z w32 (of_z w32 c.unshifted.result) ≡ step_year (shifted_day c.args.day) = search rules in
+    let ordinal : c.years_leap_ordinal-years.result.2 ≡ step_ordinal (shifted_day c.args.day) = search rules in
+    day_of_ordinal_date-found c.args.day _ _ c.requires year ordinal
+
+pub returns-clause-ordinal_in_range : goal.returns-clause-ordinal_in_range
+returns-clause-ordinal_in_range c =
+    let ordinal : c.years_leap_ordinal-years.result.2 ≡ step_ordinal (shifted_day c.args.day) = search rules in
+    IsInRange-found c.args.day _ c.requires ordinal
