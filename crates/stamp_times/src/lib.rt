@@ -2,6 +2,7 @@
 #![tactic(auto)]
 
 pub mod constants;
+pub mod laws;
 pub mod reciprocal;
 mod timestamp;
 
