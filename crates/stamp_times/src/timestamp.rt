@@ -5,7 +5,7 @@ ghost use Rattle.calendar_values.specs.Refusals.{outright_refusal};
 ghost use Rattle.calendar_values.specs.WallClock.{IsWallClock, unix_seconds_of};
 ghost use Rattle.utc_times.specs.UnixTime.{instant_of_second};
 ghost use Rattle.stamp_times.specs.Refusals.{parts_refusal};
-ghost use Rattle.stamp_times.specs.Instants.{instant_of_parts, instant_of_milliseconds, instant_of_microseconds, unix_nanosecond_of, unix_milliseconds_of, unix_microseconds_of};
+ghost use Rattle.stamp_times.specs.Instants.{instant_of_parts, instant_of_milliseconds, instant_of_microseconds, unix_milliseconds_of, unix_microseconds_of};
 
 use calendar_values::ComponentRange;
 use std::marker::Model;
