@@ -1,0 +1,91 @@
+-- The steps find the year, its kind and the day of the year that counting finds.
+use Rattle.std.proofs.Common.{◌≡◌, ℕ, suc, ◌+◌, ◌^◌, ◌<◌, ◌≤◌, sym, ◌∙◌, arith, ℤ, pos, negsuc, ◌+ℤ◌}
+use Rattle.std.proofs.lemmas.Bool.Decides.{nat_tests}
+use Rattle.std.proofs.lemmas.Int.{ints}
+use Rattle.std.specs.Int.{IsInRange}
+use Rattle.calendar_values.specs.Calendar.{is_leap_year, year_start, year_of, ordinal_of, day_of_ordinal_date, IsOrdinalDate}
+use Rattle.calendar_values.specs.DayLaws.{year_of-is, ordinal_of-is, IsYear-year_of}
+use Rattle.calendar_values.specs.Range.{IsDay}
+use Rattle.calendar_values.specs.Refusals.{IsOrdinalDateOfRange}
+use Rattle.calendar_values.specs.YearLaws.{days_from_0, days_from_0-suc, leap_day-shift, days_in_year-leap_day, days_in_year_bounds, year_start-closed}
+use Rattle.stamp_times.specs.Reciprocal.{shifted_day, IsShiftedDay, years_of, step_year, step_leap, step_ordinal}
+
+-- the days before the year and the day of the year make the day
+ordinal_sum : (day : ℕ) → IsShiftedDay day → days_from_0 (years_of day) + step_ordinal day ≡ day + 1
+ordinal_sum day h = grind (arith, nat_tests)
+
+leap_is : (day : ℕ) → IsShiftedDay day → step_leap day ≡ is_leap_year (pos (years_of day))
+leap_is day h = grind (arith, nat_tests)
+
+-- the day lies in that year
+year_within : (day : ℕ) → IsShiftedDay day → (days_from_0 (years_of day) ≤ day) × (day < days_from_0 (suc (years_of day)))
+year_within day h = omega arith
+
+pub years_of-bound : (day : ℕ) → IsShiftedDay day → years_of day < 2 ^ 31
+years_of-bound day h = omega arith
+
+-- the rule has a period of 400 years
+is_leap_year-shift : (y : ℤ) (n : ℕ) → y +ℤ pos 2_379_600 ≡ pos n → is_leap_year y ≡ is_leap_year (pos n)
+is_leap_year-shift (pos a) n e = let h : a + 2_379_600 ≡ n = omega (arith, ints) in grind (arith, nat_tests)
+is_leap_year-shift (negsuc a) n e = let h : n + suc a ≡ 2_379_600 = omega (arith, ints) in grind (arith, nat_tests)
+
+-- the same for a day n, counted from 1970
+
+shifted_day-is : (n : ℤ) → IsDay n → n +ℤ pos 869_850_581 ≡ pos (shifted_day n)
+shifted_day-is n h = omega (arith, ints)
+
+pub IsShiftedDay-shifted_day : (n : ℤ) → IsDay n → IsShiftedDay (shifted_day n)
+IsShiftedDay-shifted_day n h = omega (arith, ints)
+
+step_year-is : (day : ℕ) → step_year day +ℤ pos 2_379_600 ≡ pos (years_of day)
+step_year-is day = omega (arith, ints)
+
+year_start-step : (day : ℕ) → year_start (step_year day) +ℤ pos 869_850_581 ≡ pos (days_from_0 (years_of day))
+year_start-step day = year_start-closed 5_949 (years_of day) (step_year day) (step_year-is day)
+
+-- the year has that day of the year
+IsOrdinalDate-step : (n : ℤ) → IsDay n → IsOrdinalDate (step_year (shifted_day n)) (step_ordinal (shifted_day n))
+IsOrdinalDate-step n h =
+    let day = shifted_day n in
+    let here = IsShiftedDay-shifted_day n h in
+    let within = year_within day here in
+    let sum = ordinal_sum day here in
+    let next = days_from_0-suc (years_of day) in
+    let length = days_in_year-leap_day (step_year day) in
+    let shift = leap_day-shift 5_949 (years_of day) (step_year day) (step_year-is day) in
+    record { first = omega arith; last = omega arith }
+
+-- and its day number is that of the day
+day_of_ordinal_date-step : (n : ℤ) → IsDay n → day_of_ordinal_date (step_year (shifted_day n)) (step_ordinal (shifted_day n)) ≡ n
+day_of_ordinal_date-step n h =
+    let day = shifted_day n in
+    omega (arith, ints, ordinal_sum day (IsShiftedDay-shifted_day n h), shifted_day-is n h, year_start-step day)
+
+pub year_of-step : (n : ℤ) → IsDay n → year_of n ≡ step_year (shifted_day n)
+year_of-step n h = year_of-is n (step_year (shifted_day n)) (step_ordinal (shifted_day n)) (IsOrdinalDate-step n h) (day_of_ordinal_date-step n h)
+
+pub ordinal_of-step : (n : ℤ) → IsDay n → ordinal_of n ≡ step_ordinal (shifted_day n)
+ordinal_of-step n h = ordinal_of-is n (step_year (shifted_day n)) (step_ordinal (shifted_day n)) (IsOrdinalDate-step n h) (day_of_ordinal_date-step n h)
+
+pub IsOrdinalDateOfRange-found : (n y : ℤ) (ordinal : ℕ) → IsDay n → y ≡ step_year (shifted_day n) → ordinal ≡ step_ordinal (shifted_day n) → IsOrdinalDateOfRange y ordinal
+IsOrdinalDateOfRange-found n y ordinal h year place =
+    let date = IsOrdinalDate-step n h in
+    rw (year, place) (rw (year_of-step n h) at (IsYear-year_of n h), (date.first, date.last))
+
+pub day_of_ordinal_date-found : (n y : ℤ) (ordinal : ℕ) → IsDay n → y ≡ step_year (shifted_day n) → ordinal ≡ step_ordinal (shifted_day n) → day_of_ordinal_date y ordinal ≡ n
+day_of_ordinal_date-found n y ordinal h year place = rw (year, place) (day_of_ordinal_date-step n h)
+
+pub IsInRange-found : (n : ℤ) (ordinal : ℕ) → IsDay n → ordinal ≡ step_ordinal (shifted_day n) → IsInRange 1 366 ordinal
+IsInRange-found n ordinal h place =
+    let date = IsOrdinalDate-step n h in
+    let first = date.first in
+    let last = date.last in
+    let length = days_in_year_bounds (step_year (shifted_day n)) in
+    rw place (omega arith)
+
+pub is_leap_year-step : (n : ℤ) → IsDay n → is_leap_year (year_of n) ≡ step_leap (shifted_day n)
+is_leap_year-step n h =
+    let day = shifted_day n in
+    rw (year_of-step n h) (is_leap_year-shift (step_year day) (years_of day) (step_year-is day) ∙ sym (leap_is day (IsShiftedDay-shifted_day n h)))
+
+pub ruleset steps = (years_of-bound, IsShiftedDay-shifted_day)

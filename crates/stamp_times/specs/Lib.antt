@@ -1,0 +1,6 @@
+pub mod InstantLaws
+pub mod Instants
+pub mod Laws
+pub mod Reciprocal
+pub mod Refusals
+pub mod Texts

@@ -1,0 +1,199 @@
+//! An instant by its Unix seconds.
+ghost use Rattle.std.specs.Prelude.{◌≡◌, ◌<◌, codes, OkIff, IfErr};
+ghost use Rattle.calendar_values.specs.Clock.{nanos_per_second};
+ghost use Rattle.calendar_values.specs.Refusals.{outright_refusal};
+ghost use Rattle.calendar_values.specs.WallClock.{IsWallClock, unix_seconds_of};
+ghost use Rattle.utc_times.specs.UnixTime.{instant_of_second};
+ghost use Rattle.stamp_times.specs.Refusals.{parts_refusal};
+ghost use Rattle.stamp_times.specs.Instants.{instant_of_parts, instant_of_milliseconds, instant_of_microseconds, unix_milliseconds_of, unix_microseconds_of};
+
+use calendar_values::ComponentRange;
+use std::marker::Model;
+
+mod comparisons;
+mod conversions;
+mod offsets;
+mod operators;
+mod reads;
+mod replacements;
+mod sums;
+mod text;
+
+// The seconds of the first instant of the range and of the last.
+const FIRST_SECOND: i64 = -31_619_087_596_800;
+
+const LAST_SECOND: i64 = 31_494_784_780_799;
+
+const MAX_NANOSECOND: u32 = 999_999_999;
+
+/// An instant by its Unix second and the nanosecond of that second, from the first midnight of the range in
+/// UTC to its last nanosecond. A contract sees the instant: the nanoseconds from 1970-01-01 0:00 UTC, with no
+/// leap seconds. Equality, order and hash go by it; which bytes a hasher is fed is no promise.
+#[derive(Clone, Copy)]
+pub struct Timestamp {
+    seconds: i64,
+    nanosecond: u32,
+}
+
+impl Model for Timestamp {
+    ghost use Rattle.std.specs.Prelude.{ℤ, ◌<◌};
+    ghost use Rattle.calendar_values.specs.Clock.{nanos_per_second};
+    ghost use Rattle.calendar_values.specs.WallClock.{IsWallClock, unix_seconds_of};
+    ghost use Rattle.stamp_times.specs.Instants.{instant_of_parts, unix_nanosecond_of};
+    ghost use Rattle.stamp_times.specs.InstantLaws.{unix_seconds_of-parts, unix_nanosecond_of-parts};
+
+    ghost Value = { ℤ };
+
+    ghost view = { λ at. instant_of_parts at.seconds at.nanosecond };
+
+    ghost invariant = { λ at. IsWallClock (instant_of_parts at.seconds at.nanosecond) × (at.nanosecond < nanos_per_second) };
+
+    ghost inverse = { λ i. record { seconds = unix_seconds_of i; nanosecond = unix_nanosecond_of i } };
+
+    ghost inverse_ok = { λ at h i. record {
+      seconds = unix_seconds_of-parts at.seconds at.nanosecond h.1 i;
+      nanosecond = unix_nanosecond_of-parts at.seconds at.nanosecond h.1 i;
+    } };
+}
+
+impl Timestamp {
+    /// The first: midnight of the first day of the range in UTC.
+    pub const MIN: Timestamp = Timestamp {
+        seconds: FIRST_SECOND,
+        nanosecond: 0,
+    };
+
+    /// The last: the last nanosecond of the last day of the range in UTC.
+    pub const MAX: Timestamp = Timestamp {
+        seconds: LAST_SECOND,
+        nanosecond: MAX_NANOSECOND,
+    };
+
+    /// 1970-01-01 0:00:00.0 in UTC, from which instants are counted.
+    pub const UNIX_EPOCH: Timestamp = Timestamp {
+        seconds: 0,
+        nanosecond: 0,
+    };
+
+    /// The instant of a Unix second and a nanosecond of that second. Refused `seconds` before that of
+    /// [`Timestamp::MIN`] or after that of [`Timestamp::MAX`], then `nanoseconds` above 999,999,999.
+    pub fn new(seconds: i64, nanoseconds: u32) -> Result<Timestamp, ComponentRange>
+        ensures value { OkIff result (IsWallClock (instant_of_second seconds) × (nanoseconds < nanos_per_second))
+            (instant_of_parts seconds nanoseconds) }
+        ensures refused { IfErr result (λ refusal. refusal ≡ parts_refusal seconds) }
+    {
+        if seconds < FIRST_SECOND || seconds > LAST_SECOND {
+            return Err(ComponentRange::new("seconds", false));
+        }
+        if nanoseconds > MAX_NANOSECOND {
+            return Err(ComponentRange::new("nanoseconds", false));
+        }
+        Ok(Timestamp {
+            seconds,
+            nanosecond: nanoseconds,
+        })
+    }
+
+    /// The beginning of a Unix second. Refused `seconds` before that of [`Timestamp::MIN`] or after that of
+    /// [`Timestamp::MAX`].
+    pub fn from_seconds(seconds: i64) -> Result<Timestamp, ComponentRange>
+        ensures value { let i = instant_of_second seconds in OkIff result (IsWallClock i) i }
+        ensures refused { IfErr result (λ refusal. refusal ≡ outright_refusal (codes "seconds")) }
+    {
+        if seconds < FIRST_SECOND || seconds > LAST_SECOND {
+            return Err(ComponentRange::new("seconds", false));
+        }
+        Ok(Timestamp {
+            seconds,
+            nanosecond: 0,
+        })
+    }
+
+    /// The instant so many milliseconds from 1970-01-01 0:00 UTC. Refused `milliseconds` before
+    /// [`Timestamp::MIN`] or after [`Timestamp::MAX`].
+    pub fn from_milliseconds(milliseconds: i64) -> Result<Timestamp, ComponentRange>
+        ensures value { let i = instant_of_milliseconds milliseconds in OkIff result (IsWallClock i) i }
+        ensures refused { IfErr result (λ refusal. refusal ≡ outright_refusal (codes "milliseconds")) }
+    {
+        if milliseconds < FIRST_SECOND * 1_000 || milliseconds > LAST_SECOND * 1_000 + 999 {
+            return Err(ComponentRange::new("milliseconds", false));
+        }
+        Ok(Timestamp {
+            seconds: milliseconds.div_euclid(1_000),
+            nanosecond: milliseconds.rem_euclid(1_000) as u32 * 1_000_000,
+        })
+    }
+
+    /// The instant so many microseconds from 1970-01-01 0:00 UTC. Refused `microseconds` before
+    /// [`Timestamp::MIN`] or after [`Timestamp::MAX`].
+    pub fn from_microseconds(microseconds: i128) -> Result<Timestamp, ComponentRange>
+        ensures value { let i = instant_of_microseconds microseconds in OkIff result (IsWallClock i) i }
+        ensures refused { IfErr result (λ refusal. refusal ≡ outright_refusal (codes "microseconds")) }
+    {
+        if microseconds < FIRST_SECOND as i128 * 1_000_000
+            || microseconds > LAST_SECOND as i128 * 1_000_000 + 999_999
+        {
+            return Err(ComponentRange::new("microseconds", false));
+        }
+        Ok(Timestamp {
+            seconds: microseconds.div_euclid(1_000_000) as i64,
+            nanosecond: microseconds.rem_euclid(1_000_000) as u32 * 1_000,
+        })
+    }
+
+    /// The instant so many nanoseconds from 1970-01-01 0:00 UTC. Refused `nanoseconds` before
+    /// [`Timestamp::MIN`] or after [`Timestamp::MAX`].
+    pub fn from_nanoseconds(nanoseconds: i128) -> Result<Timestamp, ComponentRange>
+        ensures value { OkIff result (IsWallClock nanoseconds) nanoseconds }
+        ensures refused { IfErr result (λ refusal. refusal ≡ outright_refusal (codes "nanoseconds")) }
+    {
+        if nanoseconds < FIRST_SECOND as i128 * 1_000_000_000
+            || nanoseconds > LAST_SECOND as i128 * 1_000_000_000 + 999_999_999
+        {
+            return Err(ComponentRange::new("nanoseconds", false));
+        }
+        Ok(Timestamp {
+            seconds: nanoseconds.div_euclid(1_000_000_000) as i64,
+            nanosecond: nanoseconds.rem_euclid(1_000_000_000) as u32,
+        })
+    }
+
+    /// The Unix second: the whole seconds from 1970-01-01 0:00 UTC, rounded down.
+    #[tactic(auto, using(crate::proofs::InstantLemmas::fields))]
+    pub fn as_seconds(self) -> i64
+        ensures value { result ≡ unix_seconds_of self }
+        ensures self_in_range { IsWallClock self }
+    {
+        self.seconds
+    }
+
+    /// The whole milliseconds from 1970-01-01 0:00 UTC, rounded down.
+    #[tactic(auto, using(crate::proofs::InstantLemmas::counts))]
+    pub fn as_milliseconds(self) -> i64
+        ensures value { result ≡ unix_milliseconds_of self }
+        ensures self_in_range { IsWallClock self }
+    {
+        self.seconds * 1_000 + (self.nanosecond / 1_000_000) as i64
+    }
+
+    /// The whole microseconds from 1970-01-01 0:00 UTC, rounded down.
+    #[tactic(auto, using(crate::proofs::InstantLemmas::counts))]
+    pub fn as_microseconds(self) -> i128
+        ensures value { result ≡ unix_microseconds_of self }
+        ensures self_in_range { IsWallClock self }
+    {
+        self.seconds as i128 * 1_000_000 + (self.nanosecond / 1_000) as i128
+    }
+
+    /// The nanoseconds from 1970-01-01 0:00 UTC.
+    #[tactic(auto, using(crate::proofs::InstantLemmas::counts))]
+    pub fn as_nanoseconds(self) -> i128
+        ensures value { result ≡ self }
+        ensures self_in_range { IsWallClock self }
+    {
+        self.seconds as i128 * 1_000_000_000 + self.nanosecond as i128
+    }
+}
+
+#[cfg(test)]
+mod tests;

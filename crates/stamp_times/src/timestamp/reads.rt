@@ -1,0 +1,274 @@
+//! The date and the time of day of a timestamp, in UTC.
+ghost use Rattle.std.specs.Prelude.{◌≡◌, ◌<◌, ◌≤◌, ◌/◌, ◌*◌, pos, ◌+ℤ◌};
+ghost use Rattle.std.specs.Int.{IsInRange, int_rem_euclid};
+ghost use Rattle.calendar_values.specs.Calendar.{year_of, month_of, day_of_month_of, ordinal_of, julian_day_of};
+ghost use Rattle.calendar_values.specs.Clock.{IsTimeOfDay, nanos_per_second, nanos_per_millisecond, nanos_per_microsecond, hour_of, minute_of, second_of, millisecond_of, microsecond_of, nanosecond_of};
+ghost use Rattle.calendar_values.specs.Month.{month_number};
+ghost use Rattle.calendar_values.specs.Range.{IsDay, IsYear};
+ghost use Rattle.calendar_values.specs.WallClock.{wall_day, wall_time, IsWallClock};
+ghost use Rattle.calendar_values.specs.Weekday.{weekday_number};
+ghost use Rattle.calendar_values.specs.Weeks.{iso_year_of, iso_week_of, sunday_week_of, monday_week_of, weekday_of};
+
+use crate::Timestamp;
+use crate::reciprocal::year_leap_ordinal;
+use calendar_values::{Date, Month, Time, Weekday, leap_ordinal_to_month_day};
+use utc_times::UtcDateTime;
+
+const SECONDS_PER_DAY: i64 = 86_400;
+
+// The Julian day of 1970-01-01.
+const EPOCH_JULIAN_DAY: i32 = 2_440_588;
+
+// The days from a Monday before the range to 1970-01-01.
+const DAYS_FROM_MONDAY: i32 = 365_961_669;
+
+impl Timestamp {
+    /// The same instant as a date with a time of day in UTC.
+    #[tactic(auto, using(calendar_values::specs::WallClockLaws::parts))]
+    pub fn to_utc(self) -> UtcDateTime
+        ensures { result ≡ self }
+    {
+        UtcDateTime::new(self.date(), self.time())
+    }
+
+    // The day number of the date.
+    #[tactic(auto, using(crate::proofs::InstantLemmas::days))]
+    pub(crate) fn day_number(self) -> i32
+        ensures value { result ≡ wall_day self }
+        ensures in_range { IsDay result }
+    {
+        self.as_seconds().div_euclid(SECONDS_PER_DAY) as i32
+    }
+
+    // The second of the day.
+    #[tactic(auto, using(crate::proofs::InstantLemmas::days))]
+    pub(crate) fn second_of_day(self) -> u32
+        ensures value { result ≡ wall_time self / nanos_per_second }
+        ensures in_range { result < 86_400 }
+    {
+        self.as_seconds().rem_euclid(SECONDS_PER_DAY) as u32
+    }
+
+    /// The date.
+    pub fn date(self) -> Date
+        ensures value { result ≡ wall_day self }
+        ensures self_in_range { IsWallClock self }
+    {
+        let (year, _, ordinal) = year_leap_ordinal(self.day_number());
+        Date::from_ordinal_date(year, ordinal).unwrap()
+    }
+
+    /// The time of day.
+    pub fn time(self) -> Time
+        ensures value { result ≡ wall_time self }
+        ensures self_in_range { IsWallClock self }
+    {
+        let (hour, minute, second, nanosecond) = self.as_hms_nano();
+        Time::from_hms_nano(hour, minute, second, nanosecond).unwrap()
+    }
+
+    /// As [`UtcDateTime::year`].
+    pub fn year(self) -> i32
+        ensures value { result ≡ year_of (wall_day self) }
+        ensures in_range { IsYear result }
+    {
+        year_leap_ordinal(self.day_number()).0
+    }
+
+    /// As [`UtcDateTime::month`].
+    pub fn month(self) -> Month
+        ensures { month_number result ≡ month_of (wall_day self) }
+    {
+        let (_, is_leap, ordinal) = year_leap_ordinal(self.day_number());
+        leap_ordinal_to_month_day(is_leap, ordinal).0
+    }
+
+    /// As [`UtcDateTime::day`].
+    pub fn day(self) -> u8
+        ensures value { result ≡ day_of_month_of (wall_day self) }
+        ensures in_range { IsInRange 1 31 result }
+    {
+        let (_, is_leap, ordinal) = year_leap_ordinal(self.day_number());
+        leap_ordinal_to_month_day(is_leap, ordinal).1
+    }
+
+    /// As [`UtcDateTime::ordinal`].
+    pub fn ordinal(self) -> u16
+        ensures value { result ≡ ordinal_of (wall_day self) }
+        ensures in_range { IsInRange 1 366 result }
+    {
+        year_leap_ordinal(self.day_number()).2
+    }
+
+    /// As [`UtcDateTime::iso_week`].
+    pub fn iso_week(self) -> u8
+        ensures value { result ≡ iso_week_of (wall_day self) }
+        ensures in_range { IsInRange 1 53 result }
+    {
+        self.date().iso_week()
+    }
+
+    /// As [`UtcDateTime::sunday_based_week`].
+    pub fn sunday_based_week(self) -> u8
+        ensures value { result ≡ sunday_week_of (wall_day self) }
+        ensures in_range { result ≤ 53 }
+    {
+        self.date().sunday_based_week()
+    }
+
+    /// As [`UtcDateTime::monday_based_week`].
+    pub fn monday_based_week(self) -> u8
+        ensures value { result ≡ monday_week_of (wall_day self) }
+        ensures in_range { result ≤ 53 }
+    {
+        self.date().monday_based_week()
+    }
+
+    /// As [`UtcDateTime::to_calendar_date`].
+    pub fn to_calendar_date(self) -> (i32, Month, u8)
+        ensures year { result.0 ≡ year_of (wall_day self) }
+        ensures month { month_number result.1 ≡ month_of (wall_day self) }
+        ensures day { result.2 ≡ day_of_month_of (wall_day self) }
+        ensures year_in_range { IsYear result.0 }
+        ensures day_in_range { IsInRange 1 31 result.2 }
+    {
+        let (year, is_leap, ordinal) = year_leap_ordinal(self.day_number());
+        let (month, day) = leap_ordinal_to_month_day(is_leap, ordinal);
+        (year, month, day)
+    }
+
+    /// As [`UtcDateTime::to_ordinal_date`].
+    pub fn to_ordinal_date(self) -> (i32, u16)
+        ensures year { result.0 ≡ year_of (wall_day self) }
+        ensures ordinal { result.1 ≡ ordinal_of (wall_day self) }
+        ensures year_in_range { IsYear result.0 }
+        ensures ordinal_in_range { IsInRange 1 366 result.1 }
+    {
+        let (year, _, ordinal) = year_leap_ordinal(self.day_number());
+        (year, ordinal)
+    }
+
+    /// As [`UtcDateTime::to_iso_week_date`].
+    pub fn to_iso_week_date(self) -> (i32, u8, Weekday)
+        ensures year { result.0 ≡ iso_year_of (wall_day self) }
+        ensures week { result.1 ≡ iso_week_of (wall_day self) }
+        ensures weekday { weekday_number result.2 ≡ weekday_of (wall_day self) }
+        ensures year_in_range { IsYear result.0 }
+        ensures week_in_range { IsInRange 1 53 result.1 }
+    {
+        self.date().to_iso_week_date()
+    }
+
+    /// As [`UtcDateTime::weekday`].
+    #[tactic(auto, using(crate::proofs::InstantLemmas::weekdays))]
+    pub fn weekday(self) -> Weekday
+        ensures { weekday_number result ≡ weekday_of (wall_day self) }
+    {
+        match (self.day_number() + DAYS_FROM_MONDAY) as u32 % 7 {
+            0 => Weekday::Monday,
+            1 => Weekday::Tuesday,
+            2 => Weekday::Wednesday,
+            3 => Weekday::Thursday,
+            4 => Weekday::Friday,
+            5 => Weekday::Saturday,
+            _ => Weekday::Sunday,
+        }
+    }
+
+    /// As [`UtcDateTime::to_julian_day`].
+    pub fn to_julian_day(self) -> i32
+        ensures value { result ≡ julian_day_of (wall_day self) }
+        ensures self_in_range { IsWallClock self }
+    {
+        self.day_number() + EPOCH_JULIAN_DAY
+    }
+
+    /// As [`UtcDateTime::as_hms`].
+    pub fn as_hms(self) -> (u8, u8, u8)
+        ensures value { let c = wall_time self in result ≡ (hour_of c, minute_of c, second_of c) }
+        ensures in_range { IsTimeOfDay result.0 result.1 result.2 0 }
+    {
+        let second = self.second_of_day();
+        (
+            (second / 3_600) as u8,
+            (second / 60 % 60) as u8,
+            (second % 60) as u8,
+        )
+    }
+
+    /// As [`UtcDateTime::as_hms_milli`].
+    pub fn as_hms_milli(self) -> (u8, u8, u8, u16)
+        ensures value { let c = wall_time self in result ≡ (hour_of c, minute_of c, second_of c, millisecond_of c) }
+        ensures in_range { IsTimeOfDay result.0 result.1 result.2 (result.3 * nanos_per_millisecond) }
+    {
+        let (hour, minute, second) = self.as_hms();
+        (hour, minute, second, self.millisecond())
+    }
+
+    /// As [`UtcDateTime::as_hms_micro`].
+    pub fn as_hms_micro(self) -> (u8, u8, u8, u32)
+        ensures value { let c = wall_time self in result ≡ (hour_of c, minute_of c, second_of c, microsecond_of c) }
+        ensures in_range { IsTimeOfDay result.0 result.1 result.2 (result.3 * nanos_per_microsecond) }
+    {
+        let (hour, minute, second) = self.as_hms();
+        (hour, minute, second, self.microsecond())
+    }
+
+    /// As [`UtcDateTime::as_hms_nano`].
+    pub fn as_hms_nano(self) -> (u8, u8, u8, u32)
+        ensures value { let c = wall_time self in result ≡ (hour_of c, minute_of c, second_of c, nanosecond_of c) }
+        ensures in_range { IsTimeOfDay result.0 result.1 result.2 result.3 }
+    {
+        let (hour, minute, second) = self.as_hms();
+        (hour, minute, second, self.nanosecond())
+    }
+
+    /// As [`UtcDateTime::hour`].
+    pub fn hour(self) -> u8
+        ensures value { result ≡ hour_of (wall_time self) }
+        ensures in_range { result ≤ 23 }
+    {
+        (self.second_of_day() / 3_600) as u8
+    }
+
+    /// As [`UtcDateTime::minute`].
+    pub fn minute(self) -> u8
+        ensures value { result ≡ minute_of (wall_time self) }
+        ensures in_range { result ≤ 59 }
+    {
+        (self.second_of_day() / 60 % 60) as u8
+    }
+
+    /// As [`UtcDateTime::second`].
+    pub fn second(self) -> u8
+        ensures value { result ≡ second_of (wall_time self) }
+        ensures in_range { result ≤ 59 }
+    {
+        (self.second_of_day() % 60) as u8
+    }
+
+    /// As [`UtcDateTime::millisecond`].
+    pub fn millisecond(self) -> u16
+        ensures value { result ≡ millisecond_of (wall_time self) }
+        ensures in_range { result ≤ 999 }
+    {
+        (self.nanosecond() / 1_000_000) as u16
+    }
+
+    /// As [`UtcDateTime::microsecond`].
+    pub fn microsecond(self) -> u32
+        ensures value { result ≡ microsecond_of (wall_time self) }
+        ensures in_range { result ≤ 999_999 }
+    {
+        self.nanosecond() / 1_000
+    }
+
+    /// As [`UtcDateTime::nanosecond`].
+    #[tactic(auto, using(crate::proofs::InstantLemmas::fields))]
+    pub fn nanosecond(self) -> u32
+        ensures value { result ≡ nanosecond_of (wall_time self) }
+        ensures in_range { result ≤ 999_999_999 }
+    {
+        self.nanosecond
+    }
+}

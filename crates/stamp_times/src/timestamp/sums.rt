@@ -1,0 +1,130 @@
+//! Sums of a timestamp and a duration, in seconds and nanoseconds.
+ghost use Rattle.std.specs.Prelude.{◌≡◌, ◌<◌, pos, ◌+ℤ◌, ◌-ℤ◌, ◌≤ℤ◌, unsigned_abs, SomeIff};
+ghost use Rattle.std.specs.Duration.{as_nanos};
+ghost use Rattle.calendar_values.specs.Clock.{nanos_per_second};
+ghost use Rattle.calendar_values.specs.WallClock.{IsWallClock};
+ghost use Rattle.plain_times.specs.Sums.{clamped};
+ghost use Rattle.stamp_times.specs.Instants.{instant_of_parts};
+
+use super::{FIRST_SECOND, LAST_SECOND};
+use crate::Timestamp;
+use calendar_values::SignedDuration;
+use std::time::Duration;
+
+const NANOS_PER_SECOND: i32 = 1_000_000_000;
+
+impl Timestamp {
+    /// As [`utc_times::UtcDateTime::checked_add`].
+    pub fn checked_add(self, duration: SignedDuration) -> Option<Timestamp>
+        ensures { SomeIff result (IsWallClock (self +ℤ duration)) (self +ℤ duration) }
+    {
+        let seconds = self.as_seconds().checked_add(duration.whole_seconds())?;
+        carried(seconds, self.nanosecond(), duration.subsec_nanoseconds())
+    }
+
+    /// As [`utc_times::UtcDateTime::checked_sub`].
+    pub fn checked_sub(self, duration: SignedDuration) -> Option<Timestamp>
+        ensures { SomeIff result (IsWallClock (self -ℤ duration)) (self -ℤ duration) }
+    {
+        let seconds = self.as_seconds().checked_sub(duration.whole_seconds())?;
+        carried(seconds, self.nanosecond(), -duration.subsec_nanoseconds())
+    }
+
+    /// As [`utc_times::UtcDateTime::checked_add_std`].
+    pub fn checked_add_std(self, duration: Duration) -> Option<Timestamp>
+        ensures { SomeIff result (IsWallClock (self +ℤ pos (as_nanos duration))) (self +ℤ pos (as_nanos duration)) }
+    {
+        let seconds = self.as_seconds().checked_add_unsigned(duration.as_secs())?;
+        carried(seconds, self.nanosecond(), duration.subsec_nanos() as i32)
+    }
+
+    /// As [`utc_times::UtcDateTime::checked_sub_std`].
+    pub fn checked_sub_std(self, duration: Duration) -> Option<Timestamp>
+        ensures { SomeIff result (IsWallClock (self -ℤ pos (as_nanos duration))) (self -ℤ pos (as_nanos duration)) }
+    {
+        let seconds = self.as_seconds().checked_sub_unsigned(duration.as_secs())?;
+        carried(
+            seconds,
+            self.nanosecond(),
+            -(duration.subsec_nanos() as i32),
+        )
+    }
+
+    /// As [`utc_times::UtcDateTime::saturating_add`].
+    #[tactic(auto, using(std::proofs::lemmas::Int::ints), unfolding(plain_times::specs::Sums::clamped))]
+    pub fn saturating_add(self, duration: SignedDuration) -> Timestamp
+        ensures value { result ≡ clamped (self +ℤ duration) }
+        ensures not_before { pos 0 ≤ℤ duration → self ≤ℤ result }
+        ensures not_after { duration ≤ℤ pos 0 → result ≤ℤ self }
+    {
+        let _in_range = self.as_seconds();
+        match self.checked_add(duration) {
+            Some(sum) => sum,
+            None => {
+                if duration.is_negative() {
+                    Timestamp::MIN
+                } else {
+                    Timestamp::MAX
+                }
+            }
+        }
+    }
+
+    /// As [`utc_times::UtcDateTime::saturating_sub`].
+    #[tactic(auto, using(std::proofs::lemmas::Int::ints), unfolding(plain_times::specs::Sums::clamped))]
+    pub fn saturating_sub(self, duration: SignedDuration) -> Timestamp
+        ensures value { result ≡ clamped (self -ℤ duration) }
+        ensures not_before { duration ≤ℤ pos 0 → self ≤ℤ result }
+        ensures not_after { pos 0 ≤ℤ duration → result ≤ℤ self }
+    {
+        let _in_range = self.as_seconds();
+        match self.checked_sub(duration) {
+            Some(difference) => difference,
+            None => {
+                if duration.is_negative() {
+                    Timestamp::MAX
+                } else {
+                    Timestamp::MIN
+                }
+            }
+        }
+    }
+}
+
+// The instant of a second and a nanosecond of that second, less than a second later or earlier, if the
+// range has it.
+#[tactic(auto, using(crate::proofs::SumLemmas::carries))]
+fn carried(seconds: i64, nanosecond: u32, change: i32) -> Option<Timestamp>
+    requires nanosecond { nanosecond < nanos_per_second }
+    requires change { unsigned_abs change < nanos_per_second }
+    ensures { let sum = instant_of_parts seconds nanosecond +ℤ change in SomeIff result (IsWallClock sum) sum }
+{
+    let nanoseconds = nanosecond as i32 + change;
+    if nanoseconds < 0 {
+        at(
+            seconds.checked_sub(1)?,
+            (nanoseconds + NANOS_PER_SECOND) as u32,
+        )
+    } else if nanoseconds < NANOS_PER_SECOND {
+        at(seconds, nanoseconds as u32)
+    } else {
+        at(
+            seconds.checked_add(1)?,
+            (nanoseconds - NANOS_PER_SECOND) as u32,
+        )
+    }
+}
+
+// The instant of a second and a nanosecond of that second, if the range has it.
+fn at(seconds: i64, nanosecond: u32) -> Option<Timestamp>
+    requires { nanosecond < nanos_per_second }
+    ensures { SomeIff result (IsWallClock (instant_of_parts seconds nanosecond)) (instant_of_parts seconds nanosecond) }
+{
+    if seconds < FIRST_SECOND || seconds > LAST_SECOND {
+        return None;
+    }
+    Some(Timestamp {
+        seconds,
+        nanosecond,
+    })
+}

@@ -1,0 +1,339 @@
+use super::*;
+use crate::ToTimestamp;
+use calendar_values::{Date, Month, SignedDuration, Time, UtcOffset, Weekday};
+use offset_times::{Assume, OffsetDateTime};
+use std::cmp::Ordering;
+use std::hash::{DefaultHasher, Hash, Hasher};
+use std::test::Fail;
+use std::time::Duration;
+use utc_times::UtcDateTime;
+
+#[test]
+fn counts_and_texts(rt: HostRuntime) -> Result<(), Fail> {
+    let constants = crate::constants::timestamps();
+    for (at, seconds, nanosecond, text) in [
+        (constants.2, 0, 0, "0"),
+        (constants.0, -31_619_087_596_800, 0, "-31619087596800"),
+        (
+            constants.1,
+            31_494_784_780_799,
+            999_999_999,
+            "31494784780799.999999999",
+        ),
+        (
+            Timestamp::new(-31_619_087_596_800, 1)?,
+            -31_619_087_596_800,
+            1,
+            "-31619087596799.999999999",
+        ),
+        (Timestamp::from_seconds(-1)?, -1, 0, "-1"),
+        (Timestamp::from_milliseconds(-500)?, -1, 500_000_000, "-0.5"),
+        (
+            Timestamp::from_microseconds(-1)?,
+            -1,
+            999_999_000,
+            "-0.000001",
+        ),
+        (
+            Timestamp::from_nanoseconds(-1)?,
+            -1,
+            999_999_999,
+            "-0.000000001",
+        ),
+        (
+            Timestamp::from_nanoseconds(1_546_398_245_000_000_100)?,
+            1_546_398_245,
+            100,
+            "1546398245.0000001",
+        ),
+        (
+            Timestamp::from_milliseconds(-31_619_087_596_800_000)?,
+            -31_619_087_596_800,
+            0,
+            "-31619087596800",
+        ),
+        (
+            Timestamp::from_milliseconds(31_494_784_780_799_999)?,
+            31_494_784_780_799,
+            999_000_000,
+            "31494784780799.999",
+        ),
+    ] {
+        assert_eq!(rt; (at.as_seconds(), at.nanosecond()), (seconds, nanosecond));
+        assert_eq!(rt; format!(in rt.alloc(); "{at}")?.as_str(), text);
+        assert_eq!(rt; format!(in rt.alloc(); "{at:?}")?.as_str(), text);
+    }
+    let half = Timestamp::new(-1, 500_000_000)?;
+    assert_eq!(rt; format!(in rt.alloc(); "{half:>8}")?.as_str(), "    -0.5");
+    assert_eq!(rt; format!(in rt.alloc(); "{half:*^9}")?.as_str(), "**-0.5***");
+    assert_eq!(rt; half.as_milliseconds(), -500);
+    assert_eq!(rt; Timestamp::new(-1, 999_999)?.as_milliseconds(), -1_000);
+    let last = Timestamp::new(-1, 999_999_999)?;
+    assert_eq!(rt; (last.as_milliseconds(), last.as_microseconds()), (-1, -1));
+    assert_eq!(rt; last.as_nanoseconds(), -1);
+    Ok(())
+}
+
+#[test]
+fn refusals_of_constructors(rt: HostRuntime) -> Result<(), Fail> {
+    for (refused, name) in [
+        (Timestamp::new(31_494_784_780_800, 1_000_000_000), "seconds"),
+        (Timestamp::new(-31_619_087_596_801, 0), "seconds"),
+        (Timestamp::new(0, 1_000_000_000), "nanoseconds"),
+        (Timestamp::new(0, u32::MAX), "nanoseconds"),
+        (Timestamp::from_seconds(31_494_784_780_800), "seconds"),
+        (Timestamp::from_seconds(i64::MIN), "seconds"),
+        (
+            Timestamp::from_milliseconds(-31_619_087_596_800_001),
+            "milliseconds",
+        ),
+        (
+            Timestamp::from_milliseconds(31_494_784_780_800_000),
+            "milliseconds",
+        ),
+        (
+            Timestamp::from_microseconds(-31_619_087_596_800_000_001),
+            "microseconds",
+        ),
+        (Timestamp::from_microseconds(i128::MAX), "microseconds"),
+        (
+            Timestamp::from_nanoseconds(31_494_784_780_800_000_000_000),
+            "nanoseconds",
+        ),
+        (Timestamp::from_nanoseconds(i128::MIN), "nanoseconds"),
+    ] {
+        match refused {
+            Ok(_) => assert!(rt; false),
+            Err(refusal) => {
+                assert_eq!(rt; refusal.name(), name);
+                assert!(rt; !refusal.is_conditional());
+            }
+        }
+    }
+    Ok(())
+}
+
+#[test]
+fn reads(rt: HostRuntime) -> Result<(), Fail> {
+    for (second, year, ordinal, weekday) in [
+        (946_684_800, 2000, 1, Weekday::Saturday),
+        (-2_177_539_200, 1900, 365, Weekday::Monday),
+        (-2_177_452_800, 1901, 1, Weekday::Tuesday),
+        (1_072_915_200, 2004, 1, Weekday::Thursday),
+        (-31_619_087_596_800, -999_999, 1, Weekday::Monday),
+        (31_494_784_780_799, 999_999, 365, Weekday::Friday),
+    ] {
+        let at = Timestamp::from_seconds(second)?;
+        assert_eq!(rt; at.to_ordinal_date(), (year, ordinal));
+        assert_eq!(rt; (at.year(), at.ordinal()), (year, ordinal));
+        assert_eq!(rt; at.weekday(), weekday);
+        assert_eq!(rt; at.date(), Date::from_ordinal_date(year, ordinal)?);
+    }
+    let at = Timestamp::new(1_546_398_245, 4_005_006)?;
+    assert_eq!(rt; at.to_calendar_date(), (2019, Month::January, 2));
+    assert_eq!(rt; (at.month(), at.day()), (Month::January, 2));
+    assert_eq!(rt; at.weekday(), Weekday::Wednesday);
+    assert_eq!(rt; at.to_julian_day(), 2_458_486);
+    assert_eq!(rt; at.to_iso_week_date(), (2019, 1, Weekday::Wednesday));
+    assert_eq!(rt; at.iso_week(), 1);
+    assert_eq!(rt; (at.sunday_based_week(), at.monday_based_week()), (0, 0));
+    assert_eq!(rt; at.time(), Time::from_hms_nano(3, 4, 5, 4_005_006)?);
+    assert_eq!(rt; at.as_hms(), (3, 4, 5));
+    assert_eq!(rt; at.as_hms_milli(), (3, 4, 5, 4));
+    assert_eq!(rt; at.as_hms_micro(), (3, 4, 5, 4_005));
+    assert_eq!(rt; at.as_hms_nano(), (3, 4, 5, 4_005_006));
+    assert_eq!(rt; (at.hour(), at.minute(), at.second()), (3, 4, 5));
+    assert_eq!(rt;
+        (at.millisecond(), at.microsecond(), at.nanosecond()),
+        (4, 4_005, 4_005_006)
+    );
+    let half = Timestamp::new(-1, 500_000_000)?;
+    assert_eq!(rt; half.as_hms(), (23, 59, 59));
+    assert_eq!(rt;
+        format!(in rt.alloc(); "{}", half.to_utc())?.as_str(),
+        "1969-12-31 23:59:59.5 +00"
+    );
+    Ok(())
+}
+
+#[test]
+fn replacements(rt: HostRuntime) -> Result<(), Fail> {
+    let at = Timestamp::from_seconds(1_546_398_245)?;
+    let leap_day = Timestamp::from_seconds(951_782_400)?;
+    let half = Timestamp::new(-1, 500_000_000)?;
+    let date = Date::from_calendar_date(1970, Month::January, 1)?;
+    for (replaced, seconds, nanosecond) in [
+        (
+            Ok(at.replace_time(Time::from_hms(12, 34, 56)?)),
+            1_546_432_496,
+            0,
+        ),
+        (Ok(half.replace_date(date)), 86_399, 500_000_000),
+        (at.replace_year(2020), 1_577_934_245, 0),
+        (at.replace_month(Month::February), 1_549_076_645, 0),
+        (at.replace_day(1), 1_546_311_845, 0),
+        (at.replace_ordinal(1), 1_546_311_845, 0),
+        (at.replace_hour(0), 1_546_387_445, 0),
+        (at.replace_minute(0), 1_546_398_005, 0),
+        (at.replace_second(0), 1_546_398_240, 0),
+        (leap_day.replace_year(2004), 1_078_012_800, 0),
+        (leap_day.replace_month(Month::April), 956_966_400, 0),
+        (half.replace_hour(0), -82_801, 500_000_000),
+        (half.replace_nanosecond(300_000_000), -1, 300_000_000),
+        (half.replace_nanosecond(0), -1, 0),
+        (half.replace_millisecond(7), -1, 7_000_000),
+        (half.replace_microsecond(7_008), -1, 7_008_000),
+    ] {
+        let replaced = replaced?;
+        assert_eq!(rt;
+            (replaced.as_seconds(), replaced.nanosecond()),
+            (seconds, nanosecond)
+        );
+    }
+    for (refused, name, is_conditional) in [
+        (leap_day.replace_year(1900), "day", true),
+        (leap_day.replace_year(1_000_000), "year", false),
+        (leap_day.replace_day(0), "day", false),
+        (leap_day.replace_day(32), "day", false),
+        (leap_day.replace_day(30), "day", true),
+        (leap_day.replace_ordinal(367), "ordinal", false),
+        (at.replace_ordinal(366), "ordinal", true),
+        (at.replace_hour(24), "hour", false),
+        (at.replace_minute(60), "minute", false),
+        (at.replace_second(60), "second", false),
+        (at.replace_millisecond(1_000), "millisecond", false),
+        (at.replace_microsecond(u32::MAX), "microsecond", false),
+        (at.replace_nanosecond(1_000_000_000), "nanosecond", false),
+    ] {
+        match refused {
+            Ok(_) => assert!(rt; false),
+            Err(refusal) => {
+                assert_eq!(rt; refusal.name(), name);
+                assert_eq!(rt; refusal.is_conditional(), is_conditional);
+            }
+        }
+    }
+    Ok(())
+}
+
+#[test]
+fn sums(rt: HostRuntime) -> Result<(), Fail> {
+    let (first, last, epoch) = crate::constants::timestamps();
+    let at = Timestamp::from_seconds(1_546_398_245)?;
+    let half = Timestamp::new(-1, 500_000_000)?;
+    let nanosecond = SignedDuration::nanoseconds(1);
+    let day = SignedDuration::days(1);
+    for (sum, expected) in [
+        (at.checked_add(day), Some((1_546_484_645, 0))),
+        (at.checked_sub(day), Some((1_546_311_845, 0))),
+        (
+            half.checked_add(SignedDuration::nanoseconds(500_000_000)),
+            Some((0, 0)),
+        ),
+        (
+            half.checked_sub(SignedDuration::nanoseconds(500_000_001)),
+            Some((-2, 999_999_999)),
+        ),
+        (epoch.checked_sub(nanosecond), Some((-1, 999_999_999))),
+        (last.checked_add(nanosecond), None),
+        (first.checked_sub(nanosecond), None),
+        (epoch.checked_add(SignedDuration::MIN), None),
+        (epoch.checked_add(SignedDuration::MAX), None),
+        (epoch.checked_sub(SignedDuration::MIN), None),
+        (
+            first.checked_add(last - first),
+            Some((31_494_784_780_799, 999_999_999)),
+        ),
+        (epoch.checked_add_std(Duration::MAX), None),
+        (epoch.checked_sub_std(Duration::MAX), None),
+        (
+            half.checked_add_std(Duration::from_nanos(500_000_000)),
+            Some((0, 0)),
+        ),
+        (
+            epoch.checked_sub_std(Duration::from_nanos(1)),
+            Some((-1, 999_999_999)),
+        ),
+    ] {
+        assert_eq!(rt;
+            sum.map(|sum| (sum.as_seconds(), sum.nanosecond())),
+            expected
+        );
+    }
+    assert_eq!(rt; last.saturating_add(nanosecond), last);
+    assert_eq!(rt; epoch.saturating_sub(SignedDuration::MIN), last);
+    assert_eq!(rt; epoch.saturating_add(SignedDuration::MIN), first);
+    assert_eq!(rt;
+        at.saturating_add(day),
+        Timestamp::from_seconds(1_546_484_645)?
+    );
+    for (difference, seconds, nanoseconds) in [
+        (epoch - half, 0, 500_000_000),
+        (half - epoch, 0, -500_000_000),
+        (last - first, 63_113_872_377_599, 999_999_999),
+        (last - first.to_utc(), 63_113_872_377_599, 999_999_999),
+        (first.to_utc() - last, -63_113_872_377_599, -999_999_999),
+    ] {
+        assert_eq!(rt; difference.whole_seconds(), seconds);
+        assert_eq!(rt; difference.subsec_nanoseconds(), nanoseconds);
+    }
+    Ok(())
+}
+
+fn hash_of(at: Timestamp) -> u64 {
+    let mut hasher = DefaultHasher::new();
+    at.hash(&mut hasher);
+    hasher.finish()
+}
+
+#[test]
+fn comparisons(rt: HostRuntime) -> Result<(), Fail> {
+    let before = Timestamp::new(-1, 500_000_000)?;
+    let after = Timestamp::new(-1, 500_000_001)?;
+    assert_eq!(rt; before, Timestamp::from_milliseconds(-500)?);
+    assert!(rt; before != after);
+    assert!(rt; before < after);
+    assert_eq!(rt; before.cmp(&before), Ordering::Equal);
+    assert_eq!(rt; Timestamp::from_seconds(-2)?.cmp(&before), Ordering::Less);
+    let utc = UtcDateTime::from(before);
+    assert_eq!(rt; Timestamp::from(utc), before);
+    assert!(rt; before.eq_utc(utc));
+    assert!(rt; !after.eq_utc(utc));
+    assert_eq!(rt; after.cmp_utc(utc), Ordering::Greater);
+    assert_eq!(rt;
+        hash_of(before),
+        hash_of(Timestamp::from_milliseconds(-500)?)
+    );
+    assert!(rt; hash_of(before) != hash_of(after));
+    Ok(())
+}
+
+#[test]
+fn offsets(rt: HostRuntime) -> Result<(), Fail> {
+    let (first, last, _) = crate::constants::timestamps();
+    let at = Timestamp::from_seconds(1_546_398_245)?;
+    let plus_one = UtcOffset::from_hms(1, 0, 0)?;
+    let minus_one = UtcOffset::from_hms(-1, 0, 0)?;
+    let greatest = UtcOffset::from_hms(25, 59, 59)?;
+    match at.checked_to_offset(plus_one) {
+        Some(shown) => {
+            assert_eq!(rt; shown.date_time().as_hms(), (4, 4, 5));
+            assert_eq!(rt; shown.checked_to_timestamp(), Some(at));
+        }
+        None => assert!(rt; false),
+    }
+    assert!(rt; last.checked_to_offset(plus_one).is_none());
+    assert!(rt; last.checked_to_offset(minus_one).is_some());
+    assert!(rt; first.checked_to_offset(minus_one).is_none());
+    let before_all = first.to_utc().as_plain().assume_offset(greatest);
+    assert!(rt; before_all.checked_to_timestamp().is_none());
+    assert!(rt; !first.eq_offset(before_all));
+    assert_eq!(rt; first.cmp_offset(before_all), Ordering::Greater);
+    assert_eq!(rt; (first - before_all).whole_seconds(), 93_599);
+    assert_eq!(rt; (before_all - first).whole_seconds(), -93_599);
+    let in_utc = OffsetDateTime::from(at);
+    assert!(rt; in_utc.offset().is_utc());
+    assert!(rt; at.eq_offset(in_utc));
+    assert_eq!(rt; at.cmp_offset(in_utc), Ordering::Equal);
+    Ok(())
+}
