@@ -2,8 +2,9 @@
 //! offset and duration, and does nothing when it is called.
 ghost use Rattle.std.specs.Prelude.{◌≡◌};
 ghost use Rattle.std.specs.Ordering.{int_eq, int_cmp};
-ghost use Rattle.offset_times.specs.Laws.{ConversionsCompose, OwnOffsetStays, DifferencesUndoSums, DifferencesLeadBack, TruncationsRoundDownOnce};
+ghost use Rattle.offset_times.specs.Laws.{ConversionsCompose, OwnOffsetStays, DifferencesUndoSums, DifferencesLeadBack, TruncationsRoundDownOnce, OtherPartStays};
 ghost use Rattle.offset_times.specs.Local.{instant_of};
+ghost use Rattle.plain_times.specs.Laws.{ReplacedPartsReadAsGiven, ReplacementsKeepTheRest};
 
 use crate::OffsetDateTime;
 use std::hash::Hash;
@@ -42,3 +43,15 @@ pub fn differences_lead_back()
 pub fn truncations_round_down_once()
     ensures { TruncationsRoundDownOnce }
 {}
+
+/// After an accepted replacement of a part of the wall clock that part reads as given, as by
+/// [`plain_times::laws::replaced_parts_read_as_given`]; so does a replaced wall clock or offset, and the other
+/// of the two is as before.
+pub fn replaced_parts_read_as_given()
+    ensures parts { ReplacedPartsReadAsGiven }
+    ensures date_and_time { ReplacementsKeepTheRest }
+    ensures wall_and_offset { OtherPartStays }
+{
+    plain_times::laws::replaced_parts_read_as_given();
+    plain_times::laws::replacements_keep_the_rest();
+}

@@ -2,6 +2,7 @@
 //! cite, for every instant, and do nothing when they are called.
 ghost use Rattle.std.specs.Prelude.{◌≡◌};
 ghost use Rattle.std.specs.Ordering.{int_eq, int_cmp};
+ghost use Rattle.plain_times.specs.Laws.{DifferencesUndoSums, DifferencesLeadBack, ReplacedPartsReadAsGiven};
 ghost use Rattle.stamp_times.specs.Laws.{CountsReadAsGiven, NanosecondsKeepTheSecond, TextsTellInstants};
 
 use crate::Timestamp;
@@ -46,3 +47,24 @@ pub fn nanoseconds_keep_the_second()
 pub fn texts_tell_instants()
     ensures { TextsTellInstants }
 {}
+
+/// As [`plain_times::laws::differences_undo_sums`], of instants.
+pub fn differences_undo_sums()
+    ensures { DifferencesUndoSums }
+{
+    plain_times::laws::differences_undo_sums()
+}
+
+/// As [`plain_times::laws::differences_lead_back`], of instants.
+pub fn differences_lead_back()
+    ensures { DifferencesLeadBack }
+{
+    plain_times::laws::differences_lead_back()
+}
+
+/// As [`plain_times::laws::replaced_parts_read_as_given`], of instants in UTC.
+pub fn replaced_parts_read_as_given()
+    ensures { ReplacedPartsReadAsGiven }
+{
+    plain_times::laws::replaced_parts_read_as_given()
+}
