@@ -1,0 +1,60 @@
+//! Callers that do not care which type holds an instant, and records that are exchanged.
+ghost use Rattle.std.specs.Prelude.{◌≡◌, IfOk, IfSome, IsPermutation, IsSorted, IsTrue, OnOk, pos, ◌≤ℤ◌, ◌<ℤ◌};
+ghost use Rattle.std.specs.Ordering.{on, int_cmp};
+ghost use Rattle.calendar_values.specs.WallClock.{wall_clock, wall_day};
+ghost use Rattle.offset_times.specs.Local.{instant_of, local_at};
+ghost use Rattle.offset_times.specs.Texts.{offset_date_time_text};
+
+use calendar_values::{SignedDuration, Text, Time, UtcOffset};
+use offset_times::{OffsetDateTime, ToOffset};
+use stamp_times::{Call, Moment, Replace, Timestamp, run_both};
+use std::alloc::{AllocError, Global};
+use utc_times::UtcDateTime;
+
+/// The first instant of the day in UTC, for any type that holds an instant.
+pub fn first_of_day<M: Moment>(at: M) -> M
+    ensures { M.instant result ≡ wall_clock (wall_day (M.instant at)) 0 }
+{
+    match at.replace(Replace::Time(Time::MIDNIGHT)) {
+        Ok(midnight) => midnight,
+        Err(_) => at,
+    }
+}
+
+/// The next midnight that clocks at the offset show, or None where the range has none.
+pub fn next_midnight_at(at: UtcDateTime, offset: UtcOffset) -> Option<OffsetDateTime>
+    ensures { IfSome result (λ next. next.offset ≡ offset) }
+{
+    let here = at.checked_to_offset(offset)?;
+    here.truncate_to_day().checked_add(SignedDuration::days(1))
+}
+
+/// Puts entries from many offsets into the order of their instants.
+pub fn sort(entries: &mut Vec<OffsetDateTime>) -> Result<(), AllocError>
+    ensures same_entries { IsPermutation entries.old.items entries.new.items }
+    ensures sorted { OnOk result (IsSorted (on instant_of int_cmp) entries.new.items) }
+{
+    entries.sort()
+}
+
+/// A record as it is exchanged: an instant, and the offset at which it was written.
+#[derive(Clone, Copy)]
+pub struct Record {
+    pub at: Timestamp,
+    pub offset: UtcOffset,
+}
+
+/// The text of a record at its offset, or None where clocks there show no date of the range.
+pub fn record_text(record: Record) -> Option<Text>
+    ensures { IfSome result (λ text. text ≡ offset_date_time_text (local_at record.at record.offset)) }
+{
+    Some(record.at.checked_to_offset(record.offset)?.text())
+}
+
+/// Replays calls on both types that hold an instant: their replies are the same.
+pub fn replay(alloc: Global, start: Timestamp, calls: &[Call]) -> Result<bool, AllocError>
+    ensures { IfOk result (λ same. IsTrue same) }
+{
+    let (of_timestamp, of_utc) = run_both(alloc, start, calls)?;
+    Ok(of_timestamp == of_utc)
+}
