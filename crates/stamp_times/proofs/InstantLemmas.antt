@@ -9,7 +9,8 @@ use Rattle.calendar_values.specs.WallClock.{unix_seconds_of, wall_day, wall_time
 use Rattle.calendar_values.specs.WallClockLaws.{IsDay-wall_day}
 use Rattle.calendar_values.specs.Weeks.{weekday_of}
 use Rattle.plain_times.specs.Replacements.{with_time}
-use Rattle.stamp_times.specs.Instants.{instant_of_parts, unix_nanosecond_of, unix_milliseconds_of, unix_microseconds_of}
+use Rattle.utc_times.specs.UnixTime.{instant_of_second}
+use Rattle.stamp_times.specs.Instants.{instant_of_parts, instant_of_milliseconds, instant_of_microseconds, unix_nanosecond_of, unix_milliseconds_of, unix_microseconds_of}
 use Rattle.stamp_times.specs.InstantLaws.{unix_seconds_of-parts, unix_nanosecond_of-parts}
 
 pub unix_seconds_of-is : (i s : ℤ) (n : ℕ) → n < nanos_per_second → instant_of_parts s n ≡ i → unix_seconds_of i ≡ s
@@ -25,6 +26,16 @@ unix_milliseconds_of-is (negsuc a) s n p e = omega (arith, ints)
 pub unix_microseconds_of-is : (i s : ℤ) (n : ℕ) → n < nanos_per_second → instant_of_parts s n ≡ i → unix_microseconds_of i ≡ s *ℤ pos 1_000_000 +ℤ pos (n / 1_000)
 unix_microseconds_of-is (pos a) s n p e = omega (arith, ints)
 unix_microseconds_of-is (negsuc a) s n p e = omega (arith, ints)
+
+-- the instant of a count has this count
+pub unix_seconds_of-instant_of_second : (count : ℤ) → unix_seconds_of (instant_of_second count) ≡ count
+unix_seconds_of-instant_of_second count = omega (arith, signed_arith)
+
+pub unix_milliseconds_of-instant_of_milliseconds : (count : ℤ) → unix_milliseconds_of (instant_of_milliseconds count) ≡ count
+unix_milliseconds_of-instant_of_milliseconds count = omega (arith, signed_arith)
+
+pub unix_microseconds_of-instant_of_microseconds : (count : ℤ) → unix_microseconds_of (instant_of_microseconds count) ≡ count
+unix_microseconds_of-instant_of_microseconds count = omega (arith, signed_arith)
 
 -- the day of an instant and the second of the day, by its Unix second
 pub wall_day-second : (i : ℤ) → int_div_euclid (unix_seconds_of i) (pos 86_400) ≡ wall_day i
@@ -43,7 +54,7 @@ unfolding weekday_of
 weekday_of-Monday n h = omega (arith, signed_arith)
 
 -- another nanosecond of the same second
-with_time-second : (i : ℤ) (n : ℕ) → with_time i (clock_of_parts (hour_of (wall_time i)) (minute_of (wall_time i)) (second_of (wall_time i)) n) ≡ instant_of_parts (unix_seconds_of i) n
+pub with_time-second : (i : ℤ) (n : ℕ) → with_time i (clock_of_parts (hour_of (wall_time i)) (minute_of (wall_time i)) (second_of (wall_time i)) n) ≡ instant_of_parts (unix_seconds_of i) n
 unfolding with_time wall_day wall_time
 with_time-second (pos a) n = omega (arith, ints)
 with_time-second (negsuc a) n = omega (arith, ints)

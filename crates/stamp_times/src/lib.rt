@@ -3,6 +3,7 @@
 
 pub mod calls;
 pub mod constants;
+pub mod laws;
 pub mod moment;
 pub mod reciprocal;
 pub mod runs;

@@ -1,0 +1,5 @@
+use Rattle.stamp_times.proofs.InstantLemmas.{with_time-second}
+use Rattle.stamp_times.proofs.laws.nanoseconds_keep_the_second.Goals as goal
+
+pub returns : goal.returns
+returns c = with_time-second
