@@ -10,9 +10,5 @@ pub fn utc_date_times() -> (UtcDateTime, UtcDateTime, UtcDateTime)
     ensures last { result.1 ≡ last_wall_clock }
     ensures epoch { result.2 ≡ pos 0 }
 {
-    (
-        UtcDateTime::MIN,
-        UtcDateTime::MAX,
-        UtcDateTime::UNIX_EPOCH,
-    )
+    (UtcDateTime::MIN, UtcDateTime::MAX, UtcDateTime::UNIX_EPOCH)
 }

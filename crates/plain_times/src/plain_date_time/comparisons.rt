@@ -25,16 +25,17 @@ impl PlainDateTime {
         ensures { result ≡ packed_wall_clock self }
     {
         let (year, ordinal) = self.date().to_ordinal_date();
-        packed(year, ordinal, nanosecond_of_day(self.time()))
+        packed(year, ordinal, self.time())
     }
 }
 
-// The year, the day of the year and the nanosecond of the day in one number.
-fn packed(year: i32, ordinal: u16, nanosecond: u64) -> i128
-    requires ordinal { ordinal ≤ 366 }
-    requires nanosecond { IsClock nanosecond }
-    ensures { result ≡ packed_parts year ordinal nanosecond }
+/// The year, the day of the year and the time of day in one number: that of an earlier wall clock is less.
+/// The day of the year must be at most 366.
+pub fn packed(year: i32, ordinal: u16, time: Time) -> i128
+    requires { ordinal ≤ 366 }
+    ensures { result ≡ packed_parts year ordinal time }
 {
+    let nanosecond = nanosecond_of_day(time);
     year as i128 * YEAR_PLACE + ordinal as i128 * ORDINAL_PLACE + nanosecond as i128
 }
 

@@ -1,6 +1,6 @@
-use super::*;
-use crate::AsUtc;
-use calendar_values::SignedDuration;
+use crate::{AsUtc, UtcDateTime};
+use calendar_values::{ComponentRange, Date, Month, SignedDuration, Time, Weekday};
+use plain_times::PlainDateTime;
 use std::hash::{DefaultHasher, Hash, Hasher};
 use std::test::Fail;
 use std::time::Duration;
@@ -27,6 +27,9 @@ fn unix_time(rt: HostRuntime) -> Result<(), Fail> {
         (1_645_146_123, "2022-02-18 1:02:03.0 +00"),
         (-377_705_116_800, "-9999-01-01 0:00:00.0 +00"),
         (253_402_300_799, "9999-12-31 23:59:59.0 +00"),
+        (253_402_300_800, "+10000-01-01 0:00:00.0 +00"),
+        (-31_619_087_596_800, "-999999-01-01 0:00:00.0 +00"),
+        (31_494_784_780_799, "+999999-12-31 23:59:59.0 +00"),
     ] {
         let at = UtcDateTime::from_unix_timestamp(second)?;
         assert_eq!(rt; format!(in rt.alloc(); "{at}")?.as_str(), text);
@@ -38,14 +41,14 @@ fn unix_time(rt: HostRuntime) -> Result<(), Fail> {
         (-1, -1, "1969-12-31 23:59:59.999999999 +00"),
         (1, 0, "1970-01-01 0:00:00.000000001 +00"),
         (
-            -377_705_116_800_000_000_000,
-            -377_705_116_800,
-            "-9999-01-01 0:00:00.0 +00",
+            -31_619_087_596_800_000_000_000,
+            -31_619_087_596_800,
+            "-999999-01-01 0:00:00.0 +00",
         ),
         (
-            253_402_300_799_999_999_999,
-            253_402_300_799,
-            "9999-12-31 23:59:59.999999999 +00",
+            31_494_784_780_799_999_999_999,
+            31_494_784_780_799,
+            "+999999-12-31 23:59:59.999999999 +00",
         ),
     ] {
         let at = UtcDateTime::from_unix_timestamp_nanos(nanosecond)?;
@@ -54,12 +57,12 @@ fn unix_time(rt: HostRuntime) -> Result<(), Fail> {
         assert_eq!(rt; at.unix_timestamp_nanos(), nanosecond);
     }
     for refused in [
-        UtcDateTime::from_unix_timestamp(-377_705_116_801),
-        UtcDateTime::from_unix_timestamp(253_402_300_800),
+        UtcDateTime::from_unix_timestamp(-31_619_087_596_801),
+        UtcDateTime::from_unix_timestamp(31_494_784_780_800),
         UtcDateTime::from_unix_timestamp(i64::MIN),
         UtcDateTime::from_unix_timestamp(i64::MAX),
-        UtcDateTime::from_unix_timestamp_nanos(-377_705_116_800_000_000_001),
-        UtcDateTime::from_unix_timestamp_nanos(253_402_300_800_000_000_000),
+        UtcDateTime::from_unix_timestamp_nanos(-31_619_087_596_800_000_000_001),
+        UtcDateTime::from_unix_timestamp_nanos(31_494_784_780_800_000_000_000),
         UtcDateTime::from_unix_timestamp_nanos(i128::MIN),
         UtcDateTime::from_unix_timestamp_nanos(i128::MAX),
     ] {
@@ -71,12 +74,13 @@ fn unix_time(rt: HostRuntime) -> Result<(), Fail> {
 #[test]
 fn constants(rt: HostRuntime) -> Result<(), Fail> {
     for (constant, nanosecond) in [
-        (epoch(), 0),
-        (ends().0, -377_705_116_800_000_000_000),
-        (ends().1, 253_402_300_799_999_999_999),
+        (UtcDateTime::UNIX_EPOCH, 0),
+        (UtcDateTime::MIN, -31_619_087_596_800_000_000_000),
+        (UtcDateTime::MAX, 31_494_784_780_799_999_999_999),
     ] {
         assert_eq!(rt; constant.unix_timestamp_nanos(), nanosecond);
     }
+    assert_eq!(rt; UtcDateTime::MAX.text().as_bytes().len(), 36);
     Ok(())
 }
 
@@ -109,6 +113,9 @@ fn reads(rt: HostRuntime) -> Result<(), Fail> {
         (at.millisecond(), at.microsecond(), at.nanosecond()),
         (4, 4_005, 4_005_006)
     );
+    let epoch = UtcDateTime::UNIX_EPOCH;
+    assert_eq!(rt; epoch.to_iso_week_date(), (1970, 1, Weekday::Thursday));
+    assert_eq!(rt; epoch.to_julian_day(), 2_440_588);
     Ok(())
 }
 
@@ -148,7 +155,7 @@ fn replacements(rt: HostRuntime) -> Result<(), Fail> {
     let end_of_january = utc((2022, Month::January, 30), 12, 0, 0, 0)?;
     for (refused, name, is_conditional) in [
         (end_of_january.replace_month(Month::February), "day", true),
-        (at.replace_year(10_000), "year", false),
+        (at.replace_year(1_000_000), "year", false),
         (at.replace_day(29), "day", true),
         (at.replace_day(32), "day", false),
         (at.replace_ordinal(366), "ordinal", true),
@@ -191,7 +198,7 @@ fn truncations(rt: HostRuntime) -> Result<(), Fail> {
 
 #[test]
 fn padding(rt: HostRuntime) -> Result<(), Fail> {
-    let at = epoch();
+    let at = UtcDateTime::UNIX_EPOCH;
     assert_eq!(rt;
         format!(in rt.alloc(); "{at:>27}")?.as_str(),
         "   1970-01-01 0:00:00.0 +00"
@@ -229,7 +236,7 @@ fn hash_of(at: UtcDateTime) -> u64 {
 #[test]
 fn order(rt: HostRuntime) -> Result<(), Fail> {
     let before = utc((1969, Month::December, 31), 23, 59, 59, 500_000_000)?;
-    let after = epoch();
+    let after = UtcDateTime::UNIX_EPOCH;
     assert!(rt; before < after);
     assert!(rt; before != after);
     assert_eq!(rt; before.max(after), after);
@@ -242,11 +249,11 @@ fn order(rt: HostRuntime) -> Result<(), Fail> {
 
 #[test]
 fn sums(rt: HostRuntime) -> Result<(), Fail> {
-    let (first, last) = ends();
-    let whole = SignedDuration::new(631_107_417_599, 999_999_999);
-    let longer = SignedDuration::seconds(631_107_417_600);
-    let whole_std = Duration::new(631_107_417_599, 999_999_999);
-    let longer_std = Duration::new(631_107_417_600, 0);
+    let (first, last) = (UtcDateTime::MIN, UtcDateTime::MAX);
+    let whole = SignedDuration::new(63_113_872_377_599, 999_999_999);
+    let longer = SignedDuration::seconds(63_113_872_377_600);
+    let whole_std = Duration::new(63_113_872_377_599, 999_999_999);
+    let longer_std = Duration::new(63_113_872_377_600, 0);
     for (sum, wanted) in [
         (first.checked_add(whole), Some(last)),
         (first.checked_add(longer), None),
@@ -254,6 +261,8 @@ fn sums(rt: HostRuntime) -> Result<(), Fail> {
         (first.checked_add(SignedDuration::MIN), None),
         (last.checked_sub(whole), Some(first)),
         (last.checked_sub(longer), None),
+        (last.checked_add(SignedDuration::nanoseconds(1)), None),
+        (first.checked_sub(SignedDuration::nanoseconds(1)), None),
         (first.checked_add_std(whole_std), Some(last)),
         (first.checked_add_std(longer_std), None),
         (last.checked_sub_std(whole_std), Some(first)),
@@ -277,13 +286,14 @@ fn sums(rt: HostRuntime) -> Result<(), Fail> {
 #[test]
 fn differences(rt: HostRuntime) -> Result<(), Fail> {
     let half = utc((1969, Month::December, 31), 23, 59, 59, 500_000_000)?;
-    let (first, last) = ends();
-    assert_eq!(rt; epoch() - half, SignedDuration::nanoseconds(500_000_000));
-    assert_eq!(rt; half - epoch(), SignedDuration::nanoseconds(-500_000_000));
+    let (first, last) = (UtcDateTime::MIN, UtcDateTime::MAX);
+    let epoch = UtcDateTime::UNIX_EPOCH;
+    assert_eq!(rt; epoch - half, SignedDuration::nanoseconds(500_000_000));
+    assert_eq!(rt; half - epoch, SignedDuration::nanoseconds(-500_000_000));
     let whole = last - first;
     assert_eq!(rt;
         (whole.whole_seconds(), whole.subsec_nanoseconds()),
-        (631_107_417_599, 999_999_999)
+        (63_113_872_377_599, 999_999_999)
     );
     Ok(())
 }

@@ -1,0 +1,192 @@
+-- A clock that is moved from one offset to another by carries is the clock that its nanoseconds give.
+use Rattle.std.proofs.Common.{◌≡◌, refl, ℕ, ◌<◌, ◌≤◌, arith, sym, ◌∙◌, ap, ℤ, pos, negsuc, ◌+ℤ◌, ◌-ℤ◌, ◌*ℤ◌, unsigned_abs}
+use Rattle.std.specs.Int.{int_div_euclid, int_rem_euclid}
+use Rattle.std.proofs.lemmas.Int.{ints}
+use Rattle.calendar_values.specs.Clock.{IsClock, IsTimeOfDay, clock_of_parts, hour_of, minute_of, second_of, nanosecond_of}
+use Rattle.calendar_values.specs.ClockLaws.{clock_of_parts-of, IsTimeOfDay-of, IsClock-clock_of_parts}
+use Rattle.calendar_values.specs.Offsets.{IsOffset, IsOffsetParts, seconds_of_parts, offset_hours_of, offset_minutes_of, offset_seconds_of}
+use Rattle.calendar_values.specs.OffsetLaws.{seconds_of_parts-of, IsOffsetParts-of}
+use Rattle.calendar_values.specs.SignedArith.{signed_arith}
+use Rattle.calendar_values.specs.WallClock.{wall_clock, wall_day, wall_time}
+use Rattle.calendar_values.specs.WallClockLaws.{wall_clock-parts}
+use Rattle.offset_times.specs.Carries.{moved_second, moved_minute, moved_hour, minutes_carried, hours_carried, days_carried, carried_clock, IsWithin, CarriesWithin}
+use Rattle.offset_times.specs.Local.{offset_nanos}
+
+-- quotient and remainder by 60 and by 24, where the quotient rounds down
+pub quotient_by_60 : (z q : ℤ) (r : ℕ) → z ≡ q *ℤ pos 60 +ℤ pos r → r < 60 → (int_div_euclid z (pos 60) ≡ q) × (unsigned_abs (int_rem_euclid z (pos 60)) ≡ r)
+quotient_by_60 (pos a) q r e h = (omega (arith, ints), omega (arith, ints))
+quotient_by_60 (negsuc a) q r e h = (omega (arith, ints), omega (arith, ints))
+
+pub quotient_by_24 : (z q : ℤ) (r : ℕ) → z ≡ q *ℤ pos 24 +ℤ pos r → r < 24 → (int_div_euclid z (pos 24) ≡ q) × (unsigned_abs (int_rem_euclid z (pos 24)) ≡ r)
+quotient_by_24 (pos a) q r e h = (omega (arith, ints), omega (arith, ints))
+quotient_by_24 (negsuc a) q r e h = (omega (arith, ints), omega (arith, ints))
+
+-- the second, the minute and the hour after the carries, and what each carries
+pub record Carried (c : ℕ) (from to : ℤ) (hour minute second : ℕ) (days hours minutes : ℤ) : Type 0 where
+  pub second_sum : pos (second_of c) +ℤ offset_seconds_of to -ℤ offset_seconds_of from ≡ minutes *ℤ pos 60 +ℤ pos second
+  pub minute_sum : pos (minute_of c) +ℤ offset_minutes_of to -ℤ offset_minutes_of from +ℤ minutes ≡ hours *ℤ pos 60 +ℤ pos minute
+  pub hour_sum : pos (hour_of c) +ℤ offset_hours_of to -ℤ offset_hours_of from +ℤ hours ≡ days *ℤ pos 24 +ℤ pos hour
+  pub second_in : second < 60
+  pub minute_in : minute < 60
+  pub hour_in : hour < 24
+
+-- the carries of the definitions are of this kind
+euclid_60 : (z : ℤ) → (z ≡ int_div_euclid z (pos 60) *ℤ pos 60 +ℤ pos (unsigned_abs (int_rem_euclid z (pos 60)))) × (unsigned_abs (int_rem_euclid z (pos 60)) < 60)
+euclid_60 (pos a) = (omega (arith, ints), omega (arith, ints))
+euclid_60 (negsuc a) = (omega (arith, ints), omega (arith, ints))
+
+euclid_24 : (z : ℤ) → (z ≡ int_div_euclid z (pos 24) *ℤ pos 24 +ℤ pos (unsigned_abs (int_rem_euclid z (pos 24)))) × (unsigned_abs (int_rem_euclid z (pos 24)) < 24)
+euclid_24 (pos a) = (omega (arith, ints), omega (arith, ints))
+euclid_24 (negsuc a) = (omega (arith, ints), omega (arith, ints))
+
+pub Carried-of : (c : ℕ) (from to : ℤ) → Carried c from to (unsigned_abs (int_rem_euclid (moved_hour c from to) (pos 24))) (unsigned_abs (int_rem_euclid (moved_minute c from to) (pos 60))) (unsigned_abs (int_rem_euclid (moved_second c from to) (pos 60))) (days_carried c from to) (hours_carried c from to) (minutes_carried c from to)
+unfolding minutes_carried hours_carried days_carried
+Carried-of c from to =
+    let seconds = euclid_60 (moved_second c from to) in
+    let minutes = euclid_60 (moved_minute c from to) in
+    let hours = euclid_24 (moved_hour c from to) in record {
+      second_sum = seconds.0;
+      minute_sum = minutes.0;
+      hour_sum = hours.0;
+      second_in = seconds.1;
+      minute_in = minutes.1;
+      hour_in = hours.1;
+    }
+
+-- and no others are
+pub minutes_carried-is : (c : ℕ) (from to : ℤ) (hour minute second : ℕ) (days hours minutes : ℤ) → Carried c from to hour minute second days hours minutes → (minutes_carried c from to ≡ minutes) × (unsigned_abs (int_rem_euclid (moved_second c from to) (pos 60)) ≡ second)
+unfolding minutes_carried
+minutes_carried-is c from to hour minute second days hours minutes h =
+    quotient_by_60 (moved_second c from to) minutes second h.second_sum h.second_in
+
+pub hours_carried-is : (c : ℕ) (from to : ℤ) (hour minute second : ℕ) (days hours minutes : ℤ) → Carried c from to hour minute second days hours minutes → (hours_carried c from to ≡ hours) × (unsigned_abs (int_rem_euclid (moved_minute c from to) (pos 60)) ≡ minute)
+unfolding hours_carried
+hours_carried-is c from to hour minute second days hours minutes h =
+    let carried : minutes_carried c from to ≡ minutes = (minutes_carried-is c from to hour minute second days hours minutes h).0 in
+    let sum : moved_minute c from to ≡ hours *ℤ pos 60 +ℤ pos minute = rw carried h.minute_sum in
+    quotient_by_60 (moved_minute c from to) hours minute sum h.minute_in
+
+pub days_carried-is : (c : ℕ) (from to : ℤ) (hour minute second : ℕ) (days hours minutes : ℤ) → Carried c from to hour minute second days hours minutes → (days_carried c from to ≡ days) × (unsigned_abs (int_rem_euclid (moved_hour c from to) (pos 24)) ≡ hour)
+unfolding days_carried
+days_carried-is c from to hour minute second days hours minutes h =
+    let carried : hours_carried c from to ≡ hours = (hours_carried-is c from to hour minute second days hours minutes h).0 in
+    let sum : moved_hour c from to ≡ days *ℤ pos 24 +ℤ pos hour = rw carried h.hour_sum in
+    quotient_by_24 (moved_hour c from to) days hour sum h.hour_in
+
+pub carried_clock-is : (c : ℕ) (from to : ℤ) (hour minute second : ℕ) (days hours minutes : ℤ) → Carried c from to hour minute second days hours minutes → carried_clock c from to ≡ clock_of_parts hour minute second (nanosecond_of c)
+unfolding carried_clock
+carried_clock-is c from to hour minute second days hours minutes h =
+    let second_is = (minutes_carried-is c from to hour minute second days hours minutes h).1 in
+    let minute_is = (hours_carried-is c from to hour minute second days hours minutes h).1 in
+    let hour_is = (days_carried-is c from to hour minute second days hours minutes h).1 in
+    rw (hour_is, minute_is, second_is) refl
+
+-- the carries keep the moment: the day and the clock, moved by the difference of the offsets
+carried_moment : (n days hours minutes from_h from_m from_s to_h to_m to_s : ℤ) (h m s k hour minute second : ℕ)
+    → pos s +ℤ to_s -ℤ from_s ≡ minutes *ℤ pos 60 +ℤ pos second
+    → pos m +ℤ to_m -ℤ from_m +ℤ minutes ≡ hours *ℤ pos 60 +ℤ pos minute
+    → pos h +ℤ to_h -ℤ from_h +ℤ hours ≡ days *ℤ pos 24 +ℤ pos hour
+    → wall_clock (n +ℤ days) (clock_of_parts hour minute second k) ≡ wall_clock n (clock_of_parts h m s k) +ℤ offset_nanos (seconds_of_parts to_h to_m to_s -ℤ seconds_of_parts from_h from_m from_s)
+carried_moment n days hours minutes from_h from_m from_s to_h to_m to_s h m s k hour minute second p q r =
+    omega (arith, ints, p, q, r)
+
+pub wall_clock-carried : (n : ℤ) (c : ℕ) (from to : ℤ) → wall_clock (n +ℤ days_carried c from to) (carried_clock c from to) ≡ wall_clock n c +ℤ offset_nanos (to -ℤ from)
+unfolding carried_clock
+wall_clock-carried n c from to =
+    let k = Carried-of c from to in
+    let moment = carried_moment n (days_carried c from to) (hours_carried c from to) (minutes_carried c from to) (offset_hours_of from) (offset_minutes_of from) (offset_seconds_of from) (offset_hours_of to) (offset_minutes_of to) (offset_seconds_of to) (hour_of c) (minute_of c) (second_of c) (nanosecond_of c) _ _ _ k.second_sum k.minute_sum k.hour_sum in
+    moment ∙ ap (λ (d : ℕ). wall_clock n d +ℤ offset_nanos (seconds_of_parts (offset_hours_of to) (offset_minutes_of to) (offset_seconds_of to) -ℤ seconds_of_parts (offset_hours_of from) (offset_minutes_of from) (offset_seconds_of from))) (clock_of_parts-of c) ∙ ap (λ (o : ℤ). wall_clock n c +ℤ offset_nanos (o -ℤ seconds_of_parts (offset_hours_of from) (offset_minutes_of from) (offset_seconds_of from))) (seconds_of_parts-of to) ∙ ap (λ (o : ℤ). wall_clock n c +ℤ offset_nanos (to -ℤ o)) (seconds_of_parts-of from)
+
+-- so the day and the clock that the carries give are what clocks at the other offset show
+pub wall_clock-shown : (w n : ℤ) (c : ℕ) (from to : ℤ) → n ≡ wall_day w +ℤ days_carried (wall_time w) from to → c ≡ carried_clock (wall_time w) from to → wall_clock n c ≡ w +ℤ offset_nanos (to -ℤ from)
+wall_clock-shown w n c from to e f =
+    rw (e, f) (wall_clock-carried (wall_day w) (wall_time w) from to ∙ ap (λ (v : ℤ). v +ℤ offset_nanos (to -ℤ from)) (wall_clock-parts w))
+
+pub IsClock-carried_clock : (c : ℕ) (from to : ℤ) → IsClock (carried_clock c from to)
+unfolding carried_clock
+IsClock-carried_clock c from to =
+    let k = Carried-of c from to in
+    IsClock-clock_of_parts _ _ _ _ (record { hour = omega (arith, k.hour_in); minute = omega (arith, k.minute_in); second = omega (arith, k.second_in); nanosecond = omega arith })
+
+-- how much each part carries: between two offsets, and from or to UTC
+carries_60 : (v r : ℕ) (from to into q : ℤ) → v ≤ 59 → IsWithin 118 (to -ℤ from) → IsWithin 2 into → pos v +ℤ to -ℤ from +ℤ into ≡ q *ℤ pos 60 +ℤ pos r → r < 60 → IsWithin 2 q
+carries_60 v r from to into q a b d e f = (omega (arith, signed_arith), omega (arith, signed_arith))
+
+carries_24 : (v r : ℕ) (from to into q : ℤ) → v ≤ 23 → IsWithin 50 (to -ℤ from) → IsWithin 2 into → pos v +ℤ to -ℤ from +ℤ into ≡ q *ℤ pos 24 +ℤ pos r → r < 24 → IsWithin 3 q
+carries_24 v r from to into q a b d e f = (omega (arith, signed_arith), omega (arith, signed_arith))
+
+carries_60_once : (v r : ℕ) (from to into q : ℤ) → v ≤ 59 → IsWithin 59 (to -ℤ from) → IsWithin 1 into → pos v +ℤ to -ℤ from +ℤ into ≡ q *ℤ pos 60 +ℤ pos r → r < 60 → IsWithin 1 q
+carries_60_once v r from to into q a b d e f = (omega (arith, signed_arith), omega (arith, signed_arith))
+
+carries_24_twice : (v r : ℕ) (from to into q : ℤ) → v ≤ 23 → IsWithin 25 (to -ℤ from) → IsWithin 1 into → pos v +ℤ to -ℤ from +ℤ into ≡ q *ℤ pos 24 +ℤ pos r → r < 24 → IsWithin 2 q
+carries_24_twice v r from to into q a b d e f = (omega (arith, signed_arith), omega (arith, signed_arith))
+
+-- how far the hours, the minutes and the seconds of two offsets lie apart
+record Apart (h m s : ℕ) (from to : ℤ) : Type 0 where
+  hours : IsWithin h (offset_hours_of to -ℤ offset_hours_of from)
+  minutes : IsWithin m (offset_minutes_of to -ℤ offset_minutes_of from)
+  seconds : IsWithin s (offset_seconds_of to -ℤ offset_seconds_of from)
+
+no_carry_in : (z : ℤ) → z ≡ z +ℤ pos 0
+no_carry_in z = omega (arith, ints)
+
+within : (c : ℕ) (from to : ℤ) → IsClock c → Apart 50 118 118 from to → CarriesWithin 2 2 3 c from to
+within c from to clock apart =
+    let k = Carried-of c from to in
+    let t = IsTimeOfDay-of c clock in
+    let second = unsigned_abs (int_rem_euclid (moved_second c from to) (pos 60)) in
+    let minute = unsigned_abs (int_rem_euclid (moved_minute c from to) (pos 60)) in
+    let hour = unsigned_abs (int_rem_euclid (moved_hour c from to) (pos 24)) in
+    let a = minutes_carried c from to in
+    let b = hours_carried c from to in
+    let minutes = carries_60 (second_of c) second (offset_seconds_of from) (offset_seconds_of to) (pos 0) a t.second apart.seconds (omega (arith, ints), omega (arith, ints)) (omega (arith, ints, k.second_sum)) k.second_in in
+    let hours = carries_60 (minute_of c) minute (offset_minutes_of from) (offset_minutes_of to) a b t.minute apart.minutes minutes k.minute_sum k.minute_in in
+    let days = carries_24 (hour_of c) hour (offset_hours_of from) (offset_hours_of to) b (days_carried c from to) t.hour apart.hours hours k.hour_sum k.hour_in in
+    record { minutes = minutes; hours = hours; days = days }
+
+within_once : (c : ℕ) (from to : ℤ) → IsClock c → Apart 25 59 59 from to → CarriesWithin 1 1 2 c from to
+within_once c from to clock apart =
+    let k = Carried-of c from to in
+    let t = IsTimeOfDay-of c clock in
+    let second = unsigned_abs (int_rem_euclid (moved_second c from to) (pos 60)) in
+    let minute = unsigned_abs (int_rem_euclid (moved_minute c from to) (pos 60)) in
+    let hour = unsigned_abs (int_rem_euclid (moved_hour c from to) (pos 24)) in
+    let a = minutes_carried c from to in
+    let b = hours_carried c from to in
+    let minutes = carries_60_once (second_of c) second (offset_seconds_of from) (offset_seconds_of to) (pos 0) a t.second apart.seconds (omega (arith, ints), omega (arith, ints)) (omega (arith, ints, k.second_sum)) k.second_in in
+    let hours = carries_60_once (minute_of c) minute (offset_minutes_of from) (offset_minutes_of to) a b t.minute apart.minutes minutes k.minute_sum k.minute_in in
+    let days = carries_24_twice (hour_of c) hour (offset_hours_of from) (offset_hours_of to) b (days_carried c from to) t.hour apart.hours hours k.hour_sum k.hour_in in
+    record { minutes = minutes; hours = hours; days = days }
+
+pub CarriesWithin-offsets : (c : ℕ) (from to : ℤ) → IsClock c → IsOffset from → IsOffset to → CarriesWithin 2 2 3 c from to
+CarriesWithin-offsets c from to clock p q =
+    let f = IsOffsetParts-of from p in
+    let t = IsOffsetParts-of to q in
+    within c from to clock (record {
+      hours = (omega (arith, signed_arith, f.hours_in_range, t.hours_in_range), omega (arith, signed_arith, f.hours_in_range, t.hours_in_range));
+      minutes = (omega (arith, signed_arith, f.minutes_in_range, t.minutes_in_range), omega (arith, signed_arith, f.minutes_in_range, t.minutes_in_range));
+      seconds = (omega (arith, signed_arith, f.seconds_in_range, t.seconds_in_range), omega (arith, signed_arith, f.seconds_in_range, t.seconds_in_range));
+    })
+
+pub CarriesWithin-to_utc : (c : ℕ) (from : ℤ) → IsClock c → IsOffset from → CarriesWithin 1 1 2 c from (pos 0)
+unfolding offset_hours_of offset_minutes_of offset_seconds_of
+CarriesWithin-to_utc c from clock p =
+    let f = IsOffsetParts-of from p in
+    within_once c from (pos 0) clock (record {
+      hours = (omega (arith, signed_arith, f.hours_in_range), omega (arith, signed_arith, f.hours_in_range));
+      minutes = (omega (arith, signed_arith, f.minutes_in_range), omega (arith, signed_arith, f.minutes_in_range));
+      seconds = (omega (arith, signed_arith, f.seconds_in_range), omega (arith, signed_arith, f.seconds_in_range));
+    })
+
+pub CarriesWithin-from_utc : (c : ℕ) (to : ℤ) → IsClock c → IsOffset to → CarriesWithin 1 1 2 c (pos 0) to
+unfolding offset_hours_of offset_minutes_of offset_seconds_of
+CarriesWithin-from_utc c to clock q =
+    let t = IsOffsetParts-of to q in
+    within_once c (pos 0) to clock (record {
+      hours = (omega (arith, signed_arith, t.hours_in_range), omega (arith, signed_arith, t.hours_in_range));
+      minutes = (omega (arith, signed_arith, t.minutes_in_range), omega (arith, signed_arith, t.minutes_in_range));
+      seconds = (omega (arith, signed_arith, t.seconds_in_range), omega (arith, signed_arith, t.seconds_in_range));
+    })
+
+pub IsWithin_abs : (n : ℕ) (z : ℤ) → unsigned_abs z ≤ n → IsWithin n z
+IsWithin_abs n z h = (omega (arith, signed_arith), omega (arith, signed_arith))

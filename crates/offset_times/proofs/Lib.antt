@@ -1,0 +1,4 @@
+pub mod CarryLemmas
+pub mod LocalLemmas
+pub mod OrderLemmas
+pub mod YearLemmas

@@ -1,0 +1,5 @@
+use Rattle.offset_times.proofs.LocalLemmas.{converted-own}
+use Rattle.offset_times.proofs.laws.own_offset_stays.Goals as goal
+
+pub returns : goal.returns
+returns c = converted-own

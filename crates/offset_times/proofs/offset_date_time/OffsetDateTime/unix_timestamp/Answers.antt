@@ -1,0 +1,10 @@
+use Rattle.std.proofs.Common.{◌≡◌, ◌∙◌, sym, arith, to_z, of_z, w32, w64, ◌-ℤ◌}
+use Rattle.calendar_values.specs.SignedArith.{signed_arith}
+use Rattle.offset_times.proofs.LocalLemmas.{unix_seconds_of_instant}
+use Rattle.offset_times.proofs.offset_date_time.OffsetDateTime.unix_timestamp.Goals as goal
+
+pub overflow_sub-result : goal.overflow_sub-result
+overflow_sub-result c = omega (arith, signed_arith)
+
+pub returns : goal.returns
+returns c = rw (unix_seconds_of_instant c.args.self.wall c.args.self.offset) (omega (arith, signed_arith))

@@ -1,0 +1,39 @@
+-- A wall clock at an offset from UTC, and its instant.
+use Rattle.std.specs.Prelude.{ℤ, pos, ◌+ℤ◌, ◌-ℤ◌, ◌*ℤ◌, Option, option_map}
+use Rattle.calendar_values.specs.Clock.{nanos_per_second}
+use Rattle.calendar_values.specs.Offsets.{IsOffset}
+use Rattle.calendar_values.specs.WallClock.{IsWallClock}
+use Rattle.plain_times.specs.Sums.{checked}
+
+-- the wall clock, in nanoseconds, and the offset of the clocks that show it, in seconds
+pub record Local : Type 0 where
+  pub wall : ℤ
+  pub offset : ℤ
+
+-- a wall clock and an offset of their ranges; the instant may lie outside the range of wall clocks
+abbrev pub IsLocal : Local → Type 0
+IsLocal at = IsWallClock at.wall × IsOffset at.offset
+
+-- the nanoseconds of an offset
+abbrev pub offset_nanos : ℤ → ℤ
+offset_nanos o = o *ℤ pos nanos_per_second
+
+-- the instant: what clocks in UTC show then
+abbrev pub instant_of : Local → ℤ
+instant_of at = at.wall -ℤ offset_nanos at.offset
+
+-- what clocks at an offset show at an instant
+abbrev pub shown_at : ℤ → ℤ → ℤ
+shown_at instant o = instant +ℤ offset_nanos o
+
+-- an instant at an offset
+abbrev pub local_at : ℤ → ℤ → Local
+local_at instant o = record { wall = shown_at instant o; offset = o }
+
+-- a wall clock at an offset
+abbrev pub local : ℤ → ℤ → Local
+local wall o = record { wall = wall; offset = o }
+
+-- the same instant at another offset, if the range has what clocks there show
+unfoldable pub converted : Local → ℤ → Option Local
+converted at o = option_map (λ wall. local wall o) (checked (shown_at (instant_of at) o))

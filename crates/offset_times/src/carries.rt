@@ -1,0 +1,210 @@
+//! What clocks at another offset show, by carries: the second carries into the minute, the minute into the
+//! hour, the hour into the day, and the day into the year. So it is told in the year before and after the
+//! range too.
+ghost use Rattle.std.specs.Prelude.{◌≡◌, ◌<◌, ◌≤◌, ℤ, pos, neg_ℤ, ◌+ℤ◌, ◌-ℤ◌, ◌*ℤ◌, ◌≤ℤ◌, ◌<ℤ◌};
+ghost use Rattle.calendar_values.specs.Calendar.{days_in_year, IsOrdinalDate, day_of_ordinal_date};
+ghost use Rattle.calendar_values.specs.Clock.{IsClock, IsTimeOfDay, clock_of_parts};
+ghost use Rattle.calendar_values.specs.Range.{IsYear};
+ghost use Rattle.calendar_values.specs.WallClock.{wall_clock, wall_day, wall_time};
+ghost use Rattle.offset_times.specs.Carries.{days_carried, carried_clock, IsWithin, CarriesWithin};
+ghost use Rattle.offset_times.specs.Local.{instant_of, shown_at};
+
+use crate::OffsetDateTime;
+use calendar_values::{Time, UtcOffset, days_in_year};
+use plain_times::PlainDateTime;
+use utc_times::UtcDateTime;
+
+/// The year, the day of the year and the time of day that clocks at the offset show at the instant of a
+/// date-time. The second, the minute and the hour carry at most 2, 2 and 3, either way, into the minute, the
+/// hour and the day.
+pub fn to_offset_raw(at: OffsetDateTime, offset: UtcOffset) -> (i32, u16, Time)
+    ensures date { IsOrdinalDate result.0 result.1 }
+    ensures clock { IsClock result.2 }
+    ensures shown { wall_clock (day_of_ordinal_date result.0 result.1) result.2 ≡ shown_at (instant_of at) offset }
+    ensures day_step { day_of_ordinal_date result.0 result.1 ≡ wall_day at.wall +ℤ days_carried (wall_time at.wall) at.offset offset }
+    ensures carried { result.2 ≡ carried_clock (wall_time at.wall) at.offset offset }
+    ensures within { CarriesWithin 2 2 3 (wall_time at.wall) at.offset offset }
+{
+    moved(at.date_time(), at.offset(), offset)
+}
+
+/// The year, the day of the year and the time of day that clocks in UTC show at the instant of a date-time.
+/// The second, the minute and the hour carry at most 1, 1 and 2, either way, into the minute, the hour and
+/// the day.
+pub fn to_utc_raw(at: OffsetDateTime) -> (i32, u16, Time)
+    ensures date { IsOrdinalDate result.0 result.1 }
+    ensures clock { IsClock result.2 }
+    ensures shown { wall_clock (day_of_ordinal_date result.0 result.1) result.2 ≡ instant_of at }
+    ensures day_step { day_of_ordinal_date result.0 result.1 ≡ wall_day at.wall +ℤ days_carried (wall_time at.wall) at.offset (pos 0) }
+    ensures carried { result.2 ≡ carried_clock (wall_time at.wall) at.offset (pos 0) }
+    ensures within { CarriesWithin 1 1 2 (wall_time at.wall) at.offset (pos 0) }
+{
+    moved(at.date_time(), at.offset(), UtcOffset::UTC)
+}
+
+/// The year, the day of the year and the time of day that clocks at the offset show at an instant. The
+/// second, the minute and the hour carry at most 1, 1 and 2, either way, into the minute, the hour and the
+/// day.
+pub fn utc_to_offset_raw(at: UtcDateTime, offset: UtcOffset) -> (i32, u16, Time)
+    ensures date { IsOrdinalDate result.0 result.1 }
+    ensures clock { IsClock result.2 }
+    ensures shown { wall_clock (day_of_ordinal_date result.0 result.1) result.2 ≡ shown_at at offset }
+    ensures day_step { day_of_ordinal_date result.0 result.1 ≡ wall_day at +ℤ days_carried (wall_time at) (pos 0) offset }
+    ensures carried { result.2 ≡ carried_clock (wall_time at) (pos 0) offset }
+    ensures within { CarriesWithin 1 1 2 (wall_time at) (pos 0) offset }
+{
+    let _in_range = offset.whole_seconds();
+    moved(at.as_plain(), UtcOffset::UTC, offset)
+}
+
+// The day of the year and the time of day that clocks at `to` show when clocks at `from` show these.
+fn moved(at: PlainDateTime, from: UtcOffset, to: UtcOffset) -> (i32, u16, Time)
+    ensures date { IsOrdinalDate result.0 result.1 }
+    ensures clock { IsClock result.2 }
+    ensures day_step { day_of_ordinal_date result.0 result.1 ≡ wall_day at +ℤ days_carried (wall_time at) from to }
+    ensures carried { result.2 ≡ carried_clock (wall_time at) from to }
+    ensures within { CarriesWithin 2 2 3 (wall_time at) from to }
+{
+    let (time, days) = moved_time(at.time(), from, to);
+    let (year, ordinal) = at.date().to_ordinal_date();
+    let (year, ordinal) = days_later(year, ordinal, days);
+    (year, ordinal, time)
+}
+
+// The time of day that clocks at `to` show when clocks at `from` show this, and the days between the two.
+#[tactic(auto, using(crate::proofs::CarryLemmas::IsWithin_abs))]
+fn moved_time(time: Time, from: UtcOffset, to: UtcOffset) -> (Time, i8)
+    ensures clock { result.0 ≡ carried_clock time from to }
+    ensures days { result.1 ≡ days_carried time from to }
+    ensures within { CarriesWithin 2 2 3 time from to }
+{
+    let (second, minutes) = carry_sixty(
+        time.second(),
+        from.seconds_past_minute(),
+        to.seconds_past_minute(),
+        0,
+    );
+    let (minute, hours) = carry_sixty(
+        time.minute(),
+        from.minutes_past_hour(),
+        to.minutes_past_hour(),
+        minutes,
+    );
+    let (hour, days) = carry_day(time.hour(), from.whole_hours(), to.whole_hours(), hours);
+    (time_of_day(hour, minute, second, time.nanosecond()), days)
+}
+
+// The time of day of these parts.
+fn time_of_day(hour: u8, minute: u8, second: u8, nanosecond: u32) -> Time
+    requires { IsTimeOfDay hour minute second nanosecond }
+    ensures { result ≡ clock_of_parts hour minute second nanosecond }
+{
+    Time::from_hms_nano(hour, minute, second, nanosecond).unwrap()
+}
+
+// A second or a minute moved from one offset to another, with what is carried into it and out of it.
+fn carry_sixty(part: u8, from: i8, to: i8, carried: i8) -> (u8, i8)
+    requires part { part < 60 }
+    requires from { IsWithin 59 from }
+    requires to { IsWithin 59 to }
+    requires carried { IsWithin 2 carried }
+    ensures sum { pos part +ℤ to -ℤ from +ℤ carried ≡ result.1 *ℤ pos 60 +ℤ pos result.0 }
+    ensures rest { result.0 < 60 }
+    ensures within { IsWithin 2 result.1 }
+{
+    carry(moved_part(part, from, to) + carried as i16, 60)
+}
+
+// An hour moved from one offset to another, with what is carried into it, and the days that go out of it.
+fn carry_day(hour: u8, from: i8, to: i8, carried: i8) -> (u8, i8)
+    requires hour { hour < 24 }
+    requires from { IsWithin 25 from }
+    requires to { IsWithin 25 to }
+    requires carried { IsWithin 2 carried }
+    ensures sum { pos hour +ℤ to -ℤ from +ℤ carried ≡ result.1 *ℤ pos 24 +ℤ pos result.0 }
+    ensures rest { result.0 < 24 }
+    ensures within { IsWithin 3 result.1 }
+{
+    carry(moved_part(hour, from, to) + carried as i16, 24)
+}
+
+// A second, a minute or an hour moved from one offset to another.
+fn moved_part(part: u8, from: i8, to: i8) -> i16
+    requires part { part < 60 }
+    requires from { IsWithin 59 from }
+    requires to { IsWithin 59 to }
+    ensures { result ≡ pos part +ℤ to -ℤ from }
+{
+    part as i16 + to as i16 - from as i16
+}
+
+// Brings a sum below the limit, and says how often the limit went out of it.
+fn carry(sum: i16, limit: u8) -> (u8, i8)
+    requires limit_low { 24 ≤ limit }
+    requires limit_high { limit ≤ 60 }
+    requires low { neg_ℤ (pos 3 *ℤ pos limit) ≤ℤ sum }
+    requires high { sum <ℤ (pos 4 *ℤ pos limit) }
+    ensures sum { sum ≡ result.1 *ℤ pos limit +ℤ pos result.0 }
+    ensures rest { result.0 < limit }
+{
+    let limit = i16::from(limit);
+    if sum < 0 - 2 * limit {
+        ((sum + 3 * limit) as u8, -3)
+    } else if sum < 0 - limit {
+        ((sum + 2 * limit) as u8, -2)
+    } else if sum < 0 {
+        ((sum + limit) as u8, -1)
+    } else if sum < limit {
+        (sum as u8, 0)
+    } else if sum < 2 * limit {
+        ((sum - limit) as u8, 1)
+    } else if sum < 3 * limit {
+        ((sum - 2 * limit) as u8, 2)
+    } else {
+        ((sum - 3 * limit) as u8, 3)
+    }
+}
+
+// The day that comes so many days later: at most three, so that it lies in the same year or in one beside it.
+#[tactic(auto, using(crate::proofs::YearLemmas::lengths))]
+fn days_later(year: i32, ordinal: u16, days: i8) -> (i32, u16)
+    requires year { IsYear year }
+    requires date { IsOrdinalDate year ordinal }
+    requires days { IsWithin 3 days }
+    ensures date { IsOrdinalDate result.0 result.1 }
+    ensures day { day_of_ordinal_date result.0 result.1 ≡ day_of_ordinal_date year ordinal +ℤ days }
+{
+    let moved = moved_ordinal(ordinal, days);
+    if moved < 1 {
+        let year = year - 1;
+        return (year, (moved + length_of_year(year)) as u16);
+    }
+    if moved <= 365 {
+        return (year, moved as u16);
+    }
+    let length = length_of_year(year);
+    if moved <= length {
+        return (year, moved as u16);
+    }
+    (year + 1, (moved - length) as u16)
+}
+
+// The day of the year that comes so many days later, if the year is long enough.
+#[tactic(auto, using(calendar_values::specs::SignedArith::signed_casts))]
+fn moved_ordinal(ordinal: u16, days: i8) -> i16
+    requires ordinal { ordinal ≤ 366 }
+    requires days { IsWithin 3 days }
+    ensures { result ≡ pos ordinal +ℤ days }
+{
+    ordinal as i16 + days as i16
+}
+
+// The number of days of the year.
+#[tactic(auto, using(crate::proofs::YearLemmas::lengths))]
+fn length_of_year(year: i32) -> i16
+    ensures value { result ≡ pos (days_in_year year) }
+    ensures low { pos 365 ≤ℤ result }
+    ensures high { result ≤ℤ pos 366 }
+{
+    days_in_year(year) as i16
+}

@@ -1,0 +1,28 @@
+//! Laws of the definitions that the contracts cite: each function here proves one, for every wall clock
+//! and every offset, and does nothing when it is called.
+ghost use Rattle.std.specs.Prelude.{◌≡◌};
+ghost use Rattle.std.specs.Ordering.{int_eq, int_cmp};
+ghost use Rattle.offset_times.specs.Laws.{ConversionsCompose, OwnOffsetStays};
+ghost use Rattle.offset_times.specs.Local.{instant_of};
+
+use crate::OffsetDateTime;
+use std::hash::Hash;
+
+/// Date-times are equal exactly where their instants are, their order is that of their instants, and equal
+/// ones feed a hasher the same.
+pub fn compared_by_instant()
+    ensures equal { (x y : _) → ⟦<OffsetDateTime as PartialEq>⟧.eq x y ≡ int_eq (instant_of x) (instant_of y) }
+    ensures order { (x y : _) → ⟦<OffsetDateTime as Ord>⟧.cmp x y ≡ int_cmp (instant_of x) (instant_of y) }
+    ensures hashed { (x y : _) → instant_of x ≡ instant_of y → ⟦<OffsetDateTime as Hash>⟧.hash_input x ≡ ⟦<OffsetDateTime as Hash>⟧.hash_input y }
+{}
+
+/// Where a conversion to an offset is accepted, a second one gives what it gives of the original, wall clock
+/// and offset alike, or is refused like it.
+pub fn conversions_compose()
+    ensures { ConversionsCompose }
+{}
+
+/// A conversion to the own offset gives the value, also where its date in UTC does not exist.
+pub fn own_offset_stays()
+    ensures { OwnOffsetStays }
+{}

@@ -1,0 +1,103 @@
+//! A date and a time of day at an offset from UTC.
+ghost use Rattle.std.specs.Prelude.{◌≡◌, pos};
+ghost use Rattle.calendar_values.specs.WallClock.{wall_clock};
+ghost use Rattle.offset_times.specs.Local.{local, IsLocal};
+
+use calendar_values::{Date, Time, UtcOffset};
+use plain_times::PlainDateTime;
+use std::marker::Model;
+use utc_times::UtcDateTime;
+
+mod comparisons;
+mod conversions;
+mod operators;
+mod unix_time;
+
+pub(crate) use conversions::in_range;
+
+/// A date and a time of day, from -999999-01-01 0:00:00.0 to 999999-12-31 23:59:59.999999999, that clocks
+/// at an offset from UTC show. Its instant may lie outside that range, in UTC: such a value compares, feeds
+/// a hasher and converts like any other. A contract sees the wall clock, in nanoseconds, and the offset, in
+/// seconds; the instant is the wall clock less the nanoseconds of the offset.
+#[derive(Clone, Copy)]
+pub struct OffsetDateTime {
+    date: Date,
+    time: Time,
+    offset: UtcOffset,
+}
+
+impl Model for OffsetDateTime {
+    ghost use Rattle.calendar_values.specs.Clock.{IsClock};
+    ghost use Rattle.calendar_values.specs.Offsets.{IsOffset};
+    ghost use Rattle.calendar_values.specs.Range.{IsDay};
+    ghost use Rattle.calendar_values.specs.WallClock.{wall_clock, wall_day, wall_time};
+    ghost use Rattle.calendar_values.specs.WallClockLaws.{wall_day-wall_clock, wall_time-wall_clock};
+    ghost use Rattle.offset_times.specs.Local.{Local, local};
+
+    ghost Value = { Local };
+
+    ghost view = { λ at. local (wall_clock at.date at.time) at.offset };
+
+    ghost invariant = { λ at. IsDay at.date × IsClock at.time × IsOffset at.offset };
+
+    ghost inverse = { λ at. record { date = wall_day at.wall; time = wall_time at.wall; offset = at.offset } };
+
+    ghost inverse_ok = { λ at h i. record {
+      date = wall_day-wall_clock at.date at.time h.1 i;
+      time = wall_time-wall_clock at.date at.time h.1 i;
+      offset = at.offset;
+    } };
+}
+
+impl OffsetDateTime {
+    /// 1970-01-01 0:00:00.0 in UTC, from which Unix time is counted.
+    pub const UNIX_EPOCH: OffsetDateTime = OffsetDateTime {
+        date: Date::UNIX_EPOCH,
+        time: Time::MIDNIGHT,
+        offset: UtcOffset::UTC,
+    };
+
+    /// The date and the time of day that clocks at the offset show.
+    pub fn new_in_offset(date: Date, time: Time, offset: UtcOffset) -> OffsetDateTime
+        ensures { result ≡ local (wall_clock date time) offset }
+    {
+        let _date_in_range = date.year();
+        let _offset_in_range = offset.whole_seconds();
+        OffsetDateTime { date, time, offset }
+    }
+
+    /// The date and the time of day, in UTC.
+    pub fn new_utc(date: Date, time: Time) -> OffsetDateTime
+        ensures { result ≡ local (wall_clock date time) (pos 0) }
+    {
+        OffsetDateTime::new_in_offset(date, time, UtcOffset::UTC)
+    }
+
+    /// The offset.
+    pub fn offset(self) -> UtcOffset
+        ensures value { result ≡ self.offset }
+        ensures in_range { IsLocal self }
+    {
+        self.offset
+    }
+
+    /// The date and the time of day, without the offset.
+    #[tactic(auto, using(calendar_values::specs::WallClockLaws::parts))]
+    pub fn date_time(self) -> PlainDateTime
+        ensures value { result ≡ self.wall }
+        ensures in_range { IsLocal self }
+    {
+        PlainDateTime::new(self.date, self.time)
+    }
+}
+
+impl From<UtcDateTime> for OffsetDateTime {
+    ghost from_gives = { λ instant at. at ≡ local instant (pos 0) };
+
+    fn from(at: UtcDateTime) -> OffsetDateTime {
+        OffsetDateTime::new_utc(at.date(), at.time())
+    }
+}
+
+#[cfg(test)]
+mod tests;

@@ -1,0 +1,46 @@
+//! Unix time: instants counted from 1970-01-01 0:00 UTC, with no leap seconds.
+ghost use Rattle.std.specs.Prelude.{◌≡◌, OkIff, IfErr, codes, pos};
+ghost use Rattle.calendar_values.specs.Refusals.{outright_refusal};
+ghost use Rattle.calendar_values.specs.WallClock.{unix_seconds_of, IsWallClock};
+ghost use Rattle.offset_times.specs.Local.{instant_of, local};
+ghost use Rattle.utc_times.specs.UnixTime.{instant_of_second};
+
+use crate::OffsetDateTime;
+use calendar_values::ComponentRange;
+use utc_times::{AsUtc, UtcDateTime};
+
+impl OffsetDateTime {
+    /// The instant of a Unix second, in UTC. Refused `timestamp` outside -31,619,087,596,800 to
+    /// 31,494,784,780,799.
+    pub fn from_unix_timestamp(timestamp: i64) -> Result<OffsetDateTime, ComponentRange>
+        ensures value { let i = instant_of_second timestamp in OkIff result (IsWallClock i) (local i (pos 0)) }
+        ensures refused { IfErr result (λ refusal. refusal ≡ outright_refusal (codes "timestamp")) }
+    {
+        Ok(OffsetDateTime::from(UtcDateTime::from_unix_timestamp(timestamp)?))
+    }
+
+    /// The instant so many nanoseconds from 1970-01-01 0:00 UTC, in UTC. Refused `timestamp` outside
+    /// -31,619,087,596,800 * 10^9 to 31,494,784,780,800 * 10^9 - 1.
+    pub fn from_unix_timestamp_nanos(timestamp: i128) -> Result<OffsetDateTime, ComponentRange>
+        ensures value { OkIff result (IsWallClock timestamp) (local timestamp (pos 0)) }
+        ensures refused { IfErr result (λ refusal. refusal ≡ outright_refusal (codes "timestamp")) }
+    {
+        Ok(OffsetDateTime::from(UtcDateTime::from_unix_timestamp_nanos(timestamp)?))
+    }
+
+    /// The Unix second of the instant: the whole seconds from 1970-01-01 0:00 UTC, rounded down. It is told
+    /// of an instant outside the range too.
+    pub fn unix_timestamp(self) -> i64
+        ensures { result ≡ unix_seconds_of (instant_of self) }
+    {
+        self.date_time().as_utc().unix_timestamp() - self.offset().whole_seconds() as i64
+    }
+
+    /// The nanoseconds from 1970-01-01 0:00 UTC to the instant, outside the range too.
+    pub fn unix_timestamp_nanos(self) -> i128
+        ensures { result ≡ instant_of self }
+    {
+        let offset = self.offset().whole_seconds() as i128;
+        self.date_time().as_utc().unix_timestamp_nanos() - offset * 1_000_000_000
+    }
+}
