@@ -4,3 +4,4 @@ pub mod OrderLemmas
 pub mod ReciprocalLemmas
 pub mod SumLemmas
 pub mod TextLemmas
+pub mod TravelLemmas

@@ -10,9 +10,13 @@ use Rattle.calendar_values.specs.declared.month.Month.{Month}
 use Rattle.calendar_values.specs.declared.month.Month.TheVariants.{January, February, March, April, May, June, July, August, September, October, November, December}
 use Rattle.calendar_values.specs.declared.weekday.Weekday.{Weekday}
 use Rattle.calendar_values.specs.declared.weekday.Weekday.TheVariants.{Monday, Tuesday, Wednesday, Thursday, Friday, Saturday, Sunday}
-use Rattle.plain_times.specs.SumLemmas.{checked-SomeIff}
+use Rattle.offset_times.specs.Local.{Local, local}
+use Rattle.plain_times.specs.SumLemmas.{checked-in, checked-SomeIff}
 use Rattle.plain_times.specs.Sums.{checked}
+use Rattle.stamp_times.specs.Counter.{local_reply}
 use Rattle.stamp_times.specs.Numbered.{month_numbered, weekday_numbered}
+use Rattle.stamp_times.specs.declared.calls.Reply.{Reply}
+use Rattle.stamp_times.specs.declared.calls.Reply.TheVariants.{Refused}
 
 pub month_numbered-number : (m : Month) → month_numbered (month_number m) ≡ m
 unfolding month_numbered
@@ -52,3 +56,11 @@ replaced-as_is (Ok x) s e = e
 replaced-as_is (Err x) s e = e
 
 pub ruleset moves = (shifted-SomeIff, replaced-as_is)
+
+-- what a conversion to an offset replies, accepted and refused
+pub local_reply-accepted : (at : Local) (w o : ℤ) → SomeIff (Some at) (IsWallClock w) (local w o) → local_reply at.offset (Some at.wall) ≡ local_reply o (checked w)
+local_reply-accepted at w o h =
+    ap (λ (p : Local). local_reply p.offset (Some p.wall)) h.1 ∙ ap (local_reply o) (sym (checked-in w h.0))
+
+pub local_reply-refused : (w o : ℤ) → SomeIff None (IsWallClock w) (local w o) → Refused ≡ local_reply o (checked w)
+local_reply-refused w o h = ap (local_reply o) (checked-SomeIff None w h)

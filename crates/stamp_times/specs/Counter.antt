@@ -7,6 +7,7 @@ use Rattle.calendar_values.specs.Refusals.{Refusal}
 use Rattle.calendar_values.specs.Replacements.{with_year, with_month, with_day, with_ordinal, with_hour, with_minute, with_second, with_millisecond, with_microsecond, with_nanosecond}
 use Rattle.calendar_values.specs.WallClock.{wall_day, wall_time}
 use Rattle.calendar_values.specs.Weeks.{iso_year_of, iso_week_of, sunday_week_of, monday_week_of, weekday_of}
+use Rattle.offset_times.specs.Local.{shown_at}
 use Rattle.plain_times.specs.Replacements.{with_date, with_time, keeping_time, keeping_day}
 use Rattle.plain_times.specs.Sums.{checked, clamped}
 use Rattle.stamp_times.specs.Numbered.{month_numbered, weekday_numbered}
@@ -103,19 +104,26 @@ abbrev pub replace_next : ℤ → Result ℤ Refusal → ℤ
 replace_next i (Ok j) = j
 replace_next i (Err refusal) = i
 
+-- what a conversion to an offset replies: what clocks there show, if the range has it
+abbrev pub local_reply : ℤ → Option ℤ → Reply
+local_reply o None = replied.Refused
+local_reply o (Some w) = replied.Local (wall_day w) (wall_time w) o
+
 -- the reply to a call
 abbrev pub reply : ℤ → Call → Reply
 reply i (call.ReadDate read) = replied.DatePart (date_part_of (wall_day i) read)
 reply i (call.ReadClock read) = replied.ClockPart (clock_part_of (wall_time i) read)
 reply i (call.Shift shift) = shift_reply (shifted i shift)
 reply i (call.Replace replace) = replace_reply (replaced i replace)
+reply i (call.Local o) = local_reply o (checked (shown_at i o))
 
--- where a call leaves the counter: a read and a refused call change nothing
+-- where a call leaves the counter: a read, a conversion to an offset and a refused call change nothing
 abbrev pub next : ℤ → Call → ℤ
 next i (call.ReadDate read) = i
 next i (call.ReadClock read) = i
 next i (call.Shift shift) = shift_next i (shifted i shift)
 next i (call.Replace replace) = replace_next i (replaced i replace)
+next i (call.Local o) = i
 
 -- the replies to calls in their order
 abbrev pub replies : ℤ → List Call → List Reply

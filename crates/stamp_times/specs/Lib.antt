@@ -6,3 +6,4 @@ pub mod Numbered
 pub mod Reciprocal
 pub mod Refusals
 pub mod Texts
+pub mod Travel

@@ -1,5 +1,5 @@
 //! The calls that instants of every type have, and what they reply.
-use calendar_values::{ComponentRange, Date, Month, SignedDuration, Time, Weekday};
+use calendar_values::{ComponentRange, Date, Month, SignedDuration, Time, UtcOffset, Weekday};
 
 /// A read of the date.
 #[derive(Clone, Copy, Debug, PartialEq, Eq)]
@@ -102,10 +102,11 @@ pub enum Call {
     ReadClock(ClockRead),
     Shift(Shift),
     Replace(Replace),
+    Local(UtcOffset),
 }
 
 /// What a call replies: the part that a read asks for, the date and the time of day after a sum or a
-/// replacement that is accepted, or that it is refused.
+/// replacement that is accepted, those that clocks at an offset show, or that the call is refused.
 #[derive(Clone, Copy, Debug, PartialEq, Eq)]
 pub enum Reply {
     DatePart(DatePart),
@@ -113,4 +114,5 @@ pub enum Reply {
     Now(Date, Time),
     Refused,
     RefusedPart(ComponentRange),
+    Local(Date, Time, UtcOffset),
 }

@@ -1,14 +1,16 @@
 //! What instants of every type have in common.
-ghost use Rattle.std.specs.Prelude.{◌≡◌, ℤ, option_map};
+ghost use Rattle.std.specs.Prelude.{◌≡◌, ℤ, option_map, SomeIff};
 ghost use Rattle.std.specs.Ordering.{int_eq, int_cmp};
 ghost use Rattle.std.specs.Result.{result_map_both};
 ghost use Rattle.std.proofs.Common.{refl};
 ghost use Rattle.calendar_values.specs.WallClock.{wall_day, wall_time, IsWallClock};
+ghost use Rattle.offset_times.specs.Local.{shown_at, local_at};
 ghost use Rattle.stamp_times.specs.Counter.{date_part_of, clock_part_of, shifted, replaced};
 
 use crate::Timestamp;
 use crate::calls::{ClockPart, ClockRead, DatePart, DateRead, Replace, Shift};
-use calendar_values::{ComponentRange, Date, Time};
+use calendar_values::{ComponentRange, Date, Time, UtcOffset};
+use offset_times::{OffsetDateTime, ToOffset};
 use std::hash::Hash;
 use utc_times::UtcDateTime;
 
@@ -39,6 +41,11 @@ pub trait Moment: Copy + Eq + Ord + Hash {
         ensures date { result.0 ≡ wall_day (instant self) }
         ensures time { result.1 ≡ wall_time (instant self) }
         ensures self_in_range { IsWallClock (instant self) };
+
+    /// What clocks at the offset show at the instant, with the offset, as
+    /// [`ToOffset::checked_to_offset`]. None where that is out of the range.
+    fn at_offset(self, offset: UtcOffset) -> Option<OffsetDateTime>
+        ensures { SomeIff result (IsWallClock (shown_at (instant self) offset)) (local_at (instant self) offset) };
 
     /// Values are equal exactly where their instants are.
     ghost eq_by_instant: { (x y : Self) → Self.eq x y ≡ int_eq (instant x) (instant y) };
@@ -150,6 +157,10 @@ impl Moment for UtcDateTime {
         (self.date(), self.time())
     }
 
+    fn at_offset(self, offset: UtcOffset) -> Option<OffsetDateTime> {
+        self.checked_to_offset(offset)
+    }
+
     ghost eq_by_instant = { λ x y. refl };
 
     ghost cmp_by_instant = { λ x y. refl };
@@ -179,6 +190,10 @@ impl Moment for Timestamp {
 
     fn parts(self) -> (Date, Time) {
         (self.date(), self.time())
+    }
+
+    fn at_offset(self, offset: UtcOffset) -> Option<OffsetDateTime> {
+        self.to_utc().checked_to_offset(offset)
     }
 
     ghost eq_by_instant = { λ x y. refl };

@@ -1,15 +1,17 @@
 //! Runs of calls.
-ghost use Rattle.std.specs.Prelude.{◌≡◌, ℤ, IfOk, vec_len, vec_capacity, ◌++◌, ◌∷◌, [], ◌<◌, ◌≤◌, ◌+◌};
-ghost use Rattle.stamp_times.specs.Counter.{reply, next, replies, last, now};
+ghost use Rattle.std.specs.Prelude.{◌≡◌, ℤ, Some, IfOk, vec_len, vec_capacity, ◌++◌, ◌∷◌, [], ◌<◌, ◌≤◌, ◌+◌};
+ghost use Rattle.stamp_times.specs.Counter.{reply, next, replies, last, now, local_reply};
 
 use crate::calls::{Call, Reply};
 use crate::{Moment, Timestamp};
+use offset_times::OffsetDateTime;
 use std::alloc::{AllocError, Global};
 
 /// The replies to the calls in their order, one a call, and the value after the last: those of a counter of
 /// nanoseconds that starts at the instant. A read leaves the value as it is and replies the part. A sum or a
 /// replacement that is accepted goes on from its result and replies the date and the time of day there. One
-/// that is refused replies the refusal, changes nothing, and the run goes on. `AllocError` where there is no
+/// that is refused replies the refusal, changes nothing, and the run goes on. A conversion to an offset
+/// replies what clocks there show, and the run goes on from the instant. `AllocError` where there is no
 /// memory for the replies; all of it is taken first.
 pub fn run<M: Moment>(
     alloc: Global,
@@ -59,6 +61,10 @@ fn step<M: Moment>(held: M, call: Call) -> (Reply, M)
             Ok(next) => (now(next), next),
             Err(refusal) => (Reply::RefusedPart(refusal), held),
         },
+        Call::Local(offset) => match held.at_offset(offset) {
+            Some(at) => (local(at), held),
+            None => (Reply::Refused, held),
+        },
     }
 }
 
@@ -68,6 +74,14 @@ fn now<M: Moment>(held: M) -> Reply
 {
     let (date, time) = held.parts();
     Reply::Now(date, time)
+}
+
+// The reply that says what clocks at an offset show.
+fn local(at: OffsetDateTime) -> Reply
+    ensures { result ≡ local_reply at.offset (Some at.wall) }
+{
+    let (date, time, offset) = at.parts();
+    Reply::Local(date, time, offset)
 }
 
 // Puts an item at the end, where there is room for it.
@@ -82,3 +96,6 @@ fn put_in_room<T: Copy>(items: &mut Vec<T>, item: T)
         Err(_) => unreachable!(),
     }
 }
+
+#[cfg(test)]
+mod tests;
