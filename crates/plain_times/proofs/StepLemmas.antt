@@ -8,7 +8,7 @@ use Rattle.calendar_values.specs.Range.{IsDay}
 use Rattle.calendar_values.specs.WallClock.{wall_clock, wall_day, wall_time, first_wall_clock, last_wall_clock, IsWallClock}
 use Rattle.calendar_values.specs.WallClockLaws.{wall_clock-parts, IsClock-wall_time}
 use Rattle.plain_times.specs.Sums.{clamped}
-use Rattle.plain_times.specs.SumLemmas.{clamped-before, clamped-after}
+use Rattle.plain_times.specs.SumLemmas.{clamped-is, clamped-before, clamped-after}
 
 -- whole days, and nanoseconds of no opposite sign, that together are the duration
 pub record Splits (d days rest : ℤ) : Type 0 where
@@ -107,6 +107,12 @@ clamped-difference w d true h not sign =
 clamped-difference w d false h not sign =
     let ge : pos 0 ≤ℤ d = by_lt_z d (pos 0) (λ lt. let no : false ≡ true = sign.1 lt in cc) (λ ge. ge) in
     sym (clamped-earlier w (neg_ℤ d) h not (omega (arith, ints)))
+
+-- a sum that is accepted stays as it is
+pub clamped-accepted : (w v : ℤ) → IsWallClock w → v ≡ w → v ≡ clamped w
+clamped-accepted w v h e = clamped-is w v (h, e)
+
+pub ruleset saturations = (ints, clamped-accepted)
 
 -- the difference of two wall clocks is that of their days and of their times
 pub wall_clock-difference : (v w m n days rest : ℤ) (c t : ℕ) → m ≡ wall_day v → n ≡ wall_day w → c ≡ wall_time v → t ≡ wall_time w → days ≡ (m -ℤ n) *ℤ pos nanos_per_day → rest ≡ pos c -ℤ pos t → days +ℤ rest ≡ v -ℤ w

@@ -1,9 +1,11 @@
 -- What shows that the definitions are what their names say: laws of all wall clocks and durations, each proved by a function of `src/laws.rt`.
-use Rattle.std.specs.Prelude.{◌≡◌, ◌↔◌, ℕ, ◌<◌, ℤ, ◌+ℤ◌, ◌-ℤ◌, ◌<ℤ◌, Some}
-use Rattle.calendar_values.specs.Clock.{IsClock}
+use Rattle.std.specs.Prelude.{◌≡◌, ◌↔◌, ℕ, ◌<◌, ◌≤◌, ℤ, ◌+ℤ◌, ◌-ℤ◌, ◌<ℤ◌, Some, Ok}
+use Rattle.calendar_values.specs.Calendar.{year_of, month_of, day_of_month_of, ordinal_of}
+use Rattle.calendar_values.specs.Clock.{IsClock, hour_of, minute_of, second_of, millisecond_of, microsecond_of, nanosecond_of}
+use Rattle.calendar_values.specs.Replacements.{with_year, with_month, with_day, with_ordinal, with_hour, with_minute, with_second, with_millisecond, with_microsecond, with_nanosecond}
 use Rattle.calendar_values.specs.WallClock.{wall_day, wall_time, IsWallClock}
 use Rattle.plain_times.specs.Packed.{packed_wall_clock}
-use Rattle.plain_times.specs.Replacements.{with_date, with_time}
+use Rattle.plain_times.specs.Replacements.{with_date, with_time, keeping_time, keeping_day}
 use Rattle.plain_times.specs.Sums.{checked}
 use Rattle.plain_times.specs.Truncations.{rounded_down, IsRoundedDown}
 
@@ -25,6 +27,19 @@ pub record IsOnlyWallClock (w n : ℤ) (c : ℕ) : Type 0 where
 pub record ReplacementsKeepTheRest : Type 0 where
   pub date : (w n : ℤ) → IsOnlyWallClock (with_date w n) n (wall_time w)
   pub time : (w : ℤ) (c : ℕ) → IsClock c → IsOnlyWallClock (with_time w c) (wall_day w) c
+
+-- after an accepted replacement the part reads as given
+pub record ReplacedPartsReadAsGiven : Type 0 where
+  pub year : (w v y : ℤ) → keeping_time w (with_year (wall_day w) y) ≡ Ok v → year_of (wall_day v) ≡ y
+  pub month : (w v : ℤ) (m : ℕ) → 1 ≤ m → m ≤ 12 → keeping_time w (with_month (wall_day w) m) ≡ Ok v → month_of (wall_day v) ≡ m
+  pub day : (w v : ℤ) (d : ℕ) → keeping_time w (with_day (wall_day w) d) ≡ Ok v → day_of_month_of (wall_day v) ≡ d
+  pub ordinal : (w v : ℤ) (o : ℕ) → keeping_time w (with_ordinal (wall_day w) o) ≡ Ok v → ordinal_of (wall_day v) ≡ o
+  pub hour : (w v : ℤ) (h : ℕ) → keeping_day w (with_hour (wall_time w) h) ≡ Ok v → hour_of (wall_time v) ≡ h
+  pub minute : (w v : ℤ) (m : ℕ) → keeping_day w (with_minute (wall_time w) m) ≡ Ok v → minute_of (wall_time v) ≡ m
+  pub second : (w v : ℤ) (s : ℕ) → keeping_day w (with_second (wall_time w) s) ≡ Ok v → second_of (wall_time v) ≡ s
+  pub millisecond : (w v : ℤ) (n : ℕ) → keeping_day w (with_millisecond (wall_time w) n) ≡ Ok v → millisecond_of (wall_time v) ≡ n
+  pub microsecond : (w v : ℤ) (n : ℕ) → keeping_day w (with_microsecond (wall_time w) n) ≡ Ok v → microsecond_of (wall_time v) ≡ n
+  pub nanosecond : (w v : ℤ) (n : ℕ) → keeping_day w (with_nanosecond (wall_time w) n) ≡ Ok v → nanosecond_of (wall_time v) ≡ n
 
 -- a truncation gives the greatest multiple of its unit that is not above the wall clock
 abbrev pub TruncationsRoundDown : Type 0

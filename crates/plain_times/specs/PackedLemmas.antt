@@ -1,5 +1,5 @@
 -- Packed numbers are in the order of the wall clocks that they stand for.
-use Rattle.std.proofs.Common.{◌≡◌, ◌↔◌, ℕ, sym, ◌∙◌, ap, arith, ℤ, pos, ◌+ℤ◌, ◌<ℤ◌, int_cmp}
+use Rattle.std.proofs.Common.{◌≡◌, ◌↔◌, ℕ, ap, arith, ℤ, pos, ◌+ℤ◌, ◌<ℤ◌, int_cmp}
 use Rattle.std.proofs.lemmas.Int.{ints, by_lt_z}
 use Rattle.std.specs.Bool.{one_answer}
 use Rattle.std.specs.Cmp.{signed_Decides}

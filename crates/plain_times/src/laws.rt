@@ -1,6 +1,6 @@
 //! Laws of the definitions that the contracts cite: each function here proves one, for every wall clock
 //! and every duration, and does nothing when it is called.
-ghost use Rattle.plain_times.specs.Laws.{DifferencesUndoSums, DifferencesLeadBack, ReplacementsKeepTheRest, TruncationsRoundDown, TruncationsRoundDownOnce, PackedNumbersKeepTheOrder};
+ghost use Rattle.plain_times.specs.Laws.{DifferencesUndoSums, DifferencesLeadBack, ReplacementsKeepTheRest, ReplacedPartsReadAsGiven, TruncationsRoundDown, TruncationsRoundDownOnce, PackedNumbersKeepTheOrder};
 
 /// Where a wall clock and its sum with a duration lie in the range, taking the duration from the sum
 /// gives the wall clock back.
@@ -18,6 +18,14 @@ pub fn differences_lead_back()
 pub fn replacements_keep_the_rest()
     ensures { ReplacementsKeepTheRest }
 {}
+
+/// After an accepted replacement of a part of the date or of the time of day, that part reads as given.
+pub fn replaced_parts_read_as_given()
+    ensures { ReplacedPartsReadAsGiven }
+{
+    calendar_values::laws::replacements_keep_the_rest();
+    calendar_values::laws::clock_replacements_keep_the_rest();
+}
 
 /// A truncation gives the greatest multiple of its unit that is not above the wall clock.
 pub fn truncations_round_down()

@@ -1,5 +1,5 @@
 -- What the second and the nanosecond of a timestamp say of its instant.
-use Rattle.std.proofs.Common.{◌≡◌, ℕ, ◌/◌, ◌%◌, ◌<◌, ◌≤ℤ◌, arith, ℤ, pos, negsuc, ◌+ℤ◌, ◌*ℤ◌, unsigned_abs, ap, ◌∙◌}
+use Rattle.std.proofs.Common.{◌≡◌, ℕ, ◌/◌, ◌%◌, ◌<◌, arith, ℤ, pos, negsuc, ◌+ℤ◌, ◌-ℤ◌, ◌*ℤ◌, unsigned_abs, ap, ◌∙◌}
 use Rattle.std.specs.Int.{int_div_euclid, int_rem_euclid}
 use Rattle.std.proofs.lemmas.Int.{ints}
 use Rattle.calendar_values.specs.Clock.{nanos_per_second, clock_of_parts, hour_of, minute_of, second_of}
@@ -71,3 +71,9 @@ pub ruleset days = (signed_casts, wall_day-second, wall_time-second, IsDay-wall_
 pub ruleset weekdays = (signed_casts, weekday_of-Monday)
 
 pub ruleset nanoseconds = (signed_casts, with_time-nanosecond)
+
+-- the instant of what clocks in UTC show
+pub instant_of-utc : (i : ℤ) → i -ℤ pos 0 *ℤ pos nanos_per_second ≡ i
+instant_of-utc i = omega (arith, ints)
+
+pub ruleset instant_of_utc = (instant_of-utc)

@@ -10,6 +10,7 @@ pub mod reciprocal;
 pub mod runs;
 pub mod steps;
 mod timestamp;
+mod to_timestamp;
 
 pub use calls::{Call, ClockPart, ClockRead, DatePart, DateRead, Replace, Reply, Shift};
 pub use chains::chain;
@@ -17,3 +18,4 @@ pub use moment::Moment;
 pub use runs::{run, run_both};
 pub use steps::{Held, Step, StoppedAt};
 pub use timestamp::Timestamp;
+pub use to_timestamp::ToTimestamp;

@@ -12,6 +12,7 @@ use std::marker::Model;
 
 mod comparisons;
 mod conversions;
+mod offsets;
 mod operators;
 mod reads;
 mod replacements;

@@ -1,12 +1,11 @@
 -- Writing one text after another.
 use Rattle.std.proofs.Common.{◌≡◌, ℕ, ◌+◌, ◌<◌, List, [], ◌++◌, length, length-append, take, drop, Option, Some, None, refl, sym, ◌∙◌, ap, subst, arith, append_assoc, append-nil, Result}
-use Rattle.std.specs.Prelude.{MatchResult}
 use Rattle.std.specs.Io.KnownBytes.{Appends, Keeps}
 use Rattle.std.proofs.lemmas.Grind.{common_steps}
 use Rattle.std.proofs.lemmas.List.{take-append-drop}
 use Rattle.std.proofs.lemmas.Result.{MatchResult-weaker}
 use Rattle.std.proofs.Math.Seq.{take-add}
-use Rattle.times_bench.specs.Writing.{AppendsBeginning, Sends}
+use Rattle.times_bench.specs.Writing.{AppendsBeginning, Sends, SendsAll, WritesAll}
 
 -- nothing is appended at first
 pub Appends-nil : (a : Option (List ℕ)) → Appends a a []
@@ -83,14 +82,42 @@ AppendsBeginning-pending a b c p xs ys h k =
     subst (AppendsBeginning a c) (sym (ap (λ (z : List ℕ). z ++ ys) h.whole ∙ append_assoc h.sent p ys))
     (AppendsBeginning-append a b c h.sent (p ++ ys) h.appended k)
 
--- the pending bytes were cut short before a text was added whole
-pub AppendsBeginning-full : (a b c : Option (List ℕ)) (p xs ys zs : List ℕ) → Sends a b p xs → AppendsBeginning b c p → zs ≡ xs ++ ys → AppendsBeginning a c zs
-AppendsBeginning-full a b c p xs ys zs h k e =
-    subst (AppendsBeginning a c) (sym e) (AppendsBeginning-pending a b c p xs ys h (AppendsBeginning-longer b c p ys k))
+-- one text is sent after another
+pub SendsAll-then : {E : Type 0} (a b c : Option (List ℕ)) (q r xs ys : List ℕ) (result : Result (Unit {0}) E) → Sends a b q xs
+    → SendsAll result b c r (q ++ ys) → SendsAll result a c r (xs ++ ys)
+SendsAll-then a b c q r xs ys result h k =
+    MatchResult-weaker result k (λ _ w. Sends-append a b c q xs r ys h w) (λ _ w. AppendsBeginning-pending a b c q xs ys h w)
+
+-- the same of two parts of a text that another text follows
+parts-append : (p xs ys zs whole : List ℕ) → xs ++ ys ≡ whole → (p ++ xs) ++ (ys ++ zs) ≡ p ++ (whole ++ zs)
+parts-append p xs ys zs whole e =
+    append_assoc p xs (ys ++ zs) ∙ ap (λ (z : List ℕ). p ++ z) (sym (append_assoc xs ys zs) ∙ ap (λ (z : List ℕ). z ++ zs) e)
+
+pub SendsAll-parts : {E : Type 0} (a b c : Option (List ℕ)) (p q r xs ys zs whole : List ℕ) (result : Result (Unit {0}) E) → xs ++ ys ≡ whole
+    → Sends a b q (p ++ xs) → SendsAll result b c r (q ++ (ys ++ zs)) → SendsAll result a c r (p ++ (whole ++ zs))
+SendsAll-parts a b c p q r xs ys zs whole result e h k =
+    subst (SendsAll result a c r) (parts-append p xs ys zs whole e) (SendsAll-then a b c q r (p ++ xs) (ys ++ zs) result h k)
+
+pub AppendsBeginning-parts : (a b : Option (List ℕ)) (p xs ys zs whole : List ℕ) → xs ++ ys ≡ whole → AppendsBeginning a b (p ++ xs)
+    → AppendsBeginning a b (p ++ (whole ++ zs))
+AppendsBeginning-parts a b p xs ys zs whole e h =
+    subst (AppendsBeginning a b) (parts-append p xs ys zs whole e) (AppendsBeginning-longer a b (p ++ xs) (ys ++ zs) h)
+
+pub SendsAll-same : {E : Type 0} (a b : Option (List ℕ)) (p q xs ys : List ℕ) (result : Result (Unit {0}) E) → xs ≡ ys
+    → SendsAll result a b q (p ++ xs) → SendsAll result a b q (p ++ ys)
+SendsAll-same a b p q xs ys result e h = subst (λ (z : List ℕ). SendsAll result a b q (p ++ z)) e h
+
+-- a text is written at once, after what was pending
+pub SendsAll-at_once : {E : Type 0} (a b c : Option (List ℕ)) (p q text : List ℕ) (result : Result (Unit {0}) E) → Appends a b p → q ≡ []
+    → WritesAll result b c text → SendsAll result a c q (p ++ text)
+SendsAll-at_once a b c p q text result h e k =
+    MatchResult-weaker result k
+    (λ _ w. record { sent = p ++ text; appended = Appends-append a b c p text h w; whole = rw e (sym (append-nil (p ++ text))) })
+    (λ _ w. AppendsBeginning-append a b c p text h w)
 
 -- a flush after bytes that were sent
 pub flush_sent : {E : Type 0} (a b c : Option (List ℕ)) (p q bytes : List ℕ) (r : Result (Unit {0}) E) → p ≡ [] → Sends a b q (p ++ bytes)
-    → MatchResult r (λ _. Appends b c q) (λ _. AppendsBeginning b c q) → MatchResult r (λ _. Appends a c bytes) (λ _. AppendsBeginning a c bytes)
+    → WritesAll r b c q → WritesAll r a c bytes
 flush_sent a b c p q bytes r e h k =
     let s : Sends a b q bytes = subst (λ (z : List ℕ). Sends a b q (z ++ bytes)) e h in
     MatchResult-weaker r k

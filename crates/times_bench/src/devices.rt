@@ -1,8 +1,8 @@
 //! What bytes come from and go to.
-ghost use Rattle.std.specs.Prelude.{◌≡◌, ℕ, ◌<◌, Bool, true, false, List, length, Option, MatchResult, IfOk};
+ghost use Rattle.std.specs.Prelude.{◌≡◌, ℕ, ◌<◌, Bool, false, List, length, Option, IfOk};
 ghost use Rattle.std.specs.Io.{ReadsAtMost, WritesAtMost};
-ghost use Rattle.std.specs.Io.KnownBytes.{ReadConsumes, WriteAppends, Appends};
-ghost use Rattle.times_bench.specs.Writing.{AppendsBeginning};
+ghost use Rattle.std.specs.Io.KnownBytes.{ReadConsumes, WriteAppends};
+ghost use Rattle.times_bench.specs.Writing.{MarksFailure, WritesAll};
 
 use std::io::{Read, Write};
 
@@ -24,7 +24,7 @@ pub trait Source {
     fn read_some(&mut self, buffer: &mut [u8]) -> Result<usize, DeviceFault>
         ensures bound { ReadsAtMost result buffer.new }
         ensures bytes { ReadConsumes (left self.old) (left self.new) result buffer.new }
-        ensures mark { MatchResult result (λ _. is_marked self.new ≡ is_marked self.old) (λ _. is_marked self.new ≡ true) };
+        ensures mark { MarksFailure result (is_marked self.old) (is_marked self.new) };
 
     /// Whether the mark is set.
     fn failed(&self) -> bool
@@ -45,7 +45,7 @@ pub trait Sink {
         ensures bound { WritesAtMost result text.now }
         ensures some { IfOk result (λ count. 0 < length text.now → 0 < count) }
         ensures bytes { WriteAppends (written self.old) (written self.new) result text.now }
-        ensures mark { MatchResult result (λ _. is_marked self.new ≡ is_marked self.old) (λ _. is_marked self.new ≡ true) };
+        ensures mark { MarksFailure result (is_marked self.old) (is_marked self.new) };
 
     /// Whether the mark is set.
     fn failed(&self) -> bool
@@ -121,13 +121,12 @@ impl<T: Write> Sink for Device<T> {
 
 /// Writes all of the text.
 pub fn write_whole<W: Sink>(writer: &mut W, text: &[u8]) -> Result<(), DeviceFault>
-    ensures bytes { MatchResult result (λ _. Appends (W.written writer.old) (W.written writer.new) text.now)
-        (λ _. AppendsBeginning (W.written writer.old) (W.written writer.new) text.now) }
-    ensures mark { MatchResult result (λ _. W.is_marked writer.new ≡ W.is_marked writer.old) (λ _. W.is_marked writer.new ≡ true) }
+    ensures written { WritesAll result (W.written writer.old) (W.written writer.new) text.now }
+    ensures mark { MarksFailure result (W.is_marked writer.old) (W.is_marked writer.new) }
 {
-    let mut at = 0;
-    while at < text.len() {
-        at += writer.write_some(&text[at..])?;
+    let mut place = 0;
+    while place < text.len() {
+        place += writer.write_some(&text[place..])?;
     }
     Ok(())
 }

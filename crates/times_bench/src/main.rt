@@ -1,17 +1,18 @@
 //! Reads lines from standard input, and writes one answer line for each to standard output.
 #![tactic(auto)]
 
+mod answers;
 mod bench;
 mod devices;
-mod feed;
-mod line;
-mod pending;
-mod stamp;
+mod lines;
+mod numbers;
+mod requests;
+mod sending;
+mod table;
 #[cfg(test)]
 mod tests;
-mod unix;
 
-use bench::bench;
+use bench::{bench, fault_line};
 use devices::Device;
 use std::process::ExitCode;
 
@@ -20,6 +21,9 @@ fn main(rt: HostRuntime) -> ExitCode {
     let mut writer = Device::new(rt.stdout());
     match bench(rt.alloc(), &mut reader, &mut writer) {
         Ok(()) => ExitCode::SUCCESS,
-        Err(_) => ExitCode::FAILURE,
+        Err(fault) => {
+            let _ = eprintln!(rt; "{}", fault_line(fault));
+            ExitCode::FAILURE
+        }
     }
 }

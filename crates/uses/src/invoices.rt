@@ -1,18 +1,18 @@
 //! Days on which invoices are due.
 #![tactic(auto, using(calendar_values::specs::MonthNumbers::months))]
 
-ghost use Rattle.std.specs.Prelude.{◌≡◌, ◌≤◌, ◌+◌, ◌+ℤ◌, if◌then◌else◌, nat_lt, ◌==◌, ◌||◌, min, pos, ¬◌, OkIff, IfOk, IfErr, codes};
-ghost use Rattle.calendar_values.specs.Calendar.{is_leap_year, days_in_month, day_of_calendar_date, year_of, month_of, day_of_month_of};
+ghost use Rattle.std.specs.Prelude.{◌≡◌, ◌≤◌, if◌then◌else◌, nat_lt, ◌==◌, ◌||◌, SomeIff, OkIff, IfErr, codes};
+ghost use Rattle.calendar_values.specs.Calendar.{day_of_calendar_date, year_of, month_of, day_of_month_of};
 ghost use Rattle.calendar_values.specs.Month.{month_number};
-ghost use Rattle.calendar_values.specs.Range.{IsYear};
+ghost use Rattle.calendar_values.specs.Range.{IsYear, IsDay};
 ghost use Rattle.calendar_values.specs.Refusals.{IsDateOfRange, date_refusal, outright_refusal};
+ghost use Rattle.uses.specs.Months as months;
 
 use calendar_values::{ComponentRange, Date, Month, days_in_month};
 
 /// The last day of the date's month.
 pub fn last_day_of_month(date: Date) -> Date
-    ensures { result ≡ day_of_calendar_date (year_of date) (month_of date)
-        (days_in_month (is_leap_year (year_of date)) (month_of date)) }
+    ensures { result ≡ months.last_day_of_month (year_of date) (month_of date) }
 {
     date.replace_day(days_in_month(date.year(), date.month()))
         .unwrap()
@@ -21,21 +21,18 @@ pub fn last_day_of_month(date: Date) -> Date
 /// The day of a month, or the month's last day where it is shorter. Refused `year` outside the range.
 pub fn day_or_last(year: i32, month: Month, day: u8) -> Result<Date, ComponentRange>
     requires first { 1 ≤ day }
-    ensures { let last = days_in_month (is_leap_year year) (month_number month) in
-        OkIff result (IsYear year) (day_of_calendar_date year (month_number month) (min day last)) }
+    ensures { OkIff result (IsYear year) (months.day_or_last year (month_number month) day) }
 {
     Date::from_calendar_date(year, month, day.min(days_in_month(year, month)))
 }
 
-/// The same day of the next month of the year, or that month's last day where it is shorter.
-pub fn due_next_month(date: Date) -> Result<Date, ComponentRange>
-    ensures { IfOk result (λ due. due ≡ due) }
+/// The same day of the next month, or its last day where it is shorter. None in the last month of the range.
+pub fn due_next_month(date: Date) -> Option<Date>
+    ensures { let first = months.first_of_next_month date in
+        SomeIff result (IsDay first) (months.day_or_last (year_of first) (month_of first) (day_of_month_of date)) }
 {
-    let (year, month, day) = date.to_calendar_date();
-    match Month::from_number(u8::from(month) + 1) {
-        Ok(next) => day_or_last(year, next, day),
-        Err(_) => day_or_last(year + 1, Month::January, day),
-    }
+    let first = last_day_of_month(date).next_day()?;
+    day_or_last(first.year(), first.month(), date.day()).ok()
 }
 
 /// The date of three numbers of a form. Refused `month`, else `year`, else `day`.

@@ -1,6 +1,8 @@
 //! A log in the order of instants.
-ghost use Rattle.std.specs.Prelude.{◌≡◌, ◌<◌, ◌++◌, [], ◌∷◌, ◌≤ℤ◌, List, length, IfOk, IfSome, IsTrue, IsPermutation, IsSorted, OnOk, slice_get, slice_index};
+ghost use Rattle.std.specs.Prelude.{◌≡◌, ◌++◌, [], ◌∷◌, IfOk, IfSome, IsPermutation, IsSorted, OnOk, if◌then◌else◌};
+ghost use Rattle.std.specs.List.{HoldsAt};
 ghost use Rattle.std.specs.Ordering.{int_cmp};
+ghost use Rattle.std.specs.declared.cmp.Ordering.TheVariants.{Equal};
 
 use std::alloc::AllocError;
 use utc_times::UtcDateTime;
@@ -15,14 +17,15 @@ pub fn sort(entries: &mut Vec<UtcDateTime>) -> Result<(), AllocError>
 
 /// Where an entry of that instant stands in a sorted log.
 pub fn position(entries: &[UtcDateTime], at: UtcDateTime) -> Option<usize>
-    ensures { IfSome result (λ i. (i < length entries.now) × (slice_index entries.now i ≡ at)) }
+    ensures { IfSome result (HoldsAt (λ entry. int_cmp entry at ≡ Equal) entries.now) }
 {
     entries.binary_search(&at).ok()
 }
 
 /// Adds an entry, unless it is before the last.
 pub fn accept(entries: &mut Vec<UtcDateTime>, at: UtcDateTime) -> Result<bool, AllocError>
-    ensures { IfOk result (λ accepted. if accepted then entries.new.items ≡ entries.old.items ++ at ∷ [] else entries.new.items ≡ entries.old.items) }
+    ensures { IfOk result (λ accepted. entries.new.items ≡
+        (if accepted then entries.old.items ++ at ∷ [] else entries.old.items)) }
 {
     if entries.last().is_some_and(|last| at < *last) {
         return Ok(false);

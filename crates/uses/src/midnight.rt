@@ -1,5 +1,6 @@
 //! The next midnight in UTC.
-ghost use Rattle.std.specs.Prelude.{◌≡◌, ◌↔◌, ◌+ℤ◌, ◌≤ℤ◌, ◌<ℤ◌, pos, IsNone, IfSome};
+#![tactic(auto, using(calendar_values::specs::WallClockLaws::parts))]
+ghost use Rattle.std.specs.Prelude.{◌≡◌, ◌↔◌, ◌+ℤ◌, ◌≤ℤ◌, ◌<ℤ◌, pos, IfSome, IsNone};
 ghost use Rattle.calendar_values.specs.Clock.{nanos_per_day};
 ghost use Rattle.calendar_values.specs.Range.{last_day};
 ghost use Rattle.calendar_values.specs.WallClock.{wall_day, wall_time};

@@ -1,6 +1,6 @@
 -- Unix time that the range has: as a value exactly where the instant is in the range, and as an equation.
 use Rattle.std.specs.Prelude.{codes}
-use Rattle.std.proofs.Common.{◌≡◌, ℕ, refl, sym, ap, ◌∙◌, arith, ℤ, pos, ◌<ℤ◌, Result, Ok, Err, OkIff, IfErr}
+use Rattle.std.proofs.Common.{◌≡◌, sym, ap, ◌∙◌, arith, ℤ, ◌<ℤ◌, Result, Ok, Err, OkIff, IfErr}
 use Rattle.std.proofs.lemmas.Int.{by_lt_z, ints}
 use Rattle.calendar_values.specs.Refusals.{Refusal, out_of_range, outright_refusal}
 use Rattle.calendar_values.specs.WallClock.{first_wall_clock, last_wall_clock, IsWallClock}

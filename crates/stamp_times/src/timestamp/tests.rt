@@ -1,5 +1,7 @@
 use super::*;
-use calendar_values::{Date, Month, SignedDuration, Time, Weekday};
+use crate::ToTimestamp;
+use calendar_values::{Date, Month, SignedDuration, Time, UtcOffset, Weekday};
+use offset_times::{Assume, OffsetDateTime};
 use std::cmp::Ordering;
 use std::hash::{DefaultHasher, Hash, Hasher};
 use std::test::Fail;
@@ -303,5 +305,35 @@ fn comparisons(rt: HostRuntime) -> Result<(), Fail> {
         hash_of(Timestamp::from_milliseconds(-500)?)
     );
     assert!(rt; hash_of(before) != hash_of(after));
+    Ok(())
+}
+
+#[test]
+fn offsets(rt: HostRuntime) -> Result<(), Fail> {
+    let (first, last, _) = crate::constants::timestamps();
+    let at = Timestamp::from_seconds(1_546_398_245)?;
+    let plus_one = UtcOffset::from_hms(1, 0, 0)?;
+    let minus_one = UtcOffset::from_hms(-1, 0, 0)?;
+    let greatest = UtcOffset::from_hms(25, 59, 59)?;
+    match at.checked_to_offset(plus_one) {
+        Some(shown) => {
+            assert_eq!(rt; shown.date_time().as_hms(), (4, 4, 5));
+            assert_eq!(rt; shown.checked_to_timestamp(), Some(at));
+        }
+        None => assert!(rt; false),
+    }
+    assert!(rt; last.checked_to_offset(plus_one).is_none());
+    assert!(rt; last.checked_to_offset(minus_one).is_some());
+    assert!(rt; first.checked_to_offset(minus_one).is_none());
+    let before_all = first.to_utc().as_plain().assume_offset(greatest);
+    assert!(rt; before_all.checked_to_timestamp().is_none());
+    assert!(rt; !first.eq_offset(before_all));
+    assert_eq!(rt; first.cmp_offset(before_all), Ordering::Greater);
+    assert_eq!(rt; (first - before_all).whole_seconds(), 93_599);
+    assert_eq!(rt; (before_all - first).whole_seconds(), -93_599);
+    let in_utc = OffsetDateTime::from(at);
+    assert!(rt; in_utc.offset().is_utc());
+    assert!(rt; at.eq_offset(in_utc));
+    assert_eq!(rt; at.cmp_offset(in_utc), Ordering::Equal);
     Ok(())
 }

@@ -1,12 +1,11 @@
 use Rattle.std.proofs.Common.{arith, ◌≡◌, ◌∙◌, ℕ, ◌≤◌, [], ◌++◌, length, take, subst, length-append}
-use Rattle.std.specs.Prelude.{All}
 use Rattle.std.specs.Io.KnownBytes.{Appends, Consumes}
 use Rattle.times_bench.specs.Writing.{AppendsBeginning}
 use Rattle.times_bench.specs.Lines.{lines_of}
 use Rattle.times_bench.specs.LineParts.{ended_from, rest_from}
-use Rattle.times_bench.specs.UnixLines.{IsUnixLine, answers}
+use Rattle.times_bench.specs.Answers.{answers_of}
 use Rattle.times_bench.proofs.CutLemmas.{rest_from-append}
-use Rattle.times_bench.proofs.ReadLemmas.{Consumes-nil, Consumes-append, Consumes-keep, Consumes-none, left-end, input-end, input-begin, AnswersWritten-append, answers-whole_lines_of, answers-lines_of, beginning-last, beginning-block}
+use Rattle.times_bench.proofs.ReadLemmas.{Consumes-nil, Consumes-append, Consumes-keep, Consumes-none, left-end, input-end, input-begin, AnswersWritten-append, answers_of-whole_lines_of, Appends-last, AppendsBeginning-last, AppendsBeginning-block}
 use Rattle.times_bench.proofs.SendingLemmas.{Appends-nil}
 use Rattle.times_bench.proofs.bench.bench.Goals as goal
 
@@ -19,7 +18,7 @@ reads-init g c = (
     turns = omega arith;
     line = c.new-line.ensures;
     empty = c.new-pending.ensures;
-    sent = λ _. Appends-nil (g.W.Sink.written c.args.writer.now);
+    sent = Appends-nil (g.W.Sink.written c.args.writer.now);
     reader_mark = c.requires.reader;
     writer_mark = c.requires.writer;
   },
@@ -38,9 +37,9 @@ returns-in-Ok-finish-clause-answers g c =
     let left = g.R.Source.left in
     let written = g.W.Sink.written in
     let none = subst (λ (n : ℕ). Consumes (left c.reads.reader) (left c.read_some.new.self) (take n c.read_some.new.buffer)) c.if-count-eq0.true c.in-Ok.ensures.bytes.0 in
-    input-end _ _ so_far.0 (λ input. All IsUnixLine (lines_of input) → Appends (written c.args.writer.now) (written c.finish.new.writer) (answers (lines_of input)))
+    input-end _ _ so_far.0 (λ input. Appends (written c.args.writer.now) (written c.finish.new.writer) (answers_of (lines_of input)))
     (Consumes-none _ _ _ so_far.0 so_far.1.consumed none) (c.in-Ok.ensures.bytes.1 c.if-count-eq0.true (omega arith))
-    (answers-lines_of _ (written c.reads.writer) _ so_far.0 c.reads.line so_far.1.line so_far.1.sent c.in-Ok-finish.ensures.bytes)
+    (Appends-last _ (written c.reads.writer) _ so_far.0 c.reads.line so_far.1.line so_far.1.sent c.in-Ok-finish.ensures.written)
 
 pub returns-in-Err-clause-beginning : goal.returns-in-Err-clause-beginning
 returns-in-Err-clause-beginning g c _ =
@@ -48,18 +47,18 @@ returns-in-Err-clause-beginning g c _ =
     let left = g.R.Source.left in
     let written = g.W.Sink.written in
     let none = subst (λ (n : ℕ). Consumes (left c.reads.reader) (left c.read_some.new.self) (take n c.read_some.new.buffer)) c.if-count-eq0.true c.in-Ok.ensures.bytes.0 in
-    input-end _ _ so_far.0 (λ input. All IsUnixLine (lines_of input) → AppendsBeginning (written c.args.writer.now) (written c.finish.new.writer) (answers (lines_of input)))
+    input-end _ _ so_far.0 (λ input. AppendsBeginning (written c.args.writer.now) (written c.finish.new.writer) (answers_of (lines_of input)))
     (Consumes-none _ _ _ so_far.0 so_far.1.consumed none) (c.in-Ok.ensures.bytes.1 c.if-count-eq0.true (omega arith))
-    (beginning-last _ (written c.reads.writer) _ so_far.0 c.reads.line so_far.1.line so_far.1.sent c.in-Err.ensures.bytes)
+    (AppendsBeginning-last _ (written c.reads.writer) _ so_far.0 c.reads.line so_far.1.line so_far.1.sent c.in-Err.ensures.written)
 
 pub returns-in-Err-absorb-clause-beginning : goal.returns-in-Err-absorb-clause-beginning
 returns-in-Err-absorb-clause-beginning g c _ =
     let so_far = c.reads.invariant in
     let written = g.W.Sink.written in
     let block = take c.in-Ok.count c.read_some.new.buffer in
-    input-begin _ _ (so_far.0 ++ block) (λ input. All IsUnixLine (lines_of input) → AppendsBeginning (written c.args.writer.now) (written c.absorb.new.writer) (answers (lines_of input)))
+    input-begin _ _ (so_far.0 ++ block) (λ input. AppendsBeginning (written c.args.writer.now) (written c.absorb.new.writer) (answers_of (lines_of input)))
     (Consumes-append _ _ _ so_far.0 block so_far.1.consumed c.in-Ok.ensures.bytes.0)
-    (λ rest. beginning-block _ (written c.reads.writer) _ so_far.0 block rest so_far.1.sent (c.in-Err-absorb.ensures.bytes (rest_from [] so_far.0) so_far.1.line))
+    (λ rest. AppendsBeginning-block _ (written c.reads.writer) _ so_far.0 block rest so_far.1.sent (c.in-Err-absorb.ensures.written (rest_from [] so_far.0) so_far.1.line))
 
 pub reads-preserved : goal.reads-preserved
 reads-preserved g c =
@@ -74,7 +73,7 @@ reads-preserved g c =
             omega (arith, most, some, c.if-count-eq0.false, length-append so_far.0 block);
         line = rw (rest_from-append [] so_far.0 block) (c.in-Ok-absorb.ensures.line (rest_from [] so_far.0) so_far.1.line);
         empty = c.in-Ok-absorb.ensures.empty;
-        sent = AnswersWritten-append _ (g.W.Sink.written c.reads.writer) _ so_far.0 block so_far.1.sent (c.in-Ok-absorb.ensures.bytes (rest_from [] so_far.0) so_far.1.line);
+        sent = AnswersWritten-append _ (g.W.Sink.written c.reads.writer) _ so_far.0 block so_far.1.sent (c.in-Ok-absorb.ensures.written (rest_from [] so_far.0) so_far.1.line);
         reader_mark = c.in-Ok.ensures.mark ∙ so_far.1.reader_mark;
         writer_mark = c.in-Ok-absorb.ensures.mark ∙ so_far.1.writer_mark;
       },
@@ -83,8 +82,8 @@ reads-preserved g c =
 pub returns-in_default-clause-whole_lines : goal.returns-in_default-clause-whole_lines
 returns-in_default-clause-whole_lines g c _ =
     let so_far = c.reads.invariant in
-    (so_far.0, Consumes-keep _ _ _ so_far.0 so_far.1.consumed c.in_default.ensures.bytes, answers-whole_lines_of _ _ so_far.0 so_far.1.sent)
+    (so_far.0, Consumes-keep _ _ _ so_far.0 so_far.1.consumed c.in_default.ensures.bytes, answers_of-whole_lines_of _ _ so_far.0 so_far.1.sent)
 
 pub returns-clause-whole_lines : goal.returns-clause-whole_lines
 returns-clause-whole_lines g c _ =
-    let so_far = c.reads.invariant in (so_far.0, so_far.1.consumed, answers-whole_lines_of _ _ so_far.0 so_far.1.sent)
+    let so_far = c.reads.invariant in (so_far.0, so_far.1.consumed, answers_of-whole_lines_of _ _ so_far.0 so_far.1.sent)

@@ -3,9 +3,9 @@ use Rattle.std.proofs.lemmas.Grind.{common_steps}
 use Rattle.times_bench.proofs.SendingLemmas.{Appends-take}
 use Rattle.times_bench.proofs.devices.write_whole.Goals as goal
 
-pub loop-at-preserved : goal.loop-at-preserved
-loop-at-preserved g c = record {
+pub loop-place-preserved : goal.loop-place-preserved
+loop-place-preserved g c = record {
   within = grind (arith, common_steps);
-  written = Appends-take _ _ _ c.loop-at.at c.in_ok-at.field-0 c.args.text.now c.loop-at.invariant.written (grind (arith, common_steps, c.in_ok-at.ensures.bytes));
-  mark = c.in_ok-at.ensures.mark ∙ c.loop-at.invariant.mark;
+  written = Appends-take _ _ _ c.loop-place.place c.in_ok-place.field-0 c.args.text.now c.loop-place.invariant.written (grind (arith, common_steps, c.in_ok-place.ensures.bytes));
+  mark = c.in_ok-place.ensures.mark ∙ c.loop-place.invariant.mark;
 }

@@ -1,4 +1,4 @@
-use Rattle.std.proofs.Common.{◌≡◌, rules, to_z, of_z, w32, w64, ◌+ℤ◌, neg_ℤ}
+use Rattle.std.proofs.Common.{◌≡◌, rules, to_z, of_z, w32, w64, ◌+ℤ◌}
 use Rattle.calendar_values.specs.Durations.{whole_seconds_of, subsec_nanoseconds_of}
 use Rattle.calendar_values.specs.WallClock.{unix_seconds_of}
 use Rattle.stamp_times.proofs.SumLemmas.{IsSplit-of, not_IsWallClock-large, SomeIff-parts}

@@ -1,0 +1,93 @@
+use Rattle.std.proofs.Common.{arith, refl, ◌≡◌, ℕ, ◌+◌, ◌<◌, List, [], ◌∷◌, ◌++◌, length, take, drop, get_or, add-one, sym, ◌∙◌, ap, subst, append-nil}
+use Rattle.std.proofs.Math.Seq.{take-suc}
+use Rattle.std.proofs.lemmas.Result.{err_from_is_err_and}
+use Rattle.std.proofs.lemmas.List.{take_all, take-append-drop}
+use Rattle.times_bench.specs.Answers.{answer_of, answers_of}
+use Rattle.times_bench.specs.LineParts.{Holds, ended_from, rest_from}
+use Rattle.times_bench.specs.Writing.{AppendsBeginning, Sends}
+use Rattle.times_bench.proofs.CutLemmas.{ended_from-until, rest_from-until, rest_from-line_feed}
+use Rattle.times_bench.proofs.FeedLemmas.{Sends-line, AppendsBeginning-line}
+use Rattle.times_bench.proofs.LineLemmas.{Holds-append, Holds-nil}
+use Rattle.times_bench.proofs.SendingLemmas.{Sends-nothing}
+use Rattle.times_bench.proofs.lines.feed.Goals as goal
+
+line_feed_at : (block : List ℕ) (end : ℕ) → end < length block → get_or block end 0 ≡ 10 → take (end + 1) block ≡ take end block ++ 10 ∷ []
+line_feed_at block end low is =
+    rw add-one (take-suc block end 0 low ∙ ap (λ (byte : ℕ). take end block ++ byte ∷ []) is)
+
+pub lines-init : goal.lines-init
+unfolding ended_from rest_from
+lines-init g c = record {
+  within = omega arith;
+  line = λ piece h. h;
+  sends = λ piece h. rw (append-nil {A = ℕ}) (Sends-nothing (g.W.Sink.written c.args.writer.now) c.args.pending.now);
+  mark = refl;
+}
+
+pub lines-preserved-then-end-block : goal.lines-preserved-then-end-block
+lines-preserved-then-end-block g c =
+    let block = c.args.block.now in
+    let from = c.lines.place in
+    let end = c.place_of-end.result in
+    let found = c.place_of-end.ensures in
+    let so_far = c.lines.invariant in
+    record {
+      within = found.bounds.1;
+      line = λ piece h.
+          rw (rest_from-until piece block from end found.bounds.0 found.bounds.1 found.before, c.push_front_of.ensures)
+          (Holds-append (rest_from piece (take from block)) c.lines.line _ (so_far.line piece h));
+      sends = λ piece h. rw (ended_from-until piece block from end found.bounds.0 found.bounds.1 found.before) (so_far.sends piece h);
+      mark = so_far.mark;
+    }
+
+pub returns-in_err-end_line-clause-sent : goal.returns-in_err-end_line-clause-sent
+returns-in_err-end_line-clause-sent g c = λ piece h.
+    let p = err_from_is_err_and c.from_residual.result c.from_residual.ensures.1 in
+    let written = g.W.Sink.written in
+    let block = c.args.block.now in
+    let from = c.lines.place in
+    let end = c.place_of-end.result in
+    let found = c.place_of-end.ensures in
+    let so_far = c.lines.invariant in
+    let read = take end block in
+    let more = drop (end + 1) block in
+    let low : end < length block = omega (arith, found.bounds) in
+    let whole : block ≡ (read ++ 10 ∷ []) ++ more
+    = sym (take-append-drop (end + 1) block) ∙ ap (λ (z : List ℕ). z ++ more) (line_feed_at block end low (found.byte_there low)) in
+    let before = subst (λ (z : List (List ℕ)). Sends (written c.args.writer.now) (written c.lines.writer) c.lines.pending (c.args.pending.now ++ answers_of z))
+    (sym (ended_from-until piece block from end found.bounds.0 found.bounds.1 found.before)) (so_far.sends piece h) in
+    let cut = subst (λ (z : List ℕ). AppendsBeginning (written c.lines.writer) (written c.end_line.new.writer) (c.lines.pending ++ answer_of z))
+    (sym (rest_from-until piece block from end found.bounds.0 found.bounds.1 found.before))
+    (c.in_err-end_line.ensures.sent (rest_from piece (take from block)) (so_far.line piece h)) in
+    rw p.1 (AppendsBeginning-line _ _ _ c.args.pending.now c.lines.pending piece read more block whole before cut)
+
+pub lines-preserved : goal.lines-preserved
+lines-preserved g c =
+    let written = g.W.Sink.written in
+    let block = c.args.block.now in
+    let from = c.lines.place in
+    let end = c.place_of-end.result in
+    let found = c.place_of-end.ensures in
+    let so_far = c.lines.invariant in
+    let read = take end block in
+    let low : end < length block = omega (arith, found.bounds) in
+    let next = line_feed_at block end low (found.byte_there low) in
+    record {
+      within = omega arith;
+      line = λ piece h. rw (next, rest_from-line_feed piece read) (Holds-nil _ c.in_ok-end_line.ensures.line);
+      sends = λ piece h.
+          let before = subst (λ (z : List (List ℕ)). Sends (written c.args.writer.now) (written c.lines.writer) c.lines.pending (c.args.pending.now ++ answers_of z))
+          (sym (ended_from-until piece block from end found.bounds.0 found.bounds.1 found.before)) (so_far.sends piece h) in
+          let sent = subst (λ (z : List ℕ). Sends (written c.lines.writer) (written c.end_line.new.writer) c.end_line.new.pending (c.lines.pending ++ answer_of z))
+          (sym (rest_from-until piece block from end found.bounds.0 found.bounds.1 found.before))
+          (c.in_ok-end_line.ensures.sent (rest_from piece (take from block)) (so_far.line piece h)) in
+          rw next (Sends-line _ _ _ c.args.pending.now c.lines.pending _ piece read before sent);
+      mark = c.in_ok-end_line.ensures.mark ∙ so_far.mark;
+    }
+
+pub returns-clause-sent : goal.returns-clause-sent
+returns-clause-sent g c = λ piece h.
+    let written = g.W.Sink.written in
+    let block = c.args.block.now in
+    subst (λ (z : List ℕ). Sends (written c.args.writer.now) (written c.lines.writer) c.lines.pending (c.args.pending.now ++ answers_of (ended_from piece z)))
+    (take_all c.lines.place block (omega arith)) (c.lines.invariant.sends piece h)

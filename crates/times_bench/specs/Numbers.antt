@@ -1,0 +1,39 @@
+-- The numbers of a line.
+use Rattle.std.specs.Prelude.{ℕ, ◌-◌, ◌^◌, Bool, false, List, [], ◌∷◌, drop, if◌then◌else◌, ℤ, pos, neg_ℤ, unsigned_abs, Option, Some, None}
+use Rattle.std.specs.Char.{is_ascii_digit}
+use Rattle.std.specs.List.{list_all}
+use Rattle.std.specs.Option.{option_map}
+use Rattle.std.specs.Str.Parse.{starts_with_minus, digits_value}
+use Rattle.calendar_values.specs.Range.{is_outside}
+
+-- what stands after the `-`, if there is one
+abbrev pub number_digits : List ℕ → List ℕ
+number_digits text = if starts_with_minus text then drop 1 text else text
+
+-- at least one decimal digit, and nothing else
+abbrev pub is_numeral : List ℕ → Bool
+is_numeral [] = false
+is_numeral (digit ∷ digits) = list_all is_ascii_digit (digit ∷ digits)
+
+-- the value of the digits, below 0 where a `-` stands before them
+abbrev pub number_value : List ℕ → ℤ
+number_value text =
+    if starts_with_minus text then neg_ℤ (pos (digits_value 10 (number_digits text)))
+    else pos (digits_value 10 (number_digits text))
+
+-- the number that a text writes: an optional `-`, then at least one digit; zeros in front are allowed
+unfoldable pub number_of : List ℕ → Option ℤ
+number_of text = if is_numeral (number_digits text) then Some (number_value text) else None
+
+-- the number, if it is one from the first to the last
+abbrev pub within : ℤ → ℤ → Option ℤ → Option ℤ
+within first last None = None
+within first last (Some n) = if is_outside first last n then None else Some n
+
+-- a number of 64 bits, one of them for the sign
+unfoldable pub i64_of : List ℕ → Option ℤ
+i64_of text = within (neg_ℤ (pos (2 ^ 63))) (pos (2 ^ 63 - 1)) (number_of text)
+
+-- a number of 32 bits, not below 0
+unfoldable pub u32_of : List ℕ → Option ℕ
+u32_of text = option_map unsigned_abs (within (pos 0) (pos (2 ^ 32 - 1)) (number_of text))
