@@ -1,4 +1,5 @@
 pub mod CarryLemmas
+pub mod LawLemmas
 pub mod LocalLemmas
 pub mod OrderLemmas
 pub mod YearLemmas

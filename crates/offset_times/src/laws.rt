@@ -1,8 +1,8 @@
-//! Laws of the definitions that the contracts cite: each function here proves one, for every wall clock
-//! and every offset, and does nothing when it is called.
+//! Laws of the definitions that the contracts cite: each function here proves one, for every wall clock,
+//! offset and duration, and does nothing when it is called.
 ghost use Rattle.std.specs.Prelude.{◌≡◌};
 ghost use Rattle.std.specs.Ordering.{int_eq, int_cmp};
-ghost use Rattle.offset_times.specs.Laws.{ConversionsCompose, OwnOffsetStays};
+ghost use Rattle.offset_times.specs.Laws.{ConversionsCompose, OwnOffsetStays, DifferencesUndoSums, DifferencesLeadBack, TruncationsRoundDownOnce};
 ghost use Rattle.offset_times.specs.Local.{instant_of};
 
 use crate::OffsetDateTime;
@@ -25,4 +25,20 @@ pub fn conversions_compose()
 /// A conversion to the own offset gives the value, also where its date in UTC does not exist.
 pub fn own_offset_stays()
     ensures { OwnOffsetStays }
+{}
+
+/// Where a sum is accepted, taking the duration from it gives the value back, offset included.
+pub fn differences_undo_sums()
+    ensures { DifferencesUndoSums }
+{}
+
+/// The difference of two values leads from the second to the instant of the first, at the offset of the
+/// second.
+pub fn differences_lead_back()
+    ensures { DifferencesLeadBack }
+{}
+
+/// Truncating twice to a unit is truncating once.
+pub fn truncations_round_down_once()
+    ensures { TruncationsRoundDownOnce }
 {}

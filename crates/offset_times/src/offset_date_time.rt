@@ -11,6 +11,10 @@ use utc_times::UtcDateTime;
 mod comparisons;
 mod conversions;
 mod operators;
+mod reads;
+mod replacements;
+mod sums;
+mod texts;
 mod unix_time;
 
 pub(crate) use conversions::in_range;

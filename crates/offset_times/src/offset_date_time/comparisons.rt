@@ -14,8 +14,25 @@ use crate::carries::{to_offset_raw, to_utc_raw};
 use plain_times::packed;
 use std::cmp::Ordering;
 use std::hash::{Hash, Hasher};
+use utc_times::UtcDateTime;
 
 impl OffsetDateTime {
+    /// Whether the instant is that of a date-time in UTC, also where its date in UTC does not exist.
+    #[tactic(auto, using(crate::proofs::LocalLemmas::utc_instants))]
+    pub fn eq_utc(self, other: UtcDateTime) -> bool
+        ensures { result ≡ int_eq (instant_of self) other }
+    {
+        self == OffsetDateTime::from(other)
+    }
+
+    /// The order of the instant and that of a date-time in UTC.
+    #[tactic(auto, using(crate::proofs::LocalLemmas::utc_instants))]
+    pub fn cmp_utc(self, other: UtcDateTime) -> Ordering
+        ensures { result ≡ int_cmp (instant_of self) other }
+    {
+        self.cmp(&OffsetDateTime::from(other))
+    }
+
     // Dates more than three days apart decide alone. At one offset wall clocks decide; at two, what clocks at
     // the first show.
     fn by_instant(self, other: OffsetDateTime) -> Ordering

@@ -1,10 +1,102 @@
-//! Differences by operators.
-ghost use Rattle.std.specs.Prelude.{◌≡◌, ◌-ℤ◌};
-ghost use Rattle.offset_times.specs.Local.{instant_of, offset_nanos};
+//! Sums and differences by operators.
+ghost use Rattle.std.specs.Prelude.{◌≡◌, pos, ◌+ℤ◌, ◌-ℤ◌};
+ghost use Rattle.std.specs.Duration.{as_nanos};
+ghost use Rattle.calendar_values.specs.WallClock.{IsWallClock};
+ghost use Rattle.offset_times.specs.Local.{instant_of, local, offset_nanos};
 
 use crate::OffsetDateTime;
 use calendar_values::{SignedDuration, UtcOffset};
-use std::ops::Sub;
+use std::ops::{Add, AddAssign, Sub, SubAssign};
+use std::time::Duration;
+use utc_times::UtcDateTime;
+
+impl Add<SignedDuration> for OffsetDateTime {
+    type Output = OffsetDateTime;
+
+    ghost can_add = { λ at duration. IsWallClock (at.wall +ℤ duration) };
+
+    ghost add_gives = { λ at duration sum. sum ≡ local (at.wall +ℤ duration) at.offset };
+
+    fn add(self, duration: SignedDuration) -> OffsetDateTime {
+        self.replace_date_time(self.date_time() + duration)
+    }
+}
+
+impl AddAssign<SignedDuration> for OffsetDateTime {
+    ghost can_add_assign = { λ at duration. IsWallClock (at.wall +ℤ duration) };
+
+    ghost add_assign_gives = { λ at duration sum. sum ≡ local (at.wall +ℤ duration) at.offset };
+
+    fn add_assign(&mut self, duration: SignedDuration) {
+        *self = *self + duration;
+    }
+}
+
+impl Add<Duration> for OffsetDateTime {
+    type Output = OffsetDateTime;
+
+    ghost can_add = { λ at duration. IsWallClock (at.wall +ℤ pos (as_nanos duration)) };
+
+    ghost add_gives = { λ at duration sum. sum ≡ local (at.wall +ℤ pos (as_nanos duration)) at.offset };
+
+    fn add(self, duration: Duration) -> OffsetDateTime {
+        self.replace_date_time(self.date_time() + duration)
+    }
+}
+
+impl AddAssign<Duration> for OffsetDateTime {
+    ghost can_add_assign = { λ at duration. IsWallClock (at.wall +ℤ pos (as_nanos duration)) };
+
+    ghost add_assign_gives = { λ at duration sum. sum ≡ local (at.wall +ℤ pos (as_nanos duration)) at.offset };
+
+    fn add_assign(&mut self, duration: Duration) {
+        *self = *self + duration;
+    }
+}
+
+impl Sub<SignedDuration> for OffsetDateTime {
+    type Output = OffsetDateTime;
+
+    ghost can_sub = { λ at duration. IsWallClock (at.wall -ℤ duration) };
+
+    ghost sub_gives = { λ at duration difference. difference ≡ local (at.wall -ℤ duration) at.offset };
+
+    fn sub(self, duration: SignedDuration) -> OffsetDateTime {
+        self.replace_date_time(self.date_time() - duration)
+    }
+}
+
+impl SubAssign<SignedDuration> for OffsetDateTime {
+    ghost can_sub_assign = { λ at duration. IsWallClock (at.wall -ℤ duration) };
+
+    ghost sub_assign_gives = { λ at duration difference. difference ≡ local (at.wall -ℤ duration) at.offset };
+
+    fn sub_assign(&mut self, duration: SignedDuration) {
+        *self = *self - duration;
+    }
+}
+
+impl Sub<Duration> for OffsetDateTime {
+    type Output = OffsetDateTime;
+
+    ghost can_sub = { λ at duration. IsWallClock (at.wall -ℤ pos (as_nanos duration)) };
+
+    ghost sub_gives = { λ at duration difference. difference ≡ local (at.wall -ℤ pos (as_nanos duration)) at.offset };
+
+    fn sub(self, duration: Duration) -> OffsetDateTime {
+        self.replace_date_time(self.date_time() - duration)
+    }
+}
+
+impl SubAssign<Duration> for OffsetDateTime {
+    ghost can_sub_assign = { λ at duration. IsWallClock (at.wall -ℤ pos (as_nanos duration)) };
+
+    ghost sub_assign_gives = { λ at duration difference. difference ≡ local (at.wall -ℤ pos (as_nanos duration)) at.offset };
+
+    fn sub_assign(&mut self, duration: Duration) {
+        *self = *self - duration;
+    }
+}
 
 impl Sub for OffsetDateTime {
     type Output = SignedDuration;
@@ -14,6 +106,28 @@ impl Sub for OffsetDateTime {
     fn sub(self, other: OffsetDateTime) -> SignedDuration {
         let offsets = apart(self.offset(), other.offset());
         self.date_time() - other.date_time() + offsets
+    }
+}
+
+impl Sub<UtcDateTime> for OffsetDateTime {
+    type Output = SignedDuration;
+
+    ghost sub_gives = { λ at other difference. difference ≡ instant_of at -ℤ other };
+
+    #[tactic(auto, using(crate::proofs::LocalLemmas::utc_instants))]
+    fn sub(self, other: UtcDateTime) -> SignedDuration {
+        self - OffsetDateTime::from(other)
+    }
+}
+
+impl Sub<OffsetDateTime> for UtcDateTime {
+    type Output = SignedDuration;
+
+    ghost sub_gives = { λ at other difference. difference ≡ at -ℤ instant_of other };
+
+    #[tactic(auto, using(crate::proofs::LocalLemmas::utc_instants))]
+    fn sub(self, other: OffsetDateTime) -> SignedDuration {
+        OffsetDateTime::from(self) - other
     }
 }
 

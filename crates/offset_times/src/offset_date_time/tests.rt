@@ -1,10 +1,11 @@
 use crate::carries::{to_offset_raw, to_utc_raw, utc_to_offset_raw};
 use crate::{Assume, OffsetDateTime, ToOffset};
-use calendar_values::{ComponentRange, Date, Month, SignedDuration, Time, UtcOffset};
+use calendar_values::{ComponentRange, Date, Month, SignedDuration, Time, UtcOffset, Weekday};
 use plain_times::PlainDateTime;
 use std::cmp::Ordering;
 use std::hash::{DefaultHasher, Hash, Hasher};
 use std::test::Fail;
+use std::time::Duration;
 use utc_times::{AsUtc, UtcDateTime};
 
 fn plain(date: (i32, Month, u8), clock: (u8, u8, u8)) -> Result<PlainDateTime, Fail> {
@@ -233,5 +234,152 @@ fn differences(rt: HostRuntime) -> Result<(), Fail> {
         midnight.assume_offset(ten) - one.assume_offset(ten),
         SignedDuration::seconds(-3_600)
     );
+    Ok(())
+}
+
+#[test]
+fn texts(rt: HostRuntime) -> Result<(), Fail> {
+    let first = PlainDateTime::MIN.assume_offset(offset(25, 59, 59)?);
+    let last = PlainDateTime::MAX.assume_offset(offset(-25, -59, -59)?);
+    for (at, text) in [
+        (first, "-999999-01-01 0:00:00.0 +25:59:59"),
+        (last, "+999999-12-31 23:59:59.999999999 -25:59:59"),
+        (OffsetDateTime::UNIX_EPOCH, "1970-01-01 0:00:00.0 +00:00:00"),
+    ] {
+        assert_eq!(rt; format!(in rt.alloc(); "{at}")?.as_str(), text);
+        assert_eq!(rt; format!(in rt.alloc(); "{at:?}")?.as_str(), text);
+    }
+    let epoch = OffsetDateTime::UNIX_EPOCH;
+    assert_eq!(rt;
+        format!(in rt.alloc(); "{epoch:>34}")?.as_str(),
+        "    1970-01-01 0:00:00.0 +00:00:00"
+    );
+    assert_eq!(rt;
+        format!(in rt.alloc(); "{epoch:*^35}")?.as_str(),
+        "**1970-01-01 0:00:00.0 +00:00:00***"
+    );
+    Ok(())
+}
+
+#[test]
+fn with_utc(rt: HostRuntime) -> Result<(), Fail> {
+    let first = PlainDateTime::MIN.assume_offset(offset(25, 59, 59)?);
+    assert_eq!(rt; first.cmp_utc(UtcDateTime::MIN), Ordering::Less);
+    assert!(rt; !first.eq_utc(UtcDateTime::MIN));
+    assert_eq!(rt; first - UtcDateTime::MIN, SignedDuration::seconds(-93_599));
+    assert_eq!(rt; UtcDateTime::MIN - first, SignedDuration::seconds(93_599));
+    let epoch = OffsetDateTime::from(UtcDateTime::UNIX_EPOCH);
+    assert!(rt; epoch.eq_utc(UtcDateTime::UNIX_EPOCH));
+    assert_eq!(rt; epoch.offset(), UtcOffset::UTC);
+    Ok(())
+}
+
+#[test]
+fn sums(rt: HostRuntime) -> Result<(), Fail> {
+    let ten = offset(10, 0, 0)?;
+    let hour = SignedDuration::hours(1);
+    let late = plain((999_999, Month::December, 31), (23, 0, 0))?.assume_offset(ten);
+    assert_eq!(rt; shown(late.checked_add(hour)), None);
+    assert_eq!(rt;
+        shown(Some(late.saturating_add(hour))),
+        Some((PlainDateTime::MAX, ten))
+    );
+    let at = plain((9_999, Month::December, 31), (23, 0, 0))?.assume_offset(ten);
+    assert_eq!(rt;
+        shown(at.checked_add(hour)),
+        Some((plain((10_000, Month::January, 1), (0, 0, 0))?, ten))
+    );
+    let two_days = SignedDuration::days(-2);
+    let first = PlainDateTime::MIN.assume_offset(ten);
+    assert_eq!(rt;
+        shown(Some(first.saturating_add(two_days))),
+        Some((PlainDateTime::MIN, ten))
+    );
+    let at = plain((-9_999, Month::January, 1), (0, 0, 0))?.assume_offset(ten);
+    assert_eq!(rt;
+        shown(Some(at.saturating_add(two_days))),
+        Some((plain((-10_000, Month::December, 30), (0, 0, 0))?, ten))
+    );
+    let at = plain((2019, Month::November, 25), (15, 30, 0))?.assume_offset(ten);
+    assert_eq!(rt;
+        shown(at.checked_add(SignedDuration::hours(27))),
+        Some((plain((2019, Month::November, 26), (18, 30, 0))?, ten))
+    );
+    for stored in [offset(25, 59, 59)?, offset(-25, -59, -59)?] {
+        let first = PlainDateTime::MIN.assume_offset(stored);
+        let last = PlainDateTime::MAX.assume_offset(stored);
+        let span = Duration::new(63_113_872_377_599, 999_999_999);
+        assert_eq!(rt;
+            shown(first.checked_add_std(span)),
+            Some((PlainDateTime::MAX, stored))
+        );
+        assert_eq!(rt;
+            shown(last.checked_sub(SignedDuration::seconds(63_113_872_377_600))),
+            None
+        );
+        assert_eq!(rt; shown(first.checked_add(SignedDuration::MAX)), None);
+        assert_eq!(rt;
+            shown(Some(last.saturating_sub(SignedDuration::MIN))),
+            Some((PlainDateTime::MAX, stored))
+        );
+        assert_eq!(rt;
+            shown(Some(last.saturating_add(SignedDuration::MIN))),
+            Some((PlainDateTime::MIN, stored))
+        );
+        assert_eq!(rt; shown(last.checked_sub_std(Duration::MAX)), None);
+    }
+    Ok(())
+}
+
+#[test]
+fn parts(rt: HostRuntime) -> Result<(), Fail> {
+    let midnight = plain((2000, Month::January, 1), (0, 0, 0))?.assume_utc();
+    let replaced = midnight.replace_offset(offset(-5, 0, 0)?);
+    assert_eq!(rt; replaced.unix_timestamp(), 946_702_800);
+    let one = offset(1, 0, 0)?;
+    let date = Date::from_calendar_date(2022, Month::February, 18)?;
+    let at = OffsetDateTime::new_in_offset(date, Time::from_hms_milli(15, 30, 45, 123)?, one);
+    assert_eq!(rt;
+        shown(Some(at.truncate_to_day())),
+        Some((plain((2022, Month::February, 18), (0, 0, 0))?, one))
+    );
+    assert_eq!(rt; at.to_hms_milli(), (15, 30, 45, 123));
+    assert_eq!(rt; (at.weekday(), at.ordinal()), (Weekday::Friday, 49));
+    let at = plain((2019, Month::January, 1), (23, 59, 59))?.assume_utc();
+    assert_eq!(rt;
+        at.checked_to_offset(offset(0, 30, 0)?)
+            .map(|there| there.minute()),
+        Some(29)
+    );
+    for stored in [offset(25, 59, 59)?, offset(-25, -59, -59)?] {
+        let at = plain((2022, Month::February, 18), (1, 2, 3))?.assume_offset(stored);
+        for (refused, name, conditional) in [
+            (at.replace_year(1_000_000), "year", false),
+            (at.replace_day(0), "day", false),
+            (at.replace_day(32), "day", false),
+            (at.replace_day(30), "day", true),
+            (at.replace_ordinal(0), "ordinal", false),
+            (at.replace_ordinal(366), "ordinal", true),
+            (at.replace_hour(24), "hour", false),
+            (at.replace_minute(60), "minute", false),
+            (at.replace_second(60), "second", false),
+            (at.replace_millisecond(65_535), "millisecond", false),
+            (at.replace_microsecond(4_294_968), "microsecond", false),
+            (at.replace_nanosecond(1_000_000_000), "nanosecond", false),
+        ] {
+            match refused {
+                Ok(_) => assert!(rt; false),
+                Err(refusal) => {
+                    assert_eq!(rt; refusal.name(), name);
+                    assert_eq!(rt; refusal.is_conditional(), conditional);
+                }
+            }
+        }
+        let replaced = at.replace_month(Month::May)?.replace_hour(23)?;
+        assert_eq!(rt;
+            shown(Some(replaced)),
+            Some((plain((2022, Month::May, 18), (23, 2, 3))?, stored))
+        );
+    }
     Ok(())
 }

@@ -1,6 +1,4 @@
-use Rattle.std.proofs.Common.{◌≡◌, ◌∙◌, sym, arith, to_z, of_z, w8}
-use Rattle.std.proofs.lemmas.Int.{ints}
-use Rattle.calendar_values.specs.Clock.{clock_of_parts, nanosecond_of}
+use Rattle.std.proofs.Common.{arith}
 use Rattle.calendar_values.specs.SignedArith.{signed_arith}
 use Rattle.offset_times.proofs.CarryLemmas.{Carried, minutes_carried-is, hours_carried-is, days_carried-is, carried_clock-is}
 use Rattle.offset_times.proofs.carries.moved_time.Goals as goal

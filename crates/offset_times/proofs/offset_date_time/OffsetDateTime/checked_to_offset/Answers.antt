@@ -3,7 +3,7 @@ use Rattle.std.specs.Cmp.{signed_Decides}
 use Rattle.calendar_values.specs.Calendar.{day_of_ordinal_date}
 use Rattle.calendar_values.specs.WallClock.{wall_clock, IsWallClock}
 use Rattle.offset_times.specs.Local.{instant_of, shown_at}
-use Rattle.offset_times.proofs.LocalLemmas.{shown_at-own, local_at-own}
+use Rattle.offset_times.specs.ConversionLemmas.{shown_at-own, local_at-own}
 use Rattle.offset_times.proofs.offset_date_time.OffsetDateTime.checked_to_offset.Goals as goal
 
 pub returns-then-eq : goal.returns-then-eq

@@ -1,4 +1,4 @@
-use Rattle.std.proofs.Common.{◌≡◌, ◌∙◌, ap, arith, ℤ}
+use Rattle.std.proofs.Common.{◌∙◌, ap, arith, ℤ}
 use Rattle.calendar_values.specs.Calendar.{year_of, ordinal_of}
 use Rattle.calendar_values.specs.SignedArith.{signed_arith}
 use Rattle.calendar_values.specs.WallClock.{wall_day}

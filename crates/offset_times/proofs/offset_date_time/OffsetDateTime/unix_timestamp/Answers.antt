@@ -1,4 +1,4 @@
-use Rattle.std.proofs.Common.{◌≡◌, ◌∙◌, sym, arith, to_z, of_z, w32, w64, ◌-ℤ◌}
+use Rattle.std.proofs.Common.{arith}
 use Rattle.calendar_values.specs.SignedArith.{signed_arith}
 use Rattle.offset_times.proofs.LocalLemmas.{unix_seconds_of_instant}
 use Rattle.offset_times.proofs.offset_date_time.OffsetDateTime.unix_timestamp.Goals as goal

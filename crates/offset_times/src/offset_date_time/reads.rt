@@ -1,0 +1,215 @@
+//! The parts of the date and of the time of day that clocks show.
+ghost use Rattle.std.specs.Prelude.{◌≡◌, ◌≤◌, ◌*◌};
+ghost use Rattle.std.specs.Int.{IsInRange};
+ghost use Rattle.calendar_values.specs.Calendar.{year_of, month_of, day_of_month_of, ordinal_of, julian_day_of};
+ghost use Rattle.calendar_values.specs.Clock.{IsTimeOfDay, nanos_per_millisecond, nanos_per_microsecond, hour_of, minute_of, second_of, millisecond_of, microsecond_of, nanosecond_of};
+ghost use Rattle.calendar_values.specs.Month.{month_number};
+ghost use Rattle.calendar_values.specs.Range.{IsYear};
+ghost use Rattle.calendar_values.specs.WallClock.{wall_day, wall_time};
+ghost use Rattle.calendar_values.specs.Weekday.{weekday_number};
+ghost use Rattle.calendar_values.specs.Weeks.{iso_year_of, iso_week_of, sunday_week_of, monday_week_of, weekday_of};
+ghost use Rattle.offset_times.specs.Local.{IsLocal};
+
+use crate::OffsetDateTime;
+use calendar_values::{Date, Month, Time, Weekday};
+use plain_times::PlainDateTime;
+
+impl OffsetDateTime {
+    /// The date.
+    pub fn date(self) -> Date
+        ensures value { result ≡ wall_day self.wall }
+        ensures in_range { IsLocal self }
+    {
+        self.date_time().date()
+    }
+
+    /// The time of day.
+    pub fn time(self) -> Time
+        ensures value { result ≡ wall_time self.wall }
+        ensures in_range { IsLocal self }
+    {
+        self.date_time().time()
+    }
+
+    /// As [`PlainDateTime::year`] of the wall clock.
+    pub fn year(self) -> i32
+        ensures value { result ≡ year_of (wall_day self.wall) }
+        ensures in_range { IsYear result }
+    {
+        self.date_time().year()
+    }
+
+    /// As [`PlainDateTime::month`] of the wall clock.
+    pub fn month(self) -> Month
+        ensures { month_number result ≡ month_of (wall_day self.wall) }
+    {
+        self.date_time().month()
+    }
+
+    /// As [`PlainDateTime::day`] of the wall clock.
+    pub fn day(self) -> u8
+        ensures value { result ≡ day_of_month_of (wall_day self.wall) }
+        ensures in_range { IsInRange 1 31 result }
+    {
+        self.date_time().day()
+    }
+
+    /// As [`PlainDateTime::ordinal`] of the wall clock.
+    pub fn ordinal(self) -> u16
+        ensures value { result ≡ ordinal_of (wall_day self.wall) }
+        ensures in_range { IsInRange 1 366 result }
+    {
+        self.date_time().ordinal()
+    }
+
+    /// As [`PlainDateTime::iso_week`] of the wall clock.
+    pub fn iso_week(self) -> u8
+        ensures value { result ≡ iso_week_of (wall_day self.wall) }
+        ensures in_range { IsInRange 1 53 result }
+    {
+        self.date_time().iso_week()
+    }
+
+    /// As [`PlainDateTime::sunday_based_week`] of the wall clock.
+    pub fn sunday_based_week(self) -> u8
+        ensures value { result ≡ sunday_week_of (wall_day self.wall) }
+        ensures in_range { result ≤ 53 }
+    {
+        self.date_time().sunday_based_week()
+    }
+
+    /// As [`PlainDateTime::monday_based_week`] of the wall clock.
+    pub fn monday_based_week(self) -> u8
+        ensures value { result ≡ monday_week_of (wall_day self.wall) }
+        ensures in_range { result ≤ 53 }
+    {
+        self.date_time().monday_based_week()
+    }
+
+    /// As [`PlainDateTime::to_calendar_date`] of the wall clock.
+    pub fn to_calendar_date(self) -> (i32, Month, u8)
+        ensures year { result.0 ≡ year_of (wall_day self.wall) }
+        ensures month { month_number result.1 ≡ month_of (wall_day self.wall) }
+        ensures day { result.2 ≡ day_of_month_of (wall_day self.wall) }
+        ensures year_in_range { IsYear result.0 }
+        ensures day_in_range { IsInRange 1 31 result.2 }
+    {
+        self.date_time().to_calendar_date()
+    }
+
+    /// As [`PlainDateTime::to_ordinal_date`] of the wall clock.
+    pub fn to_ordinal_date(self) -> (i32, u16)
+        ensures year { result.0 ≡ year_of (wall_day self.wall) }
+        ensures ordinal { result.1 ≡ ordinal_of (wall_day self.wall) }
+        ensures year_in_range { IsYear result.0 }
+        ensures ordinal_in_range { IsInRange 1 366 result.1 }
+    {
+        self.date_time().to_ordinal_date()
+    }
+
+    /// As [`PlainDateTime::to_iso_week_date`] of the wall clock.
+    pub fn to_iso_week_date(self) -> (i32, u8, Weekday)
+        ensures year { result.0 ≡ iso_year_of (wall_day self.wall) }
+        ensures week { result.1 ≡ iso_week_of (wall_day self.wall) }
+        ensures weekday { weekday_number result.2 ≡ weekday_of (wall_day self.wall) }
+        ensures year_in_range { IsYear result.0 }
+        ensures week_in_range { IsInRange 1 53 result.1 }
+    {
+        self.date_time().to_iso_week_date()
+    }
+
+    /// As [`PlainDateTime::weekday`] of the wall clock.
+    pub fn weekday(self) -> Weekday
+        ensures { weekday_number result ≡ weekday_of (wall_day self.wall) }
+    {
+        self.date_time().weekday()
+    }
+
+    /// As [`PlainDateTime::to_julian_day`] of the wall clock.
+    pub fn to_julian_day(self) -> i32
+        ensures value { result ≡ julian_day_of (wall_day self.wall) }
+        ensures in_range { IsLocal self }
+    {
+        self.date_time().to_julian_day()
+    }
+
+    /// As [`PlainDateTime::as_hms`] of the wall clock.
+    pub fn to_hms(self) -> (u8, u8, u8)
+        ensures value { let c = wall_time self.wall in result ≡ (hour_of c, minute_of c, second_of c) }
+        ensures in_range { IsTimeOfDay result.0 result.1 result.2 0 }
+    {
+        self.date_time().as_hms()
+    }
+
+    /// As [`PlainDateTime::as_hms_milli`] of the wall clock.
+    pub fn to_hms_milli(self) -> (u8, u8, u8, u16)
+        ensures value { let c = wall_time self.wall in result ≡ (hour_of c, minute_of c, second_of c, millisecond_of c) }
+        ensures in_range { IsTimeOfDay result.0 result.1 result.2 (result.3 * nanos_per_millisecond) }
+    {
+        self.date_time().as_hms_milli()
+    }
+
+    /// As [`PlainDateTime::as_hms_micro`] of the wall clock.
+    pub fn to_hms_micro(self) -> (u8, u8, u8, u32)
+        ensures value { let c = wall_time self.wall in result ≡ (hour_of c, minute_of c, second_of c, microsecond_of c) }
+        ensures in_range { IsTimeOfDay result.0 result.1 result.2 (result.3 * nanos_per_microsecond) }
+    {
+        self.date_time().as_hms_micro()
+    }
+
+    /// As [`PlainDateTime::as_hms_nano`] of the wall clock.
+    pub fn to_hms_nano(self) -> (u8, u8, u8, u32)
+        ensures value { let c = wall_time self.wall in result ≡ (hour_of c, minute_of c, second_of c, nanosecond_of c) }
+        ensures in_range { IsTimeOfDay result.0 result.1 result.2 result.3 }
+    {
+        self.date_time().as_hms_nano()
+    }
+
+    /// As [`PlainDateTime::hour`] of the wall clock.
+    pub fn hour(self) -> u8
+        ensures value { result ≡ hour_of (wall_time self.wall) }
+        ensures in_range { result ≤ 23 }
+    {
+        self.date_time().hour()
+    }
+
+    /// As [`PlainDateTime::minute`] of the wall clock.
+    pub fn minute(self) -> u8
+        ensures value { result ≡ minute_of (wall_time self.wall) }
+        ensures in_range { result ≤ 59 }
+    {
+        self.date_time().minute()
+    }
+
+    /// As [`PlainDateTime::second`] of the wall clock.
+    pub fn second(self) -> u8
+        ensures value { result ≡ second_of (wall_time self.wall) }
+        ensures in_range { result ≤ 59 }
+    {
+        self.date_time().second()
+    }
+
+    /// As [`PlainDateTime::millisecond`] of the wall clock.
+    pub fn millisecond(self) -> u16
+        ensures value { result ≡ millisecond_of (wall_time self.wall) }
+        ensures in_range { result ≤ 999 }
+    {
+        self.date_time().millisecond()
+    }
+
+    /// As [`PlainDateTime::microsecond`] of the wall clock.
+    pub fn microsecond(self) -> u32
+        ensures value { result ≡ microsecond_of (wall_time self.wall) }
+        ensures in_range { result ≤ 999_999 }
+    {
+        self.date_time().microsecond()
+    }
+
+    /// As [`PlainDateTime::nanosecond`] of the wall clock.
+    pub fn nanosecond(self) -> u32
+        ensures value { result ≡ nanosecond_of (wall_time self.wall) }
+        ensures in_range { result ≤ 999_999_999 }
+    {
+        self.date_time().nanosecond()
+    }
+}

@@ -1,0 +1,193 @@
+//! Date-times with a part replaced, or truncated to a unit of time: the wall clock is, and the offset stays.
+ghost use Rattle.std.specs.Prelude.{◌≡◌, ◌≤◌, ◌*◌, OkIff, IfErr, codes, pos, ◌+ℤ◌, ◌≤ℤ◌, ◌<ℤ◌};
+ghost use Rattle.calendar_values.specs.Calendar.{year_of, month_of, day_of_month_of, is_leap_year, days_in_year, days_in_month, day_of_calendar_date, day_of_ordinal_date};
+ghost use Rattle.calendar_values.specs.Clock.{nanos_per_day, nanos_per_hour, nanos_per_minute, nanos_per_second, nanos_per_millisecond, nanos_per_microsecond, clock_of_parts, hour_of, minute_of, second_of, nanosecond_of};
+ghost use Rattle.calendar_values.specs.Month.{month_number};
+ghost use Rattle.calendar_values.specs.Refusals.{IsDateOfRange, date_refusal, ordinal_refusal, outright_refusal, conditional_refusal};
+ghost use Rattle.calendar_values.specs.WallClock.{wall_clock, wall_day, wall_time};
+ghost use Rattle.plain_times.specs.Replacements.{with_date, with_time};
+ghost use Rattle.plain_times.specs.Truncations.{rounded_down};
+ghost use Rattle.offset_times.specs.Local.{local};
+
+use crate::{Assume, OffsetDateTime};
+use calendar_values::{ComponentRange, Date, Month, Time, UtcOffset};
+use plain_times::PlainDateTime;
+
+impl OffsetDateTime {
+    /// The same offset with another date and time of day.
+    pub fn replace_date_time(self, date_time: PlainDateTime) -> OffsetDateTime
+        ensures { result ≡ local date_time self.offset }
+    {
+        date_time.assume_offset(self.offset())
+    }
+
+    /// The same date and time of day at another offset, so at another instant.
+    pub fn replace_offset(self, offset: UtcOffset) -> OffsetDateTime
+        ensures { result ≡ local self.wall offset }
+    {
+        self.date_time().assume_offset(offset)
+    }
+
+    /// As [`PlainDateTime::replace_time`] of the wall clock.
+    pub fn replace_time(self, time: Time) -> OffsetDateTime
+        ensures { result ≡ local (with_time self.wall time) self.offset }
+    {
+        self.replace_date_time(self.date_time().replace_time(time))
+    }
+
+    /// As [`PlainDateTime::replace_date`] of the wall clock.
+    pub fn replace_date(self, date: Date) -> OffsetDateTime
+        ensures { result ≡ local (with_date self.wall date) self.offset }
+    {
+        self.replace_date_time(self.date_time().replace_date(date))
+    }
+
+    /// As [`PlainDateTime::replace_year`] of the wall clock.
+    pub fn replace_year(self, year: i32) -> Result<OffsetDateTime, ComponentRange>
+        ensures value { let n = wall_day self.wall in OkIff result
+            (IsDateOfRange year (month_of n) (day_of_month_of n))
+            (local (with_date self.wall (day_of_calendar_date year (month_of n) (day_of_month_of n))) self.offset) }
+        ensures refused { IfErr result (λ refusal. refusal ≡ date_refusal year (day_of_month_of (wall_day self.wall))) }
+    {
+        Ok(self.replace_date_time(self.date_time().replace_year(year)?))
+    }
+
+    /// As [`PlainDateTime::replace_month`] of the wall clock.
+    pub fn replace_month(self, month: Month) -> Result<OffsetDateTime, ComponentRange>
+        ensures value { let n = wall_day self.wall in OkIff result
+            (day_of_month_of n ≤ days_in_month (is_leap_year (year_of n)) (month_number month))
+            (local (with_date self.wall (day_of_calendar_date (year_of n) (month_number month) (day_of_month_of n))) self.offset) }
+        ensures refused { IfErr result (λ refusal. refusal ≡ conditional_refusal (codes "day")) }
+    {
+        Ok(self.replace_date_time(self.date_time().replace_month(month)?))
+    }
+
+    /// As [`PlainDateTime::replace_day`] of the wall clock.
+    pub fn replace_day(self, day: u8) -> Result<OffsetDateTime, ComponentRange>
+        ensures value { let n = wall_day self.wall in OkIff result
+            ((1 ≤ day) × (day ≤ days_in_month (is_leap_year (year_of n)) (month_of n)))
+            (local (with_date self.wall (day_of_calendar_date (year_of n) (month_of n) day)) self.offset) }
+        ensures refused { IfErr result (λ refusal. refusal ≡ date_refusal (year_of (wall_day self.wall)) day) }
+    {
+        Ok(self.replace_date_time(self.date_time().replace_day(day)?))
+    }
+
+    /// As [`PlainDateTime::replace_ordinal`] of the wall clock.
+    pub fn replace_ordinal(self, ordinal: u16) -> Result<OffsetDateTime, ComponentRange>
+        ensures value { let n = wall_day self.wall in OkIff result
+            ((1 ≤ ordinal) × (ordinal ≤ days_in_year (year_of n)))
+            (local (with_date self.wall (day_of_ordinal_date (year_of n) ordinal)) self.offset) }
+        ensures refused { IfErr result (λ refusal. refusal ≡ ordinal_refusal (year_of (wall_day self.wall)) ordinal) }
+    {
+        Ok(self.replace_date_time(self.date_time().replace_ordinal(ordinal)?))
+    }
+
+    /// As [`PlainDateTime::truncate_to_day`] of the wall clock.
+    pub fn truncate_to_day(self) -> OffsetDateTime
+        ensures value { result ≡ local (rounded_down nanos_per_day self.wall) self.offset }
+        ensures midnight { result ≡ local (wall_clock (wall_day self.wall) 0) self.offset }
+        ensures not_above { result.wall ≤ℤ self.wall }
+        ensures within { self.wall <ℤ (result.wall +ℤ pos nanos_per_day) }
+    {
+        self.replace_date_time(self.date_time().truncate_to_day())
+    }
+
+    /// As [`PlainDateTime::replace_hour`] of the wall clock.
+    pub fn replace_hour(self, hour: u8) -> Result<OffsetDateTime, ComponentRange>
+        ensures value { let c = wall_time self.wall in OkIff result (hour ≤ 23)
+            (local (with_time self.wall (clock_of_parts hour (minute_of c) (second_of c) (nanosecond_of c))) self.offset) }
+        ensures refused { IfErr result (λ refusal. refusal ≡ outright_refusal (codes "hour")) }
+    {
+        Ok(self.replace_date_time(self.date_time().replace_hour(hour)?))
+    }
+
+    /// As [`PlainDateTime::truncate_to_hour`] of the wall clock.
+    pub fn truncate_to_hour(self) -> OffsetDateTime
+        ensures value { result ≡ local (rounded_down nanos_per_hour self.wall) self.offset }
+        ensures not_above { result.wall ≤ℤ self.wall }
+        ensures within { self.wall <ℤ (result.wall +ℤ pos nanos_per_hour) }
+    {
+        self.replace_date_time(self.date_time().truncate_to_hour())
+    }
+
+    /// As [`PlainDateTime::replace_minute`] of the wall clock.
+    pub fn replace_minute(self, minute: u8) -> Result<OffsetDateTime, ComponentRange>
+        ensures value { let c = wall_time self.wall in OkIff result (minute ≤ 59)
+            (local (with_time self.wall (clock_of_parts (hour_of c) minute (second_of c) (nanosecond_of c))) self.offset) }
+        ensures refused { IfErr result (λ refusal. refusal ≡ outright_refusal (codes "minute")) }
+    {
+        Ok(self.replace_date_time(self.date_time().replace_minute(minute)?))
+    }
+
+    /// As [`PlainDateTime::truncate_to_minute`] of the wall clock.
+    pub fn truncate_to_minute(self) -> OffsetDateTime
+        ensures value { result ≡ local (rounded_down nanos_per_minute self.wall) self.offset }
+        ensures not_above { result.wall ≤ℤ self.wall }
+        ensures within { self.wall <ℤ (result.wall +ℤ pos nanos_per_minute) }
+    {
+        self.replace_date_time(self.date_time().truncate_to_minute())
+    }
+
+    /// As [`PlainDateTime::replace_second`] of the wall clock.
+    pub fn replace_second(self, second: u8) -> Result<OffsetDateTime, ComponentRange>
+        ensures value { let c = wall_time self.wall in OkIff result (second ≤ 59)
+            (local (with_time self.wall (clock_of_parts (hour_of c) (minute_of c) second (nanosecond_of c))) self.offset) }
+        ensures refused { IfErr result (λ refusal. refusal ≡ outright_refusal (codes "second")) }
+    {
+        Ok(self.replace_date_time(self.date_time().replace_second(second)?))
+    }
+
+    /// As [`PlainDateTime::truncate_to_second`] of the wall clock.
+    pub fn truncate_to_second(self) -> OffsetDateTime
+        ensures value { result ≡ local (rounded_down nanos_per_second self.wall) self.offset }
+        ensures not_above { result.wall ≤ℤ self.wall }
+        ensures within { self.wall <ℤ (result.wall +ℤ pos nanos_per_second) }
+    {
+        self.replace_date_time(self.date_time().truncate_to_second())
+    }
+
+    /// As [`PlainDateTime::replace_millisecond`] of the wall clock.
+    pub fn replace_millisecond(self, millisecond: u16) -> Result<OffsetDateTime, ComponentRange>
+        ensures value { let c = wall_time self.wall in OkIff result (millisecond ≤ 999)
+            (local (with_time self.wall (clock_of_parts (hour_of c) (minute_of c) (second_of c) (millisecond * nanos_per_millisecond))) self.offset) }
+        ensures refused { IfErr result (λ refusal. refusal ≡ outright_refusal (codes "millisecond")) }
+    {
+        Ok(self.replace_date_time(self.date_time().replace_millisecond(millisecond)?))
+    }
+
+    /// As [`PlainDateTime::truncate_to_millisecond`] of the wall clock.
+    pub fn truncate_to_millisecond(self) -> OffsetDateTime
+        ensures value { result ≡ local (rounded_down nanos_per_millisecond self.wall) self.offset }
+        ensures not_above { result.wall ≤ℤ self.wall }
+        ensures within { self.wall <ℤ (result.wall +ℤ pos nanos_per_millisecond) }
+    {
+        self.replace_date_time(self.date_time().truncate_to_millisecond())
+    }
+
+    /// As [`PlainDateTime::replace_microsecond`] of the wall clock.
+    pub fn replace_microsecond(self, microsecond: u32) -> Result<OffsetDateTime, ComponentRange>
+        ensures value { let c = wall_time self.wall in OkIff result (microsecond ≤ 999_999)
+            (local (with_time self.wall (clock_of_parts (hour_of c) (minute_of c) (second_of c) (microsecond * nanos_per_microsecond))) self.offset) }
+        ensures refused { IfErr result (λ refusal. refusal ≡ outright_refusal (codes "microsecond")) }
+    {
+        Ok(self.replace_date_time(self.date_time().replace_microsecond(microsecond)?))
+    }
+
+    /// As [`PlainDateTime::truncate_to_microsecond`] of the wall clock.
+    pub fn truncate_to_microsecond(self) -> OffsetDateTime
+        ensures value { result ≡ local (rounded_down nanos_per_microsecond self.wall) self.offset }
+        ensures not_above { result.wall ≤ℤ self.wall }
+        ensures within { self.wall <ℤ (result.wall +ℤ pos nanos_per_microsecond) }
+    {
+        self.replace_date_time(self.date_time().truncate_to_microsecond())
+    }
+
+    /// As [`PlainDateTime::replace_nanosecond`] of the wall clock.
+    pub fn replace_nanosecond(self, nanosecond: u32) -> Result<OffsetDateTime, ComponentRange>
+        ensures value { let c = wall_time self.wall in OkIff result (nanosecond ≤ 999_999_999)
+            (local (with_time self.wall (clock_of_parts (hour_of c) (minute_of c) (second_of c) nanosecond)) self.offset) }
+        ensures refused { IfErr result (λ refusal. refusal ≡ outright_refusal (codes "nanosecond")) }
+    {
+        Ok(self.replace_date_time(self.date_time().replace_nanosecond(nanosecond)?))
+    }
+}
