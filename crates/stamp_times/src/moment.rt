@@ -193,7 +193,7 @@ impl Moment for Timestamp {
     }
 
     fn at_offset(self, offset: UtcOffset) -> Option<OffsetDateTime> {
-        self.to_utc().checked_to_offset(offset)
+        self.checked_to_offset(offset)
     }
 
     ghost eq_by_instant = { λ x y. refl };

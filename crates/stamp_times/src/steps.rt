@@ -5,7 +5,7 @@ use offset_times::OffsetDateTime;
 use utc_times::UtcDateTime;
 
 /// An instant, held by one of the three types. There is no `==`, since it would drop the offset.
-#[derive(Clone, Copy)]
+#[derive(Clone, Copy, Debug)]
 pub enum Held {
     Stamp(Timestamp),
     Utc(UtcDateTime),
@@ -21,7 +21,7 @@ pub enum Step {
 }
 
 /// Where a chain of conversions stopped, counted from 0, and what was held there.
-#[derive(Clone, Copy)]
+#[derive(Clone, Copy, Debug)]
 pub struct StoppedAt {
     pub index: usize,
     pub held: Held,
