@@ -67,3 +67,6 @@ fn at_offset(held: Held, offset: UtcOffset) -> Option<OffsetDateTime>
         Held::Offset(at) => at.checked_to_offset(offset),
     }
 }
+
+#[cfg(test)]
+mod tests;
