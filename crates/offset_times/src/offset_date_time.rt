@@ -1,6 +1,6 @@
 //! A date and a time of day at an offset from UTC.
 ghost use Rattle.std.specs.Prelude.{◌≡◌, pos};
-ghost use Rattle.calendar_values.specs.WallClock.{wall_clock};
+ghost use Rattle.calendar_values.specs.WallClock.{wall_clock, wall_day, wall_time};
 ghost use Rattle.offset_times.specs.Local.{local, IsLocal};
 
 use calendar_values::{Date, Time, UtcOffset};
@@ -92,6 +92,17 @@ impl OffsetDateTime {
         ensures in_range { IsLocal self }
     {
         PlainDateTime::new(self.date, self.time)
+    }
+
+    /// The date and the time of day that clocks at the offset show, and the offset.
+    pub fn parts(self) -> (Date, Time, UtcOffset)
+        ensures date { result.0 ≡ wall_day self.wall }
+        ensures time { result.1 ≡ wall_time self.wall }
+        ensures offset { result.2 ≡ self.offset }
+        ensures in_range { IsLocal self }
+    {
+        let shown = self.date_time();
+        (shown.date(), shown.time(), self.offset())
     }
 }
 

@@ -1,5 +1,7 @@
 pub mod InstantLemmas
+pub mod MomentLemmas
 pub mod OrderLemmas
 pub mod ReciprocalLemmas
 pub mod SumLemmas
 pub mod TextLemmas
+pub mod TravelLemmas

@@ -1,0 +1,66 @@
+-- One more step of a chain of conversions.
+use Rattle.std.proofs.Common.{◌≡◌, ℕ, suc, ◌+◌, ◌<◌, ℤ, List, [], ◌∷◌, ◌++◌, Option, Some, None, SomeIff, Bool, true, false, length, take, drop, get_or, sym, ap, ◌∙◌, refl, arith, add-one, cond, option_map}
+use Rattle.std.proofs.Math.Seq.{drop-cons}
+use Rattle.std.proofs.lemmas.Int.{ints}
+use Rattle.std.proofs.lemmas.List.{take_more}
+use Rattle.std.specs.Option.{is_some}
+use Rattle.calendar_values.specs.WallClock.{IsWallClock}
+use Rattle.offset_times.specs.Local.{instant_of, local_at}
+use Rattle.plain_times.specs.SumLemmas.{checked-in, checked-SomeIff}
+use Rattle.plain_times.specs.Sums.{checked}
+use Rattle.stamp_times.specs.Travel.{held_instant, shown_by, holds, held_by, travel, held_after}
+use Rattle.stamp_times.specs.declared.steps.Held.{Held}
+use Rattle.stamp_times.specs.declared.steps.Step.{Step}
+use Rattle.stamp_times.specs.declared.steps.Step.TheVariants.{ToStamp, ToUtc, ToOffset}
+
+-- a place counted from k on
+abbrev pub later : ℕ → Option ℕ → Option ℕ
+later k place = option_map (λ n. n + k) place
+
+-- a step keeps the instant
+pub held_instant-held_by : (step : Step) (i : ℤ) → held_instant (held_by step i) ≡ i
+held_instant-held_by ToStamp i = refl
+held_instant-held_by ToUtc i = refl
+held_instant-held_by (ToOffset o) i = omega (arith, ints)
+
+pub held_instant-kept : (next : Held) (step : Step) (i : ℤ) → next ≡ held_by step i → held_instant next ≡ i
+held_instant-kept next step i e = ap held_instant e ∙ held_instant-held_by step i
+
+later-later : (k : ℕ) (place : Option ℕ) → later k (later 1 place) ≡ later (k + 1) place
+later-later k None = refl
+later-later k (Some n) = let e : (n + 1) + k ≡ n + (k + 1) = omega arith in ap (λ (m : ℕ). let place : Option ℕ = Some m in place) e
+
+held_after-append : (held : Held) (i : ℤ) (steps : List Step) (step : Step) → held_after held i (steps ++ step ∷ []) ≡ held_by step i
+held_after-append held i [] step = refl
+held_after-append held i (x ∷ steps) step = held_after-append (held_by x i) i steps step
+
+travel-on : (i : ℤ) (step : Step) (steps : List Step) → IsWallClock (shown_by step i) → travel i (step ∷ steps) ≡ later 1 (travel i steps)
+travel-on i step steps h =
+    let on : holds step i ≡ true = ap is_some (checked-in (shown_by step i) h) in
+    ap (λ (b : Bool). cond b (later 1 (travel i steps)) (Some 0)) on
+
+travel-stopped : (i : ℤ) (step : Step) (steps : List Step) → SomeIff None (IsWallClock (shown_by step i)) (held_by step i) → travel i (step ∷ steps) ≡ Some 0
+travel-stopped i step steps h =
+    let none : None ≡ checked (shown_by step i) = checked-SomeIff None (shown_by step i) h in
+    let stopped : holds step i ≡ false = ap is_some (sym none) in
+    ap (λ (b : Bool). cond b (later 1 (travel i steps)) (Some 0)) stopped
+
+rest : (steps : List Step) (k : ℕ) (step : Step) → k < length steps → step ≡ get_or steps k step → drop k steps ≡ step ∷ drop (k + 1) steps
+rest steps k step below here =
+    rw add-one (drop-cons steps k step below ∙ ap (λ (x : Step). x ∷ drop (suc k) steps) (sym here))
+
+pub held_after-more : (start next : Held) (i : ℤ) (steps : List Step) (k : ℕ) (step : Step) → k < length steps → step ≡ get_or steps k step → next ≡ held_by step i → next ≡ held_after start i (take (k + 1) steps)
+held_after-more start next i steps k step below here e =
+    let more : take (k + 1) steps ≡ take k steps ++ step ∷ [] = take_more steps k step below ∙ ap (λ (x : Step). take k steps ++ x ∷ []) (sym here) in
+    e ∙ sym (ap (held_after start i) more ∙ held_after-append start i (take k steps) step)
+
+pub travel-more : (i : ℤ) (steps : List Step) (k : ℕ) (step : Step) → k < length steps → step ≡ get_or steps k step → IsWallClock (shown_by step i) → travel i steps ≡ later k (travel i (drop k steps)) → travel i steps ≡ later (k + 1) (travel i (drop (k + 1) steps))
+travel-more i steps k step below here h so =
+    let one : travel i (drop k steps) ≡ later 1 (travel i (drop (k + 1) steps)) = ap (travel i) (rest steps k step below here) ∙ travel-on i step (drop (k + 1) steps) h in
+    so ∙ ap (later k) one ∙ later-later k (travel i (drop (k + 1) steps))
+
+pub travel-ends : (i : ℤ) (steps : List Step) (k : ℕ) (step : Step) → k < length steps → step ≡ get_or steps k step → SomeIff None (IsWallClock (shown_by step i)) (held_by step i) → travel i steps ≡ later k (travel i (drop k steps)) → travel i steps ≡ Some k
+travel-ends i steps k step below here h so =
+    let from_here : 0 + k ≡ k = omega arith in
+    let ends : travel i (drop k steps) ≡ Some 0 = ap (travel i) (rest steps k step below here) ∙ travel-stopped i step (drop (k + 1) steps) h in
+    so ∙ ap (later k) ends ∙ ap (λ (n : ℕ). let place : Option ℕ = Some n in place) from_here

@@ -1,0 +1,136 @@
+-- What a run of calls replies: a counter of nanoseconds, read by counted days. It knows no type of instants.
+use Rattle.std.specs.Prelude.{ℕ, List, [], ◌∷◌, ℤ, ◌+ℤ◌, ◌-ℤ◌, Option, Some, None, Result, Ok, Err}
+use Rattle.calendar_values.specs.Calendar.{year_of, month_of, day_of_month_of, ordinal_of, julian_day_of}
+use Rattle.calendar_values.specs.Clock.{hour_of, minute_of, second_of, millisecond_of, microsecond_of, nanosecond_of}
+use Rattle.calendar_values.specs.Month.{month_number}
+use Rattle.calendar_values.specs.Refusals.{Refusal}
+use Rattle.calendar_values.specs.Replacements.{with_year, with_month, with_day, with_ordinal, with_hour, with_minute, with_second, with_millisecond, with_microsecond, with_nanosecond}
+use Rattle.calendar_values.specs.WallClock.{wall_day, wall_time}
+use Rattle.calendar_values.specs.Weeks.{iso_year_of, iso_week_of, sunday_week_of, monday_week_of, weekday_of}
+use Rattle.offset_times.specs.Local.{shown_at}
+use Rattle.plain_times.specs.Replacements.{with_date, with_time, keeping_time, keeping_day}
+use Rattle.plain_times.specs.Sums.{checked, clamped}
+use Rattle.stamp_times.specs.Numbered.{month_numbered, weekday_numbered}
+use Rattle.stamp_times.specs.declared.calls.DateRead.{DateRead}
+use Rattle.stamp_times.specs.declared.calls.DateRead.TheVariants as date_read
+use Rattle.stamp_times.specs.declared.calls.DatePart.{DatePart}
+use Rattle.stamp_times.specs.declared.calls.DatePart.TheVariants as date_part
+use Rattle.stamp_times.specs.declared.calls.ClockRead.{ClockRead}
+use Rattle.stamp_times.specs.declared.calls.ClockRead.TheVariants as clock_read
+use Rattle.stamp_times.specs.declared.calls.ClockPart.{ClockPart}
+use Rattle.stamp_times.specs.declared.calls.ClockPart.TheVariants as clock_part
+use Rattle.stamp_times.specs.declared.calls.Shift.{Shift}
+use Rattle.stamp_times.specs.declared.calls.Shift.TheVariants.{CheckedAdd, CheckedSub, SaturatingAdd, SaturatingSub}
+use Rattle.stamp_times.specs.declared.calls.Replace.{Replace}
+use Rattle.stamp_times.specs.declared.calls.Replace.TheVariants as replacing
+use Rattle.stamp_times.specs.declared.calls.Call.{Call}
+use Rattle.stamp_times.specs.declared.calls.Call.TheVariants as call
+use Rattle.stamp_times.specs.declared.calls.Reply.{Reply}
+use Rattle.stamp_times.specs.declared.calls.Reply.TheVariants as replied
+
+-- what a read of the date gives on a day
+abbrev pub date_part_of : ℤ → DateRead → DatePart
+date_part_of n date_read.Date = date_part.Date n
+date_part_of n date_read.Year = date_part.Year (year_of n)
+date_part_of n date_read.Month = date_part.Month (month_numbered (month_of n))
+date_part_of n date_read.Day = date_part.Day (day_of_month_of n)
+date_part_of n date_read.Ordinal = date_part.Ordinal (ordinal_of n)
+date_part_of n date_read.IsoWeek = date_part.IsoWeek (iso_week_of n)
+date_part_of n date_read.SundayWeek = date_part.SundayWeek (sunday_week_of n)
+date_part_of n date_read.MondayWeek = date_part.MondayWeek (monday_week_of n)
+date_part_of n date_read.CalendarDate =
+    date_part.CalendarDate (year_of n, month_numbered (month_of n), day_of_month_of n)
+date_part_of n date_read.OrdinalDate = date_part.OrdinalDate (year_of n, ordinal_of n)
+date_part_of n date_read.IsoWeekDate =
+    date_part.IsoWeekDate (iso_year_of n, iso_week_of n, weekday_numbered (weekday_of n))
+date_part_of n date_read.Weekday = date_part.Weekday (weekday_numbered (weekday_of n))
+date_part_of n date_read.JulianDay = date_part.JulianDay (julian_day_of n)
+
+-- what a read of the time of day gives on a clock
+abbrev pub clock_part_of : ℕ → ClockRead → ClockPart
+clock_part_of c clock_read.Time = clock_part.Time c
+clock_part_of c clock_read.Hms = clock_part.Hms (hour_of c, minute_of c, second_of c)
+clock_part_of c clock_read.HmsMilli = clock_part.HmsMilli (hour_of c, minute_of c, second_of c, millisecond_of c)
+clock_part_of c clock_read.HmsMicro = clock_part.HmsMicro (hour_of c, minute_of c, second_of c, microsecond_of c)
+clock_part_of c clock_read.HmsNano = clock_part.HmsNano (hour_of c, minute_of c, second_of c, nanosecond_of c)
+clock_part_of c clock_read.Hour = clock_part.Hour (hour_of c)
+clock_part_of c clock_read.Minute = clock_part.Minute (minute_of c)
+clock_part_of c clock_read.Second = clock_part.Second (second_of c)
+clock_part_of c clock_read.Millisecond = clock_part.Millisecond (millisecond_of c)
+clock_part_of c clock_read.Microsecond = clock_part.Microsecond (microsecond_of c)
+clock_part_of c clock_read.Nanosecond = clock_part.Nanosecond (nanosecond_of c)
+
+-- where a sum or a difference leads, if it is accepted
+abbrev pub shifted : ℤ → Shift → Option ℤ
+shifted i (CheckedAdd d) = checked (i +ℤ d)
+shifted i (CheckedSub d) = checked (i -ℤ d)
+shifted i (SaturatingAdd d) = Some (clamped (i +ℤ d))
+shifted i (SaturatingSub d) = Some (clamped (i -ℤ d))
+
+-- where a replacement leads, or what it is refused by
+abbrev pub replaced : ℤ → Replace → Result ℤ Refusal
+replaced i (replacing.Time c) = Ok (with_time i c)
+replaced i (replacing.Date n) = Ok (with_date i n)
+replaced i (replacing.Year y) = keeping_time i (with_year (wall_day i) y)
+replaced i (replacing.Month m) = keeping_time i (with_month (wall_day i) (month_number m))
+replaced i (replacing.Day d) = keeping_time i (with_day (wall_day i) d)
+replaced i (replacing.Ordinal ordinal) = keeping_time i (with_ordinal (wall_day i) ordinal)
+replaced i (replacing.Hour h) = keeping_day i (with_hour (wall_time i) h)
+replaced i (replacing.Minute m) = keeping_day i (with_minute (wall_time i) m)
+replaced i (replacing.Second s) = keeping_day i (with_second (wall_time i) s)
+replaced i (replacing.Millisecond milli) = keeping_day i (with_millisecond (wall_time i) milli)
+replaced i (replacing.Microsecond micro) = keeping_day i (with_microsecond (wall_time i) micro)
+replaced i (replacing.Nanosecond n) = keeping_day i (with_nanosecond (wall_time i) n)
+
+-- the reply that says where the counter is
+abbrev pub now : ℤ → Reply
+now i = replied.Now (wall_day i) (wall_time i)
+
+-- what a sum or a difference replies, and where it leaves the counter
+abbrev pub shift_reply : Option ℤ → Reply
+shift_reply None = replied.Refused
+shift_reply (Some j) = now j
+
+abbrev pub shift_next : ℤ → Option ℤ → ℤ
+shift_next i None = i
+shift_next i (Some j) = j
+
+-- what a replacement replies, and where it leaves the counter
+abbrev pub replace_reply : Result ℤ Refusal → Reply
+replace_reply (Ok j) = now j
+replace_reply (Err refusal) = replied.RefusedPart refusal
+
+abbrev pub replace_next : ℤ → Result ℤ Refusal → ℤ
+replace_next i (Ok j) = j
+replace_next i (Err refusal) = i
+
+-- what a conversion to an offset replies: what clocks there show, if the range has it
+abbrev pub local_reply : ℤ → Option ℤ → Reply
+local_reply o None = replied.Refused
+local_reply o (Some w) = replied.Local (wall_day w) (wall_time w) o
+
+-- the reply to a call
+abbrev pub reply : ℤ → Call → Reply
+reply i (call.ReadDate read) = replied.DatePart (date_part_of (wall_day i) read)
+reply i (call.ReadClock read) = replied.ClockPart (clock_part_of (wall_time i) read)
+reply i (call.Shift shift) = shift_reply (shifted i shift)
+reply i (call.Replace replace) = replace_reply (replaced i replace)
+reply i (call.Local o) = local_reply o (checked (shown_at i o))
+
+-- where a call leaves the counter: a read, a conversion to an offset and a refused call change nothing
+abbrev pub next : ℤ → Call → ℤ
+next i (call.ReadDate read) = i
+next i (call.ReadClock read) = i
+next i (call.Shift shift) = shift_next i (shifted i shift)
+next i (call.Replace replace) = replace_next i (replaced i replace)
+next i (call.Local o) = i
+
+-- the replies to calls in their order
+abbrev pub replies : ℤ → List Call → List Reply
+replies i [] = []
+replies i (c ∷ cs) = reply i c ∷ replies (next i c) cs
+
+-- where they leave the counter
+abbrev pub last : ℤ → List Call → ℤ
+last i [] = i
+last i (c ∷ cs) = last (next i c) cs

@@ -1,0 +1,101 @@
+//! Runs of calls.
+ghost use Rattle.std.specs.Prelude.{◌≡◌, ℤ, Some, IfOk, vec_len, vec_capacity, ◌++◌, ◌∷◌, [], ◌<◌, ◌≤◌, ◌+◌};
+ghost use Rattle.stamp_times.specs.Counter.{reply, next, replies, last, now, local_reply};
+
+use crate::calls::{Call, Reply};
+use crate::{Moment, Timestamp};
+use offset_times::OffsetDateTime;
+use std::alloc::{AllocError, Global};
+
+/// The replies to the calls in their order, one a call, and the value after the last: those of a counter of
+/// nanoseconds that starts at the instant. A read leaves the value as it is and replies the part. A sum or a
+/// replacement that is accepted goes on from its result and replies the date and the time of day there. One
+/// that is refused replies the refusal, changes nothing, and the run goes on. A conversion to an offset
+/// replies what clocks there show, and the run goes on from the instant. `AllocError` where there is no
+/// memory for the replies; all of it is taken first.
+pub fn run<M: Moment>(
+    alloc: Global,
+    start: M,
+    calls: &[Call],
+) -> Result<(Vec<Reply>, M), AllocError>
+    ensures replies { IfOk result (λ ended. ended.0.items ≡ replies (M.instant start) calls.now) }
+    ensures last { IfOk result (λ ended. M.instant ended.1 ≡ last (M.instant start) calls.now) }
+{
+    let mut replies = Vec::with_capacity(alloc, calls.len())?;
+    let mut held = start;
+    for call in calls {
+        let (reply, next) = step(held, *call);
+        put_in_room(&mut replies, reply);
+        held = next;
+    }
+    Ok((replies, held))
+}
+
+/// The replies of [`run`] from a timestamp, and from the same instant as a date-time in UTC. They are equal.
+pub fn run_both(
+    alloc: Global,
+    start: Timestamp,
+    calls: &[Call],
+) -> Result<(Vec<Reply>, Vec<Reply>), AllocError>
+    ensures of_timestamp { IfOk result (λ both. both.0.items ≡ replies start calls.now) }
+    ensures of_utc { IfOk result (λ both. both.1.items ≡ replies start calls.now) }
+{
+    let (of_timestamp, _) = run(alloc, start, calls)?;
+    let (of_utc, _) = run(alloc, start.to_utc(), calls)?;
+    Ok((of_timestamp, of_utc))
+}
+
+// What a call replies, and the value after it.
+fn step<M: Moment>(held: M, call: Call) -> (Reply, M)
+    ensures reply { result.0 ≡ reply (M.instant held) call }
+    ensures next { M.instant result.1 ≡ next (M.instant held) call }
+{
+    match call {
+        Call::ReadDate(read) => (Reply::DatePart(held.date_part(read)), held),
+        Call::ReadClock(read) => (Reply::ClockPart(held.clock_part(read)), held),
+        Call::Shift(shift) => match held.shift(shift) {
+            Some(next) => (now(next), next),
+            None => (Reply::Refused, held),
+        },
+        Call::Replace(replace) => match held.replace(replace) {
+            Ok(next) => (now(next), next),
+            Err(refusal) => (Reply::RefusedPart(refusal), held),
+        },
+        Call::Local(offset) => match held.at_offset(offset) {
+            Some(at) => (local(at), held),
+            None => (Reply::Refused, held),
+        },
+    }
+}
+
+// The reply that says where the value is.
+fn now<M: Moment>(held: M) -> Reply
+    ensures { result ≡ now (M.instant held) }
+{
+    let (date, time) = held.parts();
+    Reply::Now(date, time)
+}
+
+// The reply that says what clocks at an offset show.
+fn local(at: OffsetDateTime) -> Reply
+    ensures { result ≡ local_reply at.offset (Some at.wall) }
+{
+    let (date, time, offset) = at.parts();
+    Reply::Local(date, time, offset)
+}
+
+// Puts an item at the end, where there is room for it.
+fn put_in_room<T: Copy>(items: &mut Vec<T>, item: T)
+    requires { vec_len items.old < vec_capacity items.old }
+    ensures items { items.new.items ≡ items.old.items ++ item ∷ [] }
+    ensures length { vec_len items.new ≡ vec_len items.old + 1 }
+    ensures room { vec_capacity items.old ≤ vec_capacity items.new }
+{
+    match items.push(item) {
+        Ok(()) => {}
+        Err(_) => unreachable!(),
+    }
+}
+
+#[cfg(test)]
+mod tests;
