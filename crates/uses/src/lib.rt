@@ -8,4 +8,7 @@ pub mod invoices;
 pub mod log;
 pub mod meeting;
 pub mod midnight;
+pub mod moments;
 pub mod retry;
+#[cfg(test)]
+mod tests;

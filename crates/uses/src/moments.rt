@@ -1,19 +1,19 @@
 //! Callers that do not care which type holds an instant, and records that are exchanged.
-ghost use Rattle.std.specs.Prelude.{◌≡◌, IfOk, IfSome, IsPermutation, IsSorted, IsTrue, OnOk, pos, ◌≤ℤ◌, ◌<ℤ◌};
+ghost use Rattle.std.specs.Prelude.{◌≡◌, IfOk, IfSome, IsPermutation, IsSorted, OnOk};
 ghost use Rattle.std.specs.Ordering.{on, int_cmp};
-ghost use Rattle.calendar_values.specs.WallClock.{wall_clock, wall_day};
 ghost use Rattle.offset_times.specs.Local.{instant_of, local_at};
 ghost use Rattle.offset_times.specs.Texts.{offset_date_time_text};
+ghost use Rattle.plain_times.specs.Replacements.{with_time};
 
 use calendar_values::{SignedDuration, Text, Time, UtcOffset};
 use offset_times::{OffsetDateTime, ToOffset};
-use stamp_times::{Call, Moment, Replace, Timestamp, run_both};
+use stamp_times::{Call, Moment, Replace, Reply, Timestamp, run_both};
 use std::alloc::{AllocError, Global};
 use utc_times::UtcDateTime;
 
 /// The first instant of the day in UTC, for any type that holds an instant.
 pub fn first_of_day<M: Moment>(at: M) -> M
-    ensures { M.instant result ≡ wall_clock (wall_day (M.instant at)) 0 }
+    ensures { M.instant result ≡ with_time (M.instant at) 0 }
 {
     match at.replace(Replace::Time(Time::MIDNIGHT)) {
         Ok(midnight) => midnight,
@@ -52,9 +52,12 @@ pub fn record_text(record: Record) -> Option<Text>
 }
 
 /// Replays calls on both types that hold an instant: their replies are the same.
-pub fn replay(alloc: Global, start: Timestamp, calls: &[Call]) -> Result<bool, AllocError>
-    ensures { IfOk result (λ same. IsTrue same) }
+pub fn replay(
+    alloc: Global,
+    start: Timestamp,
+    calls: &[Call],
+) -> Result<(Vec<Reply>, Vec<Reply>), AllocError>
+    ensures { IfOk result (λ both. both.0.items ≡ both.1.items) }
 {
-    let (of_timestamp, of_utc) = run_both(alloc, start, calls)?;
-    Ok(of_timestamp == of_utc)
+    run_both(alloc, start, calls)
 }

@@ -1,0 +1,50 @@
+use crate::{constants, expiry, invoices, log, meeting, midnight, moments, retry};
+use calendar_values::{ComponentRange, Date, Month, Time, UtcOffset};
+use offset_times::ToOffset;
+use stamp_times::{Call, ClockRead, Timestamp};
+use std::test::Fail;
+use utc_times::UtcDateTime;
+
+fn utc(second: i64) -> Result<UtcDateTime, Fail> {
+    Ok(UtcDateTime::from_unix_timestamp(second)?)
+}
+
+#[test]
+fn callers_are_called(rt: HostRuntime) -> Result<(), Fail> {
+    let alloc = rt.alloc();
+    let issued = utc(1_709_164_800)?;
+    assert_eq!(rt; expiry::expires_at(issued, 30), Some(utc(1_711_756_800)?));
+    assert!(rt; expiry::is_expired(utc(1_711_756_800)?, issued));
+    assert_eq!(rt; expiry::tomorrow(UtcDateTime::MAX), None);
+    assert_eq!(rt; midnight::next_midnight(utc(-1)?), Some(utc(0)?));
+    assert_eq!(rt; retry::retry_at(utc(0)?, 3), utc(8)?);
+    assert_eq!(rt; constants::started_at(None), UtcDateTime::UNIX_EPOCH);
+    assert_eq!(rt;
+        invoices::date_of_form(2023, 2, 29),
+        Err(ComponentRange::new("day", true))
+    );
+    let january = Date::from_calendar_date(2024, Month::January, 31)?;
+    assert_eq!(rt;
+        invoices::due_next_month(january),
+        Some(Date::from_calendar_date(2024, Month::February, 29)?)
+    );
+    assert_eq!(rt; invoices::due_next_month(Date::MAX), None);
+
+    let mut entries = [utc(5)?, utc(3)?].to_vec(alloc)?;
+    log::sort(&mut entries)?;
+    assert_eq!(rt; log::position(entries.as_slice(), utc(5)?), Some(1));
+    assert!(rt; !log::accept(&mut entries, utc(4)?)?);
+
+    let hour = UtcOffset::from_hms(1, 0, 0)?;
+    let shown = meeting::shown_to(utc(0)?.to_offset(UtcOffset::UTC), hour)?;
+    assert_eq!(rt; shown.date_time().time(), Time::from_hms(1, 0, 0)?);
+    assert_eq!(rt; moments::first_of_day(utc(86_399)?), utc(0)?);
+    assert_eq!(rt;
+        moments::first_of_day(Timestamp::from_seconds(-1)?),
+        Timestamp::from_seconds(-86_400)?
+    );
+    let calls = [Call::ReadClock(ClockRead::Hour)];
+    let (of_timestamp, of_utc) = moments::replay(alloc, Timestamp::UNIX_EPOCH, &calls)?;
+    assert!(rt; of_timestamp == of_utc);
+    Ok(())
+}
