@@ -1,5 +1,5 @@
 -- What the calls of each type say in the counter's words.
-use Rattle.std.proofs.Common.{◌≡◌, ℕ, ℤ, Option, Some, None, SomeIff, Result, Ok, Err, refl, ap, ◌∙◌, sym}
+use Rattle.std.proofs.Common.{◌≡◌, ℤ, Option, Some, None, SomeIff, Result, Ok, Err, refl, ap, ◌∙◌, sym}
 use Rattle.std.specs.Option.{option_map}
 use Rattle.std.specs.Result.{result_map_both}
 use Rattle.calendar_values.specs.Month.{month_number}
@@ -15,7 +15,6 @@ use Rattle.plain_times.specs.SumLemmas.{checked-in, checked-SomeIff}
 use Rattle.plain_times.specs.Sums.{checked}
 use Rattle.stamp_times.specs.Counter.{local_reply}
 use Rattle.stamp_times.specs.Numbered.{month_numbered, weekday_numbered}
-use Rattle.stamp_times.specs.declared.calls.Reply.{Reply}
 use Rattle.stamp_times.specs.declared.calls.Reply.TheVariants.{Refused}
 
 pub month_numbered-number : (m : Month) → month_numbered (month_number m) ≡ m

@@ -5,7 +5,6 @@ use Rattle.std.proofs.lemmas.Int.{ints}
 use Rattle.std.proofs.lemmas.List.{take_more}
 use Rattle.std.specs.Option.{is_some}
 use Rattle.calendar_values.specs.WallClock.{IsWallClock}
-use Rattle.offset_times.specs.Local.{instant_of, local_at}
 use Rattle.plain_times.specs.SumLemmas.{checked-in, checked-SomeIff}
 use Rattle.plain_times.specs.Sums.{checked}
 use Rattle.stamp_times.specs.Travel.{held_instant, shown_by, holds, held_by, travel, held_after}

@@ -1,4 +1,4 @@
-use Rattle.std.proofs.Common.{◌≡◌, None, Some, SomeIff}
+use Rattle.std.proofs.Common.{None, Some, SomeIff}
 use Rattle.calendar_values.specs.WallClock.{IsWallClock}
 use Rattle.stamp_times.specs.Travel.{held_instant, shown_by, held_by}
 use Rattle.stamp_times.proofs.TravelLemmas.{held_instant-kept, held_after-more, travel-more, travel-ends}

@@ -1,4 +1,4 @@
-use Rattle.std.proofs.Common.{rules, ◌≡◌, ℤ, w32, to_z, of_z}
+use Rattle.std.proofs.Common.{rules, ◌≡◌, w32, to_z, of_z}
 use Rattle.calendar_values.specs.WallClock.{wall_day}
 use Rattle.calendar_values.specs.Weeks.{iso_year_of}
 use Rattle.stamp_times.proofs.MomentLemmas.{weekday_numbered-number}
