@@ -45,10 +45,10 @@ pub struct Record {
 }
 
 /// The text of a record at its offset, or None where clocks there show no date of the range.
-pub fn record_text(record: Record) -> Option<Text>
-    ensures { IfSome result (λ text. text ≡ offset_date_time_text (local_at record.at record.offset)) }
+pub fn record_text(entry: Record) -> Option<Text>
+    ensures { IfSome result (λ text. text ≡ offset_date_time_text (local_at entry.at entry.offset)) }
 {
-    Some(record.at.checked_to_offset(record.offset)?.text())
+    Some(entry.at.checked_to_offset(entry.offset)?.text())
 }
 
 /// Replays calls on both types that hold an instant: their replies are the same.
