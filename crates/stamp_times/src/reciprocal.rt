@@ -62,8 +62,7 @@ fn words(scaled: u64) -> (u32, u32)
 }
 
 /// The year of a day, whether it is a leap year, and the day of the year, counted from 1 (Gregorian
-/// calendar). The day is counted from 1970-01-01, and must be one of the range, from -365,961,662 to
-/// 364,522,971.
+/// calendar). The day is counted from 1970-01-01, and must be one of the range: the days that [`Date`] has.
 #[tactic(auto, using(crate::proofs::ReciprocalLemmas::steps))]
 pub fn year_leap_ordinal(day: i32) -> (i32, bool, u16)
     requires { IsDay day }

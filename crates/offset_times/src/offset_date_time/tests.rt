@@ -383,3 +383,75 @@ fn parts(rt: HostRuntime) -> Result<(), Fail> {
     }
     Ok(())
 }
+
+#[test]
+fn reads(rt: HostRuntime) -> Result<(), Fail> {
+    let date = Date::from_calendar_date(2022, Month::February, 18)?;
+    let time = Time::from_hms_nano(15, 30, 45, 123_456_789)?;
+    for stored in [offset(25, 59, 59)?, offset(-25, -59, -59)?] {
+        let at = OffsetDateTime::new_in_offset(date, time, stored);
+        assert_eq!(rt; (at.date(), at.time()), (date, time));
+        assert_eq!(rt; at.to_calendar_date(), (2022, Month::February, 18));
+        assert_eq!(rt;
+            (at.year(), at.month(), at.day()),
+            (2022, Month::February, 18)
+        );
+        assert_eq!(rt; at.to_ordinal_date(), (2022, 49));
+        assert_eq!(rt; at.to_iso_week_date(), (2022, 7, Weekday::Friday));
+        assert_eq!(rt; at.iso_week(), 7);
+        assert_eq!(rt; (at.sunday_based_week(), at.monday_based_week()), (7, 7));
+        assert_eq!(rt; at.to_julian_day(), 2_459_629);
+        assert_eq!(rt; at.to_hms(), (15, 30, 45));
+        assert_eq!(rt; at.to_hms_micro(), (15, 30, 45, 123_456));
+        assert_eq!(rt; at.to_hms_nano(), (15, 30, 45, 123_456_789));
+        assert_eq!(rt; (at.hour(), at.minute(), at.second()), (15, 30, 45));
+        assert_eq!(rt; (at.millisecond(), at.microsecond()), (123, 123_456));
+        assert_eq!(rt; at.nanosecond(), 123_456_789);
+    }
+    Ok(())
+}
+
+#[test]
+fn replacements(rt: HostRuntime) -> Result<(), Fail> {
+    let alloc = rt.alloc();
+    let date = Date::from_calendar_date(2022, Month::February, 18)?;
+    let time = Time::from_hms_nano(1, 2, 3, 4_005_006)?;
+    let noon = Time::from_hms(12, 0, 0)?;
+    let first = Date::from_ordinal_date(2000, 1)?;
+    for (stored, shown) in [
+        (offset(25, 59, 59)?, " +25:59:59"),
+        (offset(-25, -59, -59)?, " -25:59:59"),
+    ] {
+        let at = OffsetDateTime::new_in_offset(date, time, stored);
+        for (replaced, text) in [
+            (Ok(at.replace_time(noon)), "2022-02-18 12:00:00.0"),
+            (Ok(at.replace_date(first)), "2000-01-01 1:02:03.004005006"),
+            (
+                Ok(at.replace_date_time(PlainDateTime::UNIX_EPOCH)),
+                "1970-01-01 0:00:00.0",
+            ),
+            (at.replace_year(-1), "-0001-02-18 1:02:03.004005006"),
+            (
+                at.replace_month(Month::April),
+                "2022-04-18 1:02:03.004005006",
+            ),
+            (at.replace_day(28), "2022-02-28 1:02:03.004005006"),
+            (at.replace_ordinal(365), "2022-12-31 1:02:03.004005006"),
+            (at.replace_hour(23), "2022-02-18 23:02:03.004005006"),
+            (at.replace_minute(59), "2022-02-18 1:59:03.004005006"),
+            (at.replace_second(59), "2022-02-18 1:02:59.004005006"),
+            (at.replace_millisecond(7), "2022-02-18 1:02:03.007"),
+            (at.replace_microsecond(7_008), "2022-02-18 1:02:03.007008"),
+            (
+                at.replace_nanosecond(7_008_009),
+                "2022-02-18 1:02:03.007008009",
+            ),
+        ] {
+            assert_eq!(rt;
+                format!(in alloc; "{}", replaced?)?.as_str(),
+                format!(in alloc; "{text}{shown}")?.as_str()
+            );
+        }
+    }
+    Ok(())
+}

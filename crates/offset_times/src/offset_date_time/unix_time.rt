@@ -10,8 +10,8 @@ use calendar_values::ComponentRange;
 use utc_times::{AsUtc, UtcDateTime};
 
 impl OffsetDateTime {
-    /// The instant of a Unix second, in UTC. Refused `timestamp` outside -31,619,087,596,800 to
-    /// 31,494,784,780,799.
+    /// The instant of a Unix second, in UTC. Refused `timestamp` before that of [`UtcDateTime::MIN`] or after
+    /// that of [`UtcDateTime::MAX`].
     pub fn from_unix_timestamp(timestamp: i64) -> Result<OffsetDateTime, ComponentRange>
         ensures value { let i = instant_of_second timestamp in OkIff result (IsWallClock i) (local i (pos 0)) }
         ensures refused { IfErr result (λ refusal. refusal ≡ outright_refusal (codes "timestamp")) }
@@ -19,8 +19,8 @@ impl OffsetDateTime {
         Ok(OffsetDateTime::from(UtcDateTime::from_unix_timestamp(timestamp)?))
     }
 
-    /// The instant so many nanoseconds from 1970-01-01 0:00 UTC, in UTC. Refused `timestamp` outside
-    /// -31,619,087,596,800 * 10^9 to 31,494,784,780,800 * 10^9 - 1.
+    /// The instant so many nanoseconds from 1970-01-01 0:00 UTC, in UTC. Refused `timestamp` before
+    /// [`UtcDateTime::MIN`] or after [`UtcDateTime::MAX`].
     pub fn from_unix_timestamp_nanos(timestamp: i128) -> Result<OffsetDateTime, ComponentRange>
         ensures value { OkIff result (IsWallClock timestamp) (local timestamp (pos 0)) }
         ensures refused { IfErr result (λ refusal. refusal ≡ outright_refusal (codes "timestamp")) }
