@@ -1,6 +1,6 @@
 use crate::{constants, expiry, invoices, log, meeting, midnight, moments, retry};
 use calendar_values::{ComponentRange, Date, Month, Time, UtcOffset};
-use offset_times::ToOffset;
+use offset_times::OffsetDateTime;
 use stamp_times::{Call, ClockRead, Timestamp};
 use std::test::Fail;
 use utc_times::UtcDateTime;
@@ -36,7 +36,7 @@ fn callers_are_called(rt: HostRuntime) -> Result<(), Fail> {
     assert!(rt; !log::accept(&mut entries, utc(4)?)?);
 
     let hour = UtcOffset::from_hms(1, 0, 0)?;
-    let shown = meeting::shown_to(utc(0)?.to_offset(UtcOffset::UTC), hour)?;
+    let shown = meeting::shown_to(OffsetDateTime::from(utc(0)?), hour)?;
     assert_eq!(rt; shown.date_time().time(), Time::from_hms(1, 0, 0)?);
     assert_eq!(rt; moments::first_of_day(utc(86_399)?), utc(0)?);
     assert_eq!(rt;
