@@ -1,9 +1,11 @@
 //! Callers that do not care which type holds an instant, and records that are exchanged.
-ghost use Rattle.std.specs.Prelude.{◌≡◌, IfOk, IfSome, IsPermutation, IsSorted, OnOk};
+ghost use Rattle.std.specs.Prelude.{◌≡◌, IfOk, IfSome, IsPermutation, IsSorted, OnOk, pos, ◌+ℤ◌};
 ghost use Rattle.std.specs.Ordering.{on, int_cmp};
-ghost use Rattle.offset_times.specs.Local.{instant_of, local_at};
+ghost use Rattle.calendar_values.specs.Clock.{nanos_per_day};
+ghost use Rattle.offset_times.specs.Local.{instant_of, shown_at, local_at};
 ghost use Rattle.offset_times.specs.Texts.{offset_date_time_text};
 ghost use Rattle.plain_times.specs.Replacements.{with_time};
+ghost use Rattle.plain_times.specs.Truncations.{rounded_down};
 
 use calendar_values::{SignedDuration, Text, Time, UtcOffset};
 use offset_times::{OffsetDateTime, ToOffset};
@@ -21,9 +23,11 @@ pub fn first_of_day<M: Moment>(at: M) -> M
     }
 }
 
-/// The next midnight that clocks at the offset show, or None where the range has none.
+/// The next midnight that clocks at the offset show, or None where they show no date of the range now or then.
 pub fn next_midnight_at(at: UtcDateTime, offset: UtcOffset) -> Option<OffsetDateTime>
-    ensures { IfSome result (λ next. next.offset ≡ offset) }
+    ensures at_offset { IfSome result (λ next. next.offset ≡ offset) }
+    ensures a_day_after_the_last { IfSome result (λ next.
+        next.wall ≡ rounded_down nanos_per_day (shown_at at offset) +ℤ pos nanos_per_day) }
 {
     let here = at.checked_to_offset(offset)?;
     here.truncate_to_day().checked_add(SignedDuration::days(1))
