@@ -20,9 +20,9 @@ mod unix_time;
 pub(crate) use conversions::in_range;
 
 /// A date and a time of day, from those of [`PlainDateTime::MIN`] to those of [`PlainDateTime::MAX`], that
-/// clocks at an offset from UTC show. Its instant may lie outside that range, in UTC: such a value compares, feeds
-/// a hasher and converts like any other. A contract sees the wall clock, in nanoseconds, and the offset, in
-/// seconds; the instant is the wall clock less the nanoseconds of the offset.
+/// clocks at an offset from UTC show. Its instant may lie outside that range, in UTC: such a value compares,
+/// feeds a hasher and converts like any other. A contract sees the wall clock, in nanoseconds, and the
+/// offset, in seconds; the instant is the wall clock less the nanoseconds of the offset.
 #[derive(Clone, Copy)]
 pub struct OffsetDateTime {
     date: Date,
