@@ -4,7 +4,7 @@ ghost use Rattle.calendar_values.specs.Clock.{nanos_per_second};
 ghost use Rattle.calendar_values.specs.Refusals.{outright_refusal};
 ghost use Rattle.calendar_values.specs.WallClock.{IsWallClock, unix_seconds_of};
 ghost use Rattle.utc_times.specs.UnixTime.{instant_of_second};
-ghost use Rattle.stamp_times.specs.Refusals.{parts_refusal};
+ghost use Rattle.stamp_times.specs.Refusals.{parts_refusal, timestamp_of_parts};
 ghost use Rattle.stamp_times.specs.Instants.{instant_of_parts, instant_of_milliseconds, instant_of_microseconds, unix_milliseconds_of, unix_microseconds_of};
 
 use calendar_values::ComponentRange;
@@ -77,10 +77,12 @@ impl Timestamp {
 
     /// The instant of a Unix second and a nanosecond of that second. Refused `seconds` before that of
     /// [`Timestamp::MIN`] or after that of [`Timestamp::MAX`], then `nanoseconds` above 999,999,999.
+    #[tactic(auto, unfolding(crate::specs::Refusals::timestamp_of_parts))]
     pub fn new(seconds: i64, nanoseconds: u32) -> Result<Timestamp, ComponentRange>
         ensures value { OkIff result (IsWallClock (instant_of_second seconds) × (nanoseconds < nanos_per_second))
             (instant_of_parts seconds nanoseconds) }
         ensures refused { IfErr result (λ refusal. refusal ≡ parts_refusal seconds) }
+        ensures equation { result ≡ timestamp_of_parts seconds nanoseconds }
     {
         if seconds < FIRST_SECOND || seconds > LAST_SECOND {
             return Err(ComponentRange::new("seconds", false));
