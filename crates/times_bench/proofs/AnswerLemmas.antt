@@ -1,11 +1,18 @@
 -- What a line is answered with.
-use Rattle.std.proofs.Common.{◌≡◌, ℕ, List, [], ◌∷◌, ◌++◌, Option, refl, sym, ◌∙◌, ap}
+use Rattle.std.proofs.Common.{◌≡◌, ℕ, ℤ, List, [], ◌∷◌, ◌++◌, take, codes, decimal, flat_map, Option, Some, None, refl, sym, ◌∙◌, ap}
 use Rattle.calendar_values.specs.Weekday.{weekday_number, weekday_name}
 use Rattle.calendar_values.specs.declared.weekday.Weekday.{Weekday}
 use Rattle.calendar_values.specs.declared.weekday.Weekday.TheVariants.{Monday, Tuesday, Wednesday, Thursday, Friday, Saturday, Sunday}
-use Rattle.times_bench.specs.declared.requests.Request.{Request}
-use Rattle.times_bench.specs.Answers.{weekday_from_monday, answer_to, answer_of}
-use Rattle.times_bench.specs.Requests.{request_of}
+use Rattle.stamp_times.specs.Counter.{replies, last}
+use Rattle.stamp_times.specs.Texts.{timestamp_text}
+use Rattle.stamp_times.specs.declared.calls.Call.{Call}
+use Rattle.stamp_times.specs.declared.calls.Reply.{Reply}
+use Rattle.stamp_times.specs.Travel.{held_instant, travel, held_after}
+use Rattle.stamp_times.specs.declared.steps.Held.{Held}
+use Rattle.stamp_times.specs.declared.steps.Step.{Step}
+use Rattle.times_bench.specs.Answers.{weekday_from_monday, held_start, arrival_text, chain_text, run_text, answer_to, answer_of, request_takes_memory, takes_memory}
+use Rattle.times_bench.specs.ReplyTexts.{reply_text, held_text}
+use Rattle.times_bench.specs.Requests.{Request, request_of}
 
 weekday_from_monday-number : (weekday : Weekday) → weekday_from_monday (weekday_number weekday) ≡ weekday
 weekday_from_monday-number Monday = refl
@@ -20,7 +27,43 @@ pub weekday_name-from_monday : (weekday : Weekday) (n : ℕ) → weekday_number 
 weekday_name-from_monday weekday n e =
     ap weekday_name (sym (weekday_from_monday-number weekday) ∙ ap weekday_from_monday e)
 
+-- the text of a chain, from where it leads
+chain_text-arrival : (start : Step) (steps : List Step) (i : ℤ) (from : Held) (stop : Option ℕ) → from ≡ held_start start i
+    → travel (held_instant from) steps ≡ stop → arrival_text from steps stop ≡ chain_text start steps i
+unfolding chain_text
+chain_text-arrival start steps i from stop e t =
+    ap (arrival_text from steps) (sym t) ∙ ap (λ (z : Held). arrival_text z steps (travel (held_instant z) steps)) e
+
+-- a chain that arrives
+pub chain_text-arrived : (start : Step) (steps : List Step) (i : ℤ) (from held : Held) → from ≡ held_start start i
+    → travel (held_instant from) steps ≡ None → held ≡ held_after from (held_instant from) steps → held_text held ≡ chain_text start steps i
+chain_text-arrived start steps i from held e t h = ap held_text h ∙ chain_text-arrival start steps i from None e t
+
+-- a chain that stops
+pub chain_text-stopped : (start : Step) (steps : List Step) (i : ℤ) (from held : Held) (index : ℕ) → from ≡ held_start start i
+    → travel (held_instant from) steps ≡ Some index → held ≡ held_after from (held_instant from) (take index steps)
+    → codes "stopped " ++ decimal index ++ codes " " ++ held_text held ≡ chain_text start steps i
+chain_text-stopped start steps i from held index e t h =
+    ap (λ (z : Held). codes "stopped " ++ decimal index ++ codes " " ++ held_text z) h ∙ chain_text-arrival start steps i from (Some index) e t
+
+-- the text of a run, from its replies and where it ends
+pub run_text-replies : (calls : List Call) (start end : ℤ) (rs : List Reply) → rs ≡ replies start calls → end ≡ last start calls
+    → flat_map (λ (reply : Reply). reply_text reply ++ codes "; ") rs ++ codes "end " ++ timestamp_text end ≡ run_text calls start
+unfolding run_text
+run_text-replies calls start end rs e l =
+    ap (λ (z : List Reply). flat_map (λ (reply : Reply). reply_text reply ++ codes "; ") z ++ codes "end " ++ timestamp_text end) e
+    ∙ ap (λ (z : ℤ). flat_map (λ (reply : Reply). reply_text reply ++ codes "; ") (replies start calls) ++ codes "end " ++ timestamp_text z) l
+
 -- the answer to what a line asks for
 pub answer_of-request : (line : List ℕ) (request : Option Request) → request ≡ request_of line → answer_of line ≡ answer_to request ++ 10 ∷ []
 unfolding answer_of
 answer_of-request line request e = ap (λ (z : Option Request). answer_to z ++ 10 ∷ []) (sym e)
+
+-- lines that ask for the same
+pub answer_of-same : (line other : List ℕ) → request_of line ≡ request_of other → answer_of line ≡ answer_of other
+unfolding answer_of
+answer_of-same line other e = ap (λ (z : Option Request). answer_to z ++ 10 ∷ []) e
+
+pub takes_memory-same : (line other : List ℕ) → request_of line ≡ request_of other → takes_memory line ≡ takes_memory other
+unfolding takes_memory
+takes_memory-same line other e = ap request_takes_memory e

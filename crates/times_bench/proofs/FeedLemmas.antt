@@ -3,12 +3,11 @@ use Rattle.std.proofs.Common.{◌≡◌, ◌≢◌, ℕ, ◌<◌, ◌≤◌, Boo
 use Rattle.std.proofs.lemmas.Bool.Decides.{nat_tests}
 use Rattle.std.proofs.lemmas.Grind.{flat_map-append}
 use Rattle.std.proofs.lemmas.List.{length-take, take_all}
-use Rattle.times_bench.specs.Answers.{answer_to, answer_of, answers_of}
+use Rattle.times_bench.specs.Answers.{answer_of, answers_of}
 use Rattle.times_bench.specs.Lines.{unless_empty}
 use Rattle.times_bench.specs.LineParts.{ended_from, rest_from, Holds}
 use Rattle.times_bench.specs.Requests.{request_of}
 use Rattle.times_bench.specs.Writing.{AppendsBeginning, Sends}
-use Rattle.times_bench.specs.declared.requests.Request.{Request}
 use Rattle.times_bench.proofs.CutLemmas.{ended_from-append, ended_from-line_feed}
 use Rattle.times_bench.proofs.LineLemmas.{Holds-append}
 use Rattle.times_bench.proofs.SendingLemmas.{Sends-append, AppendsBeginning-pending, AppendsBeginning-longer}
@@ -43,11 +42,9 @@ request_of-cut piece false e =
     let short : length piece ≤ 1024 = grind (arith, nat_tests) in
     ap request_of (take_all 1025 piece (omega (arith, short)))
 
--- what a table holds of a line is answered as the line
-pub answer_of-held : (piece line : List ℕ) → Holds piece line → answer_of line ≡ answer_of piece
-unfolding answer_of
-answer_of-held piece line h =
-    ap (λ (z : Option Request). answer_to z ++ 10 ∷ []) (ap request_of h ∙ request_of-cut piece (nat_lt 1024 (length piece)) refl)
+-- what a table holds of a line asks for what the line asks for
+pub request_of-held : (piece line : List ℕ) → Holds piece line → request_of line ≡ request_of piece
+request_of-held piece line h = ap request_of h ∙ request_of-cut piece (nat_lt 1024 (length piece)) refl
 
 -- a line is answered
 pub Sends-line : (a b c : Option (List ℕ)) (p0 p1 p2 piece xs : List ℕ)
@@ -81,17 +78,7 @@ pub unless_empty-some : (piece : List ℕ) → piece ≢ [] → unless_empty pie
 unless_empty-some [] some = absurd (some refl)
 unless_empty-some (byte ∷ piece) some = refl
 
-pub answers_of-last : (piece : List ℕ) → piece ≢ [] → answers_of (unless_empty piece) ≡ answer_of piece
-answers_of-last [] some = absurd (some refl)
-answers_of-last (byte ∷ piece) some = append-nil (answer_of (byte ∷ piece))
-
--- what a table holds of the last line is answered as that line
-pub answers_of-held : (piece line : List ℕ) → Holds piece line → answers_of (unless_empty line) ≡ answers_of (unless_empty piece)
-answers_of-held [] line h = rw h refl
-answers_of-held (byte ∷ piece) line h =
-    rw h (ap (λ (z : List ℕ). z ++ []) (answer_of-held (byte ∷ piece) (take 1025 (byte ∷ piece)) refl))
-
 -- a part of a block ends the line whose beginning the table holds
-pub answer_of-pushed : (piece line part bytes : List ℕ) → Holds piece line → bytes ≡ take 1025 (line ++ part) → answer_of bytes ≡ answer_of (piece ++ part)
-answer_of-pushed piece line part bytes h e =
-    answer_of-held (piece ++ part) bytes (e ∙ Holds-append piece line part h)
+pub request_of-pushed : (piece line part bytes : List ℕ) → Holds piece line → bytes ≡ take 1025 (line ++ part) → request_of bytes ≡ request_of (piece ++ part)
+request_of-pushed piece line part bytes h e =
+    request_of-held (piece ++ part) bytes (e ∙ Holds-append piece line part h)

@@ -1,8 +1,12 @@
 pub mod AnswerLemmas
+pub mod CallWordLemmas
 pub mod CutLemmas
 pub mod FeedLemmas
 pub mod LineLemmas
 pub mod NumberLemmas
+pub mod ProgressLemmas
 pub mod ReadLemmas
+pub mod RequestLemmas
 pub mod SendingLemmas
+pub mod StepWordLemmas
 pub mod WordLemmas

@@ -1,15 +1,17 @@
 -- Reading an input to its end, a block at a time.
-use Rattle.std.proofs.Common.{◌≡◌, ℕ, List, [], ◌++◌, Option, Some, None, refl, sym, ◌∙◌, ap, subst, append_assoc, append-nil}
+use Rattle.std.proofs.Common.{◌≡◌, ℕ, List, [], ◌++◌, Option, Some, None, refl, sym, ◌∙◌, ap, subst, append_assoc, append-nil, take}
 use Rattle.std.specs.Prelude.{IfSome}
 use Rattle.std.specs.Io.KnownBytes.{Appends, Consumes, Keeps, IsAtEnd}
 use Rattle.std.proofs.lemmas.Grind.{flat_map-append}
+use Rattle.times_bench.specs.Progress.{AnswersBeforeMemory}
 use Rattle.times_bench.specs.Writing.{AppendsBeginning}
 use Rattle.times_bench.specs.Lines.{lines_of, whole_lines_of, unless_empty}
-use Rattle.times_bench.specs.LineParts.{ended_from, rest_from, Holds}
+use Rattle.times_bench.specs.LineParts.{ended_from, rest_from}
 use Rattle.times_bench.specs.Answers.{answer_of, answers_of}
-use Rattle.times_bench.proofs.CutLemmas.{lines_of-parts, whole_lines_of-parts}
-use Rattle.times_bench.proofs.FeedLemmas.{answers_of-append, answers_of-held}
-use Rattle.times_bench.proofs.SendingLemmas.{Appends-append, AppendsBeginning-append, AppendsBeginning-longer}
+use Rattle.times_bench.proofs.CutLemmas.{lines_of-parts, lines_of-append, whole_lines_of-parts}
+use Rattle.times_bench.proofs.FeedLemmas.{answers_of-append}
+use Rattle.times_bench.proofs.ProgressLemmas.{AnswersBeforeMemory-append, AnswersBeforeMemory-longer, AppendsBeginning-more}
+use Rattle.times_bench.proofs.SendingLemmas.{Appends-append, AppendsBeginning-append}
 
 pub Consumes-nil : (a : Option (List ℕ)) → Consumes a a []
 Consumes-nil None = tt
@@ -22,8 +24,10 @@ Consumes-append (Some a) (Some b) None xs ys h k = absurd k
 Consumes-append (Some a) (Some b) (Some c) xs ys h k = h ∙ ap (λ (z : List ℕ). xs ++ z) k ∙ sym (append_assoc xs ys c)
 
 -- a read of no byte
-pub Consumes-none : (a b c : Option (List ℕ)) (xs : List ℕ) → Consumes a b xs → Consumes b c [] → Consumes a c xs
-Consumes-none a b c xs h k = subst (Consumes a c) (append-nil xs) (Consumes-append a b c xs [] h k)
+pub Consumes-none : (a b c : Option (List ℕ)) (xs buffer : List ℕ) (n : ℕ) → Consumes a b xs → Consumes b c (take n buffer) → n ≡ 0 → Consumes a c xs
+Consumes-none a b c xs buffer n h k e =
+    let none = subst (λ (m : ℕ). Consumes b c (take m buffer)) e k in
+    subst (Consumes a c) (append-nil xs) (Consumes-append a b c xs [] h none)
 
 -- a read that keeps what is left takes nothing
 pub Consumes-keep : (a b c : Option (List ℕ)) (xs : List ℕ) → Consumes a b xs → Keeps b c → Consumes a c xs
@@ -65,37 +69,42 @@ answers_of-whole_lines_of a b taken h =
     subst (λ (z : List (List ℕ)). Appends a b (answers_of z)) (sym (whole_lines_of-parts taken)) h
 
 -- the answers to all lines are those to the ended ones, and then that to the last one
-answers_of-lines_of : (taken line : List ℕ) → Holds (rest_from [] taken) line
-    → answers_of (ended_from [] taken) ++ answers_of (unless_empty line) ≡ answers_of (lines_of taken)
-answers_of-lines_of taken line held =
-    let rest = rest_from [] taken in
-    ap (λ (z : List ℕ). answers_of (ended_from [] taken) ++ z) (answers_of-held rest line held)
-    ∙ sym (ap answers_of (lines_of-parts taken) ∙ flat_map-append answer_of (ended_from [] taken) (unless_empty rest))
+answers_of-lines_of : (taken : List ℕ) → answers_of (lines_of taken) ≡ answers_of (ended_from [] taken) ++ answers_of (unless_empty (rest_from [] taken))
+answers_of-lines_of taken =
+    ap answers_of (lines_of-parts taken) ∙ flat_map-append answer_of (ended_from [] taken) (unless_empty (rest_from [] taken))
 
 -- the last line was answered
-pub Appends-last : (a b c : Option (List ℕ)) (taken line : List ℕ) → Holds (rest_from [] taken) line → AnswersWritten a b taken
-    → Appends b c (answers_of (unless_empty line)) → Appends a c (answers_of (lines_of taken))
-Appends-last a b c taken line held h k =
-    subst (Appends a c) (answers_of-lines_of taken line held) (Appends-append a b c _ _ h k)
+pub Appends-last : (a b c : Option (List ℕ)) (taken : List ℕ) → AnswersWritten a b taken
+    → Appends b c (answers_of (unless_empty (rest_from [] taken))) → Appends a c (answers_of (lines_of taken))
+Appends-last a b c taken h k =
+    subst (Appends a c) (sym (answers_of-lines_of taken)) (Appends-append a b c _ _ h k)
 
 -- the answer to the last line was cut short
-pub AppendsBeginning-last : (a b c : Option (List ℕ)) (taken line : List ℕ) → Holds (rest_from [] taken) line → AnswersWritten a b taken
-    → AppendsBeginning b c (answers_of (unless_empty line)) → AppendsBeginning a c (answers_of (lines_of taken))
-AppendsBeginning-last a b c taken line held h k =
-    subst (AppendsBeginning a c) (answers_of-lines_of taken line held) (AppendsBeginning-append a b c _ _ h k)
+pub AppendsBeginning-last : (a b c : Option (List ℕ)) (taken : List ℕ) → AnswersWritten a b taken
+    → AppendsBeginning b c (answers_of (unless_empty (rest_from [] taken))) → AppendsBeginning a c (answers_of (lines_of taken))
+AppendsBeginning-last a b c taken h k =
+    subst (AppendsBeginning a c) (sym (answers_of-lines_of taken)) (AppendsBeginning-append a b c _ _ h k)
+
+-- the last line takes memory
+pub AnswersBeforeMemory-last : (a b c : Option (List ℕ)) (taken : List ℕ) → AnswersWritten a b taken
+    → AnswersBeforeMemory b c (unless_empty (rest_from [] taken)) → AnswersBeforeMemory a c (lines_of taken)
+AnswersBeforeMemory-last a b c taken h k =
+    subst (AnswersBeforeMemory a c) (sym (lines_of-parts taken)) (AnswersBeforeMemory-append a b c _ _ h k)
 
 -- the answers to the lines of a block were cut short, and so are those of the input
 pub AppendsBeginning-block : (a b c : Option (List ℕ)) (taken block rest : List ℕ) → AnswersWritten a b taken
     → AppendsBeginning b c (answers_of (ended_from (rest_from [] taken) block)) → AppendsBeginning a c (answers_of (lines_of ((taken ++ block) ++ rest)))
 AppendsBeginning-block a b c taken block rest h k =
-    let read = taken ++ block in
-    let last = unless_empty (rest_from [] (read ++ rest)) in
-    let more = answers_of (ended_from (rest_from [] read) rest) ++ answers_of last in
-    let whole : answers_of (lines_of (read ++ rest)) ≡ answers_of (ended_from [] read) ++ more
-    = ap answers_of (lines_of-parts (read ++ rest))
-    ∙ flat_map-append answer_of (ended_from [] (read ++ rest)) last
-    ∙ ap (λ (z : List ℕ). z ++ answers_of last) (answers_of-append [] read rest)
-    ∙ append_assoc (answers_of (ended_from [] read)) (answers_of (ended_from (rest_from [] read) rest)) (answers_of last) in
-    let cut = AppendsBeginning-append a b c _ _ h k in
-    subst (AppendsBeginning a c) (sym whole)
-    (AppendsBeginning-longer a c (answers_of (ended_from [] read)) more (subst (AppendsBeginning a c) (sym (answers_of-append [] taken block)) cut))
+    let before = ended_from [] taken in
+    let lines = ended_from (rest_from [] taken) block in
+    let cut : AppendsBeginning a c (answers_of (before ++ lines))
+    = subst (AppendsBeginning a c) (sym (flat_map-append answer_of before lines)) (AppendsBeginning-append a b c _ _ h k) in
+    subst (λ (z : List (List ℕ)). AppendsBeginning a c (answers_of z)) (sym (lines_of-append taken block rest))
+    (AppendsBeginning-more a c (before ++ lines) _ cut)
+
+-- a line of a block takes memory, and so it stands in the input
+pub AnswersBeforeMemory-block : (a b c : Option (List ℕ)) (taken block rest : List ℕ) → AnswersWritten a b taken
+    → AnswersBeforeMemory b c (ended_from (rest_from [] taken) block) → AnswersBeforeMemory a c (lines_of ((taken ++ block) ++ rest))
+AnswersBeforeMemory-block a b c taken block rest h k =
+    subst (AnswersBeforeMemory a c) (sym (lines_of-append taken block rest))
+    (AnswersBeforeMemory-longer a c _ _ (AnswersBeforeMemory-append a b c _ _ h k))

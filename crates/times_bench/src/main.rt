@@ -3,15 +3,20 @@
 
 mod answers;
 mod bench;
+mod call_words;
 mod devices;
 mod lines;
 mod numbers;
 mod places;
+mod progress;
+mod reply_texts;
 mod requests;
 mod sending;
+mod step_words;
 mod table;
 #[cfg(test)]
 mod tests;
+mod words;
 
 use bench::{bench, fault_line};
 use devices::Device;

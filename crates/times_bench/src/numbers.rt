@@ -1,7 +1,7 @@
 //! Numbers: an optional `-`, then at least one decimal digit.
 ghost use Rattle.std.specs.Prelude.{◌≡◌, ◌≤◌, length, SomeIff, pos};
 ghost use Rattle.std.specs.Str.Parse.{IsNumeral, digits_value};
-ghost use Rattle.times_bench.specs.Numbers.{i64_of, u32_of};
+ghost use Rattle.times_bench.specs.Numbers.{i64_of, i32_of, u32_of, u16_of, u8_of};
 
 // So many digits fit into 64 bits, whichever they are.
 const SURE_DIGITS: usize = 18;
@@ -24,6 +24,27 @@ pub fn parse_u32(text: &[u8]) -> Option<u32>
     ensures { result ≡ u32_of text.now }
 {
     u32::try_from(parse_i64(text)?).ok()
+}
+
+/// The number of 32 bits, one of them for the sign, that a text writes.
+pub fn parse_i32(text: &[u8]) -> Option<i32>
+    ensures { result ≡ i32_of text.now }
+{
+    i32::try_from(parse_i64(text)?).ok()
+}
+
+/// The number of 16 bits, not below 0, that a text writes.
+pub fn parse_u16(text: &[u8]) -> Option<u16>
+    ensures { result ≡ u16_of text.now }
+{
+    u16::try_from(parse_i64(text)?).ok()
+}
+
+/// The number of 8 bits, not below 0, that a text writes.
+pub fn parse_u8(text: &[u8]) -> Option<u8>
+    ensures { result ≡ u8_of text.now }
+{
+    u8::try_from(parse_i64(text)?).ok()
 }
 
 // The same as `parse_i64`, of a text of any length.

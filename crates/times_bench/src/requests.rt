@@ -1,56 +1,169 @@
 //! What a line asks for.
-ghost use Rattle.std.specs.Prelude.{◌≡◌};
-ghost use Rattle.times_bench.specs.Requests.{words_of, unix_request, stamp_request, request_of};
+ghost use Rattle.std.specs.Prelude.{◌≡◌, ◌<◌, ◌≤◌, ℕ, ℤ, List, length, IfSome, Option};
+ghost use Rattle.std.specs.Option.{option_map, option_and_then};
+ghost use Rattle.times_bench.specs.CallWords.{call_of};
+ghost use Rattle.times_bench.specs.StepWords.{step_of};
+ghost use Rattle.times_bench.specs.Requests.{Unix, Stamp, Run, Chain, unix_request, stamp_request, run_request, chain_request, RequestOf, request_after_instant, request_of_kind, request_of};
+ghost use Rattle.times_bench.specs.Words.{words_of, words_left, bytes_left, all_of};
 
+use super::call_words::call_of;
 use super::numbers::{parse_i64, parse_u32};
-use super::places::place_of;
+use super::step_words::step_of;
+use super::table::Table;
+use super::words::cut_at;
+use stamp_times::{Call, DateRead, Step};
 
 /// The most bytes of a line that asks for something.
 pub const LONGEST_LINE: usize = 1024;
 
-/// What a line asks for. Its words are separated by one space.
+/// The most calls or steps of a line: a word of at least three bytes each, and a space before it.
+pub const MOST_WORDS: usize = 256;
+
+/// The calls of a run.
+pub type Calls = Table<Call, MOST_WORDS>;
+
+/// The steps of a chain.
+pub type Steps = Table<Step, MOST_WORDS>;
+
+/// The kinds of lines that ask for something.
 #[derive(Clone, Copy)]
-pub enum Request {
+pub enum Kind {
     /// `unix S`: the text of the Unix second S.
-    Unix(i64),
+    Unix,
     /// `stamp S N`: the text of the Unix second S with its nanosecond replaced by N, and its day.
-    Stamp(i64, u32),
+    Stamp,
+    /// `run S N CALL..`: the replies to the calls, from the instant of S and N.
+    Run,
+    /// `chain S N START STEP..`: what the steps lead to, from the instant of S and N as START holds it.
+    Chain,
 }
 
-impl Request {
-    /// What a line asks for. One of more than 1,024 bytes asks for nothing.
-    pub fn of_line(line: &[u8]) -> Option<Request>
-        ensures { result ≡ request_of line.now }
-    {
-        if line.len() > LONGEST_LINE {
-            return None;
-        }
-        if let Some(words) = line.strip_prefix(b"unix ".as_slice()) {
-            return unix_request_of(words);
-        }
-        if let Some(words) = line.strip_prefix(b"stamp ".as_slice()) {
-            return stamp_request_of(words);
-        }
-        None
-    }
+/// What a run starts from, and its calls.
+#[derive(Drop)]
+pub struct RunRequest {
+    pub second: i64,
+    pub nanosecond: u32,
+    pub calls: Calls,
 }
 
-// The request of the words after `unix`.
-fn unix_request_of(words: &[u8]) -> Option<Request>
-    ensures { result ≡ unix_request (words_of words.now) }
+/// What a chain starts from, and its steps.
+#[derive(Drop)]
+pub struct ChainRequest {
+    pub second: i64,
+    pub nanosecond: u32,
+    pub start: Step,
+    pub steps: Steps,
+}
+
+/// The kind of a line, and what stands after its first word. None for a line of no kind, and for one of
+/// more than 1,024 bytes.
+pub fn kind_of(line: &[u8]) -> Option<(Kind, &[u8])>
+    ensures request { option_and_then (λ asked. request_of_kind asked.0 (words_of asked.1.now)) result ≡ request_of line.now }
+    ensures length { IfSome result (λ asked. length asked.1.now < 1024) }
 {
-    Some(Request::Unix(parse_i64(words)?))
-}
-
-// The request of the words after `stamp`.
-fn stamp_request_of(words: &[u8]) -> Option<Request>
-    ensures { result ≡ stamp_request (words_of words.now) }
-{
-    let space = place_of(b' ', words, 0);
-    if space == words.len() {
+    if line.len() > LONGEST_LINE {
         return None;
     }
-    let second = parse_i64(&words[..space])?;
-    let nanosecond = parse_u32(&words[space + 1..])?;
-    Some(Request::Stamp(second, nanosecond))
+    if let Some(words) = line.strip_prefix(b"unix ".as_slice()) {
+        return Some((Kind::Unix, words));
+    }
+    if let Some(words) = line.strip_prefix(b"stamp ".as_slice()) {
+        return Some((Kind::Stamp, words));
+    }
+    if let Some(words) = line.strip_prefix(b"run ".as_slice()) {
+        return Some((Kind::Run, words));
+    }
+    if let Some(words) = line.strip_prefix(b"chain ".as_slice()) {
+        return Some((Kind::Chain, words));
+    }
+    None
+}
+
+/// The second of the words after `unix`.
+pub fn unix_request_of(words: &[u8]) -> Option<i64>
+    ensures { option_map Unix result ≡ unix_request (words_of words.now) }
+{
+    parse_i64(words)
+}
+
+/// The second and the nanosecond of the words after `stamp`.
+pub fn stamp_request_of(words: &[u8]) -> Option<(i64, u32)>
+    ensures { option_map (λ asked. Stamp asked.0 asked.1) result ≡ request_after_instant stamp_request (words_of words.now) }
+{
+    let (second, nanosecond, more) = instant_of(words)?;
+    if more.is_some() {
+        return None;
+    }
+    Some((second, nanosecond))
+}
+
+/// The run of the words after `run`.
+pub fn run_request_of(words: &[u8]) -> Option<RunRequest>
+    requires { length words.now < 1024 }
+    ensures { option_map (λ asked. Run asked.second asked.nanosecond asked.calls) result ≡ request_after_instant run_request (words_of words.now) }
+{
+    let (second, nanosecond, calls) = instant_of(words)?;
+    let calls = calls_of(calls)?;
+    Some(RunRequest {
+        second,
+        nanosecond,
+        calls,
+    })
+}
+
+/// The chain of the words after `chain`.
+pub fn chain_request_of(words: &[u8]) -> Option<ChainRequest>
+    requires { length words.now < 1024 }
+    ensures { option_map (λ asked. Chain asked.second asked.nanosecond asked.start asked.steps) result ≡ request_after_instant chain_request (words_of words.now) }
+{
+    let (second, nanosecond, words) = instant_of(words)?;
+    let (start, steps) = cut_at(b' ', words?);
+    let start = step_of(start)?;
+    let steps = steps_of(steps)?;
+    Some(ChainRequest {
+        second,
+        nanosecond,
+        start,
+        steps,
+    })
+}
+
+// The second and the nanosecond that words begin with, and what is left of them.
+fn instant_of(words: &[u8]) -> Option<(i64, u32, Option<&[u8]>)>
+    ensures value { (request : RequestOf) → request_after_instant request (words_of words.now) ≡ option_and_then (λ read. request read.0 read.1 (words_left read.2)) result }
+    ensures shorter { IfSome result (λ read. bytes_left read.2 ≤ length words.now) }
+{
+    let (second, words) = cut_at(b' ', words);
+    let (nanosecond, words) = cut_at(b' ', words?);
+    Some((parse_i64(second)?, parse_u32(nanosecond)?, words))
+}
+
+// The calls of words, if all of them read.
+fn calls_of(words: Option<&[u8]>) -> Option<Calls>
+    requires { bytes_left words < 1024 }
+    ensures { result ≡ all_of call_of (words_left words.entry) }
+{
+    let mut calls = Calls::new(Call::ReadDate(DateRead::Date));
+    let mut left = words;
+    'words: while let Some(text) = left {
+        let (word, rest) = cut_at(b' ', text);
+        calls.push(call_of(word)?);
+        left = rest;
+    }
+    Some(calls)
+}
+
+// The steps of words, if all of them read.
+fn steps_of(words: Option<&[u8]>) -> Option<Steps>
+    requires { bytes_left words < 1024 }
+    ensures { result ≡ all_of step_of (words_left words.entry) }
+{
+    let mut steps = Steps::new(Step::ToStamp);
+    let mut left = words;
+    'words: while let Some(text) = left {
+        let (word, rest) = cut_at(b' ', text);
+        steps.push(step_of(word)?);
+        left = rest;
+    }
+    Some(steps)
 }

@@ -9,7 +9,7 @@ use super::table::Table;
 pub const MOST_PENDING: usize = 65_536;
 
 /// Bytes that are still to be written.
-pub type Pending = Table<MOST_PENDING>;
+pub type Pending = Table<u8, MOST_PENDING>;
 
 /// Writes what is pending.
 pub fn flush<W: Sink>(writer: &mut W, pending: &mut Pending) -> Result<(), DeviceFault>
@@ -17,7 +17,7 @@ pub fn flush<W: Sink>(writer: &mut W, pending: &mut Pending) -> Result<(), Devic
     ensures empty { OnOk result (pending.new ≡ []) }
     ensures mark { MarksFailure result (W.is_marked writer.old) (W.is_marked writer.new) }
 {
-    write_whole(writer, pending.bytes())?;
+    write_whole(writer, pending.items())?;
     pending.clear();
     Ok(())
 }
@@ -30,7 +30,7 @@ pub fn send<W: Sink>(writer: &mut W, pending: &mut Pending, text: &[u8]) -> Resu
     if text.len() > pending.room() {
         return send_at_once(writer, pending, text);
     }
-    pending.push_bytes(text);
+    pending.push_all(text);
     Ok(())
 }
 

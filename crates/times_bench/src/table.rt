@@ -1,84 +1,93 @@
-//! Bytes in a table of fixed size.
-ghost use Rattle.std.specs.Prelude.{◌≡◌, ◌+◌, ◌≤◌, ◌↔◌, IsTrue, [], ◌++◌, length, take};
+//! Items in a table of fixed size.
+ghost use Rattle.std.specs.Prelude.{◌≡◌, ◌+◌, ◌≤◌, ◌<◌, ◌↔◌, IsTrue, [], ◌∷◌, ◌++◌, length, take};
 
 use std::marker::Model;
 
-/// At most `ROOM` bytes. A contract sees the list of them.
+/// At most `ROOM` items. A contract sees the list of them.
 #[derive(Drop)]
-pub struct Table<const ROOM: usize> {
-    bytes: [u8; ROOM],
+pub struct Table<T: Copy, const ROOM: usize> {
+    items: [T; ROOM],
     len: usize,
 }
 
-impl<const ROOM: usize> Model for Table<ROOM> {
-    ghost use Rattle.std.specs.Prelude.{◌≤◌, List, ℕ, take};
+impl<T: Copy, const ROOM: usize> Model for Table<T, ROOM> {
+    ghost use Rattle.std.specs.Prelude.{◌≤◌, List, take};
 
-    ghost Value = { List ℕ };
+    ghost Value = { List T };
 
-    ghost view = { λ table. take table.len table.bytes };
+    ghost view = { λ table. take table.len table.items };
 
     ghost invariant = { λ table. table.len ≤ ROOM };
 }
 
-impl<const ROOM: usize> Table<ROOM> {
-    /// No bytes.
-    pub fn new() -> Self
+impl<T: Copy, const ROOM: usize> Table<T, ROOM> {
+    /// No items. The one that is given fills the room of those to come.
+    pub fn new(fill: T) -> Self
         ensures { result ≡ [] }
     {
         Table {
-            bytes: [0; ROOM],
+            items: [fill; ROOM],
             len: 0,
         }
     }
 
-    /// Whether it has no bytes.
+    /// Whether it has no items.
     pub fn is_empty(&self) -> bool
         ensures { IsTrue result ↔ (self.now ≡ []) }
     {
         self.len == 0
     }
 
-    /// The number of bytes that it has room for beside those that it has.
+    /// The number of items that it has room for beside those that it has.
     pub fn room(&self) -> usize
         ensures { length self.now + result ≡ ROOM }
     {
         ROOM - self.len
     }
 
-    /// The bytes.
-    pub fn bytes(&self) -> &[u8]
+    /// The items.
+    pub fn items(&self) -> &[T]
         ensures { result.now ≡ self.now }
     {
-        &self.bytes[..self.len]
+        &self.items[..self.len]
     }
 
-    /// Forgets all bytes.
+    /// Forgets all items.
     pub fn clear(&mut self)
         ensures { self.new ≡ [] }
     {
         self.len = 0;
     }
 
-    /// Adds bytes.
-    pub fn push_bytes(&mut self, bytes: &[u8])
-        requires { length self.old + length bytes.now ≤ ROOM }
-        ensures { self.new ≡ self.old ++ bytes.now }
+    /// Adds an item.
+    pub fn push(&mut self, item: T)
+        requires { length self.old < ROOM }
+        ensures { self.new ≡ self.old ++ item ∷ [] }
     {
-        let end = self.len + bytes.len();
-        let table = &mut self.bytes[..];
-        table[self.len..end].copy_from_slice(bytes);
+        self.items[self.len] = item;
+        self.len += 1;
+    }
+
+    /// Adds items.
+    pub fn push_all(&mut self, items: &[T])
+        requires { length self.old + length items.now ≤ ROOM }
+        ensures { self.new ≡ self.old ++ items.now }
+    {
+        let end = self.len + items.len();
+        let table = &mut self.items[..];
+        table[self.len..end].copy_from_slice(items);
         self.len = end;
     }
 
-    /// Adds bytes as far as there is room.
-    pub fn push_front_of(&mut self, bytes: &[u8])
-        ensures { self.new ≡ take ROOM (self.old ++ bytes.now) }
+    /// Adds items as far as there is room.
+    pub fn push_front_of(&mut self, items: &[T])
+        ensures { self.new ≡ take ROOM (self.old ++ items.now) }
     {
         let room = self.room();
-        if bytes.len() <= room {
-            self.push_bytes(bytes);
+        if items.len() <= room {
+            self.push_all(items);
         } else {
-            self.push_bytes(&bytes[..room]);
+            self.push_all(&items[..room]);
         }
     }
 }

@@ -21,5 +21,5 @@ returns c =
     let ordinal : c.push_decimal.new.self ≡ decimal (ordinal_of day) = search rules in
     let front = c.push.ensures.value ∙ ap (λ (z : List ℕ). z ++ 32 ∷ []) ordinal in
     let middle = c.push_bytes.ensures.value ∙ ap (λ (z : List ℕ). z ++ c.as_bytes.result.now) front ∙ ap (λ (z : List ℕ). decimal (ordinal_of day) ++ 32 ∷ [] ++ z) name in
-    c.push_signed.ensures ∙ ap (λ (z : ℤ). c.push-2.new.self ++ signed_decimal z) julian_day
+    c.push_signed.ensures.value ∙ ap (λ (z : ℤ). c.push-2.new.self ++ signed_decimal z) julian_day
     ∙ ap (λ (z : List ℕ). z ++ signed_decimal (julian_day_of day)) (c.push-2.ensures.value ∙ ap (λ (z : List ℕ). z ++ 32 ∷ []) middle)

@@ -7,7 +7,7 @@ use Rattle.calendar_values.specs.WallClock.{wall_day}
 use Rattle.utc_times.specs.Texts.{utc_text}
 use Rattle.utc_times.specs.UnixTime.{unix_instant}
 use Rattle.times_bench.specs.Answers.{with_instant_nanosecond, text_or_refusal, stamp_text, day_text, stamp_answer}
-use Rattle.times_bench.proofs.SendingLemmas.{AppendsBeginning-parts, SendsAll-parts}
+use Rattle.times_bench.proofs.SendingLemmas.{AppendsBeginning-parts, SendsAll-parts, SendsAll-same}
 use Rattle.times_bench.proofs.answers.send_stamp_answer.Goals as goal
 
 pub returns-in_err-send-in-Ok-clause-sent : goal.returns-in_err-send-in-Ok-clause-sent
@@ -20,15 +20,6 @@ returns-in_err-send-in-Ok-clause-sent g c =
     let whole = ap (λ (z : List ℕ). z ++ day) (c.as_bytes.ensures.value ∙ c.moment_text.ensures) ∙ ap (text_or_refusal stamp_text) (sym c.in-Ok.is ∙ known) in
     rw p.1 (AppendsBeginning-parts _ _ c.args.pending.now c.as_bytes.result.now day (10 ∷ []) _ whole c.in_err-send-in-Ok.ensures.sent)
 
-pub returns-in_err-send-in-Err-clause-sent : goal.returns-in_err-send-in-Err-clause-sent
-unfolding stamp_answer
-returns-in_err-send-in-Err-clause-sent g c =
-    let p = err_from_is_err_and c.from_residual-in_err-send-in-Err.result c.from_residual-in_err-send-in-Err.ensures.1 in
-    let known = c.moment_of.ensures ∙ ap (λ (z : ℤ). with_instant_nanosecond (unix_instant z) c.args.nanosecond) (to_z-of_z w64 c.args.second c.ranges.second) in
-    let refusal = c.in-Err.refusal in
-    rw p.1 (AppendsBeginning-parts _ _ c.args.pending.now (codes "refused ") refusal.name (10 ∷ []) _
-    (ap (text_or_refusal stamp_text) (sym c.in-Err.is ∙ known)) c.in_err-send-in-Err.ensures.sent)
-
 pub returns-in_ok-send-in-Ok-clause-sent : goal.returns-in_ok-send-in-Ok-clause-sent
 unfolding stamp_answer
 returns-in_ok-send-in-Ok-clause-sent g c =
@@ -40,12 +31,9 @@ returns-in_ok-send-in-Ok-clause-sent g c =
     SendsAll-parts _ _ _ c.args.pending.now c.send.new.pending c.send_line.new.pending c.as_bytes.result.now c.as_bytes-in-Ok.result.now (10 ∷ []) _ c.send_line.result whole
     c.in_ok-send-in-Ok.ensures.sent c.send_line.ensures.sent
 
-pub returns-in_ok-send-in-Err-clause-sent : goal.returns-in_ok-send-in-Err-clause-sent
+pub returns-in-Err-clause-sent : goal.returns-in-Err-clause-sent
 unfolding stamp_answer
-returns-in_ok-send-in-Err-clause-sent g c =
+returns-in-Err-clause-sent g c =
     let known = c.moment_of.ensures ∙ ap (λ (z : ℤ). with_instant_nanosecond (unix_instant z) c.args.nanosecond) (to_z-of_z w64 c.args.second c.ranges.second) in
-    let refusal = c.in-Err.refusal in
-    let whole = ap (λ (z : List ℕ). codes "refused " ++ z) (c.as_bytes-in-Err.ensures.value ∙ c.name.ensures.value)
-    ∙ ap (text_or_refusal stamp_text) (sym c.in-Err.is ∙ known) in
-    SendsAll-parts _ _ _ c.args.pending.now c.send-in-Err.new.pending c.send_line-in-Err.new.pending (codes "refused ") c.as_bytes-in-Err.result.now (10 ∷ []) _ c.send_line-in-Err.result whole
-    c.in_ok-send-in-Err.ensures.sent c.send_line-in-Err.ensures.sent
+    let whole = c.as_bytes-in-Err.ensures.value ∙ c.refused_text.ensures.text ∙ ap (text_or_refusal stamp_text) (sym c.in-Err.is ∙ known) in
+    SendsAll-same _ _ c.args.pending.now c.send_line-in-Err.new.pending _ _ c.send_line-in-Err.result (ap (λ (z : List ℕ). z ++ 10 ∷ []) whole) c.send_line-in-Err.ensures.sent

@@ -1,11 +1,12 @@
-use Rattle.std.proofs.Common.{arith, ◌≡◌, ◌∙◌, ℕ, ◌≤◌, [], ◌++◌, length, take, subst, length-append}
-use Rattle.std.specs.Io.KnownBytes.{Appends, Consumes}
+use Rattle.std.proofs.Common.{arith, ◌≡◌, ◌∙◌, ◌≤◌, [], ◌++◌, length, take, ap, length-append, Ok}
+use Rattle.std.specs.Io.KnownBytes.{Appends}
+use Rattle.times_bench.specs.Progress.{AnswersBeforeMemory}
 use Rattle.times_bench.specs.Writing.{AppendsBeginning}
 use Rattle.times_bench.specs.Lines.{lines_of}
 use Rattle.times_bench.specs.LineParts.{ended_from, rest_from}
 use Rattle.times_bench.specs.Answers.{answers_of}
 use Rattle.times_bench.proofs.CutLemmas.{rest_from-append}
-use Rattle.times_bench.proofs.ReadLemmas.{Consumes-nil, Consumes-append, Consumes-keep, Consumes-none, left-end, input-end, input-begin, AnswersWritten-append, answers_of-whole_lines_of, Appends-last, AppendsBeginning-last, AppendsBeginning-block}
+use Rattle.times_bench.proofs.ReadLemmas.{Consumes-nil, Consumes-append, Consumes-keep, Consumes-none, left-end, input-end, input-begin, AnswersWritten-append, answers_of-whole_lines_of, Appends-last, AppendsBeginning-last, AppendsBeginning-block, AnswersBeforeMemory-last, AnswersBeforeMemory-block}
 use Rattle.times_bench.proofs.SendingLemmas.{Appends-nil}
 use Rattle.times_bench.proofs.bench.bench.Goals as goal
 
@@ -24,32 +25,26 @@ reads-init g c = (
   },
 )
 
-pub returns-in-Ok-finish-clause-end : goal.returns-in-Ok-finish-clause-end
-returns-in-Ok-finish-clause-end g c =
+pub returns-in-Ok-Done-clause-end : goal.returns-in-Ok-Done-clause-end
+returns-in-Ok-Done-clause-end g c =
     let so_far = c.reads.invariant in
-    let left = g.R.Source.left in
-    let none = subst (λ (n : ℕ). Consumes (left c.reads.reader) (left c.read_some.new.self) (take n c.read_some.new.buffer)) c.if-count-eq0.true c.in-Ok.ensures.bytes.0 in
-    left-end _ _ _ (Consumes-none _ _ _ so_far.0 so_far.1.consumed none) (c.in-Ok.ensures.bytes.1 c.if-count-eq0.true (omega arith))
+    left-end _ _ _ (Consumes-none _ _ _ so_far.0 c.read_some.new.buffer c.in-Ok.count so_far.1.consumed c.in-Ok.ensures.bytes.0 c.if-count-eq0.true) (c.in-Ok.ensures.bytes.1 c.if-count-eq0.true (omega arith))
 
-pub returns-in-Ok-finish-clause-answers : goal.returns-in-Ok-finish-clause-answers
-returns-in-Ok-finish-clause-answers g c =
+pub returns-in-Ok-Done-clause-answers : goal.returns-in-Ok-Done-clause-answers
+returns-in-Ok-Done-clause-answers g c =
     let so_far = c.reads.invariant in
-    let left = g.R.Source.left in
     let written = g.W.Sink.written in
-    let none = subst (λ (n : ℕ). Consumes (left c.reads.reader) (left c.read_some.new.self) (take n c.read_some.new.buffer)) c.if-count-eq0.true c.in-Ok.ensures.bytes.0 in
     input-end _ _ so_far.0 (λ input. Appends (written c.args.writer.now) (written c.finish.new.writer) (answers_of (lines_of input)))
-    (Consumes-none _ _ _ so_far.0 so_far.1.consumed none) (c.in-Ok.ensures.bytes.1 c.if-count-eq0.true (omega arith))
-    (Appends-last _ (written c.reads.writer) _ so_far.0 c.reads.line so_far.1.line so_far.1.sent c.in-Ok-finish.ensures.written)
+    (Consumes-none _ _ _ so_far.0 c.read_some.new.buffer c.in-Ok.count so_far.1.consumed c.in-Ok.ensures.bytes.0 c.if-count-eq0.true) (c.in-Ok.ensures.bytes.1 c.if-count-eq0.true (omega arith))
+    (Appends-last _ (written c.reads.writer) _ so_far.0 so_far.1.sent (rw c.in-Ok-Done.field-0-is at (c.in-Ok-Done.ensures.written (rest_from [] so_far.0) so_far.1.line)))
 
 pub returns-in-Err-clause-beginning : goal.returns-in-Err-clause-beginning
 returns-in-Err-clause-beginning g c _ =
     let so_far = c.reads.invariant in
-    let left = g.R.Source.left in
     let written = g.W.Sink.written in
-    let none = subst (λ (n : ℕ). Consumes (left c.reads.reader) (left c.read_some.new.self) (take n c.read_some.new.buffer)) c.if-count-eq0.true c.in-Ok.ensures.bytes.0 in
     input-end _ _ so_far.0 (λ input. AppendsBeginning (written c.args.writer.now) (written c.finish.new.writer) (answers_of (lines_of input)))
-    (Consumes-none _ _ _ so_far.0 so_far.1.consumed none) (c.in-Ok.ensures.bytes.1 c.if-count-eq0.true (omega arith))
-    (AppendsBeginning-last _ (written c.reads.writer) _ so_far.0 c.reads.line so_far.1.line so_far.1.sent c.in-Err.ensures.written)
+    (Consumes-none _ _ _ so_far.0 c.read_some.new.buffer c.in-Ok.count so_far.1.consumed c.in-Ok.ensures.bytes.0 c.if-count-eq0.true) (c.in-Ok.ensures.bytes.1 c.if-count-eq0.true (omega arith))
+    (AppendsBeginning-last _ (written c.reads.writer) _ so_far.0 so_far.1.sent (c.in-Err.ensures.written (rest_from [] so_far.0) so_far.1.line))
 
 pub returns-in-Err-absorb-clause-beginning : goal.returns-in-Err-absorb-clause-beginning
 returns-in-Err-absorb-clause-beginning g c _ =
@@ -60,10 +55,29 @@ returns-in-Err-absorb-clause-beginning g c _ =
     (Consumes-append _ _ _ so_far.0 block so_far.1.consumed c.in-Ok.ensures.bytes.0)
     (λ rest. AppendsBeginning-block _ (written c.reads.writer) _ so_far.0 block rest so_far.1.sent (c.in-Err-absorb.ensures.written (rest_from [] so_far.0) so_far.1.line))
 
+pub returns-in-Ok-OutOfMemory-clause-memory : goal.returns-in-Ok-OutOfMemory-clause-memory
+returns-in-Ok-OutOfMemory-clause-memory g c _ =
+    let so_far = c.reads.invariant in
+    let written = g.W.Sink.written in
+    input-end _ _ so_far.0 (λ input. AnswersBeforeMemory (written c.args.writer.now) (written c.finish.new.writer) (lines_of input))
+    (Consumes-none _ _ _ so_far.0 c.read_some.new.buffer c.in-Ok.count so_far.1.consumed c.in-Ok.ensures.bytes.0 c.if-count-eq0.true) (c.in-Ok.ensures.bytes.1 c.if-count-eq0.true (omega arith))
+    (AnswersBeforeMemory-last _ (written c.reads.writer) _ so_far.0 so_far.1.sent (rw c.in-Ok-OutOfMemory.field-0-is at (c.in-Ok-OutOfMemory.ensures.written (rest_from [] so_far.0) so_far.1.line)))
+
+pub returns-in-Ok-OutOfMemory-absorb-clause-memory : goal.returns-in-Ok-OutOfMemory-absorb-clause-memory
+returns-in-Ok-OutOfMemory-absorb-clause-memory g c _ =
+    let so_far = c.reads.invariant in
+    let written = g.W.Sink.written in
+    let block = take c.in-Ok.count c.read_some.new.buffer in
+    let stopped = rw c.in-Ok-OutOfMemory-absorb.field-0-is at (c.in-Ok-OutOfMemory-absorb.ensures.written (rest_from [] so_far.0) so_far.1.line) in
+    input-begin _ _ (so_far.0 ++ block) (λ input. AnswersBeforeMemory (written c.args.writer.now) (written c.absorb.new.writer) (lines_of input))
+    (Consumes-append _ _ _ so_far.0 block so_far.1.consumed c.in-Ok.ensures.bytes.0)
+    (λ rest. AnswersBeforeMemory-block _ (written c.reads.writer) _ so_far.0 block rest so_far.1.sent stopped)
+
 pub reads-preserved : goal.reads-preserved
 reads-preserved g c =
     let so_far = c.reads.invariant in
-    let block = take c.in-Ok.count c.read_some.new.buffer in (
+    let block = take c.in-Ok.count c.read_some.new.buffer in
+    let answered = rw c.in-Ok-Done-absorb.field-0-is at (c.in-Ok-Done-absorb.ensures.written (rest_from [] so_far.0) so_far.1.line) in (
       so_far.0 ++ block,
       record {
         consumed = Consumes-append _ _ _ so_far.0 block so_far.1.consumed c.in-Ok.ensures.bytes.0;
@@ -71,11 +85,11 @@ reads-preserved g c =
             let most : c.reads._turn ≤ length so_far.0 = so_far.1.turns in
             let some : c.in-Ok.count ≡ length block = c.in-Ok.ensures.bound.1 in
             omega (arith, most, some, c.if-count-eq0.false, length-append so_far.0 block);
-        line = rw (rest_from-append [] so_far.0 block) (c.in-Ok-absorb.ensures.line (rest_from [] so_far.0) so_far.1.line);
-        empty = c.in-Ok-absorb.ensures.empty;
-        sent = AnswersWritten-append _ (g.W.Sink.written c.reads.writer) _ so_far.0 block so_far.1.sent (c.in-Ok-absorb.ensures.written (rest_from [] so_far.0) so_far.1.line);
+        line = rw (rest_from-append [] so_far.0 block) (c.in-Ok-Done-absorb.ensures.line (ap Ok c.in-Ok-Done-absorb.field-0-is) (rest_from [] so_far.0) so_far.1.line);
+        empty = c.in-Ok-Done-absorb.ensures.empty;
+        sent = AnswersWritten-append _ (g.W.Sink.written c.reads.writer) _ so_far.0 block so_far.1.sent answered;
         reader_mark = c.in-Ok.ensures.mark ∙ so_far.1.reader_mark;
-        writer_mark = c.in-Ok-absorb.ensures.mark ∙ so_far.1.writer_mark;
+        writer_mark = c.in-Ok-Done-absorb.ensures.mark ∙ so_far.1.writer_mark;
       },
     )
 

@@ -1,0 +1,174 @@
+-- The names of calls, and the month of a number.
+use Rattle.std.proofs.Common.{◌≡◌, ℕ, ◌<◌, ◌≤◌, ◌↔◌, Bool, true, false, cond, ◌&&◌, nat_lt, ◌==◌, List, [], ◌∷◌, length, Option, Some, None, Bor, Result, Ok, Err, refl, sym, ◌∙◌, ap, arith, length-append, ℤ, pos, neg_ℤ, ◌||◌}
+use Rattle.std.specs.Prelude.{IsAscii, IsUtf8, IsOk, IfOk, MatchResult, OnSome, int_lt}
+use Rattle.std.specs.List.{join_with_byte, list_all}
+use Rattle.std.specs.Option.{is_some, option_and_then, option_map_or}
+use Rattle.std.specs.Result.{result_ok}
+use Rattle.std.specs.Str.{bytes_eq}
+use Rattle.std.proofs.lemmas.Bool.Decides.{nat_tests}
+use Rattle.std.proofs.lemmas.List.Splits.{length-slice_split, join_with_byte-slice_split}
+use Rattle.std.proofs.lemmas.Slice.Eq.{bytes_eq-Decides}
+use Rattle.std.proofs.lemmas.Str.{IsUtf8-from_ascii}
+use Rattle.std.proofs.lemmas.Str.Ascii.{IsAscii-nil, IsAscii-cons}
+use Rattle.calendar_values.specs.Durations.{duration_of_parts}
+use Rattle.calendar_values.specs.Month.{month_number}
+use Rattle.calendar_values.specs.Range.{is_outside}
+use Rattle.calendar_values.specs.Refusals.{calendar_date}
+use Rattle.calendar_values.specs.declared.month.Month.{Month}
+use Rattle.calendar_values.specs.declared.month.Month.TheVariants.{January, February, March, April, May, June, July, August, September, October, November, December}
+use Rattle.stamp_times.specs.Numbered.{month_numbered}
+use Rattle.stamp_times.specs.declared.calls.Call.{Call}
+use Rattle.times_bench.proofs.NumberLemmas.{both_true}
+use Rattle.times_bench.specs.CallWords.{named, reads, single, duration_of, month_of, date_of, calls_with_arguments, call_of_parts, call_of}
+use Rattle.times_bench.specs.Numbers.{i64_of, i32_of, u8_of}
+use Rattle.times_bench.specs.Words.{cut_at, arguments_of}
+
+-- a name in a table passes the test that all names of the table pass
+passes_first : {A : Type 0} (test : List ℕ → Bool) (table : List (List ℕ × A)) (name first : List ℕ) (value found : A) (is_first : Bool)
+    → bytes_eq name first ≡ is_first → test first ≡ true → (named table name ≡ Some found → test name ≡ true)
+    → cond is_first (Some value) (named table name) ≡ Some found → test name ≡ true
+passes_first test table name first value found true is e others h = ap test ((bytes_eq-Decides name first).0 is) ∙ e
+passes_first test table name first value found false is e others h = others h
+
+named-passes : {A : Type 0} (test : List ℕ → Bool) (table : List (List ℕ × A)) (name : List ℕ) (found : A)
+    → list_all (λ (row : List ℕ × A). test row.0) table ≡ true → named table name ≡ Some found → test name ≡ true
+named-passes test [] name found e h = absurd cc
+named-passes {A} test (first ∷ others) name found e h =
+    let both = both_true (test first.0) (list_all (λ (row : List ℕ × A). test row.0) others) e in
+    passes_first test others name first.0 first.1 found (bytes_eq name first.0) refl both.0 (named-passes test others name found both.1) h
+
+-- at least three bytes, all of them ASCII
+abbrev is_name : List ℕ → Bool
+is_name text = list_all (λ byte. nat_lt byte 128) text && nat_lt 2 (length text)
+
+record IsName (text : List ℕ) : Type 0 where
+  is_text : IsUtf8 text
+  long : 3 ≤ length text
+
+IsAscii-list_all : (text : List ℕ) → list_all (λ byte. nat_lt byte 128) text ≡ true → IsAscii text
+IsAscii-list_all [] e = IsAscii-nil
+IsAscii-list_all (byte ∷ text) e =
+    let both = both_true (nat_lt byte 128) (list_all (λ byte. nat_lt byte 128) text) e in
+    IsAscii-cons byte text (grind (arith, nat_tests)) (IsAscii-list_all text both.1)
+
+IsName-is_name : (text : List ℕ) → is_name text ≡ true → IsName text
+IsName-is_name text e =
+    let both = both_true (list_all (λ byte. nat_lt byte 128) text) (nat_lt 2 (length text)) e in
+    record { is_text = IsUtf8-from_ascii text (IsAscii-list_all text both.0); long = grind (arith, nat_tests) }
+
+IsName-read : (name : List ℕ) (call : Call) → named reads name ≡ Some call → IsName name
+unfolding reads
+IsName-read name call e = IsName-is_name name (named-passes is_name reads name call refl e)
+
+IsName-call : (name arguments : List ℕ) (call : Call)
+    → option_and_then (λ read. read (arguments_of arguments)) (named calls_with_arguments name) ≡ Some call → IsName name
+unfolding calls_with_arguments
+IsName-call name arguments call e = elim (named calls_with_arguments name) as (λ found. named calls_with_arguments name ≡ found → option_and_then (λ read. read (arguments_of arguments)) found ≡ Some call → IsName name) [
+  | None ↦ λ is h. absurd cc
+  | Some read ↦ λ is h. IsName-is_name name (named-passes is_name calls_with_arguments name read refl is)
+] refl e
+
+IsName-parts : (name : List ℕ) (rest : List (List ℕ)) (call : Call) → call_of_parts (name ∷ rest) ≡ Some call → IsName name
+unfolding call_of_parts
+IsName-parts name [] call e = IsName-read name call e
+IsName-parts name (arguments ∷ []) call e = IsName-call name arguments call e
+IsName-parts name (arguments ∷ next ∷ parts) call e = absurd cc
+
+-- a word that begins with no text is no call
+none_unless : {A : Type 0} (found : Option A) → ((value : A) → found ≡ Some value → ⊥) → found ≡ None
+none_unless None h = refl
+none_unless (Some value) h = absurd (h value refl)
+
+pub not_text : {S E : Type 0} (text : List ℕ) (read : Result S E) (IsRead : S → Type 0) (IsRefused : E → Type 0)
+    → MatchResult read IsRead (λ refusal. ¬ (IsUtf8 text) × IsRefused refusal) → result_ok read ≡ None → ¬ (IsUtf8 text)
+not_text text (Ok value) IsRead IsRefused h e = absurd cc
+not_text text (Err refusal) IsRead IsRefused h e = h.0
+
+pub call_of-not_text : (word name : List ℕ) (rest : List (List ℕ)) → cut_at 61 word ≡ name ∷ rest → ¬ (IsUtf8 name) → call_of word ≡ None
+unfolding call_of
+call_of-not_text word name rest e h =
+    ap call_of_parts e ∙ none_unless (call_of_parts (name ∷ rest)) (λ call is. let is_name = IsName-parts name rest call is in h is_name.is_text)
+
+-- a call has at least three bytes
+long_parts : (parts : List (List ℕ)) (call : Call) → call_of_parts parts ≡ Some call → 3 ≤ length (join_with_byte 61 parts)
+unfolding call_of_parts
+long_parts [] call e = absurd cc
+long_parts (name ∷ []) call e = let is_name = IsName-parts name [] call e in omega arith
+long_parts (name ∷ next ∷ parts) call e =
+    let is_name = IsName-parts name (next ∷ parts) call e in
+    omega (arith, length-append name (61 ∷ join_with_byte 61 (next ∷ parts)))
+
+pub call_of-long : (word : List ℕ) (read : Option Call) → read ≡ call_of word → OnSome read (3 ≤ length word)
+unfolding call_of
+call_of-long word None e = tt
+call_of-long word (Some call) e =
+    let long = long_parts (cut_at 61 word) call (sym e) in
+    rw (join_with_byte-slice_split 61 word) at long
+
+-- what is cut off has parts of its own
+pub some_parts : (separator : ℕ) (rest : Option (Bor (List ℕ))) → is_some rest ≡ true → 0 < length (option_map_or (λ text. cut_at separator text.now) rest [])
+some_parts separator None e = absurd cc
+some_parts separator (Some text) e = omega (arith, length-slice_split (λ byte. byte == separator) text.now)
+
+pub single-more : (argument : List ℕ) (rest : List (List ℕ)) → 0 < length rest → single (argument ∷ rest) ≡ None
+single-more argument [] some = absurd (omega arith)
+single-more argument (next ∷ rest) some = refl
+
+pub call_of_parts-more : (name arguments : List ℕ) (rest : List (List ℕ)) → 0 < length rest → call_of_parts (name ∷ arguments ∷ rest) ≡ None
+unfolding call_of_parts
+call_of_parts-more name arguments [] some = absurd (omega arith)
+call_of_parts-more name arguments (next ∷ rest) some = refl
+
+-- what two texts and three texts read as
+single-is : (arguments : List (List ℕ)) (argument : List ℕ) → single arguments ≡ Some argument → arguments ≡ argument ∷ []
+single-is [] argument e = absurd cc
+single-is (only ∷ []) argument e = cc
+single-is (first ∷ next ∷ arguments) argument e = absurd cc
+
+none_of_four : (a b c d : Bool) (value : ℤ) → a ≡ false → b ≡ false → (c || d) ≡ false → cond (((a || b) || c) || d) None (Some value) ≡ Some value
+none_of_four true b c d value e h k = absurd cc
+none_of_four false true c d value e h k = absurd cc
+none_of_four false false c d value e h k = ap (λ (t : Bool). cond t None (Some value)) k
+
+pub duration_of-some : (arguments others : List (List ℕ)) (seconds nanoseconds : List ℕ) (s f : ℤ) → arguments ≡ seconds ∷ others
+    → single others ≡ Some nanoseconds → i64_of seconds ≡ Some s → i32_of nanoseconds ≡ Some f → int_lt f (neg_ℤ (pos 999_999_999)) ≡ false
+    → int_lt (pos 999_999_999) f ≡ false → ((int_lt s (pos 0) && int_lt (pos 0) f) || (int_lt (pos 0) s && int_lt f (pos 0))) ≡ false
+    → duration_of arguments ≡ Some (duration_of_parts s f)
+unfolding duration_of
+duration_of-some arguments others seconds nanoseconds s f e only read_s read_f low high signs =
+    rw (e, single-is others nanoseconds only, read_s, read_f)
+    (none_of_four (int_lt f (neg_ℤ (pos 999_999_999))) (int_lt (pos 999_999_999) f) (int_lt s (pos 0) && int_lt (pos 0) f) (int_lt (pos 0) s && int_lt f (pos 0)) (duration_of_parts s f) low high signs)
+
+pub date_of-some : (arguments others last : List (List ℕ)) (year month day : List ℕ) (y : ℤ) (m : Month) (d : ℕ) → arguments ≡ year ∷ others
+    → others ≡ month ∷ last → single last ≡ Some day → i32_of year ≡ Some y → month_of month ≡ Some m → u8_of day ≡ Some d
+    → date_of arguments ≡ result_ok (calendar_date y (month_number m) d)
+unfolding date_of
+date_of-some arguments others last year month day y m d e k only read_y read_m read_d =
+    rw (e, k, single-is last day only, read_y, read_m, read_d) refl
+
+-- the month of a number
+month_numbered-number : (month : Month) → month_numbered (month_number month) ≡ month
+unfolding month_numbered
+month_numbered-number January = refl
+month_numbered-number February = refl
+month_numbered-number March = refl
+month_numbered-number April = refl
+month_numbered-number May = refl
+month_numbered-number June = refl
+month_numbered-number July = refl
+month_numbered-number August = refl
+month_numbered-number September = refl
+month_numbered-number October = refl
+month_numbered-number November = refl
+month_numbered-number December = refl
+
+pub month_tried : {E : Type 0} (number : ℕ) (tried : Result Month E) → (IsOk tried ↔ ((1 ≤ number) × (number ≤ 12)))
+    → IfOk tried (λ month. month_number month ≡ number)
+    → result_ok tried ≡ cond (is_outside (pos 1) (pos 12) (pos number)) None (Some (month_numbered number))
+month_tried number (Ok month) accepted value =
+    let bounds = accepted.0 refl in
+    let inside : is_outside (pos 1) (pos 12) (pos number) ≡ false = grind (arith, nat_tests) in
+    rw inside (ap Some (sym (month_numbered-number month) ∙ ap month_numbered value))
+month_tried number (Err refusal) accepted value =
+    let outside : is_outside (pos 1) (pos 12) (pos number) ≡ true = grind (arith, nat_tests) in
+    rw outside refl

@@ -1,0 +1,25 @@
+use Rattle.std.proofs.Common.{rules, ◌≡◌, ◌∙◌, sym, ap, ◌∷◌, List, ℕ, None}
+use Rattle.times_bench.specs.CallWords.{call_of_parts, call_of}
+use Rattle.times_bench.proofs.CallWordLemmas.{not_text, call_of-not_text, call_of-long, call_of_parts-more, some_parts}
+use Rattle.times_bench.proofs.call_words.call_of.Goals as goal
+
+pub returns-in_err-name-clause-value : goal.returns-in_err-name-clause-value
+returns-in_err-name-clause-value c =
+    let refused : c.from_residual.result ≡ None = search rules in
+    let name = c.cut_at.result.0.now in
+    refused ∙ sym (call_of-not_text c.args.word.now name _ c.cut_at.ensures (not_text name c.from_utf8.result _ _ c.from_utf8.ensures.cases (search rules)))
+
+pub returns-in_default-clause-long : goal.returns-in_default-clause-long
+unfolding call_of_parts call_of
+returns-in_default-clause-long c = call_of-long c.args.word.now c.read_named.result (search rules)
+
+pub returns-then-is_some-clause-value : goal.returns-then-is_some-clause-value
+unfolding call_of
+returns-then-is_some-clause-value c =
+    let name = c.cut_at.result.0.now in
+    sym (ap call_of_parts (c.cut_at.ensures ∙ rw c.in-Some.is (ap (λ (z : List (List ℕ)). name ∷ z) c.cut_at-2.ensures))
+    ∙ call_of_parts-more name c.cut_at-2.result.0.now _ (some_parts 61 c.cut_at-2.result.1 (search rules)))
+
+pub returns-clause-long : goal.returns-clause-long
+unfolding call_of_parts call_of
+returns-clause-long c = call_of-long c.args.word.now c.call_with.result (search rules)

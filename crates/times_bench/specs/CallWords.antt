@@ -1,0 +1,128 @@
+-- How a call of a run reads: a name, and after `=` the arguments with `,` between.
+use Rattle.std.specs.Prelude.{ℕ, ◌&&◌, ◌||◌, List, [], ◌∷◌, ℤ, pos, neg_ℤ, int_lt, codes, if◌then◌else◌, Option, Some, None}
+use Rattle.std.specs.Option.{option_map, option_and_then}
+use Rattle.std.specs.Result.{result_ok}
+use Rattle.std.specs.Str.{bytes_eq}
+use Rattle.calendar_values.specs.Durations.{duration_of_parts}
+use Rattle.calendar_values.specs.Month.{month_number}
+use Rattle.calendar_values.specs.Range.{is_outside}
+use Rattle.calendar_values.specs.Refusals.{calendar_date, clock_time_nano}
+use Rattle.stamp_times.specs.Numbered.{month_numbered}
+use Rattle.calendar_values.specs.declared.month.Month.{Month}
+use Rattle.stamp_times.specs.declared.calls.DateRead.TheVariants as date_read
+use Rattle.stamp_times.specs.declared.calls.ClockRead.TheVariants as clock_read
+use Rattle.stamp_times.specs.declared.calls.Shift.TheVariants.{CheckedAdd, CheckedSub, SaturatingAdd, SaturatingSub}
+use Rattle.stamp_times.specs.declared.calls.Replace.TheVariants as replacing
+use Rattle.stamp_times.specs.declared.calls.Call.{Call}
+use Rattle.stamp_times.specs.declared.calls.Call.TheVariants as call
+use Rattle.times_bench.specs.Numbers.{i64_of, i32_of, u32_of, u16_of, u8_of}
+use Rattle.times_bench.specs.StepWords.{offset_of}
+use Rattle.times_bench.specs.Words.{cut_at, arguments_of}
+
+-- what stands beside a name
+abbrev pub named : {A : Type 0} → List (List ℕ × A) → List ℕ → Option A
+named [] name = None
+named (first ∷ others) name = if bytes_eq name first.0 then Some first.1 else named others name
+
+-- the reads, by their names
+unfoldable pub reads : List (List ℕ × Call)
+reads =
+    (codes "date", call.ReadDate date_read.Date) ∷
+    (codes "year", call.ReadDate date_read.Year) ∷
+    (codes "month", call.ReadDate date_read.Month) ∷
+    (codes "day", call.ReadDate date_read.Day) ∷
+    (codes "ordinal", call.ReadDate date_read.Ordinal) ∷
+    (codes "iso_week", call.ReadDate date_read.IsoWeek) ∷
+    (codes "sunday_based_week", call.ReadDate date_read.SundayWeek) ∷
+    (codes "monday_based_week", call.ReadDate date_read.MondayWeek) ∷
+    (codes "to_calendar_date", call.ReadDate date_read.CalendarDate) ∷
+    (codes "to_ordinal_date", call.ReadDate date_read.OrdinalDate) ∷
+    (codes "to_iso_week_date", call.ReadDate date_read.IsoWeekDate) ∷
+    (codes "weekday", call.ReadDate date_read.Weekday) ∷
+    (codes "to_julian_day", call.ReadDate date_read.JulianDay) ∷
+    (codes "time", call.ReadClock clock_read.Time) ∷
+    (codes "as_hms", call.ReadClock clock_read.Hms) ∷
+    (codes "as_hms_milli", call.ReadClock clock_read.HmsMilli) ∷
+    (codes "as_hms_micro", call.ReadClock clock_read.HmsMicro) ∷
+    (codes "as_hms_nano", call.ReadClock clock_read.HmsNano) ∷
+    (codes "hour", call.ReadClock clock_read.Hour) ∷
+    (codes "minute", call.ReadClock clock_read.Minute) ∷
+    (codes "second", call.ReadClock clock_read.Second) ∷
+    (codes "millisecond", call.ReadClock clock_read.Millisecond) ∷
+    (codes "microsecond", call.ReadClock clock_read.Microsecond) ∷
+    (codes "nanosecond", call.ReadClock clock_read.Nanosecond) ∷ []
+
+-- the one argument, if there is no other
+abbrev pub single : List (List ℕ) → Option (List ℕ)
+single [] = None
+single (argument ∷ []) = Some argument
+single (argument ∷ next ∷ arguments) = None
+
+-- the parts of a duration: seconds, and less than a second in nanoseconds of the same sign
+abbrev pub duration_of_numbers : ℤ → ℤ → Option ℤ
+duration_of_numbers s f =
+    if is_outside (neg_ℤ (pos 999_999_999)) (pos 999_999_999) f || (int_lt s (pos 0) && int_lt (pos 0) f) || (int_lt (pos 0) s && int_lt f (pos 0)) then None
+    else Some (duration_of_parts s f)
+
+-- a duration: seconds and nanoseconds
+unfoldable pub duration_of : List (List ℕ) → Option ℤ
+duration_of [] = None
+duration_of (seconds ∷ []) = None
+duration_of (seconds ∷ nanoseconds ∷ []) =
+    option_and_then (λ s. option_and_then (λ f. duration_of_numbers s f) (i32_of nanoseconds)) (i64_of seconds)
+duration_of (seconds ∷ nanoseconds ∷ next ∷ arguments) = None
+
+-- a time of day: hour, minute, second and nanosecond
+unfoldable pub time_of : List (List ℕ) → Option ℕ
+time_of [] = None
+time_of (hour ∷ []) = None
+time_of (hour ∷ minute ∷ []) = None
+time_of (hour ∷ minute ∷ second ∷ []) = None
+time_of (hour ∷ minute ∷ second ∷ nanosecond ∷ []) =
+    option_and_then (λ h. option_and_then (λ m. option_and_then (λ s. option_and_then (λ n. result_ok (clock_time_nano h m s n)) (u32_of nanosecond)) (u8_of second)) (u8_of minute)) (u8_of hour)
+time_of (hour ∷ minute ∷ second ∷ nanosecond ∷ next ∷ arguments) = None
+
+-- the month of a number, 1 to 12
+unfoldable pub month_of : List ℕ → Option Month
+month_of number = option_and_then (λ m. if is_outside (pos 1) (pos 12) (pos m) then None else Some (month_numbered m)) (u8_of number)
+
+-- a date: year, number of the month and day of the month
+unfoldable pub date_of : List (List ℕ) → Option ℤ
+date_of [] = None
+date_of (year ∷ []) = None
+date_of (year ∷ month ∷ []) = None
+date_of (year ∷ month ∷ day ∷ []) =
+    option_and_then (λ y. option_and_then (λ m. option_and_then (λ d. result_ok (calendar_date y (month_number m) d)) (u8_of day)) (month_of month)) (i32_of year)
+date_of (year ∷ month ∷ day ∷ next ∷ arguments) = None
+
+-- the calls with arguments, by their names, and how the arguments read
+unfoldable pub calls_with_arguments : List (List ℕ × (List (List ℕ) → Option Call))
+calls_with_arguments =
+    (codes "checked_add", λ arguments. option_map (λ d. call.Shift (CheckedAdd d)) (duration_of arguments)) ∷
+    (codes "checked_sub", λ arguments. option_map (λ d. call.Shift (CheckedSub d)) (duration_of arguments)) ∷
+    (codes "saturating_add", λ arguments. option_map (λ d. call.Shift (SaturatingAdd d)) (duration_of arguments)) ∷
+    (codes "saturating_sub", λ arguments. option_map (λ d. call.Shift (SaturatingSub d)) (duration_of arguments)) ∷
+    (codes "replace_time", λ arguments. option_map (λ c. call.Replace (replacing.Time c)) (time_of arguments)) ∷
+    (codes "replace_date", λ arguments. option_map (λ n. call.Replace (replacing.Date n)) (date_of arguments)) ∷
+    (codes "replace_month", λ arguments. option_map (λ m. call.Replace (replacing.Month m)) (option_and_then month_of (single arguments))) ∷
+    (codes "replace_year", λ arguments. option_map (λ part. call.Replace (replacing.Year part)) (option_and_then i32_of (single arguments))) ∷
+    (codes "replace_day", λ arguments. option_map (λ part. call.Replace (replacing.Day part)) (option_and_then u8_of (single arguments))) ∷
+    (codes "replace_ordinal", λ arguments. option_map (λ part. call.Replace (replacing.Ordinal part)) (option_and_then u16_of (single arguments))) ∷
+    (codes "replace_hour", λ arguments. option_map (λ part. call.Replace (replacing.Hour part)) (option_and_then u8_of (single arguments))) ∷
+    (codes "replace_minute", λ arguments. option_map (λ part. call.Replace (replacing.Minute part)) (option_and_then u8_of (single arguments))) ∷
+    (codes "replace_second", λ arguments. option_map (λ part. call.Replace (replacing.Second part)) (option_and_then u8_of (single arguments))) ∷
+    (codes "replace_millisecond", λ arguments. option_map (λ part. call.Replace (replacing.Millisecond part)) (option_and_then u16_of (single arguments))) ∷
+    (codes "replace_microsecond", λ arguments. option_map (λ part. call.Replace (replacing.Microsecond part)) (option_and_then u32_of (single arguments))) ∷
+    (codes "replace_nanosecond", λ arguments. option_map (λ part. call.Replace (replacing.Nanosecond part)) (option_and_then u32_of (single arguments))) ∷
+    (codes "checked_to_offset", λ arguments. option_map call.Local (option_and_then offset_of (single arguments))) ∷ []
+
+-- a call, by what stands before its `=` and after it
+unfoldable pub call_of_parts : List (List ℕ) → Option Call
+call_of_parts [] = None
+call_of_parts (name ∷ []) = named reads name
+call_of_parts (name ∷ arguments ∷ []) = option_and_then (λ read. read (arguments_of arguments)) (named calls_with_arguments name)
+call_of_parts (name ∷ arguments ∷ next ∷ parts) = None
+
+-- a call
+unfoldable pub call_of : List ℕ → Option Call
+call_of word = call_of_parts (cut_at 61 word)

@@ -1,0 +1,40 @@
+-- How a step of a chain reads.
+use Rattle.std.specs.Prelude.{ℕ, ◌+◌, ◌*◌, ◌-◌, ◌==◌, ◌&&◌, nat_lt, not, List, [], ◌∷◌, ℤ, pos, neg_ℤ, codes, if◌then◌else◌, Option, Some, None}
+use Rattle.std.specs.Char.{is_ascii_digit}
+use Rattle.std.specs.Option.{option_map, option_and_then}
+use Rattle.std.specs.Str.{bytes_eq}
+use Rattle.stamp_times.specs.declared.steps.Step.{Step}
+use Rattle.stamp_times.specs.declared.steps.Step.TheVariants.{ToStamp, ToUtc, ToOffset}
+use Rattle.times_bench.specs.Words.{cut_at}
+
+-- two decimal digits, of a number that is at most the first
+unfoldable pub two_digits : ℕ → List ℕ → Option ℕ
+two_digits most [] = None
+two_digits most (tens ∷ []) = None
+two_digits most (tens ∷ units ∷ []) =
+    if is_ascii_digit tens && is_ascii_digit units && not (nat_lt most ((tens - 48) * 10 + (units - 48))) then Some ((tens - 48) * 10 + (units - 48)) else None
+two_digits most (tens ∷ units ∷ next ∷ digits) = None
+
+-- the seconds of hours, minutes and seconds of two digits each: at most 25, 59 and 59
+unfoldable pub seconds_of_words : List (List ℕ) → Option ℤ
+seconds_of_words [] = None
+seconds_of_words (hours ∷ []) = None
+seconds_of_words (hours ∷ minutes ∷ []) = None
+seconds_of_words (hours ∷ minutes ∷ seconds ∷ []) =
+    option_and_then (λ h. option_and_then (λ m. option_map (λ s. pos (h * 3_600 + m * 60 + s)) (two_digits 59 seconds)) (two_digits 59 minutes)) (two_digits 25 hours)
+seconds_of_words (hours ∷ minutes ∷ seconds ∷ next ∷ words) = None
+
+-- an offset: `+` or `-`, then hours, minutes and seconds with `:` between
+unfoldable pub offset_of : List ℕ → Option ℤ
+offset_of [] = None
+offset_of (sign ∷ text) =
+    if sign == 43 then seconds_of_words (cut_at 58 text)
+    else (if sign == 45 then option_map neg_ℤ (seconds_of_words (cut_at 58 text))
+    else None)
+
+-- a step: `stamp`, `utc` or an offset
+unfoldable pub step_of : List ℕ → Option Step
+step_of word =
+    if bytes_eq word (codes "stamp") then Some ToStamp
+    else (if bytes_eq word (codes "utc") then Some ToUtc
+    else option_map ToOffset (offset_of word))

@@ -1,0 +1,155 @@
+//! The words of a run.
+ghost use Rattle.std.specs.Prelude.{◌≡◌, ◌≤◌, length, OnSome, Some, option_map};
+ghost use Rattle.std.specs.Option.{option_and_then};
+ghost use Rattle.times_bench.specs.CallWords.{named, reads, calls_with_arguments, single, duration_of, time_of, month_of, date_of, call_of};
+ghost use Rattle.times_bench.specs.Words.{arguments_of};
+
+use super::numbers::{parse_i32, parse_i64, parse_u8, parse_u16, parse_u32};
+use super::step_words::offset_of;
+use super::words::cut_at;
+use calendar_values::{Date, Month, SignedDuration, Time};
+use stamp_times::{Call, ClockRead, DateRead, Replace, Shift};
+
+/// The call of a word: the name of a read, or a name, `=` and its arguments with `,` between.
+#[tactic(auto, unfolding(crate::specs::CallWords::call_of_parts, crate::specs::CallWords::call_of))]
+pub fn call_of(word: &[u8]) -> Option<Call>
+    ensures value { result ≡ call_of word.now }
+    ensures long { OnSome result (3 ≤ length word.now) }
+{
+    let (name, arguments) = cut_at(b'=', word);
+    let name = str::from_utf8(name).ok()?;
+    let Some(arguments) = arguments else {
+        return read_named(name);
+    };
+    let (arguments, more) = cut_at(b'=', arguments);
+    if more.is_some() {
+        return None;
+    }
+    call_with(name, arguments)
+}
+
+// The read of this name.
+#[tactic(auto, unfolding(crate::specs::CallWords::reads))]
+fn read_named(name: &str) -> Option<Call>
+    ensures { result ≡ named reads name.now }
+{
+    match name {
+        "date" => Some(Call::ReadDate(DateRead::Date)),
+        "year" => Some(Call::ReadDate(DateRead::Year)),
+        "month" => Some(Call::ReadDate(DateRead::Month)),
+        "day" => Some(Call::ReadDate(DateRead::Day)),
+        "ordinal" => Some(Call::ReadDate(DateRead::Ordinal)),
+        "iso_week" => Some(Call::ReadDate(DateRead::IsoWeek)),
+        "sunday_based_week" => Some(Call::ReadDate(DateRead::SundayWeek)),
+        "monday_based_week" => Some(Call::ReadDate(DateRead::MondayWeek)),
+        "to_calendar_date" => Some(Call::ReadDate(DateRead::CalendarDate)),
+        "to_ordinal_date" => Some(Call::ReadDate(DateRead::OrdinalDate)),
+        "to_iso_week_date" => Some(Call::ReadDate(DateRead::IsoWeekDate)),
+        "weekday" => Some(Call::ReadDate(DateRead::Weekday)),
+        "to_julian_day" => Some(Call::ReadDate(DateRead::JulianDay)),
+        "time" => Some(Call::ReadClock(ClockRead::Time)),
+        "as_hms" => Some(Call::ReadClock(ClockRead::Hms)),
+        "as_hms_milli" => Some(Call::ReadClock(ClockRead::HmsMilli)),
+        "as_hms_micro" => Some(Call::ReadClock(ClockRead::HmsMicro)),
+        "as_hms_nano" => Some(Call::ReadClock(ClockRead::HmsNano)),
+        "hour" => Some(Call::ReadClock(ClockRead::Hour)),
+        "minute" => Some(Call::ReadClock(ClockRead::Minute)),
+        "second" => Some(Call::ReadClock(ClockRead::Second)),
+        "millisecond" => Some(Call::ReadClock(ClockRead::Millisecond)),
+        "microsecond" => Some(Call::ReadClock(ClockRead::Microsecond)),
+        "nanosecond" => Some(Call::ReadClock(ClockRead::Nanosecond)),
+        _ => None,
+    }
+}
+
+// The call of this name with these arguments.
+#[tactic(auto, unfolding(crate::specs::CallWords::calls_with_arguments))]
+fn call_with(name: &str, arguments: &[u8]) -> Option<Call>
+    ensures { result ≡ option_and_then (λ read. read (arguments_of arguments.now)) (named calls_with_arguments name.now) }
+{
+    let argument = single(arguments);
+    match name {
+        "checked_add" => Some(Call::Shift(Shift::CheckedAdd(duration_of(arguments)?))),
+        "checked_sub" => Some(Call::Shift(Shift::CheckedSub(duration_of(arguments)?))),
+        "saturating_add" => Some(Call::Shift(Shift::SaturatingAdd(duration_of(arguments)?))),
+        "saturating_sub" => Some(Call::Shift(Shift::SaturatingSub(duration_of(arguments)?))),
+        "replace_time" => Some(Call::Replace(Replace::Time(time_of(arguments)?))),
+        "replace_date" => Some(Call::Replace(Replace::Date(date_of(arguments)?))),
+        "replace_month" => Some(Call::Replace(Replace::Month(month_of(argument?)?))),
+        "replace_year" => Some(Call::Replace(Replace::Year(parse_i32(argument?)?))),
+        "replace_day" => Some(Call::Replace(Replace::Day(parse_u8(argument?)?))),
+        "replace_ordinal" => Some(Call::Replace(Replace::Ordinal(parse_u16(argument?)?))),
+        "replace_hour" => Some(Call::Replace(Replace::Hour(parse_u8(argument?)?))),
+        "replace_minute" => Some(Call::Replace(Replace::Minute(parse_u8(argument?)?))),
+        "replace_second" => Some(Call::Replace(Replace::Second(parse_u8(argument?)?))),
+        "replace_millisecond" => Some(Call::Replace(Replace::Millisecond(parse_u16(argument?)?))),
+        "replace_microsecond" => Some(Call::Replace(Replace::Microsecond(parse_u32(argument?)?))),
+        "replace_nanosecond" => Some(Call::Replace(Replace::Nanosecond(parse_u32(argument?)?))),
+        "checked_to_offset" => Some(Call::Local(offset_of(argument?)?)),
+        _ => None,
+    }
+}
+
+// The one argument, if there is no other.
+fn single(arguments: &[u8]) -> Option<&[u8]>
+    ensures { option_map (λ argument. argument.now) result ≡ single (arguments_of arguments.now) }
+{
+    let (argument, more) = cut_at(b',', arguments);
+    if more.is_some() {
+        return None;
+    }
+    Some(argument)
+}
+
+// The duration of seconds and nanoseconds: less than a second, of the same sign.
+#[tactic(auto, unfolding(crate::specs::CallWords::duration_of))]
+fn duration_of(arguments: &[u8]) -> Option<SignedDuration>
+    ensures { result ≡ duration_of (arguments_of arguments.now) }
+{
+    let (seconds, arguments) = cut_at(b',', arguments);
+    let nanoseconds = single(arguments?)?;
+    let seconds = parse_i64(seconds)?;
+    let nanoseconds = parse_i32(nanoseconds)?;
+    let has_two_signs = (seconds < 0) & (nanoseconds > 0) | (seconds > 0) & (nanoseconds < 0);
+    if nanoseconds < -999_999_999 || nanoseconds > 999_999_999 || has_two_signs {
+        return None;
+    }
+    Some(SignedDuration::new(seconds, nanoseconds))
+}
+
+// The time of day of an hour, a minute, a second and a nanosecond.
+#[tactic(auto, unfolding(crate::specs::CallWords::time_of))]
+fn time_of(arguments: &[u8]) -> Option<Time>
+    ensures { result ≡ time_of (arguments_of arguments.now) }
+{
+    let (hour, arguments) = cut_at(b',', arguments);
+    let (minute, arguments) = cut_at(b',', arguments?);
+    let (second, arguments) = cut_at(b',', arguments?);
+    let nanosecond = single(arguments?)?;
+    Time::from_hms_nano(
+        parse_u8(hour)?,
+        parse_u8(minute)?,
+        parse_u8(second)?,
+        parse_u32(nanosecond)?,
+    )
+    .ok()
+}
+
+// The date of a year, the number of a month and a day of the month.
+#[tactic(auto, unfolding(crate::specs::CallWords::date_of))]
+fn date_of(arguments: &[u8]) -> Option<Date>
+    ensures { result ≡ date_of (arguments_of arguments.now) }
+{
+    let (year, arguments) = cut_at(b',', arguments);
+    let (month, arguments) = cut_at(b',', arguments?);
+    let day = single(arguments?)?;
+    Date::from_calendar_date(parse_i32(year)?, month_of(month)?, parse_u8(day)?).ok()
+}
+
+// The month of a number, 1 for January.
+#[tactic(auto, unfolding(crate::specs::CallWords::month_of))]
+fn month_of(number: &[u8]) -> Option<Month>
+    ensures { result ≡ month_of number.now }
+{
+    Month::from_number(parse_u8(number)?).ok()
+}

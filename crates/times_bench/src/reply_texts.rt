@@ -1,0 +1,195 @@
+//! The texts of the replies of a run, and of what a chain holds.
+ghost use Rattle.std.specs.Prelude.{◌≡◌, ◌≤◌, ◌+◌, length, ◌++◌, codes, decimal};
+ghost use Rattle.std.specs.Fmt.{signed_decimal};
+ghost use Rattle.calendar_values.specs.Texts.{date_text, time_text};
+ghost use Rattle.times_bench.specs.ReplyTexts.{refused_text, date_part_text, hms_text, clock_part_text, reply_text, held_text};
+
+use calendar_values::{ComponentRange, Date, Text, Time};
+use stamp_times::{ClockPart, DatePart, Held, Reply};
+
+/// The text of a reply: its parts, with one space between.
+#[tactic(auto, unfolding(crate::specs::ReplyTexts::reply_text))]
+pub fn reply_text(reply: Reply) -> Text
+    ensures text { result ≡ reply_text reply }
+    ensures length { length result ≤ 43 }
+{
+    let mut text = Text::new();
+    match reply {
+        Reply::DatePart(part) => push_date_part(&mut text, part),
+        Reply::ClockPart(part) => push_clock_part(&mut text, part),
+        Reply::Now(date, time) => push_date_time(&mut text, date, time),
+        Reply::Refused => text.push_bytes(b"refused"),
+        Reply::RefusedPart(refusal) => return refused_text(refusal),
+        Reply::Local(date, time, offset) => {
+            push_date_time(&mut text, date, time);
+            text.push(b' ');
+            offset.append_to(&mut text);
+        }
+    }
+    text
+}
+
+/// `refused`, and the name of the part.
+pub fn refused_text(refusal: ComponentRange) -> Text
+    ensures text { result ≡ refused_text refusal }
+    ensures length { length result ≤ 22 }
+{
+    let mut text = Text::new();
+    text.push_bytes(b"refused ");
+    text.push_bytes(refusal.name().as_bytes());
+    text
+}
+
+/// The type that holds an instant, and the text of the value.
+#[tactic(auto, unfolding(crate::specs::ReplyTexts::held_text))]
+pub fn held_text(held: Held) -> Text
+    ensures text { result ≡ held_text held }
+    ensures length { length result ≤ 49 }
+{
+    let mut text = Text::new();
+    match held {
+        Held::Stamp(at) => {
+            text.push_bytes(b"stamp ");
+            at.append_to(&mut text);
+        }
+        Held::Utc(at) => {
+            text.push_bytes(b"utc ");
+            at.append_to(&mut text);
+        }
+        Held::Offset(at) => {
+            text.push_bytes(b"offset ");
+            at.append_to(&mut text);
+        }
+    }
+    text
+}
+
+/// Adds a number in decimal digits, with `-` before it if it is below 0.
+pub fn push_signed(text: &mut Text, number: i32)
+    requires { length text.old ≤ 40 }
+    ensures value { text.new ≡ text.old ++ signed_decimal number }
+    ensures length { length text.new ≤ length text.old + 21 }
+{
+    if number < 0 {
+        text.push(b'-');
+    }
+    text.push_decimal(u64::from(number.unsigned_abs()));
+}
+
+// Adds a part of the date.
+#[tactic(auto, unfolding(crate::specs::ReplyTexts::date_part_text))]
+fn push_date_part(text: &mut Text, part: DatePart)
+    requires { length text.old ≡ 0 }
+    ensures value { text.new ≡ text.old ++ date_part_text part }
+    ensures length { length text.new ≤ 43 }
+{
+    match part {
+        DatePart::Date(date) => date.append_to(text),
+        DatePart::Year(year) => push_signed(text, year),
+        DatePart::Month(month) => text.push_bytes(month.text().as_bytes()),
+        DatePart::Day(day) => push_number(text, u32::from(day)),
+        DatePart::Ordinal(ordinal) => push_number(text, u32::from(ordinal)),
+        DatePart::IsoWeek(week) => push_number(text, u32::from(week)),
+        DatePart::SundayWeek(week) => push_number(text, u32::from(week)),
+        DatePart::MondayWeek(week) => push_number(text, u32::from(week)),
+        DatePart::CalendarDate(parts) => {
+            let (year, month, day) = parts;
+            push_signed(text, year);
+            text.push(b' ');
+            text.push_bytes(month.text().as_bytes());
+            push_next(text, u32::from(day));
+        }
+        DatePart::OrdinalDate(parts) => {
+            let (year, ordinal) = parts;
+            push_signed(text, year);
+            push_next(text, u32::from(ordinal));
+        }
+        DatePart::IsoWeekDate(parts) => {
+            let (year, week, weekday) = parts;
+            push_signed(text, year);
+            push_next(text, u32::from(week));
+            text.push(b' ');
+            text.push_bytes(weekday.text().as_bytes());
+        }
+        DatePart::Weekday(weekday) => text.push_bytes(weekday.text().as_bytes()),
+        DatePart::JulianDay(julian_day) => push_signed(text, julian_day),
+    }
+}
+
+// Adds a part of the time of day.
+#[tactic(auto, unfolding(crate::specs::ReplyTexts::clock_part_text))]
+fn push_clock_part(text: &mut Text, part: ClockPart)
+    requires { length text.old ≡ 0 }
+    ensures value { text.new ≡ text.old ++ clock_part_text part }
+    ensures length { length text.new ≤ 43 }
+{
+    match part {
+        ClockPart::Time(time) => time.append_to(text),
+        ClockPart::Hms(parts) => {
+            let (hour, minute, second) = parts;
+            push_hms(text, hour, minute, second);
+        }
+        ClockPart::HmsMilli(parts) => {
+            let (hour, minute, second, millisecond) = parts;
+            push_hms(text, hour, minute, second);
+            push_next(text, u32::from(millisecond));
+        }
+        ClockPart::HmsMicro(parts) => {
+            let (hour, minute, second, microsecond) = parts;
+            push_hms(text, hour, minute, second);
+            push_next(text, microsecond);
+        }
+        ClockPart::HmsNano(parts) => {
+            let (hour, minute, second, nanosecond) = parts;
+            push_hms(text, hour, minute, second);
+            push_next(text, nanosecond);
+        }
+        ClockPart::Hour(hour) => push_number(text, u32::from(hour)),
+        ClockPart::Minute(minute) => push_number(text, u32::from(minute)),
+        ClockPart::Second(second) => push_number(text, u32::from(second)),
+        ClockPart::Millisecond(millisecond) => push_number(text, u32::from(millisecond)),
+        ClockPart::Microsecond(microsecond) => push_number(text, microsecond),
+        ClockPart::Nanosecond(nanosecond) => push_number(text, nanosecond),
+    }
+}
+
+// Adds a date, a space and a time of day.
+fn push_date_time(text: &mut Text, date: Date, time: Time)
+    requires { length text.old ≡ 0 }
+    ensures value { text.new ≡ text.old ++ (date_text date ++ codes " " ++ time_text time) }
+    ensures length { length text.new ≤ 32 }
+{
+    date.append_to(text);
+    text.push(b' ');
+    time.append_to(text);
+}
+
+// Adds an hour, a minute and a second, with one space between.
+fn push_hms(text: &mut Text, hour: u8, minute: u8, second: u8)
+    requires { length text.old ≡ 0 }
+    ensures value { text.new ≡ text.old ++ hms_text hour minute second }
+    ensures length { length text.new ≤ 32 }
+{
+    push_number(text, u32::from(hour));
+    push_next(text, u32::from(minute));
+    push_next(text, u32::from(second));
+}
+
+// Adds a space and a number.
+fn push_next(text: &mut Text, number: u32)
+    requires { length text.old ≤ 43 }
+    ensures value { text.new ≡ text.old ++ (codes " " ++ decimal number) }
+    ensures length { length text.new ≤ length text.old + 11 }
+{
+    text.push(b' ');
+    push_number(text, number);
+}
+
+// Adds a number in decimal digits.
+fn push_number(text: &mut Text, number: u32)
+    requires { length text.old ≤ 44 }
+    ensures value { text.new ≡ text.old ++ decimal number }
+    ensures length { length text.new ≤ length text.old + 10 }
+{
+    text.push_decimal(u64::from(number));
+}
