@@ -9,7 +9,7 @@ use Rattle.calendar_values.specs.OffsetLaws.{seconds_of_parts-of, IsOffsetParts-
 use Rattle.calendar_values.specs.SignedArith.{signed_arith}
 use Rattle.calendar_values.specs.WallClock.{wall_clock, wall_day, wall_time}
 use Rattle.calendar_values.specs.WallClockLaws.{wall_clock-parts}
-use Rattle.offset_times.specs.Carries.{moved_second, moved_minute, moved_hour, minutes_carried, hours_carried, days_carried, carried_clock, IsWithin, CarriesWithin}
+use Rattle.offset_times.specs.Carries.{moved_second, moved_minute, moved_hour, minutes_carried, hours_carried, days_carried, carried_second, carried_minute, carried_hour, carried_clock, IsWithin, CarriesWithin}
 use Rattle.offset_times.specs.Local.{offset_nanos}
 
 -- quotient and remainder by 60 and by 24, where the quotient rounds down
@@ -39,8 +39,9 @@ euclid_24 : (z : ℤ) → (z ≡ int_div_euclid z (pos 24) *ℤ pos 24 +ℤ pos 
 euclid_24 (pos a) = (omega (arith, ints), omega (arith, ints))
 euclid_24 (negsuc a) = (omega (arith, ints), omega (arith, ints))
 
-pub Carried-of : (c : ℕ) (from to : ℤ) → Carried c from to (unsigned_abs (int_rem_euclid (moved_hour c from to) (pos 24))) (unsigned_abs (int_rem_euclid (moved_minute c from to) (pos 60))) (unsigned_abs (int_rem_euclid (moved_second c from to) (pos 60))) (days_carried c from to) (hours_carried c from to) (minutes_carried c from to)
-unfolding minutes_carried hours_carried days_carried
+pub Carried-of : (c : ℕ) (from to : ℤ) → Carried c from to (carried_hour c from to) (carried_minute c from to)
+    (carried_second c from to) (days_carried c from to) (hours_carried c from to) (minutes_carried c from to)
+unfolding minutes_carried hours_carried days_carried carried_second carried_minute carried_hour
 Carried-of c from to =
     let seconds = euclid_60 (moved_second c from to) in
     let minutes = euclid_60 (moved_minute c from to) in
@@ -53,33 +54,27 @@ Carried-of c from to =
       hour_in = hours.1;
     }
 
--- and no others are
-pub minutes_carried-is : (c : ℕ) (from to : ℤ) (hour minute second : ℕ) (days hours minutes : ℤ) → Carried c from to hour minute second days hours minutes → (minutes_carried c from to ≡ minutes) × (unsigned_abs (int_rem_euclid (moved_second c from to) (pos 60)) ≡ second)
-unfolding minutes_carried
-minutes_carried-is c from to hour minute second days hours minutes h =
-    quotient_by_60 (moved_second c from to) minutes second h.second_sum h.second_in
+-- and what the code carries, of the parts that it reads, is what the definitions carry
+no_carry_in : (z : ℤ) → z ≡ z +ℤ pos 0
+no_carry_in z = omega (arith, ints)
 
-pub hours_carried-is : (c : ℕ) (from to : ℤ) (hour minute second : ℕ) (days hours minutes : ℤ) → Carried c from to hour minute second days hours minutes → (hours_carried c from to ≡ hours) × (unsigned_abs (int_rem_euclid (moved_minute c from to) (pos 60)) ≡ minute)
-unfolding hours_carried
-hours_carried-is c from to hour minute second days hours minutes h =
-    let carried : minutes_carried c from to ≡ minutes = (minutes_carried-is c from to hour minute second days hours minutes h).0 in
-    let sum : moved_minute c from to ≡ hours *ℤ pos 60 +ℤ pos minute = rw carried h.minute_sum in
-    quotient_by_60 (moved_minute c from to) hours minute sum h.minute_in
+pub carried_at_first : (part r p : ℕ) (from to q f t : ℤ) → part ≡ p → from ≡ f → to ≡ t
+    → pos part +ℤ to -ℤ from +ℤ pos 0 ≡ q *ℤ pos 60 +ℤ pos r → r < 60
+    → (q ≡ int_div_euclid (pos p +ℤ t -ℤ f) (pos 60)) × (r ≡ unsigned_abs (int_rem_euclid (pos p +ℤ t -ℤ f) (pos 60)))
+carried_at_first part r p from to q f t of_part of_from of_to sum below =
+    let parts = quotient_by_60 (pos part +ℤ to -ℤ from) q r (no_carry_in (pos part +ℤ to -ℤ from) ∙ sum) below in (cc, cc)
 
-pub days_carried-is : (c : ℕ) (from to : ℤ) (hour minute second : ℕ) (days hours minutes : ℤ) → Carried c from to hour minute second days hours minutes → (days_carried c from to ≡ days) × (unsigned_abs (int_rem_euclid (moved_hour c from to) (pos 24)) ≡ hour)
-unfolding days_carried
-days_carried-is c from to hour minute second days hours minutes h =
-    let carried : hours_carried c from to ≡ hours = (hours_carried-is c from to hour minute second days hours minutes h).0 in
-    let sum : moved_hour c from to ≡ days *ℤ pos 24 +ℤ pos hour = rw carried h.hour_sum in
-    quotient_by_24 (moved_hour c from to) days hour sum h.hour_in
+pub carried_by_60 : (part r p : ℕ) (from to into q f t i : ℤ) → part ≡ p → from ≡ f → to ≡ t → into ≡ i
+    → pos part +ℤ to -ℤ from +ℤ into ≡ q *ℤ pos 60 +ℤ pos r → r < 60
+    → (q ≡ int_div_euclid (pos p +ℤ t -ℤ f +ℤ i) (pos 60)) × (r ≡ unsigned_abs (int_rem_euclid (pos p +ℤ t -ℤ f +ℤ i) (pos 60)))
+carried_by_60 part r p from to into q f t i of_part of_from of_to of_into sum below =
+    let parts = quotient_by_60 (pos part +ℤ to -ℤ from +ℤ into) q r sum below in (cc, cc)
 
-pub carried_clock-is : (c : ℕ) (from to : ℤ) (hour minute second : ℕ) (days hours minutes : ℤ) → Carried c from to hour minute second days hours minutes → carried_clock c from to ≡ clock_of_parts hour minute second (nanosecond_of c)
-unfolding carried_clock
-carried_clock-is c from to hour minute second days hours minutes h =
-    let second_is = (minutes_carried-is c from to hour minute second days hours minutes h).1 in
-    let minute_is = (hours_carried-is c from to hour minute second days hours minutes h).1 in
-    let hour_is = (days_carried-is c from to hour minute second days hours minutes h).1 in
-    rw (hour_is, minute_is, second_is) refl
+pub carried_by_24 : (part r p : ℕ) (from to into q f t i : ℤ) → part ≡ p → from ≡ f → to ≡ t → into ≡ i
+    → pos part +ℤ to -ℤ from +ℤ into ≡ q *ℤ pos 24 +ℤ pos r → r < 24
+    → (q ≡ int_div_euclid (pos p +ℤ t -ℤ f +ℤ i) (pos 24)) × (r ≡ unsigned_abs (int_rem_euclid (pos p +ℤ t -ℤ f +ℤ i) (pos 24)))
+carried_by_24 part r p from to into q f t i of_part of_from of_to of_into sum below =
+    let parts = quotient_by_24 (pos part +ℤ to -ℤ from +ℤ into) q r sum below in (cc, cc)
 
 -- the carries keep the moment: the day and the clock, moved by the difference of the offsets
 carried_moment : (n days hours minutes from_h from_m from_s to_h to_m to_s : ℤ) (h m s k hour minute second : ℕ)
@@ -109,12 +104,6 @@ IsClock-carried_clock c from to =
     IsClock-clock_of_parts _ _ _ _ (record { hour = omega (arith, k.hour_in); minute = omega (arith, k.minute_in); second = omega (arith, k.second_in); nanosecond = omega arith })
 
 -- how much each part carries: between two offsets, and from or to UTC
-carries_60 : (v r : ℕ) (from to into q : ℤ) → v ≤ 59 → IsWithin 118 (to -ℤ from) → IsWithin 2 into → pos v +ℤ to -ℤ from +ℤ into ≡ q *ℤ pos 60 +ℤ pos r → r < 60 → IsWithin 2 q
-carries_60 v r from to into q a b d e f = (omega (arith, signed_arith), omega (arith, signed_arith))
-
-carries_24 : (v r : ℕ) (from to into q : ℤ) → v ≤ 23 → IsWithin 50 (to -ℤ from) → IsWithin 2 into → pos v +ℤ to -ℤ from +ℤ into ≡ q *ℤ pos 24 +ℤ pos r → r < 24 → IsWithin 3 q
-carries_24 v r from to into q a b d e f = (omega (arith, signed_arith), omega (arith, signed_arith))
-
 carries_60_once : (v r : ℕ) (from to into q : ℤ) → v ≤ 59 → IsWithin 59 (to -ℤ from) → IsWithin 1 into → pos v +ℤ to -ℤ from +ℤ into ≡ q *ℤ pos 60 +ℤ pos r → r < 60 → IsWithin 1 q
 carries_60_once v r from to into q a b d e f = (omega (arith, signed_arith), omega (arith, signed_arith))
 
@@ -127,46 +116,19 @@ record Apart (h m s : ℕ) (from to : ℤ) : Type 0 where
   minutes : IsWithin m (offset_minutes_of to -ℤ offset_minutes_of from)
   seconds : IsWithin s (offset_seconds_of to -ℤ offset_seconds_of from)
 
-no_carry_in : (z : ℤ) → z ≡ z +ℤ pos 0
-no_carry_in z = omega (arith, ints)
-
-within : (c : ℕ) (from to : ℤ) → IsClock c → Apart 50 118 118 from to → CarriesWithin 2 2 3 c from to
-within c from to clock apart =
-    let k = Carried-of c from to in
-    let t = IsTimeOfDay-of c clock in
-    let second = unsigned_abs (int_rem_euclid (moved_second c from to) (pos 60)) in
-    let minute = unsigned_abs (int_rem_euclid (moved_minute c from to) (pos 60)) in
-    let hour = unsigned_abs (int_rem_euclid (moved_hour c from to) (pos 24)) in
-    let a = minutes_carried c from to in
-    let b = hours_carried c from to in
-    let minutes = carries_60 (second_of c) second (offset_seconds_of from) (offset_seconds_of to) (pos 0) a t.second apart.seconds (omega (arith, ints), omega (arith, ints)) (omega (arith, ints, k.second_sum)) k.second_in in
-    let hours = carries_60 (minute_of c) minute (offset_minutes_of from) (offset_minutes_of to) a b t.minute apart.minutes minutes k.minute_sum k.minute_in in
-    let days = carries_24 (hour_of c) hour (offset_hours_of from) (offset_hours_of to) b (days_carried c from to) t.hour apart.hours hours k.hour_sum k.hour_in in
-    record { minutes = minutes; hours = hours; days = days }
-
 within_once : (c : ℕ) (from to : ℤ) → IsClock c → Apart 25 59 59 from to → CarriesWithin 1 1 2 c from to
 within_once c from to clock apart =
     let k = Carried-of c from to in
     let t = IsTimeOfDay-of c clock in
-    let second = unsigned_abs (int_rem_euclid (moved_second c from to) (pos 60)) in
-    let minute = unsigned_abs (int_rem_euclid (moved_minute c from to) (pos 60)) in
-    let hour = unsigned_abs (int_rem_euclid (moved_hour c from to) (pos 24)) in
+    let second = carried_second c from to in
+    let minute = carried_minute c from to in
+    let hour = carried_hour c from to in
     let a = minutes_carried c from to in
     let b = hours_carried c from to in
     let minutes = carries_60_once (second_of c) second (offset_seconds_of from) (offset_seconds_of to) (pos 0) a t.second apart.seconds (omega (arith, ints), omega (arith, ints)) (omega (arith, ints, k.second_sum)) k.second_in in
     let hours = carries_60_once (minute_of c) minute (offset_minutes_of from) (offset_minutes_of to) a b t.minute apart.minutes minutes k.minute_sum k.minute_in in
     let days = carries_24_twice (hour_of c) hour (offset_hours_of from) (offset_hours_of to) b (days_carried c from to) t.hour apart.hours hours k.hour_sum k.hour_in in
     record { minutes = minutes; hours = hours; days = days }
-
-pub CarriesWithin-offsets : (c : ℕ) (from to : ℤ) → IsClock c → IsOffset from → IsOffset to → CarriesWithin 2 2 3 c from to
-CarriesWithin-offsets c from to clock p q =
-    let f = IsOffsetParts-of from p in
-    let t = IsOffsetParts-of to q in
-    within c from to clock (record {
-      hours = (omega (arith, signed_arith, f.hours_in_range, t.hours_in_range), omega (arith, signed_arith, f.hours_in_range, t.hours_in_range));
-      minutes = (omega (arith, signed_arith, f.minutes_in_range, t.minutes_in_range), omega (arith, signed_arith, f.minutes_in_range, t.minutes_in_range));
-      seconds = (omega (arith, signed_arith, f.seconds_in_range, t.seconds_in_range), omega (arith, signed_arith, f.seconds_in_range, t.seconds_in_range));
-    })
 
 pub CarriesWithin-to_utc : (c : ℕ) (from : ℤ) → IsClock c → IsOffset from → CarriesWithin 1 1 2 c from (pos 0)
 unfolding offset_hours_of offset_minutes_of offset_seconds_of

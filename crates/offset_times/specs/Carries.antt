@@ -30,13 +30,20 @@ moved_hour c from to =
 unfoldable pub days_carried : ℕ → ℤ → ℤ → ℤ
 days_carried c from to = int_div_euclid (moved_hour c from to) (pos 24)
 
--- the clock that the carries leave: the nanosecond of the second stays
+-- the second, the minute and the hour that the carries leave
+unfoldable pub carried_second : ℕ → ℤ → ℤ → ℕ
+carried_second c from to = unsigned_abs (int_rem_euclid (moved_second c from to) (pos 60))
+
+unfoldable pub carried_minute : ℕ → ℤ → ℤ → ℕ
+carried_minute c from to = unsigned_abs (int_rem_euclid (moved_minute c from to) (pos 60))
+
+unfoldable pub carried_hour : ℕ → ℤ → ℤ → ℕ
+carried_hour c from to = unsigned_abs (int_rem_euclid (moved_hour c from to) (pos 24))
+
+-- the clock of these: the nanosecond of the second stays
 unfoldable pub carried_clock : ℕ → ℤ → ℤ → ℕ
 carried_clock c from to =
-    let hour = unsigned_abs (int_rem_euclid (moved_hour c from to) (pos 24)) in
-    let minute = unsigned_abs (int_rem_euclid (moved_minute c from to) (pos 60)) in
-    let second = unsigned_abs (int_rem_euclid (moved_second c from to) (pos 60)) in
-    clock_of_parts hour minute second (nanosecond_of c)
+    clock_of_parts (carried_hour c from to) (carried_minute c from to) (carried_second c from to) (nanosecond_of c)
 
 -- the number lies from -n to n
 abbrev pub IsWithin : ℕ → ℤ → Type 0

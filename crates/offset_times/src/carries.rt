@@ -6,7 +6,7 @@ ghost use Rattle.calendar_values.specs.Calendar.{days_in_year, IsOrdinalDate, da
 ghost use Rattle.calendar_values.specs.Clock.{IsClock, IsTimeOfDay, clock_of_parts};
 ghost use Rattle.calendar_values.specs.Range.{IsYear};
 ghost use Rattle.calendar_values.specs.WallClock.{wall_clock, wall_day, wall_time};
-ghost use Rattle.offset_times.specs.Carries.{days_carried, carried_clock, IsWithin, CarriesWithin};
+ghost use Rattle.offset_times.specs.Carries.{minutes_carried, hours_carried, days_carried, carried_second, carried_minute, carried_hour, carried_clock, IsWithin, CarriesWithin};
 ghost use Rattle.offset_times.specs.Local.{instant_of, shown_at};
 
 use crate::OffsetDateTime;
@@ -72,26 +72,63 @@ fn moved(at: PlainDateTime, from: UtcOffset, to: UtcOffset) -> (i32, u16, Time)
 }
 
 // The time of day that clocks at `to` show when clocks at `from` show this, and the days between the two.
-#[tactic(auto, using(crate::proofs::CarryLemmas::IsWithin_abs))]
+#[tactic(auto, unfolding(crate::specs::Carries::carried_clock))]
 fn moved_time(time: Time, from: UtcOffset, to: UtcOffset) -> (Time, i8)
     ensures clock { result.0 ≡ carried_clock time from to }
     ensures days { result.1 ≡ days_carried time from to }
     ensures within { CarriesWithin 2 2 3 time from to }
 {
-    let (second, minutes) = carry_sixty(
+    let (second, minutes) = moved_second(time, from, to);
+    let (minute, hours) = moved_minute(time, from, to, minutes);
+    let (hour, days) = moved_hour(time, from, to, hours);
+    (time_of_day(hour, minute, second, time.nanosecond()), days)
+}
+
+// The second that clocks at `to` show, and the minutes that go out of it.
+#[tactic(auto, using(crate::proofs::CarryLemmas::IsWithin_abs))]
+fn moved_second(time: Time, from: UtcOffset, to: UtcOffset) -> (u8, i8)
+    ensures second { result.0 ≡ carried_second time from to }
+    ensures minutes { result.1 ≡ minutes_carried time from to }
+    ensures below { result.0 < 60 }
+    ensures within { IsWithin 2 result.1 }
+{
+    carry_sixty(
         time.second(),
         from.seconds_past_minute(),
         to.seconds_past_minute(),
         0,
-    );
-    let (minute, hours) = carry_sixty(
+    )
+}
+
+// The minute that clocks at `to` show, with the minutes that go into it, and the hours that go out of it.
+#[tactic(auto, using(crate::proofs::CarryLemmas::IsWithin_abs))]
+fn moved_minute(time: Time, from: UtcOffset, to: UtcOffset, minutes: i8) -> (u8, i8)
+    requires minutes { minutes ≡ minutes_carried time from to }
+    requires few { IsWithin 2 minutes }
+    ensures minute { result.0 ≡ carried_minute time from to }
+    ensures hours { result.1 ≡ hours_carried time from to }
+    ensures below { result.0 < 60 }
+    ensures within { IsWithin 2 result.1 }
+{
+    carry_sixty(
         time.minute(),
         from.minutes_past_hour(),
         to.minutes_past_hour(),
         minutes,
-    );
-    let (hour, days) = carry_day(time.hour(), from.whole_hours(), to.whole_hours(), hours);
-    (time_of_day(hour, minute, second, time.nanosecond()), days)
+    )
+}
+
+// The hour that clocks at `to` show, with the hours that go into it, and the days that go out of it.
+#[tactic(auto, using(crate::proofs::CarryLemmas::IsWithin_abs))]
+fn moved_hour(time: Time, from: UtcOffset, to: UtcOffset, hours: i8) -> (u8, i8)
+    requires hours { hours ≡ hours_carried time from to }
+    requires few { IsWithin 2 hours }
+    ensures hour { result.0 ≡ carried_hour time from to }
+    ensures days { result.1 ≡ days_carried time from to }
+    ensures below { result.0 < 24 }
+    ensures within { IsWithin 3 result.1 }
+{
+    carry_day(time.hour(), from.whole_hours(), to.whole_hours(), hours)
 }
 
 // The time of day of these parts.

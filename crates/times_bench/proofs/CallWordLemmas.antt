@@ -19,7 +19,7 @@ use Rattle.calendar_values.specs.declared.month.Month.TheVariants.{January, Febr
 use Rattle.stamp_times.specs.Numbered.{month_numbered}
 use Rattle.stamp_times.specs.declared.calls.Call.{Call}
 use Rattle.times_bench.proofs.NumberLemmas.{both_true}
-use Rattle.times_bench.specs.CallWords.{named, reads, single, duration_of, month_of, date_of, calls_with_arguments, call_of_parts, call_of}
+use Rattle.times_bench.specs.CallWords.{named, reads, single, duration_of, month_of, date_of, call_names, call_with, call_of_parts, call_of}
 use Rattle.times_bench.specs.Numbers.{i64_of, i32_of, u8_of}
 use Rattle.times_bench.specs.Words.{cut_at, arguments_of}
 
@@ -61,11 +61,11 @@ unfolding reads
 IsName-read name call e = IsName-is_name name (named-passes is_name reads name call refl e)
 
 IsName-call : (name arguments : List ℕ) (call : Call)
-    → option_and_then (λ read. read (arguments_of arguments)) (named calls_with_arguments name) ≡ Some call → IsName name
-unfolding calls_with_arguments
-IsName-call name arguments call e = elim (named calls_with_arguments name) as (λ found. named calls_with_arguments name ≡ found → option_and_then (λ read. read (arguments_of arguments)) found ≡ Some call → IsName name) [
+    → option_and_then (λ call. call_with call (arguments_of arguments)) (named call_names name) ≡ Some call → IsName name
+unfolding call_names
+IsName-call name arguments call e = elim (named call_names name) as (λ found. named call_names name ≡ found → option_and_then (λ call. call_with call (arguments_of arguments)) found ≡ Some call → IsName name) [
   | None ↦ λ is h. absurd cc
-  | Some read ↦ λ is h. IsName-is_name name (named-passes is_name calls_with_arguments name read refl is)
+  | Some read ↦ λ is h. IsName-is_name name (named-passes is_name call_names name read refl is)
 ] refl e
 
 IsName-parts : (name : List ℕ) (rest : List (List ℕ)) (call : Call) → call_of_parts (name ∷ rest) ≡ Some call → IsName name

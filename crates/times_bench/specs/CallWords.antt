@@ -11,10 +11,15 @@ use Rattle.stamp_times.specs.Numbered.{month_numbered}
 use Rattle.calendar_values.specs.declared.month.Month.{Month}
 use Rattle.stamp_times.specs.declared.calls.DateRead.TheVariants as date_read
 use Rattle.stamp_times.specs.declared.calls.ClockRead.TheVariants as clock_read
-use Rattle.stamp_times.specs.declared.calls.Shift.TheVariants.{CheckedAdd, CheckedSub, SaturatingAdd, SaturatingSub}
+use Rattle.stamp_times.specs.declared.calls.Shift.TheVariants as shift
+use Rattle.stamp_times.specs.declared.calls.Replace.{Replace}
 use Rattle.stamp_times.specs.declared.calls.Replace.TheVariants as replacing
 use Rattle.stamp_times.specs.declared.calls.Call.{Call}
 use Rattle.stamp_times.specs.declared.calls.Call.TheVariants as call
+use Rattle.times_bench.specs.declared.call_words.CallName.{CallName}
+use Rattle.times_bench.specs.declared.call_words.CallName.TheVariants as name
+use Rattle.times_bench.specs.declared.call_words.PartName.{PartName}
+use Rattle.times_bench.specs.declared.call_words.PartName.TheVariants as part
 use Rattle.times_bench.specs.Numbers.{i64_of, i32_of, u32_of, u16_of, u8_of}
 use Rattle.times_bench.specs.StepWords.{offset_of}
 use Rattle.times_bench.specs.Words.{cut_at, arguments_of}
@@ -95,32 +100,56 @@ date_of (year ∷ month ∷ day ∷ []) =
     option_and_then (λ y. option_and_then (λ m. option_and_then (λ d. result_ok (calendar_date y (month_number m) d)) (u8_of day)) (month_of month)) (i32_of year)
 date_of (year ∷ month ∷ day ∷ next ∷ arguments) = None
 
--- the calls with arguments, by their names, and how the arguments read
-unfoldable pub calls_with_arguments : List (List ℕ × (List (List ℕ) → Option Call))
-calls_with_arguments =
-    (codes "checked_add", λ arguments. option_map (λ d. call.Shift (CheckedAdd d)) (duration_of arguments)) ∷
-    (codes "checked_sub", λ arguments. option_map (λ d. call.Shift (CheckedSub d)) (duration_of arguments)) ∷
-    (codes "saturating_add", λ arguments. option_map (λ d. call.Shift (SaturatingAdd d)) (duration_of arguments)) ∷
-    (codes "saturating_sub", λ arguments. option_map (λ d. call.Shift (SaturatingSub d)) (duration_of arguments)) ∷
-    (codes "replace_time", λ arguments. option_map (λ c. call.Replace (replacing.Time c)) (time_of arguments)) ∷
-    (codes "replace_date", λ arguments. option_map (λ n. call.Replace (replacing.Date n)) (date_of arguments)) ∷
-    (codes "replace_month", λ arguments. option_map (λ m. call.Replace (replacing.Month m)) (option_and_then month_of (single arguments))) ∷
-    (codes "replace_year", λ arguments. option_map (λ part. call.Replace (replacing.Year part)) (option_and_then i32_of (single arguments))) ∷
-    (codes "replace_day", λ arguments. option_map (λ part. call.Replace (replacing.Day part)) (option_and_then u8_of (single arguments))) ∷
-    (codes "replace_ordinal", λ arguments. option_map (λ part. call.Replace (replacing.Ordinal part)) (option_and_then u16_of (single arguments))) ∷
-    (codes "replace_hour", λ arguments. option_map (λ part. call.Replace (replacing.Hour part)) (option_and_then u8_of (single arguments))) ∷
-    (codes "replace_minute", λ arguments. option_map (λ part. call.Replace (replacing.Minute part)) (option_and_then u8_of (single arguments))) ∷
-    (codes "replace_second", λ arguments. option_map (λ part. call.Replace (replacing.Second part)) (option_and_then u8_of (single arguments))) ∷
-    (codes "replace_millisecond", λ arguments. option_map (λ part. call.Replace (replacing.Millisecond part)) (option_and_then u16_of (single arguments))) ∷
-    (codes "replace_microsecond", λ arguments. option_map (λ part. call.Replace (replacing.Microsecond part)) (option_and_then u32_of (single arguments))) ∷
-    (codes "replace_nanosecond", λ arguments. option_map (λ part. call.Replace (replacing.Nanosecond part)) (option_and_then u32_of (single arguments))) ∷
-    (codes "checked_to_offset", λ arguments. option_map call.Local (option_and_then offset_of (single arguments))) ∷ []
+-- the calls with arguments, by their names
+unfoldable pub call_names : List (List ℕ × CallName)
+call_names =
+    (codes "checked_add", name.CheckedAdd) ∷
+    (codes "checked_sub", name.CheckedSub) ∷
+    (codes "saturating_add", name.SaturatingAdd) ∷
+    (codes "saturating_sub", name.SaturatingSub) ∷
+    (codes "replace_time", name.ReplaceTime) ∷
+    (codes "replace_date", name.ReplaceDate) ∷
+    (codes "replace_month", name.Replace part.Month) ∷
+    (codes "replace_year", name.Replace part.Year) ∷
+    (codes "replace_day", name.Replace part.Day) ∷
+    (codes "replace_ordinal", name.Replace part.Ordinal) ∷
+    (codes "replace_hour", name.Replace part.Hour) ∷
+    (codes "replace_minute", name.Replace part.Minute) ∷
+    (codes "replace_second", name.Replace part.Second) ∷
+    (codes "replace_millisecond", name.Replace part.Millisecond) ∷
+    (codes "replace_microsecond", name.Replace part.Microsecond) ∷
+    (codes "replace_nanosecond", name.Replace part.Nanosecond) ∷
+    (codes "checked_to_offset", name.CheckedToOffset) ∷ []
+
+-- a part replaced by a number
+unfoldable pub part_with : PartName → List ℕ → Option Replace
+part_with part.Month number = option_map replacing.Month (month_of number)
+part_with part.Year number = option_map replacing.Year (i32_of number)
+part_with part.Day number = option_map replacing.Day (u8_of number)
+part_with part.Ordinal number = option_map replacing.Ordinal (u16_of number)
+part_with part.Hour number = option_map replacing.Hour (u8_of number)
+part_with part.Minute number = option_map replacing.Minute (u8_of number)
+part_with part.Second number = option_map replacing.Second (u8_of number)
+part_with part.Millisecond number = option_map replacing.Millisecond (u16_of number)
+part_with part.Microsecond number = option_map replacing.Microsecond (u32_of number)
+part_with part.Nanosecond number = option_map replacing.Nanosecond (u32_of number)
+
+-- how the arguments of each call read
+unfoldable pub call_with : CallName → List (List ℕ) → Option Call
+call_with name.CheckedAdd arguments = option_map (λ d. call.Shift (shift.CheckedAdd d)) (duration_of arguments)
+call_with name.CheckedSub arguments = option_map (λ d. call.Shift (shift.CheckedSub d)) (duration_of arguments)
+call_with name.SaturatingAdd arguments = option_map (λ d. call.Shift (shift.SaturatingAdd d)) (duration_of arguments)
+call_with name.SaturatingSub arguments = option_map (λ d. call.Shift (shift.SaturatingSub d)) (duration_of arguments)
+call_with name.ReplaceTime arguments = option_map (λ c. call.Replace (replacing.Time c)) (time_of arguments)
+call_with name.ReplaceDate arguments = option_map (λ n. call.Replace (replacing.Date n)) (date_of arguments)
+call_with (name.Replace part) arguments = option_map call.Replace (option_and_then (part_with part) (single arguments))
+call_with name.CheckedToOffset arguments = option_map call.Local (option_and_then offset_of (single arguments))
 
 -- a call, by what stands before its `=` and after it
 unfoldable pub call_of_parts : List (List ℕ) → Option Call
 call_of_parts [] = None
 call_of_parts (name ∷ []) = named reads name
-call_of_parts (name ∷ arguments ∷ []) = option_and_then (λ read. read (arguments_of arguments)) (named calls_with_arguments name)
+call_of_parts (name ∷ arguments ∷ []) = option_and_then (λ call. call_with call (arguments_of arguments)) (named call_names name)
 call_of_parts (name ∷ arguments ∷ next ∷ parts) = None
 
 -- a call

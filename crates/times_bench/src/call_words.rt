@@ -1,7 +1,6 @@
 //! The words of a run.
 ghost use Rattle.std.specs.Prelude.{◌≡◌, ◌≤◌, length, OnSome, Some, option_map};
-ghost use Rattle.std.specs.Option.{option_and_then};
-ghost use Rattle.times_bench.specs.CallWords.{named, reads, calls_with_arguments, single, duration_of, time_of, month_of, date_of, call_of};
+ghost use Rattle.times_bench.specs.CallWords.{named, reads, call_names, call_with, part_with, single, duration_of, time_of, month_of, date_of, call_of};
 ghost use Rattle.times_bench.specs.Words.{arguments_of};
 
 use super::numbers::{parse_i32, parse_i64, parse_u8, parse_u16, parse_u32};
@@ -9,6 +8,34 @@ use super::step_words::offset_of;
 use super::words::cut_at;
 use calendar_values::{Date, Month, SignedDuration, Time};
 use stamp_times::{Call, ClockRead, DateRead, Replace, Shift};
+
+/// The calls that take arguments.
+#[derive(Clone, Copy)]
+pub enum CallName {
+    CheckedAdd,
+    CheckedSub,
+    SaturatingAdd,
+    SaturatingSub,
+    ReplaceTime,
+    ReplaceDate,
+    Replace(PartName),
+    CheckedToOffset,
+}
+
+/// The parts of a date or a time of day that a call replaces by a number.
+#[derive(Clone, Copy)]
+pub enum PartName {
+    Month,
+    Year,
+    Day,
+    Ordinal,
+    Hour,
+    Minute,
+    Second,
+    Millisecond,
+    Microsecond,
+    Nanosecond,
+}
 
 /// The call of a word: the name of a read, or a name, `=` and its arguments with `,` between.
 #[tactic(auto, unfolding(crate::specs::CallWords::call_of_parts, crate::specs::CallWords::call_of))]
@@ -25,7 +52,7 @@ pub fn call_of(word: &[u8]) -> Option<Call>
     if more.is_some() {
         return None;
     }
-    call_with(name, arguments)
+    call_with(call_name(name)?, arguments)
 }
 
 // The read of this name.
@@ -62,31 +89,66 @@ fn read_named(name: &str) -> Option<Call>
     }
 }
 
-// The call of this name with these arguments.
-#[tactic(auto, unfolding(crate::specs::CallWords::calls_with_arguments))]
-fn call_with(name: &str, arguments: &[u8]) -> Option<Call>
-    ensures { result ≡ option_and_then (λ read. read (arguments_of arguments.now)) (named calls_with_arguments name.now) }
+// The call of this name that takes arguments.
+#[tactic(auto, unfolding(crate::specs::CallWords::call_names))]
+fn call_name(name: &str) -> Option<CallName>
+    ensures { result ≡ named call_names name.now }
 {
-    let argument = single(arguments);
     match name {
-        "checked_add" => Some(Call::Shift(Shift::CheckedAdd(duration_of(arguments)?))),
-        "checked_sub" => Some(Call::Shift(Shift::CheckedSub(duration_of(arguments)?))),
-        "saturating_add" => Some(Call::Shift(Shift::SaturatingAdd(duration_of(arguments)?))),
-        "saturating_sub" => Some(Call::Shift(Shift::SaturatingSub(duration_of(arguments)?))),
-        "replace_time" => Some(Call::Replace(Replace::Time(time_of(arguments)?))),
-        "replace_date" => Some(Call::Replace(Replace::Date(date_of(arguments)?))),
-        "replace_month" => Some(Call::Replace(Replace::Month(month_of(argument?)?))),
-        "replace_year" => Some(Call::Replace(Replace::Year(parse_i32(argument?)?))),
-        "replace_day" => Some(Call::Replace(Replace::Day(parse_u8(argument?)?))),
-        "replace_ordinal" => Some(Call::Replace(Replace::Ordinal(parse_u16(argument?)?))),
-        "replace_hour" => Some(Call::Replace(Replace::Hour(parse_u8(argument?)?))),
-        "replace_minute" => Some(Call::Replace(Replace::Minute(parse_u8(argument?)?))),
-        "replace_second" => Some(Call::Replace(Replace::Second(parse_u8(argument?)?))),
-        "replace_millisecond" => Some(Call::Replace(Replace::Millisecond(parse_u16(argument?)?))),
-        "replace_microsecond" => Some(Call::Replace(Replace::Microsecond(parse_u32(argument?)?))),
-        "replace_nanosecond" => Some(Call::Replace(Replace::Nanosecond(parse_u32(argument?)?))),
-        "checked_to_offset" => Some(Call::Local(offset_of(argument?)?)),
+        "checked_add" => Some(CallName::CheckedAdd),
+        "checked_sub" => Some(CallName::CheckedSub),
+        "saturating_add" => Some(CallName::SaturatingAdd),
+        "saturating_sub" => Some(CallName::SaturatingSub),
+        "replace_time" => Some(CallName::ReplaceTime),
+        "replace_date" => Some(CallName::ReplaceDate),
+        "replace_month" => Some(CallName::Replace(PartName::Month)),
+        "replace_year" => Some(CallName::Replace(PartName::Year)),
+        "replace_day" => Some(CallName::Replace(PartName::Day)),
+        "replace_ordinal" => Some(CallName::Replace(PartName::Ordinal)),
+        "replace_hour" => Some(CallName::Replace(PartName::Hour)),
+        "replace_minute" => Some(CallName::Replace(PartName::Minute)),
+        "replace_second" => Some(CallName::Replace(PartName::Second)),
+        "replace_millisecond" => Some(CallName::Replace(PartName::Millisecond)),
+        "replace_microsecond" => Some(CallName::Replace(PartName::Microsecond)),
+        "replace_nanosecond" => Some(CallName::Replace(PartName::Nanosecond)),
+        "checked_to_offset" => Some(CallName::CheckedToOffset),
         _ => None,
+    }
+}
+
+// The call of this name with these arguments.
+#[tactic(auto, unfolding(crate::specs::CallWords::call_with))]
+fn call_with(name: CallName, arguments: &[u8]) -> Option<Call>
+    ensures { result ≡ call_with name (arguments_of arguments.now) }
+{
+    match name {
+        CallName::CheckedAdd => Some(Call::Shift(Shift::CheckedAdd(duration_of(arguments)?))),
+        CallName::CheckedSub => Some(Call::Shift(Shift::CheckedSub(duration_of(arguments)?))),
+        CallName::SaturatingAdd => Some(Call::Shift(Shift::SaturatingAdd(duration_of(arguments)?))),
+        CallName::SaturatingSub => Some(Call::Shift(Shift::SaturatingSub(duration_of(arguments)?))),
+        CallName::ReplaceTime => Some(Call::Replace(Replace::Time(time_of(arguments)?))),
+        CallName::ReplaceDate => Some(Call::Replace(Replace::Date(date_of(arguments)?))),
+        CallName::Replace(part) => Some(Call::Replace(part_with(part, single(arguments)?)?)),
+        CallName::CheckedToOffset => Some(Call::Local(offset_of(single(arguments)?)?)),
+    }
+}
+
+// The replacement of this part by a number.
+#[tactic(auto, unfolding(crate::specs::CallWords::part_with))]
+fn part_with(part: PartName, number: &[u8]) -> Option<Replace>
+    ensures { result ≡ part_with part number.now }
+{
+    match part {
+        PartName::Month => Some(Replace::Month(month_of(number)?)),
+        PartName::Year => Some(Replace::Year(parse_i32(number)?)),
+        PartName::Day => Some(Replace::Day(parse_u8(number)?)),
+        PartName::Ordinal => Some(Replace::Ordinal(parse_u16(number)?)),
+        PartName::Hour => Some(Replace::Hour(parse_u8(number)?)),
+        PartName::Minute => Some(Replace::Minute(parse_u8(number)?)),
+        PartName::Second => Some(Replace::Second(parse_u8(number)?)),
+        PartName::Millisecond => Some(Replace::Millisecond(parse_u16(number)?)),
+        PartName::Microsecond => Some(Replace::Microsecond(parse_u32(number)?)),
+        PartName::Nanosecond => Some(Replace::Nanosecond(parse_u32(number)?)),
     }
 }
 
