@@ -33,8 +33,7 @@ pub struct OffsetDateTime {
 impl Model for OffsetDateTime {
     ghost use Rattle.calendar_values.specs.Clock.{IsClock};
     ghost use Rattle.calendar_values.specs.Offsets.{IsOffset};
-    ghost use Rattle.calendar_values.specs.Range.{IsDay};
-    ghost use Rattle.calendar_values.specs.WallClock.{wall_clock, wall_day, wall_time};
+    ghost use Rattle.calendar_values.specs.WallClock.{wall_clock, wall_day, wall_time, IsWallClock};
     ghost use Rattle.calendar_values.specs.WallClockLaws.{wall_day-wall_clock, wall_time-wall_clock};
     ghost use Rattle.offset_times.specs.Local.{Local, local};
 
@@ -42,7 +41,7 @@ impl Model for OffsetDateTime {
 
     ghost view = { λ at. local (wall_clock at.date at.time) at.offset };
 
-    ghost invariant = { λ at. IsDay at.date × IsClock at.time × IsOffset at.offset };
+    ghost invariant = { λ at. IsWallClock (wall_clock at.date at.time) × IsClock at.time × IsOffset at.offset };
 
     ghost inverse = { λ at. record { date = wall_day at.wall; time = wall_time at.wall; offset = at.offset } };
 
