@@ -28,14 +28,9 @@ IsLocal-fields at day o time e h = rw (← e) (h.0, h.2)
 
 -- the wall clocks lie apart by the instants and the offsets
 pub instants_apart : (a b : Local) (walls offsets : ℤ) → walls ≡ a.wall -ℤ b.wall → offsets ≡ offset_nanos (b.offset -ℤ a.offset) → walls +ℤ offsets ≡ instant_of a -ℤ instant_of b
+unfolding instant_of
 instants_apart a b walls offsets e f = omega (arith, ints)
 
 -- no further than durations reach
 pub IsDuration-apart : (a b : Local) (walls offsets : ℤ) → IsLocal a → IsLocal b → walls ≡ a.wall -ℤ b.wall → offsets ≡ offset_nanos (b.offset -ℤ a.offset) → IsDuration (walls +ℤ offsets)
 IsDuration-apart a b walls offsets h k e f = (omega (arith, ints), omega (arith, ints))
-
--- an instant in UTC is what clocks there show
-pub instant_of-utc : (i : ℤ) → instant_of (local i (pos 0)) ≡ i
-instant_of-utc i = omega (arith, ints)
-
-pub ruleset utc_instants = (instant_of-utc)
