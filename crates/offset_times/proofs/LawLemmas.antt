@@ -19,10 +19,8 @@ pub later_by-back : (at : Local) (d : ℤ) → IsWallClock at.wall → later_by 
 later_by-back at d h = later_by-is (local (at.wall +ℤ d) at.offset) (neg_ℤ d) at.wall (omega (arith, ints)) h
 
 pub later_by-difference : (a b : Local) → IsWallClock (shown_at (instant_of a) b.offset) → later_by b (instant_of a -ℤ instant_of b) ≡ Some (local_at (instant_of a) b.offset)
+unfolding instant_of
 later_by-difference a b h = later_by-is b (instant_of a -ℤ instant_of b) (shown_at (instant_of a) b.offset) (omega (arith, ints)) h
-
-pub instant_of-local_at : (a b : Local) → instant_of (local_at (instant_of a) b.offset) ≡ instant_of a
-instant_of-local_at a b = omega (arith, ints)
 
 pub truncated-truncated : (unit : ℕ) (at : Local) → 0 < unit → truncated unit (truncated unit at) ≡ truncated unit at
 truncated-truncated unit at some = ap (λ (w : ℤ). local w at.offset) (rounded_down-twice unit at.wall some)

@@ -6,10 +6,10 @@ use Rattle.calendar_values.specs.Clock.{IsClock}
 use Rattle.calendar_values.specs.DayLaws.{IsYear-year_of, year_of-ordinal_date}
 use Rattle.calendar_values.specs.Durations.{IsDuration}
 use Rattle.calendar_values.specs.Offsets.{IsOffset}
-use Rattle.calendar_values.specs.Range.{IsDay, IsYear}
+use Rattle.calendar_values.specs.Range.{IsYear}
 use Rattle.calendar_values.specs.SignedArith.{signed_arith}
 use Rattle.calendar_values.specs.WallClock.{wall_clock, IsWallClock, unix_seconds_of}
-use Rattle.calendar_values.specs.WallClockLaws.{IsDay-wall_day, IsWallClock-wall_clock, wall_day-wall_clock}
+use Rattle.calendar_values.specs.WallClockLaws.{IsDay-wall_day, wall_day-wall_clock}
 use Rattle.offset_times.specs.Local.{Local, IsLocal, instant_of, local, offset_nanos}
 
 -- whole seconds taken away
@@ -22,20 +22,15 @@ IsYear-wall_clock y ordinal c date clock w =
     let day = IsDay-wall_day _ w in
     rw (year_of-ordinal_date y ordinal date) at (IsYear-year_of (day_of_ordinal_date y ordinal) (rw (wall_day-wall_clock (day_of_ordinal_date y ordinal) c clock) at day))
 
--- a day, a clock and an offset of their ranges
-pub IsLocal-fields : (at : Local) (day o : ℤ) (time : ℕ) → local (wall_clock day time) o ≡ at → IsDay day × IsClock time × IsOffset o → IsLocal at
-IsLocal-fields at day o time e h = rw (← e) (IsWallClock-wall_clock day time h.1 h.0, h.2)
+-- a wall clock and an offset of their ranges
+pub IsLocal-fields : (at : Local) (day o : ℤ) (time : ℕ) → local (wall_clock day time) o ≡ at → IsWallClock (wall_clock day time) × IsClock time × IsOffset o → IsLocal at
+IsLocal-fields at day o time e h = rw (← e) (h.0, h.2)
 
 -- the wall clocks lie apart by the instants and the offsets
 pub instants_apart : (a b : Local) (walls offsets : ℤ) → walls ≡ a.wall -ℤ b.wall → offsets ≡ offset_nanos (b.offset -ℤ a.offset) → walls +ℤ offsets ≡ instant_of a -ℤ instant_of b
+unfolding instant_of
 instants_apart a b walls offsets e f = omega (arith, ints)
 
 -- no further than durations reach
 pub IsDuration-apart : (a b : Local) (walls offsets : ℤ) → IsLocal a → IsLocal b → walls ≡ a.wall -ℤ b.wall → offsets ≡ offset_nanos (b.offset -ℤ a.offset) → IsDuration (walls +ℤ offsets)
 IsDuration-apart a b walls offsets h k e f = (omega (arith, ints), omega (arith, ints))
-
--- an instant in UTC is what clocks there show
-pub instant_of-utc : (i : ℤ) → instant_of (local i (pos 0)) ≡ i
-instant_of-utc i = omega (arith, ints)
-
-pub ruleset utc_instants = (instant_of-utc)

@@ -31,12 +31,14 @@ later_instant : (m n o p : ℤ) (c d : ℕ) → (m +ℤ pos 3) <ℤ n → IsCloc
 later_instant m n o p c d far clock h k = omega (arith, signed_arith)
 
 pub later_by_dates : (a b : Local) → IsLocal a → IsLocal b → pos 3 <ℤ ((year_of (wall_day a.wall) -ℤ year_of (wall_day b.wall)) *ℤ pos 365 +ℤ pos (ordinal_of (wall_day a.wall)) -ℤ pos (ordinal_of (wall_day b.wall))) → instant_of b <ℤ instant_of a
+unfolding instant_of
 later_by_dates a b h k far =
     let days = rw (day_of_ordinal_date-of (wall_day a.wall), day_of_ordinal_date-of (wall_day b.wall)) at (later_date _ _ _ _ (IsOrdinalDate-of (wall_day a.wall)) (IsOrdinalDate-of (wall_day b.wall)) far) in
     rw (wall_clock-parts a.wall, wall_clock-parts b.wall) at (later_instant (wall_day b.wall) (wall_day a.wall) a.offset b.offset (wall_time a.wall) (wall_time b.wall) days (IsClock-wall_time b.wall) h.1 k.1)
 
 -- at one offset instants compare as their wall clocks
 pub int_cmp-one_offset : (a b : Local) → a.offset ≡ b.offset → int_cmp a.wall b.wall ≡ int_cmp (instant_of a) (instant_of b)
+unfolding instant_of
 int_cmp-one_offset a b e = grind (arith, ints)
 
 shown_before : (w o j : ℤ) → int_cmp w (shown_at j o) ≡ int_cmp (w -ℤ offset_nanos o) j
@@ -44,6 +46,7 @@ shown_before w o j = grind (arith, ints)
 
 -- at two offsets, as the packed parts that clocks at the first show
 pub int_cmp-shown : (a : Local) (j y z : ℤ) (o p c d : ℕ) → IsParts y o c → IsParts z p d → wall_clock_of_parts y o c ≡ a.wall → wall_clock_of_parts z p d ≡ shown_at j a.offset → int_cmp (packed_parts y o c) (packed_parts z p d) ≡ int_cmp (instant_of a) j
+unfolding instant_of
 int_cmp-shown a j y z o p c d h k e f =
     (rw (e, f) at (int_cmp-packed_parts y z o p c d h k)) ∙ shown_before a.wall a.offset j
 

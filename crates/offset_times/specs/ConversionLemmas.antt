@@ -9,6 +9,7 @@ use Rattle.plain_times.specs.SumLemmas.{checked-in, checked-SomeIff, SomeIff-che
 
 -- clocks at the own offset show the own wall clock
 pub shown_at-own : (at : Local) (o : ℤ) → at.offset ≡ o → shown_at (instant_of at) o ≡ at.wall
+unfolding instant_of
 shown_at-own at o e = rw (sym e) (omega (arith, ints))
 
 pub local_at-own : (at : Local) (o : ℤ) → at.offset ≡ o → local_at (instant_of at) o ≡ at
@@ -36,7 +37,7 @@ SomeIff-converted r at o e =
 
 -- it keeps the instant
 pub converted-again : (at : Local) (a b : ℤ) → converted (local_at (instant_of at) a) b ≡ converted at b
-unfolding converted
+unfolding converted instant_of
 converted-again at a b =
     let kept : shown_at (instant_of (local_at (instant_of at) a)) b ≡ shown_at (instant_of at) b = omega (arith, ints) in
     ap (λ (w : ℤ). option_map (λ (wall : ℤ). local wall b) (checked w)) kept

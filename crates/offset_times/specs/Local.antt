@@ -1,5 +1,5 @@
 -- A wall clock at an offset from UTC, and its instant.
-use Rattle.std.specs.Prelude.{ℕ, ℤ, pos, ◌+ℤ◌, ◌-ℤ◌, ◌*ℤ◌, Option, option_map}
+use Rattle.std.specs.Prelude.{◌≡◌, ℕ, ℤ, pos, ◌+ℤ◌, ◌-ℤ◌, ◌*ℤ◌, Option, option_map}
 use Rattle.calendar_values.specs.Clock.{nanos_per_second}
 use Rattle.calendar_values.specs.Offsets.{IsOffset}
 use Rattle.calendar_values.specs.WallClock.{IsWallClock}
@@ -20,7 +20,7 @@ abbrev pub offset_nanos : ℤ → ℤ
 offset_nanos o = o *ℤ pos nanos_per_second
 
 -- the instant: what clocks in UTC show then
-abbrev pub instant_of : Local → ℤ
+unfoldable pub instant_of : Local → ℤ
 instant_of at = at.wall -ℤ offset_nanos at.offset
 
 -- what clocks at an offset show at an instant
@@ -46,3 +46,16 @@ later_by at d = option_map (λ wall. local wall at.offset) (checked (at.wall +�
 -- the wall clock truncated to a unit, at the same offset
 abbrev pub truncated : ℕ → Local → Local
 truncated unit at = local (rounded_down unit at.wall) at.offset
+
+-- another wall clock at the same offset: the instant lies as far off as the wall clock does
+abbrev pub SameOffset : Local → Local → Type 0
+SameOffset old new = (new.offset ≡ old.offset) × (instant_of new ≡ instant_of old +ℤ (new.wall -ℤ old.wall))
+
+-- so much later at the same offset: the wall clock is, and so is the instant
+abbrev pub IsLater : Local → ℤ → Local → Type 0
+IsLater at d sum = (sum ≡ local (at.wall +ℤ d) at.offset) × (instant_of sum ≡ instant_of at +ℤ d)
+
+-- so much earlier
+abbrev pub IsEarlier : Local → ℤ → Local → Type 0
+IsEarlier at d difference =
+    (difference ≡ local (at.wall -ℤ d) at.offset) × (instant_of difference ≡ instant_of at -ℤ d)

@@ -1,6 +1,6 @@
 //! Wall clocks read at an offset.
-ghost use Rattle.std.specs.Prelude.{◌≡◌, ℤ, pos};
-ghost use Rattle.offset_times.specs.Local.{local};
+ghost use Rattle.std.specs.Prelude.{◌≡◌, ◌-ℤ◌, ℤ, pos};
+ghost use Rattle.offset_times.specs.Local.{instant_of, local, offset_nanos};
 
 use crate::OffsetDateTime;
 use calendar_values::UtcOffset;
@@ -13,11 +13,13 @@ pub trait Assume {
 
     /// The date and the time of day, shown by clocks at the offset.
     fn assume_offset(self, offset: UtcOffset) -> OffsetDateTime
-        ensures { result ≡ local (wall_clock_shown self) offset };
+        ensures value { result ≡ local (wall_clock_shown self) offset }
+        ensures instant { instant_of result ≡ wall_clock_shown self -ℤ offset_nanos offset };
 
     /// The date and the time of day, shown by clocks in UTC.
     fn assume_utc(self) -> OffsetDateTime
-        ensures { result ≡ local (wall_clock_shown self) (pos 0) };
+        ensures value { result ≡ local (wall_clock_shown self) (pos 0) }
+        ensures instant { instant_of result ≡ wall_clock_shown self };
 }
 
 impl Assume for PlainDateTime {

@@ -1,7 +1,7 @@
 //! A date and a time of day at an offset from UTC.
-ghost use Rattle.std.specs.Prelude.{◌≡◌, pos};
+ghost use Rattle.std.specs.Prelude.{◌≡◌, pos, ◌-ℤ◌};
 ghost use Rattle.calendar_values.specs.WallClock.{wall_clock, wall_day, wall_time};
-ghost use Rattle.offset_times.specs.Local.{local, IsLocal};
+ghost use Rattle.offset_times.specs.Local.{instant_of, local, offset_nanos, IsLocal};
 
 use calendar_values::{Date, Time, UtcOffset};
 use plain_times::PlainDateTime;
@@ -33,8 +33,7 @@ pub struct OffsetDateTime {
 impl Model for OffsetDateTime {
     ghost use Rattle.calendar_values.specs.Clock.{IsClock};
     ghost use Rattle.calendar_values.specs.Offsets.{IsOffset};
-    ghost use Rattle.calendar_values.specs.Range.{IsDay};
-    ghost use Rattle.calendar_values.specs.WallClock.{wall_clock, wall_day, wall_time};
+    ghost use Rattle.calendar_values.specs.WallClock.{wall_clock, wall_day, wall_time, IsWallClock};
     ghost use Rattle.calendar_values.specs.WallClockLaws.{wall_day-wall_clock, wall_time-wall_clock};
     ghost use Rattle.offset_times.specs.Local.{Local, local};
 
@@ -42,7 +41,7 @@ impl Model for OffsetDateTime {
 
     ghost view = { λ at. local (wall_clock at.date at.time) at.offset };
 
-    ghost invariant = { λ at. IsDay at.date × IsClock at.time × IsOffset at.offset };
+    ghost invariant = { λ at. IsWallClock (wall_clock at.date at.time) × IsClock at.time × IsOffset at.offset };
 
     ghost inverse = { λ at. record { date = wall_day at.wall; time = wall_time at.wall; offset = at.offset } };
 
@@ -62,8 +61,10 @@ impl OffsetDateTime {
     };
 
     /// The date and the time of day that clocks at the offset show.
+    #[tactic(auto, unfolding(crate::specs::Local::instant_of))]
     pub fn new_in_offset(date: Date, time: Time, offset: UtcOffset) -> OffsetDateTime
-        ensures { result ≡ local (wall_clock date time) offset }
+        ensures value { result ≡ local (wall_clock date time) offset }
+        ensures instant { instant_of result ≡ wall_clock date time -ℤ offset_nanos offset }
     {
         let _date_in_range = date.year();
         let _offset_in_range = offset.whole_seconds();
@@ -71,8 +72,10 @@ impl OffsetDateTime {
     }
 
     /// The date and the time of day, in UTC.
+    #[tactic(auto, using(crate::specs::InstantLemmas::instants))]
     pub fn new_utc(date: Date, time: Time) -> OffsetDateTime
-        ensures { result ≡ local (wall_clock date time) (pos 0) }
+        ensures value { result ≡ local (wall_clock date time) (pos 0) }
+        ensures instant { instant_of result ≡ wall_clock date time }
     {
         OffsetDateTime::new_in_offset(date, time, UtcOffset::UTC)
     }
@@ -107,8 +110,9 @@ impl OffsetDateTime {
 }
 
 impl From<UtcDateTime> for OffsetDateTime {
-    ghost from_gives = { λ instant at. at ≡ local instant (pos 0) };
+    ghost from_gives = { λ instant at. (at ≡ local instant (pos 0)) × (instant_of at ≡ instant) };
 
+    #[tactic(auto, using(crate::specs::InstantLemmas::instants))]
     fn from(at: UtcDateTime) -> OffsetDateTime {
         OffsetDateTime::new_utc(at.date(), at.time())
     }

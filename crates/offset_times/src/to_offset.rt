@@ -1,7 +1,7 @@
 //! Conversions from UTC to an offset.
-ghost use Rattle.std.specs.Prelude.{◌≡◌, SomeIff, ℤ};
+ghost use Rattle.std.specs.Prelude.{◌≡◌, IfSome, SomeIff, ℤ};
 ghost use Rattle.calendar_values.specs.WallClock.{IsWallClock};
-ghost use Rattle.offset_times.specs.Local.{shown_at, local_at};
+ghost use Rattle.offset_times.specs.Local.{instant_of, shown_at, local_at};
 
 use crate::carries::utc_to_offset_raw;
 use crate::offset_date_time::in_range;
@@ -18,16 +18,19 @@ pub trait ToOffset {
     /// crate panics, the caller has to show that, or asks [`ToOffset::checked_to_offset`].
     fn to_offset(self, offset: UtcOffset) -> OffsetDateTime
         requires { IsWallClock (shown_at (instant_shown self) offset) }
-        ensures { result ≡ local_at (instant_shown self) offset };
+        ensures value { result ≡ local_at (instant_shown self) offset }
+        ensures instant { instant_of result ≡ instant_shown self };
 
     /// The same instant at an offset. None where the clocks there show a date outside the range.
     fn checked_to_offset(self, offset: UtcOffset) -> Option<OffsetDateTime>
-        ensures { SomeIff result (IsWallClock (shown_at (instant_shown self) offset)) (local_at (instant_shown self) offset) };
+        ensures value { SomeIff result (IsWallClock (shown_at (instant_shown self) offset)) (local_at (instant_shown self) offset) }
+        ensures instant { IfSome result (λ at. instant_of at ≡ instant_shown self) };
 }
 
 impl ToOffset for UtcDateTime {
     ghost instant_shown = { λ instant. instant };
 
+    #[tactic(auto, using(crate::specs::InstantLemmas::instants))]
     fn to_offset(self, offset: UtcOffset) -> OffsetDateTime {
         self.checked_to_offset(offset).unwrap()
     }

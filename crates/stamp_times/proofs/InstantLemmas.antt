@@ -71,9 +71,3 @@ pub ruleset days = (signed_casts, wall_day-second, wall_time-second, IsDay-wall_
 pub ruleset weekdays = (signed_casts, weekday_of-Monday)
 
 pub ruleset nanoseconds = (signed_casts, with_time-nanosecond)
-
--- the instant of what clocks in UTC show
-pub instant_of-utc : (i : ℤ) → i -ℤ pos 0 *ℤ pos nanos_per_second ≡ i
-instant_of-utc i = omega (arith, ints)
-
-pub ruleset instant_of_utc = (instant_of-utc)

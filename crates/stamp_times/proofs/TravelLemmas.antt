@@ -1,10 +1,10 @@
 -- One more step of a chain of conversions.
 use Rattle.std.proofs.Common.{◌≡◌, ℕ, suc, ◌+◌, ◌<◌, ℤ, List, [], ◌∷◌, ◌++◌, Option, Some, None, SomeIff, Bool, true, false, length, take, drop, get_or, sym, ap, ◌∙◌, refl, arith, add-one, cond, option_map}
 use Rattle.std.proofs.Math.Seq.{drop-cons}
-use Rattle.std.proofs.lemmas.Int.{ints}
 use Rattle.std.proofs.lemmas.List.{take_more}
 use Rattle.std.specs.Option.{is_some}
 use Rattle.calendar_values.specs.WallClock.{IsWallClock}
+use Rattle.offset_times.specs.InstantLemmas.{instant_of-local_at}
 use Rattle.plain_times.specs.SumLemmas.{checked-in, checked-SomeIff}
 use Rattle.plain_times.specs.Sums.{checked}
 use Rattle.stamp_times.specs.Travel.{held_instant, shown_by, holds, held_by, travel, held_after}
@@ -20,7 +20,7 @@ later k place = option_map (λ n. n + k) place
 pub held_instant-held_by : (step : Step) (i : ℤ) → held_instant (held_by step i) ≡ i
 held_instant-held_by ToStamp i = refl
 held_instant-held_by ToUtc i = refl
-held_instant-held_by (ToOffset o) i = omega (arith, ints)
+held_instant-held_by (ToOffset o) i = instant_of-local_at i o
 
 pub held_instant-kept : (next : Held) (step : Step) (i : ℤ) → next ≡ held_by step i → held_instant next ≡ i
 held_instant-kept next step i e = ap held_instant e ∙ held_instant-held_by step i

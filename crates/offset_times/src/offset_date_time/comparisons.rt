@@ -18,7 +18,7 @@ use utc_times::UtcDateTime;
 
 impl OffsetDateTime {
     /// Whether the instant is that of a date-time in UTC, also where its date in UTC does not exist.
-    #[tactic(auto, using(crate::proofs::LocalLemmas::utc_instants))]
+    #[tactic(auto, using(crate::specs::InstantLemmas::instants))]
     pub fn eq_utc(self, other: UtcDateTime) -> bool
         ensures { result ≡ int_eq (instant_of self) other }
     {
@@ -26,7 +26,7 @@ impl OffsetDateTime {
     }
 
     /// The order of the instant and that of a date-time in UTC.
-    #[tactic(auto, using(crate::proofs::LocalLemmas::utc_instants))]
+    #[tactic(auto, using(crate::specs::InstantLemmas::instants))]
     pub fn cmp_utc(self, other: UtcDateTime) -> Ordering
         ensures { result ≡ int_cmp (instant_of self) other }
     {

@@ -1,5 +1,5 @@
 //! Conversions to another offset, and to UTC.
-ghost use Rattle.std.specs.Prelude.{◌≡◌, SomeIff};
+ghost use Rattle.std.specs.Prelude.{◌≡◌, IfSome, SomeIff};
 ghost use Rattle.calendar_values.specs.Calendar.{day_of_ordinal_date, IsOrdinalDate};
 ghost use Rattle.calendar_values.specs.Clock.{IsClock};
 ghost use Rattle.calendar_values.specs.WallClock.{wall_clock, IsWallClock};
@@ -14,9 +14,11 @@ use utc_times::{AsUtc, UtcDateTime};
 impl OffsetDateTime {
     /// The same instant at another offset, whose clocks must then show a date of the range: where the
     /// `time` crate panics, the caller has to show that, or asks [`OffsetDateTime::checked_to_offset`].
+    #[tactic(auto, using(crate::specs::InstantLemmas::instants))]
     pub fn to_offset(self, offset: UtcOffset) -> OffsetDateTime
         requires { IsWallClock (shown_at (instant_of self) offset) }
-        ensures { result ≡ local_at (instant_of self) offset }
+        ensures value { result ≡ local_at (instant_of self) offset }
+        ensures instant { instant_of result ≡ instant_of self }
     {
         self.checked_to_offset(offset).unwrap()
     }
@@ -24,7 +26,8 @@ impl OffsetDateTime {
     /// The same instant at another offset. None where the clocks there show a date outside the range;
     /// whether the date in UTC lies in it does not matter.
     pub fn checked_to_offset(self, offset: UtcOffset) -> Option<OffsetDateTime>
-        ensures { SomeIff result (IsWallClock (shown_at (instant_of self) offset)) (local_at (instant_of self) offset) }
+        ensures value { SomeIff result (IsWallClock (shown_at (instant_of self) offset)) (local_at (instant_of self) offset) }
+        ensures instant { IfSome result (λ at. instant_of at ≡ instant_of self) }
     {
         if self.offset() == offset {
             return Some(self);
@@ -43,6 +46,7 @@ impl OffsetDateTime {
     }
 
     /// The same instant in UTC. None outside the range.
+    #[tactic(auto, unfolding(crate::specs::Local::instant_of))]
     pub fn checked_to_utc(self) -> Option<UtcDateTime>
         ensures { SomeIff result (IsWallClock (instant_of self)) (instant_of self) }
     {

@@ -2,7 +2,7 @@
 ghost use Rattle.std.specs.Prelude.{◌≡◌, pos, ◌+ℤ◌, ◌-ℤ◌};
 ghost use Rattle.std.specs.Duration.{as_nanos};
 ghost use Rattle.calendar_values.specs.WallClock.{IsWallClock};
-ghost use Rattle.offset_times.specs.Local.{instant_of, local, offset_nanos};
+ghost use Rattle.offset_times.specs.Local.{instant_of, offset_nanos, IsLater, IsEarlier};
 
 use crate::OffsetDateTime;
 use calendar_values::{SignedDuration, UtcOffset};
@@ -15,8 +15,9 @@ impl Add<SignedDuration> for OffsetDateTime {
 
     ghost can_add = { λ at duration. IsWallClock (at.wall +ℤ duration) };
 
-    ghost add_gives = { λ at duration sum. sum ≡ local (at.wall +ℤ duration) at.offset };
+    ghost add_gives = { λ at duration sum. IsLater at duration sum };
 
+    #[tactic(auto, using(crate::specs::InstantLemmas::instants))]
     fn add(self, duration: SignedDuration) -> OffsetDateTime {
         self.replace_date_time(self.date_time() + duration)
     }
@@ -25,7 +26,7 @@ impl Add<SignedDuration> for OffsetDateTime {
 impl AddAssign<SignedDuration> for OffsetDateTime {
     ghost can_add_assign = { λ at duration. IsWallClock (at.wall +ℤ duration) };
 
-    ghost add_assign_gives = { λ at duration sum. sum ≡ local (at.wall +ℤ duration) at.offset };
+    ghost add_assign_gives = { λ at duration sum. IsLater at duration sum };
 
     fn add_assign(&mut self, duration: SignedDuration) {
         *self = *self + duration;
@@ -37,8 +38,9 @@ impl Add<Duration> for OffsetDateTime {
 
     ghost can_add = { λ at duration. IsWallClock (at.wall +ℤ pos (as_nanos duration)) };
 
-    ghost add_gives = { λ at duration sum. sum ≡ local (at.wall +ℤ pos (as_nanos duration)) at.offset };
+    ghost add_gives = { λ at duration sum. IsLater at (pos (as_nanos duration)) sum };
 
+    #[tactic(auto, using(crate::specs::InstantLemmas::instants))]
     fn add(self, duration: Duration) -> OffsetDateTime {
         self.replace_date_time(self.date_time() + duration)
     }
@@ -47,7 +49,7 @@ impl Add<Duration> for OffsetDateTime {
 impl AddAssign<Duration> for OffsetDateTime {
     ghost can_add_assign = { λ at duration. IsWallClock (at.wall +ℤ pos (as_nanos duration)) };
 
-    ghost add_assign_gives = { λ at duration sum. sum ≡ local (at.wall +ℤ pos (as_nanos duration)) at.offset };
+    ghost add_assign_gives = { λ at duration sum. IsLater at (pos (as_nanos duration)) sum };
 
     fn add_assign(&mut self, duration: Duration) {
         *self = *self + duration;
@@ -59,8 +61,9 @@ impl Sub<SignedDuration> for OffsetDateTime {
 
     ghost can_sub = { λ at duration. IsWallClock (at.wall -ℤ duration) };
 
-    ghost sub_gives = { λ at duration difference. difference ≡ local (at.wall -ℤ duration) at.offset };
+    ghost sub_gives = { λ at duration difference. IsEarlier at duration difference };
 
+    #[tactic(auto, using(crate::specs::InstantLemmas::instants))]
     fn sub(self, duration: SignedDuration) -> OffsetDateTime {
         self.replace_date_time(self.date_time() - duration)
     }
@@ -69,7 +72,7 @@ impl Sub<SignedDuration> for OffsetDateTime {
 impl SubAssign<SignedDuration> for OffsetDateTime {
     ghost can_sub_assign = { λ at duration. IsWallClock (at.wall -ℤ duration) };
 
-    ghost sub_assign_gives = { λ at duration difference. difference ≡ local (at.wall -ℤ duration) at.offset };
+    ghost sub_assign_gives = { λ at duration difference. IsEarlier at duration difference };
 
     fn sub_assign(&mut self, duration: SignedDuration) {
         *self = *self - duration;
@@ -81,8 +84,9 @@ impl Sub<Duration> for OffsetDateTime {
 
     ghost can_sub = { λ at duration. IsWallClock (at.wall -ℤ pos (as_nanos duration)) };
 
-    ghost sub_gives = { λ at duration difference. difference ≡ local (at.wall -ℤ pos (as_nanos duration)) at.offset };
+    ghost sub_gives = { λ at duration difference. IsEarlier at (pos (as_nanos duration)) difference };
 
+    #[tactic(auto, using(crate::specs::InstantLemmas::instants))]
     fn sub(self, duration: Duration) -> OffsetDateTime {
         self.replace_date_time(self.date_time() - duration)
     }
@@ -91,7 +95,7 @@ impl Sub<Duration> for OffsetDateTime {
 impl SubAssign<Duration> for OffsetDateTime {
     ghost can_sub_assign = { λ at duration. IsWallClock (at.wall -ℤ pos (as_nanos duration)) };
 
-    ghost sub_assign_gives = { λ at duration difference. difference ≡ local (at.wall -ℤ pos (as_nanos duration)) at.offset };
+    ghost sub_assign_gives = { λ at duration difference. IsEarlier at (pos (as_nanos duration)) difference };
 
     fn sub_assign(&mut self, duration: Duration) {
         *self = *self - duration;
@@ -114,7 +118,7 @@ impl Sub<UtcDateTime> for OffsetDateTime {
 
     ghost sub_gives = { λ at other difference. difference ≡ instant_of at -ℤ other };
 
-    #[tactic(auto, using(crate::proofs::LocalLemmas::utc_instants))]
+    #[tactic(auto, using(crate::specs::InstantLemmas::instants))]
     fn sub(self, other: UtcDateTime) -> SignedDuration {
         self - OffsetDateTime::from(other)
     }
@@ -125,7 +129,7 @@ impl Sub<OffsetDateTime> for UtcDateTime {
 
     ghost sub_gives = { λ at other difference. difference ≡ at -ℤ instant_of other };
 
-    #[tactic(auto, using(crate::proofs::LocalLemmas::utc_instants))]
+    #[tactic(auto, using(crate::specs::InstantLemmas::instants))]
     fn sub(self, other: OffsetDateTime) -> SignedDuration {
         OffsetDateTime::from(self) - other
     }

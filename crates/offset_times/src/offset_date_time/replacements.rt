@@ -1,5 +1,5 @@
 //! Date-times with a part replaced, or truncated to a unit of time: the wall clock is, and the offset stays.
-ghost use Rattle.std.specs.Prelude.{◌≡◌, ◌≤◌, ◌*◌, OkIff, IfErr, codes, pos, ◌+ℤ◌, ◌≤ℤ◌, ◌<ℤ◌};
+ghost use Rattle.std.specs.Prelude.{◌≡◌, ◌≤◌, ◌*◌, OkIff, IfOk, IfErr, codes, pos, ◌+ℤ◌, ◌≤ℤ◌, ◌<ℤ◌};
 ghost use Rattle.calendar_values.specs.Calendar.{year_of, month_of, day_of_month_of, is_leap_year, days_in_year, days_in_month, day_of_calendar_date, day_of_ordinal_date};
 ghost use Rattle.calendar_values.specs.Clock.{nanos_per_day, nanos_per_hour, nanos_per_minute, nanos_per_second, nanos_per_millisecond, nanos_per_microsecond, clock_of_parts, hour_of, minute_of, second_of, nanosecond_of};
 ghost use Rattle.calendar_values.specs.Month.{month_number};
@@ -7,7 +7,7 @@ ghost use Rattle.calendar_values.specs.Refusals.{IsDateOfRange, date_refusal, or
 ghost use Rattle.calendar_values.specs.WallClock.{wall_clock, wall_day, wall_time};
 ghost use Rattle.plain_times.specs.Replacements.{with_date, with_time};
 ghost use Rattle.plain_times.specs.Truncations.{rounded_down};
-ghost use Rattle.offset_times.specs.Local.{local};
+ghost use Rattle.offset_times.specs.Local.{local, SameOffset};
 
 use crate::{Assume, OffsetDateTime};
 use calendar_values::{ComponentRange, Date, Month, Time, UtcOffset};
@@ -15,8 +15,10 @@ use plain_times::PlainDateTime;
 
 impl OffsetDateTime {
     /// The same offset with another date and time of day.
+    #[tactic(auto, using(crate::specs::InstantLemmas::same_offset))]
     pub fn replace_date_time(self, date_time: PlainDateTime) -> OffsetDateTime
-        ensures { result ≡ local date_time self.offset }
+        ensures value { result ≡ local date_time self.offset }
+        ensures instant { SameOffset self result }
     {
         date_time.assume_offset(self.offset())
     }
@@ -30,14 +32,16 @@ impl OffsetDateTime {
 
     /// As [`PlainDateTime::replace_time`] of the wall clock.
     pub fn replace_time(self, time: Time) -> OffsetDateTime
-        ensures { result ≡ local (with_time self.wall time) self.offset }
+        ensures value { result ≡ local (with_time self.wall time) self.offset }
+        ensures instant { SameOffset self result }
     {
         self.replace_date_time(self.date_time().replace_time(time))
     }
 
     /// As [`PlainDateTime::replace_date`] of the wall clock.
     pub fn replace_date(self, date: Date) -> OffsetDateTime
-        ensures { result ≡ local (with_date self.wall date) self.offset }
+        ensures value { result ≡ local (with_date self.wall date) self.offset }
+        ensures instant { SameOffset self result }
     {
         self.replace_date_time(self.date_time().replace_date(date))
     }
@@ -48,6 +52,7 @@ impl OffsetDateTime {
             (IsDateOfRange year (month_of n) (day_of_month_of n))
             (local (with_date self.wall (day_of_calendar_date year (month_of n) (day_of_month_of n))) self.offset) }
         ensures refused { IfErr result (λ refusal. refusal ≡ date_refusal year (day_of_month_of (wall_day self.wall))) }
+        ensures instant { IfOk result (λ at. SameOffset self at) }
     {
         Ok(self.replace_date_time(self.date_time().replace_year(year)?))
     }
@@ -58,6 +63,7 @@ impl OffsetDateTime {
             (day_of_month_of n ≤ days_in_month (is_leap_year (year_of n)) (month_number month))
             (local (with_date self.wall (day_of_calendar_date (year_of n) (month_number month) (day_of_month_of n))) self.offset) }
         ensures refused { IfErr result (λ refusal. refusal ≡ conditional_refusal (codes "day")) }
+        ensures instant { IfOk result (λ at. SameOffset self at) }
     {
         Ok(self.replace_date_time(self.date_time().replace_month(month)?))
     }
@@ -68,6 +74,7 @@ impl OffsetDateTime {
             ((1 ≤ day) × (day ≤ days_in_month (is_leap_year (year_of n)) (month_of n)))
             (local (with_date self.wall (day_of_calendar_date (year_of n) (month_of n) day)) self.offset) }
         ensures refused { IfErr result (λ refusal. refusal ≡ date_refusal (year_of (wall_day self.wall)) day) }
+        ensures instant { IfOk result (λ at. SameOffset self at) }
     {
         Ok(self.replace_date_time(self.date_time().replace_day(day)?))
     }
@@ -78,6 +85,7 @@ impl OffsetDateTime {
             ((1 ≤ ordinal) × (ordinal ≤ days_in_year (year_of n)))
             (local (with_date self.wall (day_of_ordinal_date (year_of n) ordinal)) self.offset) }
         ensures refused { IfErr result (λ refusal. refusal ≡ ordinal_refusal (year_of (wall_day self.wall)) ordinal) }
+        ensures instant { IfOk result (λ at. SameOffset self at) }
     {
         Ok(self.replace_date_time(self.date_time().replace_ordinal(ordinal)?))
     }
@@ -88,6 +96,7 @@ impl OffsetDateTime {
         ensures midnight { result ≡ local (wall_clock (wall_day self.wall) 0) self.offset }
         ensures not_above { result.wall ≤ℤ self.wall }
         ensures within { self.wall <ℤ (result.wall +ℤ pos nanos_per_day) }
+        ensures instant { SameOffset self result }
     {
         self.replace_date_time(self.date_time().truncate_to_day())
     }
@@ -97,6 +106,7 @@ impl OffsetDateTime {
         ensures value { let c = wall_time self.wall in OkIff result (hour ≤ 23)
             (local (with_time self.wall (clock_of_parts hour (minute_of c) (second_of c) (nanosecond_of c))) self.offset) }
         ensures refused { IfErr result (λ refusal. refusal ≡ outright_refusal (codes "hour")) }
+        ensures instant { IfOk result (λ at. SameOffset self at) }
     {
         Ok(self.replace_date_time(self.date_time().replace_hour(hour)?))
     }
@@ -106,6 +116,7 @@ impl OffsetDateTime {
         ensures value { result ≡ local (rounded_down nanos_per_hour self.wall) self.offset }
         ensures not_above { result.wall ≤ℤ self.wall }
         ensures within { self.wall <ℤ (result.wall +ℤ pos nanos_per_hour) }
+        ensures instant { SameOffset self result }
     {
         self.replace_date_time(self.date_time().truncate_to_hour())
     }
@@ -115,6 +126,7 @@ impl OffsetDateTime {
         ensures value { let c = wall_time self.wall in OkIff result (minute ≤ 59)
             (local (with_time self.wall (clock_of_parts (hour_of c) minute (second_of c) (nanosecond_of c))) self.offset) }
         ensures refused { IfErr result (λ refusal. refusal ≡ outright_refusal (codes "minute")) }
+        ensures instant { IfOk result (λ at. SameOffset self at) }
     {
         Ok(self.replace_date_time(self.date_time().replace_minute(minute)?))
     }
@@ -124,6 +136,7 @@ impl OffsetDateTime {
         ensures value { result ≡ local (rounded_down nanos_per_minute self.wall) self.offset }
         ensures not_above { result.wall ≤ℤ self.wall }
         ensures within { self.wall <ℤ (result.wall +ℤ pos nanos_per_minute) }
+        ensures instant { SameOffset self result }
     {
         self.replace_date_time(self.date_time().truncate_to_minute())
     }
@@ -133,6 +146,7 @@ impl OffsetDateTime {
         ensures value { let c = wall_time self.wall in OkIff result (second ≤ 59)
             (local (with_time self.wall (clock_of_parts (hour_of c) (minute_of c) second (nanosecond_of c))) self.offset) }
         ensures refused { IfErr result (λ refusal. refusal ≡ outright_refusal (codes "second")) }
+        ensures instant { IfOk result (λ at. SameOffset self at) }
     {
         Ok(self.replace_date_time(self.date_time().replace_second(second)?))
     }
@@ -142,6 +156,7 @@ impl OffsetDateTime {
         ensures value { result ≡ local (rounded_down nanos_per_second self.wall) self.offset }
         ensures not_above { result.wall ≤ℤ self.wall }
         ensures within { self.wall <ℤ (result.wall +ℤ pos nanos_per_second) }
+        ensures instant { SameOffset self result }
     {
         self.replace_date_time(self.date_time().truncate_to_second())
     }
@@ -151,6 +166,7 @@ impl OffsetDateTime {
         ensures value { let c = wall_time self.wall in OkIff result (millisecond ≤ 999)
             (local (with_time self.wall (clock_of_parts (hour_of c) (minute_of c) (second_of c) (millisecond * nanos_per_millisecond))) self.offset) }
         ensures refused { IfErr result (λ refusal. refusal ≡ outright_refusal (codes "millisecond")) }
+        ensures instant { IfOk result (λ at. SameOffset self at) }
     {
         Ok(self.replace_date_time(self.date_time().replace_millisecond(millisecond)?))
     }
@@ -160,6 +176,7 @@ impl OffsetDateTime {
         ensures value { result ≡ local (rounded_down nanos_per_millisecond self.wall) self.offset }
         ensures not_above { result.wall ≤ℤ self.wall }
         ensures within { self.wall <ℤ (result.wall +ℤ pos nanos_per_millisecond) }
+        ensures instant { SameOffset self result }
     {
         self.replace_date_time(self.date_time().truncate_to_millisecond())
     }
@@ -169,6 +186,7 @@ impl OffsetDateTime {
         ensures value { let c = wall_time self.wall in OkIff result (microsecond ≤ 999_999)
             (local (with_time self.wall (clock_of_parts (hour_of c) (minute_of c) (second_of c) (microsecond * nanos_per_microsecond))) self.offset) }
         ensures refused { IfErr result (λ refusal. refusal ≡ outright_refusal (codes "microsecond")) }
+        ensures instant { IfOk result (λ at. SameOffset self at) }
     {
         Ok(self.replace_date_time(self.date_time().replace_microsecond(microsecond)?))
     }
@@ -178,6 +196,7 @@ impl OffsetDateTime {
         ensures value { result ≡ local (rounded_down nanos_per_microsecond self.wall) self.offset }
         ensures not_above { result.wall ≤ℤ self.wall }
         ensures within { self.wall <ℤ (result.wall +ℤ pos nanos_per_microsecond) }
+        ensures instant { SameOffset self result }
     {
         self.replace_date_time(self.date_time().truncate_to_microsecond())
     }
@@ -187,6 +206,7 @@ impl OffsetDateTime {
         ensures value { let c = wall_time self.wall in OkIff result (nanosecond ≤ 999_999_999)
             (local (with_time self.wall (clock_of_parts (hour_of c) (minute_of c) (second_of c) nanosecond)) self.offset) }
         ensures refused { IfErr result (λ refusal. refusal ≡ outright_refusal (codes "nanosecond")) }
+        ensures instant { IfOk result (λ at. SameOffset self at) }
     {
         Ok(self.replace_date_time(self.date_time().replace_nanosecond(nanosecond)?))
     }

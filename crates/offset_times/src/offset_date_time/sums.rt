@@ -1,8 +1,8 @@
 //! Sums of a date-time and a duration: the wall clock moves, and the offset stays.
-ghost use Rattle.std.specs.Prelude.{◌≡◌, pos, ◌+ℤ◌, ◌-ℤ◌, ◌≤ℤ◌, SomeIff};
+ghost use Rattle.std.specs.Prelude.{◌≡◌, pos, ◌+ℤ◌, ◌-ℤ◌, ◌≤ℤ◌, IfSome, SomeIff};
 ghost use Rattle.std.specs.Duration.{as_nanos};
 ghost use Rattle.calendar_values.specs.WallClock.{IsWallClock};
-ghost use Rattle.offset_times.specs.Local.{local};
+ghost use Rattle.offset_times.specs.Local.{instant_of, local, SameOffset};
 ghost use Rattle.plain_times.specs.Sums.{clamped};
 
 use crate::OffsetDateTime;
@@ -11,29 +11,37 @@ use std::time::Duration;
 
 impl OffsetDateTime {
     /// As [`plain_times::PlainDateTime::checked_add`] of the wall clock, whether its instant lies in the range or not.
+    #[tactic(auto, using(crate::specs::InstantLemmas::instants))]
     pub fn checked_add(self, duration: SignedDuration) -> Option<OffsetDateTime>
-        ensures { let wall = self.wall +ℤ duration in SomeIff result (IsWallClock wall) (local wall self.offset) }
+        ensures value { let wall = self.wall +ℤ duration in SomeIff result (IsWallClock wall) (local wall self.offset) }
+        ensures instant { IfSome result (λ at. instant_of at ≡ instant_of self +ℤ duration) }
     {
         Some(self.replace_date_time(self.date_time().checked_add(duration)?))
     }
 
     /// As [`plain_times::PlainDateTime::checked_sub`] of the wall clock, whether its instant lies in the range or not.
+    #[tactic(auto, using(crate::specs::InstantLemmas::instants))]
     pub fn checked_sub(self, duration: SignedDuration) -> Option<OffsetDateTime>
-        ensures { let wall = self.wall -ℤ duration in SomeIff result (IsWallClock wall) (local wall self.offset) }
+        ensures value { let wall = self.wall -ℤ duration in SomeIff result (IsWallClock wall) (local wall self.offset) }
+        ensures instant { IfSome result (λ at. instant_of at ≡ instant_of self -ℤ duration) }
     {
         Some(self.replace_date_time(self.date_time().checked_sub(duration)?))
     }
 
     /// As [`plain_times::PlainDateTime::checked_add_std`] of the wall clock, whether its instant lies in the range or not.
+    #[tactic(auto, using(crate::specs::InstantLemmas::instants))]
     pub fn checked_add_std(self, duration: Duration) -> Option<OffsetDateTime>
-        ensures { let wall = self.wall +ℤ pos (as_nanos duration) in SomeIff result (IsWallClock wall) (local wall self.offset) }
+        ensures value { let wall = self.wall +ℤ pos (as_nanos duration) in SomeIff result (IsWallClock wall) (local wall self.offset) }
+        ensures instant { IfSome result (λ at. instant_of at ≡ instant_of self +ℤ pos (as_nanos duration)) }
     {
         Some(self.replace_date_time(self.date_time().checked_add_std(duration)?))
     }
 
     /// As [`plain_times::PlainDateTime::checked_sub_std`] of the wall clock, whether its instant lies in the range or not.
+    #[tactic(auto, using(crate::specs::InstantLemmas::instants))]
     pub fn checked_sub_std(self, duration: Duration) -> Option<OffsetDateTime>
-        ensures { let wall = self.wall -ℤ pos (as_nanos duration) in SomeIff result (IsWallClock wall) (local wall self.offset) }
+        ensures value { let wall = self.wall -ℤ pos (as_nanos duration) in SomeIff result (IsWallClock wall) (local wall self.offset) }
+        ensures instant { IfSome result (λ at. instant_of at ≡ instant_of self -ℤ pos (as_nanos duration)) }
     {
         Some(self.replace_date_time(self.date_time().checked_sub_std(duration)?))
     }
@@ -43,6 +51,7 @@ impl OffsetDateTime {
         ensures value { result ≡ local (clamped (self.wall +ℤ duration)) self.offset }
         ensures not_before { pos 0 ≤ℤ duration → self.wall ≤ℤ result.wall }
         ensures not_after { duration ≤ℤ pos 0 → result.wall ≤ℤ self.wall }
+        ensures instant { SameOffset self result }
     {
         self.replace_date_time(self.date_time().saturating_add(duration))
     }
@@ -52,6 +61,7 @@ impl OffsetDateTime {
         ensures value { result ≡ local (clamped (self.wall -ℤ duration)) self.offset }
         ensures not_before { duration ≤ℤ pos 0 → self.wall ≤ℤ result.wall }
         ensures not_after { pos 0 ≤ℤ duration → result.wall ≤ℤ self.wall }
+        ensures instant { SameOffset self result }
     {
         self.replace_date_time(self.date_time().saturating_sub(duration))
     }

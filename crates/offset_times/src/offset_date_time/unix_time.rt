@@ -1,5 +1,5 @@
 //! Unix time: instants counted from 1970-01-01 0:00 UTC, with no leap seconds.
-ghost use Rattle.std.specs.Prelude.{◌≡◌, OkIff, IfErr, codes, pos};
+ghost use Rattle.std.specs.Prelude.{◌≡◌, OkIff, IfOk, IfErr, codes, pos};
 ghost use Rattle.calendar_values.specs.Refusals.{outright_refusal};
 ghost use Rattle.calendar_values.specs.WallClock.{unix_seconds_of, IsWallClock};
 ghost use Rattle.offset_times.specs.Local.{instant_of, local};
@@ -14,6 +14,7 @@ impl OffsetDateTime {
     /// that of [`UtcDateTime::MAX`].
     pub fn from_unix_timestamp(timestamp: i64) -> Result<OffsetDateTime, ComponentRange>
         ensures value { let i = instant_of_second timestamp in OkIff result (IsWallClock i) (local i (pos 0)) }
+        ensures instant { IfOk result (λ at. instant_of at ≡ instant_of_second timestamp) }
         ensures refused { IfErr result (λ refusal. refusal ≡ outright_refusal (codes "timestamp")) }
     {
         Ok(OffsetDateTime::from(UtcDateTime::from_unix_timestamp(timestamp)?))
@@ -23,6 +24,7 @@ impl OffsetDateTime {
     /// [`UtcDateTime::MIN`] or after [`UtcDateTime::MAX`].
     pub fn from_unix_timestamp_nanos(timestamp: i128) -> Result<OffsetDateTime, ComponentRange>
         ensures value { OkIff result (IsWallClock timestamp) (local timestamp (pos 0)) }
+        ensures instant { IfOk result (λ at. instant_of at ≡ timestamp) }
         ensures refused { IfErr result (λ refusal. refusal ≡ outright_refusal (codes "timestamp")) }
     {
         Ok(OffsetDateTime::from(UtcDateTime::from_unix_timestamp_nanos(timestamp)?))

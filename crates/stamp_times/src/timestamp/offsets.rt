@@ -1,5 +1,5 @@
 //! Timestamps and date-times at offsets from UTC: the same instants.
-ghost use Rattle.std.specs.Prelude.{◌≡◌, ◌-ℤ◌, pos, SomeIff};
+ghost use Rattle.std.specs.Prelude.{◌≡◌, ◌-ℤ◌, pos, IfSome, SomeIff};
 ghost use Rattle.std.specs.Ordering.{int_eq, int_cmp};
 ghost use Rattle.calendar_values.specs.WallClock.{IsWallClock};
 ghost use Rattle.offset_times.specs.Local.{instant_of, shown_at, local, local_at};
@@ -15,20 +15,22 @@ impl Timestamp {
     /// crate panics, the caller has to show that, or asks [`Timestamp::checked_to_offset`].
     pub fn to_offset(self, offset: UtcOffset) -> OffsetDateTime
         requires { IsWallClock (shown_at self offset) }
-        ensures { result ≡ local_at self offset }
+        ensures value { result ≡ local_at self offset }
+        ensures instant { instant_of result ≡ self }
     {
         self.to_utc().to_offset(offset)
     }
 
     /// The same instant at an offset. None where the clocks there show a date outside the range.
     pub fn checked_to_offset(self, offset: UtcOffset) -> Option<OffsetDateTime>
-        ensures { SomeIff result (IsWallClock (shown_at self offset)) (local_at self offset) }
+        ensures value { SomeIff result (IsWallClock (shown_at self offset)) (local_at self offset) }
+        ensures instant { IfSome result (λ at. instant_of at ≡ self) }
     {
         self.to_utc().checked_to_offset(offset)
     }
 
     /// Whether both are one instant.
-    #[tactic(auto, using(crate::proofs::InstantLemmas::instant_of_utc))]
+    #[tactic(auto, using(offset_times::specs::InstantLemmas::instants))]
     pub fn eq_offset(self, other: OffsetDateTime) -> bool
         ensures { result ≡ int_eq self (instant_of other) }
     {
@@ -36,7 +38,7 @@ impl Timestamp {
     }
 
     /// Which instant comes first.
-    #[tactic(auto, using(crate::proofs::InstantLemmas::instant_of_utc))]
+    #[tactic(auto, using(offset_times::specs::InstantLemmas::instants))]
     pub fn cmp_offset(self, other: OffsetDateTime) -> Ordering
         ensures { result ≡ int_cmp self (instant_of other) }
     {
@@ -45,8 +47,9 @@ impl Timestamp {
 }
 
 impl From<Timestamp> for OffsetDateTime {
-    ghost from_gives = { λ stamp at. at ≡ local stamp (pos 0) };
+    ghost from_gives = { λ stamp at. (at ≡ local stamp (pos 0)) × (instant_of at ≡ stamp) };
 
+    #[tactic(auto, using(offset_times::specs::InstantLemmas::instants))]
     fn from(stamp: Timestamp) -> OffsetDateTime {
         OffsetDateTime::from(stamp.to_utc())
     }
@@ -57,7 +60,7 @@ impl Sub<OffsetDateTime> for Timestamp {
 
     ghost sub_gives = { λ stamp at difference. difference ≡ stamp -ℤ instant_of at };
 
-    #[tactic(auto, using(crate::proofs::InstantLemmas::instant_of_utc))]
+    #[tactic(auto, using(offset_times::specs::InstantLemmas::instants))]
     fn sub(self, other: OffsetDateTime) -> SignedDuration {
         OffsetDateTime::from(self) - other
     }
@@ -68,7 +71,7 @@ impl Sub<Timestamp> for OffsetDateTime {
 
     ghost sub_gives = { λ at stamp difference. difference ≡ instant_of at -ℤ stamp };
 
-    #[tactic(auto, using(crate::proofs::InstantLemmas::instant_of_utc))]
+    #[tactic(auto, using(offset_times::specs::InstantLemmas::instants))]
     fn sub(self, other: Timestamp) -> SignedDuration {
         self - OffsetDateTime::from(other)
     }

@@ -1,8 +1,9 @@
-use Rattle.std.proofs.Common.{◌≡◌, ◌∙◌, ℕ, rules, sym, ap, ℤ, int_cmp, to_z, of_z, w32}
+use Rattle.std.proofs.Common.{◌≡◌, ◌∙◌, ℕ, arith, rules, sym, ap, ℤ, int_cmp, to_z, of_z, w32}
 use Rattle.std.specs.Cmp.{signed_Decides}
 use Rattle.std.specs.Int.{w128}
 use Rattle.calendar_values.specs.Calendar.{year_of, ordinal_of}
 use Rattle.calendar_values.specs.WallClock.{wall_day, wall_time}
+use Rattle.calendar_values.specs.YearLaws.{days_in_year_bounds}
 use Rattle.offset_times.specs.Local.{instant_of, shown_at}
 use Rattle.offset_times.proofs.OrderLemmas.{int_cmp-one_offset, int_cmp-shown}
 use Rattle.plain_times.specs.Packed.{packed_parts}
@@ -41,3 +42,7 @@ returns c =
     let mine = own c ∙ own_parts c in
     let other = shown c ∙ shown_parts c in
     c.cmp-2.ensures ∙ ap (λ (n : ℤ). int_cmp n (to_z w128 (of_z w128 c.packed.result))) mine ∙ ap (λ (n : ℤ). int_cmp (packed_parts (year_of (wall_day c.args.self.wall)) (ordinal_of (wall_day c.args.self.wall)) (wall_time c.args.self.wall)) n) other ∙ int_cmp-shown c.args.self (instant_of c.args.other) (year_of (wall_day c.args.self.wall)) c.to_offset_raw-year.result.0 (ordinal_of (wall_day c.args.self.wall)) c.to_offset_raw-year.result.1 (wall_time c.args.self.wall) c.to_offset_raw-year.result.2 (IsParts-of c.args.self.wall) (record { date = raw.date; clock = raw.clock }) (wall_clock_of_parts-of c.args.self.wall) (raw.shown ∙ ap (λ (o : ℤ). shown_at (instant_of c.args.other) o) c.offset-3.ensures.value)
+
+pub packed-requires : goal.packed-requires
+packed-requires c =
+    let date = c.to_offset_raw-year.ensures.date in omega (arith, days_in_year_bounds c.to_offset_raw-year.result.0)

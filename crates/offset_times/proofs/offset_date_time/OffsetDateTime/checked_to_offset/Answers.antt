@@ -1,18 +1,24 @@
-use Rattle.std.proofs.Common.{◌≡◌, ◌∙◌, rules, sym, subst, ℤ, to_z, of_z, w32}
+use Rattle.std.proofs.Common.{◌≡◌, ◌∙◌, rules, sym, subst, ℤ, to_z, of_z, w32, ap}
 use Rattle.std.specs.Cmp.{signed_Decides}
 use Rattle.calendar_values.specs.Calendar.{day_of_ordinal_date}
 use Rattle.calendar_values.specs.WallClock.{wall_clock, IsWallClock}
-use Rattle.offset_times.specs.Local.{instant_of, shown_at}
+use Rattle.offset_times.specs.Local.{instant_of, shown_at, local_at}
 use Rattle.offset_times.specs.ConversionLemmas.{shown_at-own, local_at-own}
+use Rattle.offset_times.specs.InstantLemmas.{instant_of-local_at}
 use Rattle.offset_times.proofs.offset_date_time.OffsetDateTime.checked_to_offset.Goals as goal
 
-pub returns-then-eq : goal.returns-then-eq
-returns-then-eq c =
+pub returns-then-eq-clause-value : goal.returns-then-eq-clause-value
+returns-then-eq-clause-value c =
     let same = (signed_Decides c.offset.result c.args.offset).0 (sym c.if-eq.ensures) in
     let own : c.args.self.offset ≡ c.args.offset = sym c.offset.ensures.value ∙ same in
     (subst (λ (w : ℤ). IsWallClock w) (sym (shown_at-own c.args.self c.args.offset own)) c.offset.ensures.in_range.0, sym (local_at-own c.args.self c.args.offset own))
 
-pub returns-in_err-in_range : goal.returns-in_err-in_range
-returns-in_err-in_range c =
+pub returns-in_err-in_range-clause-value : goal.returns-in_err-in_range-clause-value
+returns-in_err-in_range-clause-value c =
     let shown : wall_clock (day_of_ordinal_date (to_z w32 (of_z w32 c.to_offset_raw-year.result.0)) c.to_offset_raw-year.result.1) c.to_offset_raw-year.result.2 ≡ shown_at (instant_of c.args.self) c.args.offset = search rules in
     rw c.from_residual.ensures (λ in_range. c.in_err-in_range.ensures (subst (λ (w : ℤ). IsWallClock w) (sym shown) in_range))
+
+pub returns-clause-instant : goal.returns-clause-instant
+returns-clause-instant c =
+    let kept : c.assume_offset.result ≡ local_at (instant_of c.args.self) c.args.offset = search rules in
+    ap instant_of kept ∙ instant_of-local_at (instant_of c.args.self) c.args.offset

@@ -1,0 +1,42 @@
+-- The instant of a wall clock at an offset, where the offset or the instant was given.
+use Rattle.std.proofs.Common.{◌≡◌, refl, arith, ℤ, pos, ◌+ℤ◌, ◌-ℤ◌}
+use Rattle.std.proofs.lemmas.Int.{ints}
+use Rattle.offset_times.specs.Local.{Local, instant_of, local, local_at, shown_at, SameOffset}
+
+-- a conversion keeps the instant
+pub instant_of-local_at : (i o : ℤ) → instant_of (local_at i o) ≡ i
+unfolding instant_of
+instant_of-local_at i o = omega (arith, ints)
+
+-- an instant in UTC is what clocks there show
+pub instant_of-utc : (i : ℤ) → instant_of (local i (pos 0)) ≡ i
+unfolding instant_of
+instant_of-utc i = omega (arith, ints)
+
+-- clocks at the own offset show the own wall clock
+pub shown_at-instant_of : (at : Local) → shown_at (instant_of at) at.offset ≡ at.wall
+unfolding instant_of
+shown_at-instant_of at = omega (arith, ints)
+
+pub local_at-instant_of : (at : Local) → local_at (instant_of at) at.offset ≡ at
+unfolding instant_of
+local_at-instant_of at = rw (shown_at-instant_of at)
+
+-- a later wall clock at the same offset is as much later an instant
+pub instant_of-later : (at : Local) (d : ℤ) → instant_of (local (at.wall +ℤ d) at.offset) ≡ instant_of at +ℤ d
+unfolding instant_of
+instant_of-later at d = omega (arith, ints)
+
+pub instant_of-earlier : (at : Local) (d : ℤ) → instant_of (local (at.wall -ℤ d) at.offset) ≡ instant_of at -ℤ d
+unfolding instant_of
+instant_of-earlier at d = omega (arith, ints)
+
+-- another wall clock at the same offset
+pub SameOffset-local : (at : Local) (w : ℤ) → SameOffset at (local w at.offset)
+unfolding instant_of
+SameOffset-local at w = (refl, omega (arith, ints))
+
+pub ruleset same_offset = SameOffset-local
+
+-- what callers name where they follow an instant
+pub ruleset instants = (instant_of-local_at, instant_of-utc, instant_of-later, instant_of-earlier)
