@@ -1,26 +1,63 @@
--- Sums and truncations at an offset.
-use Rattle.std.proofs.Common.{◌≡◌, ℕ, ◌<◌, ap, sym, ◌∙◌, subst, arith, ℤ, neg_ℤ, ◌+ℤ◌, ◌-ℤ◌, Some}
+-- Conversions, sums and truncations at an offset, by what their calls answer.
+use Rattle.std.proofs.Common.{◌≡◌, ℕ, ◌<◌, refl, ap, sym, ◌∙◌, subst, arith, ℤ, ◌+ℤ◌, ◌-ℤ◌, Option, Some, None, SomeIff}
+use Rattle.std.specs.Prelude.{IsSomeAnd}
 use Rattle.std.proofs.lemmas.Int.{ints}
 use Rattle.calendar_values.specs.WallClock.{IsWallClock}
-use Rattle.offset_times.specs.Local.{Local, instant_of, local, local_at, shown_at, later_by, truncated}
-use Rattle.plain_times.specs.SumLemmas.{checked-in}
+use Rattle.offset_times.specs.InstantLemmas.{instant_of-local_at, shown_at-instant_of, local_at-instant_of}
+use Rattle.offset_times.specs.Local.{Local, instant_of, local, local_at, shown_at, truncated}
 use Rattle.plain_times.specs.TruncationLemmas.{rounded_down-twice}
 
-pub later_by-in : (at : Local) (d : ℤ) → IsWallClock (at.wall +ℤ d) → later_by at d ≡ Some (local (at.wall +ℤ d) at.offset)
-unfolding later_by
-later_by-in at d h = rw (checked-in (at.wall +ℤ d) h)
+-- an answer that is a value exactly under a condition is that value where the condition holds
+answered : {P : Type 0} (answer : Option Local) (value : Local) → SomeIff answer P value → P → answer ≡ Some value
+answered (Some given) value h holds = ap Some h.1
+answered None value h holds = absurd (h holds)
 
--- the same sum written otherwise
-later_by-is : (at : Local) (d w : ℤ) → at.wall +ℤ d ≡ w → IsWallClock w → later_by at d ≡ Some (local w at.offset)
-later_by-is at d w e h =
-    later_by-in at d (subst (λ (v : ℤ). IsWallClock v) (sym e) h) ∙ ap (λ (v : ℤ). Some (local v at.offset)) e
+-- a conversion of what keeps the instant answers as one of the original does
+pub conversion-again : (at first : Local) (a b : ℤ) (second : Option Local)
+    → SomeIff (Some first) (IsWallClock (shown_at (instant_of at) a)) (local_at (instant_of at) a)
+    → SomeIff second (IsWallClock (shown_at (instant_of first) b)) (local_at (instant_of first) b)
+    → SomeIff second (IsWallClock (shown_at (instant_of at) b)) (local_at (instant_of at) b)
+conversion-again at first a b second accepted answer =
+    let kept : instant_of first ≡ instant_of at = ap instant_of accepted.1 ∙ instant_of-local_at (instant_of at) a in
+    subst (λ (i : ℤ). SomeIff second (IsWallClock (shown_at i b)) (local_at i b)) kept answer
 
-pub later_by-back : (at : Local) (d : ℤ) → IsWallClock at.wall → later_by (local (at.wall +ℤ d) at.offset) (neg_ℤ d) ≡ Some at
-later_by-back at d h = later_by-is (local (at.wall +ℤ d) at.offset) (neg_ℤ d) at.wall (omega (arith, ints)) h
+pub conversion-own : (at : Local) (converted : Option Local) → IsWallClock at.wall
+    → SomeIff converted (IsWallClock (shown_at (instant_of at) at.offset)) (local_at (instant_of at) at.offset)
+    → converted ≡ Some at
+conversion-own at converted in_range answer =
+    let shown = subst (λ (w : ℤ). IsWallClock w) (sym (shown_at-instant_of at)) in_range in
+    answered converted (local_at (instant_of at) at.offset) answer shown ∙ ap Some (local_at-instant_of at)
 
-pub later_by-difference : (a b : Local) → IsWallClock (shown_at (instant_of a) b.offset) → later_by b (instant_of a -ℤ instant_of b) ≡ Some (local_at (instant_of a) b.offset)
+-- a sum and the same duration taken away
+sum_back : (w d : ℤ) → w +ℤ d -ℤ d ≡ w
+sum_back w d = omega (arith, ints)
+
+pub difference-undoes_sum : (at sum : Local) (d : ℤ) (back : Option Local) → IsWallClock at.wall
+    → SomeIff (Some sum) (IsWallClock (at.wall +ℤ d)) (local (at.wall +ℤ d) at.offset)
+    → SomeIff back (IsWallClock (sum.wall -ℤ d)) (local (sum.wall -ℤ d) sum.offset)
+    → back ≡ Some at
+difference-undoes_sum at sum d back in_range accepted answer =
+    let wall : sum.wall -ℤ d ≡ at.wall = ap (λ (s : Local). s.wall -ℤ d) accepted.1 ∙ sum_back at.wall d in
+    let offset : sum.offset ≡ at.offset = ap (λ (s : Local). s.offset) accepted.1 in
+    let same : local (sum.wall -ℤ d) sum.offset ≡ at =
+    ap (λ (w : ℤ). local w sum.offset) wall ∙ ap (λ (o : ℤ). local at.wall o) offset in
+    answered back (local (sum.wall -ℤ d) sum.offset) answer (subst (λ (w : ℤ). IsWallClock w) (sym wall) in_range) ∙ ap Some same
+
+-- a difference, added to its second value
+difference_there : (a b : Local) → b.wall +ℤ (instant_of a -ℤ instant_of b) ≡ shown_at (instant_of a) b.offset
 unfolding instant_of
-later_by-difference a b h = later_by-is b (instant_of a -ℤ instant_of b) (shown_at (instant_of a) b.offset) (omega (arith, ints)) h
+difference_there a b = omega (arith, ints)
+
+pub difference-leads_back : (a b : Local) (sum : Option Local) → IsWallClock (shown_at (instant_of a) b.offset)
+    → (let wall = b.wall +ℤ (instant_of a -ℤ instant_of b) in SomeIff sum (IsWallClock wall) (local wall b.offset))
+    → IsSomeAnd sum (λ c. instant_of c ≡ instant_of a)
+difference-leads_back a b sum in_range answer =
+    let there = difference_there a b in
+    let wall = b.wall +ℤ (instant_of a -ℤ instant_of b) in
+    let some = answered sum (local wall b.offset) answer (subst (λ (w : ℤ). IsWallClock w) (sym there) in_range) in
+    let kept : instant_of (local wall b.offset) ≡ instant_of a =
+    ap (λ (w : ℤ). instant_of (local w b.offset)) there ∙ instant_of-local_at (instant_of a) b.offset in
+    subst (λ (r : Option Local). IsSomeAnd r (λ c. instant_of c ≡ instant_of a)) (sym some) kept
 
 pub truncated-truncated : (unit : ℕ) (at : Local) → 0 < unit → truncated unit (truncated unit at) ≡ truncated unit at
 truncated-truncated unit at some = ap (λ (w : ℤ). local w at.offset) (rounded_down-twice unit at.wall some)

@@ -1,5 +1,5 @@
 -- Wall clocks at offsets, and their instants.
-use Rattle.std.proofs.Common.{◌≡◌, ℕ, arith, ℤ, pos, ◌+ℤ◌, ◌-ℤ◌}
+use Rattle.std.proofs.Common.{◌≡◌, ℕ, sym, ap, ◌∙◌, arith, ℤ, pos, ◌+ℤ◌, ◌-ℤ◌}
 use Rattle.std.proofs.lemmas.Int.{ints}
 use Rattle.calendar_values.specs.Calendar.{day_of_ordinal_date, IsOrdinalDate}
 use Rattle.calendar_values.specs.Clock.{IsClock}
@@ -10,7 +10,15 @@ use Rattle.calendar_values.specs.Range.{IsYear}
 use Rattle.calendar_values.specs.SignedArith.{signed_arith}
 use Rattle.calendar_values.specs.WallClock.{wall_clock, IsWallClock, unix_seconds_of}
 use Rattle.calendar_values.specs.WallClockLaws.{IsDay-wall_day, wall_day-wall_clock}
-use Rattle.offset_times.specs.Local.{Local, IsLocal, instant_of, local, offset_nanos}
+use Rattle.offset_times.specs.InstantLemmas.{shown_at-instant_of, local_at-instant_of}
+use Rattle.offset_times.specs.Local.{Local, IsLocal, instant_of, local, local_at, shown_at, offset_nanos}
+
+-- clocks at the own offset show the own wall clock
+pub shown_at-own : (at : Local) (o : ℤ) → at.offset ≡ o → shown_at (instant_of at) o ≡ at.wall
+shown_at-own at o e = ap (λ (p : ℤ). shown_at (instant_of at) p) (sym e) ∙ shown_at-instant_of at
+
+pub local_at-own : (at : Local) (o : ℤ) → at.offset ≡ o → local_at (instant_of at) o ≡ at
+local_at-own at o e = ap (λ (p : ℤ). local_at (instant_of at) p) (sym e) ∙ local_at-instant_of at
 
 -- whole seconds taken away
 pub unix_seconds_of_instant : (w o : ℤ) → unix_seconds_of (w -ℤ offset_nanos o) ≡ unix_seconds_of w -ℤ o

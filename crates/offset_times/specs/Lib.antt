@@ -1,5 +1,4 @@
 pub mod Carries
-pub mod ConversionLemmas
 pub mod InstantLemmas
 pub mod Laws
 pub mod Local

@@ -1,9 +1,8 @@
 -- A wall clock at an offset from UTC, and its instant.
-use Rattle.std.specs.Prelude.{◌≡◌, ℕ, ℤ, pos, ◌+ℤ◌, ◌-ℤ◌, ◌*ℤ◌, Option, option_map}
+use Rattle.std.specs.Prelude.{◌≡◌, ℕ, ℤ, pos, ◌+ℤ◌, ◌-ℤ◌, ◌*ℤ◌}
 use Rattle.calendar_values.specs.Clock.{nanos_per_second}
 use Rattle.calendar_values.specs.Offsets.{IsOffset}
 use Rattle.calendar_values.specs.WallClock.{IsWallClock}
-use Rattle.plain_times.specs.Sums.{checked}
 use Rattle.plain_times.specs.Truncations.{rounded_down}
 
 -- the wall clock, in nanoseconds, and the offset of the clocks that show it, in seconds
@@ -34,14 +33,6 @@ local_at instant o = record { wall = shown_at instant o; offset = o }
 -- a wall clock at an offset
 abbrev pub local : ℤ → ℤ → Local
 local wall o = record { wall = wall; offset = o }
-
--- the same instant at another offset, if the range has what clocks there show
-unfoldable pub converted : Local → ℤ → Option Local
-converted at o = option_map (λ wall. local wall o) (checked (shown_at (instant_of at) o))
-
--- so much later at the same offset, if the range has the wall clock
-unfoldable pub later_by : Local → ℤ → Option Local
-later_by at d = option_map (λ wall. local wall at.offset) (checked (at.wall +ℤ d))
 
 -- the wall clock truncated to a unit, at the same offset
 abbrev pub truncated : ℕ → Local → Local

@@ -1,21 +1,22 @@
 -- What shows that the definitions are what their names say: laws of all wall clocks and durations, each proved by a function of `src/laws.rt`.
-use Rattle.std.specs.Prelude.{◌≡◌, ◌↔◌, ℕ, ◌<◌, ◌≤◌, ℤ, ◌+ℤ◌, ◌-ℤ◌, ◌<ℤ◌, Some, Ok}
+use Rattle.std.specs.Prelude.{◌≡◌, ◌↔◌, ℕ, ◌<◌, ◌≤◌, ℤ, ◌+ℤ◌, ◌-ℤ◌, ◌<ℤ◌, Option, Some, SomeIff, Ok}
 use Rattle.calendar_values.specs.Calendar.{year_of, month_of, day_of_month_of, ordinal_of}
 use Rattle.calendar_values.specs.Clock.{IsClock, hour_of, minute_of, second_of, millisecond_of, microsecond_of, nanosecond_of}
 use Rattle.calendar_values.specs.Replacements.{with_year, with_month, with_day, with_ordinal, with_hour, with_minute, with_second, with_millisecond, with_microsecond, with_nanosecond}
 use Rattle.calendar_values.specs.WallClock.{wall_day, wall_time, IsWallClock}
 use Rattle.plain_times.specs.Packed.{packed_wall_clock}
 use Rattle.plain_times.specs.Replacements.{with_date, with_time, keeping_time, keeping_day}
-use Rattle.plain_times.specs.Sums.{checked}
 use Rattle.plain_times.specs.Truncations.{rounded_down, IsRoundedDown}
 
--- a duration that is added to a wall clock of the range and taken away again gives the wall clock back
+-- where a sum with a wall clock of the range is accepted, the duration taken away from it gives the wall clock back
 abbrev pub DifferencesUndoSums : Type 0
-DifferencesUndoSums = (w d sum : ℤ) → IsWallClock w → checked (w +ℤ d) ≡ Some sum → checked (sum -ℤ d) ≡ Some w
+DifferencesUndoSums = (w d sum : ℤ) (back : Option ℤ) → IsWallClock w → SomeIff (Some sum) (IsWallClock (w +ℤ d)) (w +ℤ d)
+    → SomeIff back (IsWallClock (sum -ℤ d)) (sum -ℤ d) → back ≡ Some w
 
 -- the difference of two wall clocks of the range leads from the second to the first
 abbrev pub DifferencesLeadBack : Type 0
-DifferencesLeadBack = (a b : ℤ) → IsWallClock a → IsWallClock b → checked (b +ℤ (a -ℤ b)) ≡ Some a
+DifferencesLeadBack = (a b : ℤ) (sum : Option ℤ) → IsWallClock a → IsWallClock b
+    → SomeIff sum (IsWallClock (b +ℤ (a -ℤ b))) (b +ℤ (a -ℤ b)) → sum ≡ Some a
 
 -- this is the only wall clock of the day and the clock
 pub record IsOnlyWallClock (w n : ℤ) (c : ℕ) : Type 0 where

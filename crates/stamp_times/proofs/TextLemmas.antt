@@ -1,5 +1,5 @@
 -- The text of an instant by the seconds and the nanoseconds of its absolute value, and what it tells of them.
-use Rattle.std.proofs.Common.{◌≡◌, ◌≢◌, ◌≤◌, ℕ, zero, suc, ◌+◌, ◌/◌, ◌%◌, ◌<◌, ◌^◌, Bool, true, false, List, [], ◌∷◌, ◌++◌, append_assoc, refl, sym, ap, ◌∙◌, arith, ℤ, pos, negsuc, unsigned_abs, decimal, length, length-append}
+use Rattle.std.proofs.Common.{◌≡◌, ◌≢◌, ◌≤◌, ℕ, zero, suc, ◌+◌, ◌/◌, ◌%◌, ◌<◌, ◌^◌, Bool, true, false, List, [], ◌∷◌, ◌++◌, append_assoc, append-nil, refl, sym, ap, ◌∙◌, arith, ℤ, pos, negsuc, unsigned_abs, decimal, length, length-append}
 use Rattle.std.specs.Prelude.{⊤, nat_eq, int_lt}
 use Rattle.std.specs.Str.Parse.{digits_value}
 use Rattle.std.proofs.lemmas.Bool.Decides.{nat_tests}
@@ -211,11 +211,50 @@ seconds_text-zero_end s (suc n) before front h e = absurd (ended (fraction_digit
       let last = (push-injective (before ++ (decimal s ++ (46 ∷ end.0))) front end.1.0 48 whole).1 in
       fraction_digits-end 9 (suc n) end.0 end.1.0 (omega arith) (omega arith) digits last
 
-pub timestamp_text-zero_end : (i : ℤ) (front : List ℕ) → timestamp_text i ≡ front ++ 48 ∷ [] → unsigned_abs i % nanos_per_second ≡ 0
+timestamp_text-zero_end : (i : ℤ) (front : List ℕ) → timestamp_text i ≡ front ++ 48 ∷ [] → unsigned_abs i % nanos_per_second ≡ 0
 timestamp_text-zero_end (pos a) front e =
     seconds_text-zero_end (a / nanos_per_second) (a % nanos_per_second) [] front (omega arith) (sym (timestamp_text-later a) ∙ e)
 timestamp_text-zero_end (negsuc a) front e =
     seconds_text-zero_end (suc a / nanos_per_second) (suc a % nanos_per_second) (45 ∷ []) front (omega arith) (sym (timestamp_text-earlier a) ∙ e)
+
+-- digits have no point
+no_point : (digits whole rest : List ℕ) → HasNoMarks digits → digits ≡ whole ++ 46 ∷ rest → ⊥
+no_point [] [] rest h e = absurd cc
+no_point [] (b ∷ whole) rest h e = absurd cc
+no_point (c ∷ digits) [] rest h e = let same : c ≡ 46 = cc in omega (arith, h.0)
+no_point (c ∷ digits) (b ∷ whole) rest h e =
+    let others : digits ≡ whole ++ 46 ∷ rest = cc in no_point digits whole rest h.1 others
+
+seconds_text-whole : (s n : ℕ) → n ≡ 0 → seconds_text s n ≡ decimal s
+unfolding seconds_text
+seconds_text-whole s n e = rw (e, fraction_text-zero, append-nil)
+
+first_bytes_apart : (a b : ℕ) (xs ys : List ℕ) → a < b → a ∷ xs ≡ b ∷ ys → ⊥
+first_bytes_apart a b xs ys below e = let same : a ≡ b = cc in omega arith
+
+-- the text of a whole second has no point
+timestamp_text-whole : (i : ℤ) (whole rest : List ℕ) → IsWallClock i → unsigned_abs i % nanos_per_second ≡ 0 → timestamp_text i ≡ whole ++ 46 ∷ rest → ⊥
+timestamp_text-whole (pos a) whole rest h none e =
+    no_point (decimal (a / nanos_per_second)) whole rest (HasNoMarks-decimal (a / nanos_per_second) (omega (arith, ints)))
+    (sym (timestamp_text-later a ∙ seconds_text-whole (a / nanos_per_second) (a % nanos_per_second) none) ∙ e)
+timestamp_text-whole (negsuc a) [] rest h none e =
+    let signed : 45 ∷ decimal (suc a / nanos_per_second) ≡ 46 ∷ rest =
+    sym (timestamp_text-earlier a ∙ ap (λ (t : List ℕ). 45 ∷ t) (seconds_text-whole (suc a / nanos_per_second) (suc a % nanos_per_second) none)) ∙ e in
+    first_bytes_apart 45 46 (decimal (suc a / nanos_per_second)) rest (omega arith) signed
+timestamp_text-whole (negsuc a) (b ∷ whole) rest h none e =
+    let signed : 45 ∷ decimal (suc a / nanos_per_second) ≡ b ∷ (whole ++ 46 ∷ rest) =
+    sym (timestamp_text-earlier a ∙ ap (λ (t : List ℕ). 45 ∷ t) (seconds_text-whole (suc a / nanos_per_second) (suc a % nanos_per_second) none)) ∙ e in
+    let digits : decimal (suc a / nanos_per_second) ≡ whole ++ 46 ∷ rest = cc in
+    no_point (decimal (suc a / nanos_per_second)) whole rest (HasNoMarks-decimal (suc a / nanos_per_second) (omega (arith, ints))) digits
+
+-- no fraction ends in a zero
+pub timestamp_text-fraction_end : (i : ℤ) (whole digits front : List ℕ) → IsWallClock i
+    → timestamp_text i ≡ whole ++ (46 ∷ []) ++ digits → digits ≢ front ++ 48 ∷ []
+timestamp_text-fraction_end i whole digits front h e ends =
+    let point : timestamp_text i ≡ whole ++ 46 ∷ digits = e ∙ append_assoc whole (46 ∷ []) digits in
+    let zero_end : timestamp_text i ≡ (whole ++ 46 ∷ front) ++ 48 ∷ [] =
+    point ∙ ap (λ (t : List ℕ). whole ++ 46 ∷ t) ends ∙ sym (append_assoc whole (46 ∷ front) (48 ∷ [])) in
+    timestamp_text-whole i whole digits h (timestamp_text-zero_end i (whole ++ 46 ∷ front) zero_end) point
 
 seconds_text-zero : seconds_text 0 0 ≡ 48 ∷ []
 unfolding seconds_text

@@ -1,6 +1,6 @@
 -- What shows that counts, replaced parts of a second and texts tell their instants: laws of all instants, each proved by a function of `src/laws.rt`.
-use Rattle.std.specs.Prelude.{◌≡◌, ◌≢◌, ℕ, ◌%◌, List, ◌++◌, codes, ℤ, unsigned_abs}
-use Rattle.calendar_values.specs.Clock.{nanos_per_second, clock_of_parts, hour_of, minute_of, second_of}
+use Rattle.std.specs.Prelude.{◌≡◌, ◌≢◌, ℕ, List, ◌++◌, codes, ℤ}
+use Rattle.calendar_values.specs.Clock.{clock_of_parts, hour_of, minute_of, second_of}
 use Rattle.calendar_values.specs.WallClock.{wall_time, unix_seconds_of, IsWallClock}
 use Rattle.plain_times.specs.Replacements.{with_time}
 use Rattle.utc_times.specs.UnixTime.{instant_of_second}
@@ -18,8 +18,9 @@ abbrev pub NanosecondsKeepTheSecond : Type 0
 NanosecondsKeepTheSecond = (i : ℤ) (n : ℕ)
     → with_time i (clock_of_parts (hour_of (wall_time i)) (minute_of (wall_time i)) (second_of (wall_time i)) n) ≡ instant_of_parts (unix_seconds_of i) n
 
--- no two instants of the range have one text, a text that ends in a zero has no fraction, and none is `-0`
+-- no two instants of the range have one text, no fraction ends in a zero, and no text is `-0`
 pub record TextsTellInstants : Type 0 where
   pub distinct : (i j : ℤ) → IsWallClock i → IsWallClock j → timestamp_text i ≡ timestamp_text j → i ≡ j
-  pub no_zero_ends_a_fraction : (i : ℤ) (front : List ℕ) → timestamp_text i ≡ front ++ codes "0" → unsigned_abs i % nanos_per_second ≡ 0
+  pub no_zero_ends_a_fraction : (i : ℤ) (whole digits front : List ℕ) → IsWallClock i
+      → timestamp_text i ≡ whole ++ codes "." ++ digits → digits ≢ front ++ codes "0"
   pub no_negative_zero : (i : ℤ) → IsWallClock i → timestamp_text i ≢ codes "-0"

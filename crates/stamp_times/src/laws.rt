@@ -1,36 +1,27 @@
-//! Laws of timestamps. The functions without arguments prove laws of the definitions that the contracts
-//! cite, for every instant, and do nothing when they are called.
+//! Laws of timestamps: each function here proves one, for every instant, and does nothing when it is called.
 ghost use Rattle.std.specs.Prelude.{◌≡◌};
 ghost use Rattle.std.specs.Ordering.{int_eq, int_cmp};
-ghost use Rattle.plain_times.specs.Laws.{DifferencesUndoSums, DifferencesLeadBack, ReplacedPartsReadAsGiven};
+ghost use Rattle.plain_times.specs.Laws.{DifferencesUndoSums, DifferencesLeadBack, ReplacedPartsReadAsGiven, ReplacementsKeepTheRest};
 ghost use Rattle.stamp_times.specs.Laws.{CountsReadAsGiven, NanosecondsKeepTheSecond, TextsTellInstants};
 
 use crate::Timestamp;
-use std::hash::Hash;
 use utc_times::UtcDateTime;
 
-/// A timestamp as a date-time in UTC and back: the same timestamp.
-pub fn to_utc_and_back(stamp: Timestamp) -> Timestamp
-    ensures { result ≡ stamp }
-{
-    Timestamp::from(UtcDateTime::from(stamp))
-}
+/// A timestamp as a date-time in UTC and back is the same timestamp, and so is a date-time in UTC as a
+/// timestamp and back.
+pub fn conversions_lose_nothing()
+    ensures stamps { (stamp at back : _) → ⟦<UtcDateTime as From<Timestamp>>⟧.from_gives stamp at
+        → ⟦<Timestamp as From<UtcDateTime>>⟧.from_gives at back → back ≡ stamp }
+    ensures date_times { (at stamp back : _) → ⟦<Timestamp as From<UtcDateTime>>⟧.from_gives at stamp
+        → ⟦<UtcDateTime as From<Timestamp>>⟧.from_gives stamp back → back ≡ at }
+{}
 
-/// A date-time in UTC as a timestamp and back: the same date-time.
-pub fn from_utc_and_back(at: UtcDateTime) -> UtcDateTime
-    ensures { result ≡ at }
-{
-    UtcDateTime::from(Timestamp::from(at))
-}
-
-/// Timestamps and date-times in UTC are equal, and in order, exactly where their instants are, and equal
-/// timestamps feed a hasher the same.
+/// Timestamps are equal, and in order, exactly where their instants are; so are date-times in UTC.
 pub fn compared_by_instant()
     ensures stamps_equal { (x y : _) → ⟦<Timestamp as PartialEq>⟧.eq x y ≡ int_eq x y }
     ensures stamps_ordered { (x y : _) → ⟦<Timestamp as Ord>⟧.cmp x y ≡ int_cmp x y }
     ensures utc_equal { (x y : _) → ⟦<UtcDateTime as PartialEq>⟧.eq x y ≡ int_eq x y }
     ensures utc_ordered { (x y : _) → ⟦<UtcDateTime as Ord>⟧.cmp x y ≡ int_cmp x y }
-    ensures stamps_hashed { (x y : _) → x ≡ y → ⟦<Timestamp as Hash>⟧.hash_input x ≡ ⟦<Timestamp as Hash>⟧.hash_input y }
 {}
 
 /// The instant of a count of seconds, milliseconds or microseconds has this count.
@@ -67,4 +58,11 @@ pub fn replaced_parts_read_as_given()
     ensures { ReplacedPartsReadAsGiven }
 {
     plain_times::laws::replaced_parts_read_as_given()
+}
+
+/// As [`plain_times::laws::replacements_keep_the_rest`], of instants in UTC.
+pub fn replacements_keep_the_rest()
+    ensures { ReplacementsKeepTheRest }
+{
+    plain_times::laws::replacements_keep_the_rest()
 }

@@ -29,10 +29,9 @@ impl PlainDateTime {
     }
 }
 
-/// The year, the day of the year and the time of day in one number: that of an earlier wall clock is less.
-/// The day of the year must be at most 366.
+/// The year, the day of the year and the time of day in one number: of two dates of the calendar that of the
+/// earlier wall clock is less.
 pub fn packed(year: i32, ordinal: u16, time: Time) -> i128
-    requires { ordinal ≤ 366 }
     ensures { result ≡ packed_parts year ordinal time }
 {
     let nanosecond = nanosecond_of_day(time);

@@ -1,5 +1,5 @@
-use Rattle.offset_times.specs.ConversionLemmas.{converted-in, converted-again}
+use Rattle.offset_times.proofs.LawLemmas.{conversion-again}
 use Rattle.offset_times.proofs.laws.conversions_compose.Goals as goal
 
 pub returns : goal.returns
-returns c = record { accepted = converted-in; again = converted-again }
+returns c = conversion-again

@@ -1,7 +1,5 @@
-use Rattle.offset_times.specs.InstantLemmas.{instant_of-local_at}
-use Rattle.offset_times.specs.Local.{Local, instant_of}
-use Rattle.offset_times.proofs.LawLemmas.{later_by-difference}
+use Rattle.offset_times.proofs.LawLemmas.{difference-leads_back}
 use Rattle.offset_times.proofs.laws.differences_lead_back.Goals as goal
 
 pub returns : goal.returns
-returns c = record { sum = later_by-difference; instant = λ (a b : Local). instant_of-local_at (instant_of a) b.offset }
+returns c = difference-leads_back

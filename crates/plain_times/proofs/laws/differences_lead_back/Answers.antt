@@ -1,5 +1,5 @@
-use Rattle.plain_times.proofs.LawLemmas.{checked-difference}
+use Rattle.plain_times.proofs.LawLemmas.{difference-leads_back}
 use Rattle.plain_times.proofs.laws.differences_lead_back.Goals as goal
 
 pub returns : goal.returns
-returns c = checked-difference
+returns c = difference-leads_back

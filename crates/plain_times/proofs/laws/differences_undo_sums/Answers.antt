@@ -1,5 +1,5 @@
-use Rattle.plain_times.proofs.LawLemmas.{checked-undone}
+use Rattle.plain_times.proofs.LawLemmas.{difference-undoes_sum}
 use Rattle.plain_times.proofs.laws.differences_undo_sums.Goals as goal
 
 pub returns : goal.returns
-returns c = checked-undone
+returns c = difference-undoes_sum

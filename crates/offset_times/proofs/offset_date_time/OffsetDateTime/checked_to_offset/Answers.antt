@@ -3,8 +3,8 @@ use Rattle.std.specs.Cmp.{signed_Decides}
 use Rattle.calendar_values.specs.Calendar.{day_of_ordinal_date}
 use Rattle.calendar_values.specs.WallClock.{wall_clock, IsWallClock}
 use Rattle.offset_times.specs.Local.{instant_of, shown_at, local_at}
-use Rattle.offset_times.specs.ConversionLemmas.{shown_at-own, local_at-own}
 use Rattle.offset_times.specs.InstantLemmas.{instant_of-local_at}
+use Rattle.offset_times.proofs.LocalLemmas.{shown_at-own, local_at-own}
 use Rattle.offset_times.proofs.offset_date_time.OffsetDateTime.checked_to_offset.Goals as goal
 
 pub returns-then-eq-clause-value : goal.returns-then-eq-clause-value
