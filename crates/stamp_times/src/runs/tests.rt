@@ -97,6 +97,10 @@ fn at_offsets(rt: HostRuntime) -> Result<(), Fail> {
         ),
     ];
     assert!(rt; replies_are(rt.alloc(), epoch, &calls, &replies, epoch)?);
+    let calls = [Call::Local(UtcOffset::UTC)];
+    let midnight = Time::MIDNIGHT;
+    let replies = [Reply::Local(Date::UNIX_EPOCH, midnight, UtcOffset::UTC)];
+    assert!(rt; replies_are(rt.alloc(), epoch, &calls, &replies, epoch)?);
     let last = Timestamp::new(31_494_784_780_799, 999_999_999)?;
     let calls = [
         Call::Local(UtcOffset::from_hms(0, 0, 1)?),
