@@ -138,7 +138,7 @@ fn answers_last_lines(rt: HostRuntime) -> Result<(), Fail> {
 }
 
 /// Lines with calls and chains of conversions.
-const RUNS_AND_CHAINS: [(&str, &str); 51] = [
+const RUNS_AND_CHAINS: [(&str, &str); 53] = [
     (
         "run 951827696 789012345 date year month day ordinal iso_week sunday_based_week monday_based_week to_calendar_date to_ordinal_date to_iso_week_date weekday to_julian_day\n",
         "2000-02-29; 2000; February; 29; 60; 9; 9; 9; 2000 February 29; 2000 60; 2000 9 Tuesday; Tuesday; 2451604; end 951827696.789012345\n",
@@ -170,6 +170,7 @@ const RUNS_AND_CHAINS: [(&str, &str); 51] = [
     ("run 253402300800 0 year\n", "10000; end 253402300800\n"),
     ("run 31494784780800 0 year\n", "refused seconds\n"),
     ("run 0 1000000000 year\n", "refused nanoseconds\n"),
+    ("run 31494784780800 0 epoch\n", "bad line\n"),
     ("run 0 0\n", "end 0\n"),
     ("chain 0 0 stamp\n", "stamp 0\n"),
     ("run 0 0 replace_date=2019,2,29\n", "bad line\n"),
@@ -231,6 +232,7 @@ const RUNS_AND_CHAINS: [(&str, &str); 51] = [
         "stopped 2 offset -999999-01-01 0:00:00.0 +10:00:00\n",
     ),
     ("chain 31494784780800 0 utc\n", "refused seconds\n"),
+    ("chain 31494784780800 0 utc local\n", "bad line\n"),
     ("chain 0 1000000000 utc\n", "refused nanoseconds\n"),
 ];
 
