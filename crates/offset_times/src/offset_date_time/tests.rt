@@ -117,16 +117,30 @@ fn conversions(rt: HostRuntime) -> Result<(), Fail> {
         Some(5)
     );
     assert_eq!(rt; to_offset(new_year, half).map(|at| at.minute()), Some(29));
+    Ok(())
+}
+
+#[test]
+fn conversions_to_utc(rt: HostRuntime) -> Result<(), Fail> {
+    let one_west = offset(-1, 0, 0)?;
+    let last = plain((9_999, Month::December, 31), (23, 59, 59))?.assume_offset(one_west);
     let hour_later = plain((10_000, Month::January, 1), (0, 59, 59))?;
+    let last_of_all = plain((999_999, Month::December, 31), (23, 59, 59))?.assume_offset(one_west);
     for (at, in_utc) in [
         (last, Some(hour_later.as_utc())),
         (last_of_all, None),
-        (PlainDateTime::MIN.assume_offset(late), None),
+        (PlainDateTime::MIN.assume_offset(offset(25, 59, 59)?), None),
         (PlainDateTime::MIN.assume_utc(), Some(UtcDateTime::MIN)),
     ] {
         assert_eq!(rt; at.checked_to_utc(), in_utc);
         assert_eq!(rt; to_utc(at), in_utc);
     }
+    Ok(())
+}
+
+#[test]
+fn conversions_past_the_ends(rt: HostRuntime) -> Result<(), Fail> {
+    let late = offset(25, 59, 59)?;
     let first = PlainDateTime::MIN.assume_offset(late);
     assert_eq!(rt; first.unix_timestamp(), -31_619_087_690_399);
     assert_eq!(rt; shown(first.checked_to_offset(offset(25, 0, 0)?)), None);
@@ -135,8 +149,10 @@ fn conversions(rt: HostRuntime) -> Result<(), Fail> {
         Some((PlainDateTime::MIN, late))
     );
     let one_east = offset(1, 0, 0)?;
-    let end = PlainDateTime::MAX.assume_utc();
-    assert_eq!(rt; shown(end.checked_to_offset(one_east)), None);
+    assert_eq!(rt;
+        shown(PlainDateTime::MAX.assume_utc().checked_to_offset(one_east)),
+        None
+    );
     assert_eq!(rt; shown(at_offset(UtcDateTime::MAX, one_east)), None);
     assert_eq!(rt;
         shown(at_offset(UtcDateTime::MAX, offset(0, 0, -1)?)),
