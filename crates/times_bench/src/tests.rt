@@ -7,7 +7,7 @@ use std::io::{Read, Write};
 use std::process::Abort;
 use std::test::Fail;
 
-const INPUTS: [(&str, &str); 46] = [
+const INPUTS: [(&str, &str); 47] = [
     ("unix 0\n", "1970-01-01 0:00:00.0 +00\n"),
     ("unix -1\n", "1969-12-31 23:59:59.0 +00\n"),
     ("unix 951782400\n", "2000-02-29 0:00:00.0 +00\n"),
@@ -33,6 +33,10 @@ const INPUTS: [(&str, &str); 46] = [
     (
         "stamp -1 500000000\n",
         "1969-12-31 23:59:59.5 +00 365 Wednesday 2440587\n",
+    ),
+    (
+        "stamp 253402300799 999999999\n",
+        "9999-12-31 23:59:59.999999999 +00 365 Friday 5373484\n",
     ),
     (
         "stamp 31494784780799 999999999\n",
@@ -92,30 +96,49 @@ fn answers(rt: &impl Abort, alloc: Global, rows: &[(&str, &str)]) -> Result<(), 
     let mut joined = Vec::new(alloc);
     let mut wanted = Vec::new(alloc);
     for (input, answers) in rows {
-        let mut page = Vec::new(alloc);
-        let result = bench(
-            alloc,
-            &mut Device::new(input.as_bytes()),
-            &mut Device::new(&mut page),
-        );
-        assert_eq!(rt; result, Ok(()), "at {input:?}");
+        let page = answered(alloc, input.as_bytes())?;
         assert_eq!(rt; page.as_slice(), answers.as_bytes(), "at {input:?}");
         joined.extend_from_slice(input.as_bytes())?;
         wanted.extend_from_slice(answers.as_bytes())?;
     }
-    let mut page = Vec::new(alloc);
-    let result = bench(
-        alloc,
-        &mut Device::new(joined.as_slice()),
-        &mut Device::new(&mut page),
-    );
-    assert_eq!(rt; result, Ok(()));
+    let page = answered(alloc, joined.as_slice())?;
     assert_eq!(rt; page.as_slice(), wanted.as_slice());
     Ok(())
 }
 
+/// What is written where no call fails and there is memory.
+fn answered(alloc: Global, input: &[u8]) -> Result<Vec<u8>, Fail> {
+    let mut page = Vec::new(alloc);
+    match bench(alloc, &mut Device::new(input), &mut Device::new(&mut page)) {
+        Ok(()) => Ok(page),
+        Err(fault) => Err(Fail::from(fault_line(fault))),
+    }
+}
+
+/// Inputs whose last line no line feed ends.
+const LAST_LINES: [(&str, &str); 6] = [
+    ("stamp 0 0", "1970-01-01 0:00:00.0 +00 1 Thursday 2440588\n"),
+    ("run 0 0 year", "1970; end 0\n"),
+    ("run 0 0 year ", "bad line\n"),
+    ("chain 0 0 utc stamp", "stamp 0\n"),
+    ("run 31494784780800 0", "refused seconds\n"),
+    (
+        "unix 0\nrun 0 0 day",
+        "1970-01-01 0:00:00.0 +00\n1; end 0\n",
+    ),
+];
+
+#[test]
+fn answers_last_lines(rt: HostRuntime) -> Result<(), Fail> {
+    for (input, answers) in LAST_LINES {
+        let page = answered(rt.alloc(), input.as_bytes())?;
+        assert_eq!(rt; page.as_slice(), answers.as_bytes(), "at {input:?}");
+    }
+    Ok(())
+}
+
 /// Lines with calls and chains of conversions.
-const RUNS_AND_CHAINS: [(&str, &str); 51] = [
+const RUNS_AND_CHAINS: [(&str, &str); 53] = [
     (
         "run 951827696 789012345 date year month day ordinal iso_week sunday_based_week monday_based_week to_calendar_date to_ordinal_date to_iso_week_date weekday to_julian_day\n",
         "2000-02-29; 2000; February; 29; 60; 9; 9; 9; 2000 February 29; 2000 60; 2000 9 Tuesday; Tuesday; 2451604; end 951827696.789012345\n",
@@ -147,6 +170,7 @@ const RUNS_AND_CHAINS: [(&str, &str); 51] = [
     ("run 253402300800 0 year\n", "10000; end 253402300800\n"),
     ("run 31494784780800 0 year\n", "refused seconds\n"),
     ("run 0 1000000000 year\n", "refused nanoseconds\n"),
+    ("run 31494784780800 0 epoch\n", "bad line\n"),
     ("run 0 0\n", "end 0\n"),
     ("chain 0 0 stamp\n", "stamp 0\n"),
     ("run 0 0 replace_date=2019,2,29\n", "bad line\n"),
@@ -208,6 +232,7 @@ const RUNS_AND_CHAINS: [(&str, &str); 51] = [
         "stopped 2 offset -999999-01-01 0:00:00.0 +10:00:00\n",
     ),
     ("chain 31494784780800 0 utc\n", "refused seconds\n"),
+    ("chain 31494784780800 0 utc local\n", "bad line\n"),
     ("chain 0 1000000000 utc\n", "refused nanoseconds\n"),
 ];
 
@@ -227,13 +252,7 @@ fn answers_long_lines(rt: HostRuntime) -> Result<(), Fail> {
             input.push(b'0')?;
         }
         input.extend_from_slice(b"\nunix -1\n")?;
-        let mut page = Vec::new(rt.alloc());
-        let result = bench(
-            rt.alloc(),
-            &mut Device::new(input.as_slice()),
-            &mut Device::new(&mut page),
-        );
-        assert_eq!(rt; result, Ok(()), "at {zeros} zeros");
+        let page = answered(rt.alloc(), input.as_slice())?;
         let Some(rest) = page.as_slice().strip_prefix(answer.as_bytes()) else {
             return Err(Fail::from("another answer"));
         };
@@ -249,37 +268,42 @@ fn answers_long_lines(rt: HostRuntime) -> Result<(), Fail> {
 #[test]
 fn answers_full_lines(rt: HostRuntime) -> Result<(), Fail> {
     // The shortest calls and steps have three letters: 254 of them make a line of 1,023 bytes, and 252 one of 1,021.
-    // Four digits more for the second make lines that are too long.
-    for (kind, words, word, reply, end) in [
+    // Zeros before the second make it one of 1,024, and one of 1,025, which is too long.
+    let in_utc = "utc 1970-01-01 0:00:00.0 +00\n";
+    for (start, words, word, reply, end) in [
         ("run 0 0", 254usize, " day", "1; ", "end 0\n"),
-        (
-            "chain 0 0 utc",
-            252,
-            " utc",
-            "",
-            "utc 1970-01-01 0:00:00.0 +00\n",
-        ),
-        ("run 0000 0", 254, " day", "", "bad line\n"),
+        ("run 00 0", 254, " day", "1; ", "end 0\n"),
+        ("run 000 0", 254, " day", "", "bad line\n"),
+        ("chain 0 0 utc", 252, " utc", "", in_utc),
+        ("chain 0000 0 utc", 252, " utc", "", in_utc),
         ("chain 00000 0 utc", 252, " utc", "", "bad line\n"),
     ] {
         let mut input = Vec::new(rt.alloc());
         let mut wanted = Vec::new(rt.alloc());
-        input.extend_from_slice(kind.as_bytes())?;
+        input.extend_from_slice(start.as_bytes())?;
         for _ in 0..words {
             input.extend_from_slice(word.as_bytes())?;
             wanted.extend_from_slice(reply.as_bytes())?;
         }
         input.push(b'\n')?;
         wanted.extend_from_slice(end.as_bytes())?;
-        let mut page = Vec::new(rt.alloc());
-        let result = bench(
-            rt.alloc(),
-            &mut Device::new(input.as_slice()),
-            &mut Device::new(&mut page),
-        );
-        assert_eq!(rt; result, Ok(()), "at {kind}");
-        assert_eq!(rt; page.as_slice(), wanted.as_slice(), "at {kind}");
+        let page = answered(rt.alloc(), input.as_slice())?;
+        assert_eq!(rt; page.as_slice(), wanted.as_slice(), "at {start}");
     }
+    Ok(())
+}
+
+#[test]
+fn answers_many_lines(rt: HostRuntime) -> Result<(), Fail> {
+    // One block holds all the lines, and their answers take 75,000 bytes.
+    let mut input = Vec::new(rt.alloc());
+    let mut wanted = Vec::new(rt.alloc());
+    for _ in 0..3_000 {
+        input.extend_from_slice(b"unix 0\n")?;
+        wanted.extend_from_slice(b"1970-01-01 0:00:00.0 +00\n")?;
+    }
+    let page = answered(rt.alloc(), input.as_slice())?;
+    assert!(rt; page.as_slice() == wanted.as_slice());
     Ok(())
 }
 
@@ -304,13 +328,7 @@ fn answers_odd_bytes(rt: HostRuntime) -> Result<(), Fail> {
         b"chain 0 0 \xff01:00:00\n".as_slice(),
         b"chain 0 0 +01:00:0\x80\n".as_slice(),
     ] {
-        let mut page = Vec::new(rt.alloc());
-        let result = bench(
-            rt.alloc(),
-            &mut Device::new(line),
-            &mut Device::new(&mut page),
-        );
-        assert_eq!(rt; result, Ok(()), "at {line:?}");
+        let page = answered(rt.alloc(), line)?;
         assert_eq!(rt; page.as_slice(), b"bad line\n".as_slice(), "at {line:?}");
     }
     Ok(())

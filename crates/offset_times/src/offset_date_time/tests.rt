@@ -1,6 +1,8 @@
 use crate::carries::{to_offset_raw, to_utc_raw, utc_to_offset_raw};
-use crate::{Assume, OffsetDateTime, ToOffset};
-use calendar_values::{ComponentRange, Date, Month, SignedDuration, Time, UtcOffset, Weekday};
+use crate::{Assume, OffsetDateTime, ToOffset, laws};
+use calendar_values::{
+    ComponentRange, Date, Month, SignedDuration, Text, Time, UtcOffset, Weekday,
+};
 use plain_times::PlainDateTime;
 use std::cmp::Ordering;
 use std::hash::{DefaultHasher, Hash, Hasher};
@@ -23,6 +25,22 @@ fn shown(at: Option<OffsetDateTime>) -> Option<(PlainDateTime, UtcOffset)> {
         Some(at) => Some((at.date_time(), at.offset())),
         None => None,
     }
+}
+
+// Conversions by the calls that ask for the range, where the checked ones say that they may be made.
+fn to_offset(at: OffsetDateTime, offset: UtcOffset) -> Option<OffsetDateTime> {
+    at.checked_to_offset(offset)?;
+    Some(at.to_offset(offset))
+}
+
+fn to_utc(at: OffsetDateTime) -> Option<UtcDateTime> {
+    at.checked_to_utc()?;
+    Some(at.to_utc())
+}
+
+fn at_offset<T: ToOffset + Copy>(at: T, offset: UtcOffset) -> Option<OffsetDateTime> {
+    at.checked_to_offset(offset)?;
+    Some(at.to_offset(offset))
 }
 
 #[test]
@@ -61,83 +79,83 @@ fn raw_conversions(rt: HostRuntime) -> Result<(), Fail> {
 
 #[test]
 fn conversions(rt: HostRuntime) -> Result<(), Fail> {
+    let late = offset(25, 59, 59)?;
+    let early = offset(-25, -59, -59)?;
+    let one_west = offset(-1, 0, 0)?;
+    let two_west = offset(-2, 0, 0)?;
+    let half = offset(0, 30, 0)?;
     let january = (2000, Month::January, 1);
-    let december = (1999, Month::December, 31);
-    for (date, clock, from, to, there_date, there_clock) in [
-        (
-            january,
-            (23, 59, 59),
-            (-25, -59, -59),
-            (25, 59, 59),
-            (2000, Month::January, 4),
-            (3, 59, 57),
-        ),
-        (
-            january,
-            (0, 0, 0),
-            (25, 59, 59),
-            (-25, -59, -59),
-            (1999, Month::December, 29),
-            (20, 0, 2),
-        ),
-        (
-            january,
-            (0, 0, 0),
-            (11, 0, 0),
-            (-5, 0, 0),
-            december,
-            (8, 0, 0),
-        ),
-        (
-            january,
-            (0, 0, 0),
-            (11, 0, 0),
-            (-8, 0, 0),
-            december,
-            (5, 0, 0),
-        ),
-        (
-            (999_999, Month::December, 31),
-            (23, 59, 59),
-            (-1, 0, 0),
-            (-2, 0, 0),
-            (999_999, Month::December, 31),
-            (22, 59, 59),
-        ),
+    let evening = plain(january, (23, 59, 59))?.assume_offset(early);
+    let midnight = plain(january, (0, 0, 0))?.assume_offset(late);
+    let east = plain(january, (0, 0, 0))?.assume_offset(offset(11, 0, 0)?);
+    let new_year = plain((2019, Month::January, 1), (23, 59, 59))?.assume_utc();
+    let last = plain((9_999, Month::December, 31), (23, 59, 59))?.assume_offset(one_west);
+    let last_of_all = plain((999_999, Month::December, 31), (23, 59, 59))?.assume_offset(one_west);
+    for (at, to, text) in [
+        (evening, late, "2000-01-04 3:59:57.0 +25:59:59"),
+        (midnight, early, "1999-12-29 20:00:02.0 -25:59:59"),
+        (east, offset(-5, 0, 0)?, "1999-12-31 8:00:00.0 -05:00:00"),
+        (east, offset(-8, 0, 0)?, "1999-12-31 5:00:00.0 -08:00:00"),
+        (new_year, half, "2019-01-02 0:29:59.0 +00:30:00"),
+        (last, two_west, "9999-12-31 22:59:59.0 -02:00:00"),
+        (last, one_west, "9999-12-31 23:59:59.0 -01:00:00"),
+        (last_of_all, two_west, "+999999-12-31 22:59:59.0 -02:00:00"),
     ] {
-        let at = plain(date, clock)?.assume_offset(offset(from.0, from.1, from.2)?);
-        let to = offset(to.0, to.1, to.2)?;
-        let there = plain(there_date, there_clock)?;
-        assert_eq!(rt; shown(at.checked_to_offset(to)), Some((there, to)));
+        let Some(there) = to_offset(at, to) else {
+            return Err(Fail::from("refused"));
+        };
+        assert_eq!(rt; there.text().as_str(), text);
+        assert_eq!(rt; there.offset(), to);
+        assert_eq!(rt; shown(at.checked_to_offset(to)), shown(Some(there)));
     }
-    let last = plain((999_999, Month::December, 31), (23, 59, 59))?;
     assert_eq!(rt;
-        last.assume_offset(offset(-1, 0, 0)?).checked_to_utc(),
-        None
+        to_offset(east, offset(-5, 0, 0)?).map(|at| at.hour()),
+        Some(8)
     );
-    let after = plain((9_999, Month::December, 31), (23, 59, 59))?;
     assert_eq!(rt;
-        after.assume_offset(offset(-1, 0, 0)?).checked_to_utc(),
-        Some(plain((10_000, Month::January, 1), (0, 59, 59))?.as_utc())
+        to_offset(east, offset(-8, 0, 0)?).map(|at| at.hour()),
+        Some(5)
     );
-    let first = PlainDateTime::MIN.assume_offset(offset(25, 59, 59)?);
+    assert_eq!(rt; to_offset(new_year, half).map(|at| at.minute()), Some(29));
+    Ok(())
+}
+
+#[test]
+fn conversions_to_utc(rt: HostRuntime) -> Result<(), Fail> {
+    let one_west = offset(-1, 0, 0)?;
+    let last = plain((9_999, Month::December, 31), (23, 59, 59))?.assume_offset(one_west);
+    let hour_later = plain((10_000, Month::January, 1), (0, 59, 59))?;
+    let last_of_all = plain((999_999, Month::December, 31), (23, 59, 59))?.assume_offset(one_west);
+    for (at, in_utc) in [
+        (last, Some(hour_later.as_utc())),
+        (last_of_all, None),
+        (PlainDateTime::MIN.assume_offset(offset(25, 59, 59)?), None),
+        (PlainDateTime::MIN.assume_utc(), Some(UtcDateTime::MIN)),
+    ] {
+        assert_eq!(rt; at.checked_to_utc(), in_utc);
+        assert_eq!(rt; to_utc(at), in_utc);
+    }
+    Ok(())
+}
+
+#[test]
+fn conversions_past_the_ends(rt: HostRuntime) -> Result<(), Fail> {
+    let late = offset(25, 59, 59)?;
+    let first = PlainDateTime::MIN.assume_offset(late);
     assert_eq!(rt; first.unix_timestamp(), -31_619_087_690_399);
-    assert_eq!(rt; first.checked_to_utc(), None);
     assert_eq!(rt; shown(first.checked_to_offset(offset(25, 0, 0)?)), None);
     assert_eq!(rt;
-        shown(first.checked_to_offset(first.offset())),
-        Some((PlainDateTime::MIN, first.offset()))
+        shown(to_offset(first, late)),
+        Some((PlainDateTime::MIN, late))
     );
+    let one_east = offset(1, 0, 0)?;
     assert_eq!(rt;
-        shown(
-            PlainDateTime::MAX
-                .assume_utc()
-                .checked_to_offset(offset(1, 0, 0)?)
-        ),
+        shown(PlainDateTime::MAX.assume_utc().checked_to_offset(one_east)),
         None
     );
+    assert_eq!(rt; shown(at_offset(UtcDateTime::MAX, one_east)), None);
     assert_eq!(rt;
-        shown(UtcDateTime::MAX.checked_to_offset(offset(0, 0, -1)?)),
+        shown(at_offset(UtcDateTime::MAX, offset(0, 0, -1)?)),
         Some((
             PlainDateTime::MAX - SignedDuration::seconds(1),
             offset(0, 0, -1)?
@@ -227,13 +245,15 @@ fn differences(rt: HostRuntime) -> Result<(), Fail> {
         late - early,
         SignedDuration::new(63_113_872_564_797, 999_999_999)
     );
-    let midnight = plain((-9_999, Month::January, 1), (0, 0, 0))?;
-    let one = plain((-9_999, Month::January, 1), (1, 0, 0))?;
     let ten = offset(10, 0, 0)?;
-    assert_eq!(rt;
-        midnight.assume_offset(ten) - one.assume_offset(ten),
-        SignedDuration::seconds(-3_600)
-    );
+    for year in [-9_999, -999_999] {
+        let midnight = plain((year, Month::January, 1), (0, 0, 0))?;
+        let one = plain((year, Month::January, 1), (1, 0, 0))?;
+        assert_eq!(rt;
+            midnight.assume_offset(ten) - one.assume_offset(ten),
+            SignedDuration::seconds(-3_600)
+        );
+    }
     Ok(())
 }
 
@@ -248,8 +268,14 @@ fn texts(rt: HostRuntime) -> Result<(), Fail> {
     ] {
         assert_eq!(rt; format!(in rt.alloc(); "{at}")?.as_str(), text);
         assert_eq!(rt; format!(in rt.alloc(); "{at:?}")?.as_str(), text);
+        assert_eq!(rt; at.text().as_str(), text);
     }
+    assert_eq!(rt; last.text().as_bytes().len(), 42);
     let epoch = OffsetDateTime::UNIX_EPOCH;
+    let mut text = Text::new();
+    text.push(b'>');
+    epoch.append_to(&mut text);
+    assert_eq!(rt; text.as_str(), ">1970-01-01 0:00:00.0 +00:00:00");
     assert_eq!(rt;
         format!(in rt.alloc(); "{epoch:>34}")?.as_str(),
         "    1970-01-01 0:00:00.0 +00:00:00"
@@ -285,10 +311,9 @@ fn sums(rt: HostRuntime) -> Result<(), Fail> {
         Some((PlainDateTime::MAX, ten))
     );
     let at = plain((9_999, Month::December, 31), (23, 0, 0))?.assume_offset(ten);
-    assert_eq!(rt;
-        shown(at.checked_add(hour)),
-        Some((plain((10_000, Month::January, 1), (0, 0, 0))?, ten))
-    );
+    let new_year = plain((10_000, Month::January, 1), (0, 0, 0))?;
+    assert_eq!(rt; shown(at.checked_add(hour)), Some((new_year, ten)));
+    assert_eq!(rt; shown(Some(at.saturating_add(hour))), Some((new_year, ten)));
     let two_days = SignedDuration::days(-2);
     let first = PlainDateTime::MIN.assume_offset(ten);
     assert_eq!(rt;
@@ -301,9 +326,13 @@ fn sums(rt: HostRuntime) -> Result<(), Fail> {
         Some((plain((-10_000, Month::December, 30), (0, 0, 0))?, ten))
     );
     let at = plain((2019, Month::November, 25), (15, 30, 0))?.assume_offset(ten);
+    let later = plain((2019, Month::November, 26), (18, 30, 0))?;
+    let hours_27 = SignedDuration::hours(27);
+    let hours_27_std = Duration::from_secs(97_200);
+    assert_eq!(rt; shown(at.checked_add(hours_27)), Some((later, ten)));
     assert_eq!(rt;
-        shown(at.checked_add(SignedDuration::hours(27))),
-        Some((plain((2019, Month::November, 26), (18, 30, 0))?, ten))
+        shown(by_operators(later.assume_offset(ten), hours_27, hours_27_std)),
+        Some((at.date_time(), ten))
     );
     for stored in [offset(25, 59, 59)?, offset(-25, -59, -59)?] {
         let first = PlainDateTime::MIN.assume_offset(stored);
@@ -331,6 +360,32 @@ fn sums(rt: HostRuntime) -> Result<(), Fail> {
     Ok(())
 }
 
+// Takes the duration away once more than it adds it, by each operator.
+fn by_operators(
+    start: OffsetDateTime,
+    duration: SignedDuration,
+    same: Duration,
+) -> Option<OffsetDateTime> {
+    start.checked_sub(duration)?;
+    let mut difference = start;
+    difference -= duration;
+    difference.checked_add_std(same)?;
+    difference += same;
+    difference.checked_sub_std(same)?;
+    difference -= same;
+    difference.checked_add(duration)?;
+    difference += duration;
+    difference.checked_sub(duration)?;
+    let difference = difference - duration;
+    difference.checked_add(duration)?;
+    let sum = difference + duration;
+    sum.checked_sub_std(same)?;
+    let difference = sum - same;
+    difference.checked_add_std(same)?;
+    let sum = difference + same;
+    sum.checked_sub(duration)
+}
+
 #[test]
 fn parts(rt: HostRuntime) -> Result<(), Fail> {
     let midnight = plain((2000, Month::January, 1), (0, 0, 0))?.assume_utc();
@@ -338,19 +393,16 @@ fn parts(rt: HostRuntime) -> Result<(), Fail> {
     assert_eq!(rt; replaced.unix_timestamp(), 946_702_800);
     let one = offset(1, 0, 0)?;
     let date = Date::from_calendar_date(2022, Month::February, 18)?;
-    let at = OffsetDateTime::new_in_offset(date, Time::from_hms_milli(15, 30, 45, 123)?, one);
+    let time = Time::from_hms_milli(15, 30, 45, 123)?;
+    let at = OffsetDateTime::new_in_offset(date, time, one);
+    assert_eq!(rt; at.parts(), (date, time, one));
     assert_eq!(rt;
-        shown(Some(at.truncate_to_day())),
-        Some((plain((2022, Month::February, 18), (0, 0, 0))?, one))
+        OffsetDateTime::new_utc(date, time).parts(),
+        (date, time, UtcOffset::UTC)
     );
+    assert_eq!(rt; at.truncate_to_day().parts(), (date, Time::MIDNIGHT, one));
     assert_eq!(rt; at.to_hms_milli(), (15, 30, 45, 123));
     assert_eq!(rt; (at.weekday(), at.ordinal()), (Weekday::Friday, 49));
-    let at = plain((2019, Month::January, 1), (23, 59, 59))?.assume_utc();
-    assert_eq!(rt;
-        at.checked_to_offset(offset(0, 30, 0)?)
-            .map(|there| there.minute()),
-        Some(29)
-    );
     for stored in [offset(25, 59, 59)?, offset(-25, -59, -59)?] {
         let at = plain((2022, Month::February, 18), (1, 2, 3))?.assume_offset(stored);
         for (refused, name, conditional) in [
@@ -363,7 +415,10 @@ fn parts(rt: HostRuntime) -> Result<(), Fail> {
             (at.replace_hour(24), "hour", false),
             (at.replace_minute(60), "minute", false),
             (at.replace_second(60), "second", false),
+            (at.replace_millisecond(1_000), "millisecond", false),
+            (at.replace_millisecond(4_295), "millisecond", false),
             (at.replace_millisecond(65_535), "millisecond", false),
+            (at.replace_microsecond(1_000_000), "microsecond", false),
             (at.replace_microsecond(4_294_968), "microsecond", false),
             (at.replace_nanosecond(1_000_000_000), "nanosecond", false),
         ] {
@@ -454,4 +509,54 @@ fn replacements(rt: HostRuntime) -> Result<(), Fail> {
         }
     }
     Ok(())
+}
+
+#[test]
+fn truncations(rt: HostRuntime) -> Result<(), Fail> {
+    let after = Date::from_calendar_date(2022, Month::February, 18)?;
+    let before = Date::from_calendar_date(1969, Month::December, 31)?;
+    let afternoon = Time::from_hms_nano(15, 30, 45, 123_456_789)?;
+    for stored in [offset(25, 59, 59)?, offset(-25, -59, -59)?] {
+        let after = OffsetDateTime::new_in_offset(after, afternoon, stored);
+        let before = OffsetDateTime::new_in_offset(before, Time::MAX, stored);
+        for (truncated, text) in [
+            (after.truncate_to_day(), "2022-02-18 0:00:00.0"),
+            (after.truncate_to_hour(), "2022-02-18 15:00:00.0"),
+            (after.truncate_to_minute(), "2022-02-18 15:30:00.0"),
+            (after.truncate_to_second(), "2022-02-18 15:30:45.0"),
+            (after.truncate_to_millisecond(), "2022-02-18 15:30:45.123"),
+            (
+                after.truncate_to_microsecond(),
+                "2022-02-18 15:30:45.123456",
+            ),
+            (before.truncate_to_day(), "1969-12-31 0:00:00.0"),
+            (before.truncate_to_hour(), "1969-12-31 23:00:00.0"),
+            (before.truncate_to_minute(), "1969-12-31 23:59:00.0"),
+            (before.truncate_to_second(), "1969-12-31 23:59:59.0"),
+            (before.truncate_to_millisecond(), "1969-12-31 23:59:59.999"),
+            (
+                before.truncate_to_microsecond(),
+                "1969-12-31 23:59:59.999999",
+            ),
+        ] {
+            assert_eq!(rt; truncated.date_time().text().as_str(), text);
+            assert_eq!(rt; truncated.offset(), stored);
+        }
+    }
+    Ok(())
+}
+
+#[test]
+fn constants_and_laws(rt: HostRuntime) {
+    assert_eq!(rt;
+        crate::constants::offset_date_times().parts(),
+        (Date::UNIX_EPOCH, Time::MIDNIGHT, UtcOffset::UTC)
+    );
+    laws::compared_by_instant();
+    laws::conversions_compose();
+    laws::own_offset_stays();
+    laws::differences_undo_sums();
+    laws::differences_lead_back();
+    laws::truncations_round_down_once();
+    laws::replaced_parts_read_as_given();
 }

@@ -1,4 +1,4 @@
-use crate::PlainDateTime;
+use crate::{PlainDateTime, constants, laws, packed};
 use calendar_values::{ComponentRange, Date, Month, SignedDuration, Time, Weekday};
 use std::hash::{DefaultHasher, Hash, Hasher};
 use std::test::Fail;
@@ -39,6 +39,7 @@ fn reads(rt: HostRuntime) -> Result<(), Fail> {
     assert_eq!(rt; shown.to_ordinal_date(), (2022, 49));
     assert_eq!(rt; shown.to_iso_week_date(), (2022, 7, Weekday::Friday));
     assert_eq!(rt; shown.weekday(), Weekday::Friday);
+    assert_eq!(rt; shown.weekday().number_days_from_monday(), 4);
     assert_eq!(rt; shown.to_julian_day(), 2_459_629);
     assert_eq!(rt; shown.as_hms(), (15, 30, 45));
     assert_eq!(rt; shown.as_hms_milli(), (15, 30, 45, 123));
@@ -95,8 +96,13 @@ fn replacements(rt: HostRuntime) -> Result<(), Fail> {
             end_of_january.replace_month(Month::February),
             ComponentRange::new("day", true),
         ),
+        (
+            shown.replace_year(1_000_000),
+            ComponentRange::new("year", false),
+        ),
         (shown.replace_day(0), ComponentRange::new("day", false)),
         (shown.replace_day(29), ComponentRange::new("day", true)),
+        (shown.replace_day(30), ComponentRange::new("day", true)),
         (shown.replace_day(32), ComponentRange::new("day", false)),
         (
             leap_day.replace_year(1900),
@@ -132,7 +138,19 @@ fn replacements(rt: HostRuntime) -> Result<(), Fail> {
             ComponentRange::new("millisecond", false),
         ),
         (
+            shown.replace_millisecond(4_295),
+            ComponentRange::new("millisecond", false),
+        ),
+        (
+            shown.replace_millisecond(65_535),
+            ComponentRange::new("millisecond", false),
+        ),
+        (
             shown.replace_microsecond(1_000_000),
+            ComponentRange::new("microsecond", false),
+        ),
+        (
+            shown.replace_microsecond(4_294_968),
             ComponentRange::new("microsecond", false),
         ),
         (
@@ -243,6 +261,40 @@ fn comparisons(rt: HostRuntime) -> Result<(), Fail> {
     assert_eq!(rt; hashed(later), hashed(latest.truncate_to_hour()));
     assert!(rt; hashed(later) != hashed(latest));
     Ok(())
+}
+
+#[test]
+fn packed_numbers(rt: HostRuntime) -> Result<(), Fail> {
+    for (shown, number) in [
+        (
+            PlainDateTime::UNIX_EPOCH,
+            37_212_266_331_756_877_993_476_096,
+        ),
+        (PlainDateTime::MIN, -18_889_447_023_565_905_302_493_593_600),
+        (PlainDateTime::MAX, 18_889_453_775_074_322_680_189_485_055),
+    ] {
+        assert_eq!(rt; packed(shown.year(), shown.ordinal(), shown.time()), number);
+    }
+    Ok(())
+}
+
+#[test]
+fn constants_and_laws(rt: HostRuntime) {
+    assert_eq!(rt;
+        constants::plain_date_times(),
+        (
+            PlainDateTime::MIN,
+            PlainDateTime::MAX,
+            PlainDateTime::UNIX_EPOCH
+        )
+    );
+    laws::differences_undo_sums();
+    laws::differences_lead_back();
+    laws::replacements_keep_the_rest();
+    laws::replaced_parts_read_as_given();
+    laws::truncations_round_down();
+    laws::truncations_round_down_once();
+    laws::packed_numbers_keep_the_order();
 }
 
 #[test]

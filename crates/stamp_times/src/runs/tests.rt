@@ -97,6 +97,10 @@ fn at_offsets(rt: HostRuntime) -> Result<(), Fail> {
         ),
     ];
     assert!(rt; replies_are(rt.alloc(), epoch, &calls, &replies, epoch)?);
+    let calls = [Call::Local(UtcOffset::UTC)];
+    let midnight = Time::MIDNIGHT;
+    let replies = [Reply::Local(Date::UNIX_EPOCH, midnight, UtcOffset::UTC)];
+    assert!(rt; replies_are(rt.alloc(), epoch, &calls, &replies, epoch)?);
     let last = Timestamp::new(31_494_784_780_799, 999_999_999)?;
     let calls = [
         Call::Local(UtcOffset::from_hms(0, 0, 1)?),
@@ -219,5 +223,24 @@ fn each_sum_and_replacement(rt: HostRuntime) -> Result<(), Fail> {
     ];
     let last = Timestamp::new(983_404_798, 9)?;
     assert!(rt; replies_are(rt.alloc(), start, &calls, &replies, last)?);
+    Ok(())
+}
+
+// The calls of half a second before 1970, whatever type holds it.
+fn is_half_before_1970<M: Moment>(at: M, hour_east: UtcOffset) -> bool {
+    at.date_part(DateRead::Year) == DatePart::Year(1969)
+        && at.clock_part(ClockRead::Nanosecond) == ClockPart::Nanosecond(500_000_000)
+        && at.shift(Shift::CheckedAdd(SignedDuration::MAX)).is_none()
+        && at.replace(Replace::Hour(24)).is_err()
+        && at.parts().1.as_hms() == (23, 59, 59)
+        && at.at_offset(hour_east).map(|shown| shown.hour()) == Some(0)
+}
+
+#[test]
+fn calls_of_every_moment(rt: HostRuntime) -> Result<(), Fail> {
+    let half = Timestamp::new(-1, 500_000_000)?;
+    let hour_east = UtcOffset::from_hms(1, 0, 0)?;
+    assert!(rt; is_half_before_1970(half, hour_east));
+    assert!(rt; is_half_before_1970(half.to_utc(), hour_east));
     Ok(())
 }

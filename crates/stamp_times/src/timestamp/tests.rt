@@ -1,5 +1,5 @@
 use super::*;
-use crate::ToTimestamp;
+use crate::{ToTimestamp, laws};
 use calendar_values::{Date, Month, SignedDuration, Time, UtcOffset, Weekday};
 use offset_times::{Assume, OffsetDateTime};
 use std::cmp::Ordering;
@@ -11,6 +11,7 @@ use utc_times::UtcDateTime;
 #[test]
 fn counts_and_texts(rt: HostRuntime) -> Result<(), Fail> {
     let constants = crate::constants::timestamps();
+    let half = Timestamp::from_milliseconds(-500)?;
     for (at, seconds, nanosecond, text) in [
         (constants.2, 0, 0, "0"),
         (constants.0, -31_619_087_596_800, 0, "-31619087596800"),
@@ -26,8 +27,14 @@ fn counts_and_texts(rt: HostRuntime) -> Result<(), Fail> {
             1,
             "-31619087596799.999999999",
         ),
-        (Timestamp::from_seconds(-1)?, -1, 0, "-1"),
-        (Timestamp::from_milliseconds(-500)?, -1, 500_000_000, "-0.5"),
+        (half, -1, 500_000_000, "-0.5"),
+        (
+            half.replace_nanosecond(300_000_000)?,
+            -1,
+            300_000_000,
+            "-0.7",
+        ),
+        (half.replace_nanosecond(0)?, -1, 0, "-1"),
         (
             Timestamp::from_microseconds(-1)?,
             -1,
@@ -61,9 +68,10 @@ fn counts_and_texts(rt: HostRuntime) -> Result<(), Fail> {
     ] {
         assert_eq!(rt; (at.as_seconds(), at.nanosecond()), (seconds, nanosecond));
         assert_eq!(rt; format!(in rt.alloc(); "{at}")?.as_str(), text);
-        assert_eq!(rt; format!(in rt.alloc(); "{at:?}")?.as_str(), text);
+        assert_eq!(rt; at.text().as_str(), text);
     }
     let half = Timestamp::new(-1, 500_000_000)?;
+    assert_eq!(rt; format!(in rt.alloc(); "{half:?}")?.as_str(), "-0.5");
     assert_eq!(rt; format!(in rt.alloc(); "{half:>8}")?.as_str(), "    -0.5");
     assert_eq!(rt; format!(in rt.alloc(); "{half:*^9}")?.as_str(), "**-0.5***");
     assert_eq!(rt; half.as_milliseconds(), -500);
@@ -129,6 +137,13 @@ fn reads(rt: HostRuntime) -> Result<(), Fail> {
         assert_eq!(rt; at.weekday(), weekday);
         assert_eq!(rt; at.date(), Date::from_ordinal_date(year, ordinal)?);
     }
+    for (second, date) in [
+        (-31_619_087_596_800, (-999_999, Month::January, 1)),
+        (31_494_784_780_799, (999_999, Month::December, 31)),
+    ] {
+        let at = Timestamp::from_seconds(second)?;
+        assert_eq!(rt; at.to_calendar_date(), date);
+    }
     let at = Timestamp::new(1_546_398_245, 4_005_006)?;
     assert_eq!(rt; at.to_calendar_date(), (2019, Month::January, 2));
     assert_eq!(rt; (at.month(), at.day()), (Month::January, 2));
@@ -153,6 +168,11 @@ fn reads(rt: HostRuntime) -> Result<(), Fail> {
         format!(in rt.alloc(); "{}", half.to_utc())?.as_str(),
         "1969-12-31 23:59:59.5 +00"
     );
+    let last = Timestamp::new(-1, 999_999_999)?.to_utc();
+    assert_eq!(rt;
+        last.truncate_to_millisecond().text().as_str(),
+        "1969-12-31 23:59:59.999 +00"
+    );
     Ok(())
 }
 
@@ -161,6 +181,7 @@ fn replacements(rt: HostRuntime) -> Result<(), Fail> {
     let at = Timestamp::from_seconds(1_546_398_245)?;
     let leap_day = Timestamp::from_seconds(951_782_400)?;
     let half = Timestamp::new(-1, 500_000_000)?;
+    let epoch = Timestamp::UNIX_EPOCH;
     let date = Date::from_calendar_date(1970, Month::January, 1)?;
     for (replaced, seconds, nanosecond) in [
         (
@@ -196,13 +217,18 @@ fn replacements(rt: HostRuntime) -> Result<(), Fail> {
         (leap_day.replace_day(0), "day", false),
         (leap_day.replace_day(32), "day", false),
         (leap_day.replace_day(30), "day", true),
+        (at.replace_ordinal(0), "ordinal", false),
         (leap_day.replace_ordinal(367), "ordinal", false),
         (at.replace_ordinal(366), "ordinal", true),
         (at.replace_hour(24), "hour", false),
         (at.replace_minute(60), "minute", false),
         (at.replace_second(60), "second", false),
         (at.replace_millisecond(1_000), "millisecond", false),
-        (at.replace_microsecond(u32::MAX), "microsecond", false),
+        (at.replace_millisecond(4_295), "millisecond", false),
+        (at.replace_millisecond(65_535), "millisecond", false),
+        (at.replace_microsecond(1_000_000), "microsecond", false),
+        (at.replace_microsecond(4_294_968), "microsecond", false),
+        (epoch.replace_microsecond(u32::MAX), "microsecond", false),
         (at.replace_nanosecond(1_000_000_000), "nanosecond", false),
     ] {
         match refused {
@@ -235,8 +261,6 @@ fn sums(rt: HostRuntime) -> Result<(), Fail> {
             Some((-2, 999_999_999)),
         ),
         (epoch.checked_sub(nanosecond), Some((-1, 999_999_999))),
-        (last.checked_add(nanosecond), None),
-        (first.checked_sub(nanosecond), None),
         (epoch.checked_add(SignedDuration::MIN), None),
         (epoch.checked_add(SignedDuration::MAX), None),
         (epoch.checked_sub(SignedDuration::MIN), None),
@@ -260,13 +284,11 @@ fn sums(rt: HostRuntime) -> Result<(), Fail> {
             expected
         );
     }
-    assert_eq!(rt; last.saturating_add(nanosecond), last);
-    assert_eq!(rt; epoch.saturating_sub(SignedDuration::MIN), last);
-    assert_eq!(rt; epoch.saturating_add(SignedDuration::MIN), first);
-    assert_eq!(rt;
-        at.saturating_add(day),
-        Timestamp::from_seconds(1_546_484_645)?
-    );
+    let later = Timestamp::from_seconds(1_546_484_645)?;
+    assert_eq!(rt; at.saturating_add(day), later);
+    assert_eq!(rt; later.saturating_sub(day), at);
+    let day_std = Duration::from_secs(86_400);
+    assert_eq!(rt; by_operators(later, day, day_std), Some(at));
     for (difference, seconds, nanoseconds) in [
         (epoch - half, 0, 500_000_000),
         (half - epoch, 0, -500_000_000),
@@ -276,6 +298,60 @@ fn sums(rt: HostRuntime) -> Result<(), Fail> {
     ] {
         assert_eq!(rt; difference.whole_seconds(), seconds);
         assert_eq!(rt; difference.subsec_nanoseconds(), nanoseconds);
+    }
+    Ok(())
+}
+
+// Takes the duration away once more than it adds it, by each operator.
+fn by_operators(start: Timestamp, duration: SignedDuration, same: Duration) -> Option<Timestamp> {
+    start.checked_sub(duration)?;
+    let mut difference = start;
+    difference -= duration;
+    difference.checked_add_std(same)?;
+    difference += same;
+    difference.checked_sub_std(same)?;
+    difference -= same;
+    difference.checked_add(duration)?;
+    difference += duration;
+    difference.checked_sub(duration)?;
+    let difference = difference - duration;
+    difference.checked_add(duration)?;
+    let sum = difference + duration;
+    sum.checked_sub_std(same)?;
+    let difference = sum - same;
+    difference.checked_add_std(same)?;
+    let sum = difference + same;
+    sum.checked_sub(duration)
+}
+
+#[test]
+fn ends_of_the_range(rt: HostRuntime) -> Result<(), Fail> {
+    let (first, last, epoch) = crate::constants::timestamps();
+    let nanosecond = SignedDuration::nanoseconds(1);
+    let longer = SignedDuration::seconds(63_113_872_377_600);
+    let whole_std = Duration::new(63_113_872_377_599, 999_999_999);
+    let longer_std = Duration::from_secs(63_113_872_377_600);
+    for (sum, expected) in [
+        (first.checked_add_std(whole_std), Some(last)),
+        (first.checked_add_std(longer_std), None),
+        (first.checked_add(SignedDuration::MAX), None),
+        (last.checked_sub(longer), None),
+        (last.checked_sub_std(whole_std), Some(first)),
+        (last.checked_sub_std(Duration::MAX), None),
+        (last.checked_add(nanosecond), None),
+        (first.checked_sub(nanosecond), None),
+    ] {
+        assert_eq!(rt; sum, expected);
+    }
+    for (sum, expected) in [
+        (first.saturating_add(SignedDuration::MAX), last),
+        (last.saturating_add(SignedDuration::MIN), first),
+        (last.saturating_sub(SignedDuration::MIN), last),
+        (last.saturating_add(nanosecond), last),
+        (epoch.saturating_sub(SignedDuration::MIN), last),
+        (epoch.saturating_add(SignedDuration::MIN), first),
+    ] {
+        assert_eq!(rt; sum, expected);
     }
     Ok(())
 }
@@ -308,6 +384,17 @@ fn comparisons(rt: HostRuntime) -> Result<(), Fail> {
     Ok(())
 }
 
+// Conversions by the calls that ask for the range, where the checked ones say that they may be made.
+fn to_offset(at: Timestamp, offset: UtcOffset) -> Option<OffsetDateTime> {
+    at.checked_to_offset(offset)?;
+    Some(at.to_offset(offset))
+}
+
+fn to_timestamp<T: ToTimestamp + Copy>(at: T) -> Option<Timestamp> {
+    at.checked_to_timestamp()?;
+    Some(at.to_timestamp())
+}
+
 #[test]
 fn offsets(rt: HostRuntime) -> Result<(), Fail> {
     let (first, last, _) = crate::constants::timestamps();
@@ -315,10 +402,12 @@ fn offsets(rt: HostRuntime) -> Result<(), Fail> {
     let plus_one = UtcOffset::from_hms(1, 0, 0)?;
     let minus_one = UtcOffset::from_hms(-1, 0, 0)?;
     let greatest = UtcOffset::from_hms(25, 59, 59)?;
+    assert_eq!(rt; to_offset(at, plus_one).map(|shown| shown.hour()), Some(4));
     match at.checked_to_offset(plus_one) {
         Some(shown) => {
             assert_eq!(rt; shown.date_time().as_hms(), (4, 4, 5));
             assert_eq!(rt; shown.checked_to_timestamp(), Some(at));
+            assert_eq!(rt; to_timestamp(shown), Some(at));
         }
         None => assert!(rt; false),
     }
@@ -326,7 +415,7 @@ fn offsets(rt: HostRuntime) -> Result<(), Fail> {
     assert!(rt; last.checked_to_offset(minus_one).is_some());
     assert!(rt; first.checked_to_offset(minus_one).is_none());
     let before_all = first.to_utc().as_plain().assume_offset(greatest);
-    assert!(rt; before_all.checked_to_timestamp().is_none());
+    assert_eq!(rt; to_timestamp(before_all), None);
     assert!(rt; !first.eq_offset(before_all));
     assert_eq!(rt; first.cmp_offset(before_all), Ordering::Greater);
     assert_eq!(rt; (first - before_all).whole_seconds(), 93_599);
@@ -336,4 +425,31 @@ fn offsets(rt: HostRuntime) -> Result<(), Fail> {
     assert!(rt; at.eq_offset(in_utc));
     assert_eq!(rt; at.cmp_offset(in_utc), Ordering::Equal);
     Ok(())
+}
+
+#[test]
+fn offsets_at_the_ends(rt: HostRuntime) -> Result<(), Fail> {
+    let (first, last, _) = crate::constants::timestamps();
+    for seconds in [-93_599, -1, 0, 1, 93_599] {
+        let stored = UtcOffset::from_whole_seconds(seconds)?;
+        let earliest = first.to_utc().as_plain().assume_offset(stored);
+        let latest = last.to_utc().as_plain().assume_offset(stored);
+        assert_eq!(rt; earliest.checked_to_timestamp().is_some(), seconds <= 0);
+        assert_eq!(rt; latest.checked_to_timestamp().is_some(), seconds >= 0);
+    }
+    Ok(())
+}
+
+#[test]
+fn laws_are_called(rt: HostRuntime) {
+    let (first, last, _) = crate::constants::timestamps();
+    assert_eq!(rt; laws::to_utc_and_back(first), first);
+    assert_eq!(rt; laws::from_utc_and_back(last.to_utc()), last.to_utc());
+    laws::compared_by_instant();
+    laws::counts_read_as_given();
+    laws::nanoseconds_keep_the_second();
+    laws::texts_tell_instants();
+    laws::differences_undo_sums();
+    laws::differences_lead_back();
+    laws::replaced_parts_read_as_given();
 }

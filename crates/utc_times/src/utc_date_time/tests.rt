@@ -1,4 +1,4 @@
-use crate::{AsUtc, UtcDateTime};
+use crate::{AsUtc, UtcDateTime, laws};
 use calendar_values::{ComponentRange, Date, Month, SignedDuration, Time, Weekday};
 use plain_times::PlainDateTime;
 use std::hash::{DefaultHasher, Hash, Hasher};
@@ -72,15 +72,23 @@ fn unix_time(rt: HostRuntime) -> Result<(), Fail> {
 }
 
 #[test]
-fn constants(rt: HostRuntime) -> Result<(), Fail> {
-    for (constant, nanosecond) in [
-        (UtcDateTime::UNIX_EPOCH, 0),
-        (UtcDateTime::MIN, -31_619_087_596_800_000_000_000),
-        (UtcDateTime::MAX, 31_494_784_780_799_999_999_999),
+fn constants_and_laws(rt: HostRuntime) -> Result<(), Fail> {
+    let (first, last, epoch) = crate::constants::utc_date_times();
+    for (constant, same, nanosecond) in [
+        (UtcDateTime::UNIX_EPOCH, epoch, 0),
+        (UtcDateTime::MIN, first, -31_619_087_596_800_000_000_000),
+        (UtcDateTime::MAX, last, 31_494_784_780_799_999_999_999),
     ] {
+        assert_eq!(rt; constant, same);
         assert_eq!(rt; constant.unix_timestamp_nanos(), nanosecond);
     }
     assert_eq!(rt; UtcDateTime::MAX.text().as_bytes().len(), 36);
+    laws::differences_undo_sums();
+    laws::differences_lead_back();
+    laws::replacements_keep_the_rest();
+    laws::replaced_parts_read_as_given();
+    laws::truncations_round_down();
+    laws::truncations_round_down_once();
     Ok(())
 }
 
@@ -156,10 +164,21 @@ fn replacements(rt: HostRuntime) -> Result<(), Fail> {
     for (refused, name, is_conditional) in [
         (end_of_january.replace_month(Month::February), "day", true),
         (at.replace_year(1_000_000), "year", false),
+        (at.replace_day(0), "day", false),
         (at.replace_day(29), "day", true),
+        (at.replace_day(30), "day", true),
         (at.replace_day(32), "day", false),
+        (at.replace_ordinal(0), "ordinal", false),
         (at.replace_ordinal(366), "ordinal", true),
+        (at.replace_ordinal(367), "ordinal", false),
         (at.replace_hour(24), "hour", false),
+        (at.replace_minute(60), "minute", false),
+        (at.replace_second(60), "second", false),
+        (at.replace_millisecond(1_000), "millisecond", false),
+        (at.replace_millisecond(4_295), "millisecond", false),
+        (at.replace_millisecond(65_535), "millisecond", false),
+        (at.replace_microsecond(1_000_000), "microsecond", false),
+        (at.replace_microsecond(4_294_968), "microsecond", false),
         (at.replace_nanosecond(1_000_000_000), "nanosecond", false),
     ] {
         let refusal = refused
@@ -175,6 +194,7 @@ fn replacements(rt: HostRuntime) -> Result<(), Fail> {
 fn truncations(rt: HostRuntime) -> Result<(), Fail> {
     let after = utc((2022, Month::February, 18), 15, 30, 45, 123_456_789)?;
     let before = utc((1969, Month::December, 31), 23, 59, 59, 500_000_000)?;
+    let last = utc((1969, Month::December, 31), 23, 59, 59, 999_999_999)?;
     for (truncated, text) in [
         (after.truncate_to_day(), "2022-02-18 0:00:00.0 +00"),
         (after.truncate_to_hour(), "2022-02-18 15:00:00.0 +00"),
@@ -190,6 +210,14 @@ fn truncations(rt: HostRuntime) -> Result<(), Fail> {
         ),
         (before.truncate_to_second(), "1969-12-31 23:59:59.0 +00"),
         (before.truncate_to_day(), "1969-12-31 0:00:00.0 +00"),
+        (
+            last.truncate_to_millisecond(),
+            "1969-12-31 23:59:59.999 +00",
+        ),
+        (
+            last.truncate_to_microsecond(),
+            "1969-12-31 23:59:59.999999 +00",
+        ),
     ] {
         assert_eq!(rt; format!(in rt.alloc(); "{truncated}")?.as_str(), text);
     }
