@@ -14,6 +14,9 @@ REPOSITORY = os.path.dirname(TOOLS)
 # The variable that names the folder of the copy, where several steps share one. ./test sets it.
 SHARED_FOLDER = "GATE_FOLDER"
 
+# The compilers that build a program, by the names that `rt` has for them.
+COMPILERS = ("llvm", "rattle")
+
 # How much of what a command printed is shown where it failed.
 SHOWN = 3_000
 
@@ -66,50 +69,61 @@ def jobs():
 
 
 def build(folder):
-    """Makes a copy of the repository in the folder, proves and builds times_bench there, and gives the copy's path.
+    """Makes a copy of the repository in the folder, with times_bench proved and built in it by each compiler.
 
-    What checks kept in the repository comes along, so little is left to do where it is proved already. Where the copy is
-    built, by an earlier step, nothing is done; where an earlier step could not build it, this one ends too.
+    What checks kept in the repository comes along, so little is left to do where it is proved already. Where an earlier
+    step built the copy, nothing is done; where an earlier step could not build it, this one ends too.
     """
-    copy = os.path.join(folder, "copy")
-    built = os.path.join(folder, "built")
+    copy, built = os.path.join(folder, "copy"), os.path.join(folder, "built")
     if os.path.exists(built):
-        return copy
+        return
     if os.path.exists(copy):
         sys.exit("the copy of the repository could not be built")
     print("building a copy of the repository", flush=True)
     shutil.copytree(REPOSITORY, copy, symlinks=True, ignore=shutil.ignore_patterns(".git", "__pycache__"))
-    run = rt(["run", "--jobs", str(jobs())], os.path.join(copy, "crates", "times_bench"))
-    if run.returncode != 0:
-        sys.exit(f"the copy of the repository is not proved and built:\n{run.stdout[-SHOWN:]}")
+    crate = os.path.join(copy, "crates", "times_bench")
+    for compiler in COMPILERS:
+        run = rt(["run", "--jobs", str(jobs()), "--backend", compiler], crate)
+        if run.returncode != 0:
+            sys.exit(f"the copy of the repository is not proved and built:\n{run.stdout[-SHOWN:]}")
+        shutil.copy(os.path.join(crate, "out", "times_bench"), os.path.join(folder, f"times_bench_{compiler}"))
     open(built, "w", encoding="utf-8").close()
-    return copy
+
+
+@contextlib.contextmanager
+def built_folder():
+    """A folder in which a copy is built: that of all steps, or one for this step alone, which is removed at the end, and
+    where the step is asked to end early."""
+    shared = os.environ.get(SHARED_FOLDER)
+    if shared:
+        build(shared)
+        yield shared
+        return
+    signal.signal(signal.SIGTERM, lambda *_: sys.exit("asked to end"))
+    with tempfile.TemporaryDirectory(prefix="gate-") as folder:
+        build(folder)
+        yield folder
 
 
 @contextlib.contextmanager
 def built_copy():
-    """A copy of the repository in which times_bench is proved and built: that of all steps, or one for this step alone,
-    which is removed at the end, and where the step is asked to end early."""
-    shared = os.environ.get(SHARED_FOLDER)
-    if shared:
-        yield build(shared)
-        return
-    signal.signal(signal.SIGTERM, lambda *_: sys.exit("asked to end"))
-    with tempfile.TemporaryDirectory(prefix="gate-") as folder:
-        yield build(folder)
+    """The path of a copy of the repository in which times_bench and the crates below it are proved and built."""
+    with built_folder() as folder:
+        yield os.path.join(folder, "copy")
 
 
 @contextlib.contextmanager
-def times_bench():
-    """The path of the program: the one that `--program PATH` names on the command line, or that of a built copy."""
+def programs():
+    """Paths of times_bench, each with what it is: as each compiler builds it in a copy of the repository, or the one that
+    `--program PATH` names on the command line."""
     words = sys.argv[1:]
     if words[:1] == ["--program"] and len(words) == 2:
-        yield os.path.abspath(words[1])
+        yield [(words[1], os.path.abspath(words[1]))]
         return
     if words:
         sys.exit(f"usage: {sys.argv[0]} [--program PATH]")
-    with built_copy() as copy:
-        yield os.path.join(copy, "crates", "times_bench", "out", "times_bench")
+    with built_folder() as folder:
+        yield [(f"times_bench built by {name}", os.path.join(folder, f"times_bench_{name}")) for name in COMPILERS]
 
 
 def lines_and_answers(tool, *numbers):
