@@ -52,6 +52,7 @@ def run_on_parts(program, data, size):
 
     def feed():
         theirs.close()
+        ours.settimeout(SECONDS)
         with ours:
             for start in range(0, len(data), size):
                 ours.send(data[start : start + size])
@@ -68,6 +69,7 @@ def run_on_broken(program, data):
 
     def feed():
         theirs.close()
+        ours.settimeout(SECONDS)
         with ours:
             ours.sendall(data)
 
