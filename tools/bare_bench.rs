@@ -4,8 +4,16 @@ use std::io::{self, Read, Write};
 
 const BLOCK: usize = 65_536;
 const LONGEST_LINE: usize = 1024;
-const FIRST_SECOND: i64 = -31_619_087_596_800;
-const LAST_SECOND: i64 = 31_494_784_780_799;
+// The ends of the range, which tools/speed names.
+const FIRST_SECOND: i64 = number(env!("FIRST_SECOND"));
+const LAST_SECOND: i64 = number(env!("LAST_SECOND"));
+
+const fn number(word: &str) -> i64 {
+    match i64::from_str_radix(word, 10) {
+        Ok(number) => number,
+        Err(_) => panic!("a number"),
+    }
+}
 
 // The year, the month and the day of the month of a day number, 0 for 1970-01-01, by eras of 400 years that
 // begin on 1 March.

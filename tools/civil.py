@@ -7,10 +7,9 @@ nanoseconds of the day, an instant in nanoseconds from 1970-01-01 0:00 UTC.
 SECOND = 1_000_000_000
 DAY = 86_400 * SECOND
 
-FIRST_SECOND = -31_619_087_596_800
-LAST_SECOND = 31_494_784_780_799
-FIRST = FIRST_SECOND * SECOND
-LAST = LAST_SECOND * SECOND + SECOND - 1
+# The range of times_bench. The seconds and the instants at its ends stand below the calendar.
+FIRST_YEAR = -999_999
+LAST_YEAR = 999_999
 
 MONTHS = (
     "January", "February", "March", "April", "May", "June",
@@ -37,6 +36,12 @@ def day_number(year, month, day_of_month):
     era, year_of_era = divmod(shifted, 400)
     day_of_year = (153 * (month - 3 if month > 2 else month + 9) + 2) // 5 + day_of_month - 1
     return era * 146_097 + year_of_era * 365 + year_of_era // 4 - year_of_era // 100 + day_of_year - 719_468
+
+
+FIRST_SECOND = day_number(FIRST_YEAR, 1, 1) * 86_400
+LAST_SECOND = day_number(LAST_YEAR + 1, 1, 1) * 86_400 - 1
+FIRST = FIRST_SECOND * SECOND
+LAST = LAST_SECOND * SECOND + SECOND - 1
 
 
 def month_length(year, month):

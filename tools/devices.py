@@ -1,0 +1,77 @@
+"""Runs a program over devices that hand over their bytes in parts, or that fail after so many bytes."""
+
+import resource
+import socket
+import subprocess
+import tempfile
+from collections import namedtuple
+
+SECONDS = 60
+
+# What a program wrote to standard output and to standard error, and its exit status.
+Ended = namedtuple("Ended", "written told status")
+
+
+def run_over(program, source, feed=None, room=None):
+    """Runs the program with this standard input, and with standard output to a file that has room for so many bytes.
+
+    `feed` is called once the program runs. A write past the room of the file fails; where it has none, no write does.
+    """
+
+    def limit():
+        if room is not None:
+            resource.setrlimit(resource.RLIMIT_FSIZE, (room, room))
+
+    with tempfile.TemporaryFile() as sink:
+        # The signal of a write past the limit stays ignored, as Python has it, so the write itself fails.
+        with subprocess.Popen(
+            [program], stdin=source, stdout=sink, stderr=subprocess.PIPE, preexec_fn=limit, restore_signals=False
+        ) as running:
+            try:
+                if feed is not None:
+                    feed()
+                _, told = running.communicate(timeout=SECONDS)
+            except (subprocess.TimeoutExpired, OSError):
+                running.kill()
+                raise
+        sink.seek(0)
+        return Ended(sink.read(), told, running.returncode)
+
+
+def run_on(program, data, room=None):
+    """Runs the program on a file of these bytes."""
+    with tempfile.TemporaryFile() as source:
+        source.write(data)
+        source.seek(0)
+        return run_over(program, source, room=room)
+
+
+def run_on_parts(program, data, size):
+    """Runs the program on input of which each read gives a part of so many bytes."""
+    ours, theirs = socket.socketpair(socket.AF_UNIX, socket.SOCK_SEQPACKET)
+
+    def feed():
+        theirs.close()
+        ours.settimeout(SECONDS)
+        with ours:
+            for start in range(0, len(data), size):
+                ours.send(data[start : start + size])
+
+    with theirs:
+        return run_over(program, theirs, feed)
+
+
+def run_on_broken(program, data):
+    """Runs the program on input of which a read fails once these bytes are read."""
+    ours, theirs = socket.socketpair(socket.AF_UNIX, socket.SOCK_STREAM)
+    # Where one end closes with a byte that it never read, the other end reads what was sent to it, and then a read fails.
+    theirs.send(b"unread")
+
+    def feed():
+        theirs.close()
+        ours.settimeout(SECONDS)
+        with ours:
+            ours.sendall(data)
+
+    with theirs:
+        return run_over(program, theirs, feed)

@@ -1,0 +1,18 @@
+"""The source files of the repository, for the tools that look for what is wide or unused."""
+
+import os
+
+from gate import REPOSITORY
+
+
+def texts(*endings):
+    """The text of each file below crates/ with one of these endings, by its path from the repository's root."""
+    found = {}
+    for folder, below, names in os.walk(os.path.join(REPOSITORY, "crates")):
+        below[:] = sorted(name for name in below if name != "out")
+        for name in sorted(names):
+            if name.endswith(endings):
+                path = os.path.join(folder, name)
+                with open(path, encoding="utf-8") as file:
+                    found[os.path.relpath(path, REPOSITORY)] = file.read()
+    return found
