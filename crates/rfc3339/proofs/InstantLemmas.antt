@@ -1,5 +1,5 @@
 -- The instants of texts.
-use Rattle.std.proofs.Common.{◌≡◌, ℤ, pos, ◌+ℤ◌, ◌-ℤ◌, ◌<◌, ◌≤ℤ◌, unsigned_abs, negsuc, refl, arith, Result, Ok, Err, IfOk}
+use Rattle.std.proofs.Common.{◌≡◌, ℤ, pos, ◌+ℤ◌, ◌-ℤ◌, ◌<◌, ◌≤ℤ◌, unsigned_abs, negsuc, refl, ap, ◌∙◌, arith, Result, Ok, Err, IfOk}
 use Rattle.calendar_values.specs.Calendar.{year_of}
 use Rattle.calendar_values.specs.DayLaws.{IsInYear-year_of}
 use Rattle.calendar_values.specs.Range.{first_year, last_year}
@@ -9,6 +9,7 @@ use Rattle.calendar_values.specs.WallClockLaws.{wall_clock-parts, IsClock-wall_t
 use Rattle.calendar_values.specs.YearLaws.{year_start-first, year_start-after_last, year_start-later}
 use Rattle.offset_times.specs.Local.{Local, local, instant_of, offset_nanos}
 use Rattle.rfc3339.specs.Texts.{HasText}
+use Rattle.rfc3339.specs.declared.refusal.TextRefusal.{TextRefusal}
 
 -- the one lemma that opens the definition
 instant_of-is : (at : Local) → instant_of at ≡ at.wall -ℤ offset_nanos at.offset
@@ -17,6 +18,10 @@ instant_of-is at = refl
 -- in UTC the instant is what clocks show
 pub instant_of-utc : (i : ℤ) → instant_of (local i (pos 0)) ≡ i
 instant_of-utc i = omega (arith, signed_arith, instant_of-is (local i (pos 0)))
+
+pub instant_of-read : (at : Local) (i : ℤ) → ◌≡◌ {A = Result Local TextRefusal} (Ok at) (Ok (local i (pos 0))) → instant_of at ≡ i
+instant_of-read at i e =
+    let same : at ≡ local i (pos 0) = cc in ap instant_of same ∙ instant_of-utc i
 
 -- an offset below a day
 signed_below : (o : ℤ) → unsigned_abs o < 86_400 → (negsuc 86_398 ≤ℤ o) × (o ≤ℤ pos 86_399)

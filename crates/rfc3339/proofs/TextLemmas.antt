@@ -1,5 +1,5 @@
 -- Whole texts: what is read has the form, and what has the form is read.
-use Rattle.std.proofs.Common.{◌≡◌, ℕ, Bool, List, ◌∷◌, ◌++◌, append_assoc, Some, refl, sym, ap, subst, ◌∙◌, ◌+◌, ◌≤◌, length, length-append, arith}
+use Rattle.std.proofs.Common.{◌≡◌, ℕ, Bool, List, ◌∷◌, ◌++◌, append_assoc, Option, Some, None, refl, sym, ap, subst, ◌∙◌, ◌+◌, ◌<◌, ◌≤◌, length, length-append, arith}
 use Rattle.std.proofs.lemmas.Option.{same_Some}
 use Rattle.calendar_values.specs.Digits.{last_digits}
 use Rattle.calendar_values.specs.DigitLaws.{length-last_digits}
@@ -135,3 +135,10 @@ length-text text p e =
     let some = offset_some h.offset p.is_west p.offset_hour p.offset_minute h.is_offset in
     let size : length (spelling p h.separator h.fraction h.offset) ≡ 19 + length h.fraction + length h.offset = simp (length-append, length-last_digits) (omega arith) in
     omega (arith, ap (length {A = ℕ}) h.spelled, size, some)
+
+short_text : (text : List ℕ) (o : Option Parts) → parts_at text ≡ o → length text < 20 → None ≡ o
+short_text text None e h = refl
+short_text text (Some p) e h = absurd (omega (arith, length-text text p e))
+
+pub parts_at-short : (text : List ℕ) → length text < 20 → None ≡ parts_at text
+parts_at-short text h = short_text text (parts_at text) refl h

@@ -5,12 +5,19 @@ ghost use Rattle.rfc3339.specs.Reading.{digits_at, fraction_at, ended, zone_at, 
 
 use crate::Parts;
 
+// The bytes of the shortest text, as `1985-04-12T23:20:50Z`. What is known to be as long is read without a test of what
+// is left of it at each byte.
+const SHORTEST: usize = 20;
+
 // The parts of a text, if it has the form.
 #[tactic(auto, unfolding(crate::specs::Reading::parts_at))]
 pub(crate) fn parts(text: &[u8]) -> Option<Parts>
     ensures value { result ≡ parts_at text.now }
     ensures in_range { IfSome result (λ p. (p.nanosecond ≤ 999_999_999) × (p.year ≤ 9_999)) }
 {
+    if text.len() < SHORTEST {
+        return None;
+    }
     let (year, text) = year(text)?;
     let (month, text) = part(b'-', text)?;
     let (day, text) = part(b'-', text)?;
