@@ -31,12 +31,15 @@ fn sum_of_read(
         let kept = text[place];
         for byte in 0..=u8::MAX {
             text[place] = byte;
-            let read = parse_rfc3339(text);
-            if read.err() != refusal_at(rows, place, byte) {
+            let refusal = match parse_rfc3339(text) {
+                Ok(at) => {
+                    sum = sum.wrapping_add(at.unix_timestamp());
+                    None
+                }
+                Err(refusal) => Some(refusal),
+            };
+            if refusal != refusal_at(rows, place, byte) {
                 return Err((place, byte));
-            }
-            if let Ok(at) = read {
-                sum = sum.wrapping_add(at.unix_timestamp());
             }
         }
         text[place] = kept;
