@@ -1,0 +1,10 @@
+pub mod DigitLemmas
+pub mod FormLemmas
+pub mod FractionLemmas
+pub mod TextLemmas
+pub mod MeaningLemmas
+pub mod WrittenDigits
+pub mod InstantLemmas
+pub mod ValueLemmas
+pub mod WriteLemmas
+pub mod OrderLemmas

@@ -1,0 +1,5 @@
+use Rattle.rfc3339.proofs.ValueLemmas.{one_value}
+use Rattle.rfc3339.proofs.laws.texts_tell_values.Goals as goal
+
+pub returns : goal.returns
+returns c = one_value

@@ -1,0 +1,12 @@
+use Rattle.std.proofs.Common.{ap, ◌∙◌, pos, Ok}
+use Rattle.offset_times.specs.Local.{instant_of, local}
+use Rattle.rfc3339.proofs.InstantLemmas.{instant_of-read}
+use Rattle.rfc3339.proofs.texts.UtcDateTimeRfc3339.from_rfc3339.Goals as goal
+
+pub returns-clause-value : goal.returns-clause-value
+returns-clause-value c p h =
+    let read = c.in_ok-parse_rfc3339.ensures.value p h in (read.0, c.to_utc.ensures ∙ ap instant_of read.1)
+
+pub returns-clause-written : goal.returns-clause-written
+returns-clause-written c at h e =
+    ap Ok (c.to_utc.ensures ∙ instant_of-read c.in_ok-parse_rfc3339.field-0 at (c.in_ok-parse_rfc3339.ensures.written (local at (pos 0)) h e))

@@ -1,0 +1,28 @@
+//! Laws of the texts: each function here proves one, and does nothing when it is called.
+ghost use Rattle.rfc3339.specs.Laws.{TextsHaveOneReading, WrittenTextsReadBack, TextsTellValues};
+ghost use Rattle.rfc3339.specs.Laws.{FixedTextsHaveOneWidth, FixedTextsKeepTheOrder};
+
+/// A text spells one list of parts at most.
+pub fn texts_have_one_reading()
+    ensures { TextsHaveOneReading }
+{}
+
+/// What is written has the form, and means the value that was written, offset included.
+pub fn written_texts_read_back()
+    ensures { WrittenTextsReadBack }
+{}
+
+/// Two date-times with one text are one value.
+pub fn texts_tell_values()
+    ensures { TextsTellValues }
+{}
+
+/// The texts of fixed width have 30 bytes.
+pub fn fixed_texts_have_one_width()
+    ensures { FixedTextsHaveOneWidth }
+{}
+
+/// The texts of fixed width compare, byte by byte, as their instants do.
+pub fn fixed_texts_keep_the_order()
+    ensures { FixedTextsKeepTheOrder }
+{}

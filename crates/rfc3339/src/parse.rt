@@ -1,0 +1,98 @@
+//! Texts read.
+ghost use Rattle.std.specs.Prelude.{◌≡◌, ◌≤◌, ◌⊎◌, IfOk, OkIff, Err, Ok, ℤ, pos};
+ghost use Rattle.calendar_values.specs.Offsets.{IsOffset};
+ghost use Rattle.calendar_values.specs.WallClock.{IsWallClock};
+ghost use Rattle.offset_times.specs.Local.{Local, local, instant_of};
+ghost use Rattle.rfc3339.specs.Form.{IsDateTime};
+ghost use Rattle.rfc3339.specs.Meaning.{meaning, offset_of, value_of, AreInRange};
+ghost use Rattle.rfc3339.specs.Texts.{HasText, rfc3339_text, HasFixedText, fixed_text};
+ghost use Rattle.rfc3339.specs.declared.parts.Parts.{Parts};
+ghost use Rattle.rfc3339.specs.declared.refusal.TextRefusal.TheVariants.{Syntax};
+
+use crate::reading::parts;
+use crate::{Component, Parts, TextRefusal};
+use calendar_values::{Date, Month, Time, UtcOffset};
+use offset_times::OffsetDateTime;
+
+/// Reads a `date-time` of RFC 3339, section 5.6, with nothing before or after it, as `1985-04-12T23:20:50.52Z` or
+/// `1996-12-19T16:39:57-08:00`. A `t` or a space can stand for the `T`, and `z` for the `Z`; digits of the fraction
+/// past the ninth are dropped, which rounds down; `-00:00` is the offset 0. Refused `Syntax` where the text has not
+/// that form, else by the first part from the left that is out of its range; a second of 60 is.
+pub fn parse_rfc3339(text: &[u8]) -> Result<OffsetDateTime, TextRefusal>
+    // A text that spells parts is accepted exactly where they are in their ranges, and then as what they mean.
+    ensures value { (p : Parts) → IsDateTime text.now p → OkIff result (AreInRange p) (value_of p) }
+    // Any other text is refused for its form.
+    ensures syntax { (result ≡ Err Syntax) ⊎ ((p : Parts) × IsDateTime text.now p) }
+    // Both in one equation, with the refusal that comes: that of the first part that is out of its range.
+    ensures equation { (p : Parts) → IsDateTime text.now p → result ≡ meaning p }
+    // What is accepted spells parts in their ranges.
+    ensures accepted { IfOk result (λ at. (p : Parts) × IsDateTime text.now p × AreInRange p × (at ≡ value_of p)) }
+    // What is read can be written.
+    ensures has_text { IfOk result HasText }
+    // Its instant lies in the range, so that it converts to UTC.
+    ensures instant { IfOk result (λ at. IsWallClock (instant_of at)) }
+    // What `to_rfc3339` wrote is read back, offset included.
+    ensures written { (at : Local) → HasText at → text.now ≡ rfc3339_text at → result ≡ Ok at }
+    // And what `to_rfc3339_nanos` wrote, in UTC.
+    ensures written_fixed { (i : ℤ) → HasFixedText i → text.now ≡ fixed_text i → result ≡ Ok (local i (pos 0)) }
+{
+    match parts(text) {
+        Some(parts) => date_time(parts),
+        None => Err(TextRefusal::Syntax),
+    }
+}
+
+// What the numbers of a text mean.
+#[tactic(auto, unfolding(crate::specs::Meaning::meaning))]
+fn date_time(parts: Parts) -> Result<OffsetDateTime, TextRefusal>
+    requires nanosecond { parts.nanosecond ≤ 999_999_999 }
+    requires year { parts.year ≤ 9_999 }
+    ensures value { result ≡ meaning parts }
+{
+    let Ok(month) = Month::from_number(parts.month) else {
+        return Err(TextRefusal::OutOfRange(Component::Month));
+    };
+    let Ok(date) = Date::from_calendar_date(parts.year as i32, month, parts.day) else {
+        return Err(TextRefusal::OutOfRange(Component::Day));
+    };
+    if parts.hour > 23 {
+        return Err(TextRefusal::OutOfRange(Component::Hour));
+    }
+    if parts.minute > 59 {
+        return Err(TextRefusal::OutOfRange(Component::Minute));
+    }
+    let Ok(time) = Time::from_hms_nano(parts.hour, parts.minute, parts.second, parts.nanosecond)
+    else {
+        return Err(TextRefusal::OutOfRange(Component::Second));
+    };
+    if parts.offset_hour > 23 {
+        return Err(TextRefusal::OutOfRange(Component::OffsetHour));
+    }
+    if parts.offset_minute > 59 {
+        return Err(TextRefusal::OutOfRange(Component::OffsetMinute));
+    }
+    let offset = offset(parts.is_west, parts.offset_hour, parts.offset_minute);
+    Ok(OffsetDateTime::new_in_offset(date, time, offset))
+}
+
+// The offset of a sign, hours and minutes.
+fn offset(is_west: bool, hour: u8, minute: u8) -> UtcOffset
+    requires hour { hour ≤ 23 }
+    requires minute { minute ≤ 59 }
+    ensures { result ≡ offset_of is_west hour minute }
+{
+    let seconds = hour as i32 * 3_600 + minute as i32 * 60;
+    if is_west {
+        offset_of_seconds(-seconds)
+    } else {
+        offset_of_seconds(seconds)
+    }
+}
+
+// The offset of so many seconds.
+fn offset_of_seconds(seconds: i32) -> UtcOffset
+    requires { IsOffset seconds }
+    ensures { result ≡ seconds }
+{
+    UtcOffset::from_whole_seconds(seconds).unwrap()
+}

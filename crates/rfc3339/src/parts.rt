@@ -1,0 +1,27 @@
+//! The numbers of a text.
+
+/// The numbers that a text of RFC 3339 spells, each as it stands there and not yet tested for its range. No call takes
+/// or gives them: contracts speak of them.
+#[derive(Clone, Copy)]
+pub struct Parts {
+    /// The year, of four digits.
+    pub year: u16,
+    /// The month, of two digits, as the parts that follow.
+    pub month: u8,
+    /// The day of the month.
+    pub day: u8,
+    /// The hour.
+    pub hour: u8,
+    /// The minute.
+    pub minute: u8,
+    /// The second.
+    pub second: u8,
+    /// The first nine digits of the fraction, as nanoseconds.
+    pub nanosecond: u32,
+    /// Whether the sign of the offset is `-`.
+    pub is_west: bool,
+    /// The hours of the offset.
+    pub offset_hour: u8,
+    /// The minutes of the offset.
+    pub offset_minute: u8,
+}

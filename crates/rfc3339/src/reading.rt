@@ -1,0 +1,163 @@
+//! The parts of a text, read from its front on.
+ghost use Rattle.std.specs.Prelude.{◌≡◌, ℕ, ◌≤◌, ◌<◌, option_map, IfSome};
+ghost use Rattle.rfc3339.specs.Reading.{digit_at, two_digits_at, mark_at, part_at, year_at, separator_at};
+ghost use Rattle.rfc3339.specs.Reading.{digits_at, fraction_at, ended, zone_at, parts_at};
+
+use crate::Parts;
+
+// The bytes of the shortest text, as `1985-04-12T23:20:50Z`. What is known to be as long is read without a test of what
+// is left of it at each byte.
+const SHORTEST: usize = 20;
+
+// The parts of a text, if it has the form.
+#[tactic(auto, unfolding(crate::specs::Reading::parts_at))]
+pub(crate) fn parts(text: &[u8]) -> Option<Parts>
+    ensures value { result ≡ parts_at text.now }
+    ensures in_range { IfSome result (λ p. (p.nanosecond ≤ 999_999_999) × (p.year ≤ 9_999)) }
+{
+    if text.len() < SHORTEST {
+        return None;
+    }
+    let (year, text) = year(text)?;
+    let (month, text) = part(b'-', text)?;
+    let (day, text) = part(b'-', text)?;
+    let (hour, text) = two_digits(after_separator(text)?)?;
+    let (minute, text) = part(b':', text)?;
+    let (second, text) = part(b':', text)?;
+    let (nanosecond, text) = fraction(text)?;
+    let (is_west, offset_hour, offset_minute) = zone(text)?;
+    Some(Parts {
+        year,
+        month,
+        day,
+        hour,
+        minute,
+        second,
+        nanosecond,
+        is_west,
+        offset_hour,
+        offset_minute,
+    })
+}
+
+// A year of four digits, and what follows it.
+#[tactic(auto, unfolding(crate::specs::Reading::year_at))]
+fn year(text: &[u8]) -> Option<(u16, &[u8])>
+    ensures value { option_map (λ read. (read.0, read.1.now)) result ≡ year_at text.now }
+    ensures in_range { IfSome result (λ read. read.0 ≤ 9_999) }
+{
+    let (century, text) = two_digits(text)?;
+    let (year, text) = two_digits(text)?;
+    Some((century as u16 * 100 + year as u16, text))
+}
+
+// The two digits after a mark, and what follows them.
+#[tactic(auto, unfolding(crate::specs::Reading::part_at))]
+fn part(mark: u8, text: &[u8]) -> Option<(u8, &[u8])>
+    ensures { option_map (λ read. (read.0, read.1.now)) result ≡ part_at mark text.now }
+{
+    two_digits(after_mark(mark, text)?)
+}
+
+// A number of two digits, and what follows it.
+#[tactic(auto, unfolding(crate::specs::Reading::two_digits_at))]
+fn two_digits(text: &[u8]) -> Option<(u8, &[u8])>
+    ensures value { option_map (λ read. (read.0, read.1.now)) result ≡ two_digits_at text.now }
+    ensures in_range { IfSome result (λ read. read.0 ≤ 99) }
+{
+    let (tens, text) = digit(text)?;
+    let (units, text) = digit(text)?;
+    Some((tens * 10 + units, text))
+}
+
+// The digit in front, and what follows it.
+#[tactic(auto, unfolding(crate::specs::Reading::digit_at))]
+fn digit(text: &[u8]) -> Option<(u8, &[u8])>
+    ensures value { option_map (λ read. (read.0, read.1.now)) result ≡ digit_at text.now }
+    ensures in_range { IfSome result (λ read. read.0 ≤ 9) }
+{
+    let (first, text) = text.split_first()?;
+    if first.is_ascii_digit() {
+        Some((*first - b'0', text))
+    } else {
+        None
+    }
+}
+
+// What follows the mark, if the text begins with it.
+#[tactic(auto, unfolding(crate::specs::Reading::mark_at))]
+fn after_mark(mark: u8, text: &[u8]) -> Option<&[u8]>
+    ensures { option_map (λ rest. rest.now) result ≡ mark_at mark text.now }
+{
+    let (first, text) = text.split_first()?;
+    if *first == mark { Some(text) } else { None }
+}
+
+// What follows `T`, `t` or a space, if the text begins with one.
+#[tactic(auto, unfolding(crate::specs::Reading::separator_at))]
+fn after_separator(text: &[u8]) -> Option<&[u8]>
+    ensures { option_map (λ rest. rest.now) result ≡ separator_at text.now }
+{
+    let (first, text) = text.split_first()?;
+    if *first == b'T' || *first == b't' || *first == b' ' {
+        Some(text)
+    } else {
+        None
+    }
+}
+
+// The nanosecond that a point and digits make, and what follows them; 0 without a point.
+#[tactic(auto, unfolding(crate::specs::Reading::fraction_at))]
+fn fraction(text: &[u8]) -> Option<(u32, &[u8])>
+    ensures value { option_map (λ read. (read.0, read.1.now)) result ≡ fraction_at text.now }
+    ensures in_range { IfSome result (λ read. read.0 ≤ 999_999_999) }
+{
+    let Some(digits) = after_mark(b'.', text) else {
+        return Some((0, text));
+    };
+    let (nanosecond, rest) = nanosecond(digits);
+    if rest.len() == digits.len() {
+        return None;
+    }
+    Some((nanosecond, rest))
+}
+
+// The nanosecond of the digits of a fraction, those past the ninth dropped, and what follows them.
+fn nanosecond(text: &[u8]) -> (u32, &[u8])
+    ensures value { (result.0, result.1.now) ≡ digits_at 100_000_000 text.now }
+    ensures in_range { result.0 ≤ 999_999_999 }
+{
+    let mut rest = text;
+    let mut unit = 100_000_000;
+    let mut nanosecond = 0;
+    while let Some((digit, more)) = digit(rest) {
+        nanosecond += digit as u32 * unit;
+        unit /= 10;
+        rest = more;
+    }
+    (nanosecond, rest)
+}
+
+// `Z` or `z`, or a sign, hours and minutes, and no more: whether it is west, the hours, the minutes.
+#[tactic(auto, unfolding(crate::specs::Reading::zone_at))]
+fn zone(text: &[u8]) -> Option<(bool, u8, u8)>
+    ensures { result ≡ zone_at text.now }
+{
+    let (first, text) = text.split_first()?;
+    if *first == b'Z' || *first == b'z' {
+        return at_end((false, 0, 0), text);
+    }
+    if *first == b'+' || *first == b'-' {
+        let (hour, text) = two_digits(text)?;
+        let (minute, text) = part(b':', text)?;
+        return at_end((*first == b'-', hour, minute), text);
+    }
+    None
+}
+
+// What was read, if the text ends there.
+fn at_end(zone: (bool, u8, u8), text: &[u8]) -> Option<(bool, u8, u8)>
+    ensures { result ≡ ended zone text.now }
+{
+    if text.is_empty() { Some(zone) } else { None }
+}

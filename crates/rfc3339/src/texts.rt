@@ -1,0 +1,84 @@
+//! Every type that has texts of RFC 3339.
+ghost use Rattle.std.specs.Prelude.{◌≡◌, ◌⊎◌, SomeIff, OkIff, Err, Ok, pos};
+ghost use Rattle.std.specs.Result.{result_map_both};
+ghost use Rattle.offset_times.specs.Local.{Local, local, instant_of};
+ghost use Rattle.rfc3339.specs.Form.{IsDateTime};
+ghost use Rattle.rfc3339.specs.Meaning.{meaning, value_of, AreInRange};
+ghost use Rattle.rfc3339.specs.Texts.{HasText, rfc3339_text};
+ghost use Rattle.rfc3339.specs.declared.parts.Parts.{Parts};
+ghost use Rattle.rfc3339.specs.declared.refusal.TextRefusal.TheVariants.{Syntax};
+
+use crate::write::text_of;
+use crate::{TextRefusal, parse_rfc3339};
+use calendar_values::Text;
+use offset_times::OffsetDateTime;
+use stamp_times::Timestamp;
+use utc_times::UtcDateTime;
+
+/// What is written as a text of RFC 3339, and read from one: a wall clock at an offset, or an instant.
+pub trait Rfc3339: Copy {
+    /// The wall clock and the offset that are written: of an instant, what clocks in UTC show.
+    ghost shown: { Self → Local };
+
+    /// What is read of a wall clock at an offset: itself, or its instant.
+    ghost value_shown: { Local → Self };
+
+    /// Reads a text as [`parse_rfc3339`] does, as a value of this type, and with its refusals. The instant of such a
+    /// text always exists.
+    fn from_rfc3339(text: &[u8]) -> Result<Self, TextRefusal>
+        ensures value { (p : Parts) → IsDateTime text.now p →
+            OkIff result (AreInRange p) (value_shown (value_of p)) }
+        ensures syntax { (result ≡ Err Syntax) ⊎ ((p : Parts) × IsDateTime text.now p) }
+        ensures equation { (p : Parts) → IsDateTime text.now p →
+            result ≡ result_map_both value_shown (λ refusal. refusal) (meaning p) }
+        ensures written { (at : Self) → HasText (shown at) → text.now ≡ rfc3339_text (shown at) → result ≡ Ok at };
+
+    /// The text, the shortest that there is, as `1985-04-12T23:20:50.52Z` or `1996-12-19T16:39:57-08:00`: `T` between
+    /// the date and the time of day, no fraction for a whole second and else none that ends in 0, `Z` for the offset 0.
+    /// None where the year that clocks there show is not one of 0 to 9999, or the offset has seconds or is of 24 hours
+    /// or more.
+    fn to_rfc3339(self) -> Option<Text>
+        ensures { SomeIff result (HasText (shown self)) (rfc3339_text (shown self)) };
+}
+
+impl Rfc3339 for OffsetDateTime {
+    ghost shown = { λ at. at };
+
+    ghost value_shown = { λ at. at };
+
+    fn from_rfc3339(text: &[u8]) -> Result<OffsetDateTime, TextRefusal> {
+        parse_rfc3339(text)
+    }
+
+    fn to_rfc3339(self) -> Option<Text> {
+        text_of(self)
+    }
+}
+
+impl Rfc3339 for UtcDateTime {
+    ghost shown = { λ instant. local instant (pos 0) };
+
+    ghost value_shown = { λ at. instant_of at };
+
+    fn from_rfc3339(text: &[u8]) -> Result<UtcDateTime, TextRefusal> {
+        Ok(parse_rfc3339(text)?.to_utc())
+    }
+
+    fn to_rfc3339(self) -> Option<Text> {
+        text_of(OffsetDateTime::from(self))
+    }
+}
+
+impl Rfc3339 for Timestamp {
+    ghost shown = { λ instant. local instant (pos 0) };
+
+    ghost value_shown = { λ at. instant_of at };
+
+    fn from_rfc3339(text: &[u8]) -> Result<Timestamp, TextRefusal> {
+        Ok(Timestamp::from(UtcDateTime::from_rfc3339(text)?))
+    }
+
+    fn to_rfc3339(self) -> Option<Text> {
+        UtcDateTime::from(self).to_rfc3339()
+    }
+}

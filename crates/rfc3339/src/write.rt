@@ -1,0 +1,83 @@
+//! Texts written.
+ghost use Rattle.std.specs.Prelude.{◌≡◌, ◌≤◌, ◌<◌, ◌+◌, ◌++◌, codes, length, SomeIff, unsigned_abs};
+ghost use Rattle.calendar_values.specs.Digits.{last_digits, text_capacity};
+ghost use Rattle.rfc3339.specs.Texts.{HasText, fraction_text, offset_text, rfc3339_text};
+
+use calendar_values::Text;
+use offset_times::OffsetDateTime;
+
+// The shortest text of RFC 3339, if there is one.
+#[tactic(auto, unfolding(crate::specs::Texts::rfc3339_text))]
+pub(crate) fn text_of(at: OffsetDateTime) -> Option<Text>
+    ensures { SomeIff result (HasText at) (rfc3339_text at) }
+{
+    let (date, time, offset) = at.parts();
+    let (year, month, day) = date.to_calendar_date();
+    let seconds = offset.whole_seconds();
+    let size = seconds.unsigned_abs();
+    if year < 0 || year > 9_999 || size % 60 != 0 || size >= 86_400 {
+        return None;
+    }
+    let (hour, minute, second, nanosecond) = time.as_hms_nano();
+    let mut text = Text::new();
+    push_date(&mut text, year as u32, u8::from(month), day);
+    text.push(b'T');
+    push_clock(&mut text, hour, minute, second);
+    push_fraction(&mut text, nanosecond);
+    push_offset(&mut text, seconds);
+    Some(text)
+}
+
+// Adds the date.
+pub(crate) fn push_date(text: &mut Text, year: u32, month: u8, day: u8)
+    requires { length text.old + 10 ≤ text_capacity }
+    ensures value { text.new ≡ text.old
+        ++ (last_digits 4 year ++ codes "-" ++ last_digits 2 month ++ codes "-" ++ last_digits 2 day) }
+    ensures length { length text.new ≡ length text.old + 10 }
+{
+    text.push_four_digits(year);
+    text.push_part(b'-', month);
+    text.push_part(b'-', day);
+}
+
+// Adds the hour, the minute and the second.
+pub(crate) fn push_clock(text: &mut Text, hour: u8, minute: u8, second: u8)
+    requires { length text.old + 8 ≤ text_capacity }
+    ensures value { text.new ≡ text.old
+        ++ (last_digits 2 hour ++ codes ":" ++ last_digits 2 minute ++ codes ":" ++ last_digits 2 second) }
+    ensures length { length text.new ≡ length text.old + 8 }
+{
+    text.push_two_digits(hour);
+    text.push_part(b':', minute);
+    text.push_part(b':', second);
+}
+
+// Adds the fraction, if there is one.
+#[tactic(auto, unfolding(crate::specs::Texts::fraction_text))]
+fn push_fraction(text: &mut Text, nanosecond: u32)
+    requires { length text.old + 10 ≤ text_capacity }
+    ensures value { text.new ≡ text.old ++ fraction_text nanosecond }
+    ensures length { length text.new ≤ length text.old + 10 }
+{
+    if nanosecond != 0 {
+        text.push(b'.');
+        text.push_fraction(nanosecond);
+    }
+}
+
+// Adds the offset of so many seconds.
+#[tactic(auto, unfolding(crate::specs::Texts::offset_text))]
+fn push_offset(text: &mut Text, seconds: i32)
+    requires room { length text.old + 6 ≤ text_capacity }
+    requires size { unsigned_abs seconds < 86_400 }
+    ensures value { text.new ≡ text.old ++ offset_text seconds }
+{
+    let size = seconds.unsigned_abs();
+    if size == 0 {
+        text.push(b'Z');
+        return;
+    }
+    let sign = if seconds < 0 { b'-' } else { b'+' };
+    text.push_part(sign, (size / 3_600) as u8);
+    text.push_part(b':', (size / 60 % 60) as u8);
+}
