@@ -7,18 +7,17 @@ use Rattle.calendar_values.specs.SignedArith.{signed_arith}
 use Rattle.calendar_values.specs.WallClock.{wall_clock, wall_day, wall_time, IsWallClock}
 use Rattle.calendar_values.specs.WallClockLaws.{wall_clock-parts, IsClock-wall_time}
 use Rattle.calendar_values.specs.YearLaws.{year_start-first, year_start-after_last, year_start-later}
+use Rattle.offset_times.specs.InstantLemmas.{instant_of-utc}
 use Rattle.offset_times.specs.Local.{Local, local, instant_of, offset_nanos}
 use Rattle.rfc3339.specs.Texts.{HasText}
 use Rattle.rfc3339.specs.declared.refusal.TextRefusal.{TextRefusal}
 
 -- the one lemma that opens the definition
 instant_of-is : (at : Local) → instant_of at ≡ at.wall -ℤ offset_nanos at.offset
+unfolding instant_of
 instant_of-is at = refl
 
--- in UTC the instant is what clocks show
-pub instant_of-utc : (i : ℤ) → instant_of (local i (pos 0)) ≡ i
-instant_of-utc i = omega (arith, signed_arith, instant_of-is (local i (pos 0)))
-
+-- what was read in UTC has the instant that clocks there show
 pub instant_of-read : (at : Local) (i : ℤ) → ◌≡◌ {A = Result Local TextRefusal} (Ok at) (Ok (local i (pos 0))) → instant_of at ≡ i
 instant_of-read at i e =
     let same : at ≡ local i (pos 0) = cc in ap instant_of same ∙ instant_of-utc i
