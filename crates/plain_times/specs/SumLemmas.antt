@@ -56,16 +56,16 @@ pub clamped-after : (w : ℤ) → last_wall_clock <ℤ w → clamped w ≡ last_
 unfolding clamped
 clamped-after w h = grind (arith, ints)
 
--- a later time does not come before, however it is brought into the range
-pub clamped-not_before : (w d v : ℤ) → IsWallClock w → v ≡ clamped (w +ℤ d) → pos 0 ≤ℤ d → w ≤ℤ v
-clamped-not_before w d v h e later =
+-- a later time does not come after the sum, however it is brought into the range
+pub clamped-not_above : (w d v : ℤ) → IsWallClock w → v ≡ clamped (w +ℤ d) → pos 0 ≤ℤ d → v ≤ℤ (w +ℤ d)
+clamped-not_above w d v h e later =
     by_lt_z last_wall_clock (w +ℤ d)
     (λ after. let last = e ∙ clamped-after (w +ℤ d) after in omega (arith, ints))
     (λ to_last. let inside = e ∙ clamped-in (w +ℤ d) (omega (arith, ints), to_last) in omega (arith, ints))
 
--- nor an earlier one after
-pub clamped-not_after : (w d v : ℤ) → IsWallClock w → v ≡ clamped (w +ℤ d) → d ≤ℤ pos 0 → v ≤ℤ w
-clamped-not_after w d v h e earlier =
+-- nor an earlier one before
+pub clamped-not_below : (w d v : ℤ) → IsWallClock w → v ≡ clamped (w +ℤ d) → d ≤ℤ pos 0 → (w +ℤ d) ≤ℤ v
+clamped-not_below w d v h e earlier =
     by_lt_z (w +ℤ d) first_wall_clock
     (λ before. let first = e ∙ clamped-before (w +ℤ d) before in omega (arith, ints))
     (λ from_first. let inside = e ∙ clamped-in (w +ℤ d) (from_first, omega (arith, ints)) in omega (arith, ints))

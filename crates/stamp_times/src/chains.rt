@@ -1,5 +1,5 @@
 //! Chains of conversions.
-ghost use Rattle.std.specs.Prelude.{◌≡◌, None, Some, SomeIff, IfOk, IfErr, take};
+ghost use Rattle.std.specs.Prelude.{◌≡◌, ◌<◌, None, Some, SomeIff, IfOk, IfErr, length, take};
 ghost use Rattle.calendar_values.specs.WallClock.{IsWallClock};
 ghost use Rattle.offset_times.specs.Local.{shown_at, local_at};
 ghost use Rattle.stamp_times.specs.Travel.{held_instant, shown_by, held_by, travel, held_after};
@@ -13,13 +13,16 @@ use utc_times::UtcDateTime;
 /// Converts the instant step by step, as far as each target can hold it: a timestamp and a date-time in UTC
 /// hold an instant of the range, and a date-time at an offset holds one at which clocks there show a date of
 /// the range. Ok what the last step gives, or the start where there is no step. Err the first step that
-/// cannot hold the instant, and what the steps before it gave.
+/// cannot hold the instant, and what the steps before it gave. Either way the instant is that of the start.
 pub fn chain(start: Held, steps: &[Step]) -> Result<Held, StoppedAt>
     ensures arrived { IfOk result (λ _. travel (held_instant start) steps.now ≡ None) }
     ensures held { IfOk result (λ held. held ≡ held_after start (held_instant start) steps.now) }
+    ensures instant { IfOk result (λ held. held_instant held ≡ held_instant start) }
     ensures stopped { IfErr result (λ stopped. travel (held_instant start) steps.now ≡ Some stopped.index) }
     ensures kept { IfErr result (λ stopped. stopped.held ≡
         held_after start (held_instant start) (take stopped.index steps.now)) }
+    ensures place { IfErr result (λ stopped. stopped.index < length steps.now) }
+    ensures kept_instant { IfErr result (λ stopped. held_instant stopped.held ≡ held_instant start) }
 {
     let mut held = start;
     for (index, step) in steps.iter().enumerate() {

@@ -1,6 +1,7 @@
 //! Instants by their Unix seconds, runs of calls over instants of every type, and chains of conversions.
 #![tactic(auto)]
 
+pub mod batches;
 pub mod calls;
 pub mod chains;
 pub mod constants;
@@ -12,6 +13,7 @@ pub mod steps;
 mod timestamp;
 mod to_timestamp;
 
+pub use batches::Batch;
 pub use calls::{Call, ClockPart, ClockRead, DatePart, DateRead, Replace, Reply, Shift};
 pub use chains::chain;
 pub use moment::Moment;

@@ -5,7 +5,7 @@ ghost use Rattle.std.specs.Result.{result_map_both};
 ghost use Rattle.std.proofs.Common.{refl};
 ghost use Rattle.calendar_values.specs.WallClock.{wall_day, wall_time, IsWallClock};
 ghost use Rattle.offset_times.specs.Local.{instant_of, shown_at, local_at};
-ghost use Rattle.stamp_times.specs.Counter.{date_part_of, clock_part_of, shifted, replaced};
+ghost use Rattle.stamp_times.specs.Counter.{date_part_of, clock_part_of, shifted, replaced, Shifts};
 
 use crate::Timestamp;
 use crate::calls::{ClockPart, ClockRead, DatePart, DateRead, Replace, Shift};
@@ -30,7 +30,8 @@ pub trait Moment: Copy + Eq + Ord + Hash {
 
     /// A sum or a difference, or None where a checked one is out of the range.
     fn shift(self, shift: Shift) -> Option<Self>
-        ensures { option_map instant result ≡ shifted (instant self) shift };
+        ensures value { option_map instant result ≡ shifted (instant self) shift }
+        ensures sum { Shifts (instant self) shift (option_map instant result) };
 
     /// The value with a part replaced in UTC. Refused as the replacement of that part is.
     fn replace(self, replace: Replace) -> Result<Self, ComponentRange>

@@ -1,5 +1,5 @@
 //! Runs of calls.
-ghost use Rattle.std.specs.Prelude.{◌≡◌, ℤ, Some, IfOk, vec_len, vec_capacity, ◌++◌, ◌∷◌, [], ◌<◌, ◌≤◌, ◌+◌};
+ghost use Rattle.std.specs.Prelude.{◌≡◌, ℤ, Some, IfOk, IsOk, length, vec_len, vec_capacity, ◌++◌, ◌∷◌, [], ◌<◌, ◌≤◌, ◌+◌};
 ghost use Rattle.stamp_times.specs.Counter.{reply, next, replies, last, now, local_reply};
 
 use crate::calls::{Call, Reply};
@@ -12,14 +12,16 @@ use std::alloc::{AllocError, Global};
 /// replacement that is accepted goes on from its result and replies the date and the time of day there. One
 /// that is refused replies the refusal, changes nothing, and the run goes on. A conversion to an offset
 /// replies what clocks there show, and the run goes on from the instant. `AllocError` where there is no
-/// memory for the replies; all of it is taken first.
+/// memory for the replies; all of it is taken first, and where there is no call none is asked for.
 pub fn run<M: Moment>(
     alloc: Global,
     start: M,
     calls: &[Call],
 ) -> Result<(Vec<Reply>, M), AllocError>
     ensures replies { IfOk result (λ ended. ended.0.items ≡ replies (M.instant start) calls.now) }
+    ensures count { IfOk result (λ ended. vec_len ended.0 ≡ length calls.now) }
     ensures last { IfOk result (λ ended. M.instant ended.1 ≡ last (M.instant start) calls.now) }
+    ensures no_call { calls.now ≡ [] → IsOk result }
 {
     let mut replies = Vec::with_capacity(alloc, calls.len())?;
     let mut held = start;
@@ -31,7 +33,8 @@ pub fn run<M: Moment>(
     Ok((replies, held))
 }
 
-/// The replies of [`run`] from a timestamp, and from the same instant as a date-time in UTC. They are equal.
+/// The replies of [`run`] from a timestamp, and from the same instant as a date-time in UTC. They are equal. Ok
+/// where there is no call.
 pub fn run_both(
     alloc: Global,
     start: Timestamp,
@@ -39,6 +42,9 @@ pub fn run_both(
 ) -> Result<(Vec<Reply>, Vec<Reply>), AllocError>
     ensures of_timestamp { IfOk result (λ both. both.0.items ≡ replies start calls.now) }
     ensures of_utc { IfOk result (λ both. both.1.items ≡ replies start calls.now) }
+    ensures count_of_timestamp { IfOk result (λ both. vec_len both.0 ≡ length calls.now) }
+    ensures count_of_utc { IfOk result (λ both. vec_len both.1 ≡ length calls.now) }
+    ensures no_call { calls.now ≡ [] → IsOk result }
 {
     let (of_timestamp, _) = run(alloc, start, calls)?;
     let (of_utc, _) = run(alloc, start.to_utc(), calls)?;
@@ -85,7 +91,7 @@ fn local(at: OffsetDateTime) -> Reply
 }
 
 // Puts an item at the end, where there is room for it.
-fn put_in_room<T: Copy>(items: &mut Vec<T>, item: T)
+pub(crate) fn put_in_room<T: Copy>(items: &mut Vec<T>, item: T)
     requires { vec_len items.old < vec_capacity items.old }
     ensures items { items.new.items ≡ items.old.items ++ item ∷ [] }
     ensures length { vec_len items.new ≡ vec_len items.old + 1 }

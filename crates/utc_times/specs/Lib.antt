@@ -1,3 +1,4 @@
+pub mod LogLemmas
 pub mod Texts
 pub mod UnixTime
 pub mod UnixTimeLemmas

@@ -5,7 +5,7 @@ ghost use Rattle.calendar_values.specs.Clock.{nanos_per_day, nanos_per_hour, nan
 ghost use Rattle.calendar_values.specs.Month.{month_number};
 ghost use Rattle.calendar_values.specs.Refusals.{IsDateOfRange, date_refusal, ordinal_refusal, outright_refusal, conditional_refusal};
 ghost use Rattle.calendar_values.specs.WallClock.{wall_clock, wall_day, wall_time};
-ghost use Rattle.plain_times.specs.Replacements.{with_date, with_time};
+ghost use Rattle.plain_times.specs.Replacements.{with_date, with_time, OnDate, OnOrdinalDate, AtTime};
 ghost use Rattle.plain_times.specs.Truncations.{rounded_down};
 ghost use Rattle.offset_times.specs.Local.{local, SameOffset};
 
@@ -33,6 +33,8 @@ impl OffsetDateTime {
     /// As [`PlainDateTime::replace_time`] of the wall clock.
     pub fn replace_time(self, time: Time) -> OffsetDateTime
         ensures value { result ≡ local (with_time self.wall time) self.offset }
+        ensures date { wall_day result.wall ≡ wall_day self.wall }
+        ensures time { wall_time result.wall ≡ time }
         ensures instant { SameOffset self result }
     {
         self.replace_date_time(self.date_time().replace_time(time))
@@ -41,6 +43,8 @@ impl OffsetDateTime {
     /// As [`PlainDateTime::replace_date`] of the wall clock.
     pub fn replace_date(self, date: Date) -> OffsetDateTime
         ensures value { result ≡ local (with_date self.wall date) self.offset }
+        ensures date { wall_day result.wall ≡ date }
+        ensures time { wall_time result.wall ≡ wall_time self.wall }
         ensures instant { SameOffset self result }
     {
         self.replace_date_time(self.date_time().replace_date(date))
@@ -52,6 +56,8 @@ impl OffsetDateTime {
             (IsDateOfRange year (month_of n) (day_of_month_of n))
             (local (with_date self.wall (day_of_calendar_date year (month_of n) (day_of_month_of n))) self.offset) }
         ensures refused { IfErr result (λ refusal. refusal ≡ date_refusal year (day_of_month_of (wall_day self.wall))) }
+        ensures shown { let n = wall_day self.wall in
+            IfOk result (λ at. OnDate self.wall year (month_of n) (day_of_month_of n) at.wall) }
         ensures instant { IfOk result (λ at. SameOffset self at) }
     {
         Ok(self.replace_date_time(self.date_time().replace_year(year)?))
@@ -63,6 +69,8 @@ impl OffsetDateTime {
             (day_of_month_of n ≤ days_in_month (is_leap_year (year_of n)) (month_number month))
             (local (with_date self.wall (day_of_calendar_date (year_of n) (month_number month) (day_of_month_of n))) self.offset) }
         ensures refused { IfErr result (λ refusal. refusal ≡ conditional_refusal (codes "day")) }
+        ensures shown { let n = wall_day self.wall in
+            IfOk result (λ at. OnDate self.wall (year_of n) (month_number month) (day_of_month_of n) at.wall) }
         ensures instant { IfOk result (λ at. SameOffset self at) }
     {
         Ok(self.replace_date_time(self.date_time().replace_month(month)?))
@@ -74,6 +82,8 @@ impl OffsetDateTime {
             ((1 ≤ day) × (day ≤ days_in_month (is_leap_year (year_of n)) (month_of n)))
             (local (with_date self.wall (day_of_calendar_date (year_of n) (month_of n) day)) self.offset) }
         ensures refused { IfErr result (λ refusal. refusal ≡ date_refusal (year_of (wall_day self.wall)) day) }
+        ensures shown { let n = wall_day self.wall in
+            IfOk result (λ at. OnDate self.wall (year_of n) (month_of n) day at.wall) }
         ensures instant { IfOk result (λ at. SameOffset self at) }
     {
         Ok(self.replace_date_time(self.date_time().replace_day(day)?))
@@ -85,6 +95,8 @@ impl OffsetDateTime {
             ((1 ≤ ordinal) × (ordinal ≤ days_in_year (year_of n)))
             (local (with_date self.wall (day_of_ordinal_date (year_of n) ordinal)) self.offset) }
         ensures refused { IfErr result (λ refusal. refusal ≡ ordinal_refusal (year_of (wall_day self.wall)) ordinal) }
+        ensures shown { let n = wall_day self.wall in
+            IfOk result (λ at. OnOrdinalDate self.wall (year_of n) ordinal at.wall) }
         ensures instant { IfOk result (λ at. SameOffset self at) }
     {
         Ok(self.replace_date_time(self.date_time().replace_ordinal(ordinal)?))
@@ -94,6 +106,8 @@ impl OffsetDateTime {
     pub fn truncate_to_day(self) -> OffsetDateTime
         ensures value { result ≡ local (rounded_down nanos_per_day self.wall) self.offset }
         ensures midnight { result ≡ local (wall_clock (wall_day self.wall) 0) self.offset }
+        ensures date { wall_day result.wall ≡ wall_day self.wall }
+        ensures time { wall_time result.wall ≡ 0 }
         ensures not_above { result.wall ≤ℤ self.wall }
         ensures within { self.wall <ℤ (result.wall +ℤ pos nanos_per_day) }
         ensures instant { SameOffset self result }
@@ -106,6 +120,8 @@ impl OffsetDateTime {
         ensures value { let c = wall_time self.wall in OkIff result (hour ≤ 23)
             (local (with_time self.wall (clock_of_parts hour (minute_of c) (second_of c) (nanosecond_of c))) self.offset) }
         ensures refused { IfErr result (λ refusal. refusal ≡ outright_refusal (codes "hour")) }
+        ensures shown { let c = wall_time self.wall in
+            IfOk result (λ at. AtTime self.wall hour (minute_of c) (second_of c) (nanosecond_of c) at.wall) }
         ensures instant { IfOk result (λ at. SameOffset self at) }
     {
         Ok(self.replace_date_time(self.date_time().replace_hour(hour)?))
@@ -126,6 +142,8 @@ impl OffsetDateTime {
         ensures value { let c = wall_time self.wall in OkIff result (minute ≤ 59)
             (local (with_time self.wall (clock_of_parts (hour_of c) minute (second_of c) (nanosecond_of c))) self.offset) }
         ensures refused { IfErr result (λ refusal. refusal ≡ outright_refusal (codes "minute")) }
+        ensures shown { let c = wall_time self.wall in
+            IfOk result (λ at. AtTime self.wall (hour_of c) minute (second_of c) (nanosecond_of c) at.wall) }
         ensures instant { IfOk result (λ at. SameOffset self at) }
     {
         Ok(self.replace_date_time(self.date_time().replace_minute(minute)?))
@@ -146,6 +164,8 @@ impl OffsetDateTime {
         ensures value { let c = wall_time self.wall in OkIff result (second ≤ 59)
             (local (with_time self.wall (clock_of_parts (hour_of c) (minute_of c) second (nanosecond_of c))) self.offset) }
         ensures refused { IfErr result (λ refusal. refusal ≡ outright_refusal (codes "second")) }
+        ensures shown { let c = wall_time self.wall in
+            IfOk result (λ at. AtTime self.wall (hour_of c) (minute_of c) second (nanosecond_of c) at.wall) }
         ensures instant { IfOk result (λ at. SameOffset self at) }
     {
         Ok(self.replace_date_time(self.date_time().replace_second(second)?))
@@ -166,6 +186,9 @@ impl OffsetDateTime {
         ensures value { let c = wall_time self.wall in OkIff result (millisecond ≤ 999)
             (local (with_time self.wall (clock_of_parts (hour_of c) (minute_of c) (second_of c) (millisecond * nanos_per_millisecond))) self.offset) }
         ensures refused { IfErr result (λ refusal. refusal ≡ outright_refusal (codes "millisecond")) }
+        ensures shown { let c = wall_time self.wall in
+            let n = millisecond * nanos_per_millisecond in
+            IfOk result (λ at. AtTime self.wall (hour_of c) (minute_of c) (second_of c) n at.wall) }
         ensures instant { IfOk result (λ at. SameOffset self at) }
     {
         Ok(self.replace_date_time(self.date_time().replace_millisecond(millisecond)?))
@@ -186,6 +209,9 @@ impl OffsetDateTime {
         ensures value { let c = wall_time self.wall in OkIff result (microsecond ≤ 999_999)
             (local (with_time self.wall (clock_of_parts (hour_of c) (minute_of c) (second_of c) (microsecond * nanos_per_microsecond))) self.offset) }
         ensures refused { IfErr result (λ refusal. refusal ≡ outright_refusal (codes "microsecond")) }
+        ensures shown { let c = wall_time self.wall in
+            let n = microsecond * nanos_per_microsecond in
+            IfOk result (λ at. AtTime self.wall (hour_of c) (minute_of c) (second_of c) n at.wall) }
         ensures instant { IfOk result (λ at. SameOffset self at) }
     {
         Ok(self.replace_date_time(self.date_time().replace_microsecond(microsecond)?))
@@ -206,6 +232,8 @@ impl OffsetDateTime {
         ensures value { let c = wall_time self.wall in OkIff result (nanosecond ≤ 999_999_999)
             (local (with_time self.wall (clock_of_parts (hour_of c) (minute_of c) (second_of c) nanosecond)) self.offset) }
         ensures refused { IfErr result (λ refusal. refusal ≡ outright_refusal (codes "nanosecond")) }
+        ensures shown { let c = wall_time self.wall in
+            IfOk result (λ at. AtTime self.wall (hour_of c) (minute_of c) (second_of c) nanosecond at.wall) }
         ensures instant { IfOk result (λ at. SameOffset self at) }
     {
         Ok(self.replace_date_time(self.date_time().replace_nanosecond(nanosecond)?))

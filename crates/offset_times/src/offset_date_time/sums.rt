@@ -51,6 +51,8 @@ impl OffsetDateTime {
         ensures value { result ≡ local (clamped (self.wall +ℤ duration)) self.offset }
         ensures not_before { pos 0 ≤ℤ duration → self.wall ≤ℤ result.wall }
         ensures not_after { duration ≤ℤ pos 0 → result.wall ≤ℤ self.wall }
+        ensures not_above { pos 0 ≤ℤ duration → result.wall ≤ℤ (self.wall +ℤ duration) }
+        ensures not_below { duration ≤ℤ pos 0 → (self.wall +ℤ duration) ≤ℤ result.wall }
         ensures instant { SameOffset self result }
     {
         self.replace_date_time(self.date_time().saturating_add(duration))
@@ -61,6 +63,8 @@ impl OffsetDateTime {
         ensures value { result ≡ local (clamped (self.wall -ℤ duration)) self.offset }
         ensures not_before { duration ≤ℤ pos 0 → self.wall ≤ℤ result.wall }
         ensures not_after { pos 0 ≤ℤ duration → result.wall ≤ℤ self.wall }
+        ensures not_above { duration ≤ℤ pos 0 → result.wall ≤ℤ (self.wall -ℤ duration) }
+        ensures not_below { pos 0 ≤ℤ duration → (self.wall -ℤ duration) ≤ℤ result.wall }
         ensures instant { SameOffset self result }
     {
         self.replace_date_time(self.date_time().saturating_sub(duration))

@@ -1,12 +1,12 @@
 //! Plain date-times with a part replaced, or truncated to a unit of time.
-ghost use Rattle.std.specs.Prelude.{◌≡◌, ◌≤◌, ◌*◌, OkIff, IfErr, codes, pos, ◌+ℤ◌, ◌≤ℤ◌, ◌<ℤ◌};
+ghost use Rattle.std.specs.Prelude.{◌≡◌, ◌≤◌, ◌*◌, OkIff, IfOk, IfErr, codes, pos, ◌+ℤ◌, ◌≤ℤ◌, ◌<ℤ◌};
 ghost use Rattle.calendar_values.specs.Calendar.{year_of, month_of, day_of_month_of, is_leap_year, days_in_year, days_in_month, day_of_calendar_date, day_of_ordinal_date};
 ghost use Rattle.calendar_values.specs.Clock.{nanos_per_day, nanos_per_hour, nanos_per_minute, nanos_per_second, nanos_per_millisecond, nanos_per_microsecond, clock_of_parts, hour_of, minute_of, second_of, nanosecond_of};
 ghost use Rattle.calendar_values.specs.Month.{month_number};
 ghost use Rattle.calendar_values.specs.Refusals.{IsDateOfRange, date_refusal, ordinal_refusal, outright_refusal, conditional_refusal};
 ghost use Rattle.calendar_values.specs.Replacements.{with_year, with_month, with_day, with_ordinal, with_hour, with_minute, with_second, with_millisecond, with_microsecond, with_nanosecond};
 ghost use Rattle.calendar_values.specs.WallClock.{wall_clock, wall_day, wall_time};
-ghost use Rattle.plain_times.specs.Replacements.{with_date, with_time, keeping_time, keeping_day};
+ghost use Rattle.plain_times.specs.Replacements.{with_date, with_time, keeping_time, keeping_day, OnDate, OnOrdinalDate, AtTime};
 ghost use Rattle.plain_times.specs.Truncations.{rounded_down};
 
 use crate::PlainDateTime;
@@ -14,17 +14,21 @@ use calendar_values::{ComponentRange, Date, Month, Time};
 
 impl PlainDateTime {
     /// The same date at another time of day.
-    #[tactic(auto, unfolding(crate::specs::Replacements::with_time))]
+    #[tactic(auto, using(crate::specs::ReplacementLemmas::replaced), unfolding(crate::specs::Replacements::with_time))]
     pub fn replace_time(self, time: Time) -> PlainDateTime
-        ensures { result ≡ with_time self time }
+        ensures value { result ≡ with_time self time }
+        ensures date { wall_day result ≡ wall_day self }
+        ensures time { wall_time result ≡ time }
     {
         PlainDateTime::new(self.date(), time)
     }
 
     /// The same time of day on another date.
-    #[tactic(auto, unfolding(crate::specs::Replacements::with_date))]
+    #[tactic(auto, using(crate::specs::ReplacementLemmas::replaced), unfolding(crate::specs::Replacements::with_date))]
     pub fn replace_date(self, date: Date) -> PlainDateTime
-        ensures { result ≡ with_date self date }
+        ensures value { result ≡ with_date self date }
+        ensures date { wall_day result ≡ date }
+        ensures time { wall_time result ≡ wall_time self }
     {
         PlainDateTime::new(date, self.time())
     }
@@ -36,6 +40,8 @@ impl PlainDateTime {
             (IsDateOfRange year (month_of n) (day_of_month_of n))
             (with_date self (day_of_calendar_date year (month_of n) (day_of_month_of n))) }
         ensures refused { IfErr result (λ refusal. refusal ≡ date_refusal year (day_of_month_of (wall_day self))) }
+        ensures shown { let n = wall_day self in
+            IfOk result (OnDate self year (month_of n) (day_of_month_of n)) }
         ensures equation { result ≡ keeping_time self (with_year (wall_day self) year) }
     {
         Ok(self.replace_date(self.date().replace_year(year)?))
@@ -48,6 +54,8 @@ impl PlainDateTime {
             (day_of_month_of n ≤ days_in_month (is_leap_year (year_of n)) (month_number month))
             (with_date self (day_of_calendar_date (year_of n) (month_number month) (day_of_month_of n))) }
         ensures refused { IfErr result (λ refusal. refusal ≡ conditional_refusal (codes "day")) }
+        ensures shown { let n = wall_day self in
+            IfOk result (OnDate self (year_of n) (month_number month) (day_of_month_of n)) }
         ensures equation { result ≡ keeping_time self (with_month (wall_day self) (month_number month)) }
     {
         Ok(self.replace_date(self.date().replace_month(month)?))
@@ -60,6 +68,8 @@ impl PlainDateTime {
             ((1 ≤ day) × (day ≤ days_in_month (is_leap_year (year_of n)) (month_of n)))
             (with_date self (day_of_calendar_date (year_of n) (month_of n) day)) }
         ensures refused { IfErr result (λ refusal. refusal ≡ date_refusal (year_of (wall_day self)) day) }
+        ensures shown { let n = wall_day self in
+            IfOk result (OnDate self (year_of n) (month_of n) day) }
         ensures equation { result ≡ keeping_time self (with_day (wall_day self) day) }
     {
         Ok(self.replace_date(self.date().replace_day(day)?))
@@ -72,6 +82,8 @@ impl PlainDateTime {
             ((1 ≤ ordinal) × (ordinal ≤ days_in_year (year_of n)))
             (with_date self (day_of_ordinal_date (year_of n) ordinal)) }
         ensures refused { IfErr result (λ refusal. refusal ≡ ordinal_refusal (year_of (wall_day self)) ordinal) }
+        ensures shown { let n = wall_day self in
+            IfOk result (OnOrdinalDate self (year_of n) ordinal) }
         ensures equation { result ≡ keeping_time self (with_ordinal (wall_day self) ordinal) }
     {
         Ok(self.replace_date(self.date().replace_ordinal(ordinal)?))
@@ -82,6 +94,8 @@ impl PlainDateTime {
     pub fn truncate_to_day(self) -> PlainDateTime
         ensures value { result ≡ rounded_down nanos_per_day self }
         ensures midnight { result ≡ wall_clock (wall_day self) 0 }
+        ensures date { wall_day result ≡ wall_day self }
+        ensures time { wall_time result ≡ 0 }
         ensures not_above { result ≤ℤ self }
         ensures within { self <ℤ (result +ℤ pos nanos_per_day) }
     {
@@ -89,11 +103,13 @@ impl PlainDateTime {
     }
 
     /// As [`Time::replace_hour`] of the time of day, with the date kept.
-    #[tactic(auto, unfolding(crate::specs::Replacements::keeping_day))]
+    #[tactic(auto, using(crate::specs::ReplacementLemmas::times), unfolding(crate::specs::Replacements::keeping_day))]
     pub fn replace_hour(self, hour: u8) -> Result<PlainDateTime, ComponentRange>
         ensures value { let c = wall_time self in OkIff result (hour ≤ 23)
             (with_time self (clock_of_parts hour (minute_of c) (second_of c) (nanosecond_of c))) }
         ensures refused { IfErr result (λ refusal. refusal ≡ outright_refusal (codes "hour")) }
+        ensures shown { let c = wall_time self in
+            IfOk result (AtTime self hour (minute_of c) (second_of c) (nanosecond_of c)) }
         ensures equation { result ≡ keeping_day self (with_hour (wall_time self) hour) }
     {
         Ok(self.replace_time(self.time().replace_hour(hour)?))
@@ -110,11 +126,13 @@ impl PlainDateTime {
     }
 
     /// As [`Time::replace_minute`] of the time of day, with the date kept.
-    #[tactic(auto, unfolding(crate::specs::Replacements::keeping_day))]
+    #[tactic(auto, using(crate::specs::ReplacementLemmas::times), unfolding(crate::specs::Replacements::keeping_day))]
     pub fn replace_minute(self, minute: u8) -> Result<PlainDateTime, ComponentRange>
         ensures value { let c = wall_time self in OkIff result (minute ≤ 59)
             (with_time self (clock_of_parts (hour_of c) minute (second_of c) (nanosecond_of c))) }
         ensures refused { IfErr result (λ refusal. refusal ≡ outright_refusal (codes "minute")) }
+        ensures shown { let c = wall_time self in
+            IfOk result (AtTime self (hour_of c) minute (second_of c) (nanosecond_of c)) }
         ensures equation { result ≡ keeping_day self (with_minute (wall_time self) minute) }
     {
         Ok(self.replace_time(self.time().replace_minute(minute)?))
@@ -131,11 +149,13 @@ impl PlainDateTime {
     }
 
     /// As [`Time::replace_second`] of the time of day, with the date kept.
-    #[tactic(auto, unfolding(crate::specs::Replacements::keeping_day))]
+    #[tactic(auto, using(crate::specs::ReplacementLemmas::times), unfolding(crate::specs::Replacements::keeping_day))]
     pub fn replace_second(self, second: u8) -> Result<PlainDateTime, ComponentRange>
         ensures value { let c = wall_time self in OkIff result (second ≤ 59)
             (with_time self (clock_of_parts (hour_of c) (minute_of c) second (nanosecond_of c))) }
         ensures refused { IfErr result (λ refusal. refusal ≡ outright_refusal (codes "second")) }
+        ensures shown { let c = wall_time self in
+            IfOk result (AtTime self (hour_of c) (minute_of c) second (nanosecond_of c)) }
         ensures equation { result ≡ keeping_day self (with_second (wall_time self) second) }
     {
         Ok(self.replace_time(self.time().replace_second(second)?))
@@ -152,11 +172,14 @@ impl PlainDateTime {
     }
 
     /// As [`Time::replace_millisecond`] of the time of day, with the date kept.
-    #[tactic(auto, unfolding(crate::specs::Replacements::keeping_day))]
+    #[tactic(auto, using(crate::specs::ReplacementLemmas::times), unfolding(crate::specs::Replacements::keeping_day))]
     pub fn replace_millisecond(self, millisecond: u16) -> Result<PlainDateTime, ComponentRange>
         ensures value { let c = wall_time self in OkIff result (millisecond ≤ 999)
             (with_time self (clock_of_parts (hour_of c) (minute_of c) (second_of c) (millisecond * nanos_per_millisecond))) }
         ensures refused { IfErr result (λ refusal. refusal ≡ outright_refusal (codes "millisecond")) }
+        ensures shown { let c = wall_time self in
+            let n = millisecond * nanos_per_millisecond in
+            IfOk result (AtTime self (hour_of c) (minute_of c) (second_of c) n) }
         ensures equation { result ≡ keeping_day self (with_millisecond (wall_time self) millisecond) }
     {
         Ok(self.replace_time(self.time().replace_millisecond(millisecond)?))
@@ -173,11 +196,14 @@ impl PlainDateTime {
     }
 
     /// As [`Time::replace_microsecond`] of the time of day, with the date kept.
-    #[tactic(auto, unfolding(crate::specs::Replacements::keeping_day))]
+    #[tactic(auto, using(crate::specs::ReplacementLemmas::times), unfolding(crate::specs::Replacements::keeping_day))]
     pub fn replace_microsecond(self, microsecond: u32) -> Result<PlainDateTime, ComponentRange>
         ensures value { let c = wall_time self in OkIff result (microsecond ≤ 999_999)
             (with_time self (clock_of_parts (hour_of c) (minute_of c) (second_of c) (microsecond * nanos_per_microsecond))) }
         ensures refused { IfErr result (λ refusal. refusal ≡ outright_refusal (codes "microsecond")) }
+        ensures shown { let c = wall_time self in
+            let n = microsecond * nanos_per_microsecond in
+            IfOk result (AtTime self (hour_of c) (minute_of c) (second_of c) n) }
         ensures equation { result ≡ keeping_day self (with_microsecond (wall_time self) microsecond) }
     {
         Ok(self.replace_time(self.time().replace_microsecond(microsecond)?))
@@ -194,11 +220,13 @@ impl PlainDateTime {
     }
 
     /// As [`Time::replace_nanosecond`] of the time of day, with the date kept.
-    #[tactic(auto, unfolding(crate::specs::Replacements::keeping_day))]
+    #[tactic(auto, using(crate::specs::ReplacementLemmas::times), unfolding(crate::specs::Replacements::keeping_day))]
     pub fn replace_nanosecond(self, nanosecond: u32) -> Result<PlainDateTime, ComponentRange>
         ensures value { let c = wall_time self in OkIff result (nanosecond ≤ 999_999_999)
             (with_time self (clock_of_parts (hour_of c) (minute_of c) (second_of c) nanosecond)) }
         ensures refused { IfErr result (λ refusal. refusal ≡ outright_refusal (codes "nanosecond")) }
+        ensures shown { let c = wall_time self in
+            IfOk result (AtTime self (hour_of c) (minute_of c) (second_of c) nanosecond) }
         ensures equation { result ≡ keeping_day self (with_nanosecond (wall_time self) nanosecond) }
     {
         Ok(self.replace_time(self.time().replace_nanosecond(nanosecond)?))

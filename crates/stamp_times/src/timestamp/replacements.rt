@@ -1,5 +1,5 @@
 //! A timestamp with a part of its date or of its time of day replaced, in UTC.
-ghost use Rattle.std.specs.Prelude.{◌≡◌, ◌<◌, ◌≤◌, ◌+◌, ◌*◌, OkIff, IfErr, codes};
+ghost use Rattle.std.specs.Prelude.{◌≡◌, ◌<◌, ◌≤◌, ◌+◌, ◌*◌, OkIff, IfOk, IfErr, codes};
 ghost use Rattle.calendar_values.specs.Calendar.{year_of, month_of, day_of_month_of, is_leap_year, days_in_year, days_in_month, day_of_calendar_date, day_of_ordinal_date};
 ghost use Rattle.calendar_values.specs.Clock.{nanos_per_second, nanos_per_millisecond, nanos_per_microsecond, clock_of_parts, hour_of, minute_of, second_of, nanosecond_of};
 ghost use Rattle.calendar_values.specs.Month.{month_number};
@@ -7,7 +7,7 @@ ghost use Rattle.calendar_values.specs.Range.{IsDay};
 ghost use Rattle.calendar_values.specs.Refusals.{IsDateOfRange, date_refusal, ordinal_refusal, outright_refusal, conditional_refusal};
 ghost use Rattle.calendar_values.specs.Replacements.{with_year, with_month, with_day, with_ordinal, with_hour, with_minute, with_second, with_millisecond, with_microsecond, with_nanosecond};
 ghost use Rattle.calendar_values.specs.WallClock.{wall_clock, wall_day, wall_time};
-ghost use Rattle.plain_times.specs.Replacements.{with_date, with_time, keeping_time, keeping_day};
+ghost use Rattle.plain_times.specs.Replacements.{with_date, with_time, keeping_time, keeping_day, OnDate, OnOrdinalDate, AtTime};
 
 use crate::Timestamp;
 use calendar_values::{ComponentRange, Date, Month, Time};
@@ -19,9 +19,11 @@ const EPOCH_JULIAN_DAY: i32 = 2_440_588;
 
 impl Timestamp {
     /// As [`utc_times::UtcDateTime::replace_time`].
-    #[tactic(auto, unfolding(plain_times::specs::Replacements::with_time))]
+    #[tactic(auto, using(plain_times::specs::ReplacementLemmas::replaced), unfolding(plain_times::specs::Replacements::with_time))]
     pub fn replace_time(self, time: Time) -> Timestamp
-        ensures { result ≡ with_time self time }
+        ensures value { result ≡ with_time self time }
+        ensures date { wall_day result ≡ wall_day self }
+        ensures time { wall_time result ≡ time }
     {
         let (hour, minute, second, nanosecond) = time.as_hms_nano();
         let second = (hour as u32 * 60 + minute as u32) * 60 + second as u32;
@@ -31,7 +33,9 @@ impl Timestamp {
     /// As [`utc_times::UtcDateTime::replace_date`].
     #[tactic(auto, unfolding(plain_times::specs::Replacements::with_date))]
     pub fn replace_date(self, date: Date) -> Timestamp
-        ensures { result ≡ with_date self date }
+        ensures value { result ≡ with_date self date }
+        ensures date { wall_day result ≡ date }
+        ensures time { wall_time result ≡ wall_time self }
     {
         let day = date.to_julian_day() - EPOCH_JULIAN_DAY;
         on_day(day, self.second_of_day(), self.nanosecond())
@@ -44,6 +48,8 @@ impl Timestamp {
             (IsDateOfRange year (month_of n) (day_of_month_of n))
             (with_date self (day_of_calendar_date year (month_of n) (day_of_month_of n))) }
         ensures refused { IfErr result (λ refusal. refusal ≡ date_refusal year (day_of_month_of (wall_day self))) }
+        ensures shown { let n = wall_day self in
+            IfOk result (OnDate self year (month_of n) (day_of_month_of n)) }
         ensures equation { result ≡ keeping_time self (with_year (wall_day self) year) }
     {
         Ok(self.replace_date(self.date().replace_year(year)?))
@@ -56,6 +62,8 @@ impl Timestamp {
             (day_of_month_of n ≤ days_in_month (is_leap_year (year_of n)) (month_number month))
             (with_date self (day_of_calendar_date (year_of n) (month_number month) (day_of_month_of n))) }
         ensures refused { IfErr result (λ refusal. refusal ≡ conditional_refusal (codes "day")) }
+        ensures shown { let n = wall_day self in
+            IfOk result (OnDate self (year_of n) (month_number month) (day_of_month_of n)) }
         ensures equation { result ≡ keeping_time self (with_month (wall_day self) (month_number month)) }
     {
         Ok(self.replace_date(self.date().replace_month(month)?))
@@ -68,6 +76,8 @@ impl Timestamp {
             ((1 ≤ day) × (day ≤ days_in_month (is_leap_year (year_of n)) (month_of n)))
             (with_date self (day_of_calendar_date (year_of n) (month_of n) day)) }
         ensures refused { IfErr result (λ refusal. refusal ≡ date_refusal (year_of (wall_day self)) day) }
+        ensures shown { let n = wall_day self in
+            IfOk result (OnDate self (year_of n) (month_of n) day) }
         ensures equation { result ≡ keeping_time self (with_day (wall_day self) day) }
     {
         Ok(self.replace_date(self.date().replace_day(day)?))
@@ -80,39 +90,47 @@ impl Timestamp {
             ((1 ≤ ordinal) × (ordinal ≤ days_in_year (year_of n)))
             (with_date self (day_of_ordinal_date (year_of n) ordinal)) }
         ensures refused { IfErr result (λ refusal. refusal ≡ ordinal_refusal (year_of (wall_day self)) ordinal) }
+        ensures shown { let n = wall_day self in
+            IfOk result (OnOrdinalDate self (year_of n) ordinal) }
         ensures equation { result ≡ keeping_time self (with_ordinal (wall_day self) ordinal) }
     {
         Ok(self.replace_date(self.date().replace_ordinal(ordinal)?))
     }
 
     /// As [`utc_times::UtcDateTime::replace_hour`].
-    #[tactic(auto, unfolding(plain_times::specs::Replacements::keeping_day))]
+    #[tactic(auto, using(plain_times::specs::ReplacementLemmas::times), unfolding(plain_times::specs::Replacements::keeping_day))]
     pub fn replace_hour(self, hour: u8) -> Result<Timestamp, ComponentRange>
         ensures value { let c = wall_time self in OkIff result (hour ≤ 23)
             (with_time self (clock_of_parts hour (minute_of c) (second_of c) (nanosecond_of c))) }
         ensures refused { IfErr result (λ refusal. refusal ≡ outright_refusal (codes "hour")) }
+        ensures shown { let c = wall_time self in
+            IfOk result (AtTime self hour (minute_of c) (second_of c) (nanosecond_of c)) }
         ensures equation { result ≡ keeping_day self (with_hour (wall_time self) hour) }
     {
         Ok(self.replace_time(self.time().replace_hour(hour)?))
     }
 
     /// As [`utc_times::UtcDateTime::replace_minute`].
-    #[tactic(auto, unfolding(plain_times::specs::Replacements::keeping_day))]
+    #[tactic(auto, using(plain_times::specs::ReplacementLemmas::times), unfolding(plain_times::specs::Replacements::keeping_day))]
     pub fn replace_minute(self, minute: u8) -> Result<Timestamp, ComponentRange>
         ensures value { let c = wall_time self in OkIff result (minute ≤ 59)
             (with_time self (clock_of_parts (hour_of c) minute (second_of c) (nanosecond_of c))) }
         ensures refused { IfErr result (λ refusal. refusal ≡ outright_refusal (codes "minute")) }
+        ensures shown { let c = wall_time self in
+            IfOk result (AtTime self (hour_of c) minute (second_of c) (nanosecond_of c)) }
         ensures equation { result ≡ keeping_day self (with_minute (wall_time self) minute) }
     {
         Ok(self.replace_time(self.time().replace_minute(minute)?))
     }
 
     /// As [`utc_times::UtcDateTime::replace_second`].
-    #[tactic(auto, unfolding(plain_times::specs::Replacements::keeping_day))]
+    #[tactic(auto, using(plain_times::specs::ReplacementLemmas::times), unfolding(plain_times::specs::Replacements::keeping_day))]
     pub fn replace_second(self, second: u8) -> Result<Timestamp, ComponentRange>
         ensures value { let c = wall_time self in OkIff result (second ≤ 59)
             (with_time self (clock_of_parts (hour_of c) (minute_of c) second (nanosecond_of c))) }
         ensures refused { IfErr result (λ refusal. refusal ≡ outright_refusal (codes "second")) }
+        ensures shown { let c = wall_time self in
+            IfOk result (AtTime self (hour_of c) (minute_of c) second (nanosecond_of c)) }
         ensures equation { result ≡ keeping_day self (with_second (wall_time self) second) }
     {
         Ok(self.replace_time(self.time().replace_second(second)?))
@@ -124,6 +142,9 @@ impl Timestamp {
         ensures value { let c = wall_time self in OkIff result (millisecond ≤ 999)
             (with_time self (clock_of_parts (hour_of c) (minute_of c) (second_of c) (millisecond * nanos_per_millisecond))) }
         ensures refused { IfErr result (λ refusal. refusal ≡ outright_refusal (codes "millisecond")) }
+        ensures shown { let c = wall_time self in
+            let n = millisecond * nanos_per_millisecond in
+            IfOk result (AtTime self (hour_of c) (minute_of c) (second_of c) n) }
         ensures equation { result ≡ keeping_day self (with_millisecond (wall_time self) millisecond) }
     {
         if millisecond > 999 {
@@ -138,6 +159,9 @@ impl Timestamp {
         ensures value { let c = wall_time self in OkIff result (microsecond ≤ 999_999)
             (with_time self (clock_of_parts (hour_of c) (minute_of c) (second_of c) (microsecond * nanos_per_microsecond))) }
         ensures refused { IfErr result (λ refusal. refusal ≡ outright_refusal (codes "microsecond")) }
+        ensures shown { let c = wall_time self in
+            let n = microsecond * nanos_per_microsecond in
+            IfOk result (AtTime self (hour_of c) (minute_of c) (second_of c) n) }
         ensures equation { result ≡ keeping_day self (with_microsecond (wall_time self) microsecond) }
     {
         if microsecond > 999_999 {
@@ -152,6 +176,8 @@ impl Timestamp {
         ensures value { let c = wall_time self in OkIff result (nanosecond ≤ 999_999_999)
             (with_time self (clock_of_parts (hour_of c) (minute_of c) (second_of c) nanosecond)) }
         ensures refused { IfErr result (λ refusal. refusal ≡ outright_refusal (codes "nanosecond")) }
+        ensures shown { let c = wall_time self in
+            IfOk result (AtTime self (hour_of c) (minute_of c) (second_of c) nanosecond) }
         ensures equation { result ≡ keeping_day self (with_nanosecond (wall_time self) nanosecond) }
     {
         if nanosecond > 999_999_999 {

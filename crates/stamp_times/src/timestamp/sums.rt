@@ -56,6 +56,8 @@ impl Timestamp {
         ensures value { result ≡ clamped (self +ℤ duration) }
         ensures not_before { pos 0 ≤ℤ duration → self ≤ℤ result }
         ensures not_after { duration ≤ℤ pos 0 → result ≤ℤ self }
+        ensures not_above { pos 0 ≤ℤ duration → result ≤ℤ (self +ℤ duration) }
+        ensures not_below { duration ≤ℤ pos 0 → (self +ℤ duration) ≤ℤ result }
     {
         let _in_range = self.as_seconds();
         match self.checked_add(duration) {
@@ -76,6 +78,8 @@ impl Timestamp {
         ensures value { result ≡ clamped (self -ℤ duration) }
         ensures not_before { duration ≤ℤ pos 0 → self ≤ℤ result }
         ensures not_after { pos 0 ≤ℤ duration → result ≤ℤ self }
+        ensures not_above { duration ≤ℤ pos 0 → result ≤ℤ (self -ℤ duration) }
+        ensures not_below { pos 0 ≤ℤ duration → (self -ℤ duration) ≤ℤ result }
     {
         let _in_range = self.as_seconds();
         match self.checked_sub(duration) {

@@ -1,0 +1,8 @@
+use Rattle.std.proofs.Common.{◌*◌, refl, arith}
+use Rattle.calendar_values.specs.Clock.{nanos_per_microsecond}
+use Rattle.plain_times.specs.ReplacementLemmas.{AtTime-nanosecond}
+use Rattle.stamp_times.proofs.timestamp.Timestamp.replace_microsecond.Goals as goal
+
+pub returns-clause-shown : goal.returns-clause-shown
+returns-clause-shown c =
+    AtTime-nanosecond c.args.self c.at_nanosecond.result _ (c.args.microsecond * nanos_per_microsecond) (omega arith) refl c.at_nanosecond.ensures

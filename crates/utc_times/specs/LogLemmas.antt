@@ -1,0 +1,30 @@
+-- What callers name who keep a log in the order of its instants.
+use Rattle.std.proofs.Common.{◌≡◌, ◌<◌, ℕ, inl, inr, ap, ◌∙◌, arith, ℤ, int_cmp, List, slice_index_or}
+use Rattle.std.proofs.lemmas.Bool.{cases_order}
+use Rattle.std.proofs.lemmas.Cmp.{int_cmp_total}
+use Rattle.std.proofs.lemmas.Int.{ints}
+use Rattle.std.proofs.lemmas.List.Kept.{IsSortedBy-push}
+use Rattle.std.proofs.lemmas.List.Sorted.{searchable_from_sorted}
+use Rattle.std.specs.List.{Contains}
+use Rattle.std.specs.List.Sorted.{IsSorted, IsNonDecreasingBy, IsPartitionPoint}
+use Rattle.std.specs.Ordering.{ordering_index}
+use Rattle.std.specs.declared.cmp.Ordering.TheVariants.{Less, Equal, Greater}
+
+int_cmp-same : (x : ℤ) → int_cmp x x ≡ Equal
+int_cmp-same x = grind (arith, ints)
+
+-- what a search of a sorted log does not find is not in it
+pub not_Contains-searched : (xs : List ℤ) (x : ℤ) (i : ℕ) → IsSorted int_cmp xs
+    → (IsNonDecreasingBy (λ y. ordering_index (int_cmp y x)) xs → IsPartitionPoint (λ y. int_cmp y x ≡ Less) (λ y. int_cmp y x ≡ Greater) xs i)
+    → Contains xs x → ⊥
+not_Contains-searched xs x i sorted searched found =
+    let k = found.0 in
+    let here : int_cmp (slice_index_or xs k x) x ≡ Equal = ap (λ (y : ℤ). int_cmp y x) found.2 ∙ int_cmp-same x in
+    let parts = searched (searchable_from_sorted int_cmp_total (λ (y : ℤ). y) xs x sorted) in
+    elim (cases_order k i) [
+      | inl same ↦ (let after : int_cmp (slice_index_or xs k x) x ≡ Greater = parts.1 k x (omega arith) found.1 in cc)
+      | inr (inl lt) ↦ (let before : int_cmp (slice_index_or xs k x) x ≡ Less = parts.0 k x (omega arith) lt in cc)
+      | inr (inr gt) ↦ (let after : int_cmp (slice_index_or xs k x) x ≡ Greater = parts.1 k x (omega arith) found.1 in cc)
+    ]
+
+pub ruleset logs = (not_Contains-searched, IsSortedBy-push)
