@@ -6,11 +6,12 @@ ghost use Rattle.std.specs.Cmp.Rules.{comparing, hashing};
 ghost use Rattle.std.specs.Hash as fed;
 ghost use Rattle.std.specs.Ordering.{on, int_eq, int_cmp, as_partial_cmp};
 ghost use Rattle.calendar_values.specs.Range.{IsYear};
-ghost use Rattle.offset_times.specs.Local.{instant_of};
+ghost use Rattle.offset_times.specs.Local.{instant_of, shown_at};
 ghost use Rattle.plain_times.specs.Packed.{packed_wall_clock};
 
 use crate::OffsetDateTime;
 use crate::carries::{to_offset_raw, to_utc_raw};
+use calendar_values::UtcOffset;
 use plain_times::packed;
 use std::cmp::Ordering;
 use std::hash::{Hash, Hasher};
@@ -48,10 +49,32 @@ impl OffsetDateTime {
         if self.offset() == other.offset() {
             return self.date_time().cmp(&other.date_time());
         }
-        let (year, ordinal, time) = to_offset_raw(other, self.offset());
-        let at = self.date_time();
-        let own = packed(at.year(), at.ordinal(), at.time());
-        own.cmp(&packed(year, ordinal, time))
+        self.by_shown(other)
+    }
+
+    // The order of what clocks at the offset of the first show at both instants.
+    #[tactic(auto, using(crate::proofs::OrderLemmas::shown_order))]
+    fn by_shown(self, other: OffsetDateTime) -> Ordering
+        ensures { result ≡ int_cmp (instant_of self) (instant_of other) }
+    {
+        self.packed_own().cmp(&other.packed_shown(self.offset()))
+    }
+
+    // The date and the time of day in one number.
+    #[tactic(auto, unfolding(plain_times::specs::Packed::packed_wall_clock))]
+    fn packed_own(self) -> i128
+        ensures { result ≡ packed_wall_clock self.wall }
+    {
+        let (year, ordinal) = self.date_time().to_ordinal_date();
+        packed(year, ordinal, self.date_time().time())
+    }
+
+    // What clocks at the offset show then, in one number, which is told of a date outside the range too.
+    fn packed_shown(self, offset: UtcOffset) -> i128
+        ensures { result ≡ packed_wall_clock (shown_at (instant_of self) offset) }
+    {
+        let (year, ordinal, time) = to_offset_raw(self, offset);
+        packed(year, ordinal, time)
     }
 
     // What clocks in UTC show then, in one number, which is told of an instant outside the range too.

@@ -1,0 +1,16 @@
+use Rattle.std.proofs.Common.{◌≡◌, ◌∙◌, rules, ap, ℤ, to_z, of_z, w32}
+use Rattle.std.specs.Int.{w128}
+use Rattle.offset_times.specs.Local.{instant_of, shown_at}
+use Rattle.offset_times.proofs.OrderLemmas.{packed_parts-is}
+use Rattle.plain_times.specs.Packed.{packed_parts}
+use Rattle.offset_times.proofs.offset_date_time.OffsetDateTime.packed_shown.Goals as goal
+
+pub returns : goal.returns
+returns c =
+    let raw = c.to_offset_raw-year.ensures in
+    let year : to_z w32 (of_z w32 c.to_offset_raw-year.result.0) ≡ c.to_offset_raw-year.result.0 = search rules in
+    let back : to_z w128 (of_z w128 c.packed.result) ≡ c.packed.result = search rules in
+    let ordinal = c.to_offset_raw-year.result.1 in
+    let time = c.to_offset_raw-year.result.2 in
+    back ∙ c.packed.ensures ∙ ap (λ (y : ℤ). packed_parts y ordinal time) year
+    ∙ packed_parts-is (shown_at (instant_of c.args.self) c.args.offset) c.to_offset_raw-year.result.0 ordinal time raw.date raw.clock raw.shown
