@@ -68,8 +68,14 @@ def jobs():
     return int(subprocess.run([os.path.join(TOOLS, "jobs")], stdout=subprocess.PIPE, check=True).stdout)
 
 
+def program(folder, compiler):
+    """The path in the folder of times_bench as that compiler builds it."""
+    return os.path.join(folder, f"times_bench_{compiler}")
+
+
 def build(folder):
-    """Makes a copy of the repository in the folder, with times_bench proved and built in it by each compiler.
+    """Makes a copy of the repository in the folder, has ./bench prove and build times_bench in it, and then has Rattle's own
+    compiler build it too.
 
     What checks kept in the repository comes along, so little is left to do where it is proved already. Where an earlier
     step built the copy, nothing is done; where an earlier step could not build it, this one ends too.
@@ -81,12 +87,14 @@ def build(folder):
         sys.exit("the copy of the repository could not be built")
     print("building a copy of the repository", flush=True)
     shutil.copytree(REPOSITORY, copy, symlinks=True, ignore=shutil.ignore_patterns(".git", "__pycache__"))
+    if subprocess.run([os.path.join(copy, "bench")], stdin=subprocess.DEVNULL, check=False).returncode != 0:
+        sys.exit("the copy of the repository is not proved and built")
     crate = os.path.join(copy, "crates", "times_bench")
-    for compiler in COMPILERS:
-        run = rt(["run", "--jobs", str(jobs()), "--backend", compiler], crate)
-        if run.returncode != 0:
-            sys.exit(f"the copy of the repository is not proved and built:\n{run.stdout[-SHOWN:]}")
-        shutil.copy(os.path.join(crate, "out", "times_bench"), os.path.join(folder, f"times_bench_{compiler}"))
+    shutil.copy(os.path.join(crate, "out", "times_bench"), program(folder, "llvm"))
+    run = rt(["run", "--backend", "rattle"], crate)
+    if run.returncode != 0:
+        sys.exit(f"Rattle's own compiler does not build times_bench:\n{run.stdout[-SHOWN:]}")
+    shutil.copy(os.path.join(crate, "out", "times_bench"), program(folder, "rattle"))
     open(built, "w", encoding="utf-8").close()
 
 
@@ -114,7 +122,7 @@ def built_copy():
 
 @contextlib.contextmanager
 def programs():
-    """Paths of times_bench, each with what it is: as each compiler builds it in a copy of the repository, or the one that
+    """What times_bench is, and its path: as each compiler builds it in a copy of the repository, or the one program that
     `--program PATH` names on the command line."""
     words = sys.argv[1:]
     if words[:1] == ["--program"] and len(words) == 2:
@@ -123,7 +131,7 @@ def programs():
     if words:
         sys.exit(f"usage: {sys.argv[0]} [--program PATH]")
     with built_folder() as folder:
-        yield [(f"times_bench built by {name}", os.path.join(folder, f"times_bench_{name}")) for name in COMPILERS]
+        yield [(f"times_bench built by {compiler}", program(folder, compiler)) for compiler in COMPILERS]
 
 
 def lines_and_answers(tool, *numbers):
