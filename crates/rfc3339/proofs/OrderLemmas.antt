@@ -220,5 +220,5 @@ order_of i j Equal h k r =
 order_of i j Greater h k r =
     nat_list_cmp_total.antisymm (fixed_text i) (fixed_text j) ∙ ap ordering_reverse (earlier_text j i k h r)
 
-pub fixed_text-order : (i j : ℤ) → HasFixedText i → HasFixedText j → slice_cmp nat_cmp (fixed_text i) (fixed_text j) ≡ int_cmp i j
-fixed_text-order i j h k = order_of i j (int_cmp i j) h k (int_ranked i j (int_cmp i j) refl)
+pub fixed_text-order : (i j : ℤ) (first second : List ℕ) → HasFixedText i → HasFixedText j → first ≡ fixed_text i → second ≡ fixed_text j → slice_cmp nat_cmp first second ≡ int_cmp i j
+fixed_text-order i j first second h k a b = rw (a, b) (order_of i j (int_cmp i j) h k (int_ranked i j (int_cmp i j) refl))

@@ -53,6 +53,7 @@ fn year(text: &[u8]) -> Option<(u16, &[u8])>
 
 // The two digits after a mark, and what follows them.
 #[tactic(auto, unfolding(crate::specs::Reading::part_at))]
+#[inline(always)]
 fn part(mark: u8, text: &[u8]) -> Option<(u8, &[u8])>
     ensures { option_map (λ read. (read.0, read.1.now)) result ≡ part_at mark text.now }
 {
@@ -108,6 +109,7 @@ fn after_separator(text: &[u8]) -> Option<&[u8]>
 
 // The nanosecond that a point and digits make, and what follows them; 0 without a point.
 #[tactic(auto, unfolding(crate::specs::Reading::fraction_at))]
+#[inline(always)]
 fn fraction(text: &[u8]) -> Option<(u32, &[u8])>
     ensures value { option_map (λ read. (read.0, read.1.now)) result ≡ fraction_at text.now }
     ensures in_range { IfSome result (λ read. read.0 ≤ 999_999_999) }
@@ -140,6 +142,7 @@ fn nanosecond(text: &[u8]) -> (u32, &[u8])
 
 // `Z` or `z`, or a sign, hours and minutes, and no more: whether it is west, the hours, the minutes.
 #[tactic(auto, unfolding(crate::specs::Reading::zone_at))]
+#[inline(always)]
 fn zone(text: &[u8]) -> Option<(bool, u8, u8)>
     ensures { result ≡ zone_at text.now }
 {

@@ -3,6 +3,7 @@
 #![tactic(auto, using(calendar_values::specs::Constants::constants))]
 
 pub mod constants;
+pub mod exchange;
 pub mod expiry;
 pub mod invoices;
 pub mod log;
