@@ -11,7 +11,6 @@ use Rattle.calendar_values.specs.WallClockLaws.{wall_clock-parts, IsClock-wall_t
 use Rattle.calendar_values.specs.YearLaws.{year_start-later, year_start-next, days_in_year_bounds}
 use Rattle.offset_times.specs.Local.{Local, IsLocal, instant_of, offset_nanos, shown_at}
 use Rattle.plain_times.specs.Packed.{packed_parts, packed_wall_clock}
-use Rattle.plain_times.specs.PackedLemmas.{int_cmp-packed_wall_clock}
 
 -- days between two dates, where no year has more than 365, are no more than there are
 later_date : (y z : ℤ) (o p : ℕ) → IsOrdinalDate y o → IsOrdinalDate z p → pos 3 <ℤ ((y -ℤ z) *ℤ pos 365 +ℤ pos o -ℤ pos p) → (day_of_ordinal_date z p +ℤ pos 3) <ℤ day_of_ordinal_date y o
@@ -48,8 +47,6 @@ shown_before w o j = grind (arith, ints)
 pub int_cmp-shown : (a b : Local) → int_cmp a.wall (shown_at (instant_of b) a.offset) ≡ int_cmp (instant_of a) (instant_of b)
 unfolding instant_of
 int_cmp-shown a b = shown_before a.wall a.offset (b.wall -ℤ offset_nanos b.offset)
-
-pub ruleset shown_order = (int_cmp-packed_wall_clock, int_cmp-shown)
 
 -- the packed parts of a wall clock are its packed number
 pub packed_parts-is : (w y : ℤ) (o c : ℕ) → IsOrdinalDate y o → IsClock c → wall_clock (day_of_ordinal_date y o) c ≡ w → packed_parts y o c ≡ packed_wall_clock w

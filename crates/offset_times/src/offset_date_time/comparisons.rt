@@ -53,7 +53,6 @@ impl OffsetDateTime {
     }
 
     // The order of what clocks at the offset of the first show at both instants.
-    #[tactic(auto, using(crate::proofs::OrderLemmas::shown_order))]
     fn by_shown(self, other: OffsetDateTime) -> Ordering
         ensures { result ≡ int_cmp (instant_of self) (instant_of other) }
     {
