@@ -36,7 +36,8 @@ pub record EndsFraction (bytes : List ℕ) : Type 0 where
   pub no_digit : (unit : ℕ) → digits_at unit bytes ≡ (0, bytes)
   pub no_point : mark_at 46 bytes ≡ None
 
-pub digits_again : (unit : ℕ) (digits rest : List ℕ) → list_all is_ascii_digit digits ≡ true → EndsFraction rest → digits_at unit (digits ++ rest) ≡ (fraction_value unit digits, rest)
+pub digits_again : (unit : ℕ) (digits rest : List ℕ) → list_all is_ascii_digit digits ≡ true → EndsFraction rest
+    → digits_at unit (digits ++ rest) ≡ (fraction_value unit digits, rest)
 unfolding digits_at fraction_value
 digits_again unit [] rest all h = h.no_digit unit
 digits_again unit (first ∷ digits) rest all h =
@@ -53,7 +54,8 @@ guard_none : {A : Type 0} (b : Bool) (x y : A) → cond b None (Some x) ≡ Some
 guard_none true x y e = absurd cc
 guard_none false x y e = (refl, same_Some x y e)
 
-fraction_of_mark : (bytes : List ℕ) (o : Option (List ℕ)) (n : ℕ) (rest : List ℕ) → mark_at 46 bytes ≡ o → fraction_of bytes o ≡ Some (n, rest) → (text : List ℕ) × TakesFraction bytes text n rest
+fraction_of_mark : (bytes : List ℕ) (o : Option (List ℕ)) (n : ℕ) (rest : List ℕ) → mark_at 46 bytes ≡ o → fraction_of bytes o ≡ Some (n, rest)
+    → (text : List ℕ) × TakesFraction bytes text n rest
 fraction_of_mark bytes None n rest m e =
     let s = some_pair_parts 0 n bytes rest e in ([], record { parts = s.1; is = inl (refl, sym s.0) })
 fraction_of_mark bytes (Some digits) n rest m e =
@@ -71,7 +73,8 @@ pub fraction_takes : (bytes : List ℕ) (n : ℕ) (rest : List ℕ) → fraction
 unfolding fraction_at
 fraction_takes bytes n rest e = fraction_of_mark bytes (mark_at 46 bytes) n rest refl e
 
-fraction_of_digits : (digits rest : List ℕ) → 0 < length digits → list_all is_ascii_digit digits ≡ true → EndsFraction rest → fraction_at (46 ∷ digits ++ rest) ≡ Some (fraction_value 100_000_000 digits, rest)
+fraction_of_digits : (digits rest : List ℕ) → 0 < length digits → list_all is_ascii_digit digits ≡ true → EndsFraction rest
+    → fraction_at (46 ∷ digits ++ rest) ≡ Some (fraction_value 100_000_000 digits, rest)
 unfolding fraction_at
 fraction_of_digits digits rest some all h =
     let shorter : nat_eq (length rest) (length (digits ++ rest)) ≡ false = ne_eqb _ _ (λ same. omega (arith, same, some, length-append digits rest)) in
@@ -94,7 +97,8 @@ ended_some : {A : Type 0} (x y : A) (bytes : List ℕ) → ended x bytes ≡ Som
 ended_some x y [] e = (refl, same_Some x y e)
 ended_some x y (first ∷ bytes) e = absurd cc
 
-sign_is : (first : ℕ) (is_west : Bool) → (nat_eq first 43 || nat_eq first 45) ≡ true → nat_eq first 45 ≡ is_west → first ∷ [] ≡ cond is_west (codes "-") (codes "+")
+sign_is : (first : ℕ) (is_west : Bool) → (nat_eq first 43 || nat_eq first 45) ≡ true → nat_eq first 45 ≡ is_west
+    → first ∷ [] ≡ cond is_west (codes "-") (codes "+")
 sign_is first true t e = ap (λ (z : ℕ). z ∷ []) (eqb-true first 45 e)
 sign_is first false t e =
     elim (or_cases (nat_eq first 43) (nat_eq first 45) t) [
@@ -109,15 +113,20 @@ letter_is first text t e =
       | inr lower ↦ inr (rw (e, eqb-true first 122 lower) refl)
     ]
 
-signed_text : (first : ℕ) (text r s : List ℕ) (is_west : Bool) (hour minute : ℕ) → first ∷ [] ≡ cond is_west (codes "-") (codes "+") → text ≡ last_digits 2 hour ++ r → r ≡ (58 ∷ last_digits 2 minute) ++ s → s ≡ []
+signed_text : (first : ℕ) (text r s : List ℕ) (is_west : Bool) (hour minute : ℕ) → first ∷ [] ≡ cond is_west (codes "-") (codes "+")
+    → text ≡ last_digits 2 hour ++ r → r ≡ (58 ∷ last_digits 2 minute) ++ s → s ≡ []
     → first ∷ text ≡ cond is_west (codes "-") (codes "+") ++ last_digits 2 hour ++ codes ":" ++ last_digits 2 minute
 signed_text first text r s is_west hour minute sign h m none =
     let tail : text ≡ last_digits 2 hour ++ (58 ∷ last_digits 2 minute) =
-    h ∙ ap (λ (z : List ℕ). last_digits 2 hour ++ z) (m ∙ ap (λ (z : List ℕ). (58 ∷ last_digits 2 minute) ++ z) none ∙ append-nil (58 ∷ last_digits 2 minute)) in
+    h
+    ∙ ap (λ (z : List ℕ). last_digits 2 hour ++ z) (m ∙ ap (λ (z : List ℕ). (58 ∷ last_digits 2 minute) ++ z) none ∙ append-nil (58 ∷ last_digits 2 minute)) in
     ap (λ (z : List ℕ). first ∷ z) tail ∙ ap (λ (z : List ℕ). z ++ (last_digits 2 hour ++ (58 ∷ last_digits 2 minute))) sign ∙ (simp append_assoc refl)
 
-zone_of_tests : (first : ℕ) (text : List ℕ) (is_west : Bool) (hour minute : ℕ) (b d : Bool) → (nat_eq first 90 || nat_eq first 122) ≡ b → (nat_eq first 43 || nat_eq first 45) ≡ d
-    → cond b (ended {A = Bool × ℕ × ℕ} (false, 0, 0) text) (cond d (two_digits_at text >>= λ h. part_at 58 h.1 >>= λ m. ended {A = Bool × ℕ × ℕ} (nat_eq first 45, h.0, m.0) m.1) None) ≡ Some (is_west, hour, minute)
+zone_of_tests : (first : ℕ) (text : List ℕ) (is_west : Bool) (hour minute : ℕ) (b d : Bool) → (nat_eq first 90 || nat_eq first 122) ≡ b
+    → (nat_eq first 43 || nat_eq first 45) ≡ d
+    → cond b (ended {A = Bool × ℕ × ℕ} (false, 0, 0) text)
+    (cond d (two_digits_at text >>= λ h. part_at 58 h.1 >>= λ m. ended {A = Bool × ℕ × ℕ} (nat_eq first 45, h.0, m.0) m.1) None) ≡ Some
+    (is_west, hour, minute)
     → TakesOffset (first ∷ text) is_west hour minute
 zone_of_tests first text is_west hour minute true d t s e =
     let g = ended_some {A = Bool × ℕ × ℕ} (false, 0, 0) (is_west, hour, minute) text e in
@@ -138,29 +147,38 @@ zone_of_tests first text is_west hour minute false true t s e =
     let m_parts : a.0.1 ≡ (58 ∷ last_digits 2 minute) ++ b.0.1 = tm.parts ∙ ap (λ (k : ℕ). (58 ∷ last_digits 2 k) ++ b.0.1) m in
     let h_fits = th.fits in
     let m_fits = tm.fits in
-    record { is = inr (signed_text first text a.0.1 b.0.1 is_west hour minute (sign_is first is_west s w) h_parts m_parts g.0); hour_fits = omega arith; minute_fits = omega arith }
+    record {
+      is = inr (signed_text first text a.0.1 b.0.1 is_west hour minute (sign_is first is_west s w) h_parts m_parts g.0);
+      hour_fits = omega arith;
+      minute_fits = omega arith;
+    }
 zone_of_tests first text is_west hour minute false false t s e = absurd cc
 
 pub zone_takes : (bytes : List ℕ) (is_west : Bool) (hour minute : ℕ) → zone_at bytes ≡ Some (is_west, hour, minute) → TakesOffset bytes is_west hour minute
 unfolding zone_at
 zone_takes [] is_west hour minute e = absurd cc
-zone_takes (first ∷ text) is_west hour minute e = zone_of_tests first text is_west hour minute (nat_eq first 90 || nat_eq first 122) (nat_eq first 43 || nat_eq first 45) refl refl e
+zone_takes (first ∷ text) is_west hour minute e = zone_of_tests first text is_west hour minute (nat_eq first 90 || nat_eq first 122)
+    (nat_eq first 43 || nat_eq first 45) refl refl e
 
 zone_of_letter : (bytes : List ℕ) → ((bytes ≡ codes "Z") ⊎ (bytes ≡ codes "z")) → zone_at bytes ≡ Some (false, 0, 0)
 unfolding zone_at
 zone_of_letter bytes (inl e) = rw e refl
 zone_of_letter bytes (inr e) = rw e refl
 
-zone_of_sign : (is_west : Bool) (hour minute : ℕ) → hour < 100 → minute < 100 → zone_at (cond is_west 45 43 ∷ (last_digits 2 hour ++ (58 ∷ last_digits 2 minute ++ []))) ≡ Some (is_west, hour, minute)
+zone_of_sign : (is_west : Bool) (hour minute : ℕ) → hour < 100 → minute < 100
+    → zone_at (cond is_west 45 43 ∷ (last_digits 2 hour ++ (58 ∷ last_digits 2 minute ++ []))) ≡ Some (is_west, hour, minute)
 unfolding zone_at
 zone_of_sign true hour minute h m = rw (two_again hour (58 ∷ last_digits 2 minute ++ []) h, part_again 58 minute [] m) refl
 zone_of_sign false hour minute h m = rw (two_again hour (58 ∷ last_digits 2 minute ++ []) h, part_again 58 minute [] m) refl
 
-regrouped : (is_west : Bool) (hour minute : ℕ) → cond is_west (codes "-") (codes "+") ++ last_digits 2 hour ++ codes ":" ++ last_digits 2 minute ≡ cond is_west 45 43 ∷ (last_digits 2 hour ++ (58 ∷ last_digits 2 minute ++ []))
+regrouped : (is_west : Bool) (hour minute : ℕ)
+    → cond is_west (codes "-") (codes "+") ++ last_digits 2 hour ++ codes ":" ++ last_digits 2 minute ≡ cond is_west 45 43 ∷
+    (last_digits 2 hour ++ (58 ∷ last_digits 2 minute ++ []))
 regrouped true hour minute = simp (append_assoc, append-nil) refl
 regrouped false hour minute = simp (append_assoc, append-nil) refl
 
-pub zone_again : (bytes : List ℕ) (is_west : Bool) (hour minute : ℕ) → IsOffsetText bytes is_west hour minute → hour < 100 → minute < 100 → zone_at bytes ≡ Some (is_west, hour, minute)
+pub zone_again : (bytes : List ℕ) (is_west : Bool) (hour minute : ℕ) → IsOffsetText bytes is_west hour minute → hour < 100 → minute < 100
+    → zone_at bytes ≡ Some (is_west, hour, minute)
 zone_again bytes is_west hour minute (inl utc) h m = zone_of_letter bytes utc.0 ∙ rw (utc.1, utc.2, utc.3) refl
 zone_again bytes is_west hour minute (inr e) h m = ap zone_at (e ∙ regrouped is_west hour minute) ∙ zone_of_sign is_west hour minute h m
 

@@ -22,7 +22,8 @@ pub meaning-in_range : (p : Parts) → AreInRange p → meaning p ≡ Ok (value_
 unfolding meaning
 meaning-in_range p h =
     let month : (nat_eq p.month 0 || nat_lt 12 p.month) ≡ false = grind (arith, nat_tests, h.month_first, h.month_last) in
-    let day : (nat_eq p.day 0 || nat_lt (days_in_month (is_leap_year (pos p.year)) p.month) p.day) ≡ false = grind (arith, nat_tests, h.day_first, h.day_last) in
+    let day : (nat_eq p.day 0 || nat_lt (days_in_month (is_leap_year (pos p.year)) p.month) p.day) ≡ false = grind
+    (arith, nat_tests, h.day_first, h.day_last) in
     let hour : nat_lt 23 p.hour ≡ false = grind (arith, nat_tests, h.hour) in
     let minute : nat_lt 59 p.minute ≡ false = grind (arith, nat_tests, h.minute) in
     let second : nat_lt 59 p.second ≡ false = grind (arith, nat_tests, h.second) in
@@ -86,7 +87,8 @@ pub accepted_of : (p : Parts) (r : Result Local TextRefusal) → r ≡ meaning p
 accepted_of p (Ok at) e = let ok = meaning-ok p at (sym e) in (ok.0, ok.1)
 accepted_of p (Err d) e = λ h. let bad = e ∙ meaning-in_range p h in absurd cc
 
-pub read_of : (text : List ℕ) (p : Parts) (r : Result Local TextRefusal) → r ≡ meaning p → IsDateTime text p → IfOk r (λ at. (q : Parts) × IsDateTime text q × AreInRange q × (at ≡ value_of q))
+pub read_of : (text : List ℕ) (p : Parts) (r : Result Local TextRefusal) → r ≡ meaning p → IsDateTime text p
+    → IfOk r (λ at. (q : Parts) × IsDateTime text q × AreInRange q × (at ≡ value_of q))
 read_of text p (Ok at) e h = let ok = meaning-ok p at (sym e) in (p, h, ok.0, ok.1)
 read_of text p (Err d) e h = tt
 
@@ -98,12 +100,14 @@ abs_neg (suc n) = refl
 
 day_of_value : (p : Parts) → AreInRange p → p.nanosecond ≤ 999_999_999 → wall_day (value_of p).wall ≡ day_of_calendar_date (pos p.year) p.month p.day
 day_of_value p r n =
-    wall_day-wall_clock (day_of_calendar_date (pos p.year) p.month p.day) (clock_of_parts p.hour p.minute p.second p.nanosecond) (IsClock-clock_of_parts p.hour p.minute p.second p.nanosecond (record { hour = r.hour; minute = r.minute; second = r.second; nanosecond = n }))
+    wall_day-wall_clock (day_of_calendar_date (pos p.year) p.month p.day) (clock_of_parts p.hour p.minute p.second p.nanosecond)
+    (IsClock-clock_of_parts p.hour p.minute p.second p.nanosecond (record { hour = r.hour; minute = r.minute; second = r.second; nanosecond = n }))
 
 year_of_value : (p : Parts) → AreInRange p → p.nanosecond ≤ 999_999_999 → year_of (wall_day (value_of p).wall) ≡ pos p.year
 year_of_value p r n =
     ap year_of (day_of_value p r n)
-    ∙ year_of-calendar_date (pos p.year) p.month p.day (record { month_first = r.month_first; month_last = r.month_last; day_first = r.day_first; day_last = r.day_last })
+    ∙ year_of-calendar_date (pos p.year) p.month p.day
+    (record { month_first = r.month_first; month_last = r.month_last; day_first = r.day_first; day_last = r.day_last })
 
 abs_offset : (is_west : Bool) (hour minute : ℕ) → unsigned_abs (offset_of is_west hour minute) ≡ hour * 3_600 + minute * 60
 abs_offset true hour minute = abs_neg (hour * 3_600 + minute * 60)

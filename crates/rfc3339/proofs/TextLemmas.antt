@@ -10,7 +10,9 @@ use Rattle.rfc3339.proofs.FormLemmas.{Takes, TakesSeparator, bind_some, two_take
 use Rattle.rfc3339.proofs.FractionLemmas.{TakesOffset, fraction_takes, fraction_again, zone_takes, zone_again, offset_ends, offset_some}
 
 -- the pieces of a text, one after another
-spelled_of : (p : Parts) (separator : ℕ) (fraction offset text t1 t2 t3 t4 t5 t6 t7 : List ℕ) → text ≡ last_digits 4 p.year ++ t1 → t1 ≡ (45 ∷ last_digits 2 p.month) ++ t2 → t2 ≡ (45 ∷ last_digits 2 p.day) ++ t3 → t3 ≡ separator ∷ t4 → t4 ≡ last_digits 2 p.hour ++ t5 → t5 ≡ (58 ∷ last_digits 2 p.minute) ++ t6 → t6 ≡ (58 ∷ last_digits 2 p.second) ++ t7 → t7 ≡ fraction ++ offset
+spelled_of : (p : Parts) (separator : ℕ) (fraction offset text t1 t2 t3 t4 t5 t6 t7 : List ℕ) → text ≡ last_digits 4 p.year ++ t1
+    → t1 ≡ (45 ∷ last_digits 2 p.month) ++ t2 → t2 ≡ (45 ∷ last_digits 2 p.day) ++ t3 → t3 ≡ separator ∷ t4 → t4 ≡ last_digits 2 p.hour ++ t5
+    → t5 ≡ (58 ∷ last_digits 2 p.minute) ++ t6 → t6 ≡ (58 ∷ last_digits 2 p.second) ++ t7 → t7 ≡ fraction ++ offset
     → text ≡ spelling p separator fraction offset
 spelled_of p separator fraction offset text t1 t2 t3 t4 t5 t6 t7 e0 e1 e2 e3 e4 e5 e6 e7 =
     rw (e0, e1, e2, e3, e4, e5, e6, e7) (simp append_assoc refl)
@@ -26,12 +28,49 @@ record TakesFractionOn (year month day hour minute second : ℕ) (text : List �
   pub spelled : text ≡ fraction ++ offset
   pub is_fraction : IsFraction fraction nanosecond
   pub is_offset : TakesOffset offset is_west offset_hour offset_minute
-  pub same : record { year = year; month = month; day = day; hour = hour; minute = minute; second = second; nanosecond = nanosecond; is_west = is_west; offset_hour = offset_hour; offset_minute = offset_minute } ≡ p
+  pub same : record {
+    year = year;
+    month = month;
+    day = day;
+    hour = hour;
+    minute = minute;
+    second = second;
+    nanosecond = nanosecond;
+    is_west = is_west;
+    offset_hour = offset_hour;
+    offset_minute = offset_minute;
+  } ≡ p
 
-fraction_on_takes : (year month day hour minute second : ℕ) (text : List ℕ) (p : Parts) → fraction_on year month day hour minute second text ≡ Some p → TakesFractionOn year month day hour minute second text p
+fraction_on_takes : (year month day hour minute second : ℕ) (text : List ℕ) (p : Parts) → fraction_on year month day hour minute second text ≡ Some p
+    → TakesFractionOn year month day hour minute second text p
 fraction_on_takes year month day hour minute second text p e =
-    let a = bind_some (fraction_at text) (λ fraction. zone_at fraction.1 >>= λ zone. Some (record { year = year; month = month; day = day; hour = hour; minute = minute; second = second; nanosecond = fraction.0; is_west = zone.0; offset_hour = zone.1; offset_minute = zone.2 })) p e in
-    let b = bind_some (zone_at a.0.1) (λ zone. Some (record { year = year; month = month; day = day; hour = hour; minute = minute; second = second; nanosecond = a.0.0; is_west = zone.0; offset_hour = zone.1; offset_minute = zone.2 })) p a.2 in
+    let a = bind_some (fraction_at text)
+    (λ fraction. zone_at fraction.1 >>= λ zone. Some
+    (record {
+      year = year;
+      month = month;
+      day = day;
+      hour = hour;
+      minute = minute;
+      second = second;
+      nanosecond = fraction.0;
+      is_west = zone.0;
+      offset_hour = zone.1;
+      offset_minute = zone.2;
+    })) p e in
+    let b = bind_some (zone_at a.0.1)
+    (λ zone. Some (record {
+      year = year;
+      month = month;
+      day = day;
+      hour = hour;
+      minute = minute;
+      second = second;
+      nanosecond = a.0.0;
+      is_west = zone.0;
+      offset_hour = zone.1;
+      offset_minute = zone.2;
+    })) p a.2 in
     let f = fraction_takes text a.0.0 a.0.1 a.1 in
     let z = zone_takes a.0.1 b.0.0 b.0.1 b.0.2 b.1 in
     record {
@@ -44,7 +83,18 @@ fraction_on_takes year month day hour minute second text p e =
       spelled = f.1.parts;
       is_fraction = f.1.is;
       is_offset = z;
-      same = same_Some (record { year = year; month = month; day = day; hour = hour; minute = minute; second = second; nanosecond = a.0.0; is_west = b.0.0; offset_hour = b.0.1; offset_minute = b.0.2 }) p b.2;
+      same = same_Some (record {
+        year = year;
+        month = month;
+        day = day;
+        hour = hour;
+        minute = minute;
+        second = second;
+        nanosecond = a.0.0;
+        is_west = b.0.0;
+        offset_hour = b.0.1;
+        offset_minute = b.0.2;
+      }) p b.2;
     }
 
 -- a separator and a time of day were read, and what follows
@@ -65,8 +115,11 @@ record TakesTimeOn (year month day : ℕ) (text : List ℕ) (p : Parts) : Type 0
 
 time_on_takes : (year month day : ℕ) (text : List ℕ) (p : Parts) → time_on year month day text ≡ Some p → TakesTimeOn year month day text p
 time_on_takes year month day text p e =
-    let a = bind_some (separator_at text) (λ clock. two_digits_at clock >>= λ hour. part_at 58 hour.1 >>= λ minute. part_at 58 minute.1 >>= λ second. fraction_on year month day hour.0 minute.0 second.0 second.1) p e in
-    let b = bind_some (two_digits_at a.0) (λ hour. part_at 58 hour.1 >>= λ minute. part_at 58 minute.1 >>= λ second. fraction_on year month day hour.0 minute.0 second.0 second.1) p a.2 in
+    let a = bind_some (separator_at text)
+    (λ clock. two_digits_at clock >>= λ hour. part_at 58 hour.1 >>= λ minute. part_at 58 minute.1 >>= λ second. fraction_on year month day hour.0
+    minute.0 second.0 second.1) p e in
+    let b = bind_some (two_digits_at a.0)
+    (λ hour. part_at 58 hour.1 >>= λ minute. part_at 58 minute.1 >>= λ second. fraction_on year month day hour.0 minute.0 second.0 second.1) p a.2 in
     let c = bind_some (part_at 58 b.0.1) (λ minute. part_at 58 minute.1 >>= λ second. fraction_on year month day b.0.0 minute.0 second.0 second.1) p b.2 in
     let d = bind_some (part_at 58 c.0.1) (λ second. fraction_on year month day b.0.0 c.0.0 second.0 second.1) p c.2 in
     let s = separator_takes text a.0 a.1 in
@@ -86,19 +139,42 @@ time_on_takes year month day text p e =
       then = fraction_on_takes year month day b.0.0 c.0.0 d.0.0 d.0.1 p d.2;
     }
 
-date_time_of : (year month day : ℕ) (text t1 t2 t3 : List ℕ) (p : Parts) → Takes text (last_digits 4 year) t1 year 10_000 → Takes t1 (45 ∷ last_digits 2 month) t2 month 100 → Takes t2 (45 ∷ last_digits 2 day) t3 day 100 → TakesTimeOn year month day t3 p → IsDateTime text p
+date_time_of : (year month day : ℕ) (text t1 t2 t3 : List ℕ) (p : Parts) → Takes text (last_digits 4 year) t1 year 10_000
+    → Takes t1 (45 ∷ last_digits 2 month) t2 month 100 → Takes t2 (45 ∷ last_digits 2 day) t3 day 100 → TakesTimeOn year month day t3 p
+    → IsDateTime text p
 date_time_of year month day text t1 t2 t3 p y mo d h =
     let f = h.then in
-    let made : Parts = record { year = year; month = month; day = day; hour = h.hour; minute = h.minute; second = h.second; nanosecond = f.nanosecond; is_west = f.is_west; offset_hour = f.offset_hour; offset_minute = f.offset_minute } in
+    let made : Parts = record {
+      year = year;
+      month = month;
+      day = day;
+      hour = h.hour;
+      minute = h.minute;
+      second = h.second;
+      nanosecond = f.nanosecond;
+      is_west = f.is_west;
+      offset_hour = f.offset_hour;
+      offset_minute = f.offset_minute;
+    } in
     let found : IsDateTime text made = record {
       separator = h.separator;
       fraction = f.fraction;
       offset = f.offset;
-      spelled = spelled_of made h.separator f.fraction f.offset text t1 t2 t3 h.at_hour h.at_minute h.at_second h.rest y.parts mo.parts d.parts h.separator_taken.parts h.hour_taken.parts h.minute_taken.parts h.second_taken.parts f.spelled;
+      spelled = spelled_of made h.separator f.fraction f.offset text t1 t2 t3 h.at_hour h.at_minute h.at_second h.rest y.parts mo.parts d.parts
+          h.separator_taken.parts h.hour_taken.parts h.minute_taken.parts h.second_taken.parts f.spelled;
       is_separator = h.separator_taken.is;
       is_fraction = f.is_fraction;
       is_offset = f.is_offset.is;
-      fits = record { year = y.fits; month = mo.fits; day = d.fits; hour = h.hour_taken.fits; minute = h.minute_taken.fits; second = h.second_taken.fits; offset_hour = f.is_offset.hour_fits; offset_minute = f.is_offset.minute_fits };
+      fits = record {
+        year = y.fits;
+        month = mo.fits;
+        day = d.fits;
+        hour = h.hour_taken.fits;
+        minute = h.minute_taken.fits;
+        second = h.second_taken.fits;
+        offset_hour = f.is_offset.hour_fits;
+        offset_minute = f.is_offset.minute_fits;
+      };
     } in
     subst (λ (q : Parts). IsDateTime text q) f.same found
 
@@ -108,7 +184,8 @@ parts_takes text p e =
     let a = bind_some (year_at text) (λ year. part_at 45 year.1 >>= λ month. part_at 45 month.1 >>= λ day. time_on year.0 month.0 day.0 day.1) p e in
     let b = bind_some (part_at 45 a.0.1) (λ month. part_at 45 month.1 >>= λ day. time_on a.0.0 month.0 day.0 day.1) p a.2 in
     let c = bind_some (part_at 45 b.0.1) (λ day. time_on a.0.0 b.0.0 day.0 day.1) p b.2 in
-    date_time_of a.0.0 b.0.0 c.0.0 text a.0.1 b.0.1 c.0.1 p (year_takes text a.0.0 a.0.1 a.1) (part_takes 45 a.0.1 b.0.0 b.0.1 b.1) (part_takes 45 b.0.1 c.0.0 c.0.1 c.1) (time_on_takes a.0.0 b.0.0 c.0.0 c.0.1 p c.2)
+    date_time_of a.0.0 b.0.0 c.0.0 text a.0.1 b.0.1 c.0.1 p (year_takes text a.0.0 a.0.1 a.1) (part_takes 45 a.0.1 b.0.0 b.0.1 b.1)
+    (part_takes 45 b.0.1 c.0.0 c.0.1 c.1) (time_on_takes a.0.0 b.0.0 c.0.0 c.0.1 p c.2)
 
 pub parts_again : (text : List ℕ) (p : Parts) → IsDateTime text p → parts_at text ≡ Some p
 unfolding parts_at
@@ -122,7 +199,18 @@ parts_again text p h =
     let t0 = 45 ∷ last_digits 2 p.month ++ t1 in
     let regrouped : spelling p h.separator h.fraction h.offset ≡ last_digits 4 p.year ++ t0 = simp append_assoc refl in
     ap parts_at (h.spelled ∙ regrouped)
-    ∙ rw (year_again p.year t0 h.fits.year, part_again 45 p.month t1 h.fits.month, part_again 45 p.day t2 h.fits.day, separator_again h.separator t3 h.is_separator, two_again p.hour t4 h.fits.hour, part_again 58 p.minute t5 h.fits.minute, part_again 58 p.second t6 h.fits.second, fraction_again h.fraction p.nanosecond h.offset h.is_fraction (offset_ends h.offset p.is_west p.offset_hour p.offset_minute h.is_offset), zone_again h.offset p.is_west p.offset_hour p.offset_minute h.is_offset h.fits.offset_hour h.fits.offset_minute) refl
+    ∙ rw (
+      year_again p.year t0 h.fits.year,
+      part_again 45 p.month t1 h.fits.month,
+      part_again 45 p.day t2 h.fits.day,
+      separator_again h.separator t3 h.is_separator,
+      two_again p.hour t4 h.fits.hour,
+      part_again 58 p.minute t5 h.fits.minute,
+      part_again 58 p.second t6 h.fits.second,
+      fraction_again h.fraction p.nanosecond h.offset h.is_fraction
+          (offset_ends h.offset p.is_west p.offset_hour p.offset_minute h.is_offset),
+      zone_again h.offset p.is_west p.offset_hour p.offset_minute h.is_offset h.fits.offset_hour h.fits.offset_minute,
+    ) refl
 
 -- a text spells one list of parts at most
 pub one_reading : (text : List ℕ) (p q : Parts) → IsDateTime text p → IsDateTime text q → p ≡ q
@@ -133,7 +221,8 @@ pub length-text : (text : List ℕ) (p : Parts) → parts_at text ≡ Some p →
 length-text text p e =
     let h = parts_takes text p e in
     let some = offset_some h.offset p.is_west p.offset_hour p.offset_minute h.is_offset in
-    let size : length (spelling p h.separator h.fraction h.offset) ≡ 19 + length h.fraction + length h.offset = simp (length-append, length-last_digits) (omega arith) in
+    let size : length (spelling p h.separator h.fraction h.offset) ≡ 19 + length h.fraction + length h.offset = simp
+    (length-append, length-last_digits) (omega arith) in
     omega (arith, ap (length {A = ℕ}) h.spelled, size, some)
 
 short_text : (text : List ℕ) (o : Option Parts) → parts_at text ≡ o → length text < 20 → None ≡ o

@@ -42,7 +42,9 @@ zero_offset (pos n) e = ap pos e
 zero_offset (negsuc n) e = absurd (omega (arith, e))
 
 offset_of_zero : (o : ℤ) (b : Bool) → nat_eq (unsigned_abs o) 0 ≡ b
-    → IsOffsetText (cond b (codes "Z") (cond (int_lt o (pos 0)) (codes "-") (codes "+") ++ last_digits 2 (unsigned_abs o / 3_600) ++ codes ":" ++ last_digits 2 (unsigned_abs o / 60 % 60))) (int_lt o (pos 0)) (unsigned_abs o / 3_600) (unsigned_abs o / 60 % 60)
+    → IsOffsetText (cond b (codes "Z")
+    (cond (int_lt o (pos 0)) (codes "-") (codes "+") ++ last_digits 2 (unsigned_abs o / 3_600) ++ codes ":" ++ last_digits 2
+    (unsigned_abs o / 60 % 60))) (int_lt o (pos 0)) (unsigned_abs o / 3_600) (unsigned_abs o / 60 % 60)
 offset_of_zero o true t =
     let none : unsigned_abs o ≡ 0 = eqb-true (unsigned_abs o) 0 t in
     inl (inl refl, ap (λ (z : ℤ). int_lt z (pos 0)) (zero_offset o none), omega arith, omega arith)

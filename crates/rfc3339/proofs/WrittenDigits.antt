@@ -65,7 +65,8 @@ unit_before-ten zero c = refl
 unit_before-ten (suc k) c = ap (λ (n : ℕ). 10 * n) (unit_before-ten k c)
 
 -- a digit more at the end
-fraction_value-append : (digits : List ℕ) (unit digit : ℕ) → fraction_value unit (digits ++ digit ∷ []) ≡ fraction_value unit digits + (digit - 48) * unit_after (length digits) unit
+fraction_value-append : (digits : List ℕ) (unit digit : ℕ)
+    → fraction_value unit (digits ++ digit ∷ []) ≡ fraction_value unit digits + (digit - 48) * unit_after (length digits) unit
 unfolding fraction_value
 fraction_value-append [] unit digit = omega arith
 fraction_value-append (first ∷ digits) unit digit = omega (arith, fraction_value-append digits (unit / 10) digit)
@@ -83,8 +84,10 @@ fraction_value-last zero c n low =
     let digit : 48 + n % 10 - 48 ≡ n = omega arith in rw digit (omega arith)
 fraction_value-last (suc k) c n low =
     let digits = last_digits (suc k) (n / 10) in
-    let front : fraction_value (10 * unit_before k c) digits ≡ n / 10 * (10 * c) = ap (λ (u : ℕ). fraction_value u digits) (sym (unit_before-ten k c)) ∙ fraction_value-last k (10 * c) (n / 10) low in
-    let unit : unit_after (length digits) (10 * unit_before k c) ≡ c = ap (λ (j : ℕ). unit_after j (10 * unit_before k c)) (length-last_digits (suc k) (n / 10)) ∙ unit_after-before (suc k) c in
+    let front : fraction_value (10 * unit_before k c) digits ≡ n / 10 * (10 * c) = ap (λ (u : ℕ). fraction_value u digits) (sym (unit_before-ten k c))
+    ∙ fraction_value-last k (10 * c) (n / 10) low in
+    let unit : unit_after (length digits) (10 * unit_before k c) ≡ c = ap (λ (j : ℕ). unit_after j (10 * unit_before k c)) (length-last_digits (suc k) (n / 10))
+    ∙ unit_after-before (suc k) c in
     let digit : 48 + n % 10 - 48 ≡ n % 10 = omega arith in
     fraction_value-append digits (10 * unit_before k c) (48 + n % 10) ∙ rw (front, unit, digit) (times_tenth n c)
 

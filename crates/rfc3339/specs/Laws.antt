@@ -28,4 +28,5 @@ FixedTextsHaveOneWidth = (i : ℤ) → HasFixedText i → length (fixed_text i) 
 -- the texts of fixed width compare, byte by byte, as their instants do
 abbrev pub FixedTextsKeepTheOrder : Type 0
 FixedTextsKeepTheOrder =
-    (i j : ℤ) (first second : List ℕ) → HasFixedText i → HasFixedText j → first ≡ fixed_text i → second ≡ fixed_text j → slice_cmp nat_cmp first second ≡ int_cmp i j
+    (i j : ℤ) (first second : List ℕ) → HasFixedText i → HasFixedText j → first ≡ fixed_text i → second ≡ fixed_text j
+    → slice_cmp nat_cmp first second ≡ int_cmp i j

@@ -26,7 +26,8 @@ pub fn parse_rfc3339(text: &[u8]) -> Result<OffsetDateTime, TextRefusal>
     // Both in one equation, with the refusal that comes: that of the first part that is out of its range.
     ensures equation { (p : Parts) → IsDateTime text.now p → result ≡ meaning p }
     // What is accepted spells parts in their ranges.
-    ensures accepted { IfOk result (λ at. (p : Parts) × IsDateTime text.now p × AreInRange p × (at ≡ value_of p)) }
+    ensures accepted { IfOk result (λ at.
+        (p : Parts) × IsDateTime text.now p × AreInRange p × (at ≡ value_of p)) }
     // What is read can be written.
     ensures has_text { IfOk result HasText }
     // Its instant lies in the range, so that it converts to UTC.
@@ -34,7 +35,8 @@ pub fn parse_rfc3339(text: &[u8]) -> Result<OffsetDateTime, TextRefusal>
     // What `to_rfc3339` wrote is read back, offset included.
     ensures written { (at : Local) → HasText at → text.now ≡ rfc3339_text at → result ≡ Ok at }
     // And what `to_rfc3339_nanos` wrote, in UTC.
-    ensures written_fixed { (i : ℤ) → HasFixedText i → text.now ≡ fixed_text i → result ≡ Ok (local i (pos 0)) }
+    ensures written_fixed { (i : ℤ) → HasFixedText i → text.now ≡ fixed_text i →
+        result ≡ Ok (local i (pos 0)) }
 {
     match parts(text) {
         Some(parts) => date_time(parts),

@@ -1,7 +1,7 @@
 //! The parts of a text, read from its front on.
 ghost use Rattle.std.specs.Prelude.{◌≡◌, ℕ, ◌≤◌, ◌<◌, option_map, IfSome};
-ghost use Rattle.rfc3339.specs.Reading.{digit_at, two_digits_at, mark_at, part_at, year_at, separator_at};
-ghost use Rattle.rfc3339.specs.Reading.{digits_at, fraction_at, ended, zone_at, parts_at};
+ghost use Rattle.rfc3339.specs.Reading.{digit_at, two_digits_at, mark_at, part_at, year_at};
+ghost use Rattle.rfc3339.specs.Reading.{separator_at, digits_at, fraction_at, ended, zone_at, parts_at};
 
 use crate::Parts;
 

@@ -1,5 +1,5 @@
 //! Every type that has texts of RFC 3339.
-ghost use Rattle.std.specs.Prelude.{◌≡◌, ◌⊎◌, SomeIff, OkIff, Err, Ok, pos};
+ghost use Rattle.std.specs.Prelude.{◌≡◌, ◌≤◌, ◌⊎◌, SomeIff, IfSome, OkIff, Err, Ok, pos, length};
 ghost use Rattle.std.specs.Result.{result_map_both};
 ghost use Rattle.offset_times.specs.Local.{Local, local, instant_of};
 ghost use Rattle.rfc3339.specs.Form.{IsDateTime};
@@ -31,14 +31,16 @@ pub trait Rfc3339: Copy {
         ensures syntax { (result ≡ Err Syntax) ⊎ ((p : Parts) × IsDateTime text.now p) }
         ensures equation { (p : Parts) → IsDateTime text.now p →
             result ≡ result_map_both value_shown (λ refusal. refusal) (meaning p) }
-        ensures written { (at : Self) → HasText (shown at) → text.now ≡ rfc3339_text (shown at) → result ≡ Ok at };
+        ensures written { (at : Self) → HasText (shown at) →
+            text.now ≡ rfc3339_text (shown at) → result ≡ Ok at };
 
     /// The text, the shortest that there is, as `1985-04-12T23:20:50.52Z` or `1996-12-19T16:39:57-08:00`: `T` between
     /// the date and the time of day, no fraction for a whole second and else none that ends in 0, `Z` for the offset 0.
     /// None where the year that clocks there show is not one of 0 to 9999, or the offset has seconds or is of 24 hours
     /// or more.
     fn to_rfc3339(self) -> Option<Text>
-        ensures { SomeIff result (HasText (shown self)) (rfc3339_text (shown self)) };
+        ensures text { SomeIff result (HasText (shown self)) (rfc3339_text (shown self)) }
+        ensures length { IfSome result (λ text. length text ≤ 35) };
 }
 
 impl Rfc3339 for OffsetDateTime {

@@ -1,5 +1,5 @@
 //! Texts written.
-ghost use Rattle.std.specs.Prelude.{◌≡◌, ◌≤◌, ◌<◌, ◌+◌, ◌++◌, codes, length, SomeIff, unsigned_abs};
+ghost use Rattle.std.specs.Prelude.{◌≡◌, ◌≤◌, ◌<◌, ◌+◌, ◌++◌, codes, length, SomeIff, IfSome, unsigned_abs};
 ghost use Rattle.calendar_values.specs.Digits.{last_digits, text_capacity};
 ghost use Rattle.rfc3339.specs.Texts.{HasText, fraction_text, offset_text, rfc3339_text};
 
@@ -9,7 +9,8 @@ use offset_times::OffsetDateTime;
 // The shortest text of RFC 3339, if there is one.
 #[tactic(auto, unfolding(crate::specs::Texts::rfc3339_text))]
 pub(crate) fn text_of(at: OffsetDateTime) -> Option<Text>
-    ensures { SomeIff result (HasText at) (rfc3339_text at) }
+    ensures text { SomeIff result (HasText at) (rfc3339_text at) }
+    ensures length { IfSome result (λ text. length text ≤ 35) }
 {
     let (date, time, offset) = at.parts();
     let (year, month, day) = date.to_calendar_date();
@@ -32,7 +33,8 @@ pub(crate) fn text_of(at: OffsetDateTime) -> Option<Text>
 pub(crate) fn push_date(text: &mut Text, year: u32, month: u8, day: u8)
     requires { length text.old + 10 ≤ text_capacity }
     ensures value { text.new ≡ text.old
-        ++ (last_digits 4 year ++ codes "-" ++ last_digits 2 month ++ codes "-" ++ last_digits 2 day) }
+        ++ (last_digits 4 year ++ codes "-" ++ last_digits 2 month
+        ++ codes "-" ++ last_digits 2 day) }
     ensures length { length text.new ≡ length text.old + 10 }
 {
     text.push_four_digits(year);
@@ -44,7 +46,8 @@ pub(crate) fn push_date(text: &mut Text, year: u32, month: u8, day: u8)
 pub(crate) fn push_clock(text: &mut Text, hour: u8, minute: u8, second: u8)
     requires { length text.old + 8 ≤ text_capacity }
     ensures value { text.new ≡ text.old
-        ++ (last_digits 2 hour ++ codes ":" ++ last_digits 2 minute ++ codes ":" ++ last_digits 2 second) }
+        ++ (last_digits 2 hour ++ codes ":" ++ last_digits 2 minute
+        ++ codes ":" ++ last_digits 2 second) }
     ensures length { length text.new ≡ length text.old + 8 }
 {
     text.push_two_digits(hour);
@@ -71,6 +74,7 @@ fn push_offset(text: &mut Text, seconds: i32)
     requires room { length text.old + 6 ≤ text_capacity }
     requires size { unsigned_abs seconds < 86_400 }
     ensures value { text.new ≡ text.old ++ offset_text seconds }
+    ensures length { length text.new ≤ length text.old + 6 }
 {
     let size = seconds.unsigned_abs();
     if size == 0 {

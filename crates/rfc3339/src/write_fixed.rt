@@ -1,5 +1,5 @@
 //! Texts of fixed width written.
-ghost use Rattle.std.specs.Prelude.{◌≡◌, ◌≤◌, ◌+◌, ◌++◌, length, SomeIff};
+ghost use Rattle.std.specs.Prelude.{◌≡◌, ◌≤◌, ◌+◌, ◌++◌, length, SomeIff, IfSome};
 ghost use Rattle.calendar_values.specs.Digits.{last_digits, text_capacity};
 ghost use Rattle.rfc3339.specs.Texts.{HasFixedText, fixed_text};
 
@@ -11,7 +11,8 @@ use stamp_times::Moment;
 /// `1985-04-12T23:20:50.520000000Z`. None where the year in UTC is not one of 0 to 9999. Such texts compare, byte by
 /// byte, as their instants do ([`laws::fixed_texts_keep_the_order`](crate::laws::fixed_texts_keep_the_order)).
 pub fn to_rfc3339_nanos<M: Moment>(at: M) -> Option<Text>
-    ensures { SomeIff result (HasFixedText (M.instant at)) (fixed_text (M.instant at)) }
+    ensures text { SomeIff result (HasFixedText (M.instant at)) (fixed_text (M.instant at)) }
+    ensures length { IfSome result (λ text. length text ≡ 30) }
 {
     let (date, time) = at.parts();
     let (year, month, day) = date.to_calendar_date();
