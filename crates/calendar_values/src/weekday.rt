@@ -91,3 +91,28 @@ impl fmt::Debug for Weekday {
         fmt::Debug::fmt(&self.text(), f)
     }
 }
+
+#[cfg(test)]
+mod tests {
+    use crate::{Date, Weekday};
+    use std::test::Fail;
+
+    #[test]
+    fn days_of_a_week_are_shown_by_their_names(rt: HostRuntime) -> Result<(), Fail> {
+        for (julian_day, name) in [
+            (2_459_625, "Monday"),
+            (2_459_626, "Tuesday"),
+            (2_459_627, "Wednesday"),
+            (2_459_628, "Thursday"),
+            (2_459_629, "Friday"),
+            (2_459_630, "Saturday"),
+            (2_459_631, "Sunday"),
+        ] {
+            let weekday = Date::from_julian_day(julian_day)?.weekday();
+            assert_eq!(rt; format!(in rt.alloc(); "{weekday:?}")?.as_str(), name);
+        }
+        let padded = format!(in rt.alloc(); "{:>9}", Weekday::Monday)?;
+        assert_eq!(rt; padded.as_str(), "   Monday");
+        Ok(())
+    }
+}

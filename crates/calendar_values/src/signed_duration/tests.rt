@@ -1,118 +1,94 @@
 use crate::SignedDuration;
 
+// The whole seconds, the nanoseconds beside them and the whole days.
+fn parts(duration: SignedDuration) -> (i64, i32, i64) {
+    (
+        duration.whole_seconds(),
+        duration.subsec_nanoseconds(),
+        duration.whole_days(),
+    )
+}
+
 #[test]
-fn parts_of_one_sign(rt: HostRuntime) {
-    for (duration, seconds, nanoseconds, days, is_negative) in [
-        (SignedDuration::new(1, -1), 0, 999_999_999, 0, false),
-        (SignedDuration::new(-1, 1), 0, -999_999_999, 0, true),
-        (SignedDuration::new(0, -1), 0, -1, 0, true),
-        (SignedDuration::new(-5, -2_000_000_001), -7, -1, 0, true),
-        (
-            SignedDuration::new(5, 2_147_483_647),
-            7,
-            147_483_647,
-            0,
-            false,
-        ),
-        (
-            SignedDuration::new(86_400, -1),
-            86_399,
-            999_999_999,
-            0,
-            false,
-        ),
-        (
-            SignedDuration::new(-86_400, 1),
-            -86_399,
-            -999_999_999,
-            0,
-            true,
-        ),
-        (
-            SignedDuration::new(i64::MAX, i32::MIN),
-            9_223_372_036_854_775_804,
-            852_516_352,
-            106_751_991_167_300,
-            false,
-        ),
+fn parts_have_one_sign(rt: HostRuntime) {
+    for (duration, seconds, nanoseconds, days) in [
+        (SignedDuration::new(1, -1), 0, 999_999_999, 0),
+        (SignedDuration::new(-1, 1), 0, -999_999_999, 0),
+        (SignedDuration::new(0, -1), 0, -1, 0),
+        (SignedDuration::new(-5, -2_000_000_001), -7, -1, 0),
+        (SignedDuration::new(5, 2_147_483_647), 7, 147_483_647, 0),
+        (SignedDuration::new(86_400, -1), 86_399, 999_999_999, 0),
+        (SignedDuration::new(-86_400, 1), -86_399, -999_999_999, 0),
+    ] {
+        assert_eq!(rt; parts(duration), (seconds, nanoseconds, days));
+        assert_eq!(rt; duration.is_negative(), seconds < 0 || nanoseconds < 0);
+    }
+}
+
+#[test]
+fn parts_of_each_unit(rt: HostRuntime) {
+    for (duration, seconds, nanoseconds, days) in [
         (
             SignedDuration::nanoseconds(-86_400_000_000_001),
             -86_400,
             -1,
             -1,
-            true,
         ),
         (
             SignedDuration::nanoseconds(i64::MIN),
             -9_223_372_036,
             -854_775_808,
             -106_751,
-            true,
         ),
-        (SignedDuration::seconds(-86_399), -86_399, 0, 0, true),
-        (SignedDuration::hours(-27), -97_200, 0, -1, true),
-        (
-            SignedDuration::hours(2_562_047_788_015_215),
-            9_223_372_036_854_774_000,
-            0,
-            106_751_991_167_300,
-            false,
-        ),
-        (
-            SignedDuration::days(-106_751_991_167_300),
-            -9_223_372_036_854_720_000,
-            0,
-            -106_751_991_167_300,
-            true,
-        ),
-        (SignedDuration::ZERO, 0, 0, 0, false),
-        (
-            SignedDuration::MIN,
-            i64::MIN,
-            -999_999_999,
-            -106_751_991_167_300,
-            true,
-        ),
-        (
-            SignedDuration::MAX,
-            i64::MAX,
-            999_999_999,
-            106_751_991_167_300,
-            false,
-        ),
+        (SignedDuration::seconds(-86_399), -86_399, 0, 0),
+        (SignedDuration::hours(-27), -97_200, 0, -1),
+        (SignedDuration::ZERO, 0, 0, 0),
     ] {
-        assert_eq!(rt; duration.whole_seconds(), seconds);
-        assert_eq!(rt; duration.subsec_nanoseconds(), nanoseconds);
-        assert_eq!(rt; duration.whole_days(), days);
-        assert_eq!(rt; duration.is_negative(), is_negative);
+        assert_eq!(rt; parts(duration), (seconds, nanoseconds, days));
+        assert_eq!(rt; duration.is_negative(), seconds < 0 || nanoseconds < 0);
     }
 }
 
 #[test]
-fn sums_and_differences(rt: HostRuntime) {
-    let (second, nanosecond) = (SignedDuration::seconds(1), SignedDuration::nanoseconds(1));
-    let most = SignedDuration::new(0, 999_999_999);
-    assert_eq!(rt; most + nanosecond, second);
-    assert_eq!(rt; second - nanosecond, most);
-    assert_eq!(rt; nanosecond - second, SignedDuration::new(0, -999_999_999));
-    assert_eq!(rt; most + most, SignedDuration::new(1, 999_999_998));
-    assert_eq!(rt;
-        SignedDuration::MAX + SignedDuration::MIN,
-        SignedDuration::seconds(-1)
-    );
-    assert_eq!(rt;
-        SignedDuration::MAX - SignedDuration::MAX,
-        SignedDuration::ZERO
-    );
-    // The seconds alone, 0 less -2^63, do not fit.
-    assert_eq!(rt;
-        SignedDuration::nanoseconds(-1) - SignedDuration::seconds(i64::MIN),
-        SignedDuration::MAX
-    );
+fn parts_of_the_longest_durations(rt: HostRuntime) {
+    let most_days = 106_751_991_167_300;
+    let of_parts = SignedDuration::new(i64::MAX, i32::MIN);
+    let of_hours = SignedDuration::hours(2_562_047_788_015_215);
+    let of_days = SignedDuration::days(-106_751_991_167_300);
+    for (duration, seconds, nanoseconds, days) in [
+        (of_parts, 9_223_372_036_854_775_804, 852_516_352, most_days),
+        (of_hours, 9_223_372_036_854_774_000, 0, most_days),
+        (of_days, -9_223_372_036_854_720_000, 0, -most_days),
+        (SignedDuration::MIN, i64::MIN, -999_999_999, -most_days),
+        (SignedDuration::MAX, i64::MAX, 999_999_999, most_days),
+    ] {
+        assert_eq!(rt; parts(duration), (seconds, nanoseconds, days));
+        assert_eq!(rt; duration.is_negative(), seconds < 0 || nanoseconds < 0);
+    }
 }
 
 #[test]
-fn order(rt: HostRuntime) {
+fn sums_and_differences_carry(rt: HostRuntime) {
+    let (second, nanosecond) = (SignedDuration::seconds(1), SignedDuration::nanoseconds(1));
+    let (least, greatest) = (SignedDuration::MIN, SignedDuration::MAX);
+    let most = SignedDuration::new(0, 999_999_999);
+    for (got, wanted) in [
+        (most + nanosecond, second),
+        (second - nanosecond, most),
+        (nanosecond - second, SignedDuration::new(0, -999_999_999)),
+        (most + most, SignedDuration::new(1, 999_999_998)),
+        (greatest + least, SignedDuration::seconds(-1)),
+        (greatest - greatest, SignedDuration::ZERO),
+    ] {
+        assert_eq!(rt; got, wanted);
+    }
+    // The seconds alone, 0 less -2^63, do not fit.
+    let least_seconds = SignedDuration::seconds(i64::MIN);
+    assert_eq!(rt; SignedDuration::nanoseconds(-1) - least_seconds, greatest);
+}
+
+#[test]
+fn order_is_that_of_the_nanoseconds(rt: HostRuntime) {
     let rising = [
         SignedDuration::MIN,
         SignedDuration::seconds(-1),

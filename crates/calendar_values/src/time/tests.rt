@@ -1,4 +1,5 @@
 use super::*;
+use crate::DateAdjustment::{Next, Previous, Same};
 use std::hash::{DefaultHasher, Hash, Hasher};
 use std::test::Fail;
 
@@ -7,7 +8,7 @@ fn time(hour: u8, minute: u8, second: u8, nanosecond: u32) -> Result<Time, Fail>
 }
 
 #[test]
-fn texts(rt: HostRuntime) -> Result<(), Fail> {
+fn texts_have_the_digits_that_matter(rt: HostRuntime) -> Result<(), Fail> {
     for (hour, minute, second, nanosecond, text) in [
         (0, 0, 0, 0, "0:00:00.0"),
         (23, 59, 59, 999_999_999, "23:59:59.999999999"),
@@ -19,25 +20,21 @@ fn texts(rt: HostRuntime) -> Result<(), Fail> {
         assert_eq!(rt; format!(in rt.alloc(); "{time}")?.as_str(), text);
         assert_eq!(rt; format!(in rt.alloc(); "{time:?}")?.as_str(), text);
     }
+    Ok(())
+}
+
+#[test]
+fn formats_pad_the_text(rt: HostRuntime) -> Result<(), Fail> {
     let midnight = Time::MIDNIGHT;
     assert_eq!(rt;
-        format!(in rt.alloc(); "{midnight:12}")?.as_str(),
-        "0:00:00.0   "
-    );
-    assert_eq!(rt;
-        format!(in rt.alloc(); "{midnight:>12}")?.as_str(),
-        "   0:00:00.0"
-    );
-    assert_eq!(rt;
-        format!(in rt.alloc(); "{midnight:*^14}")?.as_str(),
-        "**0:00:00.0***"
+        format!(in rt.alloc(); "{midnight:12}{midnight:>12}{midnight:*^14}")?.as_str(),
+        "0:00:00.0      0:00:00.0**0:00:00.0***"
     );
     Ok(())
 }
 
 #[test]
-fn refusals(rt: HostRuntime) -> Result<(), Fail> {
-    let time = time(1, 2, 3, 4_005_006)?;
+fn times_out_of_range_are_refused_by_their_first_part(rt: HostRuntime) {
     for (refused, name) in [
         (Time::from_hms(24, 60, 60), "hour"),
         (Time::from_hms(23, 60, 60), "minute"),
@@ -48,139 +45,152 @@ fn refusals(rt: HostRuntime) -> Result<(), Fail> {
         (Time::from_hms_micro(23, 59, 59, 1_000_000), "microsecond"),
         (Time::from_hms_nano(23, 59, 60, 1_000_000_000), "second"),
         (Time::from_hms_nano(23, 59, 59, 1_000_000_000), "nanosecond"),
+    ] {
+        let refusal = refused.expect_err(&rt, "a time");
+        assert_eq!(rt; (refusal.name(), refusal.is_conditional()), (name, false));
+    }
+}
+
+#[test]
+fn replacements_out_of_range_are_refused(rt: HostRuntime) -> Result<(), Fail> {
+    let time = time(1, 2, 3, 4_005_006)?;
+    for (refused, name) in [
         (time.replace_hour(24), "hour"),
         (time.replace_minute(60), "minute"),
         (time.replace_second(60), "second"),
-        (time.replace_millisecond(1_000), "millisecond"),
-        (time.replace_millisecond(4_295), "millisecond"),
-        (time.replace_millisecond(65_535), "millisecond"),
-        (time.replace_microsecond(1_000_000), "microsecond"),
-        (time.replace_microsecond(4_294_968), "microsecond"),
-        (time.replace_microsecond(u32::MAX), "microsecond"),
         (time.replace_nanosecond(1_000_000_000), "nanosecond"),
     ] {
-        match refused {
-            Ok(time) => assert!(rt; false, "{time}"),
-            Err(refusal) => {
-                assert_eq!(rt; refusal.name(), name);
-                assert!(rt; !refusal.is_conditional());
-            }
-        }
+        let refusal = refused.expect_err(&rt, "a time");
+        assert_eq!(rt; (refusal.name(), refusal.is_conditional()), (name, false));
+    }
+    for millisecond in [1_000, 4_295, 65_535] {
+        let refusal = ComponentRange::new("millisecond", false);
+        assert_eq!(rt; time.replace_millisecond(millisecond), Err(refusal));
+    }
+    for microsecond in [1_000_000, 4_294_968, u32::MAX] {
+        let refusal = ComponentRange::new("microsecond", false);
+        assert_eq!(rt; time.replace_microsecond(microsecond), Err(refusal));
     }
     Ok(())
 }
 
 #[test]
-fn parts(rt: HostRuntime) -> Result<(), Fail> {
-    let shown = time(1, 2, 3, 4_005_006)?;
-    assert_eq!(rt; shown.as_hms(), (1, 2, 3));
-    assert_eq!(rt; shown.as_hms_milli(), (1, 2, 3, 4));
-    assert_eq!(rt; shown.as_hms_micro(), (1, 2, 3, 4_005));
-    assert_eq!(rt; shown.as_hms_nano(), (1, 2, 3, 4_005_006));
-    assert_eq!(rt; (shown.hour(), shown.minute(), shown.second()), (1, 2, 3));
+fn parts_are_those_given(rt: HostRuntime) -> Result<(), Fail> {
+    let time = time(1, 2, 3, 4_005_006)?;
     assert_eq!(rt;
-        (shown.millisecond(), shown.microsecond(), shown.nanosecond()),
-        (4, 4_005, 4_005_006)
+        (time.as_hms(), time.as_hms_milli()),
+        ((1, 2, 3), (1, 2, 3, 4))
     );
-    assert_eq!(rt;
-        Time::from_hms_milli(1, 2, 3, 4)?,
-        time(1, 2, 3, 4_000_000)?
-    );
-    assert_eq!(rt;
-        Time::from_hms_micro(1, 2, 3, 4_005)?,
-        time(1, 2, 3, 4_005_000)?
-    );
-
-    assert_eq!(rt; shown.replace_hour(7)?, time(7, 2, 3, 4_005_006)?);
-    assert_eq!(rt; shown.replace_minute(7)?, time(1, 7, 3, 4_005_006)?);
-    assert_eq!(rt; shown.replace_second(7)?, time(1, 2, 7, 4_005_006)?);
-    assert_eq!(rt; shown.replace_millisecond(7)?, time(1, 2, 3, 7_000_000)?);
-    assert_eq!(rt;
-        shown.replace_microsecond(7_008)?,
-        time(1, 2, 3, 7_008_000)?
-    );
-    assert_eq!(rt;
-        shown.replace_nanosecond(7_008_009)?,
-        time(1, 2, 3, 7_008_009)?
-    );
-
-    let afternoon = time(15, 30, 45, 123_456_789)?;
-    assert_eq!(rt; afternoon.truncate_to_hour(), time(15, 0, 0, 0)?);
-    assert_eq!(rt; afternoon.truncate_to_minute(), time(15, 30, 0, 0)?);
-    assert_eq!(rt; afternoon.truncate_to_second(), time(15, 30, 45, 0)?);
-    assert_eq!(rt;
-        afternoon.truncate_to_millisecond(),
-        time(15, 30, 45, 123_000_000)?
-    );
-    assert_eq!(rt;
-        afternoon.truncate_to_microsecond(),
-        time(15, 30, 45, 123_456_000)?
-    );
+    assert_eq!(rt; time.as_hms_micro(), (1, 2, 3, 4_005));
+    assert_eq!(rt; time.as_hms_nano(), (1, 2, 3, 4_005_006));
+    assert_eq!(rt; (time.hour(), time.minute(), time.second()), (1, 2, 3));
+    assert_eq!(rt; (time.millisecond(), time.microsecond()), (4, 4_005));
+    assert_eq!(rt; time.nanosecond(), 4_005_006);
     Ok(())
 }
 
 #[test]
-fn moves(rt: HostRuntime) -> Result<(), Fail> {
-    let start = time(1, 2, 3, 4)?;
-    for (from, duration, after, before) in [
-        (
-            time(23, 30, 0, 0)?,
-            SignedDuration::hours(27),
-            (DateAdjustment::Next, time(2, 30, 0, 0)?),
-            (DateAdjustment::Same, time(20, 30, 0, 0)?),
-        ),
-        (
-            time(23, 30, 0, 0)?,
-            SignedDuration::hours(-27),
-            (DateAdjustment::Same, time(20, 30, 0, 0)?),
-            (DateAdjustment::Next, time(2, 30, 0, 0)?),
-        ),
-        (
-            Time::MIDNIGHT,
-            SignedDuration::nanoseconds(-1),
-            (DateAdjustment::Previous, Time::MAX),
-            (DateAdjustment::Same, time(0, 0, 0, 1)?),
-        ),
-        (
-            start,
-            SignedDuration::MIN,
-            (DateAdjustment::Previous, time(9, 31, 54, 5)?),
-            (DateAdjustment::Same, time(16, 32, 12, 3)?),
-        ),
-        (
-            start,
-            SignedDuration::MAX,
-            (DateAdjustment::Same, time(16, 32, 11, 3)?),
-            (DateAdjustment::Previous, time(9, 31, 55, 5)?),
-        ),
+fn parts_of_a_second_are_nanoseconds(rt: HostRuntime) -> Result<(), Fail> {
+    for (given, nanosecond) in [
+        (Time::from_hms_milli(1, 2, 3, 4)?, 4_000_000),
+        (Time::from_hms_micro(1, 2, 3, 4_005)?, 4_005_000),
     ] {
-        assert_eq!(rt; from.adjusting_add(duration), after);
-        assert_eq!(rt; from.adjusting_sub(duration), before);
+        assert_eq!(rt; given, time(1, 2, 3, nanosecond)?);
     }
-    assert_eq!(rt;
-        Time::MIDNIGHT.adjusting_add_std(Duration::MAX),
-        (false, time(7, 0, 15, 999_999_999)?)
-    );
-    assert_eq!(rt;
-        Time::MIDNIGHT.adjusting_sub_std(Duration::MAX),
-        (true, time(16, 59, 44, 1)?)
-    );
-    assert_eq!(rt;
-        Time::MAX.adjusting_add_std(Duration::MAX),
-        (true, time(7, 0, 15, 999_999_998)?)
-    );
-    assert_eq!(rt;
-        Time::MAX.adjusting_sub_std(Duration::MAX),
-        (false, time(16, 59, 44, 0)?)
-    );
+    Ok(())
+}
 
+#[test]
+fn replacements_clear_what_is_finer(rt: HostRuntime) -> Result<(), Fail> {
+    let shown = time(1, 2, 3, 4_005_006)?;
+    for (replaced, wanted) in [
+        (shown.replace_hour(7)?, (7, 2, 3, 4_005_006)),
+        (shown.replace_minute(7)?, (1, 7, 3, 4_005_006)),
+        (shown.replace_second(7)?, (1, 2, 7, 4_005_006)),
+        (shown.replace_millisecond(7)?, (1, 2, 3, 7_000_000)),
+        (shown.replace_microsecond(7_008)?, (1, 2, 3, 7_008_000)),
+        (shown.replace_nanosecond(7_008_009)?, (1, 2, 3, 7_008_009)),
+    ] {
+        assert_eq!(rt; replaced.as_hms_nano(), wanted);
+    }
+    Ok(())
+}
+
+#[test]
+fn truncations_clear_what_is_finer(rt: HostRuntime) -> Result<(), Fail> {
+    let shown = time(15, 30, 45, 123_456_789)?;
+    for (truncated, minute, second, nanosecond) in [
+        (shown.truncate_to_hour(), 0, 0, 0),
+        (shown.truncate_to_minute(), 30, 0, 0),
+        (shown.truncate_to_second(), 30, 45, 0),
+        (shown.truncate_to_millisecond(), 30, 45, 123_000_000),
+        (shown.truncate_to_microsecond(), 30, 45, 123_456_000),
+    ] {
+        assert_eq!(rt; truncated, time(15, minute, second, nanosecond)?);
+    }
+    Ok(())
+}
+
+#[test]
+fn sums_wrap_around_midnight(rt: HostRuntime) -> Result<(), Fail> {
+    let (late, start) = (time(23, 30, 0, 0)?, time(1, 2, 3, 4)?);
+    let less = SignedDuration::nanoseconds(-1);
+    for (time, duration, adjustment, wanted) in [
+        (late, SignedDuration::hours(27), Next, (2, 30, 0, 0)),
+        (late, SignedDuration::hours(-27), Same, (20, 30, 0, 0)),
+        (Time::MIDNIGHT, less, Previous, (23, 59, 59, 999_999_999)),
+        (start, SignedDuration::MIN, Previous, (9, 31, 54, 5)),
+        (start, SignedDuration::MAX, Same, (16, 32, 11, 3)),
+    ] {
+        let (moved, sum) = time.adjusting_add(duration);
+        assert_eq!(rt; (moved, sum.as_hms_nano()), (adjustment, wanted));
+    }
+    Ok(())
+}
+
+#[test]
+fn differences_wrap_around_midnight(rt: HostRuntime) -> Result<(), Fail> {
+    let (late, start) = (time(23, 30, 0, 0)?, time(1, 2, 3, 4)?);
+    let less = SignedDuration::nanoseconds(-1);
+    for (time, duration, adjustment, wanted) in [
+        (late, SignedDuration::hours(27), Same, (20, 30, 0, 0)),
+        (late, SignedDuration::hours(-27), Next, (2, 30, 0, 0)),
+        (Time::MIDNIGHT, less, Same, (0, 0, 0, 1)),
+        (start, SignedDuration::MIN, Same, (16, 32, 12, 3)),
+        (start, SignedDuration::MAX, Previous, (9, 31, 55, 5)),
+    ] {
+        let (moved, difference) = time.adjusting_sub(duration);
+        assert_eq!(rt; (moved, difference.as_hms_nano()), (adjustment, wanted));
+    }
+    Ok(())
+}
+
+#[test]
+fn unsigned_durations_wrap_around_midnight(rt: HostRuntime) -> Result<(), Fail> {
+    for (start, is_next, sum, is_previous, difference) in [
+        (Time::MIDNIGHT, false, 999_999_999, true, 1),
+        (Time::MAX, true, 999_999_998, false, 0),
+    ] {
+        let (sum, difference) = (time(7, 0, 15, sum)?, time(16, 59, 44, difference)?);
+        assert_eq!(rt; start.adjusting_add_std(Duration::MAX), (is_next, sum));
+        assert_eq!(rt;
+            start.adjusting_sub_std(Duration::MAX),
+            (is_previous, difference)
+        );
+    }
+    Ok(())
+}
+
+#[test]
+fn order_is_that_of_the_clock(rt: HostRuntime) -> Result<(), Fail> {
+    let (first, start, last) = (Time::MIDNIGHT, time(1, 2, 3, 4)?, Time::MAX);
+    assert!(rt; first < start && start < last);
     assert_eq!(rt;
-        Time::MIDNIGHT - Time::MAX,
+        first - last,
         SignedDuration::nanoseconds(-86_399_999_999_999)
     );
-    assert!(rt; Time::MIDNIGHT < start && start < Time::MAX);
     assert_eq!(rt; hash_of(start), hash_of(time(1, 2, 3, 4)?));
-    assert_ne!(rt; hash_of(start), hash_of(Time::MIDNIGHT));
+    assert_ne!(rt; hash_of(start), hash_of(first));
     Ok(())
 }
 

@@ -1,8 +1,8 @@
-use crate::UtcOffset;
+use crate::{ComponentRange, UtcOffset};
 use std::test::Fail;
 
 #[test]
-fn parts_of_one_sign(rt: HostRuntime) -> Result<(), Fail> {
+fn parts_have_one_sign(rt: HostRuntime) -> Result<(), Fail> {
     for (hours, minutes, seconds, parts, whole_seconds, text) in [
         (0, 0, 0, (0, 0, 0), 0, "+00:00:00"),
         (1, -2, -3, (1, 2, 3), 3_723, "+01:02:03"),
@@ -16,61 +16,53 @@ fn parts_of_one_sign(rt: HostRuntime) -> Result<(), Fail> {
     ] {
         let offset = UtcOffset::from_hms(hours, minutes, seconds)?;
         assert_eq!(rt; offset, UtcOffset::from_whole_seconds(whole_seconds)?);
-        assert_eq!(rt; offset.as_hms(), parts);
         assert_eq!(rt;
-            (
-                offset.whole_hours(),
-                offset.minutes_past_hour(),
-                offset.seconds_past_minute()
-            ),
-            parts
+            (offset.as_hms(), offset.whole_seconds()),
+            (parts, whole_seconds)
         );
-        assert_eq!(rt; offset.whole_seconds(), whole_seconds);
-        assert_eq!(rt; offset.is_utc(), whole_seconds == 0);
-        assert_eq!(rt; offset.is_negative(), whole_seconds < 0);
+        let (hours, minutes) = (offset.whole_hours(), offset.minutes_past_hour());
+        assert_eq!(rt; (hours, minutes, offset.seconds_past_minute()), parts);
+        let signs = (offset.is_utc(), offset.is_negative());
+        assert_eq!(rt; signs, (whole_seconds == 0, whole_seconds < 0));
         assert_eq!(rt; offset.text().as_str(), text);
     }
+    Ok(())
+}
+
+#[test]
+fn utc_is_the_offset_of_no_second(rt: HostRuntime) -> Result<(), Fail> {
     assert_eq!(rt; UtcOffset::UTC, UtcOffset::from_hms(0, 0, 0)?);
     assert_ne!(rt; UtcOffset::UTC, UtcOffset::from_whole_seconds(1)?);
     Ok(())
 }
 
 #[test]
-fn refusals(rt: HostRuntime) {
-    for (refused, name) in [
-        (UtcOffset::from_hms(26, 60, 60), "hours"),
-        (UtcOffset::from_hms(-26, 0, 0), "hours"),
-        (UtcOffset::from_hms(25, 60, 0), "minutes"),
-        (UtcOffset::from_hms(0, -60, 0), "minutes"),
-        (UtcOffset::from_hms(25, 59, 60), "seconds"),
-        (UtcOffset::from_hms(0, 0, -60), "seconds"),
-        (UtcOffset::from_whole_seconds(93_600), "offset_seconds"),
-        (UtcOffset::from_whole_seconds(-93_600), "offset_seconds"),
+fn offsets_of_26_hours_are_refused(rt: HostRuntime) {
+    for (hours, minutes, seconds, name) in [
+        (26, 60, 60, "hours"),
+        (-26, 0, 0, "hours"),
+        (25, 60, 0, "minutes"),
+        (0, -60, 0, "minutes"),
+        (25, 59, 60, "seconds"),
+        (0, 0, -60, "seconds"),
     ] {
-        match refused {
-            Ok(offset) => assert!(rt; false, "{offset}"),
-            Err(refusal) => {
-                assert_eq!(rt; refusal.name(), name);
-                assert!(rt; !refusal.is_conditional());
-            }
-        }
+        let refusal = UtcOffset::from_hms(hours, minutes, seconds).expect_err(&rt, "an offset");
+        assert_eq!(rt; (refusal.name(), refusal.is_conditional()), (name, false));
+    }
+    for seconds in [93_600, -93_600] {
+        let refusal = ComponentRange::new("offset_seconds", false);
+        assert_eq!(rt; UtcOffset::from_whole_seconds(seconds), Err(refusal));
     }
 }
 
 #[test]
-fn padded_texts(rt: HostRuntime) -> Result<(), Fail> {
-    let alloc = rt.alloc();
+fn formats_pad_the_text(rt: HostRuntime) -> Result<(), Fail> {
     let offset = UtcOffset::from_hms(-1, -2, -3)?;
-    assert_eq!(rt; format!(in alloc; "{offset}")?.as_str(), "-01:02:03");
-    assert_eq!(rt; format!(in alloc; "{offset:?}")?.as_str(), "-01:02:03");
     assert_eq!(rt;
-        format!(in alloc; "{offset:12}|")?.as_str(),
-        "-01:02:03   |"
-    );
-    assert_eq!(rt; format!(in alloc; "{offset:>12}")?.as_str(), "   -01:02:03");
-    assert_eq!(rt;
-        format!(in alloc; "{offset:*^14}")?.as_str(),
-        "**-01:02:03***"
+        format!(in rt.alloc();
+            "{offset} {offset:?}|{offset:12}|{offset:>12}{offset:*^14}"
+        )?.as_str(),
+        "-01:02:03 -01:02:03|-01:02:03   |   -01:02:03**-01:02:03***"
     );
     Ok(())
 }
