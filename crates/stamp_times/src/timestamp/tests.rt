@@ -441,10 +441,14 @@ fn offsets_at_the_ends(rt: HostRuntime) -> Result<(), Fail> {
 }
 
 #[test]
-fn laws_are_called(rt: HostRuntime) {
+fn conversions_and_laws(rt: HostRuntime) {
     let (first, last, _) = crate::constants::timestamps();
-    assert_eq!(rt; laws::to_utc_and_back(first), first);
-    assert_eq!(rt; laws::from_utc_and_back(last.to_utc()), last.to_utc());
+    assert_eq!(rt; Timestamp::from(UtcDateTime::from(first)), first);
+    assert_eq!(rt;
+        UtcDateTime::from(Timestamp::from(last.to_utc())),
+        last.to_utc()
+    );
+    laws::conversions_lose_nothing();
     laws::compared_by_instant();
     laws::counts_read_as_given();
     laws::nanoseconds_keep_the_second();
@@ -452,4 +456,5 @@ fn laws_are_called(rt: HostRuntime) {
     laws::differences_undo_sums();
     laws::differences_lead_back();
     laws::replaced_parts_read_as_given();
+    laws::replacements_keep_the_rest();
 }
