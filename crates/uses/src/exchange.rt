@@ -31,14 +31,16 @@ pub fn stamp_at(stamp: &[u8], offset: UtcOffset) -> Option<Text>
 
 /// The instant of a stamp.
 pub fn instant(stamp: &[u8]) -> Result<UtcDateTime, TextRefusal>
-    ensures { (p : Parts) → IsDateTime stamp.now p → OkIff result (AreInRange p) (instant_of (value_of p)) }
+    ensures { (p : Parts) → IsDateTime stamp.now p →
+        OkIff result (AreInRange p) (instant_of (value_of p)) }
 {
     UtcDateTime::from_rfc3339(stamp)
 }
 
 /// The shortest text of what a text of another program says.
 pub fn rewritten(stamp: &[u8]) -> Result<Text, TextRefusal>
-    ensures { IfOk result (λ text. (p : Parts) × IsDateTime stamp.now p × (text ≡ rfc3339_text (value_of p))) }
+    ensures { IfOk result (λ text.
+        (p : Parts) × IsDateTime stamp.now p × (text ≡ rfc3339_text (value_of p))) }
 {
     Ok(parse_rfc3339(stamp)?.to_rfc3339().unwrap())
 }
@@ -60,8 +62,8 @@ pub fn sort(texts: &mut Vec<&[u8]>) -> Result<(), AllocError>
 
 /// The order of the instants of two texts of fixed width: only bytes are compared.
 pub fn compared(first: &[u8], second: &[u8]) -> Ordering
-    ensures { (i j : ℤ) → HasFixedText i → HasFixedText j → first.now ≡ fixed_text i → second.now ≡ fixed_text j →
-        result ≡ int_cmp i j }
+    ensures { (i j : ℤ) → HasFixedText i → HasFixedText j →
+        first.now ≡ fixed_text i → second.now ≡ fixed_text j → result ≡ int_cmp i j }
 {
     fixed_texts_keep_the_order();
     first.cmp(second)

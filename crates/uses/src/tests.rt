@@ -1,7 +1,8 @@
-use crate::{constants, expiry, invoices, log, meeting, midnight, moments, retry};
+use crate::{constants, exchange, expiry, invoices, log, meeting, midnight, moments, retry};
 use calendar_values::{ComponentRange, Date, Month, Time, UtcOffset};
 use offset_times::OffsetDateTime;
 use stamp_times::{Call, ClockRead, Timestamp};
+use std::cmp::Ordering;
 use std::test::Fail;
 use utc_times::UtcDateTime;
 
@@ -46,5 +47,32 @@ fn callers_are_called(rt: HostRuntime) -> Result<(), Fail> {
     let calls = [Call::ReadClock(ClockRead::Hour)];
     let (of_timestamp, of_utc) = moments::replay(alloc, Timestamp::UNIX_EPOCH, &calls)?;
     assert!(rt; of_timestamp == of_utc);
+    Ok(())
+}
+
+#[test]
+fn texts_are_exchanged(rt: HostRuntime) -> Result<(), Fail> {
+    let stamp = b"1996-12-19T16:39:57-08:00";
+    let east = UtcOffset::from_hms(1, 0, 0)?;
+    let shown = exchange::stamp_at(stamp, east);
+    assert!(rt; shown.is_some_and(|text| text.as_str() == "1996-12-20T01:39:57+01:00"));
+    assert_eq!(rt; exchange::instant(stamp)?, utc(851_042_397)?);
+    assert!(rt;
+        exchange::rewritten(b"1996-12-20 00:39:57.50z")?.as_str() == "1996-12-20T00:39:57.5Z"
+    );
+    let sent = OffsetDateTime::from(utc(851_042_397)?);
+    assert_eq!(rt; exchange::received(sent), Some(sent));
+
+    let (first, second) = (
+        "1969-12-31T23:59:59.999999999Z",
+        "1970-01-01T00:00:00.000000000Z",
+    );
+    assert_eq!(rt;
+        exchange::compared(first.as_bytes(), second.as_bytes()),
+        Ordering::Less
+    );
+    let mut texts = [second.as_bytes(), first.as_bytes()].to_vec(rt.alloc())?;
+    exchange::sort(&mut texts)?;
+    assert!(rt; texts[0] == first.as_bytes());
     Ok(())
 }
