@@ -145,12 +145,12 @@ mod tests {
             (12, "December"),
         ] {
             let month = Month::from_number(number)?;
-            assert_eq!(rt; format!(in rt.alloc(); "{month}")?.as_str(), name);
+            assert_eq!(rt; month.text().as_str(), name);
         }
         let may = Month::May;
         assert_eq!(rt;
-            format!(in rt.alloc(); "{may:?}{may:*^8}")?.as_str(),
-            "May**May***"
+            format!(in rt.alloc(); "{may} {may:?}{may:*^8}")?.as_str(),
+            "May May**May***"
         );
         Ok(())
     }

@@ -109,10 +109,13 @@ mod tests {
             (2_459_631, "Sunday"),
         ] {
             let weekday = Date::from_julian_day(julian_day)?.weekday();
-            assert_eq!(rt; format!(in rt.alloc(); "{weekday:?}")?.as_str(), name);
+            assert_eq!(rt; weekday.text().as_str(), name);
         }
-        let padded = format!(in rt.alloc(); "{:>9}", Weekday::Monday)?;
-        assert_eq!(rt; padded.as_str(), "   Monday");
+        let monday = Weekday::Monday;
+        assert_eq!(rt;
+            format!(in rt.alloc(); "{monday:?}{monday:>9}")?.as_str(),
+            "Monday   Monday"
+        );
         Ok(())
     }
 }

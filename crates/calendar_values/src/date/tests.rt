@@ -65,9 +65,9 @@ fn date(year: i32, month: u8, day: u8) -> Result<Date, ComponentRange> {
 fn days_have_the_numbers_of_another_calendar(rt: HostRuntime) -> Result<(), Fail> {
     for (year, month, day, julian_day, ordinal, ..) in DAYS {
         let date = date(year, month, day)?;
-        assert_eq!(rt; date.to_julian_day(), julian_day, "{date}");
-        assert_eq!(rt; Date::from_julian_day(julian_day)?, date);
-        assert_eq!(rt; Date::from_ordinal_date(year, ordinal)?, date);
+        assert_eq!(rt; date.to_julian_day(), julian_day);
+        assert_eq!(rt; Date::from_julian_day(julian_day), Ok(date));
+        assert_eq!(rt; Date::from_ordinal_date(year, ordinal), Ok(date));
     }
     Ok(())
 }
@@ -76,14 +76,19 @@ fn days_have_the_numbers_of_another_calendar(rt: HostRuntime) -> Result<(), Fail
 fn parts_are_those_of_another_calendar(rt: HostRuntime) -> Result<(), Fail> {
     for (year, month, day, julian_day, ordinal, ..) in DAYS {
         let date = Date::from_julian_day(julian_day)?;
-        let named = Month::from_number(month)?;
-        assert_eq!(rt; date.to_calendar_date(), (year, named, day));
-        assert_eq!(rt; date.to_ordinal_date(), (year, ordinal));
+        let (shown_year, shown_month, shown_day) = date.to_calendar_date();
         assert_eq!(rt;
-            (date.year(), date.day(), date.ordinal()),
-            (year, day, ordinal)
+            (shown_year, u8::from(shown_month), shown_day),
+            (year, month, day)
         );
-        assert_eq!(rt; u8::from(date.month()), month);
+        assert_eq!(rt;
+            (date.year(), date.month(), date.day()),
+            (year, shown_month, day)
+        );
+        assert_eq!(rt;
+            (date.to_ordinal_date(), date.ordinal()),
+            ((year, ordinal), ordinal)
+        );
     }
     Ok(())
 }
@@ -92,29 +97,32 @@ fn parts_are_those_of_another_calendar(rt: HostRuntime) -> Result<(), Fail> {
 fn weeks_are_those_of_another_calendar(rt: HostRuntime) -> Result<(), Fail> {
     for (_, _, _, julian_day, _, year, week, weekday, by_sundays, by_mondays) in DAYS {
         let date = Date::from_julian_day(julian_day)?;
-        let (shown_year, shown_week, shown_day) = date.to_iso_week_date();
-        assert_eq!(rt; (shown_year, shown_week), (year, week), "{date}");
-        assert_eq!(rt; (date.iso_week(), date.weekday()), (week, shown_day));
-        assert_eq!(rt; shown_day.number_days_from_monday(), weekday);
+        let shown = date.weekday();
+        assert_eq!(rt; date.to_iso_week_date(), (year, week, shown));
+        assert_eq!(rt;
+            (date.iso_week(), shown.number_days_from_monday()),
+            (week, weekday)
+        );
         let weeks = (date.sunday_based_week(), date.monday_based_week());
-        assert_eq!(rt; weeks, (by_sundays, by_mondays), "{date}");
+        assert_eq!(rt; weeks, (by_sundays, by_mondays));
     }
     Ok(())
 }
 
 #[test]
-fn constants_are_the_days_of_their_names(rt: HostRuntime) -> Result<(), Fail> {
+fn constants_are_the_days_of_their_names(rt: HostRuntime) {
     for (constant, year, month, day, julian_day, weekday) in [
         (Date::MIN, -999_999, 1, 1, -363_521_074, Weekday::Monday),
         (Date::MAX, 999_999, 12, 31, 366_963_559, Weekday::Friday),
         (Date::UNIX_EPOCH, 1970, 1, 1, 2_440_588, Weekday::Thursday),
     ] {
-        assert_eq!(rt; date(year, month, day)?, constant);
-        assert_eq!(rt; Date::from_julian_day(julian_day)?, constant);
-        assert_eq!(rt; constant.to_julian_day(), julian_day);
-        assert_eq!(rt; constant.weekday(), weekday);
+        assert_eq!(rt; date(year, month, day), Ok(constant));
+        assert_eq!(rt; Date::from_julian_day(julian_day), Ok(constant));
+        assert_eq!(rt;
+            (constant.to_julian_day(), constant.weekday()),
+            (julian_day, weekday)
+        );
     }
-    Ok(())
 }
 
 #[test]
@@ -132,33 +140,27 @@ fn no_day_is_beside_the_range(rt: HostRuntime) {
 
 #[test]
 fn days_out_of_the_range_are_refused(rt: HostRuntime) {
-    for (year, month, day, name) in [
-        (1_000_000, 13, 0, "month"),
-        (2022, 0, 1, "month"),
-        (-1_000_000, 2, 30, "year"),
+    for (refused, name, conditional) in [
+        (date(1_000_000, 13, 0), "month", false),
+        (date(2022, 0, 1), "month", false),
+        (date(-1_000_000, 2, 30), "year", false),
+        (Date::from_ordinal_date(1_000_000, 0), "year", false),
+        (Date::from_ordinal_date(2023, 366), "ordinal", true),
+        (Date::from_julian_day(-363_521_075), "julian_day", false),
+        (Date::from_julian_day(366_963_560), "julian_day", false),
     ] {
-        let refusal = date(year, month, day).expect_err(&rt, "a date");
-        assert_eq!(rt; (refusal.name(), refusal.is_conditional()), (name, false));
-    }
-    for (year, ordinal, name, conditional) in [
-        (1_000_000, 0, "year", false),
-        (2023, 366, "ordinal", true),
-    ] {
-        let refusal = Date::from_ordinal_date(year, ordinal).expect_err(&rt, "a date");
+        let refusal = refused.expect_err(&rt, "a date");
         assert_eq!(rt;
             (refusal.name(), refusal.is_conditional()),
             (name, conditional)
         );
     }
-    for julian_day in [-363_521_075, 366_963_560] {
-        let refusal = ComponentRange::new("julian_day", false);
-        assert_eq!(rt; Date::from_julian_day(julian_day), Err(refusal));
-    }
 }
 
 #[test]
 fn replacements_by_days_out_of_the_range_are_refused(rt: HostRuntime) -> Result<(), Fail> {
-    let (leap_day, february) = (date(2000, 2, 29)?, date(2022, 2, 18)?);
+    let (january, february) = (date(2022, 1, 30)?, date(2022, 2, 18)?);
+    let leap_day = date(2000, 2, 29)?;
     for (refused, name, conditional) in [
         (leap_day.replace_year(1900), "day", true),
         (leap_day.replace_ordinal(367), "ordinal", false),
@@ -168,11 +170,7 @@ fn replacements_by_days_out_of_the_range_are_refused(rt: HostRuntime) -> Result<
         (february.replace_day(30), "day", true),
         (february.replace_ordinal(0), "ordinal", false),
         (february.replace_ordinal(366), "ordinal", true),
-        (
-            date(2022, 1, 30)?.replace_month(Month::February),
-            "day",
-            true,
-        ),
+        (january.replace_month(Month::February), "day", true),
     ] {
         let refusal = refused.expect_err(&rt, "a date");
         assert_eq!(rt;
@@ -187,12 +185,12 @@ fn replacements_by_days_out_of_the_range_are_refused(rt: HostRuntime) -> Result<
 fn replaced_parts_are_as_given(rt: HostRuntime) -> Result<(), Fail> {
     let leap_day = date(2000, 2, 29)?;
     for (replaced, year, month, day) in [
-        (leap_day.replace_year(2004)?, 2004, 2, 29),
-        (leap_day.replace_month(Month::April)?, 2000, 4, 29),
-        (leap_day.replace_day(1)?, 2000, 2, 1),
-        (leap_day.replace_ordinal(366)?, 2000, 12, 31),
+        (leap_day.replace_year(2004), 2004, 2, 29),
+        (leap_day.replace_month(Month::April), 2000, 4, 29),
+        (leap_day.replace_day(1), 2000, 2, 1),
+        (leap_day.replace_ordinal(366), 2000, 12, 31),
     ] {
-        assert_eq!(rt; replaced, date(year, month, day)?);
+        assert_eq!(rt; replaced, date(year, month, day));
     }
     Ok(())
 }

@@ -1,16 +1,13 @@
 use crate::SignedDuration;
 
-// The whole seconds, the nanoseconds beside them and the whole days.
-fn parts(duration: SignedDuration) -> (i64, i32, i64) {
-    (
-        duration.whole_seconds(),
-        duration.subsec_nanoseconds(),
-        duration.whole_days(),
-    )
-}
-
 #[test]
 fn parts_have_one_sign(rt: HostRuntime) {
+    let past_a_day = SignedDuration::nanoseconds(-86_400_000_000_001);
+    let of_nanoseconds = SignedDuration::nanoseconds(i64::MIN);
+    let of_hours = SignedDuration::hours(2_562_047_788_015_215);
+    let of_days = SignedDuration::days(-106_751_991_167_300);
+    let of_parts = SignedDuration::new(i64::MAX, i32::MIN);
+    let most_days = 106_751_991_167_300;
     for (duration, seconds, nanoseconds, days) in [
         (SignedDuration::new(1, -1), 0, 999_999_999, 0),
         (SignedDuration::new(-1, 1), 0, -999_999_999, 0),
@@ -19,50 +16,22 @@ fn parts_have_one_sign(rt: HostRuntime) {
         (SignedDuration::new(5, 2_147_483_647), 7, 147_483_647, 0),
         (SignedDuration::new(86_400, -1), 86_399, 999_999_999, 0),
         (SignedDuration::new(-86_400, 1), -86_399, -999_999_999, 0),
-    ] {
-        assert_eq!(rt; parts(duration), (seconds, nanoseconds, days));
-        assert_eq!(rt; duration.is_negative(), seconds < 0 || nanoseconds < 0);
-    }
-}
-
-#[test]
-fn parts_of_each_unit(rt: HostRuntime) {
-    for (duration, seconds, nanoseconds, days) in [
-        (
-            SignedDuration::nanoseconds(-86_400_000_000_001),
-            -86_400,
-            -1,
-            -1,
-        ),
-        (
-            SignedDuration::nanoseconds(i64::MIN),
-            -9_223_372_036,
-            -854_775_808,
-            -106_751,
-        ),
+        (past_a_day, -86_400, -1, -1),
+        (of_nanoseconds, -9_223_372_036, -854_775_808, -106_751),
         (SignedDuration::seconds(-86_399), -86_399, 0, 0),
         (SignedDuration::hours(-27), -97_200, 0, -1),
-        (SignedDuration::ZERO, 0, 0, 0),
-    ] {
-        assert_eq!(rt; parts(duration), (seconds, nanoseconds, days));
-        assert_eq!(rt; duration.is_negative(), seconds < 0 || nanoseconds < 0);
-    }
-}
-
-#[test]
-fn parts_of_the_longest_durations(rt: HostRuntime) {
-    let most_days = 106_751_991_167_300;
-    let of_parts = SignedDuration::new(i64::MAX, i32::MIN);
-    let of_hours = SignedDuration::hours(2_562_047_788_015_215);
-    let of_days = SignedDuration::days(-106_751_991_167_300);
-    for (duration, seconds, nanoseconds, days) in [
-        (of_parts, 9_223_372_036_854_775_804, 852_516_352, most_days),
         (of_hours, 9_223_372_036_854_774_000, 0, most_days),
         (of_days, -9_223_372_036_854_720_000, 0, -most_days),
+        (of_parts, 9_223_372_036_854_775_804, 852_516_352, most_days),
+        (SignedDuration::ZERO, 0, 0, 0),
         (SignedDuration::MIN, i64::MIN, -999_999_999, -most_days),
         (SignedDuration::MAX, i64::MAX, 999_999_999, most_days),
     ] {
-        assert_eq!(rt; parts(duration), (seconds, nanoseconds, days));
+        let parts = (duration.whole_seconds(), duration.subsec_nanoseconds());
+        assert_eq!(rt;
+            (parts, duration.whole_days()),
+            ((seconds, nanoseconds), days)
+        );
         assert_eq!(rt; duration.is_negative(), seconds < 0 || nanoseconds < 0);
     }
 }
@@ -89,17 +58,15 @@ fn sums_and_differences_carry(rt: HostRuntime) {
 
 #[test]
 fn order_is_that_of_the_nanoseconds(rt: HostRuntime) {
-    let rising = [
-        SignedDuration::MIN,
-        SignedDuration::seconds(-1),
-        SignedDuration::nanoseconds(-1),
-        SignedDuration::ZERO,
-        SignedDuration::nanoseconds(1),
-        SignedDuration::seconds(1),
-        SignedDuration::MAX,
-    ];
-    for pair in rising.windows(2) {
-        assert!(rt; pair[0] < pair[1] && pair[1] > pair[0] && pair[0] != pair[1]);
+    for (smaller, larger) in [
+        (SignedDuration::MIN, SignedDuration::seconds(-1)),
+        (SignedDuration::seconds(-1), SignedDuration::nanoseconds(-1)),
+        (SignedDuration::nanoseconds(-1), SignedDuration::ZERO),
+        (SignedDuration::ZERO, SignedDuration::nanoseconds(1)),
+        (SignedDuration::nanoseconds(1), SignedDuration::seconds(1)),
+        (SignedDuration::seconds(1), SignedDuration::MAX),
+    ] {
+        assert!(rt; smaller < larger && larger > smaller && smaller != larger);
     }
     assert_eq!(rt; SignedDuration::hours(24), SignedDuration::days(1));
 }

@@ -17,18 +17,19 @@ fn texts_have_the_digits_that_matter(rt: HostRuntime) -> Result<(), Fail> {
         (10, 0, 0, 1, "10:00:00.000000001"),
     ] {
         let time = time(hour, minute, second, nanosecond)?;
-        assert_eq!(rt; format!(in rt.alloc(); "{time}")?.as_str(), text);
-        assert_eq!(rt; format!(in rt.alloc(); "{time:?}")?.as_str(), text);
+        assert_eq!(rt; time.text().as_str(), text);
     }
     Ok(())
 }
 
 #[test]
 fn formats_pad_the_text(rt: HostRuntime) -> Result<(), Fail> {
-    let midnight = Time::MIDNIGHT;
+    let (midnight, last) = (Time::MIDNIGHT, Time::MAX);
     assert_eq!(rt;
-        format!(in rt.alloc(); "{midnight:12}{midnight:>12}{midnight:*^14}")?.as_str(),
-        "0:00:00.0      0:00:00.0**0:00:00.0***"
+        format!(in rt.alloc();
+            "{last} {last:?}|{midnight:12}{midnight:>12}{midnight:*^14}"
+        )?.as_str(),
+        "23:59:59.999999999 23:59:59.999999999|0:00:00.0      0:00:00.0**0:00:00.0***"
     );
     Ok(())
 }
@@ -58,18 +59,16 @@ fn replacements_out_of_range_are_refused(rt: HostRuntime) -> Result<(), Fail> {
         (time.replace_hour(24), "hour"),
         (time.replace_minute(60), "minute"),
         (time.replace_second(60), "second"),
+        (time.replace_millisecond(1_000), "millisecond"),
+        (time.replace_millisecond(4_295), "millisecond"),
+        (time.replace_millisecond(65_535), "millisecond"),
+        (time.replace_microsecond(1_000_000), "microsecond"),
+        (time.replace_microsecond(4_294_968), "microsecond"),
+        (time.replace_microsecond(u32::MAX), "microsecond"),
         (time.replace_nanosecond(1_000_000_000), "nanosecond"),
     ] {
         let refusal = refused.expect_err(&rt, "a time");
         assert_eq!(rt; (refusal.name(), refusal.is_conditional()), (name, false));
-    }
-    for millisecond in [1_000, 4_295, 65_535] {
-        let refusal = ComponentRange::new("millisecond", false);
-        assert_eq!(rt; time.replace_millisecond(millisecond), Err(refusal));
-    }
-    for microsecond in [1_000_000, 4_294_968, u32::MAX] {
-        let refusal = ComponentRange::new("microsecond", false);
-        assert_eq!(rt; time.replace_microsecond(microsecond), Err(refusal));
     }
     Ok(())
 }
@@ -81,37 +80,34 @@ fn parts_are_those_given(rt: HostRuntime) -> Result<(), Fail> {
         (time.as_hms(), time.as_hms_milli()),
         ((1, 2, 3), (1, 2, 3, 4))
     );
-    assert_eq!(rt; time.as_hms_micro(), (1, 2, 3, 4_005));
-    assert_eq!(rt; time.as_hms_nano(), (1, 2, 3, 4_005_006));
-    assert_eq!(rt; (time.hour(), time.minute(), time.second()), (1, 2, 3));
-    assert_eq!(rt; (time.millisecond(), time.microsecond()), (4, 4_005));
-    assert_eq!(rt; time.nanosecond(), 4_005_006);
+    assert_eq!(rt;
+        (time.as_hms_micro(), time.as_hms_nano()),
+        ((1, 2, 3, 4_005), (1, 2, 3, 4_005_006))
+    );
+    assert_eq!(rt;
+        (
+            (time.hour(), time.minute(), time.second()),
+            (time.millisecond(), time.microsecond(), time.nanosecond())
+        ),
+        ((1, 2, 3), (4, 4_005, 4_005_006))
+    );
     Ok(())
 }
 
 #[test]
-fn parts_of_a_second_are_nanoseconds(rt: HostRuntime) -> Result<(), Fail> {
-    for (given, nanosecond) in [
-        (Time::from_hms_milli(1, 2, 3, 4)?, 4_000_000),
-        (Time::from_hms_micro(1, 2, 3, 4_005)?, 4_005_000),
-    ] {
-        assert_eq!(rt; given, time(1, 2, 3, nanosecond)?);
-    }
-    Ok(())
-}
-
-#[test]
-fn replacements_clear_what_is_finer(rt: HostRuntime) -> Result<(), Fail> {
+fn times_have_the_given_parts_and_no_finer_ones(rt: HostRuntime) -> Result<(), Fail> {
     let shown = time(1, 2, 3, 4_005_006)?;
-    for (replaced, wanted) in [
-        (shown.replace_hour(7)?, (7, 2, 3, 4_005_006)),
-        (shown.replace_minute(7)?, (1, 7, 3, 4_005_006)),
-        (shown.replace_second(7)?, (1, 2, 7, 4_005_006)),
-        (shown.replace_millisecond(7)?, (1, 2, 3, 7_000_000)),
-        (shown.replace_microsecond(7_008)?, (1, 2, 3, 7_008_000)),
-        (shown.replace_nanosecond(7_008_009)?, (1, 2, 3, 7_008_009)),
+    for (given, parts) in [
+        (Time::from_hms_milli(1, 2, 3, 4), (1, 2, 3, 4_000_000)),
+        (Time::from_hms_micro(1, 2, 3, 4_005), (1, 2, 3, 4_005_000)),
+        (shown.replace_hour(7), (7, 2, 3, 4_005_006)),
+        (shown.replace_minute(7), (1, 7, 3, 4_005_006)),
+        (shown.replace_second(7), (1, 2, 7, 4_005_006)),
+        (shown.replace_millisecond(7), (1, 2, 3, 7_000_000)),
+        (shown.replace_microsecond(7_008), (1, 2, 3, 7_008_000)),
+        (shown.replace_nanosecond(7_008_009), (1, 2, 3, 7_008_009)),
     ] {
-        assert_eq!(rt; replaced.as_hms_nano(), wanted);
+        assert_eq!(rt; given?.as_hms_nano(), parts);
     }
     Ok(())
 }
