@@ -1,8 +1,11 @@
 -- What callers name where they ask for the first day of a month, for a day that a month may not have, or for the month after a month.
-use Rattle.std.proofs.Common.{◌≡◌, ℕ, suc, ◌+◌, ◌-◌, ◌<◌, ◌≤◌, min, sym, ap, ◌∙◌, arith, ℤ, pos, ◌+ℤ◌, ◌-ℤ◌}
-use Rattle.calendar_values.specs.Calendar.{IsCalendarDate, is_leap_year, days_in_month, day_of_calendar_date, year_of, month_of, day_of_month_of}
-use Rattle.calendar_values.specs.MonthLaws.{days_in_month_bounds, IsCalendarDate-of, year_of-calendar_date, month_of-calendar_date, day_of_month_of-calendar_date}
+use Rattle.std.proofs.Common.{◌≡◌, ℕ, zero, suc, ◌+◌, ◌-◌, ◌<◌, ◌≤◌, min, inl, inr, refl, ap, ◌∙◌, Bool, arith, ℤ, pos, ◌+ℤ◌}
+use Rattle.std.proofs.lemmas.Bool.{cases_order}
+use Rattle.calendar_values.specs.Calendar.{IsCalendarDate, is_leap_year, days_in_month, days_in_months, day_of_calendar_date, year_of, month_of, day_of_month_of}
+use Rattle.calendar_values.specs.MonthLaws.{days_in_month_bounds, days_in_months-twelve, IsCalendarDate-of, year_of-calendar_date, month_of-calendar_date, day_of_month_of-calendar_date}
 use Rattle.calendar_values.specs.MonthNumbers.{month_number_bounds}
+use Rattle.calendar_values.specs.SignedArith.{signed_arith}
+use Rattle.calendar_values.specs.YearLaws.{year_start-next}
 
 -- the first day of a month is of that year and month
 IsCalendarDate-first : (y : ℤ) (m : ℕ) → 1 ≤ m → m ≤ 12 → IsCalendarDate y m 1
@@ -38,5 +41,68 @@ month_of_bounds n = let date = IsCalendarDate-of n in (date.month_first, date.mo
 pub day_of_month_of_bounds : (n : ℤ) → (1 ≤ day_of_month_of n) × (day_of_month_of n ≤ days_in_month (is_leap_year (year_of n)) (month_of n))
 day_of_month_of_bounds n = let date = IsCalendarDate-of n in (date.day_first, date.day_last)
 
+days_in_months-none : (b : Bool) → days_in_months b 0 ≡ 0
+unfolding days_in_months
+days_in_months-none b = refl
+
+days_in_months-more : (b : Bool) (n : ℕ) → days_in_months b (suc n) ≡ days_in_months b n + days_in_month b (suc n)
+unfolding days_in_months
+days_in_months-more b n = refl
+
+-- the day after the last of a month begins the next month
+next_month : (y : ℤ) (m : ℕ) → 1 ≤ m → day_of_calendar_date y m (days_in_month (is_leap_year y) m) +ℤ pos 1 ≡ day_of_calendar_date y (m + 1) 1
+next_month y zero first = absurd (omega arith)
+next_month y (suc k) first =
+    let before : suc k - 1 ≡ k = omega arith in
+    let after : suc k + 1 - 1 ≡ suc k = omega arith in
+    rw (before, after) (omega (arith, signed_arith, days_in_months-more (is_leap_year y) k))
+
+-- and after December January of the next year
+next_year : (y : ℤ) → day_of_calendar_date y 12 (days_in_month (is_leap_year y) 12) +ℤ pos 1 ≡ day_of_calendar_date (y +ℤ pos 1) 1 1
+next_year y =
+    let b = is_leap_year y in
+    omega (arith, signed_arith, year_start-next y, days_in_months-twelve b, days_in_months-more b 11, days_in_months-none (is_leap_year (y +ℤ pos 1)))
+
+first_of_month : (n last y : ℤ) (m : ℕ) → 1 ≤ m → last ≡ day_of_calendar_date y m (days_in_month (is_leap_year y) m) → n ≡ last +ℤ pos 1 → n ≡ day_of_calendar_date y (m + 1) 1
+first_of_month n last y m first ends next = next ∙ ap (λ (k : ℤ). k +ℤ pos 1) ends ∙ next_month y m first
+
+first_of_year : (n last y : ℤ) (m : ℕ) → m ≡ 12 → last ≡ day_of_calendar_date y m (days_in_month (is_leap_year y) m) → n ≡ last +ℤ pos 1 → n ≡ day_of_calendar_date (y +ℤ pos 1) 1 1
+first_of_year n last y m december ends next =
+    let shown : last ≡ day_of_calendar_date y 12 (days_in_month (is_leap_year y) 12) = ends ∙ ap (λ (k : ℕ). day_of_calendar_date y k (days_in_month (is_leap_year y) k)) december in
+    next ∙ ap (λ (k : ℤ). k +ℤ pos 1) shown ∙ next_year y
+
+-- so after the last day of the month of a day d
+pub day_of_month_of-next_month : (n last d : ℤ) → n ≡ last +ℤ pos 1 → last ≡ day_of_calendar_date (year_of d) (month_of d) (days_in_month (is_leap_year (year_of d)) (month_of d)) → day_of_month_of n ≡ 1
+day_of_month_of-next_month n last d next ends =
+    let y = year_of d in
+    let m = month_of d in
+    let date = IsCalendarDate-of d in
+    elim (cases_order m 12) [
+      | inl december ↦ day_of_month_of-first n (y +ℤ pos 1) 1 (omega arith) (omega arith) (first_of_year n last y m december ends next)
+      | inr (inl before) ↦ day_of_month_of-first n y (m + 1) (omega arith) (omega arith) (first_of_month n last y m date.month_first ends next)
+      | inr (inr after) ↦ absurd (omega arith)
+    ]
+
+pub year_of-next_month : (n last d : ℤ) → n ≡ last +ℤ pos 1 → last ≡ day_of_calendar_date (year_of d) (month_of d) (days_in_month (is_leap_year (year_of d)) (month_of d)) → month_of d < 12 → year_of n ≡ year_of d
+year_of-next_month n last d next ends before =
+    let date = IsCalendarDate-of d in
+    year_of-first n (year_of d) (month_of d + 1) (omega arith) (omega arith) (first_of_month n last (year_of d) (month_of d) date.month_first ends next)
+
+pub month_of-next_month : (n last d : ℤ) → n ≡ last +ℤ pos 1 → last ≡ day_of_calendar_date (year_of d) (month_of d) (days_in_month (is_leap_year (year_of d)) (month_of d)) → month_of d < 12 → month_of n ≡ month_of d + 1
+month_of-next_month n last d next ends before =
+    let date = IsCalendarDate-of d in
+    month_of-first n (year_of d) (month_of d + 1) (omega arith) (omega arith) (first_of_month n last (year_of d) (month_of d) date.month_first ends next)
+
+pub year_of-next_year : (n last d : ℤ) → n ≡ last +ℤ pos 1 → last ≡ day_of_calendar_date (year_of d) (month_of d) (days_in_month (is_leap_year (year_of d)) (month_of d)) → month_of d ≡ 12 → year_of n ≡ year_of d +ℤ pos 1
+year_of-next_year n last d next ends december =
+    year_of-first n (year_of d +ℤ pos 1) 1 (omega arith) (omega arith) (first_of_year n last (year_of d) (month_of d) december ends next)
+
+pub month_of-next_year : (n last d : ℤ) → n ≡ last +ℤ pos 1 → last ≡ day_of_calendar_date (year_of d) (month_of d) (days_in_month (is_leap_year (year_of d)) (month_of d)) → month_of d ≡ 12 → month_of n ≡ 1
+month_of-next_year n last d next ends december =
+    month_of-first n (year_of d +ℤ pos 1) 1 (omega arith) (omega arith) (first_of_year n last (year_of d) (month_of d) december ends next)
+
 -- what callers name
 pub ruleset month_days = (days_in_month_bounds, month_number_bounds, month_of_bounds, year_of-first, month_of-first, day_of_month_of-first, year_of-clamped, month_of-clamped)
+
+-- what callers name who go from a month to the next
+pub ruleset next_months = (year_of-next_month, month_of-next_month, year_of-next_year, month_of-next_year, day_of_month_of-next_month)

@@ -1,4 +1,5 @@
 pub mod InstantLemmas
+pub mod LogLemmas
 pub mod MomentLemmas
 pub mod OrderLemmas
 pub mod ReciprocalLemmas

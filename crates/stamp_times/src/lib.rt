@@ -6,6 +6,7 @@ pub mod calls;
 pub mod chains;
 pub mod constants;
 pub mod laws;
+pub mod logs;
 pub mod moment;
 pub mod reciprocal;
 pub mod runs;

@@ -1,15 +1,25 @@
 //! Callers of the library, as its readers would write them: each with a contract in the words of the
 //! definitions, and none with a proof of its own.
-#![tactic(auto, using(calendar_values::specs::Constants::constants))]
+#![tactic(auto, using(calendar_values::specs::Constants::constants, offset_times::specs::InstantLemmas::instants))]
 
+pub mod audit;
+pub mod batches;
+pub mod billing;
 pub mod constants;
+pub mod daily;
 pub mod exchange;
 pub mod expiry;
 pub mod invoices;
 pub mod log;
 pub mod meeting;
 pub mod midnight;
+pub mod milliseconds;
 pub mod moments;
+pub mod offsets;
+pub mod periods;
+pub mod replays;
+pub mod reports;
 pub mod retry;
 #[cfg(test)]
 mod tests;
+pub mod timeouts;

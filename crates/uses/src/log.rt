@@ -1,9 +1,10 @@
 //! A log in the order of instants.
-ghost use Rattle.std.specs.Prelude.{◌≡◌, ◌++◌, [], ◌∷◌, IfOk, IfSome, IsPermutation, IsSorted, OnOk, if◌then◌else◌};
+ghost use Rattle.std.specs.Prelude.{◌≡◌, ◌↔◌, ◌++◌, [], ◌∷◌, Contains, IfOk, IfSome, IsPermutation, IsSorted, IsTrue, OnOk, if◌then◌else◌};
 ghost use Rattle.std.specs.List.{HoldsAt};
 ghost use Rattle.std.specs.Ordering.{int_cmp};
 ghost use Rattle.std.specs.declared.cmp.Ordering.TheVariants.{Equal};
 
+use stamp_times::{Timestamp, logs};
 use std::alloc::AllocError;
 use utc_times::UtcDateTime;
 
@@ -32,4 +33,12 @@ pub fn accept(entries: &mut Vec<UtcDateTime>, at: UtcDateTime) -> Result<bool, A
     }
     entries.push(at)?;
     Ok(true)
+}
+
+/// Whether an entry of that instant is in a sorted log.
+pub fn has(entries: &[Timestamp], at: Timestamp) -> bool
+    requires { IsSorted int_cmp entries.now }
+    ensures { IsTrue result ↔ Contains entries.now at }
+{
+    logs::find(entries, at).is_some()
 }

@@ -9,7 +9,7 @@ ghost use Rattle.plain_times.specs.Truncations.{rounded_down};
 
 use calendar_values::{SignedDuration, Text, Time, UtcOffset};
 use offset_times::{OffsetDateTime, ToOffset};
-use stamp_times::{Call, Moment, Replace, Reply, Timestamp, run_both};
+use stamp_times::{Call, Moment, Replace, Reply, Shift, Timestamp, run_both};
 use std::alloc::{AllocError, Global};
 use utc_times::UtcDateTime;
 
@@ -21,6 +21,13 @@ pub fn first_of_day<M: Moment>(at: M) -> M
         Ok(midnight) => midnight,
         Err(_) => at,
     }
+}
+
+/// The same time of day tomorrow, for any type that holds an instant. None outside the range.
+pub fn tomorrow<M: Moment>(at: M) -> Option<M>
+    ensures { IfSome result (λ later. M.instant later ≡ M.instant at +ℤ pos nanos_per_day) }
+{
+    at.shift(Shift::CheckedAdd(SignedDuration::days(1)))
 }
 
 /// The next midnight that clocks at the offset show, or None where they show no date of the range now or then.

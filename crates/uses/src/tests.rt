@@ -1,7 +1,12 @@
-use crate::{constants, exchange, expiry, invoices, log, meeting, midnight, moments, retry};
-use calendar_values::{ComponentRange, Date, Month, Time, UtcOffset};
+use crate::audit::Audit;
+use crate::periods::Period;
+use crate::{
+    audit, batches, billing, constants, daily, exchange, expiry, invoices, log, meeting, midnight,
+    milliseconds, moments, offsets, periods, replays, reports, retry, timeouts,
+};
+use calendar_values::{ComponentRange, Date, Month, SignedDuration, Time, UtcOffset};
 use offset_times::OffsetDateTime;
-use stamp_times::{Call, ClockRead, Timestamp};
+use stamp_times::{Call, ClockRead, Held, Step, Timestamp};
 use std::cmp::Ordering;
 use std::test::Fail;
 use utc_times::UtcDateTime;
@@ -74,5 +79,136 @@ fn texts_are_exchanged(rt: HostRuntime) -> Result<(), Fail> {
     let mut texts = [second.as_bytes(), first.as_bytes()].to_vec(rt.alloc())?;
     exchange::sort(&mut texts)?;
     assert!(rt; texts[0] == first.as_bytes());
+    Ok(())
+}
+
+// The instant of a Unix second, as clocks so many hours ahead of UTC show it.
+fn local(second: i64, hours: i8) -> Result<OffsetDateTime, Fail> {
+    let offset = UtcOffset::from_hms(hours, 0, 0)?;
+    let shown = OffsetDateTime::from_unix_timestamp(second)?.checked_to_offset(offset);
+    Ok(shown.ok_or("no date of the range")?)
+}
+
+#[test]
+fn callers_at_offsets_are_called(rt: HostRuntime) -> Result<(), Fail> {
+    assert!(rt; offsets::is_before(local(0, 1)?, local(1, -5)?));
+    assert!(rt; offsets::is_same(local(0, 1)?, local(0, -5)?));
+    assert_eq!(rt; offsets::earlier(local(9, 1)?, local(8, -5)?), local(8, 0)?);
+    assert_eq!(rt;
+        offsets::apart(local(0, 1)?, local(7, -5)?),
+        SignedDuration::seconds(7)
+    );
+    let shown = offsets::shown_like(local(0, 1)?, local(0, -5)?).ok_or("shown")?;
+    assert_eq!(rt; shown.date_time().time(), Time::from_hms(1, 0, 0)?);
+
+    Ok(())
+}
+
+#[test]
+fn periods_and_timeouts_are_called(rt: HostRuntime) -> Result<(), Fail> {
+    let period = Period {
+        from: local(0, 1)?,
+        until: local(10, -5)?,
+    };
+    assert!(rt; periods::is_in(period, local(9, 3)?));
+    assert!(rt; !periods::is_in(period, local(10, 3)?));
+    assert!(rt; periods::overlap(period, period));
+
+    let limit = SignedDuration::seconds(5);
+    assert!(rt; timeouts::has_timed_out(local(0, 1)?, limit, local(5, 2)?));
+    assert_eq!(rt; timeouts::remaining(local(0, 1)?, local(5, 3)?), limit);
+    assert_eq!(rt;
+        timeouts::remaining(local(6, 1)?, local(5, 3)?),
+        SignedDuration::ZERO
+    );
+    assert_eq!(rt; timeouts::extended(local(0, 1)?, limit), Some(local(5, 1)?));
+    Ok(())
+}
+
+#[test]
+fn plans_of_days_and_months_are_called(rt: HostRuntime) -> Result<(), Fail> {
+    assert_eq!(rt; daily::run_today(local(0, 1)?), Some(local(28_800, 1)?));
+    assert_eq!(rt; daily::run_today(local(28_800, 1)?), None);
+    assert_eq!(rt;
+        daily::run_after(local(28_800, 1)?),
+        Some(local(115_200, 1)?)
+    );
+    assert_eq!(rt;
+        billing::period_start(local(1_709_164_800, 1)?),
+        Ok(local(1_706_742_000, 1)?)
+    );
+    Ok(())
+}
+
+#[test]
+fn billing_is_called(rt: HostRuntime) -> Result<(), Fail> {
+    let december = Date::from_calendar_date(2023, Month::December, 15)?;
+    assert_eq!(rt;
+        billing::next_period(december),
+        Some(Date::from_calendar_date(2024, Month::January, 1)?)
+    );
+    assert_eq!(rt; billing::next_period(Date::MAX), None);
+    assert_eq!(rt;
+        billing::first_day(2024, Month::February),
+        Date::from_calendar_date(2024, Month::February, 1)
+    );
+    assert_eq!(rt;
+        billing::due_day(2024, Month::February, 31),
+        Date::from_calendar_date(2024, Month::February, 29)
+    );
+
+    Ok(())
+}
+
+#[test]
+fn records_at_offsets_are_called(rt: HostRuntime) -> Result<(), Fail> {
+    let ahead = UtcOffset::from_hms(1, 0, 0)?;
+    let shown = milliseconds::at_offset(-1, ahead).ok_or("shown")?;
+    assert_eq!(rt; milliseconds::milliseconds_of(shown), Some(-1));
+    let earlier = Audit {
+        user: 7,
+        at: local(0, 1)?,
+    };
+    let later = Audit {
+        user: 8,
+        at: local(1, -5)?,
+    };
+    assert!(rt; audit::comes_before(&earlier, &later));
+    assert_eq!(rt; audit::shown_at(later, ahead).ok_or("shown")?.user, 8);
+    Ok(())
+}
+
+#[test]
+fn callers_of_lists_are_called(rt: HostRuntime) -> Result<(), Fail> {
+    let alloc = rt.alloc();
+    let epoch = Timestamp::UNIX_EPOCH;
+    let all = batches::imported(alloc, &[0, 60])?;
+    assert_eq!(rt; all.map(|stamps| stamps.len()), Ok(2));
+    let refused = batches::imported(alloc, &[0, i64::MAX])?;
+    assert_eq!(rt; refused.map(|stamps| stamps.len()), Err(1));
+
+    assert_eq!(rt; replays::steps_made(Held::Stamp(epoch), &[Step::ToUtc]), 1);
+    let ahead = UtcOffset::from_hms(1, 0, 0)?;
+    assert_eq!(rt; replays::by_way_of_utc(epoch, ahead), Some(local(0, 1)?));
+    let replies = replays::replies_to(alloc, epoch, &[Call::ReadClock(ClockRead::Hour)])?;
+    assert_eq!(rt; replies.len(), 1);
+
+    Ok(())
+}
+
+#[test]
+fn callers_of_timestamps_are_called(rt: HostRuntime) -> Result<(), Fail> {
+    let epoch = Timestamp::UNIX_EPOCH;
+    assert_eq!(rt; retry::next_attempt(epoch, 3), Timestamp::from_seconds(3)?);
+    assert_eq!(rt;
+        retry::next_attempt(epoch, 99),
+        Timestamp::from_seconds(60)?
+    );
+    assert_eq!(rt;
+        moments::tomorrow(epoch),
+        Some(Timestamp::from_seconds(86_400)?)
+    );
+    assert!(rt; log::has(&[epoch], epoch));
+    assert_eq!(rt; reports::hour_of(utc(3_700)?), utc(3_600)?);
     Ok(())
 }

@@ -1,4 +1,3 @@
-pub mod LogLemmas
 pub mod Texts
 pub mod UnixTime
 pub mod UnixTimeLemmas

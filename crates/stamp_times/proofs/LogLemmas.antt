@@ -1,9 +1,8 @@
--- What callers name who keep a log in the order of its instants.
+-- What a search of a log in the order of its instants finds.
 use Rattle.std.proofs.Common.{◌≡◌, ◌<◌, ℕ, inl, inr, ap, ◌∙◌, arith, ℤ, int_cmp, List, slice_index_or}
 use Rattle.std.proofs.lemmas.Bool.{cases_order}
 use Rattle.std.proofs.lemmas.Cmp.{int_cmp_total}
 use Rattle.std.proofs.lemmas.Int.{ints}
-use Rattle.std.proofs.lemmas.List.Kept.{IsSortedBy-push}
 use Rattle.std.proofs.lemmas.List.Sorted.{searchable_from_sorted}
 use Rattle.std.specs.List.{Contains}
 use Rattle.std.specs.List.Sorted.{IsSorted, IsNonDecreasingBy, IsPartitionPoint}
@@ -12,6 +11,9 @@ use Rattle.std.specs.declared.cmp.Ordering.TheVariants.{Less, Equal, Greater}
 
 int_cmp-same : (x : ℤ) → int_cmp x x ≡ Equal
 int_cmp-same x = grind (arith, ints)
+
+pub equal-int_cmp : (x y : ℤ) → int_cmp x y ≡ Equal → x ≡ y
+equal-int_cmp x y e = grind (arith, ints)
 
 -- what a search of a sorted log does not find is not in it
 pub not_Contains-searched : (xs : List ℤ) (x : ℤ) (i : ℕ) → IsSorted int_cmp xs
@@ -26,5 +28,3 @@ not_Contains-searched xs x i sorted searched found =
       | inr (inl lt) ↦ (let before : int_cmp (slice_index_or xs k x) x ≡ Less = parts.0 k x (omega arith) lt in cc)
       | inr (inr gt) ↦ (let after : int_cmp (slice_index_or xs k x) x ≡ Greater = parts.1 k x (omega arith) found.1 in cc)
     ]
-
-pub ruleset logs = (not_Contains-searched, IsSortedBy-push)

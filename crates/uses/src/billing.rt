@@ -1,0 +1,50 @@
+//! Months that are billed, by the clocks of the customer.
+#![tactic(auto, using(calendar_values::specs::Constants::constants, plain_times::specs::MonthLemmas::month_days))]
+
+ghost use Rattle.std.specs.Prelude.{◌≡◌, ◌≤◌, IfOk, SomeIff};
+ghost use Rattle.calendar_values.specs.Calendar.{year_of, month_of, day_of_month_of};
+ghost use Rattle.calendar_values.specs.Month.{month_number};
+ghost use Rattle.calendar_values.specs.Range.{IsDay};
+ghost use Rattle.calendar_values.specs.WallClock.{wall_day, wall_time};
+ghost use Rattle.uses.specs.Months as months;
+
+use crate::invoices::{day_or_last, last_day_of_month};
+use calendar_values::{ComponentRange, Date, Month, Time};
+use offset_times::OffsetDateTime;
+
+/// The midnight with which the month begins where the customer is.
+pub fn period_start(at: OffsetDateTime) -> Result<OffsetDateTime, ComponentRange>
+    ensures offset { IfOk result (λ start. start.offset ≡ at.offset) }
+    ensures midnight { IfOk result (λ start. wall_time start.wall ≡ 0) }
+    ensures first { IfOk result (λ start. day_of_month_of (wall_day start.wall) ≡ 1) }
+    ensures month { IfOk result (λ start. month_of (wall_day start.wall) ≡ month_of (wall_day at.wall)) }
+    ensures year { IfOk result (λ start. year_of (wall_day start.wall) ≡ year_of (wall_day at.wall)) }
+{
+    Ok(at.replace_day(1)?.replace_time(Time::MIDNIGHT))
+}
+
+/// The first day of a month. Refused `year` outside the range.
+pub fn first_day(year: i32, month: Month) -> Result<Date, ComponentRange>
+    ensures day { IfOk result (λ first. day_of_month_of first ≡ 1) }
+    ensures month { IfOk result (λ first. month_of first ≡ month_number month) }
+    ensures year { IfOk result (λ first. year_of first ≡ year) }
+{
+    Date::from_calendar_date(year, month, 1)
+}
+
+/// The day of a month on which a bill is due: the month's last where it is shorter. Refused `year` outside
+/// the range.
+pub fn due_day(year: i32, month: Month, day: u8) -> Result<Date, ComponentRange>
+    requires { 1 ≤ day }
+    ensures month { IfOk result (λ due. month_of due ≡ month_number month) }
+    ensures year { IfOk result (λ due. year_of due ≡ year) }
+{
+    day_or_last(year, month, day)
+}
+
+/// The first day of the month after that of the date. None in the last month of the range.
+pub fn next_period(date: Date) -> Option<Date>
+    ensures { let first = months.first_of_next_month date in SomeIff result (IsDay first) first }
+{
+    last_day_of_month(date).next_day()
+}

@@ -1,0 +1,32 @@
+//! Work that is done each day at 9:00.
+#![tactic(auto, using(calendar_values::specs::Constants::constants, plain_times::specs::MidnightLemmas::days_later))]
+
+ghost use Rattle.std.specs.Prelude.{◌≡◌, ◌*◌, ◌+ℤ◌, ◌<ℤ◌, pos, IfSome};
+ghost use Rattle.calendar_values.specs.Clock.{nanos_per_day, nanos_per_hour};
+ghost use Rattle.calendar_values.specs.WallClock.{wall_time};
+ghost use Rattle.offset_times.specs.Local.{instant_of};
+
+use calendar_values::{SignedDuration, Time};
+use offset_times::OffsetDateTime;
+
+/// The run of today, at 9:00 by the same clocks. None where it is not still to come.
+pub fn run_today(now: OffsetDateTime) -> Option<OffsetDateTime>
+    ensures offset { IfSome result (λ run. run.offset ≡ now.offset) }
+    ensures at_nine { IfSome result (λ run. wall_time run.wall ≡ 9 * nanos_per_hour) }
+    ensures to_come { IfSome result (λ run. instant_of now <ℤ instant_of run) }
+{
+    let today = now.replace_time(Time::from_hms(9, 0, 0).ok()?);
+    if now < today {
+        return Some(today);
+    }
+    None
+}
+
+/// The run after a run: the same time tomorrow, by the same clocks. None outside the range.
+pub fn run_after(run: OffsetDateTime) -> Option<OffsetDateTime>
+    ensures offset { IfSome result (λ next. next.offset ≡ run.offset) }
+    ensures time { IfSome result (λ next. wall_time next.wall ≡ wall_time run.wall) }
+    ensures instant { IfSome result (λ next. instant_of next ≡ instant_of run +ℤ pos nanos_per_day) }
+{
+    Some(run.checked_add(SignedDuration::days(1))?)
+}

@@ -1,0 +1,48 @@
+//! Conversions and calls that come as lists.
+ghost use Rattle.std.specs.Prelude.{◌≡◌, ◌≤◌, IfOk, IfSome, length, vec_len};
+ghost use Rattle.offset_times.specs.Local.{instant_of};
+ghost use Rattle.stamp_times.specs.Travel.{held_instant};
+
+use calendar_values::UtcOffset;
+use offset_times::OffsetDateTime;
+use stamp_times::{Call, Held, Reply, Step, Timestamp, chain, run};
+use std::alloc::{AllocError, Global};
+
+/// What the steps give, or what was held where they stopped: the same instant.
+pub fn converted(start: Held, steps: &[Step]) -> Held
+    ensures { held_instant result ≡ held_instant start }
+{
+    match chain(start, steps) {
+        Ok(held) => held,
+        Err(stopped) => stopped.held,
+    }
+}
+
+/// How many of the steps were made.
+pub fn steps_made(start: Held, steps: &[Step]) -> usize
+    ensures { result ≤ length steps.now }
+{
+    match chain(start, steps) {
+        Ok(_) => steps.len(),
+        Err(stopped) => stopped.index,
+    }
+}
+
+/// What clocks at the offset show, by way of UTC. None where they show no date of the range.
+pub fn by_way_of_utc(stamp: Timestamp, offset: UtcOffset) -> Option<OffsetDateTime>
+    ensures { IfSome result (λ shown. instant_of shown ≡ stamp) }
+{
+    let held = chain(Held::Stamp(stamp), &[Step::ToUtc, Step::ToOffset(offset)]).ok()?;
+    match held {
+        Held::Offset(shown) => Some(shown),
+        _ => None,
+    }
+}
+
+/// The replies to the calls, one to each.
+pub fn replies_to(alloc: Global, start: Timestamp, calls: &[Call]) -> Result<Vec<Reply>, AllocError>
+    ensures { IfOk result (λ replies. vec_len replies ≡ length calls.now) }
+{
+    let (replies, _) = run(alloc, start, calls)?;
+    Ok(replies)
+}
