@@ -147,11 +147,6 @@ mod tests {
             let month = Month::from_number(number)?;
             assert_eq!(rt; month.text().as_str(), name);
         }
-        let may = Month::May;
-        assert_eq!(rt;
-            format!(in rt.alloc(); "{may} {may:?}{may:*^8}")?.as_str(),
-            "May May**May***"
-        );
         Ok(())
     }
 }

@@ -1,4 +1,4 @@
-use crate::{ComponentRange, Date, Month, SignedDuration, Weekday};
+use crate::{ComponentRange, Date, Month, SignedDuration};
 use std::hash::{DefaultHasher, Hash, Hasher};
 use std::test::Fail;
 use std::time::Duration;
@@ -111,17 +111,12 @@ fn weeks_are_those_of_another_calendar(rt: HostRuntime) -> Result<(), Fail> {
 
 #[test]
 fn constants_are_the_days_of_their_names(rt: HostRuntime) {
-    for (constant, year, month, day, julian_day, weekday) in [
-        (Date::MIN, -999_999, 1, 1, -363_521_074, Weekday::Monday),
-        (Date::MAX, 999_999, 12, 31, 366_963_559, Weekday::Friday),
-        (Date::UNIX_EPOCH, 1970, 1, 1, 2_440_588, Weekday::Thursday),
+    for (constant, year, month, day) in [
+        (Date::MIN, -999_999, 1, 1),
+        (Date::MAX, 999_999, 12, 31),
+        (Date::UNIX_EPOCH, 1970, 1, 1),
     ] {
         assert_eq!(rt; date(year, month, day), Ok(constant));
-        assert_eq!(rt; Date::from_julian_day(julian_day), Ok(constant));
-        assert_eq!(rt;
-            (constant.to_julian_day(), constant.weekday()),
-            (julian_day, weekday)
-        );
     }
 }
 
