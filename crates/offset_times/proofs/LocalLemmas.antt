@@ -1,5 +1,5 @@
 -- Wall clocks at offsets, and their instants.
-use Rattle.std.proofs.Common.{◌≡◌, ℕ, sym, ap, ◌∙◌, arith, ℤ, pos, ◌+ℤ◌, ◌-ℤ◌}
+use Rattle.std.proofs.Common.{◌≡◌, ℕ, sym, ap, ◌∙◌, arith, ℤ, ◌+ℤ◌, ◌-ℤ◌}
 use Rattle.std.proofs.lemmas.Int.{ints}
 use Rattle.calendar_values.specs.Calendar.{day_of_ordinal_date, IsOrdinalDate}
 use Rattle.calendar_values.specs.Clock.{IsClock}

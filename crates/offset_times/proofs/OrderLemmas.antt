@@ -1,5 +1,5 @@
 -- The order of instants, by dates that lie far apart, by wall clocks at one offset, and by packed parts.
-use Rattle.std.proofs.Common.{◌≡◌, ℕ, ◌∙◌, arith, ℤ, pos, ◌+ℤ◌, ◌-ℤ◌, ◌*ℤ◌, ◌<ℤ◌, int_cmp}
+use Rattle.std.proofs.Common.{◌≡◌, ℕ, arith, ℤ, pos, ◌+ℤ◌, ◌-ℤ◌, ◌*ℤ◌, ◌<ℤ◌, int_cmp}
 use Rattle.std.proofs.lemmas.Int.{ints, by_lt_z}
 use Rattle.calendar_values.specs.Calendar.{year_of, ordinal_of, day_of_ordinal_date, IsOrdinalDate}
 use Rattle.calendar_values.specs.Clock.{IsClock}

@@ -36,6 +36,9 @@ impl ToOffset for UtcDateTime {
     }
 
     fn checked_to_offset(self, offset: UtcOffset) -> Option<OffsetDateTime> {
+        if offset.is_utc() {
+            return Some(OffsetDateTime::from(self));
+        }
         let (year, ordinal, time) = utc_to_offset_raw(self, offset);
         Some(in_range(year, ordinal, time)?.assume_offset(offset))
     }
