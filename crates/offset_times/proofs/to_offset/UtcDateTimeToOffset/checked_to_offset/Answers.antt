@@ -16,9 +16,10 @@ returns-then-is_utc-clause-value c =
     let utc : c.args.offset ≡ pos 0 = search rules in
     let in_range : IsWallClock instant = search rules in
     let shown = shown_at-utc instant c.args.offset utc in
-    let made : c.from.result ≡ local instant (pos 0) = c.from.ensures.0 in
-    (subst (λ (w : ℤ). IsWallClock w) (sym shown) in_range,
-    made ∙ ap (λ (w : ℤ). local w (pos 0)) (sym shown) ∙ ap (λ (o : ℤ). local (shown_at instant c.args.offset) o) (sym utc))
+    let made : c.from.result ≡ local instant (pos 0) = c.from.ensures.0 in (
+      subst (λ (w : ℤ). IsWallClock w) (sym shown) in_range,
+      made ∙ ap (λ (w : ℤ). local w (pos 0)) (sym shown) ∙ ap (λ (o : ℤ). local (shown_at instant c.args.offset) o) (sym utc),
+    )
 
 pub returns-in_err-in_range-clause-value : goal.returns-in_err-in_range-clause-value
 returns-in_err-in_range-clause-value c =
