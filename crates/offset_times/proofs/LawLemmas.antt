@@ -1,6 +1,5 @@
 -- Conversions, sums and truncations at an offset, by what their calls answer.
 use Rattle.std.proofs.Common.{◌≡◌, ℕ, ◌<◌, ap, sym, ◌∙◌, subst, arith, ℤ, ◌+ℤ◌, ◌-ℤ◌, Option, Some, None, SomeIff}
-use Rattle.std.specs.Prelude.{IsSomeAnd}
 use Rattle.std.proofs.lemmas.Int.{ints}
 use Rattle.calendar_values.specs.WallClock.{IsWallClock}
 use Rattle.offset_times.specs.InstantLemmas.{instant_of-local_at, shown_at-instant_of, local_at-instant_of}
@@ -50,14 +49,12 @@ difference_there a b = omega (arith, ints)
 
 pub difference-leads_back : (a b : Local) (sum : Option Local) → IsWallClock (shown_at (instant_of a) b.offset)
     → (let wall = b.wall +ℤ (instant_of a -ℤ instant_of b) in SomeIff sum (IsWallClock wall) (local wall b.offset))
-    → IsSomeAnd sum (λ c. instant_of c ≡ instant_of a)
+    → sum ≡ Some (local_at (instant_of a) b.offset)
 difference-leads_back a b sum in_range answer =
     let there = difference_there a b in
     let wall = b.wall +ℤ (instant_of a -ℤ instant_of b) in
-    let some = answered sum (local wall b.offset) answer (subst (λ (w : ℤ). IsWallClock w) (sym there) in_range) in
-    let kept : instant_of (local wall b.offset) ≡ instant_of a =
-    ap (λ (w : ℤ). instant_of (local w b.offset)) there ∙ instant_of-local_at (instant_of a) b.offset in
-    subst (λ (r : Option Local). IsSomeAnd r (λ c. instant_of c ≡ instant_of a)) (sym some) kept
+    answered sum (local wall b.offset) answer (subst (λ (w : ℤ). IsWallClock w) (sym there) in_range)
+    ∙ ap (λ (w : ℤ). Some (local w b.offset)) there
 
 pub truncated-truncated : (unit : ℕ) (at : Local) → 0 < unit → truncated unit (truncated unit at) ≡ truncated unit at
 truncated-truncated unit at some = ap (λ (w : ℤ). local w at.offset) (rounded_down-twice unit at.wall some)

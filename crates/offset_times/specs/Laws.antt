@@ -1,5 +1,5 @@
 -- What shows that conversions, sums and truncations are what their names say: laws of all wall clocks, offsets and durations, each proved by a function of `src/laws.rt`.
-use Rattle.std.specs.Prelude.{◌≡◌, ℕ, ◌<◌, ℤ, ◌+ℤ◌, ◌-ℤ◌, Option, Some, SomeIff, IsSomeAnd}
+use Rattle.std.specs.Prelude.{◌≡◌, ℕ, ◌<◌, ℤ, ◌+ℤ◌, ◌-ℤ◌, Option, Some, SomeIff}
 use Rattle.calendar_values.specs.WallClock.{IsWallClock}
 use Rattle.offset_times.specs.Local.{Local, instant_of, shown_at, local, local_at, truncated}
 
@@ -23,11 +23,12 @@ DifferencesUndoSums = (at sum : Local) (d : ℤ) (back : Option Local) → IsWal
     → SomeIff back (IsWallClock (sum.wall -ℤ d)) (local (sum.wall -ℤ d) sum.offset)
     → back ≡ Some at
 
--- the difference of two values leads from the second to the instant of the first, where clocks at the offset of the second show it
-abbrev pub DifferencesLeadBack : Type 0
-DifferencesLeadBack = (a b : Local) (sum : Option Local) → IsWallClock (shown_at (instant_of a) b.offset)
-    → (let wall = b.wall +ℤ (instant_of a -ℤ instant_of b) in SomeIff sum (IsWallClock wall) (local wall b.offset))
-    → IsSomeAnd sum (λ c. instant_of c ≡ instant_of a)
+-- the difference of two values leads from the second to the instant of the first, at the offset of the second, where clocks there show it
+pub record DifferencesLeadBack : Type 0 where
+  pub sum : (a b : Local) (sum : Option Local) → IsWallClock (shown_at (instant_of a) b.offset)
+      → (let wall = b.wall +ℤ (instant_of a -ℤ instant_of b) in SomeIff sum (IsWallClock wall) (local wall b.offset))
+      → sum ≡ Some (local_at (instant_of a) b.offset)
+  pub instant : (a b : Local) → instant_of (local_at (instant_of a) b.offset) ≡ instant_of a
 
 -- truncating twice to a unit is truncating once
 abbrev pub TruncationsRoundDownOnce : Type 0
