@@ -189,27 +189,3 @@ impl PartialEq for ComponentRange {
 impl Eq for ComponentRange {
     ghost laws = { Prim.search (comparing, rules) };
 }
-
-#[cfg(test)]
-mod tests {
-    use super::*;
-    use std::test::Fail;
-
-    #[test]
-    fn refusals_are_shown_by_their_names(rt: HostRuntime) -> Result<(), Fail> {
-        let (day, ordinal) = (
-            ComponentRange::new("day", false),
-            ComponentRange::new("ordinal", true),
-        );
-        assert_eq!(rt;
-            (ordinal.name(), ordinal.is_conditional()),
-            ("ordinal", true)
-        );
-        assert_ne!(rt; ordinal, ComponentRange::new("ordinal", false));
-        assert_eq!(rt;
-            format!(in rt.alloc(); "{ordinal};{day:>22}")?.as_str(),
-            "ordinal is out of range given the other parts;   day is out of range"
-        );
-        Ok(())
-    }
-}

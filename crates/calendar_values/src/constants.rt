@@ -43,18 +43,3 @@ pub fn durations() -> (SignedDuration, SignedDuration, SignedDuration)
         SignedDuration::MAX,
     )
 }
-
-#[cfg(test)]
-mod tests {
-    use super::*;
-
-    #[test]
-    fn functions_give_the_constants(rt: HostRuntime) {
-        assert_eq!(rt; dates(), (Date::MIN, Date::MAX, Date::UNIX_EPOCH));
-        assert_eq!(rt; times(), (Time::MIDNIGHT, Time::MAX));
-        assert_eq!(rt;
-            (offsets(), durations().0),
-            (UtcOffset::UTC, SignedDuration::ZERO)
-        );
-    }
-}

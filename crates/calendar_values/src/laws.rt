@@ -44,18 +44,3 @@ pub fn clock_replacements_keep_the_rest()
 pub fn truncation_is_greatest_multiple()
     ensures { TruncationIsGreatestMultiple }
 {}
-
-#[cfg(test)]
-mod tests {
-    #[test]
-    fn laws_can_be_called(_rt: HostRuntime) {
-        super::years_follow();
-        super::year_is_unique();
-        super::calendar_dates_are_days();
-        super::ordinal_dates_are_days();
-        super::range_is_whole_years();
-        super::replacements_keep_the_rest();
-        super::clock_replacements_keep_the_rest();
-        super::truncation_is_greatest_multiple();
-    }
-}

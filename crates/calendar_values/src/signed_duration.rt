@@ -240,6 +240,3 @@ impl Sub for SignedDuration {
         }
     }
 }
-
-#[cfg(test)]
-mod tests;

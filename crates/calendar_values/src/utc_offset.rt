@@ -220,6 +220,3 @@ impl fmt::Debug for UtcOffset {
         fmt::Debug::fmt(&self.text(), f)
     }
 }
-
-#[cfg(test)]
-mod tests;

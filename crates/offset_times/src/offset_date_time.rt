@@ -117,6 +117,3 @@ impl From<UtcDateTime> for OffsetDateTime {
         OffsetDateTime::new_utc(at.date(), at.time())
     }
 }
-
-#[cfg(test)]
-mod tests;

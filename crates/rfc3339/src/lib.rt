@@ -15,6 +15,3 @@ pub use parts::Parts;
 pub use refusal::{Component, TextRefusal};
 pub use texts::Rfc3339;
 pub use write_fixed::to_rfc3339_nanos;
-
-#[cfg(test)]
-mod tests;

@@ -70,6 +70,3 @@ fn at_offset(held: Held, offset: UtcOffset) -> Option<OffsetDateTime>
         Held::Offset(at) => at.checked_to_offset(offset),
     }
 }
-
-#[cfg(test)]
-mod tests;

@@ -109,6 +109,3 @@ fn unshifted(years: u32) -> i32
 {
     years as i32 - YEAR_SHIFT
 }
-
-#[cfg(test)]
-mod tests;

@@ -102,6 +102,3 @@ pub(crate) fn put_in_room<T: Copy>(items: &mut Vec<T>, item: T)
         Err(_) => unreachable!(),
     }
 }
-
-#[cfg(test)]
-mod tests;

@@ -196,6 +196,3 @@ impl Timestamp {
         self.seconds as i128 * 1_000_000_000 + self.nanosecond as i128
     }
 }
-
-#[cfg(test)]
-mod tests;

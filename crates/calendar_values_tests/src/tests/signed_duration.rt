@@ -1,4 +1,6 @@
-use crate::SignedDuration;
+//! Durations and their parts.
+use super::is;
+use calendar_values::SignedDuration;
 
 #[test]
 fn parts_have_one_sign(rt: HostRuntime) {
@@ -28,11 +30,12 @@ fn parts_have_one_sign(rt: HostRuntime) {
         (SignedDuration::MAX, i64::MAX, 999_999_999, most_days),
     ] {
         let parts = (duration.whole_seconds(), duration.subsec_nanoseconds());
-        assert_eq!(rt;
+        is(
+            &rt,
             (parts, duration.whole_days()),
-            ((seconds, nanoseconds), days)
+            ((seconds, nanoseconds), days),
         );
-        assert_eq!(rt; duration.is_negative(), seconds < 0 || nanoseconds < 0);
+        is(&rt, duration.is_negative(), seconds < 0 || nanoseconds < 0);
     }
 }
 
@@ -49,11 +52,15 @@ fn sums_and_differences_carry(rt: HostRuntime) {
         (greatest + least, SignedDuration::seconds(-1)),
         (greatest - greatest, SignedDuration::ZERO),
     ] {
-        assert_eq!(rt; got, wanted);
+        is(&rt, got, wanted);
     }
     // The seconds alone, 0 less -2^63, do not fit.
     let least_seconds = SignedDuration::seconds(i64::MIN);
-    assert_eq!(rt; SignedDuration::nanoseconds(-1) - least_seconds, greatest);
+    is(
+        &rt,
+        SignedDuration::nanoseconds(-1) - least_seconds,
+        greatest,
+    );
 }
 
 #[test]
@@ -68,5 +75,5 @@ fn order_is_that_of_the_nanoseconds(rt: HostRuntime) {
     ] {
         assert!(rt; smaller < larger && larger > smaller && smaller != larger);
     }
-    assert_eq!(rt; SignedDuration::hours(24), SignedDuration::days(1));
+    is(&rt, SignedDuration::hours(24), SignedDuration::days(1));
 }

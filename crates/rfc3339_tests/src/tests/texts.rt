@@ -1,13 +1,12 @@
 //! Texts with what they say: the examples of RFC 3339, both ends, each refusal, and every byte at every place. What is
 //! expected is of Python's `re` and `datetime` (`tools/rfc3339.py`).
-use crate::{Component, Rfc3339, TextRefusal, parse_rfc3339, to_rfc3339_nanos};
+use super::is;
 use calendar_values::{Date, Month, Text, Time, UtcOffset};
 use offset_times::OffsetDateTime;
+use rfc3339::{Component, Rfc3339, TextRefusal, parse_rfc3339, to_rfc3339_nanos};
 use stamp_times::Timestamp;
 use std::test::Fail;
 use utc_times::UtcDateTime;
-
-mod places;
 
 // Whether this text was written.
 fn is_text(written: Option<Text>, expected: &str) -> bool {
@@ -79,21 +78,17 @@ fn texts_that_are_read(rt: HostRuntime) -> Result<(), Fail> {
         let at = parse_rfc3339(text.as_bytes())?;
         let second = at.unix_timestamp();
         let numbers = (second, at.nanosecond(), at.offset().whole_seconds());
-        assert_eq!(rt; numbers, expected, "{text}");
+        is(&rt, numbers, expected);
         assert!(rt; is_text(at.to_rfc3339(), rewritten), "{text}");
         let in_utc = UtcDateTime::from_rfc3339(text.as_bytes())?;
-        assert_eq!(rt;
+        is(
+            &rt,
             (in_utc.unix_timestamp(), in_utc.nanosecond()),
             (second, expected.1),
-            "{text}"
         );
         let stamp = Timestamp::from_rfc3339(text.as_bytes())?;
-        assert_eq!(rt; stamp, Timestamp::new(expected.0, expected.1)?, "{text}");
-        assert_eq!(rt;
-            OffsetDateTime::from_rfc3339(text.as_bytes()),
-            Ok(at),
-            "{text}"
-        );
+        is(&rt, stamp, Timestamp::new(expected.0, expected.1)?);
+        is(&rt, OffsetDateTime::from_rfc3339(text.as_bytes()), Ok(at));
     }
     Ok(())
 }
@@ -117,11 +112,11 @@ fn texts_that_are_refused(rt: HostRuntime) -> Result<(), Fail> {
         ("2023-12-31T23:59:59+23:60", Component::OffsetMinute),
     ] {
         let refusal = Some(TextRefusal::OutOfRange(component));
-        assert_eq!(rt; parse_rfc3339(text.as_bytes()).err(), refusal, "{text}");
-        assert_eq!(rt;
+        is(&rt, parse_rfc3339(text.as_bytes()).err(), refusal);
+        is(
+            &rt,
             UtcDateTime::from_rfc3339(text.as_bytes()).err(),
             refusal,
-            "{text}"
         );
     }
     for text in [
@@ -143,15 +138,15 @@ fn texts_that_are_refused(rt: HostRuntime) -> Result<(), Fail> {
         "-2023-12-31T23:59:59Z",
         "12023-12-31T23:59:59Z",
     ] {
-        assert_eq!(rt;
+        is(
+            &rt,
             parse_rfc3339(text.as_bytes()).err(),
             Some(TextRefusal::Syntax),
-            "{text}"
         );
-        assert_eq!(rt;
+        is(
+            &rt,
             Timestamp::from_rfc3339(text.as_bytes()).err(),
             Some(TextRefusal::Syntax),
-            "{text}"
         );
     }
     Ok(())
@@ -235,16 +230,8 @@ fn texts_of_instants(rt: HostRuntime) -> Result<(), Fail> {
         assert!(rt; is_text(shown.to_rfc3339(), shortest), "{shortest}");
         assert!(rt; is_text(to_rfc3339_nanos(at), fixed), "{fixed}");
         assert!(rt; is_text(to_rfc3339_nanos(stamp), fixed), "{fixed}");
-        assert_eq!(rt;
-            Timestamp::from_rfc3339(shortest.as_bytes()),
-            Ok(stamp),
-            "{shortest}"
-        );
-        assert_eq!(rt;
-            UtcDateTime::from_rfc3339(fixed.as_bytes()),
-            Ok(at),
-            "{fixed}"
-        );
+        is(&rt, Timestamp::from_rfc3339(shortest.as_bytes()), Ok(stamp));
+        is(&rt, UtcDateTime::from_rfc3339(fixed.as_bytes()), Ok(at));
     }
     Ok(())
 }

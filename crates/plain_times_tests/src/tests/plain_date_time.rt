@@ -1,5 +1,7 @@
-use crate::{PlainDateTime, constants, laws, packed};
+//! Dates with a time of day.
+use super::is;
 use calendar_values::{ComponentRange, Date, Month, SignedDuration, Time, Weekday};
+use plain_times::{PlainDateTime, constants, laws, packed};
 use std::hash::{DefaultHasher, Hash, Hasher};
 use std::test::Fail;
 use std::time::Duration;
@@ -20,49 +22,53 @@ fn at(
 #[test]
 fn reads(rt: HostRuntime) -> Result<(), Fail> {
     let shown = at((2022, Month::February, 18), 15, 30, 45, 123_456_789)?;
-    assert_eq!(rt; shown.date(), Date::from_ordinal_date(2022, 49)?);
-    assert_eq!(rt; shown.time(), Time::from_hms_nano(15, 30, 45, 123_456_789)?);
-    assert_eq!(rt;
-        (shown.year(), shown.day(), shown.ordinal()),
-        (2022, 18, 49)
+    is(&rt, shown.date(), Date::from_ordinal_date(2022, 49)?);
+    is(
+        &rt,
+        shown.time(),
+        Time::from_hms_nano(15, 30, 45, 123_456_789)?,
     );
-    assert_eq!(rt; shown.month(), Month::February);
-    assert_eq!(rt;
+    is(
+        &rt,
+        (shown.year(), shown.day(), shown.ordinal()),
+        (2022, 18, 49),
+    );
+    is(&rt, shown.month(), Month::February);
+    is(
+        &rt,
         (
             shown.iso_week(),
             shown.sunday_based_week(),
-            shown.monday_based_week()
+            shown.monday_based_week(),
         ),
-        (7, 7, 7)
+        (7, 7, 7),
     );
-    assert_eq!(rt; shown.to_calendar_date(), (2022, Month::February, 18));
-    assert_eq!(rt; shown.to_ordinal_date(), (2022, 49));
-    assert_eq!(rt; shown.to_iso_week_date(), (2022, 7, Weekday::Friday));
-    assert_eq!(rt; shown.weekday(), Weekday::Friday);
-    assert_eq!(rt; shown.weekday().number_days_from_monday(), 4);
-    assert_eq!(rt; shown.to_julian_day(), 2_459_629);
-    assert_eq!(rt; shown.as_hms(), (15, 30, 45));
-    assert_eq!(rt; shown.as_hms_milli(), (15, 30, 45, 123));
-    assert_eq!(rt; shown.as_hms_micro(), (15, 30, 45, 123_456));
-    assert_eq!(rt; shown.as_hms_nano(), (15, 30, 45, 123_456_789));
-    assert_eq!(rt;
+    is(&rt, shown.to_calendar_date(), (2022, Month::February, 18));
+    is(&rt, shown.to_ordinal_date(), (2022, 49));
+    is(&rt, shown.to_iso_week_date(), (2022, 7, Weekday::Friday));
+    is(&rt, shown.weekday(), Weekday::Friday);
+    is(&rt, shown.weekday().number_days_from_monday(), 4);
+    is(&rt, shown.to_julian_day(), 2_459_629);
+    is(&rt, shown.as_hms(), (15, 30, 45));
+    is(&rt, shown.as_hms_milli(), (15, 30, 45, 123));
+    is(&rt, shown.as_hms_micro(), (15, 30, 45, 123_456));
+    is(&rt, shown.as_hms_nano(), (15, 30, 45, 123_456_789));
+    is(
+        &rt,
         (shown.hour(), shown.minute(), shown.second()),
-        (15, 30, 45)
+        (15, 30, 45),
     );
-    assert_eq!(rt; shown.millisecond(), 123);
-    assert_eq!(rt; shown.microsecond(), 123_456);
-    assert_eq!(rt; shown.nanosecond(), 123_456_789);
+    is(&rt, shown.millisecond(), 123);
+    is(&rt, shown.microsecond(), 123_456);
+    is(&rt, shown.nanosecond(), 123_456_789);
     Ok(())
 }
 
 #[test]
-fn replacements(rt: HostRuntime) -> Result<(), Fail> {
-    let alloc = rt.alloc();
+fn replaced_dates(rt: HostRuntime) -> Result<(), Fail> {
     let shown = at((2022, Month::February, 18), 1, 2, 3, 4_005_006)?;
-    let noon = Time::from_hms(12, 0, 0)?;
     let first = Date::from_ordinal_date(2000, 1)?;
     for (replaced, text) in [
-        (Ok(shown.replace_time(noon)), "2022-02-18 12:00:00.0"),
         (
             Ok(shown.replace_date(first)),
             "2000-01-01 1:02:03.004005006",
@@ -74,6 +80,18 @@ fn replacements(rt: HostRuntime) -> Result<(), Fail> {
         ),
         (shown.replace_day(28), "2022-02-28 1:02:03.004005006"),
         (shown.replace_ordinal(365), "2022-12-31 1:02:03.004005006"),
+    ] {
+        is(&rt, replaced?.text().as_str(), text);
+    }
+    Ok(())
+}
+
+#[test]
+fn replaced_clocks(rt: HostRuntime) -> Result<(), Fail> {
+    let shown = at((2022, Month::February, 18), 1, 2, 3, 4_005_006)?;
+    let noon = Time::from_hms(12, 0, 0)?;
+    for (replaced, text) in [
+        (Ok(shown.replace_time(noon)), "2022-02-18 12:00:00.0"),
         (shown.replace_hour(23), "2022-02-18 23:02:03.004005006"),
         (shown.replace_minute(59), "2022-02-18 1:59:03.004005006"),
         (shown.replace_second(59), "2022-02-18 1:02:59.004005006"),
@@ -87,85 +105,63 @@ fn replacements(rt: HostRuntime) -> Result<(), Fail> {
             "2022-02-18 1:02:03.007008009",
         ),
     ] {
-        assert_eq!(rt; format!(in alloc; "{}", replaced?)?.as_str(), text);
+        is(&rt, replaced?.text().as_str(), text);
     }
+    Ok(())
+}
+
+// The part that is refused, and whether only given the other parts.
+fn refusal<T: Copy>(answer: Result<T, ComponentRange>) -> Option<(&'static str, bool)> {
+    match answer {
+        Ok(_) => None,
+        Err(refusal) => Some((refusal.name(), refusal.is_conditional())),
+    }
+}
+
+#[test]
+fn refused_dates(rt: HostRuntime) -> Result<(), Fail> {
     let end_of_january = at((2022, Month::January, 30), 12, 0, 0, 0)?;
+    let shown = at((2022, Month::February, 18), 1, 2, 3, 4_005_006)?;
     let leap_day = at((2000, Month::February, 29), 0, 0, 0, 0)?;
-    for (result, refusal) in [
-        (
-            end_of_january.replace_month(Month::February),
-            ComponentRange::new("day", true),
-        ),
-        (
-            shown.replace_year(1_000_000),
-            ComponentRange::new("year", false),
-        ),
-        (shown.replace_day(0), ComponentRange::new("day", false)),
-        (shown.replace_day(29), ComponentRange::new("day", true)),
-        (shown.replace_day(30), ComponentRange::new("day", true)),
-        (shown.replace_day(32), ComponentRange::new("day", false)),
-        (
-            leap_day.replace_year(1900),
-            ComponentRange::new("day", true),
-        ),
-        (
-            leap_day.replace_year(1_000_000),
-            ComponentRange::new("year", false),
-        ),
-        (
-            shown.replace_ordinal(0),
-            ComponentRange::new("ordinal", false),
-        ),
-        (
-            shown.replace_ordinal(366),
-            ComponentRange::new("ordinal", true),
-        ),
-        (
-            shown.replace_ordinal(367),
-            ComponentRange::new("ordinal", false),
-        ),
-        (shown.replace_hour(24), ComponentRange::new("hour", false)),
-        (
-            shown.replace_minute(60),
-            ComponentRange::new("minute", false),
-        ),
-        (
-            shown.replace_second(60),
-            ComponentRange::new("second", false),
-        ),
-        (
-            shown.replace_millisecond(1_000),
-            ComponentRange::new("millisecond", false),
-        ),
-        (
-            shown.replace_millisecond(4_295),
-            ComponentRange::new("millisecond", false),
-        ),
-        (
-            shown.replace_millisecond(65_535),
-            ComponentRange::new("millisecond", false),
-        ),
-        (
-            shown.replace_microsecond(1_000_000),
-            ComponentRange::new("microsecond", false),
-        ),
-        (
-            shown.replace_microsecond(4_294_968),
-            ComponentRange::new("microsecond", false),
-        ),
-        (
-            shown.replace_nanosecond(1_000_000_000),
-            ComponentRange::new("nanosecond", false),
-        ),
+    for (replaced, name, conditional) in [
+        (end_of_january.replace_month(Month::February), "day", true),
+        (shown.replace_year(1_000_000), "year", false),
+        (shown.replace_day(0), "day", false),
+        (shown.replace_day(29), "day", true),
+        (shown.replace_day(30), "day", true),
+        (shown.replace_day(32), "day", false),
+        (leap_day.replace_year(1900), "day", true),
+        (leap_day.replace_year(1_000_000), "year", false),
+        (shown.replace_ordinal(0), "ordinal", false),
+        (shown.replace_ordinal(366), "ordinal", true),
+        (shown.replace_ordinal(367), "ordinal", false),
     ] {
-        assert_eq!(rt; result, Err(refusal));
+        is(&rt, refusal(replaced), Some((name, conditional)));
+    }
+    Ok(())
+}
+
+#[test]
+fn refused_clocks(rt: HostRuntime) -> Result<(), Fail> {
+    let shown = at((2022, Month::February, 18), 1, 2, 3, 4_005_006)?;
+    for (replaced, name) in [
+        (shown.replace_hour(24), "hour"),
+        (shown.replace_minute(60), "minute"),
+        (shown.replace_second(60), "second"),
+        (shown.replace_millisecond(1_000), "millisecond"),
+        (shown.replace_millisecond(4_295), "millisecond"),
+        (shown.replace_millisecond(65_535), "millisecond"),
+        (shown.replace_microsecond(1_000_000), "microsecond"),
+        (shown.replace_microsecond(4_294_968), "microsecond"),
+        (shown.replace_nanosecond(1_000_000_000), "nanosecond"),
+    ] {
+        is(&rt, refusal(replaced), Some((name, false)));
     }
     Ok(())
 }
 
 #[test]
 fn truncations(rt: HostRuntime) -> Result<(), Fail> {
-    let alloc = rt.alloc();
     let after = at((2022, Month::February, 18), 15, 30, 45, 123_456_789)?;
     let before = at((1969, Month::December, 31), 23, 59, 59, 999_999_999)?;
     for (truncated, text) in [
@@ -188,14 +184,13 @@ fn truncations(rt: HostRuntime) -> Result<(), Fail> {
             "1969-12-31 23:59:59.999999",
         ),
     ] {
-        assert_eq!(rt; format!(in alloc; "{truncated}")?.as_str(), text);
+        is(&rt, truncated.text().as_str(), text);
     }
     Ok(())
 }
 
 #[test]
 fn texts(rt: HostRuntime) -> Result<(), Fail> {
-    let alloc = rt.alloc();
     for (shown, text) in [
         (PlainDateTime::MIN, "-999999-01-01 0:00:00.0"),
         (PlainDateTime::MAX, "+999999-12-31 23:59:59.999999999"),
@@ -217,30 +212,19 @@ fn texts(rt: HostRuntime) -> Result<(), Fail> {
             "-10000-12-31 9:05:00.25",
         ),
     ] {
-        assert_eq!(rt; format!(in alloc; "{shown}")?.as_str(), text);
-        assert_eq!(rt; format!(in alloc; "{shown:?}")?.as_str(), text);
-        assert_eq!(rt; shown.text().as_str(), text);
+        is(&rt, shown.text().as_str(), text);
     }
-    assert_eq!(rt; PlainDateTime::MAX.text().as_bytes().len(), 32);
+    is(&rt, PlainDateTime::MAX.text().as_bytes().len(), 32);
     Ok(())
 }
 
 #[test]
-fn padding(rt: HostRuntime) -> Result<(), Fail> {
-    let alloc = rt.alloc();
+fn formats(rt: HostRuntime) -> Result<(), Fail> {
     let first = PlainDateTime::MIN;
-    assert_eq!(rt;
-        format!(in alloc; "{first:26}|")?.as_str(),
-        "-999999-01-01 0:00:00.0   |"
-    );
-    assert_eq!(rt;
-        format!(in alloc; "{first:>26}")?.as_str(),
-        "   -999999-01-01 0:00:00.0"
-    );
-    assert_eq!(rt;
-        format!(in alloc; "{first:*^26}")?.as_str(),
-        "*-999999-01-01 0:00:00.0**"
-    );
+    let shown = format!(in rt.alloc(); "{first} {first:?}{first:26}|{first:>26}{first:*^26}")?;
+    let wanted = "-999999-01-01 0:00:00.0 -999999-01-01 0:00:00.0-999999-01-01 0:00:00.0   |   \
+        -999999-01-01 0:00:00.0*-999999-01-01 0:00:00.0**";
+    is(&rt, shown.as_str(), wanted);
     Ok(())
 }
 
@@ -257,8 +241,8 @@ fn comparisons(rt: HostRuntime) -> Result<(), Fail> {
     let latest = at((1970, Month::January, 1), 1, 0, 0, 1)?;
     assert!(rt; earlier < later && later < latest);
     assert!(rt; later > earlier && earlier != later && later != latest);
-    assert_eq!(rt; later, latest.replace_nanosecond(0)?);
-    assert_eq!(rt; hashed(later), hashed(latest.truncate_to_hour()));
+    is(&rt, later, latest.replace_nanosecond(0)?);
+    is(&rt, hashed(later), hashed(latest.truncate_to_hour()));
     assert!(rt; hashed(later) != hashed(latest));
     Ok(())
 }
@@ -273,20 +257,25 @@ fn packed_numbers(rt: HostRuntime) -> Result<(), Fail> {
         (PlainDateTime::MIN, -18_889_447_023_565_905_302_493_593_600),
         (PlainDateTime::MAX, 18_889_453_775_074_322_680_189_485_055),
     ] {
-        assert_eq!(rt; packed(shown.year(), shown.ordinal(), shown.time()), number);
+        is(
+            &rt,
+            packed(shown.year(), shown.ordinal(), shown.time()),
+            number,
+        );
     }
     Ok(())
 }
 
 #[test]
 fn constants_and_laws(rt: HostRuntime) {
-    assert_eq!(rt;
+    is(
+        &rt,
         constants::plain_date_times(),
         (
             PlainDateTime::MIN,
             PlainDateTime::MAX,
-            PlainDateTime::UNIX_EPOCH
-        )
+            PlainDateTime::UNIX_EPOCH,
+        ),
     );
     laws::differences_undo_sums();
     laws::differences_lead_back();
@@ -321,7 +310,7 @@ fn ends_of_the_range(rt: HostRuntime) -> Result<(), Fail> {
         (last.checked_add(SignedDuration::nanoseconds(1)), None),
         (first.checked_sub(SignedDuration::nanoseconds(1)), None),
     ] {
-        assert_eq!(rt; sum, expected);
+        is(&rt, sum, expected);
     }
     for (sum, expected) in [
         (first.saturating_add(SignedDuration::MAX), last),
@@ -331,11 +320,11 @@ fn ends_of_the_range(rt: HostRuntime) -> Result<(), Fail> {
         (first.saturating_add(whole_range_signed), last),
         (last.saturating_sub(whole_range_signed), first),
     ] {
-        assert_eq!(rt; sum, expected);
+        is(&rt, sum, expected);
     }
     let difference = last - first;
-    assert_eq!(rt; difference.whole_seconds(), 63_113_872_377_599);
-    assert_eq!(rt; difference.subsec_nanoseconds(), 999_999_999);
+    is(&rt, difference.whole_seconds(), 63_113_872_377_599);
+    is(&rt, difference.subsec_nanoseconds(), 999_999_999);
     Ok(())
 }
 
@@ -358,7 +347,7 @@ fn sums_within_the_range(rt: HostRuntime) -> Result<(), Fail> {
         (Some(afternoon.saturating_sub(hours_27)), earlier),
         (by_operators(later, hours_27, hours_27_std), afternoon),
     ] {
-        assert_eq!(rt; sum, Some(expected));
+        is(&rt, sum, Some(expected));
     }
     Ok(())
 }

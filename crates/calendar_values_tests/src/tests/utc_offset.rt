@@ -1,4 +1,6 @@
-use crate::UtcOffset;
+//! Offsets from UTC.
+use super::is;
+use calendar_values::UtcOffset;
 use std::test::Fail;
 
 // Hours, minutes and seconds as given; as they are kept; in seconds; in text.
@@ -19,12 +21,17 @@ const OFFSETS: [(i8, i8, i8, (i8, i8, i8), i32, &str); 10] = [
 fn parts_have_one_sign(rt: HostRuntime) -> Result<(), Fail> {
     for (hours, minutes, seconds, parts, whole_seconds, _) in OFFSETS {
         let offset = UtcOffset::from_hms(hours, minutes, seconds)?;
-        assert_eq!(rt;
+        is(
+            &rt,
             (offset.as_hms(), offset.whole_seconds()),
-            (parts, whole_seconds)
+            (parts, whole_seconds),
         );
-        assert_eq!(rt; UtcOffset::from_whole_seconds(whole_seconds), Ok(offset));
-        assert_eq!(rt; offset == UtcOffset::UTC, whole_seconds == 0);
+        is(
+            &rt,
+            UtcOffset::from_whole_seconds(whole_seconds),
+            Ok(offset),
+        );
+        is(&rt, offset == UtcOffset::UTC, whole_seconds == 0);
     }
     Ok(())
 }
@@ -34,10 +41,10 @@ fn signs_and_texts_follow_the_seconds(rt: HostRuntime) -> Result<(), Fail> {
     for (_, _, _, parts, whole_seconds, text) in OFFSETS {
         let offset = UtcOffset::from_whole_seconds(whole_seconds)?;
         let (hours, minutes) = (offset.whole_hours(), offset.minutes_past_hour());
-        assert_eq!(rt; (hours, minutes, offset.seconds_past_minute()), parts);
+        is(&rt, (hours, minutes, offset.seconds_past_minute()), parts);
         let signs = (offset.is_utc(), offset.is_negative());
-        assert_eq!(rt; signs, (whole_seconds == 0, whole_seconds < 0));
-        assert_eq!(rt; offset.text().as_str(), text);
+        is(&rt, signs, (whole_seconds == 0, whole_seconds < 0));
+        is(&rt, offset.text().as_str(), text);
     }
     Ok(())
 }
@@ -55,18 +62,23 @@ fn offsets_of_26_hours_are_refused(rt: HostRuntime) {
         (UtcOffset::from_whole_seconds(-93_600), "offset_seconds"),
     ] {
         let refusal = refused.expect_err(&rt, "an offset");
-        assert_eq!(rt; (refusal.name(), refusal.is_conditional()), (name, false));
+        is(
+            &rt,
+            (refusal.name(), refusal.is_conditional()),
+            (name, false),
+        );
     }
 }
 
 #[test]
 fn formats_pad_the_text(rt: HostRuntime) -> Result<(), Fail> {
     let offset = UtcOffset::from_hms(-1, -2, -3)?;
-    assert_eq!(rt;
+    is(
+        &rt,
         format!(in rt.alloc();
             "{offset} {offset:?}|{offset:12}|{offset:>12}{offset:*^14}"
         )?.as_str(),
-        "-01:02:03 -01:02:03|-01:02:03   |   -01:02:03**-01:02:03***"
+        "-01:02:03 -01:02:03|-01:02:03   |   -01:02:03**-01:02:03***",
     );
     Ok(())
 }

@@ -1,4 +1,6 @@
-use crate::{ComponentRange, Date, Month, SignedDuration};
+//! Dates, beside tables of days counted one at a time.
+use super::is;
+use calendar_values::{ComponentRange, Date, Month, SignedDuration};
 use std::hash::{DefaultHasher, Hash, Hasher};
 use std::test::Fail;
 use std::time::Duration;
@@ -65,9 +67,9 @@ fn date(year: i32, month: u8, day: u8) -> Result<Date, ComponentRange> {
 fn days_have_the_numbers_of_another_calendar(rt: HostRuntime) -> Result<(), Fail> {
     for (year, month, day, julian_day, ordinal, ..) in DAYS {
         let date = date(year, month, day)?;
-        assert_eq!(rt; date.to_julian_day(), julian_day);
-        assert_eq!(rt; Date::from_julian_day(julian_day), Ok(date));
-        assert_eq!(rt; Date::from_ordinal_date(year, ordinal), Ok(date));
+        is(&rt, date.to_julian_day(), julian_day);
+        is(&rt, Date::from_julian_day(julian_day), Ok(date));
+        is(&rt, Date::from_ordinal_date(year, ordinal), Ok(date));
     }
     Ok(())
 }
@@ -77,17 +79,20 @@ fn parts_are_those_of_another_calendar(rt: HostRuntime) -> Result<(), Fail> {
     for (year, month, day, julian_day, ordinal, ..) in DAYS {
         let date = Date::from_julian_day(julian_day)?;
         let (shown_year, shown_month, shown_day) = date.to_calendar_date();
-        assert_eq!(rt;
+        is(
+            &rt,
             (shown_year, u8::from(shown_month), shown_day),
-            (year, month, day)
+            (year, month, day),
         );
-        assert_eq!(rt;
+        is(
+            &rt,
             (date.year(), date.month(), date.day()),
-            (year, shown_month, day)
+            (year, shown_month, day),
         );
-        assert_eq!(rt;
+        is(
+            &rt,
             (date.to_ordinal_date(), date.ordinal()),
-            ((year, ordinal), ordinal)
+            ((year, ordinal), ordinal),
         );
     }
     Ok(())
@@ -98,13 +103,14 @@ fn weeks_are_those_of_another_calendar(rt: HostRuntime) -> Result<(), Fail> {
     for (_, _, _, julian_day, _, year, week, weekday, by_sundays, by_mondays) in DAYS {
         let date = Date::from_julian_day(julian_day)?;
         let shown = date.weekday();
-        assert_eq!(rt; date.to_iso_week_date(), (year, week, shown));
-        assert_eq!(rt;
+        is(&rt, date.to_iso_week_date(), (year, week, shown));
+        is(
+            &rt,
             (date.iso_week(), shown.number_days_from_monday()),
-            (week, weekday)
+            (week, weekday),
         );
         let weeks = (date.sunday_based_week(), date.monday_based_week());
-        assert_eq!(rt; weeks, (by_sundays, by_mondays));
+        is(&rt, weeks, (by_sundays, by_mondays));
     }
     Ok(())
 }
@@ -116,7 +122,7 @@ fn constants_are_the_days_of_their_names(rt: HostRuntime) {
         (Date::MAX, 999_999, 12, 31),
         (Date::UNIX_EPOCH, 1970, 1, 1),
     ] {
-        assert_eq!(rt; date(year, month, day), Ok(constant));
+        is(&rt, date(year, month, day), Ok(constant));
     }
 }
 
@@ -128,9 +134,13 @@ fn no_day_is_beside_the_range(rt: HostRuntime) {
         (Date::MAX.previous_day(), date(999_999, 12, 30).ok()),
         (Date::MAX.next_day(), None),
     ] {
-        assert_eq!(rt; found, wanted);
+        is(&rt, found, wanted);
     }
-    assert_eq!(rt; Date::MAX - Date::MIN, SignedDuration::days(730_484_633));
+    is(
+        &rt,
+        Date::MAX - Date::MIN,
+        SignedDuration::days(730_484_633),
+    );
 }
 
 #[test]
@@ -145,9 +155,10 @@ fn days_out_of_the_range_are_refused(rt: HostRuntime) {
         (Date::from_julian_day(366_963_560), "julian_day", false),
     ] {
         let refusal = refused.expect_err(&rt, "a date");
-        assert_eq!(rt;
+        is(
+            &rt,
             (refusal.name(), refusal.is_conditional()),
-            (name, conditional)
+            (name, conditional),
         );
     }
 }
@@ -168,9 +179,10 @@ fn replacements_by_days_out_of_the_range_are_refused(rt: HostRuntime) -> Result<
         (january.replace_month(Month::February), "day", true),
     ] {
         let refusal = refused.expect_err(&rt, "a date");
-        assert_eq!(rt;
+        is(
+            &rt,
             (refusal.name(), refusal.is_conditional()),
-            (name, conditional)
+            (name, conditional),
         );
     }
     Ok(())
@@ -185,7 +197,7 @@ fn replaced_parts_are_as_given(rt: HostRuntime) -> Result<(), Fail> {
         (leap_day.replace_day(1), 2000, 2, 1),
         (leap_day.replace_ordinal(366), 2000, 12, 31),
     ] {
-        assert_eq!(rt; replaced, date(year, month, day));
+        is(&rt, replaced, date(year, month, day));
     }
     Ok(())
 }
@@ -200,8 +212,8 @@ fn moves_end_at_the_range(rt: HostRuntime) {
         (first, day, first.next_day(), None),
         (first, SignedDuration::MIN, None, None),
     ] {
-        assert_eq!(rt; start.checked_add(duration), sum);
-        assert_eq!(rt; start.checked_sub(duration), difference);
+        is(&rt, start.checked_add(duration), sum);
+        is(&rt, start.checked_sub(duration), difference);
     }
 }
 
@@ -213,7 +225,7 @@ fn unsigned_durations_move_over_the_leap_day(rt: HostRuntime) -> Result<(), Fail
         (date(2000, 3, 1)?.checked_sub_std(day), Some(leap_day)),
         (Date::MAX.checked_sub_std(Duration::MAX), None),
     ] {
-        assert_eq!(rt; moved, wanted);
+        is(&rt, moved, wanted);
     }
     Ok(())
 }
@@ -222,8 +234,12 @@ fn unsigned_durations_move_over_the_leap_day(rt: HostRuntime) -> Result<(), Fail
 fn order_is_that_of_the_days(rt: HostRuntime) -> Result<(), Fail> {
     let (earlier, later) = (date(1999, 12, 31)?, date(2000, 1, 1)?);
     assert!(rt; earlier < later && later > earlier && earlier != later);
-    assert_eq!(rt; earlier.next_day(), Some(later));
-    assert_eq!(rt; hash_of(Date::from_julian_day(2_451_545)?), hash_of(later));
+    is(&rt, earlier.next_day(), Some(later));
+    is(
+        &rt,
+        hash_of(Date::from_julian_day(2_451_545)?),
+        hash_of(later),
+    );
     Ok(())
 }
 
@@ -245,8 +261,8 @@ fn texts_have_four_digits_of_the_year_and_a_sign_before_more(rt: HostRuntime) ->
         (999_999, 12, 31, "+999999-12-31"),
     ] {
         let shown = date(year, month, day)?.text();
-        assert_eq!(rt; shown.as_str(), text);
-        assert_eq!(rt; shown.as_bytes().len(), text.len());
+        is(&rt, shown.as_str(), text);
+        is(&rt, shown.as_bytes().len(), text.len());
     }
     Ok(())
 }
@@ -254,11 +270,12 @@ fn texts_have_four_digits_of_the_year_and_a_sign_before_more(rt: HostRuntime) ->
 #[test]
 fn formats_pad_the_text(rt: HostRuntime) -> Result<(), Fail> {
     let (late, early) = (date(5, 3, 1)?, date(-5, 3, 1)?);
-    assert_eq!(rt;
+    is(
+        &rt,
         format!(in rt.alloc();
             "{late} {early} {early:?}{early:>14}{early:*^16}{early:14}|"
         )?.as_str(),
-        "0005-03-01 -0005-03-01 -0005-03-01   -0005-03-01**-0005-03-01***-0005-03-01   |"
+        "0005-03-01 -0005-03-01 -0005-03-01   -0005-03-01**-0005-03-01***-0005-03-01   |",
     );
     Ok(())
 }

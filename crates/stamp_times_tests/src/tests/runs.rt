@@ -1,6 +1,9 @@
-use super::*;
-use crate::calls::{ClockPart, ClockRead, DatePart, DateRead, Replace, Shift};
+//! Runs of calls.
 use calendar_values::{ComponentRange, Date, Month, SignedDuration, Time, UtcOffset, Weekday};
+use offset_times::OffsetDateTime;
+use stamp_times::calls::{ClockPart, ClockRead, DatePart, DateRead, Replace, Shift};
+use stamp_times::{Call, Moment, Reply, Timestamp, run, run_both};
+use std::alloc::{AllocError, Global};
 use std::test::Fail;
 
 fn date(year: i32, month: Month, day: u8) -> Result<Date, Fail> {
@@ -33,7 +36,7 @@ fn replies_are(
 }
 
 #[test]
-fn reads_and_refusals(rt: HostRuntime) -> Result<(), Fail> {
+fn reads_of_dates(rt: HostRuntime) -> Result<(), Fail> {
     let epoch = Timestamp::UNIX_EPOCH;
     assert!(rt; replies_are(rt.alloc(), epoch, &[], &[], epoch)?);
     let calls = [
@@ -49,6 +52,11 @@ fn reads_and_refusals(rt: HostRuntime) -> Result<(), Fail> {
         Reply::DatePart(DatePart::SundayWeek(0)),
     ];
     assert!(rt; replies_are(rt.alloc(), epoch, &calls, &replies, epoch)?);
+    Ok(())
+}
+
+#[test]
+fn refusals(rt: HostRuntime) -> Result<(), Fail> {
     let start = Timestamp::new(-1, 500_000_000)?;
     let calls = [
         Call::ReadClock(ClockRead::Nanosecond),
@@ -82,6 +90,7 @@ fn at_offsets(rt: HostRuntime) -> Result<(), Fail> {
         Call::Local(west),
         Call::ReadDate(DateRead::Year),
         Call::Local(east),
+        Call::Local(UtcOffset::UTC),
     ];
     let replies = [
         Reply::Local(
@@ -95,12 +104,14 @@ fn at_offsets(rt: HostRuntime) -> Result<(), Fail> {
             Time::from_hms(1, 59, 59)?,
             east,
         ),
+        Reply::Local(Date::UNIX_EPOCH, Time::MIDNIGHT, UtcOffset::UTC),
     ];
     assert!(rt; replies_are(rt.alloc(), epoch, &calls, &replies, epoch)?);
-    let calls = [Call::Local(UtcOffset::UTC)];
-    let midnight = Time::MIDNIGHT;
-    let replies = [Reply::Local(Date::UNIX_EPOCH, midnight, UtcOffset::UTC)];
-    assert!(rt; replies_are(rt.alloc(), epoch, &calls, &replies, epoch)?);
+    Ok(())
+}
+
+#[test]
+fn past_the_end_at_an_offset(rt: HostRuntime) -> Result<(), Fail> {
     let last = Timestamp::new(31_494_784_780_799, 999_999_999)?;
     let calls = [
         Call::Local(UtcOffset::from_hms(0, 0, 1)?),

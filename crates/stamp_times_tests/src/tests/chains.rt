@@ -1,5 +1,7 @@
-use super::*;
-use offset_times::Assume;
+//! Chains of conversions.
+use calendar_values::UtcOffset;
+use offset_times::{Assume, OffsetDateTime};
+use stamp_times::{Held, Step, Timestamp, chain};
 use std::test::Fail;
 
 // Whether both are held by one type, at one instant and at one offset.

@@ -1,9 +1,11 @@
-use crate::{AsUtc, UtcDateTime, laws};
+//! Dates with a time of day in UTC, and Unix time.
+use super::is;
 use calendar_values::{ComponentRange, Date, Month, SignedDuration, Time, Weekday};
 use plain_times::PlainDateTime;
 use std::hash::{DefaultHasher, Hash, Hasher};
 use std::test::Fail;
 use std::time::Duration;
+use utc_times::{AsUtc, UtcDateTime, laws};
 
 fn utc(
     date: (i32, Month, u8),
@@ -17,8 +19,16 @@ fn utc(
     Ok(UtcDateTime::new(date, time))
 }
 
+// The part that is refused, and whether only given the other parts.
+fn refusal<T: Copy>(answer: Result<T, ComponentRange>) -> Option<(&'static str, bool)> {
+    match answer {
+        Ok(_) => None,
+        Err(refusal) => Some((refusal.name(), refusal.is_conditional())),
+    }
+}
+
 #[test]
-fn unix_time(rt: HostRuntime) -> Result<(), Fail> {
+fn unix_seconds(rt: HostRuntime) -> Result<(), Fail> {
     for (second, text) in [
         (0, "1970-01-01 0:00:00.0 +00"),
         (-1, "1969-12-31 23:59:59.0 +00"),
@@ -32,10 +42,14 @@ fn unix_time(rt: HostRuntime) -> Result<(), Fail> {
         (31_494_784_780_799, "+999999-12-31 23:59:59.0 +00"),
     ] {
         let at = UtcDateTime::from_unix_timestamp(second)?;
-        assert_eq!(rt; format!(in rt.alloc(); "{at}")?.as_str(), text);
-        assert_eq!(rt; format!(in rt.alloc(); "{at:?}")?.as_str(), text);
-        assert_eq!(rt; at.unix_timestamp(), second);
+        is(&rt, at.text().as_str(), text);
+        is(&rt, at.unix_timestamp(), second);
     }
+    Ok(())
+}
+
+#[test]
+fn unix_nanoseconds(rt: HostRuntime) -> Result<(), Fail> {
     for (nanosecond, second, text) in [
         (-500_000_000, -1, "1969-12-31 23:59:59.5 +00"),
         (-1, -1, "1969-12-31 23:59:59.999999999 +00"),
@@ -52,10 +66,18 @@ fn unix_time(rt: HostRuntime) -> Result<(), Fail> {
         ),
     ] {
         let at = UtcDateTime::from_unix_timestamp_nanos(nanosecond)?;
-        assert_eq!(rt; format!(in rt.alloc(); "{at}")?.as_str(), text);
-        assert_eq!(rt; at.unix_timestamp(), second);
-        assert_eq!(rt; at.unix_timestamp_nanos(), nanosecond);
+        is(&rt, at.text().as_str(), text);
+        is(
+            &rt,
+            (at.unix_timestamp(), at.unix_timestamp_nanos()),
+            (second, nanosecond),
+        );
     }
+    Ok(())
+}
+
+#[test]
+fn unix_time_out_of_range(rt: HostRuntime) -> Result<(), Fail> {
     for refused in [
         UtcDateTime::from_unix_timestamp(-31_619_087_596_801),
         UtcDateTime::from_unix_timestamp(31_494_784_780_800),
@@ -66,23 +88,23 @@ fn unix_time(rt: HostRuntime) -> Result<(), Fail> {
         UtcDateTime::from_unix_timestamp_nanos(i128::MIN),
         UtcDateTime::from_unix_timestamp_nanos(i128::MAX),
     ] {
-        assert_eq!(rt; refused, Err(ComponentRange::new("timestamp", false)));
+        is(&rt, refusal(refused), Some(("timestamp", false)));
     }
     Ok(())
 }
 
 #[test]
 fn constants_and_laws(rt: HostRuntime) -> Result<(), Fail> {
-    let (first, last, epoch) = crate::constants::utc_date_times();
+    let (first, last, epoch) = utc_times::constants::utc_date_times();
     for (constant, same, nanosecond) in [
         (UtcDateTime::UNIX_EPOCH, epoch, 0),
         (UtcDateTime::MIN, first, -31_619_087_596_800_000_000_000),
         (UtcDateTime::MAX, last, 31_494_784_780_799_999_999_999),
     ] {
-        assert_eq!(rt; constant, same);
-        assert_eq!(rt; constant.unix_timestamp_nanos(), nanosecond);
+        is(&rt, constant, same);
+        is(&rt, constant.unix_timestamp_nanos(), nanosecond);
     }
-    assert_eq!(rt; UtcDateTime::MAX.text().as_bytes().len(), 36);
+    is(&rt, UtcDateTime::MAX.text().as_bytes().len(), 36);
     laws::differences_undo_sums();
     laws::differences_lead_back();
     laws::replacements_keep_the_rest();
@@ -95,50 +117,53 @@ fn constants_and_laws(rt: HostRuntime) -> Result<(), Fail> {
 #[test]
 fn reads(rt: HostRuntime) -> Result<(), Fail> {
     let at = utc((2022, Month::February, 18), 1, 2, 3, 4_005_006)?;
-    assert_eq!(rt;
+    is(
+        &rt,
         at.date(),
-        Date::from_calendar_date(2022, Month::February, 18)?
+        Date::from_calendar_date(2022, Month::February, 18)?,
     );
-    assert_eq!(rt;
+    is(
+        &rt,
         (at.year(), at.month(), at.day()),
-        (2022, Month::February, 18)
+        (2022, Month::February, 18),
     );
-    assert_eq!(rt; at.to_calendar_date(), (2022, Month::February, 18));
-    assert_eq!(rt; at.ordinal(), 49);
-    assert_eq!(rt; at.to_ordinal_date(), (2022, 49));
-    assert_eq!(rt; at.iso_week(), 7);
-    assert_eq!(rt; at.to_iso_week_date(), (2022, 7, Weekday::Friday));
-    assert_eq!(rt; (at.sunday_based_week(), at.monday_based_week()), (7, 7));
-    assert_eq!(rt; at.weekday(), Weekday::Friday);
-    assert_eq!(rt; at.to_julian_day(), 2_459_629);
-    assert_eq!(rt; at.time(), Time::from_hms_nano(1, 2, 3, 4_005_006)?);
-    assert_eq!(rt; at.as_hms(), (1, 2, 3));
-    assert_eq!(rt; at.as_hms_milli(), (1, 2, 3, 4));
-    assert_eq!(rt; at.as_hms_micro(), (1, 2, 3, 4_005));
-    assert_eq!(rt; at.as_hms_nano(), (1, 2, 3, 4_005_006));
-    assert_eq!(rt; (at.hour(), at.minute(), at.second()), (1, 2, 3));
-    assert_eq!(rt;
+    is(&rt, at.to_calendar_date(), (2022, Month::February, 18));
+    is(&rt, at.ordinal(), 49);
+    is(&rt, at.to_ordinal_date(), (2022, 49));
+    is(&rt, at.iso_week(), 7);
+    is(&rt, at.to_iso_week_date(), (2022, 7, Weekday::Friday));
+    is(
+        &rt,
+        (at.sunday_based_week(), at.monday_based_week()),
+        (7, 7),
+    );
+    is(&rt, at.weekday(), Weekday::Friday);
+    is(&rt, at.to_julian_day(), 2_459_629);
+    is(&rt, at.time(), Time::from_hms_nano(1, 2, 3, 4_005_006)?);
+    is(&rt, at.as_hms(), (1, 2, 3));
+    is(&rt, at.as_hms_milli(), (1, 2, 3, 4));
+    is(&rt, at.as_hms_micro(), (1, 2, 3, 4_005));
+    is(&rt, at.as_hms_nano(), (1, 2, 3, 4_005_006));
+    is(&rt, (at.hour(), at.minute(), at.second()), (1, 2, 3));
+    is(
+        &rt,
         (at.millisecond(), at.microsecond(), at.nanosecond()),
-        (4, 4_005, 4_005_006)
+        (4, 4_005, 4_005_006),
     );
     let epoch = UtcDateTime::UNIX_EPOCH;
-    assert_eq!(rt; epoch.to_iso_week_date(), (1970, 1, Weekday::Thursday));
-    assert_eq!(rt; epoch.to_julian_day(), 2_440_588);
+    is(&rt, epoch.to_iso_week_date(), (1970, 1, Weekday::Thursday));
+    is(&rt, epoch.to_julian_day(), 2_440_588);
     Ok(())
 }
 
 #[test]
-fn replacements(rt: HostRuntime) -> Result<(), Fail> {
+fn replaced_dates(rt: HostRuntime) -> Result<(), Fail> {
     let at = utc((2022, Month::February, 18), 1, 2, 3, 4_005_006)?;
     let date = Date::from_calendar_date(1969, Month::July, 20)?;
     for (replaced, text) in [
         (
             Ok(at.replace_date(date)),
             "1969-07-20 1:02:03.004005006 +00",
-        ),
-        (
-            Ok(at.replace_time(Time::MAX)),
-            "2022-02-18 23:59:59.999999999 +00",
         ),
         (at.replace_year(-5), "-0005-02-18 1:02:03.004005006 +00"),
         (
@@ -147,6 +172,20 @@ fn replacements(rt: HostRuntime) -> Result<(), Fail> {
         ),
         (at.replace_day(28), "2022-02-28 1:02:03.004005006 +00"),
         (at.replace_ordinal(365), "2022-12-31 1:02:03.004005006 +00"),
+    ] {
+        is(&rt, replaced?.text().as_str(), text);
+    }
+    Ok(())
+}
+
+#[test]
+fn replaced_clocks(rt: HostRuntime) -> Result<(), Fail> {
+    let at = utc((2022, Month::February, 18), 1, 2, 3, 4_005_006)?;
+    for (replaced, text) in [
+        (
+            Ok(at.replace_time(Time::MAX)),
+            "2022-02-18 23:59:59.999999999 +00",
+        ),
         (at.replace_hour(23), "2022-02-18 23:02:03.004005006 +00"),
         (at.replace_minute(59), "2022-02-18 1:59:03.004005006 +00"),
         (at.replace_second(59), "2022-02-18 1:02:59.004005006 +00"),
@@ -157,11 +196,16 @@ fn replacements(rt: HostRuntime) -> Result<(), Fail> {
         ),
         (at.replace_nanosecond(9), "2022-02-18 1:02:03.000000009 +00"),
     ] {
-        let replaced = replaced?;
-        assert_eq!(rt; format!(in rt.alloc(); "{replaced}")?.as_str(), text);
+        is(&rt, replaced?.text().as_str(), text);
     }
+    Ok(())
+}
+
+#[test]
+fn refused_dates(rt: HostRuntime) -> Result<(), Fail> {
     let end_of_january = utc((2022, Month::January, 30), 12, 0, 0, 0)?;
-    for (refused, name, is_conditional) in [
+    let at = utc((2022, Month::February, 18), 1, 2, 3, 4_005_006)?;
+    for (replaced, name, conditional) in [
         (end_of_january.replace_month(Month::February), "day", true),
         (at.replace_year(1_000_000), "year", false),
         (at.replace_day(0), "day", false),
@@ -171,21 +215,27 @@ fn replacements(rt: HostRuntime) -> Result<(), Fail> {
         (at.replace_ordinal(0), "ordinal", false),
         (at.replace_ordinal(366), "ordinal", true),
         (at.replace_ordinal(367), "ordinal", false),
-        (at.replace_hour(24), "hour", false),
-        (at.replace_minute(60), "minute", false),
-        (at.replace_second(60), "second", false),
-        (at.replace_millisecond(1_000), "millisecond", false),
-        (at.replace_millisecond(4_295), "millisecond", false),
-        (at.replace_millisecond(65_535), "millisecond", false),
-        (at.replace_microsecond(1_000_000), "microsecond", false),
-        (at.replace_microsecond(4_294_968), "microsecond", false),
-        (at.replace_nanosecond(1_000_000_000), "nanosecond", false),
     ] {
-        let refusal = refused
-            .err()
-            .unwrap_or(ComponentRange::new("timestamp", false));
-        assert_eq!(rt; refusal.name(), name);
-        assert_eq!(rt; refusal.is_conditional(), is_conditional);
+        is(&rt, refusal(replaced), Some((name, conditional)));
+    }
+    Ok(())
+}
+
+#[test]
+fn refused_clocks(rt: HostRuntime) -> Result<(), Fail> {
+    let at = utc((2022, Month::February, 18), 1, 2, 3, 4_005_006)?;
+    for (replaced, name) in [
+        (at.replace_hour(24), "hour"),
+        (at.replace_minute(60), "minute"),
+        (at.replace_second(60), "second"),
+        (at.replace_millisecond(1_000), "millisecond"),
+        (at.replace_millisecond(4_295), "millisecond"),
+        (at.replace_millisecond(65_535), "millisecond"),
+        (at.replace_microsecond(1_000_000), "microsecond"),
+        (at.replace_microsecond(4_294_968), "microsecond"),
+        (at.replace_nanosecond(1_000_000_000), "nanosecond"),
+    ] {
+        is(&rt, refusal(replaced), Some((name, false)));
     }
     Ok(())
 }
@@ -219,26 +269,18 @@ fn truncations(rt: HostRuntime) -> Result<(), Fail> {
             "1969-12-31 23:59:59.999999 +00",
         ),
     ] {
-        assert_eq!(rt; format!(in rt.alloc(); "{truncated}")?.as_str(), text);
+        is(&rt, truncated.text().as_str(), text);
     }
     Ok(())
 }
 
 #[test]
-fn padding(rt: HostRuntime) -> Result<(), Fail> {
+fn formats(rt: HostRuntime) -> Result<(), Fail> {
     let at = UtcDateTime::UNIX_EPOCH;
-    assert_eq!(rt;
-        format!(in rt.alloc(); "{at:>27}")?.as_str(),
-        "   1970-01-01 0:00:00.0 +00"
-    );
-    assert_eq!(rt;
-        format!(in rt.alloc(); "{at:*^29}")?.as_str(),
-        "**1970-01-01 0:00:00.0 +00***"
-    );
-    assert_eq!(rt;
-        format!(in rt.alloc(); "{at:26}|")?.as_str(),
-        "1970-01-01 0:00:00.0 +00  |"
-    );
+    let shown = format!(in rt.alloc(); "{at} {at:?}{at:>27}{at:*^29}{at:26}|")?;
+    let wanted = "1970-01-01 0:00:00.0 +00 1970-01-01 0:00:00.0 +00   1970-01-01 0:00:00.0 +00\
+        **1970-01-01 0:00:00.0 +00***1970-01-01 0:00:00.0 +00  |";
+    is(&rt, shown.as_str(), wanted);
     Ok(())
 }
 
@@ -250,8 +292,8 @@ fn as_utc<T: AsUtc>(plain: T) -> UtcDateTime {
 fn wall_clocks(rt: HostRuntime) -> Result<(), Fail> {
     let at = utc((2022, Month::February, 18), 1, 2, 3, 4_005_006)?;
     let plain = PlainDateTime::new(at.date(), at.time());
-    assert_eq!(rt; as_utc(plain), at);
-    assert_eq!(rt; at.as_plain(), plain);
+    is(&rt, as_utc(plain), at);
+    is(&rt, at.as_plain(), plain);
     Ok(())
 }
 
@@ -267,10 +309,10 @@ fn order(rt: HostRuntime) -> Result<(), Fail> {
     let after = UtcDateTime::UNIX_EPOCH;
     assert!(rt; before < after);
     assert!(rt; before != after);
-    assert_eq!(rt; before.max(after), after);
+    is(&rt, before.max(after), after);
     let same = UtcDateTime::from_unix_timestamp_nanos(-500_000_000)?;
-    assert_eq!(rt; same, before);
-    assert_eq!(rt; hash_of(same), hash_of(before));
+    is(&rt, same, before);
+    is(&rt, hash_of(same), hash_of(before));
     assert!(rt; hash_of(before) != hash_of(after));
     Ok(())
 }
@@ -297,7 +339,7 @@ fn sums(rt: HostRuntime) -> Result<(), Fail> {
         (last.checked_sub_std(longer_std), None),
         (last.checked_sub_std(Duration::MAX), None),
     ] {
-        assert_eq!(rt; sum, wanted);
+        is(&rt, sum, wanted);
     }
     for (sum, wanted) in [
         (first.saturating_add(SignedDuration::MAX), last),
@@ -306,7 +348,7 @@ fn sums(rt: HostRuntime) -> Result<(), Fail> {
         (last.saturating_add(SignedDuration::MIN), first),
         (last.saturating_sub(whole), first),
     ] {
-        assert_eq!(rt; sum, wanted);
+        is(&rt, sum, wanted);
     }
     Ok(())
 }
@@ -316,12 +358,13 @@ fn differences(rt: HostRuntime) -> Result<(), Fail> {
     let half = utc((1969, Month::December, 31), 23, 59, 59, 500_000_000)?;
     let (first, last) = (UtcDateTime::MIN, UtcDateTime::MAX);
     let epoch = UtcDateTime::UNIX_EPOCH;
-    assert_eq!(rt; epoch - half, SignedDuration::nanoseconds(500_000_000));
-    assert_eq!(rt; half - epoch, SignedDuration::nanoseconds(-500_000_000));
+    is(&rt, epoch - half, SignedDuration::nanoseconds(500_000_000));
+    is(&rt, half - epoch, SignedDuration::nanoseconds(-500_000_000));
     let whole = last - first;
-    assert_eq!(rt;
+    is(
+        &rt,
         (whole.whole_seconds(), whole.subsec_nanoseconds()),
-        (63_113_872_377_599, 999_999_999)
+        (63_113_872_377_599, 999_999_999),
     );
     Ok(())
 }
@@ -332,7 +375,7 @@ fn operators(rt: HostRuntime) -> Result<(), Fail> {
     let later = utc((2019, Month::November, 26), 18, 30, 0, 0)?;
     let hours_27 = SignedDuration::hours(27);
     let hours_27_std = Duration::from_secs(97_200);
-    assert_eq!(rt; by_operators(later, hours_27, hours_27_std), Some(at));
+    is(&rt, by_operators(later, hours_27, hours_27_std), Some(at));
     Ok(())
 }
 

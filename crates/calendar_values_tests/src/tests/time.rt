@@ -1,7 +1,10 @@
-use super::*;
-use crate::DateAdjustment::{Next, Previous, Same};
+//! Times of day.
+use super::is;
+use calendar_values::DateAdjustment::{Next, Previous, Same};
+use calendar_values::{DateAdjustment, SignedDuration, Time};
 use std::hash::{DefaultHasher, Hash, Hasher};
 use std::test::Fail;
+use std::time::Duration;
 
 fn time(hour: u8, minute: u8, second: u8, nanosecond: u32) -> Result<Time, Fail> {
     Ok(Time::from_hms_nano(hour, minute, second, nanosecond)?)
@@ -17,7 +20,7 @@ fn texts_have_the_digits_that_matter(rt: HostRuntime) -> Result<(), Fail> {
         (10, 0, 0, 1, "10:00:00.000000001"),
     ] {
         let time = time(hour, minute, second, nanosecond)?;
-        assert_eq!(rt; time.text().as_str(), text);
+        is(&rt, time.text().as_str(), text);
     }
     Ok(())
 }
@@ -25,11 +28,12 @@ fn texts_have_the_digits_that_matter(rt: HostRuntime) -> Result<(), Fail> {
 #[test]
 fn formats_pad_the_text(rt: HostRuntime) -> Result<(), Fail> {
     let (midnight, last) = (Time::MIDNIGHT, Time::MAX);
-    assert_eq!(rt;
+    is(
+        &rt,
         format!(in rt.alloc();
             "{last} {last:?}|{midnight:12}{midnight:>12}{midnight:*^14}"
         )?.as_str(),
-        "23:59:59.999999999 23:59:59.999999999|0:00:00.0      0:00:00.0**0:00:00.0***"
+        "23:59:59.999999999 23:59:59.999999999|0:00:00.0      0:00:00.0**0:00:00.0***",
     );
     Ok(())
 }
@@ -48,7 +52,11 @@ fn times_out_of_range_are_refused_by_their_first_part(rt: HostRuntime) {
         (Time::from_hms_nano(23, 59, 59, 1_000_000_000), "nanosecond"),
     ] {
         let refusal = refused.expect_err(&rt, "a time");
-        assert_eq!(rt; (refusal.name(), refusal.is_conditional()), (name, false));
+        is(
+            &rt,
+            (refusal.name(), refusal.is_conditional()),
+            (name, false),
+        );
     }
 }
 
@@ -68,7 +76,11 @@ fn replacements_out_of_range_are_refused(rt: HostRuntime) -> Result<(), Fail> {
         (time.replace_nanosecond(1_000_000_000), "nanosecond"),
     ] {
         let refusal = refused.expect_err(&rt, "a time");
-        assert_eq!(rt; (refusal.name(), refusal.is_conditional()), (name, false));
+        is(
+            &rt,
+            (refusal.name(), refusal.is_conditional()),
+            (name, false),
+        );
     }
     Ok(())
 }
@@ -76,20 +88,23 @@ fn replacements_out_of_range_are_refused(rt: HostRuntime) -> Result<(), Fail> {
 #[test]
 fn parts_are_those_given(rt: HostRuntime) -> Result<(), Fail> {
     let time = time(1, 2, 3, 4_005_006)?;
-    assert_eq!(rt;
+    is(
+        &rt,
         (time.as_hms(), time.as_hms_milli()),
-        ((1, 2, 3), (1, 2, 3, 4))
+        ((1, 2, 3), (1, 2, 3, 4)),
     );
-    assert_eq!(rt;
+    is(
+        &rt,
         (time.as_hms_micro(), time.as_hms_nano()),
-        ((1, 2, 3, 4_005), (1, 2, 3, 4_005_006))
+        ((1, 2, 3, 4_005), (1, 2, 3, 4_005_006)),
     );
-    assert_eq!(rt;
+    is(
+        &rt,
         (
             (time.hour(), time.minute(), time.second()),
-            (time.millisecond(), time.microsecond(), time.nanosecond())
+            (time.millisecond(), time.microsecond(), time.nanosecond()),
         ),
-        ((1, 2, 3), (4, 4_005, 4_005_006))
+        ((1, 2, 3), (4, 4_005, 4_005_006)),
     );
     Ok(())
 }
@@ -107,7 +122,7 @@ fn times_have_the_given_parts_and_no_finer_ones(rt: HostRuntime) -> Result<(), F
         (shown.replace_microsecond(7_008), (1, 2, 3, 7_008_000)),
         (shown.replace_nanosecond(7_008_009), (1, 2, 3, 7_008_009)),
     ] {
-        assert_eq!(rt; given?.as_hms_nano(), parts);
+        is(&rt, given?.as_hms_nano(), parts);
     }
     Ok(())
 }
@@ -122,7 +137,7 @@ fn truncations_clear_what_is_finer(rt: HostRuntime) -> Result<(), Fail> {
         (shown.truncate_to_millisecond(), 30, 45, 123_000_000),
         (shown.truncate_to_microsecond(), 30, 45, 123_456_000),
     ] {
-        assert_eq!(rt; truncated, time(15, minute, second, nanosecond)?);
+        is(&rt, truncated, time(15, minute, second, nanosecond)?);
     }
     Ok(())
 }
@@ -139,7 +154,7 @@ fn sums_wrap_around_midnight(rt: HostRuntime) -> Result<(), Fail> {
         (start, SignedDuration::MAX, Same, (16, 32, 11, 3)),
     ] {
         let (moved, sum) = time.adjusting_add(duration);
-        assert_eq!(rt; (moved, sum.as_hms_nano()), (adjustment, wanted));
+        is(&rt, (moved, sum.as_hms_nano()), (adjustment, wanted));
     }
     Ok(())
 }
@@ -156,7 +171,7 @@ fn differences_wrap_around_midnight(rt: HostRuntime) -> Result<(), Fail> {
         (start, SignedDuration::MAX, Previous, (9, 31, 55, 5)),
     ] {
         let (moved, difference) = time.adjusting_sub(duration);
-        assert_eq!(rt; (moved, difference.as_hms_nano()), (adjustment, wanted));
+        is(&rt, (moved, difference.as_hms_nano()), (adjustment, wanted));
     }
     Ok(())
 }
@@ -168,10 +183,11 @@ fn unsigned_durations_wrap_around_midnight(rt: HostRuntime) -> Result<(), Fail> 
         (Time::MAX, true, 999_999_998, false, 0),
     ] {
         let (sum, difference) = (time(7, 0, 15, sum)?, time(16, 59, 44, difference)?);
-        assert_eq!(rt; start.adjusting_add_std(Duration::MAX), (is_next, sum));
-        assert_eq!(rt;
+        is(&rt, start.adjusting_add_std(Duration::MAX), (is_next, sum));
+        is(
+            &rt,
             start.adjusting_sub_std(Duration::MAX),
-            (is_previous, difference)
+            (is_previous, difference),
         );
     }
     Ok(())
@@ -181,11 +197,12 @@ fn unsigned_durations_wrap_around_midnight(rt: HostRuntime) -> Result<(), Fail> 
 fn order_is_that_of_the_clock(rt: HostRuntime) -> Result<(), Fail> {
     let (first, start, last) = (Time::MIDNIGHT, time(1, 2, 3, 4)?, Time::MAX);
     assert!(rt; first < start && start < last);
-    assert_eq!(rt;
+    is(
+        &rt,
         first - last,
-        SignedDuration::nanoseconds(-86_399_999_999_999)
+        SignedDuration::nanoseconds(-86_399_999_999_999),
     );
-    assert_eq!(rt; hash_of(start), hash_of(time(1, 2, 3, 4)?));
+    is(&rt, hash_of(start), hash_of(time(1, 2, 3, 4)?));
     assert_ne!(rt; hash_of(start), hash_of(first));
     Ok(())
 }

@@ -1,7 +1,8 @@
-use super::*;
-use crate::{ToTimestamp, laws};
-use calendar_values::{Date, Month, SignedDuration, Time, UtcOffset, Weekday};
+//! Instants by their Unix seconds.
+use super::is;
+use calendar_values::{ComponentRange, Date, Month, SignedDuration, Time, UtcOffset, Weekday};
 use offset_times::{Assume, OffsetDateTime};
+use stamp_times::{Timestamp, ToTimestamp, laws};
 use std::cmp::Ordering;
 use std::hash::{DefaultHasher, Hash, Hasher};
 use std::test::Fail;
@@ -9,77 +10,102 @@ use std::time::Duration;
 use utc_times::UtcDateTime;
 
 #[test]
-fn counts_and_texts(rt: HostRuntime) -> Result<(), Fail> {
-    let constants = crate::constants::timestamps();
-    let half = Timestamp::from_milliseconds(-500)?;
-    for (at, seconds, nanosecond, text) in [
-        (constants.2, 0, 0, "0"),
-        (constants.0, -31_619_087_596_800, 0, "-31619087596800"),
+fn texts(rt: HostRuntime) -> Result<(), Fail> {
+    for (second, nanosecond, text) in [
+        (0, 0, "0"),
+        (-31_619_087_596_800, 0, "-31619087596800"),
+        (-31_619_087_596_800, 1, "-31619087596799.999999999"),
+        (31_494_784_780_799, 999_999_999, "31494784780799.999999999"),
+        (31_494_784_780_799, 999_000_000, "31494784780799.999"),
+        (-1, 500_000_000, "-0.5"),
+        (-1, 300_000_000, "-0.7"),
+        (-1, 0, "-1"),
+        (-1, 999_999_000, "-0.000001"),
+        (-1, 999_999_999, "-0.000000001"),
+        (1_546_398_245, 100, "1546398245.0000001"),
+    ] {
+        let at = Timestamp::new(second, nanosecond)?;
+        is(&rt, at.text().as_str(), text);
+        is(
+            &rt,
+            (at.as_seconds(), at.nanosecond()),
+            (second, nanosecond),
+        );
+    }
+    Ok(())
+}
+
+#[test]
+fn constructors(rt: HostRuntime) -> Result<(), Fail> {
+    let (first, last, epoch) = stamp_times::constants::timestamps();
+    let half = Timestamp::from_milliseconds(-500);
+    for (at, second, nanosecond) in [
+        (Ok(epoch), 0, 0),
+        (Ok(first), -31_619_087_596_800, 0),
+        (Ok(last), 31_494_784_780_799, 999_999_999),
+        (half, -1, 500_000_000),
+        (half?.replace_nanosecond(0), -1, 0),
+        (half?.replace_nanosecond(300_000_000), -1, 300_000_000),
+        (Timestamp::from_microseconds(-1), -1, 999_999_000),
+        (Timestamp::from_nanoseconds(-1), -1, 999_999_999),
         (
-            constants.1,
-            31_494_784_780_799,
-            999_999_999,
-            "31494784780799.999999999",
-        ),
-        (
-            Timestamp::new(-31_619_087_596_800, 1)?,
-            -31_619_087_596_800,
-            1,
-            "-31619087596799.999999999",
-        ),
-        (half, -1, 500_000_000, "-0.5"),
-        (
-            half.replace_nanosecond(300_000_000)?,
-            -1,
-            300_000_000,
-            "-0.7",
-        ),
-        (half.replace_nanosecond(0)?, -1, 0, "-1"),
-        (
-            Timestamp::from_microseconds(-1)?,
-            -1,
-            999_999_000,
-            "-0.000001",
-        ),
-        (
-            Timestamp::from_nanoseconds(-1)?,
-            -1,
-            999_999_999,
-            "-0.000000001",
-        ),
-        (
-            Timestamp::from_nanoseconds(1_546_398_245_000_000_100)?,
+            Timestamp::from_nanoseconds(1_546_398_245_000_000_100),
             1_546_398_245,
             100,
-            "1546398245.0000001",
         ),
         (
-            Timestamp::from_milliseconds(-31_619_087_596_800_000)?,
+            Timestamp::from_milliseconds(-31_619_087_596_800_000),
             -31_619_087_596_800,
             0,
-            "-31619087596800",
         ),
         (
-            Timestamp::from_milliseconds(31_494_784_780_799_999)?,
+            Timestamp::from_milliseconds(31_494_784_780_799_999),
             31_494_784_780_799,
             999_000_000,
-            "31494784780799.999",
         ),
     ] {
-        assert_eq!(rt; (at.as_seconds(), at.nanosecond()), (seconds, nanosecond));
-        assert_eq!(rt; format!(in rt.alloc(); "{at}")?.as_str(), text);
-        assert_eq!(rt; at.text().as_str(), text);
+        let at = at?;
+        is(
+            &rt,
+            (at.as_seconds(), at.nanosecond()),
+            (second, nanosecond),
+        );
     }
-    let half = Timestamp::new(-1, 500_000_000)?;
-    assert_eq!(rt; format!(in rt.alloc(); "{half:?}")?.as_str(), "-0.5");
-    assert_eq!(rt; format!(in rt.alloc(); "{half:>8}")?.as_str(), "    -0.5");
-    assert_eq!(rt; format!(in rt.alloc(); "{half:*^9}")?.as_str(), "**-0.5***");
-    assert_eq!(rt; half.as_milliseconds(), -500);
-    assert_eq!(rt; Timestamp::new(-1, 999_999)?.as_milliseconds(), -1_000);
-    let last = Timestamp::new(-1, 999_999_999)?;
-    assert_eq!(rt; (last.as_milliseconds(), last.as_microseconds()), (-1, -1));
-    assert_eq!(rt; last.as_nanoseconds(), -1);
     Ok(())
+}
+
+#[test]
+fn counts_are_rounded_down(rt: HostRuntime) -> Result<(), Fail> {
+    for (nanosecond, milliseconds, microseconds, nanoseconds) in [
+        (500_000_000, -500, -500_000, -500_000_000),
+        (999_999, -1_000, -999_001, -999_000_001),
+        (999_999_999, -1, -1, -1),
+    ] {
+        let at = Timestamp::new(-1, nanosecond)?;
+        is(&rt, at.as_milliseconds(), milliseconds);
+        is(
+            &rt,
+            (at.as_microseconds(), at.as_nanoseconds()),
+            (microseconds, nanoseconds),
+        );
+    }
+    Ok(())
+}
+
+#[test]
+fn formats(rt: HostRuntime) -> Result<(), Fail> {
+    let half = Timestamp::new(-1, 500_000_000)?;
+    let shown = format!(in rt.alloc(); "{half} {half:?}{half:>8}{half:*^9}")?;
+    is(&rt, shown.as_str(), "-0.5 -0.5    -0.5**-0.5***");
+    Ok(())
+}
+
+// The part that is refused, and whether only given the other parts.
+fn refusal<T: Copy>(answer: Result<T, ComponentRange>) -> Option<(&'static str, bool)> {
+    match answer {
+        Ok(_) => None,
+        Err(refusal) => Some((refusal.name(), refusal.is_conditional())),
+    }
 }
 
 #[test]
@@ -110,13 +136,7 @@ fn refusals_of_constructors(rt: HostRuntime) -> Result<(), Fail> {
         ),
         (Timestamp::from_nanoseconds(i128::MIN), "nanoseconds"),
     ] {
-        match refused {
-            Ok(_) => assert!(rt; false),
-            Err(refusal) => {
-                assert_eq!(rt; refusal.name(), name);
-                assert!(rt; !refusal.is_conditional());
-            }
-        }
+        is(&rt, refusal(refused), Some((name, false)));
     }
     Ok(())
 }
@@ -132,46 +152,53 @@ fn reads(rt: HostRuntime) -> Result<(), Fail> {
         (31_494_784_780_799, 999_999, 365, Weekday::Friday),
     ] {
         let at = Timestamp::from_seconds(second)?;
-        assert_eq!(rt; at.to_ordinal_date(), (year, ordinal));
-        assert_eq!(rt; (at.year(), at.ordinal()), (year, ordinal));
-        assert_eq!(rt; at.weekday(), weekday);
-        assert_eq!(rt; at.date(), Date::from_ordinal_date(year, ordinal)?);
+        is(&rt, at.to_ordinal_date(), (year, ordinal));
+        is(&rt, (at.year(), at.ordinal()), (year, ordinal));
+        is(&rt, at.weekday(), weekday);
+        is(&rt, at.date(), Date::from_ordinal_date(year, ordinal)?);
     }
     for (second, date) in [
         (-31_619_087_596_800, (-999_999, Month::January, 1)),
         (31_494_784_780_799, (999_999, Month::December, 31)),
     ] {
         let at = Timestamp::from_seconds(second)?;
-        assert_eq!(rt; at.to_calendar_date(), date);
+        is(&rt, at.to_calendar_date(), date);
     }
     let at = Timestamp::new(1_546_398_245, 4_005_006)?;
-    assert_eq!(rt; at.to_calendar_date(), (2019, Month::January, 2));
-    assert_eq!(rt; (at.month(), at.day()), (Month::January, 2));
-    assert_eq!(rt; at.weekday(), Weekday::Wednesday);
-    assert_eq!(rt; at.to_julian_day(), 2_458_486);
-    assert_eq!(rt; at.to_iso_week_date(), (2019, 1, Weekday::Wednesday));
-    assert_eq!(rt; at.iso_week(), 1);
-    assert_eq!(rt; (at.sunday_based_week(), at.monday_based_week()), (0, 0));
-    assert_eq!(rt; at.time(), Time::from_hms_nano(3, 4, 5, 4_005_006)?);
-    assert_eq!(rt; at.as_hms(), (3, 4, 5));
-    assert_eq!(rt; at.as_hms_milli(), (3, 4, 5, 4));
-    assert_eq!(rt; at.as_hms_micro(), (3, 4, 5, 4_005));
-    assert_eq!(rt; at.as_hms_nano(), (3, 4, 5, 4_005_006));
-    assert_eq!(rt; (at.hour(), at.minute(), at.second()), (3, 4, 5));
-    assert_eq!(rt;
+    is(&rt, at.to_calendar_date(), (2019, Month::January, 2));
+    is(&rt, (at.month(), at.day()), (Month::January, 2));
+    is(&rt, at.weekday(), Weekday::Wednesday);
+    is(&rt, at.to_julian_day(), 2_458_486);
+    is(&rt, at.to_iso_week_date(), (2019, 1, Weekday::Wednesday));
+    is(&rt, at.iso_week(), 1);
+    is(
+        &rt,
+        (at.sunday_based_week(), at.monday_based_week()),
+        (0, 0),
+    );
+    is(&rt, at.time(), Time::from_hms_nano(3, 4, 5, 4_005_006)?);
+    is(&rt, at.as_hms(), (3, 4, 5));
+    is(&rt, at.as_hms_milli(), (3, 4, 5, 4));
+    is(&rt, at.as_hms_micro(), (3, 4, 5, 4_005));
+    is(&rt, at.as_hms_nano(), (3, 4, 5, 4_005_006));
+    is(&rt, (at.hour(), at.minute(), at.second()), (3, 4, 5));
+    is(
+        &rt,
         (at.millisecond(), at.microsecond(), at.nanosecond()),
-        (4, 4_005, 4_005_006)
+        (4, 4_005, 4_005_006),
     );
     let half = Timestamp::new(-1, 500_000_000)?;
-    assert_eq!(rt; half.as_hms(), (23, 59, 59));
-    assert_eq!(rt;
-        format!(in rt.alloc(); "{}", half.to_utc())?.as_str(),
-        "1969-12-31 23:59:59.5 +00"
+    is(&rt, half.as_hms(), (23, 59, 59));
+    is(
+        &rt,
+        half.to_utc().text().as_str(),
+        "1969-12-31 23:59:59.5 +00",
     );
     let last = Timestamp::new(-1, 999_999_999)?.to_utc();
-    assert_eq!(rt;
+    is(
+        &rt,
         last.truncate_to_millisecond().text().as_str(),
-        "1969-12-31 23:59:59.999 +00"
+        "1969-12-31 23:59:59.999 +00",
     );
     Ok(())
 }
@@ -181,7 +208,6 @@ fn replacements(rt: HostRuntime) -> Result<(), Fail> {
     let at = Timestamp::from_seconds(1_546_398_245)?;
     let leap_day = Timestamp::from_seconds(951_782_400)?;
     let half = Timestamp::new(-1, 500_000_000)?;
-    let epoch = Timestamp::UNIX_EPOCH;
     let date = Date::from_calendar_date(1970, Month::January, 1)?;
     for (replaced, seconds, nanosecond) in [
         (
@@ -206,12 +232,20 @@ fn replacements(rt: HostRuntime) -> Result<(), Fail> {
         (half.replace_microsecond(7_008), -1, 7_008_000),
     ] {
         let replaced = replaced?;
-        assert_eq!(rt;
+        is(
+            &rt,
             (replaced.as_seconds(), replaced.nanosecond()),
-            (seconds, nanosecond)
+            (seconds, nanosecond),
         );
     }
-    for (refused, name, is_conditional) in [
+    Ok(())
+}
+
+#[test]
+fn refused_dates(rt: HostRuntime) -> Result<(), Fail> {
+    let at = Timestamp::from_seconds(1_546_398_245)?;
+    let leap_day = Timestamp::from_seconds(951_782_400)?;
+    for (replaced, name, conditional) in [
         (leap_day.replace_year(1900), "day", true),
         (leap_day.replace_year(1_000_000), "year", false),
         (leap_day.replace_day(0), "day", false),
@@ -220,31 +254,38 @@ fn replacements(rt: HostRuntime) -> Result<(), Fail> {
         (at.replace_ordinal(0), "ordinal", false),
         (leap_day.replace_ordinal(367), "ordinal", false),
         (at.replace_ordinal(366), "ordinal", true),
-        (at.replace_hour(24), "hour", false),
-        (at.replace_minute(60), "minute", false),
-        (at.replace_second(60), "second", false),
-        (at.replace_millisecond(1_000), "millisecond", false),
-        (at.replace_millisecond(4_295), "millisecond", false),
-        (at.replace_millisecond(65_535), "millisecond", false),
-        (at.replace_microsecond(1_000_000), "microsecond", false),
-        (at.replace_microsecond(4_294_968), "microsecond", false),
-        (epoch.replace_microsecond(u32::MAX), "microsecond", false),
-        (at.replace_nanosecond(1_000_000_000), "nanosecond", false),
     ] {
-        match refused {
-            Ok(_) => assert!(rt; false),
-            Err(refusal) => {
-                assert_eq!(rt; refusal.name(), name);
-                assert_eq!(rt; refusal.is_conditional(), is_conditional);
-            }
-        }
+        is(&rt, refusal(replaced), Some((name, conditional)));
+    }
+    Ok(())
+}
+
+#[test]
+fn refused_clocks(rt: HostRuntime) -> Result<(), Fail> {
+    let at = Timestamp::from_seconds(1_546_398_245)?;
+    for (replaced, name) in [
+        (at.replace_hour(24), "hour"),
+        (at.replace_minute(60), "minute"),
+        (at.replace_second(60), "second"),
+        (at.replace_millisecond(1_000), "millisecond"),
+        (at.replace_millisecond(4_295), "millisecond"),
+        (at.replace_millisecond(65_535), "millisecond"),
+        (at.replace_microsecond(1_000_000), "microsecond"),
+        (at.replace_microsecond(4_294_968), "microsecond"),
+        (
+            Timestamp::UNIX_EPOCH.replace_microsecond(u32::MAX),
+            "microsecond",
+        ),
+        (at.replace_nanosecond(1_000_000_000), "nanosecond"),
+    ] {
+        is(&rt, refusal(replaced), Some((name, false)));
     }
     Ok(())
 }
 
 #[test]
 fn sums(rt: HostRuntime) -> Result<(), Fail> {
-    let (first, last, epoch) = crate::constants::timestamps();
+    let (first, last, epoch) = stamp_times::constants::timestamps();
     let at = Timestamp::from_seconds(1_546_398_245)?;
     let half = Timestamp::new(-1, 500_000_000)?;
     let nanosecond = SignedDuration::nanoseconds(1);
@@ -279,16 +320,17 @@ fn sums(rt: HostRuntime) -> Result<(), Fail> {
             Some((-1, 999_999_999)),
         ),
     ] {
-        assert_eq!(rt;
+        is(
+            &rt,
             sum.map(|sum| (sum.as_seconds(), sum.nanosecond())),
-            expected
+            expected,
         );
     }
     let later = Timestamp::from_seconds(1_546_484_645)?;
-    assert_eq!(rt; at.saturating_add(day), later);
-    assert_eq!(rt; later.saturating_sub(day), at);
+    is(&rt, at.saturating_add(day), later);
+    is(&rt, later.saturating_sub(day), at);
     let day_std = Duration::from_secs(86_400);
-    assert_eq!(rt; by_operators(later, day, day_std), Some(at));
+    is(&rt, by_operators(later, day, day_std), Some(at));
     for (difference, seconds, nanoseconds) in [
         (epoch - half, 0, 500_000_000),
         (half - epoch, 0, -500_000_000),
@@ -296,8 +338,8 @@ fn sums(rt: HostRuntime) -> Result<(), Fail> {
         (last - first.to_utc(), 63_113_872_377_599, 999_999_999),
         (first.to_utc() - last, -63_113_872_377_599, -999_999_999),
     ] {
-        assert_eq!(rt; difference.whole_seconds(), seconds);
-        assert_eq!(rt; difference.subsec_nanoseconds(), nanoseconds);
+        is(&rt, difference.whole_seconds(), seconds);
+        is(&rt, difference.subsec_nanoseconds(), nanoseconds);
     }
     Ok(())
 }
@@ -326,7 +368,7 @@ fn by_operators(start: Timestamp, duration: SignedDuration, same: Duration) -> O
 
 #[test]
 fn ends_of_the_range(rt: HostRuntime) -> Result<(), Fail> {
-    let (first, last, epoch) = crate::constants::timestamps();
+    let (first, last, epoch) = stamp_times::constants::timestamps();
     let nanosecond = SignedDuration::nanoseconds(1);
     let longer = SignedDuration::seconds(63_113_872_377_600);
     let whole_std = Duration::new(63_113_872_377_599, 999_999_999);
@@ -341,7 +383,7 @@ fn ends_of_the_range(rt: HostRuntime) -> Result<(), Fail> {
         (last.checked_add(nanosecond), None),
         (first.checked_sub(nanosecond), None),
     ] {
-        assert_eq!(rt; sum, expected);
+        is(&rt, sum, expected);
     }
     for (sum, expected) in [
         (first.saturating_add(SignedDuration::MAX), last),
@@ -351,7 +393,7 @@ fn ends_of_the_range(rt: HostRuntime) -> Result<(), Fail> {
         (epoch.saturating_sub(SignedDuration::MIN), last),
         (epoch.saturating_add(SignedDuration::MIN), first),
     ] {
-        assert_eq!(rt; sum, expected);
+        is(&rt, sum, expected);
     }
     Ok(())
 }
@@ -366,19 +408,24 @@ fn hash_of(at: Timestamp) -> u64 {
 fn comparisons(rt: HostRuntime) -> Result<(), Fail> {
     let before = Timestamp::new(-1, 500_000_000)?;
     let after = Timestamp::new(-1, 500_000_001)?;
-    assert_eq!(rt; before, Timestamp::from_milliseconds(-500)?);
+    is(&rt, before, Timestamp::from_milliseconds(-500)?);
     assert!(rt; before != after);
     assert!(rt; before < after);
-    assert_eq!(rt; before.cmp(&before), Ordering::Equal);
-    assert_eq!(rt; Timestamp::from_seconds(-2)?.cmp(&before), Ordering::Less);
+    is(&rt, before.cmp(&before), Ordering::Equal);
+    is(
+        &rt,
+        Timestamp::from_seconds(-2)?.cmp(&before),
+        Ordering::Less,
+    );
     let utc = UtcDateTime::from(before);
-    assert_eq!(rt; Timestamp::from(utc), before);
+    is(&rt, Timestamp::from(utc), before);
     assert!(rt; before.eq_utc(utc));
     assert!(rt; !after.eq_utc(utc));
-    assert_eq!(rt; after.cmp_utc(utc), Ordering::Greater);
-    assert_eq!(rt;
+    is(&rt, after.cmp_utc(utc), Ordering::Greater);
+    is(
+        &rt,
         hash_of(before),
-        hash_of(Timestamp::from_milliseconds(-500)?)
+        hash_of(Timestamp::from_milliseconds(-500)?),
     );
     assert!(rt; hash_of(before) != hash_of(after));
     Ok(())
@@ -397,17 +444,21 @@ fn to_timestamp<T: ToTimestamp + Copy>(at: T) -> Option<Timestamp> {
 
 #[test]
 fn offsets(rt: HostRuntime) -> Result<(), Fail> {
-    let (first, last, _) = crate::constants::timestamps();
+    let (first, last, _) = stamp_times::constants::timestamps();
     let at = Timestamp::from_seconds(1_546_398_245)?;
     let plus_one = UtcOffset::from_hms(1, 0, 0)?;
     let minus_one = UtcOffset::from_hms(-1, 0, 0)?;
     let greatest = UtcOffset::from_hms(25, 59, 59)?;
-    assert_eq!(rt; to_offset(at, plus_one).map(|shown| shown.hour()), Some(4));
+    is(
+        &rt,
+        to_offset(at, plus_one).map(|shown| shown.hour()),
+        Some(4),
+    );
     match at.checked_to_offset(plus_one) {
         Some(shown) => {
-            assert_eq!(rt; shown.date_time().as_hms(), (4, 4, 5));
-            assert_eq!(rt; shown.checked_to_timestamp(), Some(at));
-            assert_eq!(rt; to_timestamp(shown), Some(at));
+            is(&rt, shown.date_time().as_hms(), (4, 4, 5));
+            is(&rt, shown.checked_to_timestamp(), Some(at));
+            is(&rt, to_timestamp(shown), Some(at));
         }
         None => assert!(rt; false),
     }
@@ -415,38 +466,39 @@ fn offsets(rt: HostRuntime) -> Result<(), Fail> {
     assert!(rt; last.checked_to_offset(minus_one).is_some());
     assert!(rt; first.checked_to_offset(minus_one).is_none());
     let before_all = first.to_utc().as_plain().assume_offset(greatest);
-    assert_eq!(rt; to_timestamp(before_all), None);
+    is(&rt, to_timestamp(before_all), None);
     assert!(rt; !first.eq_offset(before_all));
-    assert_eq!(rt; first.cmp_offset(before_all), Ordering::Greater);
-    assert_eq!(rt; (first - before_all).whole_seconds(), 93_599);
-    assert_eq!(rt; (before_all - first).whole_seconds(), -93_599);
+    is(&rt, first.cmp_offset(before_all), Ordering::Greater);
+    is(&rt, (first - before_all).whole_seconds(), 93_599);
+    is(&rt, (before_all - first).whole_seconds(), -93_599);
     let in_utc = OffsetDateTime::from(at);
     assert!(rt; in_utc.offset().is_utc());
     assert!(rt; at.eq_offset(in_utc));
-    assert_eq!(rt; at.cmp_offset(in_utc), Ordering::Equal);
+    is(&rt, at.cmp_offset(in_utc), Ordering::Equal);
     Ok(())
 }
 
 #[test]
 fn offsets_at_the_ends(rt: HostRuntime) -> Result<(), Fail> {
-    let (first, last, _) = crate::constants::timestamps();
+    let (first, last, _) = stamp_times::constants::timestamps();
     for seconds in [-93_599, -1, 0, 1, 93_599] {
         let stored = UtcOffset::from_whole_seconds(seconds)?;
         let earliest = first.to_utc().as_plain().assume_offset(stored);
         let latest = last.to_utc().as_plain().assume_offset(stored);
-        assert_eq!(rt; earliest.checked_to_timestamp().is_some(), seconds <= 0);
-        assert_eq!(rt; latest.checked_to_timestamp().is_some(), seconds >= 0);
+        is(&rt, earliest.checked_to_timestamp().is_some(), seconds <= 0);
+        is(&rt, latest.checked_to_timestamp().is_some(), seconds >= 0);
     }
     Ok(())
 }
 
 #[test]
 fn conversions_and_laws(rt: HostRuntime) {
-    let (first, last, _) = crate::constants::timestamps();
-    assert_eq!(rt; Timestamp::from(UtcDateTime::from(first)), first);
-    assert_eq!(rt;
+    let (first, last, _) = stamp_times::constants::timestamps();
+    is(&rt, Timestamp::from(UtcDateTime::from(first)), first);
+    is(
+        &rt,
         UtcDateTime::from(Timestamp::from(last.to_utc())),
-        last.to_utc()
+        last.to_utc(),
     );
     laws::conversions_lose_nothing();
     laws::compared_by_instant();
