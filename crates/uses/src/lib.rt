@@ -7,6 +7,8 @@ pub mod batches;
 pub mod billing;
 pub mod constants;
 pub mod daily;
+#[cfg(test)]
+mod examples;
 pub mod exchange;
 pub mod expiry;
 pub mod invoices;
