@@ -1,4 +1,5 @@
-//! The examples that stand at the heads of the types.
+//! The examples that stand at the heads of the types, and values of callers.
+use crate::{days, shown, windows};
 use calendar_values::{ComponentRange, Date, Month, SignedDuration, Time, UtcOffset, Weekday};
 use offset_times::OffsetDateTime;
 use plain_times::PlainDateTime;
@@ -82,5 +83,30 @@ fn of_timestamp(rt: HostRuntime) -> Result<(), Fail> {
     let before = Timestamp::from_milliseconds(-1)?;
     assert_eq!(rt; before.as_seconds(), -1);
     assert_eq!(rt; before.nanosecond(), 999_000_000);
+    Ok(())
+}
+
+#[test]
+fn of_days(rt: HostRuntime) -> Result<(), Fail> {
+    let before = Date::from_calendar_date(2024, Month::February, 28)?;
+    let after = Date::from_calendar_date(2024, Month::March, 1)?;
+    assert_eq!(rt; days::days_between(before, after), 2);
+    assert!(rt; !days::is_weekend(after));
+    assert!(rt; days::is_weekend(Date::from_calendar_date(2024, Month::March, 2)?));
+    Ok(())
+}
+
+#[test]
+fn of_stamps(rt: HostRuntime) -> Result<(), Fail> {
+    let at = Timestamp::from_seconds(1_709_210_096)?;
+    assert_eq!(rt;
+        windows::window_of(at),
+        Timestamp::from_seconds(1_709_209_800)?
+    );
+    let at_epoch = shown::date_at(UtcDateTime::UNIX_EPOCH, UtcOffset::from_hms(-1, 0, 0)?);
+    assert_eq!(rt; at_epoch, Date::UNIX_EPOCH.previous_day());
+    let west = UtcOffset::from_hms(-8, 0, 0)?;
+    let text = shown::text_at(851_042_397_000, west);
+    assert!(rt; text.is_some_and(|text| text.as_str() == "1996-12-19 16:39:57.0 -08:00:00"));
     Ok(())
 }
