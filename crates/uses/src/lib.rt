@@ -27,4 +27,5 @@ pub mod shown;
 #[cfg(test)]
 mod tests;
 pub mod timeouts;
+pub mod values;
 pub mod windows;
