@@ -1,4 +1,4 @@
-"""The source files of the repository, for the tools that look for what is wide or unused."""
+"""The source files of the repository, for the tools that read them."""
 
 import os
 
@@ -16,3 +16,14 @@ def texts(*endings):
                 with open(path, encoding="utf-8") as file:
                     found[os.path.relpath(path, REPOSITORY)] = file.read()
     return found
+
+
+def crate_of(path):
+    """The crate of a file, by its path from the repository's root."""
+    return path.split("/")[1]
+
+
+def crates():
+    """The names of the crates, in the order of crates.txt."""
+    with open(os.path.join(REPOSITORY, "crates.txt"), encoding="utf-8") as file:
+        return [line.split(":")[0] for line in file.read().split("\n") if ":" in line]

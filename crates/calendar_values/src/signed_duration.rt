@@ -16,6 +16,15 @@ const NANOS_PER_SECOND: i32 = 1_000_000_000;
 /// A duration of -2^63 to 2^63 - 1 seconds and -999,999,999 to 999,999,999 nanoseconds beside them,
 /// never of opposite signs, as in the `time` crate. A contract sees the number of nanoseconds that
 /// they make together.
+///
+/// ```
+/// let delay = SignedDuration::new(-1, -500_000_000);
+/// assert_eq!(rt; delay.whole_seconds(), -1);
+/// assert_eq!(rt;
+///     delay + SignedDuration::seconds(2),
+///     SignedDuration::nanoseconds(500_000_000)
+/// );
+/// ```
 #[derive(Clone, Copy, Debug)]
 pub struct SignedDuration {
     seconds: i64,

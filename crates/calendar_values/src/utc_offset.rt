@@ -16,6 +16,12 @@ use std::marker::Model;
 
 /// An offset from UTC, -25:59:59 to 25:59:59, as in the `time` crate. It is positive east of
 /// Greenwich, where clocks show more. A contract sees the number of its seconds, -93,599 to 93,599.
+///
+/// ```
+/// let newfoundland = UtcOffset::from_hms(-3, -30, 0)?;
+/// assert_eq!(rt; newfoundland.whole_seconds(), -12_600);
+/// assert_eq!(rt; newfoundland.minutes_past_hour(), -30);
+/// ```
 #[derive(Clone, Copy)]
 pub struct UtcOffset {
     hours: i8,

@@ -23,6 +23,15 @@ pub(crate) use conversions::in_range;
 /// clocks at an offset from UTC show. Its instant may lie outside that range, in UTC: such a value compares,
 /// feeds a hasher and converts like any other. A contract sees the wall clock, in nanoseconds, and the
 /// offset, in seconds; the instant is the wall clock less the nanoseconds of the offset.
+///
+/// ```
+/// let east = UtcOffset::from_hms(1, 0, 0)?;
+/// let shown = OffsetDateTime::UNIX_EPOCH
+///     .checked_to_offset(east)
+///     .ok_or("no date")?;
+/// assert_eq!(rt; shown.hour(), 1);
+/// assert_eq!(rt; shown, OffsetDateTime::UNIX_EPOCH);
+/// ```
 #[derive(Clone, Copy)]
 pub struct OffsetDateTime {
     date: Date,

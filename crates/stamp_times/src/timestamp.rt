@@ -29,6 +29,12 @@ const MAX_NANOSECOND: u32 = 999_999_999;
 /// An instant by its Unix second and the nanosecond of that second, from the first midnight of the range in
 /// UTC to its last nanosecond. A contract sees the instant: the nanoseconds from 1970-01-01 0:00 UTC, with no
 /// leap seconds. Equality, order and hash go by it; which bytes a hasher is fed is no promise.
+///
+/// ```
+/// let before = Timestamp::from_milliseconds(-1)?;
+/// assert_eq!(rt; before.as_seconds(), -1);
+/// assert_eq!(rt; before.nanosecond(), 999_000_000);
+/// ```
 #[derive(Clone, Copy)]
 pub struct Timestamp {
     seconds: i64,

@@ -7,6 +7,9 @@ pub mod batches;
 pub mod billing;
 pub mod constants;
 pub mod daily;
+pub mod days;
+#[cfg(test)]
+mod examples;
 pub mod exchange;
 pub mod expiry;
 pub mod invoices;
@@ -20,6 +23,9 @@ pub mod periods;
 pub mod replays;
 pub mod reports;
 pub mod retry;
+pub mod shown;
 #[cfg(test)]
 mod tests;
 pub mod timeouts;
+pub mod values;
+pub mod windows;

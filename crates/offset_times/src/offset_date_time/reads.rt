@@ -31,7 +31,7 @@ impl OffsetDateTime {
         self.date_time().time()
     }
 
-    /// As [`PlainDateTime::year`] of the wall clock.
+    /// As [`Date::year`], of the day of the wall clock.
     pub fn year(self) -> i32
         ensures value { result ≡ year_of (wall_day self.wall) }
         ensures in_range { IsYear result }
@@ -39,14 +39,14 @@ impl OffsetDateTime {
         self.date_time().year()
     }
 
-    /// As [`PlainDateTime::month`] of the wall clock.
+    /// As [`Date::month`], of the day of the wall clock.
     pub fn month(self) -> Month
         ensures { month_number result ≡ month_of (wall_day self.wall) }
     {
         self.date_time().month()
     }
 
-    /// As [`PlainDateTime::day`] of the wall clock.
+    /// As [`Date::day`], of the day of the wall clock.
     pub fn day(self) -> u8
         ensures value { result ≡ day_of_month_of (wall_day self.wall) }
         ensures in_range { IsInRange 1 31 result }
@@ -54,7 +54,7 @@ impl OffsetDateTime {
         self.date_time().day()
     }
 
-    /// As [`PlainDateTime::ordinal`] of the wall clock.
+    /// As [`Date::ordinal`], of the day of the wall clock.
     pub fn ordinal(self) -> u16
         ensures value { result ≡ ordinal_of (wall_day self.wall) }
         ensures in_range { IsInRange 1 366 result }
@@ -62,7 +62,7 @@ impl OffsetDateTime {
         self.date_time().ordinal()
     }
 
-    /// As [`PlainDateTime::iso_week`] of the wall clock.
+    /// As [`Date::iso_week`], of the day of the wall clock.
     pub fn iso_week(self) -> u8
         ensures value { result ≡ iso_week_of (wall_day self.wall) }
         ensures in_range { IsInRange 1 53 result }
@@ -70,7 +70,7 @@ impl OffsetDateTime {
         self.date_time().iso_week()
     }
 
-    /// As [`PlainDateTime::sunday_based_week`] of the wall clock.
+    /// As [`Date::sunday_based_week`], of the day of the wall clock.
     pub fn sunday_based_week(self) -> u8
         ensures value { result ≡ sunday_week_of (wall_day self.wall) }
         ensures in_range { result ≤ 53 }
@@ -78,7 +78,7 @@ impl OffsetDateTime {
         self.date_time().sunday_based_week()
     }
 
-    /// As [`PlainDateTime::monday_based_week`] of the wall clock.
+    /// As [`Date::monday_based_week`], of the day of the wall clock.
     pub fn monday_based_week(self) -> u8
         ensures value { result ≡ monday_week_of (wall_day self.wall) }
         ensures in_range { result ≤ 53 }
@@ -86,7 +86,7 @@ impl OffsetDateTime {
         self.date_time().monday_based_week()
     }
 
-    /// As [`PlainDateTime::to_calendar_date`] of the wall clock.
+    /// As [`Date::to_calendar_date`], of the day of the wall clock.
     pub fn to_calendar_date(self) -> (i32, Month, u8)
         ensures year { result.0 ≡ year_of (wall_day self.wall) }
         ensures month { month_number result.1 ≡ month_of (wall_day self.wall) }
@@ -97,7 +97,7 @@ impl OffsetDateTime {
         self.date_time().to_calendar_date()
     }
 
-    /// As [`PlainDateTime::to_ordinal_date`] of the wall clock.
+    /// As [`Date::to_ordinal_date`], of the day of the wall clock.
     pub fn to_ordinal_date(self) -> (i32, u16)
         ensures year { result.0 ≡ year_of (wall_day self.wall) }
         ensures ordinal { result.1 ≡ ordinal_of (wall_day self.wall) }
@@ -107,7 +107,7 @@ impl OffsetDateTime {
         self.date_time().to_ordinal_date()
     }
 
-    /// As [`PlainDateTime::to_iso_week_date`] of the wall clock.
+    /// As [`Date::to_iso_week_date`], of the day of the wall clock.
     pub fn to_iso_week_date(self) -> (i32, u8, Weekday)
         ensures year { result.0 ≡ iso_year_of (wall_day self.wall) }
         ensures week { result.1 ≡ iso_week_of (wall_day self.wall) }
@@ -118,14 +118,14 @@ impl OffsetDateTime {
         self.date_time().to_iso_week_date()
     }
 
-    /// As [`PlainDateTime::weekday`] of the wall clock.
+    /// As [`Date::weekday`], of the day of the wall clock.
     pub fn weekday(self) -> Weekday
         ensures { weekday_number result ≡ weekday_of (wall_day self.wall) }
     {
         self.date_time().weekday()
     }
 
-    /// As [`PlainDateTime::to_julian_day`] of the wall clock.
+    /// As [`Date::to_julian_day`], of the day of the wall clock.
     pub fn to_julian_day(self) -> i32
         ensures value { result ≡ julian_day_of (wall_day self.wall) }
         ensures in_range { IsLocal self }
@@ -133,7 +133,7 @@ impl OffsetDateTime {
         self.date_time().to_julian_day()
     }
 
-    /// As [`PlainDateTime::as_hms`] of the wall clock.
+    /// As [`Time::as_hms`], of the time of day of the wall clock.
     pub fn to_hms(self) -> (u8, u8, u8)
         ensures value { let c = wall_time self.wall in result ≡ (hour_of c, minute_of c, second_of c) }
         ensures in_range { IsTimeOfDay result.0 result.1 result.2 0 }
@@ -141,7 +141,7 @@ impl OffsetDateTime {
         self.date_time().as_hms()
     }
 
-    /// As [`PlainDateTime::as_hms_milli`] of the wall clock.
+    /// As [`Time::as_hms_milli`], of the time of day of the wall clock.
     pub fn to_hms_milli(self) -> (u8, u8, u8, u16)
         ensures value { let c = wall_time self.wall in result ≡ (hour_of c, minute_of c, second_of c, millisecond_of c) }
         ensures in_range { IsTimeOfDay result.0 result.1 result.2 (result.3 * nanos_per_millisecond) }
@@ -149,7 +149,7 @@ impl OffsetDateTime {
         self.date_time().as_hms_milli()
     }
 
-    /// As [`PlainDateTime::as_hms_micro`] of the wall clock.
+    /// As [`Time::as_hms_micro`], of the time of day of the wall clock.
     pub fn to_hms_micro(self) -> (u8, u8, u8, u32)
         ensures value { let c = wall_time self.wall in result ≡ (hour_of c, minute_of c, second_of c, microsecond_of c) }
         ensures in_range { IsTimeOfDay result.0 result.1 result.2 (result.3 * nanos_per_microsecond) }
@@ -157,7 +157,7 @@ impl OffsetDateTime {
         self.date_time().as_hms_micro()
     }
 
-    /// As [`PlainDateTime::as_hms_nano`] of the wall clock.
+    /// As [`Time::as_hms_nano`], of the time of day of the wall clock.
     pub fn to_hms_nano(self) -> (u8, u8, u8, u32)
         ensures value { let c = wall_time self.wall in result ≡ (hour_of c, minute_of c, second_of c, nanosecond_of c) }
         ensures in_range { IsTimeOfDay result.0 result.1 result.2 result.3 }
@@ -165,7 +165,7 @@ impl OffsetDateTime {
         self.date_time().as_hms_nano()
     }
 
-    /// As [`PlainDateTime::hour`] of the wall clock.
+    /// As [`Time::hour`], of the time of day of the wall clock.
     pub fn hour(self) -> u8
         ensures value { result ≡ hour_of (wall_time self.wall) }
         ensures in_range { result ≤ 23 }
@@ -173,7 +173,7 @@ impl OffsetDateTime {
         self.date_time().hour()
     }
 
-    /// As [`PlainDateTime::minute`] of the wall clock.
+    /// As [`Time::minute`], of the time of day of the wall clock.
     pub fn minute(self) -> u8
         ensures value { result ≡ minute_of (wall_time self.wall) }
         ensures in_range { result ≤ 59 }
@@ -181,7 +181,7 @@ impl OffsetDateTime {
         self.date_time().minute()
     }
 
-    /// As [`PlainDateTime::second`] of the wall clock.
+    /// As [`Time::second`], of the time of day of the wall clock.
     pub fn second(self) -> u8
         ensures value { result ≡ second_of (wall_time self.wall) }
         ensures in_range { result ≤ 59 }
@@ -189,7 +189,7 @@ impl OffsetDateTime {
         self.date_time().second()
     }
 
-    /// As [`PlainDateTime::millisecond`] of the wall clock.
+    /// As [`Time::millisecond`], of the time of day of the wall clock.
     pub fn millisecond(self) -> u16
         ensures value { result ≡ millisecond_of (wall_time self.wall) }
         ensures in_range { result ≤ 999 }
@@ -197,7 +197,7 @@ impl OffsetDateTime {
         self.date_time().millisecond()
     }
 
-    /// As [`PlainDateTime::microsecond`] of the wall clock.
+    /// As [`Time::microsecond`], of the time of day of the wall clock.
     pub fn microsecond(self) -> u32
         ensures value { result ≡ microsecond_of (wall_time self.wall) }
         ensures in_range { result ≤ 999_999 }
@@ -205,7 +205,7 @@ impl OffsetDateTime {
         self.date_time().microsecond()
     }
 
-    /// As [`PlainDateTime::nanosecond`] of the wall clock.
+    /// As [`Time::nanosecond`], of the time of day of the wall clock.
     pub fn nanosecond(self) -> u32
         ensures value { result ≡ nanosecond_of (wall_time self.wall) }
         ensures in_range { result ≤ 999_999_999 }

@@ -30,7 +30,7 @@ impl OffsetDateTime {
         self.date_time().assume_offset(offset)
     }
 
-    /// As [`PlainDateTime::replace_time`] of the wall clock.
+    /// The same date at another time of day, at the same offset.
     pub fn replace_time(self, time: Time) -> OffsetDateTime
         ensures value { result ≡ local (with_time self.wall time) self.offset }
         ensures date { wall_day result.wall ≡ wall_day self.wall }
@@ -40,7 +40,7 @@ impl OffsetDateTime {
         self.replace_date_time(self.date_time().replace_time(time))
     }
 
-    /// As [`PlainDateTime::replace_date`] of the wall clock.
+    /// The same time of day on another date, at the same offset.
     pub fn replace_date(self, date: Date) -> OffsetDateTime
         ensures value { result ≡ local (with_date self.wall date) self.offset }
         ensures date { wall_day result.wall ≡ date }
@@ -50,7 +50,7 @@ impl OffsetDateTime {
         self.replace_date_time(self.date_time().replace_date(date))
     }
 
-    /// As [`PlainDateTime::replace_year`] of the wall clock.
+    /// As [`Date::replace_year`], of the day of the wall clock, with the time of day and the offset kept.
     pub fn replace_year(self, year: i32) -> Result<OffsetDateTime, ComponentRange>
         ensures value { let n = wall_day self.wall in OkIff result
             (IsDateOfRange year (month_of n) (day_of_month_of n))
@@ -63,7 +63,7 @@ impl OffsetDateTime {
         Ok(self.replace_date_time(self.date_time().replace_year(year)?))
     }
 
-    /// As [`PlainDateTime::replace_month`] of the wall clock.
+    /// As [`Date::replace_month`], of the day of the wall clock, with the time of day and the offset kept.
     pub fn replace_month(self, month: Month) -> Result<OffsetDateTime, ComponentRange>
         ensures value { let n = wall_day self.wall in OkIff result
             (day_of_month_of n ≤ days_in_month (is_leap_year (year_of n)) (month_number month))
@@ -76,7 +76,7 @@ impl OffsetDateTime {
         Ok(self.replace_date_time(self.date_time().replace_month(month)?))
     }
 
-    /// As [`PlainDateTime::replace_day`] of the wall clock.
+    /// As [`Date::replace_day`], of the day of the wall clock, with the time of day and the offset kept.
     pub fn replace_day(self, day: u8) -> Result<OffsetDateTime, ComponentRange>
         ensures value { let n = wall_day self.wall in OkIff result
             ((1 ≤ day) × (day ≤ days_in_month (is_leap_year (year_of n)) (month_of n)))
@@ -89,7 +89,7 @@ impl OffsetDateTime {
         Ok(self.replace_date_time(self.date_time().replace_day(day)?))
     }
 
-    /// As [`PlainDateTime::replace_ordinal`] of the wall clock.
+    /// As [`Date::replace_ordinal`], of the day of the wall clock, with the time of day and the offset kept.
     pub fn replace_ordinal(self, ordinal: u16) -> Result<OffsetDateTime, ComponentRange>
         ensures value { let n = wall_day self.wall in OkIff result
             ((1 ≤ ordinal) × (ordinal ≤ days_in_year (year_of n)))
@@ -102,7 +102,7 @@ impl OffsetDateTime {
         Ok(self.replace_date_time(self.date_time().replace_ordinal(ordinal)?))
     }
 
-    /// As [`PlainDateTime::truncate_to_day`] of the wall clock.
+    /// The first nanosecond of the day that it is in, by the wall clock, at the same offset.
     pub fn truncate_to_day(self) -> OffsetDateTime
         ensures value { result ≡ local (rounded_down nanos_per_day self.wall) self.offset }
         ensures midnight { result ≡ local (wall_clock (wall_day self.wall) 0) self.offset }
@@ -115,7 +115,7 @@ impl OffsetDateTime {
         self.replace_date_time(self.date_time().truncate_to_day())
     }
 
-    /// As [`PlainDateTime::replace_hour`] of the wall clock.
+    /// As [`Time::replace_hour`], of the time of day of the wall clock, with the date and the offset kept.
     pub fn replace_hour(self, hour: u8) -> Result<OffsetDateTime, ComponentRange>
         ensures value { let c = wall_time self.wall in OkIff result (hour ≤ 23)
             (local (with_time self.wall (clock_of_parts hour (minute_of c) (second_of c) (nanosecond_of c))) self.offset) }
@@ -127,7 +127,7 @@ impl OffsetDateTime {
         Ok(self.replace_date_time(self.date_time().replace_hour(hour)?))
     }
 
-    /// As [`PlainDateTime::truncate_to_hour`] of the wall clock.
+    /// The first nanosecond of the hour that it is in, by the wall clock, at the same offset.
     pub fn truncate_to_hour(self) -> OffsetDateTime
         ensures value { result ≡ local (rounded_down nanos_per_hour self.wall) self.offset }
         ensures not_above { result.wall ≤ℤ self.wall }
@@ -137,7 +137,7 @@ impl OffsetDateTime {
         self.replace_date_time(self.date_time().truncate_to_hour())
     }
 
-    /// As [`PlainDateTime::replace_minute`] of the wall clock.
+    /// As [`Time::replace_minute`], of the time of day of the wall clock, with the date and the offset kept.
     pub fn replace_minute(self, minute: u8) -> Result<OffsetDateTime, ComponentRange>
         ensures value { let c = wall_time self.wall in OkIff result (minute ≤ 59)
             (local (with_time self.wall (clock_of_parts (hour_of c) minute (second_of c) (nanosecond_of c))) self.offset) }
@@ -149,7 +149,7 @@ impl OffsetDateTime {
         Ok(self.replace_date_time(self.date_time().replace_minute(minute)?))
     }
 
-    /// As [`PlainDateTime::truncate_to_minute`] of the wall clock.
+    /// The first nanosecond of the minute that it is in, by the wall clock, at the same offset.
     pub fn truncate_to_minute(self) -> OffsetDateTime
         ensures value { result ≡ local (rounded_down nanos_per_minute self.wall) self.offset }
         ensures not_above { result.wall ≤ℤ self.wall }
@@ -159,7 +159,7 @@ impl OffsetDateTime {
         self.replace_date_time(self.date_time().truncate_to_minute())
     }
 
-    /// As [`PlainDateTime::replace_second`] of the wall clock.
+    /// As [`Time::replace_second`], of the time of day of the wall clock, with the date and the offset kept.
     pub fn replace_second(self, second: u8) -> Result<OffsetDateTime, ComponentRange>
         ensures value { let c = wall_time self.wall in OkIff result (second ≤ 59)
             (local (with_time self.wall (clock_of_parts (hour_of c) (minute_of c) second (nanosecond_of c))) self.offset) }
@@ -171,7 +171,7 @@ impl OffsetDateTime {
         Ok(self.replace_date_time(self.date_time().replace_second(second)?))
     }
 
-    /// As [`PlainDateTime::truncate_to_second`] of the wall clock.
+    /// The first nanosecond of the second that it is in, by the wall clock, at the same offset.
     pub fn truncate_to_second(self) -> OffsetDateTime
         ensures value { result ≡ local (rounded_down nanos_per_second self.wall) self.offset }
         ensures not_above { result.wall ≤ℤ self.wall }
@@ -181,7 +181,8 @@ impl OffsetDateTime {
         self.replace_date_time(self.date_time().truncate_to_second())
     }
 
-    /// As [`PlainDateTime::replace_millisecond`] of the wall clock.
+    /// As [`Time::replace_millisecond`], of the time of day of the wall clock, with the date and the offset
+    /// kept.
     pub fn replace_millisecond(self, millisecond: u16) -> Result<OffsetDateTime, ComponentRange>
         ensures value { let c = wall_time self.wall in OkIff result (millisecond ≤ 999)
             (local (with_time self.wall (clock_of_parts (hour_of c) (minute_of c) (second_of c) (millisecond * nanos_per_millisecond))) self.offset) }
@@ -194,7 +195,7 @@ impl OffsetDateTime {
         Ok(self.replace_date_time(self.date_time().replace_millisecond(millisecond)?))
     }
 
-    /// As [`PlainDateTime::truncate_to_millisecond`] of the wall clock.
+    /// The first nanosecond of the millisecond that it is in, by the wall clock, at the same offset.
     pub fn truncate_to_millisecond(self) -> OffsetDateTime
         ensures value { result ≡ local (rounded_down nanos_per_millisecond self.wall) self.offset }
         ensures not_above { result.wall ≤ℤ self.wall }
@@ -204,7 +205,8 @@ impl OffsetDateTime {
         self.replace_date_time(self.date_time().truncate_to_millisecond())
     }
 
-    /// As [`PlainDateTime::replace_microsecond`] of the wall clock.
+    /// As [`Time::replace_microsecond`], of the time of day of the wall clock, with the date and the offset
+    /// kept.
     pub fn replace_microsecond(self, microsecond: u32) -> Result<OffsetDateTime, ComponentRange>
         ensures value { let c = wall_time self.wall in OkIff result (microsecond ≤ 999_999)
             (local (with_time self.wall (clock_of_parts (hour_of c) (minute_of c) (second_of c) (microsecond * nanos_per_microsecond))) self.offset) }
@@ -217,7 +219,7 @@ impl OffsetDateTime {
         Ok(self.replace_date_time(self.date_time().replace_microsecond(microsecond)?))
     }
 
-    /// As [`PlainDateTime::truncate_to_microsecond`] of the wall clock.
+    /// The first nanosecond of the microsecond that it is in, by the wall clock, at the same offset.
     pub fn truncate_to_microsecond(self) -> OffsetDateTime
         ensures value { result ≡ local (rounded_down nanos_per_microsecond self.wall) self.offset }
         ensures not_above { result.wall ≤ℤ self.wall }
@@ -227,7 +229,8 @@ impl OffsetDateTime {
         self.replace_date_time(self.date_time().truncate_to_microsecond())
     }
 
-    /// As [`PlainDateTime::replace_nanosecond`] of the wall clock.
+    /// As [`Time::replace_nanosecond`], of the time of day of the wall clock, with the date and the offset
+    /// kept.
     pub fn replace_nanosecond(self, nanosecond: u32) -> Result<OffsetDateTime, ComponentRange>
         ensures value { let c = wall_time self.wall in OkIff result (nanosecond ≤ 999_999_999)
             (local (with_time self.wall (clock_of_parts (hour_of c) (minute_of c) (second_of c) nanosecond)) self.offset) }

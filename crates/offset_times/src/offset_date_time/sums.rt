@@ -10,7 +10,8 @@ use calendar_values::SignedDuration;
 use std::time::Duration;
 
 impl OffsetDateTime {
-    /// As [`plain_times::PlainDateTime::checked_add`] of the wall clock, whether its instant lies in the range or not.
+    /// The wall clock so much later at the same offset, or earlier for a negative duration. None where the wall
+    /// clock would be outside the range; whether the instant lies in it does not matter.
     #[tactic(auto, using(crate::specs::InstantLemmas::instants))]
     pub fn checked_add(self, duration: SignedDuration) -> Option<OffsetDateTime>
         ensures value { let wall = self.wall +ℤ duration in SomeIff result (IsWallClock wall) (local wall self.offset) }
@@ -19,7 +20,8 @@ impl OffsetDateTime {
         Some(self.replace_date_time(self.date_time().checked_add(duration)?))
     }
 
-    /// As [`plain_times::PlainDateTime::checked_sub`] of the wall clock, whether its instant lies in the range or not.
+    /// The wall clock so much earlier at the same offset, or later for a negative duration. None where the wall
+    /// clock would be outside the range; whether the instant lies in it does not matter.
     #[tactic(auto, using(crate::specs::InstantLemmas::instants))]
     pub fn checked_sub(self, duration: SignedDuration) -> Option<OffsetDateTime>
         ensures value { let wall = self.wall -ℤ duration in SomeIff result (IsWallClock wall) (local wall self.offset) }
@@ -28,7 +30,8 @@ impl OffsetDateTime {
         Some(self.replace_date_time(self.date_time().checked_sub(duration)?))
     }
 
-    /// As [`plain_times::PlainDateTime::checked_add_std`] of the wall clock, whether its instant lies in the range or not.
+    /// The wall clock so much later at the same offset. None where the wall clock would be outside the range;
+    /// whether the instant lies in it does not matter.
     #[tactic(auto, using(crate::specs::InstantLemmas::instants))]
     pub fn checked_add_std(self, duration: Duration) -> Option<OffsetDateTime>
         ensures value { let wall = self.wall +ℤ pos (as_nanos duration) in SomeIff result (IsWallClock wall) (local wall self.offset) }
@@ -37,7 +40,8 @@ impl OffsetDateTime {
         Some(self.replace_date_time(self.date_time().checked_add_std(duration)?))
     }
 
-    /// As [`plain_times::PlainDateTime::checked_sub_std`] of the wall clock, whether its instant lies in the range or not.
+    /// The wall clock so much earlier at the same offset. None where the wall clock would be outside the range;
+    /// whether the instant lies in it does not matter.
     #[tactic(auto, using(crate::specs::InstantLemmas::instants))]
     pub fn checked_sub_std(self, duration: Duration) -> Option<OffsetDateTime>
         ensures value { let wall = self.wall -ℤ pos (as_nanos duration) in SomeIff result (IsWallClock wall) (local wall self.offset) }
@@ -46,7 +50,8 @@ impl OffsetDateTime {
         Some(self.replace_date_time(self.date_time().checked_sub_std(duration)?))
     }
 
-    /// As [`plain_times::PlainDateTime::saturating_add`] of the wall clock.
+    /// The wall clock so much later at the same offset, or earlier for a negative duration; outside the range
+    /// the end of it that lies in this direction.
     pub fn saturating_add(self, duration: SignedDuration) -> OffsetDateTime
         ensures value { result ≡ local (clamped (self.wall +ℤ duration)) self.offset }
         ensures not_before { pos 0 ≤ℤ duration → self.wall ≤ℤ result.wall }
@@ -58,7 +63,8 @@ impl OffsetDateTime {
         self.replace_date_time(self.date_time().saturating_add(duration))
     }
 
-    /// As [`plain_times::PlainDateTime::saturating_sub`] of the wall clock.
+    /// The wall clock so much earlier at the same offset, or later for a negative duration; outside the range
+    /// the end of it that lies in this direction.
     pub fn saturating_sub(self, duration: SignedDuration) -> OffsetDateTime
         ensures value { result ≡ local (clamped (self.wall -ℤ duration)) self.offset }
         ensures not_before { duration ≤ℤ pos 0 → self.wall ≤ℤ result.wall }

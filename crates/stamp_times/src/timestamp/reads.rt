@@ -67,7 +67,7 @@ impl Timestamp {
         Time::from_hms_nano(hour, minute, second, nanosecond).unwrap()
     }
 
-    /// As [`UtcDateTime::year`].
+    /// As [`Date::year`], of the day in UTC.
     pub fn year(self) -> i32
         ensures value { result ≡ year_of (wall_day self) }
         ensures in_range { IsYear result }
@@ -75,7 +75,7 @@ impl Timestamp {
         year_leap_ordinal(self.day_number()).0
     }
 
-    /// As [`UtcDateTime::month`].
+    /// As [`Date::month`], of the day in UTC.
     pub fn month(self) -> Month
         ensures { month_number result ≡ month_of (wall_day self) }
     {
@@ -83,7 +83,7 @@ impl Timestamp {
         leap_ordinal_to_month_day(is_leap, ordinal).0
     }
 
-    /// As [`UtcDateTime::day`].
+    /// As [`Date::day`], of the day in UTC.
     pub fn day(self) -> u8
         ensures value { result ≡ day_of_month_of (wall_day self) }
         ensures in_range { IsInRange 1 31 result }
@@ -92,7 +92,7 @@ impl Timestamp {
         leap_ordinal_to_month_day(is_leap, ordinal).1
     }
 
-    /// As [`UtcDateTime::ordinal`].
+    /// As [`Date::ordinal`], of the day in UTC.
     pub fn ordinal(self) -> u16
         ensures value { result ≡ ordinal_of (wall_day self) }
         ensures in_range { IsInRange 1 366 result }
@@ -100,7 +100,7 @@ impl Timestamp {
         year_leap_ordinal(self.day_number()).2
     }
 
-    /// As [`UtcDateTime::iso_week`].
+    /// As [`Date::iso_week`], of the day in UTC.
     pub fn iso_week(self) -> u8
         ensures value { result ≡ iso_week_of (wall_day self) }
         ensures in_range { IsInRange 1 53 result }
@@ -108,7 +108,7 @@ impl Timestamp {
         self.date().iso_week()
     }
 
-    /// As [`UtcDateTime::sunday_based_week`].
+    /// As [`Date::sunday_based_week`], of the day in UTC.
     pub fn sunday_based_week(self) -> u8
         ensures value { result ≡ sunday_week_of (wall_day self) }
         ensures in_range { result ≤ 53 }
@@ -116,7 +116,7 @@ impl Timestamp {
         self.date().sunday_based_week()
     }
 
-    /// As [`UtcDateTime::monday_based_week`].
+    /// As [`Date::monday_based_week`], of the day in UTC.
     pub fn monday_based_week(self) -> u8
         ensures value { result ≡ monday_week_of (wall_day self) }
         ensures in_range { result ≤ 53 }
@@ -124,7 +124,7 @@ impl Timestamp {
         self.date().monday_based_week()
     }
 
-    /// As [`UtcDateTime::to_calendar_date`].
+    /// As [`Date::to_calendar_date`], of the day in UTC.
     pub fn to_calendar_date(self) -> (i32, Month, u8)
         ensures year { result.0 ≡ year_of (wall_day self) }
         ensures month { month_number result.1 ≡ month_of (wall_day self) }
@@ -137,7 +137,7 @@ impl Timestamp {
         (year, month, day)
     }
 
-    /// As [`UtcDateTime::to_ordinal_date`].
+    /// As [`Date::to_ordinal_date`], of the day in UTC.
     pub fn to_ordinal_date(self) -> (i32, u16)
         ensures year { result.0 ≡ year_of (wall_day self) }
         ensures ordinal { result.1 ≡ ordinal_of (wall_day self) }
@@ -148,7 +148,7 @@ impl Timestamp {
         (year, ordinal)
     }
 
-    /// As [`UtcDateTime::to_iso_week_date`].
+    /// As [`Date::to_iso_week_date`], of the day in UTC.
     pub fn to_iso_week_date(self) -> (i32, u8, Weekday)
         ensures year { result.0 ≡ iso_year_of (wall_day self) }
         ensures week { result.1 ≡ iso_week_of (wall_day self) }
@@ -159,7 +159,7 @@ impl Timestamp {
         self.date().to_iso_week_date()
     }
 
-    /// As [`UtcDateTime::weekday`].
+    /// As [`Date::weekday`], of the day in UTC.
     #[tactic(auto, using(crate::proofs::InstantLemmas::weekdays))]
     pub fn weekday(self) -> Weekday
         ensures { weekday_number result ≡ weekday_of (wall_day self) }
@@ -175,7 +175,7 @@ impl Timestamp {
         }
     }
 
-    /// As [`UtcDateTime::to_julian_day`].
+    /// As [`Date::to_julian_day`], of the day in UTC.
     pub fn to_julian_day(self) -> i32
         ensures value { result ≡ julian_day_of (wall_day self) }
         ensures self_in_range { IsWallClock self }
@@ -183,7 +183,7 @@ impl Timestamp {
         self.day_number() + EPOCH_JULIAN_DAY
     }
 
-    /// As [`UtcDateTime::as_hms`].
+    /// As [`Time::as_hms`], of the time of day in UTC.
     pub fn as_hms(self) -> (u8, u8, u8)
         ensures value { let c = wall_time self in result ≡ (hour_of c, minute_of c, second_of c) }
         ensures in_range { IsTimeOfDay result.0 result.1 result.2 0 }
@@ -196,7 +196,7 @@ impl Timestamp {
         )
     }
 
-    /// As [`UtcDateTime::as_hms_milli`].
+    /// As [`Time::as_hms_milli`], of the time of day in UTC.
     pub fn as_hms_milli(self) -> (u8, u8, u8, u16)
         ensures value { let c = wall_time self in result ≡ (hour_of c, minute_of c, second_of c, millisecond_of c) }
         ensures in_range { IsTimeOfDay result.0 result.1 result.2 (result.3 * nanos_per_millisecond) }
@@ -205,7 +205,7 @@ impl Timestamp {
         (hour, minute, second, self.millisecond())
     }
 
-    /// As [`UtcDateTime::as_hms_micro`].
+    /// As [`Time::as_hms_micro`], of the time of day in UTC.
     pub fn as_hms_micro(self) -> (u8, u8, u8, u32)
         ensures value { let c = wall_time self in result ≡ (hour_of c, minute_of c, second_of c, microsecond_of c) }
         ensures in_range { IsTimeOfDay result.0 result.1 result.2 (result.3 * nanos_per_microsecond) }
@@ -214,7 +214,7 @@ impl Timestamp {
         (hour, minute, second, self.microsecond())
     }
 
-    /// As [`UtcDateTime::as_hms_nano`].
+    /// As [`Time::as_hms_nano`], of the time of day in UTC.
     pub fn as_hms_nano(self) -> (u8, u8, u8, u32)
         ensures value { let c = wall_time self in result ≡ (hour_of c, minute_of c, second_of c, nanosecond_of c) }
         ensures in_range { IsTimeOfDay result.0 result.1 result.2 result.3 }
@@ -223,7 +223,7 @@ impl Timestamp {
         (hour, minute, second, self.nanosecond())
     }
 
-    /// As [`UtcDateTime::hour`].
+    /// As [`Time::hour`], of the time of day in UTC.
     pub fn hour(self) -> u8
         ensures value { result ≡ hour_of (wall_time self) }
         ensures in_range { result ≤ 23 }
@@ -231,7 +231,7 @@ impl Timestamp {
         (self.second_of_day() / 3_600) as u8
     }
 
-    /// As [`UtcDateTime::minute`].
+    /// As [`Time::minute`], of the time of day in UTC.
     pub fn minute(self) -> u8
         ensures value { result ≡ minute_of (wall_time self) }
         ensures in_range { result ≤ 59 }
@@ -239,7 +239,7 @@ impl Timestamp {
         (self.second_of_day() / 60 % 60) as u8
     }
 
-    /// As [`UtcDateTime::second`].
+    /// As [`Time::second`], of the time of day in UTC.
     pub fn second(self) -> u8
         ensures value { result ≡ second_of (wall_time self) }
         ensures in_range { result ≤ 59 }
@@ -247,7 +247,7 @@ impl Timestamp {
         (self.second_of_day() % 60) as u8
     }
 
-    /// As [`UtcDateTime::millisecond`].
+    /// As [`Time::millisecond`], of the time of day in UTC.
     pub fn millisecond(self) -> u16
         ensures value { result ≡ millisecond_of (wall_time self) }
         ensures in_range { result ≤ 999 }
@@ -255,7 +255,7 @@ impl Timestamp {
         (self.nanosecond() / 1_000_000) as u16
     }
 
-    /// As [`UtcDateTime::microsecond`].
+    /// As [`Time::microsecond`], of the time of day in UTC.
     pub fn microsecond(self) -> u32
         ensures value { result ≡ microsecond_of (wall_time self) }
         ensures in_range { result ≤ 999_999 }
@@ -263,7 +263,7 @@ impl Timestamp {
         self.nanosecond() / 1_000
     }
 
-    /// As [`UtcDateTime::nanosecond`].
+    /// As [`Time::nanosecond`], of the time of day in UTC.
     #[tactic(auto, using(crate::proofs::InstantLemmas::fields))]
     pub fn nanosecond(self) -> u32
         ensures value { result ≡ nanosecond_of (wall_time self) }

@@ -18,7 +18,7 @@ const SECONDS_PER_DAY: i64 = 86_400;
 const EPOCH_JULIAN_DAY: i32 = 2_440_588;
 
 impl Timestamp {
-    /// As [`utc_times::UtcDateTime::replace_time`].
+    /// The same date in UTC at another time of day.
     #[tactic(auto, using(plain_times::specs::ReplacementLemmas::replaced), unfolding(plain_times::specs::Replacements::with_time))]
     pub fn replace_time(self, time: Time) -> Timestamp
         ensures value { result ≡ with_time self time }
@@ -30,7 +30,7 @@ impl Timestamp {
         on_day(self.day_number(), second, nanosecond)
     }
 
-    /// As [`utc_times::UtcDateTime::replace_date`].
+    /// The same time of day in UTC on another date.
     #[tactic(auto, unfolding(plain_times::specs::Replacements::with_date))]
     pub fn replace_date(self, date: Date) -> Timestamp
         ensures value { result ≡ with_date self date }
@@ -41,7 +41,7 @@ impl Timestamp {
         on_day(day, self.second_of_day(), self.nanosecond())
     }
 
-    /// As [`utc_times::UtcDateTime::replace_year`].
+    /// As [`Date::replace_year`], of the day in UTC, with the time of day kept.
     #[tactic(auto, unfolding(plain_times::specs::Replacements::keeping_time))]
     pub fn replace_year(self, year: i32) -> Result<Timestamp, ComponentRange>
         ensures value { let n = wall_day self in OkIff result
@@ -55,7 +55,7 @@ impl Timestamp {
         Ok(self.replace_date(self.date().replace_year(year)?))
     }
 
-    /// As [`utc_times::UtcDateTime::replace_month`].
+    /// As [`Date::replace_month`], of the day in UTC, with the time of day kept.
     #[tactic(auto, unfolding(plain_times::specs::Replacements::keeping_time))]
     pub fn replace_month(self, month: Month) -> Result<Timestamp, ComponentRange>
         ensures value { let n = wall_day self in OkIff result
@@ -69,7 +69,7 @@ impl Timestamp {
         Ok(self.replace_date(self.date().replace_month(month)?))
     }
 
-    /// As [`utc_times::UtcDateTime::replace_day`].
+    /// As [`Date::replace_day`], of the day in UTC, with the time of day kept.
     #[tactic(auto, unfolding(plain_times::specs::Replacements::keeping_time))]
     pub fn replace_day(self, day: u8) -> Result<Timestamp, ComponentRange>
         ensures value { let n = wall_day self in OkIff result
@@ -83,7 +83,7 @@ impl Timestamp {
         Ok(self.replace_date(self.date().replace_day(day)?))
     }
 
-    /// As [`utc_times::UtcDateTime::replace_ordinal`].
+    /// As [`Date::replace_ordinal`], of the day in UTC, with the time of day kept.
     #[tactic(auto, unfolding(plain_times::specs::Replacements::keeping_time))]
     pub fn replace_ordinal(self, ordinal: u16) -> Result<Timestamp, ComponentRange>
         ensures value { let n = wall_day self in OkIff result
@@ -97,7 +97,7 @@ impl Timestamp {
         Ok(self.replace_date(self.date().replace_ordinal(ordinal)?))
     }
 
-    /// As [`utc_times::UtcDateTime::replace_hour`].
+    /// As [`Time::replace_hour`], of the time of day in UTC, with the date kept.
     #[tactic(auto, using(plain_times::specs::ReplacementLemmas::times), unfolding(plain_times::specs::Replacements::keeping_day))]
     pub fn replace_hour(self, hour: u8) -> Result<Timestamp, ComponentRange>
         ensures value { let c = wall_time self in OkIff result (hour ≤ 23)
@@ -110,7 +110,7 @@ impl Timestamp {
         Ok(self.replace_time(self.time().replace_hour(hour)?))
     }
 
-    /// As [`utc_times::UtcDateTime::replace_minute`].
+    /// As [`Time::replace_minute`], of the time of day in UTC, with the date kept.
     #[tactic(auto, using(plain_times::specs::ReplacementLemmas::times), unfolding(plain_times::specs::Replacements::keeping_day))]
     pub fn replace_minute(self, minute: u8) -> Result<Timestamp, ComponentRange>
         ensures value { let c = wall_time self in OkIff result (minute ≤ 59)
@@ -123,7 +123,7 @@ impl Timestamp {
         Ok(self.replace_time(self.time().replace_minute(minute)?))
     }
 
-    /// As [`utc_times::UtcDateTime::replace_second`].
+    /// As [`Time::replace_second`], of the time of day in UTC, with the date kept.
     #[tactic(auto, using(plain_times::specs::ReplacementLemmas::times), unfolding(plain_times::specs::Replacements::keeping_day))]
     pub fn replace_second(self, second: u8) -> Result<Timestamp, ComponentRange>
         ensures value { let c = wall_time self in OkIff result (second ≤ 59)
@@ -136,7 +136,8 @@ impl Timestamp {
         Ok(self.replace_time(self.time().replace_second(second)?))
     }
 
-    /// As [`utc_times::UtcDateTime::replace_millisecond`]: the Unix second is kept, before 1970 too.
+    /// As [`Time::replace_millisecond`], of the time of day in UTC, with the date kept: the Unix second is
+    /// kept, before 1970 too.
     #[tactic(auto, unfolding(plain_times::specs::Replacements::keeping_day))]
     pub fn replace_millisecond(self, millisecond: u16) -> Result<Timestamp, ComponentRange>
         ensures value { let c = wall_time self in OkIff result (millisecond ≤ 999)
@@ -153,7 +154,8 @@ impl Timestamp {
         Ok(self.at_nanosecond(millisecond as u32 * 1_000_000))
     }
 
-    /// As [`utc_times::UtcDateTime::replace_microsecond`]: the Unix second is kept, before 1970 too.
+    /// As [`Time::replace_microsecond`], of the time of day in UTC, with the date kept: the Unix second is
+    /// kept, before 1970 too.
     #[tactic(auto, unfolding(plain_times::specs::Replacements::keeping_day))]
     pub fn replace_microsecond(self, microsecond: u32) -> Result<Timestamp, ComponentRange>
         ensures value { let c = wall_time self in OkIff result (microsecond ≤ 999_999)
@@ -170,7 +172,8 @@ impl Timestamp {
         Ok(self.at_nanosecond(microsecond * 1_000))
     }
 
-    /// As [`utc_times::UtcDateTime::replace_nanosecond`]: the Unix second is kept, before 1970 too.
+    /// As [`Time::replace_nanosecond`], of the time of day in UTC, with the date kept: the Unix second is kept,
+    /// before 1970 too.
     #[tactic(auto, unfolding(plain_times::specs::Replacements::keeping_day))]
     pub fn replace_nanosecond(self, nanosecond: u32) -> Result<Timestamp, ComponentRange>
         ensures value { let c = wall_time self in OkIff result (nanosecond ≤ 999_999_999)

@@ -14,7 +14,7 @@ use std::time::Duration;
 const NANOS_PER_SECOND: i32 = 1_000_000_000;
 
 impl Timestamp {
-    /// As [`utc_times::UtcDateTime::checked_add`].
+    /// The instant so much later, or earlier for a negative duration. None outside the range.
     pub fn checked_add(self, duration: SignedDuration) -> Option<Timestamp>
         ensures { SomeIff result (IsWallClock (self +ℤ duration)) (self +ℤ duration) }
     {
@@ -22,7 +22,7 @@ impl Timestamp {
         carried(seconds, self.nanosecond(), duration.subsec_nanoseconds())
     }
 
-    /// As [`utc_times::UtcDateTime::checked_sub`].
+    /// The instant so much earlier, or later for a negative duration. None outside the range.
     pub fn checked_sub(self, duration: SignedDuration) -> Option<Timestamp>
         ensures { SomeIff result (IsWallClock (self -ℤ duration)) (self -ℤ duration) }
     {
@@ -30,7 +30,7 @@ impl Timestamp {
         carried(seconds, self.nanosecond(), -duration.subsec_nanoseconds())
     }
 
-    /// As [`utc_times::UtcDateTime::checked_add_std`].
+    /// The instant so much later. None outside the range.
     pub fn checked_add_std(self, duration: Duration) -> Option<Timestamp>
         ensures { SomeIff result (IsWallClock (self +ℤ pos (as_nanos duration))) (self +ℤ pos (as_nanos duration)) }
     {
@@ -38,7 +38,7 @@ impl Timestamp {
         carried(seconds, self.nanosecond(), duration.subsec_nanos() as i32)
     }
 
-    /// As [`utc_times::UtcDateTime::checked_sub_std`].
+    /// The instant so much earlier. None outside the range.
     pub fn checked_sub_std(self, duration: Duration) -> Option<Timestamp>
         ensures { SomeIff result (IsWallClock (self -ℤ pos (as_nanos duration))) (self -ℤ pos (as_nanos duration)) }
     {
@@ -50,7 +50,8 @@ impl Timestamp {
         )
     }
 
-    /// As [`utc_times::UtcDateTime::saturating_add`].
+    /// The instant so much later, or earlier for a negative duration; outside the range the end of it that lies
+    /// in this direction.
     #[tactic(auto, using(std::proofs::lemmas::Int::ints), unfolding(plain_times::specs::Sums::clamped))]
     pub fn saturating_add(self, duration: SignedDuration) -> Timestamp
         ensures value { result ≡ clamped (self +ℤ duration) }
@@ -72,7 +73,8 @@ impl Timestamp {
         }
     }
 
-    /// As [`utc_times::UtcDateTime::saturating_sub`].
+    /// The instant so much earlier, or later for a negative duration; outside the range the end of it that lies
+    /// in this direction.
     #[tactic(auto, using(std::proofs::lemmas::Int::ints), unfolding(plain_times::specs::Sums::clamped))]
     pub fn saturating_sub(self, duration: SignedDuration) -> Timestamp
         ensures value { result ≡ clamped (self -ℤ duration) }

@@ -14,7 +14,7 @@ use calendar_values::{ComponentRange, Date, Month, Time};
 use plain_times::PlainDateTime;
 
 impl UtcDateTime {
-    /// As [`PlainDateTime::replace_time`] in UTC.
+    /// The same date in UTC at another time of day.
     pub fn replace_time(self, time: Time) -> UtcDateTime
         ensures value { result ≡ with_time self time }
         ensures date { wall_day result ≡ wall_day self }
@@ -23,7 +23,7 @@ impl UtcDateTime {
         UtcDateTime::from_plain(self.as_plain().replace_time(time))
     }
 
-    /// As [`PlainDateTime::replace_date`] in UTC.
+    /// The same time of day in UTC on another date.
     pub fn replace_date(self, date: Date) -> UtcDateTime
         ensures value { result ≡ with_date self date }
         ensures date { wall_day result ≡ date }
@@ -32,7 +32,7 @@ impl UtcDateTime {
         UtcDateTime::from_plain(self.as_plain().replace_date(date))
     }
 
-    /// As [`PlainDateTime::replace_year`] in UTC.
+    /// As [`Date::replace_year`], of the day in UTC, with the time of day kept.
     pub fn replace_year(self, year: i32) -> Result<UtcDateTime, ComponentRange>
         ensures value { let n = wall_day self in OkIff result
             (IsDateOfRange year (month_of n) (day_of_month_of n))
@@ -45,7 +45,7 @@ impl UtcDateTime {
         UtcDateTime::or_refused(self.as_plain().replace_year(year))
     }
 
-    /// As [`PlainDateTime::replace_month`] in UTC.
+    /// As [`Date::replace_month`], of the day in UTC, with the time of day kept.
     pub fn replace_month(self, month: Month) -> Result<UtcDateTime, ComponentRange>
         ensures value { let n = wall_day self in OkIff result
             (day_of_month_of n ≤ days_in_month (is_leap_year (year_of n)) (month_number month))
@@ -58,7 +58,7 @@ impl UtcDateTime {
         UtcDateTime::or_refused(self.as_plain().replace_month(month))
     }
 
-    /// As [`PlainDateTime::replace_day`] in UTC.
+    /// As [`Date::replace_day`], of the day in UTC, with the time of day kept.
     pub fn replace_day(self, day: u8) -> Result<UtcDateTime, ComponentRange>
         ensures value { let n = wall_day self in OkIff result
             ((1 ≤ day) × (day ≤ days_in_month (is_leap_year (year_of n)) (month_of n)))
@@ -71,7 +71,7 @@ impl UtcDateTime {
         UtcDateTime::or_refused(self.as_plain().replace_day(day))
     }
 
-    /// As [`PlainDateTime::replace_ordinal`] in UTC.
+    /// As [`Date::replace_ordinal`], of the day in UTC, with the time of day kept.
     pub fn replace_ordinal(self, ordinal: u16) -> Result<UtcDateTime, ComponentRange>
         ensures value { let n = wall_day self in OkIff result
             ((1 ≤ ordinal) × (ordinal ≤ days_in_year (year_of n)))
@@ -84,7 +84,7 @@ impl UtcDateTime {
         UtcDateTime::or_refused(self.as_plain().replace_ordinal(ordinal))
     }
 
-    /// As [`PlainDateTime::truncate_to_day`] in UTC.
+    /// The first nanosecond of the day that it is in, in UTC.
     pub fn truncate_to_day(self) -> UtcDateTime
         ensures value { result ≡ rounded_down nanos_per_day self }
         ensures midnight { result ≡ wall_clock (wall_day self) 0 }
@@ -96,7 +96,7 @@ impl UtcDateTime {
         UtcDateTime::from_plain(self.as_plain().truncate_to_day())
     }
 
-    /// As [`PlainDateTime::replace_hour`] in UTC.
+    /// As [`Time::replace_hour`], of the time of day in UTC, with the date kept.
     pub fn replace_hour(self, hour: u8) -> Result<UtcDateTime, ComponentRange>
         ensures value { let c = wall_time self in OkIff result (hour ≤ 23)
             (with_time self (clock_of_parts hour (minute_of c) (second_of c) (nanosecond_of c))) }
@@ -108,7 +108,7 @@ impl UtcDateTime {
         UtcDateTime::or_refused(self.as_plain().replace_hour(hour))
     }
 
-    /// As [`PlainDateTime::truncate_to_hour`] in UTC.
+    /// The first nanosecond of the hour that it is in, in UTC.
     pub fn truncate_to_hour(self) -> UtcDateTime
         ensures value { result ≡ rounded_down nanos_per_hour self }
         ensures not_above { result ≤ℤ self }
@@ -117,7 +117,7 @@ impl UtcDateTime {
         UtcDateTime::from_plain(self.as_plain().truncate_to_hour())
     }
 
-    /// As [`PlainDateTime::replace_minute`] in UTC.
+    /// As [`Time::replace_minute`], of the time of day in UTC, with the date kept.
     pub fn replace_minute(self, minute: u8) -> Result<UtcDateTime, ComponentRange>
         ensures value { let c = wall_time self in OkIff result (minute ≤ 59)
             (with_time self (clock_of_parts (hour_of c) minute (second_of c) (nanosecond_of c))) }
@@ -129,7 +129,7 @@ impl UtcDateTime {
         UtcDateTime::or_refused(self.as_plain().replace_minute(minute))
     }
 
-    /// As [`PlainDateTime::truncate_to_minute`] in UTC.
+    /// The first nanosecond of the minute that it is in, in UTC.
     pub fn truncate_to_minute(self) -> UtcDateTime
         ensures value { result ≡ rounded_down nanos_per_minute self }
         ensures not_above { result ≤ℤ self }
@@ -138,7 +138,7 @@ impl UtcDateTime {
         UtcDateTime::from_plain(self.as_plain().truncate_to_minute())
     }
 
-    /// As [`PlainDateTime::replace_second`] in UTC.
+    /// As [`Time::replace_second`], of the time of day in UTC, with the date kept.
     pub fn replace_second(self, second: u8) -> Result<UtcDateTime, ComponentRange>
         ensures value { let c = wall_time self in OkIff result (second ≤ 59)
             (with_time self (clock_of_parts (hour_of c) (minute_of c) second (nanosecond_of c))) }
@@ -150,7 +150,7 @@ impl UtcDateTime {
         UtcDateTime::or_refused(self.as_plain().replace_second(second))
     }
 
-    /// As [`PlainDateTime::truncate_to_second`] in UTC.
+    /// The first nanosecond of the second that it is in, in UTC.
     pub fn truncate_to_second(self) -> UtcDateTime
         ensures value { result ≡ rounded_down nanos_per_second self }
         ensures not_above { result ≤ℤ self }
@@ -159,7 +159,7 @@ impl UtcDateTime {
         UtcDateTime::from_plain(self.as_plain().truncate_to_second())
     }
 
-    /// As [`PlainDateTime::replace_millisecond`] in UTC.
+    /// As [`Time::replace_millisecond`], of the time of day in UTC, with the date kept.
     pub fn replace_millisecond(self, millisecond: u16) -> Result<UtcDateTime, ComponentRange>
         ensures value { let c = wall_time self in OkIff result (millisecond ≤ 999)
             (with_time self (clock_of_parts (hour_of c) (minute_of c) (second_of c) (millisecond * nanos_per_millisecond))) }
@@ -172,7 +172,7 @@ impl UtcDateTime {
         UtcDateTime::or_refused(self.as_plain().replace_millisecond(millisecond))
     }
 
-    /// As [`PlainDateTime::truncate_to_millisecond`] in UTC.
+    /// The first nanosecond of the millisecond that it is in, in UTC.
     pub fn truncate_to_millisecond(self) -> UtcDateTime
         ensures value { result ≡ rounded_down nanos_per_millisecond self }
         ensures not_above { result ≤ℤ self }
@@ -181,7 +181,7 @@ impl UtcDateTime {
         UtcDateTime::from_plain(self.as_plain().truncate_to_millisecond())
     }
 
-    /// As [`PlainDateTime::replace_microsecond`] in UTC.
+    /// As [`Time::replace_microsecond`], of the time of day in UTC, with the date kept.
     pub fn replace_microsecond(self, microsecond: u32) -> Result<UtcDateTime, ComponentRange>
         ensures value { let c = wall_time self in OkIff result (microsecond ≤ 999_999)
             (with_time self (clock_of_parts (hour_of c) (minute_of c) (second_of c) (microsecond * nanos_per_microsecond))) }
@@ -194,7 +194,7 @@ impl UtcDateTime {
         UtcDateTime::or_refused(self.as_plain().replace_microsecond(microsecond))
     }
 
-    /// As [`PlainDateTime::truncate_to_microsecond`] in UTC.
+    /// The first nanosecond of the microsecond that it is in, in UTC.
     pub fn truncate_to_microsecond(self) -> UtcDateTime
         ensures value { result ≡ rounded_down nanos_per_microsecond self }
         ensures not_above { result ≤ℤ self }
@@ -203,7 +203,7 @@ impl UtcDateTime {
         UtcDateTime::from_plain(self.as_plain().truncate_to_microsecond())
     }
 
-    /// As [`PlainDateTime::replace_nanosecond`] in UTC.
+    /// As [`Time::replace_nanosecond`], of the time of day in UTC, with the date kept.
     pub fn replace_nanosecond(self, nanosecond: u32) -> Result<UtcDateTime, ComponentRange>
         ensures value { let c = wall_time self in OkIff result (nanosecond ≤ 999_999_999)
             (with_time self (clock_of_parts (hour_of c) (minute_of c) (second_of c) nanosecond)) }

@@ -1,0 +1,112 @@
+//! The examples that stand at the heads of the types, and values of callers.
+use crate::{days, shown, windows};
+use calendar_values::{ComponentRange, Date, Month, SignedDuration, Time, UtcOffset, Weekday};
+use offset_times::OffsetDateTime;
+use plain_times::PlainDateTime;
+use stamp_times::Timestamp;
+use std::test::Fail;
+use utc_times::UtcDateTime;
+
+#[test]
+fn of_date(rt: HostRuntime) -> Result<(), Fail> {
+    let leap_day = Date::from_calendar_date(2024, Month::February, 29)?;
+    assert_eq!(rt; leap_day.weekday(), Weekday::Thursday);
+    assert_eq!(rt;
+        leap_day.next_day(),
+        Some(Date::from_ordinal_date(2024, 61)?)
+    );
+    Ok(())
+}
+
+#[test]
+fn of_time(rt: HostRuntime) -> Result<(), Fail> {
+    let start = Time::from_hms(9, 30, 0)?;
+    assert_eq!(rt; start.truncate_to_hour(), Time::from_hms(9, 0, 0)?);
+    assert_eq!(rt;
+        start.replace_hour(24),
+        Err(ComponentRange::new("hour", false))
+    );
+    Ok(())
+}
+
+#[test]
+fn of_utc_offset(rt: HostRuntime) -> Result<(), Fail> {
+    let newfoundland = UtcOffset::from_hms(-3, -30, 0)?;
+    assert_eq!(rt; newfoundland.whole_seconds(), -12_600);
+    assert_eq!(rt; newfoundland.minutes_past_hour(), -30);
+    Ok(())
+}
+
+#[test]
+fn of_signed_duration(rt: HostRuntime) -> Result<(), Fail> {
+    let delay = SignedDuration::new(-1, -500_000_000);
+    assert_eq!(rt; delay.whole_seconds(), -1);
+    assert_eq!(rt;
+        delay + SignedDuration::seconds(2),
+        SignedDuration::nanoseconds(500_000_000)
+    );
+    Ok(())
+}
+
+#[test]
+fn of_plain_date_time(rt: HostRuntime) -> Result<(), Fail> {
+    let noon = PlainDateTime::new(Date::UNIX_EPOCH, Time::from_hms(12, 0, 0)?);
+    assert_eq!(rt; noon.truncate_to_day(), PlainDateTime::UNIX_EPOCH);
+    assert_eq!(rt; noon - PlainDateTime::UNIX_EPOCH, SignedDuration::hours(12));
+    Ok(())
+}
+
+#[test]
+fn of_utc_date_time(rt: HostRuntime) -> Result<(), Fail> {
+    let issued = UtcDateTime::from_unix_timestamp(1_709_164_800)?;
+    assert_eq!(rt;
+        issued.date(),
+        Date::from_calendar_date(2024, Month::February, 29)?
+    );
+    assert_eq!(rt; UtcDateTime::MAX.checked_add(SignedDuration::days(1)), None);
+    Ok(())
+}
+
+#[test]
+fn of_offset_date_time(rt: HostRuntime) -> Result<(), Fail> {
+    let east = UtcOffset::from_hms(1, 0, 0)?;
+    let shown = OffsetDateTime::UNIX_EPOCH
+        .checked_to_offset(east)
+        .ok_or("no date")?;
+    assert_eq!(rt; shown.hour(), 1);
+    assert_eq!(rt; shown, OffsetDateTime::UNIX_EPOCH);
+    Ok(())
+}
+
+#[test]
+fn of_timestamp(rt: HostRuntime) -> Result<(), Fail> {
+    let before = Timestamp::from_milliseconds(-1)?;
+    assert_eq!(rt; before.as_seconds(), -1);
+    assert_eq!(rt; before.nanosecond(), 999_000_000);
+    Ok(())
+}
+
+#[test]
+fn of_days(rt: HostRuntime) -> Result<(), Fail> {
+    let before = Date::from_calendar_date(2024, Month::February, 28)?;
+    let after = Date::from_calendar_date(2024, Month::March, 1)?;
+    assert_eq!(rt; days::days_between(before, after), 2);
+    assert!(rt; !days::is_weekend(after));
+    assert!(rt; days::is_weekend(Date::from_calendar_date(2024, Month::March, 2)?));
+    Ok(())
+}
+
+#[test]
+fn of_stamps(rt: HostRuntime) -> Result<(), Fail> {
+    let at = Timestamp::from_seconds(1_709_210_096)?;
+    assert_eq!(rt;
+        windows::window_of(at),
+        Timestamp::from_seconds(1_709_209_800)?
+    );
+    let at_epoch = shown::date_at(UtcDateTime::UNIX_EPOCH, UtcOffset::from_hms(-1, 0, 0)?);
+    assert_eq!(rt; at_epoch, Date::UNIX_EPOCH.previous_day());
+    let west = UtcOffset::from_hms(-8, 0, 0)?;
+    let text = shown::text_at(851_042_397_000, west);
+    assert!(rt; text.is_some_and(|text| text.as_str() == "1996-12-19 16:39:57.0 -08:00:00"));
+    Ok(())
+}

@@ -1,0 +1,28 @@
+//! Instants, shown to a reader.
+ghost use Rattle.std.specs.Prelude.{◌≡◌, IfSome};
+ghost use Rattle.calendar_values.specs.WallClock.{wall_day};
+ghost use Rattle.offset_times.specs.Local.{local_at, shown_at};
+ghost use Rattle.offset_times.specs.Texts.{offset_date_time_text};
+ghost use Rattle.stamp_times.specs.Instants.{instant_of_milliseconds};
+
+use calendar_values::{Date, Text, UtcOffset};
+use offset_times::ToOffset;
+use stamp_times::Timestamp;
+use utc_times::UtcDateTime;
+
+/// The text of Unix milliseconds at an offset. None where the range has no such instant, or clocks there show no
+/// date of it.
+pub fn text_at(milliseconds: i64, offset: UtcOffset) -> Option<Text>
+    ensures { IfSome result (λ text.
+        text ≡ offset_date_time_text (local_at (instant_of_milliseconds milliseconds) offset)) }
+{
+    let stamp = Timestamp::from_milliseconds(milliseconds).ok()?;
+    Some(stamp.checked_to_offset(offset)?.text())
+}
+
+/// The date of an instant where the reader is. None where clocks there show no date of the range.
+pub fn date_at(at: UtcDateTime, offset: UtcOffset) -> Option<Date>
+    ensures { IfSome result (λ date. date ≡ wall_day (shown_at at offset)) }
+{
+    Some(at.checked_to_offset(offset)?.date())
+}

@@ -1,0 +1,182 @@
+"""What the libraries have for callers, as it stands in their .rt files: types, constants, functions and methods."""
+
+import os
+import re
+from dataclasses import dataclass
+
+from sources import crate_of
+
+# Functions whose contracts are laws, or say what a constant is: no code calls them.
+FOR_CONTRACTS = ("laws.rt", "constants.rt")
+
+# Callers and programs: they have nothing for other crates.
+NO_LIBRARIES = ("uses", "times_bench")
+
+BLOCK = re.compile(r"(?P<pub>pub )?(?P<kind>impl|trait)\b(?:<[^{]*?>)? ?(?:(?P<of>\w[\w:]*(?:<[^{]*?>)?) for )?(?P<type>\w+)")
+FUNCTION = re.compile(r"(?P<indent> *)(?P<pub>pub )?(?:pub\(crate\) )?(?:const |unsafe )*fn (?P<name>\w+)")
+CONSTANT = re.compile(r"(?P<indent> *)pub const (?P<name>\w+): (?P<type>[^=]+) =")
+TYPE = re.compile(r"pub (?P<kind>struct|enum|trait) (?P<name>\w+)")
+REEXPORTS = re.compile(r"pub use [\w:]*?(?:(\w+);|\{([^}]*)\};)")
+DERIVED = re.compile(r"#\[derive\((.*)\)\]")
+CLAUSE = re.compile(r"\s*(?:requires|ensures|ghost|//|#\[)")
+
+
+@dataclass
+class Item:
+    """A public item: its kind (`struct`, `enum`, `trait`, `const`, `fn`), the type or trait that it is of, its name, its
+    signature, its doc comment, its clauses, the traits that are derived for it, and where it begins."""
+
+    crate: str
+    path: str
+    line: int
+    kind: str
+    owner: str
+    name: str
+    signature: str = ""
+    doc: str = ""
+    clauses: str = ""
+    derived: tuple = ()
+
+    def __str__(self):
+        return f"{self.path}:{self.line}: {self.full_name()}"
+
+    def full_name(self):
+        return f"{self.owner}::{self.name}" if self.owner else self.name
+
+
+def reexported(text):
+    """The names that the root file of a library passes on."""
+    return {name.strip() for one, more in REEXPORTS.findall(text) for name in (one or more).split(",")}
+
+
+def is_public_module(path, files):
+    """Whether each module on the way to a file is public."""
+    crate = crate_of(path)
+    modules = path.removesuffix(".rt").split("/")[3:]
+    above = f"crates/{crate}/src/lib.rt"
+    for number, module in enumerate(modules):
+        if f"pub mod {module};" not in files[above]:
+            return False
+        above = "/".join(["crates", crate, "src", *modules[: number + 1]]) + ".rt"
+    return True
+
+
+def doc_above(lines, number):
+    """The doc comment that ends above a line, as one text; attributes may stand between."""
+    found = []
+    for line in reversed(lines[:number]):
+        text = line.strip()
+        if text.startswith("///"):
+            found.append(text[3:].strip())
+        elif not text.startswith("#["):
+            break
+    return "\n".join(reversed(found))
+
+
+def head_from(lines, number):
+    """The head of a function that begins on a line, without its clauses, and its clauses: lists of lines."""
+    head, clauses = [], []
+    depth = 0
+    for line in lines[number:]:
+        if depth == 0 and not clauses and not CLAUSE.match(line):
+            head.append(line)
+            if line.rstrip().endswith(("{", ";")):
+                break
+            continue
+        if depth == 0 and line.strip() in ("{", "}"):
+            break
+        clauses.append(line)
+        depth += line.count("{") - line.count("}")
+        if depth == 0 and line.rstrip().endswith(";"):
+            break
+    return head, clauses
+
+
+def one_line(head):
+    """A signature in one line."""
+    text = " ".join(line.strip() for line in head).rstrip("{; ")
+    return text.replace("( ", "(").replace(", )", ")").removeprefix("pub ")
+
+
+def contracts(text):
+    """All functions of a file with their clauses: the type or the trait that each is of, its name, and its clauses."""
+    lines = text.split("\n")
+    owner = ""
+    for number, line in enumerate(lines):
+        head = BLOCK.match(line)
+        if head:
+            owner = head["type"]
+        elif line == "}":
+            owner = ""
+        found = FUNCTION.match(line)
+        if found:
+            yield owner, found["name"], "\n".join(head_from(lines, number)[1])
+
+
+def body_from(lines, number):
+    """The lines of a type from its first to the end of its braces."""
+    depth, found = 0, []
+    for line in lines[number:]:
+        found.append(line)
+        depth += line.count("{") - line.count("}")
+        if depth == 0:
+            break
+    return found
+
+
+def items_of(path, text, is_public, passed_on):
+    """The public items of a file: those of its module if it is public, and those of names that are passed on."""
+    lines = text.split("\n")
+    crate = crate_of(path)
+    block = None
+    for number, line in enumerate(lines):
+        head = BLOCK.match(line)
+        if head:
+            block = head
+        elif line == "}":
+            block = None
+        found = TYPE.match(line)
+        if found and (is_public or found["name"] in passed_on):
+            body = "\n".join(body_from(lines, number))
+            above = DERIVED.match(lines[number - 1])
+            derived = tuple(above[1].split(", ")) if above else ()
+            doc = doc_above(lines, number)
+            yield Item(crate, path, number + 1, found["kind"], "", found["name"], body, doc, derived=derived)
+        found = CONSTANT.match(line)
+        if found and (block["type"] if block else found["name"]) in passed_on:
+            owner = block["type"] if block else ""
+            signature = f"const {found['name']}: {found['type']}"
+            yield Item(crate, path, number + 1, "const", owner, found["name"], signature, doc_above(lines, number))
+        found = FUNCTION.match(line)
+        if not found:
+            continue
+        in_trait = block is not None and block["kind"] == "trait" and block["pub"]
+        is_method = block is not None and found["indent"] == "    "
+        if is_method and (found["pub"] or in_trait) and (is_public or block["type"] in passed_on):
+            owner = block["type"]
+        elif found["indent"] == "" and found["pub"] and (is_public or found["name"] in passed_on):
+            owner = ""
+        else:
+            continue
+        head, clauses = head_from(lines, number)
+        doc = doc_above(lines, number)
+        yield Item(crate, path, number + 1, "fn", owner, found["name"], one_line(head), doc, "\n".join(clauses))
+
+
+def implementations(text):
+    """The traits that a file implements: the type, the trait and the line of each."""
+    for number, line in enumerate(text.split("\n"), 1):
+        head = BLOCK.match(line)
+        if head and head["of"]:
+            yield head["type"], head["of"], number
+
+
+def public_items(files):
+    """All public items of the libraries."""
+    found = []
+    for path, text in files.items():
+        root = f"crates/{crate_of(path)}/src/lib.rt"
+        if root not in files or crate_of(path) in NO_LIBRARIES or os.path.basename(path) == "tests.rt":
+            continue
+        found += items_of(path, text, is_public_module(path, files), reexported(files[root]))
+    return found
