@@ -83,7 +83,7 @@ def head_from(lines, number):
             if line.rstrip().endswith(("{", ";")):
                 break
             continue
-        if depth == 0 and line.strip() in ("{", "}"):
+        if depth == 0 and line.strip() in ("{", "}", "{}"):
             break
         clauses.append(line)
         depth += line.count("{") - line.count("}")
