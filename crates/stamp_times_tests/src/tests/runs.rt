@@ -183,22 +183,56 @@ fn each_read(rt: HostRuntime) -> Result<(), Fail> {
 }
 
 #[test]
-fn each_sum_and_replacement(rt: HostRuntime) -> Result<(), Fail> {
+fn each_sum(rt: HostRuntime) -> Result<(), Fail> {
     let start = Timestamp::new(951_827_696, 789_012_345)?;
     let day_and_more = SignedDuration::new(86_400, 1);
     let to_next_second = SignedDuration::nanoseconds(210_987_655);
-    let east = UtcOffset::from_hms(2, 0, 0)?;
     let calls = [
         Call::Shift(Shift::CheckedAdd(day_and_more)),
         Call::Shift(Shift::CheckedSub(day_and_more)),
         Call::Shift(Shift::SaturatingAdd(to_next_second)),
         Call::Shift(Shift::SaturatingSub(to_next_second)),
+    ];
+    let leap_day = date(2000, Month::February, 29)?;
+    let replies = [
+        now(date(2000, Month::March, 1)?, 12, 34, 56, 789_012_346)?,
+        now(leap_day, 12, 34, 56, 789_012_345)?,
+        now(leap_day, 12, 34, 57, 0)?,
+        now(leap_day, 12, 34, 56, 789_012_345)?,
+    ];
+    assert!(rt; replies_are(rt.alloc(), start, &calls, &replies, start)?);
+    Ok(())
+}
+
+#[test]
+fn each_replacement_in_the_date(rt: HostRuntime) -> Result<(), Fail> {
+    let start = Timestamp::new(951_827_696, 789_012_345)?;
+    let calls = [
         Call::Replace(Replace::Time(Time::from_hms_nano(1, 2, 3, 4)?)),
         Call::Replace(Replace::Date(date(2004, Month::December, 31)?)),
         Call::Replace(Replace::Year(2001)),
         Call::Replace(Replace::Month(Month::January)),
         Call::Replace(Replace::Day(15)),
         Call::Replace(Replace::Ordinal(59)),
+    ];
+    let replies = [
+        now(date(2000, Month::February, 29)?, 1, 2, 3, 4)?,
+        now(date(2004, Month::December, 31)?, 1, 2, 3, 4)?,
+        now(date(2001, Month::December, 31)?, 1, 2, 3, 4)?,
+        now(date(2001, Month::January, 31)?, 1, 2, 3, 4)?,
+        now(date(2001, Month::January, 15)?, 1, 2, 3, 4)?,
+        now(date(2001, Month::February, 28)?, 1, 2, 3, 4)?,
+    ];
+    let last = Timestamp::new(983_322_123, 4)?;
+    assert!(rt; replies_are(rt.alloc(), start, &calls, &replies, last)?);
+    Ok(())
+}
+
+#[test]
+fn each_replacement_in_the_time(rt: HostRuntime) -> Result<(), Fail> {
+    let start = Timestamp::new(983_322_123, 4)?;
+    let east = UtcOffset::from_hms(2, 0, 0)?;
+    let calls = [
         Call::Replace(Replace::Hour(23)),
         Call::Replace(Replace::Minute(59)),
         Call::Replace(Replace::Second(58)),
@@ -207,30 +241,16 @@ fn each_sum_and_replacement(rt: HostRuntime) -> Result<(), Fail> {
         Call::Replace(Replace::Nanosecond(9)),
         Call::Local(east),
     ];
-    let leap_day = date(2000, Month::February, 29)?;
     let february = date(2001, Month::February, 28)?;
+    let east_of_it = Time::from_hms_nano(1, 59, 58, 9)?;
     let replies = [
-        now(date(2000, Month::March, 1)?, 12, 34, 56, 789_012_346)?,
-        now(leap_day, 12, 34, 56, 789_012_345)?,
-        now(leap_day, 12, 34, 57, 0)?,
-        now(leap_day, 12, 34, 56, 789_012_345)?,
-        now(leap_day, 1, 2, 3, 4)?,
-        now(date(2004, Month::December, 31)?, 1, 2, 3, 4)?,
-        now(date(2001, Month::December, 31)?, 1, 2, 3, 4)?,
-        now(date(2001, Month::January, 31)?, 1, 2, 3, 4)?,
-        now(date(2001, Month::January, 15)?, 1, 2, 3, 4)?,
-        now(february, 1, 2, 3, 4)?,
         now(february, 23, 2, 3, 4)?,
         now(february, 23, 59, 3, 4)?,
         now(february, 23, 59, 58, 4)?,
         now(february, 23, 59, 58, 7_000_000)?,
         now(february, 23, 59, 58, 8_000)?,
         now(february, 23, 59, 58, 9)?,
-        Reply::Local(
-            date(2001, Month::March, 1)?,
-            Time::from_hms_nano(1, 59, 58, 9)?,
-            east,
-        ),
+        Reply::Local(date(2001, Month::March, 1)?, east_of_it, east),
     ];
     let last = Timestamp::new(983_404_798, 9)?;
     assert!(rt; replies_are(rt.alloc(), start, &calls, &replies, last)?);
