@@ -1,0 +1,106 @@
+-- What a call answers: a value, or what it refuses; and the status and the value that its caller finds.
+use Rattle.std.specs.Prelude.{ℕ, ◌||◌, Bool, List, Result, Ok, Err, if◌then◌else◌, nat_eq, nat_lt, codes, length, drop, ◌++◌}
+use Rattle.std.specs.Cmp.Lexicographic.{pointwise}
+use Rattle.calendar_values.specs.Refusals.{Refusal}
+use Rattle.rfc3339.specs.declared.refusal.Component.TheVariants as component
+use Rattle.rfc3339.specs.declared.refusal.TextRefusal.{TextRefusal}
+use Rattle.rfc3339.specs.declared.refusal.TextRefusal.TheVariants.{Syntax, OutOfRange}
+use Rattle.muxandu_c.specs.declared.refused.Refused.{Refused}
+use Rattle.muxandu_c.specs.declared.refused.Refused.TheVariants as refused
+
+-- the numbers of the header
+abbrev pub status_number : Refused → ℕ
+status_number refused.Year = 1
+status_number refused.Month = 2
+status_number refused.Day = 3
+status_number refused.DayOfMonth = 4
+status_number refused.Ordinal = 5
+status_number refused.OrdinalOfYear = 6
+status_number refused.Week = 7
+status_number refused.WeekOfYear = 8
+status_number refused.Weekday = 9
+status_number refused.Hour = 10
+status_number refused.Minute = 11
+status_number refused.Second = 12
+status_number refused.Nanosecond = 13
+status_number refused.OffsetSeconds = 14
+status_number refused.Timestamp = 15
+status_number refused.DayNumber = 16
+status_number refused.Duration = 17
+status_number refused.Unit = 18
+status_number refused.Result = 19
+status_number refused.Buffer = 20
+status_number refused.Span = 21
+status_number refused.Syntax = 22
+status_number refused.OffsetHour = 23
+status_number refused.OffsetMinute = 24
+status_number refused.NoText = 25
+
+-- the refusal names this part
+abbrev pub is_named : Refusal → List ℕ → Bool
+is_named refusal name = pointwise nat_eq refusal.name name
+
+-- a refused part, as a caller sees it
+abbrev pub refused_part : Refusal → Refused
+refused_part r =
+    if is_named r (codes "year") then refused.Year
+    else (if is_named r (codes "month") then refused.Month
+    else (if is_named r (codes "day") then (if r.conditional then refused.DayOfMonth else refused.Day)
+    else (if is_named r (codes "ordinal") then (if r.conditional then refused.OrdinalOfYear else refused.Ordinal)
+    else (if is_named r (codes "hour") then refused.Hour
+    else (if is_named r (codes "minute") then refused.Minute
+    else (if is_named r (codes "second") then refused.Second
+    else (if is_named r (codes "nanosecond") || is_named r (codes "nanoseconds") then refused.Nanosecond
+    else (if is_named r (codes "offset_seconds") then refused.OffsetSeconds
+    else (if is_named r (codes "julian_day") then refused.DayNumber
+    else refused.Timestamp)))))))))
+
+-- a refused text, as a caller sees it
+abbrev pub refused_text : TextRefusal → Refused
+refused_text Syntax = refused.Syntax
+refused_text (OutOfRange component.Month) = refused.Month
+refused_text (OutOfRange component.Day) = refused.Day
+refused_text (OutOfRange component.Hour) = refused.Hour
+refused_text (OutOfRange component.Minute) = refused.Minute
+refused_text (OutOfRange component.Second) = refused.Second
+refused_text (OutOfRange component.OffsetHour) = refused.OffsetHour
+refused_text (OutOfRange component.OffsetMinute) = refused.OffsetMinute
+
+-- an answer of the library, with its refusal as a caller sees it
+abbrev pub told : {A : Type 0} → Result A Refusal → Result A Refused
+told (Ok value) = Ok value
+told (Err refusal) = Err (refused_part refusal)
+
+-- the same of an answer to a text
+abbrev pub text_told : {A : Type 0} → Result A TextRefusal → Result A Refused
+text_told (Ok value) = Ok value
+text_told (Err refusal) = Err (refused_text refusal)
+
+-- what a first answer leads to
+abbrev pub and_then : {A B : Type 0} → Result A Refused → (A → Result B Refused) → Result B Refused
+and_then (Ok value) next = next value
+and_then (Err refusal) next = Err refusal
+
+-- the status of an answer
+abbrev pub status_of : {A : Type 0} → Result A Refused → ℕ
+status_of (Ok value) = 0
+status_of (Err refusal) = status_number refusal
+
+-- what an answer leaves in a place: its value, or what was there
+abbrev pub written : {A : Type 0} → Result A Refused → A → A
+written (Ok value) there = value
+written (Err refusal) there = there
+
+-- the text, if a buffer of this length has room for it
+abbrev pub fitting : ℕ → List ℕ → Result (List ℕ) Refused
+fitting room text = if nat_lt room (length text) then Err refused.Buffer else Ok text
+
+-- what an answer leaves in a buffer: its text at the front
+abbrev pub written_over : Result (List ℕ) Refused → List ℕ → List ℕ
+written_over (Ok text) there = text ++ drop (length text) there
+written_over (Err refusal) there = there
+
+-- the length of a text, if an answer has one
+abbrev pub length_told : Result (List ℕ) Refused → Result ℕ Refused
+length_told (Ok text) = Ok (length text)
+length_told (Err refusal) = Err refusal

@@ -1,0 +1,52 @@
+-- Values as texts of RFC 3339, and texts as values.
+use Rattle.std.specs.Prelude.{ℕ, ◌%◌, ◌==◌, ◌||◌, Bool, not, List, ℤ, pos, unsigned_abs, nat_lt, Result, Ok, Err, if◌then◌else◌}
+use Rattle.calendar_values.specs.Calendar.{year_of}
+use Rattle.calendar_values.specs.Range.{is_outside}
+use Rattle.calendar_values.specs.WallClock.{wall_day}
+use Rattle.offset_times.specs.Local.{Local, local, instant_of}
+use Rattle.rfc3339.specs.Meaning.{meaning}
+use Rattle.rfc3339.specs.Texts.{rfc3339_text, fixed_text}
+use Rattle.rfc3339.specs.declared.parts.Parts.{Parts}
+use Rattle.muxandu_c.specs.Answers.{text_told, and_then}
+use Rattle.muxandu_c.specs.Values.{civil_value, timestamp_value, as_civil, timestamp_parts}
+use Rattle.muxandu_c.specs.declared.refused.Refused.{Refused}
+use Rattle.muxandu_c.specs.declared.refused.Refused.TheVariants as refused
+use Rattle.muxandu_c.specs.declared.values.MuxanduCivil.{MuxanduCivil}
+use Rattle.muxandu_c.specs.declared.values.MuxanduTimestamp.{MuxanduTimestamp}
+
+-- the year that is shown has not four digits
+abbrev pub is_far : ℤ → Bool
+is_far wall = is_outside (pos 0) (pos 9_999) (year_of (wall_day wall))
+
+-- the offset has seconds, or is of a day or more
+abbrev pub is_odd : ℤ → Bool
+is_odd o = not (unsigned_abs o % 60 == 0) || nat_lt 86_399 (unsigned_abs o)
+
+-- the shortest text, if there is one
+abbrev pub rfc3339_of : Local → Result (List ℕ) Refused
+rfc3339_of at = if is_far at.wall || is_odd at.offset then Err refused.NoText else Ok (rfc3339_text at)
+
+-- the text of fixed width, if there is one
+abbrev pub fixed_rfc3339_of : ℤ → Result (List ℕ) Refused
+fixed_rfc3339_of i = if is_far i then Err refused.NoText else Ok (fixed_text i)
+
+-- the texts of a date-time and of a timestamp
+abbrev pub civil_rfc3339 : MuxanduCivil → Result (List ℕ) Refused
+civil_rfc3339 v = and_then (civil_value v) rfc3339_of
+
+abbrev pub timestamp_rfc3339 : MuxanduTimestamp → Result (List ℕ) Refused
+timestamp_rfc3339 v = and_then (timestamp_value v) (λ i. rfc3339_of (local i (pos 0)))
+
+abbrev pub timestamp_rfc3339_nanos : MuxanduTimestamp → Result (List ℕ) Refused
+timestamp_rfc3339_nanos v = and_then (timestamp_value v) fixed_rfc3339_of
+
+-- what the numbers of a text mean
+abbrev pub read_parts : Parts → Result Local Refused
+read_parts p = text_told (meaning p)
+
+-- as a date-time, and as an instant
+abbrev pub civil_spelled : Parts → Result MuxanduCivil Refused
+civil_spelled p = as_civil (read_parts p)
+
+abbrev pub timestamp_spelled : Parts → Result MuxanduTimestamp Refused
+timestamp_spelled p = and_then (read_parts p) (λ at. Ok (timestamp_parts (instant_of at)))

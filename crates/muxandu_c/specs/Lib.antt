@@ -1,0 +1,5 @@
+pub mod Answers
+pub mod Batches
+pub mod Exchange
+pub mod Values
+pub mod WeekDates

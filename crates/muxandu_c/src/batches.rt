@@ -1,0 +1,215 @@
+//! Many values in one call.
+ghost use Rattle.std.specs.Prelude.{◌≡◌, ◌≤◌, ◌++◌, length, take, drop, Result};
+ghost use Rattle.muxandu_c.specs.Answers.{status_number};
+ghost use Rattle.muxandu_c.specs.Batches.{values_of, status_of_items, with_room, batch_status};
+ghost use Rattle.muxandu_c.specs.Values.{civil_of_second, second_of_civil, date_of_day, day_of_date};
+ghost use Rattle.muxandu_c.specs.declared.refused.Refused.{Refused};
+
+use crate::civil::civil_from_timestamp;
+use crate::days::{date_from_day, day_from_date};
+use crate::exchange::timestamp_from_rfc3339;
+use crate::parts::{instant, read_civil};
+use crate::refused::{Refused, status};
+use crate::values::{MuxanduBatch, MuxanduCivil, MuxanduDate, MuxanduSpan, MuxanduTimestamp};
+
+// What turns each item of a batch into a value, or refuses it.
+trait Conversion<A, B>: Copy {
+    /// The value of an item, or why it is refused.
+    ghost value_of: { Self → A → Result B Refused };
+
+    fn convert(self, item: A) -> Result<B, Refused>
+        ensures { result ≡ value_of self item };
+}
+
+// The values of items, up to the first that is refused.
+#[inline(always)]
+fn convert_all<A: Copy, B: Copy, C: Conversion<A, B>>(
+    conversion: C,
+    items: &[A],
+    out: &mut [B],
+) -> MuxanduBatch
+    ensures count { result.count ≡ length (values_of (C.value_of conversion) (with_room out.old items.now)) }
+    ensures status { result.status ≡ batch_status (C.value_of conversion) out.old items.now }
+    ensures written { out.new ≡ values_of (C.value_of conversion) (with_room out.old items.now) ++ drop result.count out.old }
+{
+    if out.len() < items.len() {
+        return stopped(0, Refused::Buffer);
+    }
+    fill(conversion, items, out)
+}
+
+#[inline(always)]
+fn fill<A: Copy, B: Copy, C: Conversion<A, B>>(
+    conversion: C,
+    items: &[A],
+    out: &mut [B],
+) -> MuxanduBatch
+    requires room { length items.now ≤ length out.old }
+    ensures count { result.count ≡ length (values_of (C.value_of conversion) items.now) }
+    ensures status { result.status ≡ status_of_items (C.value_of conversion) items.now }
+    ensures written { out.new ≡ values_of (C.value_of conversion) items.now ++ drop result.count out.old }
+{
+    for (k, item) in items.iter().enumerate() {
+        match conversion.convert(*item) {
+            Ok(value) => out[k] = value,
+            Err(refused) => return stopped(k, refused),
+        }
+    }
+    MuxanduBatch {
+        count: items.len(),
+        status: 0,
+    }
+}
+
+fn stopped(count: usize, refused: Refused) -> MuxanduBatch
+    ensures count { result.count ≡ count }
+    ensures status { result.status ≡ status_number refused }
+{
+    MuxanduBatch {
+        count,
+        status: status(refused),
+    }
+}
+
+#[derive(Clone, Copy)]
+struct ToCivil {
+    offset_seconds: i32,
+}
+
+impl Conversion<i64, MuxanduCivil> for ToCivil {
+    ghost value_of = { λ conversion second. civil_of_second conversion.offset_seconds second };
+
+    #[inline(always)]
+    fn convert(self, item: i64) -> Result<MuxanduCivil, Refused> {
+        civil_from_timestamp(
+            MuxanduTimestamp {
+                seconds: item,
+                nanoseconds: 0,
+            },
+            self.offset_seconds,
+        )
+    }
+}
+
+/// What clocks at an offset, in seconds, show at each Unix second, up to the first that muxandu_civil_from_timestamp
+/// refuses. Refused BUFFER, with nothing written, where `out` has fewer items than `seconds`.
+#[unsafe(no_mangle)]
+pub extern "C" fn muxandu_civils_from_seconds(
+    seconds: &[i64],
+    offset_seconds: i32,
+    out: &mut [MuxanduCivil],
+) -> MuxanduBatch
+    ensures count { result.count ≡ length (values_of (civil_of_second offset_seconds) (with_room out.old seconds.now)) }
+    ensures status { result.status ≡ batch_status (civil_of_second offset_seconds) out.old seconds.now }
+    ensures written { out.new ≡ values_of (civil_of_second offset_seconds) (with_room out.old seconds.now)
+        ++ drop result.count out.old }
+{
+    convert_all(ToCivil { offset_seconds }, seconds, out)
+}
+
+#[derive(Clone, Copy)]
+struct ToSecond;
+
+impl Conversion<MuxanduCivil, i64> for ToSecond {
+    ghost value_of = { λ conversion civil. second_of_civil civil };
+
+    #[inline(always)]
+    fn convert(self, item: MuxanduCivil) -> Result<i64, Refused> {
+        Ok(instant(read_civil(item)?)?.as_seconds())
+    }
+}
+
+/// The Unix second of each date-time, rounded down, up to the first that muxandu_timestamp_from_civil refuses. Refused
+/// BUFFER, with nothing written, where `out` has fewer items than `civils`.
+#[unsafe(no_mangle)]
+pub extern "C" fn muxandu_seconds_from_civils(
+    civils: &[MuxanduCivil],
+    out: &mut [i64],
+) -> MuxanduBatch
+    ensures count { result.count ≡ length (values_of second_of_civil (with_room out.old civils.now)) }
+    ensures status { result.status ≡ batch_status second_of_civil out.old civils.now }
+    ensures written { out.new ≡ values_of second_of_civil (with_room out.old civils.now) ++ drop result.count out.old }
+{
+    convert_all(ToSecond, civils, out)
+}
+
+#[derive(Clone, Copy)]
+struct ToDate;
+
+impl Conversion<i32, MuxanduDate> for ToDate {
+    ghost value_of = { λ conversion day. date_of_day day };
+
+    #[inline(always)]
+    fn convert(self, item: i32) -> Result<MuxanduDate, Refused> {
+        date_from_day(item)
+    }
+}
+
+/// The date of each day number, up to the first that muxandu_date_from_day refuses. Refused BUFFER, with nothing
+/// written, where `out` has fewer items than `days`.
+#[unsafe(no_mangle)]
+pub extern "C" fn muxandu_dates_from_days(days: &[i32], out: &mut [MuxanduDate]) -> MuxanduBatch
+    ensures count { result.count ≡ length (values_of date_of_day (with_room out.old days.now)) }
+    ensures status { result.status ≡ batch_status date_of_day out.old days.now }
+    ensures written { out.new ≡ values_of date_of_day (with_room out.old days.now) ++ drop result.count out.old }
+{
+    convert_all(ToDate, days, out)
+}
+
+#[derive(Clone, Copy)]
+struct ToDay;
+
+impl Conversion<MuxanduDate, i32> for ToDay {
+    ghost value_of = { λ conversion date. day_of_date date };
+
+    #[inline(always)]
+    fn convert(self, item: MuxanduDate) -> Result<i32, Refused> {
+        day_from_date(item)
+    }
+}
+
+/// The day number of each date, up to the first that muxandu_day_from_date refuses. Refused BUFFER, with nothing
+/// written, where `out` has fewer items than `dates`.
+#[unsafe(no_mangle)]
+pub extern "C" fn muxandu_days_from_dates(dates: &[MuxanduDate], out: &mut [i32]) -> MuxanduBatch
+    ensures count { result.count ≡ length (values_of day_of_date (with_room out.old dates.now)) }
+    ensures status { result.status ≡ batch_status day_of_date out.old dates.now }
+    ensures written { out.new ≡ values_of day_of_date (with_room out.old dates.now) ++ drop result.count out.old }
+{
+    convert_all(ToDay, dates, out)
+}
+
+/// The instant of each text of RFC 3339, up to the first that muxandu_timestamp_from_rfc3339 refuses, or SPAN, whose
+/// span does not lie in the block `texts`. Refused BUFFER, with nothing written, where `out` has fewer items than
+/// `spans`.
+#[unsafe(no_mangle)]
+pub extern "C" fn muxandu_timestamps_from_rfc3339(
+    texts: &[u8],
+    spans: &[MuxanduSpan],
+    out: &mut [MuxanduTimestamp],
+) -> MuxanduBatch {
+    if out.len() < spans.len() {
+        return stopped(0, Refused::Buffer);
+    }
+    fill_stamps(texts, spans, out)
+}
+
+fn fill_stamps(texts: &[u8], spans: &[MuxanduSpan], out: &mut [MuxanduTimestamp]) -> MuxanduBatch {
+    for (k, span) in spans.iter().enumerate() {
+        match timestamp_in(texts, *span) {
+            Ok(value) => out[k] = value,
+            Err(refused) => return stopped(k, refused),
+        }
+    }
+    MuxanduBatch {
+        count: spans.len(),
+        status: 0,
+    }
+}
+
+fn timestamp_in(texts: &[u8], span: MuxanduSpan) -> Result<MuxanduTimestamp, Refused> {
+    if span.start > texts.len() || span.length > texts.len() - span.start {
+        return Err(Refused::Span);
+    }
+    timestamp_from_rfc3339(&texts[span.start..span.start + span.length])
+}

@@ -1,0 +1,179 @@
+//! Day numbers, 0 on 1970-01-01, and the dates that they stand for.
+ghost use Rattle.std.specs.Prelude.{◌≡◌, pos, ◌+ℤ◌, ◌-ℤ◌};
+ghost use Rattle.calendar_values.specs.Calendar.{days_in_year};
+ghost use Rattle.muxandu_c.specs.Answers.{status_of, written};
+ghost use Rattle.muxandu_c.specs.Values.{date_of_day, day_of_date};
+ghost use Rattle.muxandu_c.specs.Values.{ordinal_date_of_day, day_of_ordinal_date};
+ghost use Rattle.muxandu_c.specs.Values.{weekday_of_day, length_of_month};
+ghost use Rattle.muxandu_c.specs.WeekDates.{week_date_of_day, day_of_week_date, monday_of, day_in_range};
+
+use crate::parts::{date_of, day_of, read_date, read_day};
+use crate::refused::{Refused, answer};
+use crate::values::{MuxanduDate, MuxanduOrdinalDate, MuxanduWeekDate};
+use calendar_values::{Date, Month, days_in_year};
+
+#[inline(always)]
+pub(crate) fn date_from_day(day: i32) -> Result<MuxanduDate, Refused>
+    ensures { result ≡ date_of_day day }
+{
+    Ok(date_of(read_day(day)?))
+}
+
+/// The date of a day number. Refused DAY_NUMBER.
+#[unsafe(no_mangle)]
+pub extern "C" fn muxandu_date_from_day(day: i32, out: &mut MuxanduDate) -> u32
+    ensures status { result ≡ status_of (date_of_day day) }
+    ensures written { out.new ≡ written (date_of_day day) out.old }
+{
+    answer(date_from_day(day), out)
+}
+
+#[inline(always)]
+pub(crate) fn day_from_date(date: MuxanduDate) -> Result<i32, Refused>
+    ensures { result ≡ day_of_date date }
+{
+    Ok(day_of(read_date(date.year, date.month, date.day)?))
+}
+
+/// The day number of a date. Refused MONTH, YEAR, DAY or DAY_OF_MONTH, tested in this order.
+#[unsafe(no_mangle)]
+pub extern "C" fn muxandu_day_from_date(date: MuxanduDate, out: &mut i32) -> u32
+    ensures status { result ≡ status_of (day_of_date date) }
+    ensures written { out.new ≡ written (day_of_date date) out.old }
+{
+    answer(day_from_date(date), out)
+}
+
+fn ordinal_date_from_day(day: i32) -> Result<MuxanduOrdinalDate, Refused>
+    ensures { result ≡ ordinal_date_of_day day }
+{
+    let (year, ordinal) = read_day(day)?.to_ordinal_date();
+    Ok(MuxanduOrdinalDate { year, ordinal })
+}
+
+/// The year and the day of the year of a day number. Refused DAY_NUMBER.
+#[unsafe(no_mangle)]
+pub extern "C" fn muxandu_ordinal_date_from_day(day: i32, out: &mut MuxanduOrdinalDate) -> u32
+    ensures status { result ≡ status_of (ordinal_date_of_day day) }
+    ensures written { out.new ≡ written (ordinal_date_of_day day) out.old }
+{
+    answer(ordinal_date_from_day(day), out)
+}
+
+fn day_from_ordinal_date(date: MuxanduOrdinalDate) -> Result<i32, Refused>
+    ensures { result ≡ day_of_ordinal_date date }
+{
+    Ok(day_of(Date::from_ordinal_date(date.year, date.ordinal)?))
+}
+
+/// The day number of a day of a year. Refused YEAR, ORDINAL or ORDINAL_OF_YEAR, tested in this order.
+#[unsafe(no_mangle)]
+pub extern "C" fn muxandu_day_from_ordinal_date(date: MuxanduOrdinalDate, out: &mut i32) -> u32
+    ensures status { result ≡ status_of (day_of_ordinal_date date) }
+    ensures written { out.new ≡ written (day_of_ordinal_date date) out.old }
+{
+    answer(day_from_ordinal_date(date), out)
+}
+
+fn week_date_from_day(day: i32) -> Result<MuxanduWeekDate, Refused>
+    ensures { result ≡ week_date_of_day day }
+{
+    let (year, week, weekday) = read_day(day)?.to_iso_week_date();
+    Ok(MuxanduWeekDate {
+        year,
+        week,
+        weekday: weekday.number_days_from_monday(),
+    })
+}
+
+/// The ISO year, the ISO week and the day of the week of a day number. Refused DAY_NUMBER.
+#[unsafe(no_mangle)]
+pub extern "C" fn muxandu_week_date_from_day(day: i32, out: &mut MuxanduWeekDate) -> u32
+    ensures status { result ≡ status_of (week_date_of_day day) }
+    ensures written { out.new ≡ written (week_date_of_day day) out.old }
+{
+    answer(week_date_from_day(day), out)
+}
+
+fn day_from_week_date(date: MuxanduWeekDate) -> Result<i32, Refused>
+    ensures { result ≡ day_of_week_date date }
+{
+    let january_4 = Date::from_ordinal_date(date.year, 4)?;
+    if date.week == 0 || date.week > 53 {
+        return Err(Refused::Week);
+    }
+    if date.weekday > 6 {
+        return Err(Refused::Weekday);
+    }
+    let monday = monday_of(january_4) + (date.week as i32 - 1) * 7;
+    if monday + 3 > last_day_of(date.year, january_4) {
+        return Err(Refused::WeekOfYear);
+    }
+    day_in_range(monday + date.weekday as i32)
+}
+
+// The Monday of the week of a date.
+fn monday_of(date: Date) -> i32
+    ensures { result ≡ monday_of date }
+{
+    day_of(date) - date.weekday().number_days_from_monday() as i32
+}
+
+// 31 December of the year of a 4 January.
+fn last_day_of(year: i32, january_4: Date) -> i32
+    ensures { result ≡ january_4 +ℤ pos (days_in_year year) -ℤ pos 4 }
+{
+    day_of(january_4) + days_in_year(year) as i32 - 4
+}
+
+// A day number, if the range has it.
+fn day_in_range(day: i32) -> Result<i32, Refused>
+    ensures { result ≡ day_in_range day }
+{
+    match read_day(day) {
+        Ok(_) => Ok(day),
+        Err(_) => Err(Refused::Result),
+    }
+}
+
+/// The day number of an ISO week date. Refused YEAR, WEEK, WEEKDAY or WEEK_OF_YEAR, tested in this order, then RESULT
+/// for the two days of the last week that lie past the range.
+#[unsafe(no_mangle)]
+pub extern "C" fn muxandu_day_from_week_date(date: MuxanduWeekDate, out: &mut i32) -> u32
+    ensures status { result ≡ status_of (day_of_week_date date) }
+    ensures written { out.new ≡ written (day_of_week_date date) out.old }
+{
+    answer(day_from_week_date(date), out)
+}
+
+fn weekday_from_day(day: i32) -> Result<u8, Refused>
+    ensures { result ≡ weekday_of_day day }
+{
+    Ok(read_day(day)?.weekday().number_days_from_monday())
+}
+
+/// The day of the week of a day number, 0 for Monday to 6 for Sunday. Refused DAY_NUMBER.
+#[unsafe(no_mangle)]
+pub extern "C" fn muxandu_weekday_from_day(day: i32, out: &mut u8) -> u32
+    ensures status { result ≡ status_of (weekday_of_day day) }
+    ensures written { out.new ≡ written (weekday_of_day day) out.old }
+{
+    answer(weekday_from_day(day), out)
+}
+
+fn days_in_month(year: i32, month: u8) -> Result<u8, Refused>
+    ensures { result ≡ length_of_month year month }
+{
+    let month = Month::from_number(month)?;
+    Date::from_calendar_date(year, month, 1)?;
+    Ok(calendar_values::days_in_month(year, month))
+}
+
+/// How many days a month of a year has, 28 to 31. Refused MONTH, then YEAR.
+#[unsafe(no_mangle)]
+pub extern "C" fn muxandu_days_in_month(year: i32, month: u8, out: &mut u8) -> u32
+    ensures status { result ≡ status_of (length_of_month year month) }
+    ensures written { out.new ≡ written (length_of_month year month) out.old }
+{
+    answer(days_in_month(year, month), out)
+}

@@ -1,0 +1,284 @@
+//! Timestamps: instants by their Unix seconds.
+ghost use Rattle.std.specs.Prelude.{◌≡◌};
+ghost use Rattle.muxandu_c.specs.Answers.{status_of, written};
+ghost use Rattle.muxandu_c.specs.Values.{timestamp_value, timestamp_parts, timestamp_order};
+ghost use Rattle.muxandu_c.specs.Values.{timestamp_sum, timestamp_sum_clamped};
+ghost use Rattle.muxandu_c.specs.Values.{timestamp_less, timestamp_less_clamped};
+ghost use Rattle.muxandu_c.specs.Values.{timestamp_difference, timestamp_truncated};
+ghost use Rattle.muxandu_c.specs.Values.{timestamp_of_milliseconds, milliseconds_of_timestamp};
+ghost use Rattle.muxandu_c.specs.Values.{microseconds_of_timestamp, nanoseconds_of_timestamp};
+ghost use Rattle.muxandu_c.specs.Values.{count_in_range, in_64_bits};
+ghost use Rattle.stamp_times.specs.Instants.{instant_of_parts, instant_of_milliseconds, instant_of_microseconds};
+
+use crate::parts::{
+    difference, duration_of, read_duration, read_timestamp, sign, sum, timestamp_of, utc_in_unit,
+};
+use crate::refused::{Refused, answer, status_of};
+use crate::unit::read_unit;
+use crate::values::{MuxanduDuration, MuxanduTimestamp};
+use calendar_values::SignedDuration;
+use stamp_times::Timestamp;
+
+/// Whether the parts make a timestamp. Refused TIMESTAMP, then NANOSECOND.
+#[unsafe(no_mangle)]
+pub extern "C" fn muxandu_timestamp_check(at: MuxanduTimestamp) -> u32
+    ensures status { result ≡ status_of (timestamp_value at) }
+{
+    status_of(read_timestamp(at))
+}
+
+/// Which timestamp comes first: -1 if `first` does, 0 if both are one instant, 1 if `second` does. It takes any parts,
+/// also those that other calls refuse, and goes by seconds and nanoseconds together, so that it can sort.
+#[unsafe(no_mangle)]
+pub extern "C" fn muxandu_timestamp_compare(
+    first: MuxanduTimestamp,
+    second: MuxanduTimestamp,
+) -> i32
+    ensures { result ≡ timestamp_order first second }
+{
+    sign(nanoseconds(first).cmp(&nanoseconds(second)))
+}
+
+fn nanoseconds(at: MuxanduTimestamp) -> i128
+    ensures { result ≡ instant_of_parts at.seconds at.nanoseconds }
+{
+    at.seconds as i128 * 1_000_000_000 + at.nanoseconds as i128
+}
+
+fn timestamp_add(
+    at: MuxanduTimestamp,
+    duration: MuxanduDuration,
+) -> Result<MuxanduTimestamp, Refused>
+    ensures { result ≡ timestamp_sum at duration }
+{
+    let at = read_timestamp(at)?;
+    Ok(timestamp_of(sum(at, read_duration(duration)?)?))
+}
+
+/// The instant so much later, or earlier for a negative duration. Refused as the timestamp, then DURATION, then RESULT
+/// outside the range.
+#[unsafe(no_mangle)]
+pub extern "C" fn muxandu_timestamp_add(
+    at: MuxanduTimestamp,
+    duration: MuxanduDuration,
+    out: &mut MuxanduTimestamp,
+) -> u32
+    ensures status { result ≡ status_of (timestamp_sum at duration) }
+    ensures written { out.new ≡ written (timestamp_sum at duration) out.old }
+{
+    answer(timestamp_add(at, duration), out)
+}
+
+fn timestamp_subtract(
+    at: MuxanduTimestamp,
+    duration: MuxanduDuration,
+) -> Result<MuxanduTimestamp, Refused>
+    ensures { result ≡ timestamp_less at duration }
+{
+    let at = read_timestamp(at)?;
+    Ok(timestamp_of(difference(at, read_duration(duration)?)?))
+}
+
+/// The instant so much earlier, or later for a negative duration. Refused as the timestamp, then DURATION, then RESULT
+/// outside the range.
+#[unsafe(no_mangle)]
+pub extern "C" fn muxandu_timestamp_subtract(
+    at: MuxanduTimestamp,
+    duration: MuxanduDuration,
+    out: &mut MuxanduTimestamp,
+) -> u32
+    ensures status { result ≡ status_of (timestamp_less at duration) }
+    ensures written { out.new ≡ written (timestamp_less at duration) out.old }
+{
+    answer(timestamp_subtract(at, duration), out)
+}
+
+fn timestamp_saturating_add(
+    at: MuxanduTimestamp,
+    duration: MuxanduDuration,
+) -> Result<MuxanduTimestamp, Refused>
+    ensures { result ≡ timestamp_sum_clamped at duration }
+{
+    let at = read_timestamp(at)?;
+    Ok(timestamp_of(at.saturating_add(read_duration(duration)?)))
+}
+
+/// The instant so much later, or the end of the range that it is beyond. Refused as the timestamp, then DURATION.
+#[unsafe(no_mangle)]
+pub extern "C" fn muxandu_timestamp_saturating_add(
+    at: MuxanduTimestamp,
+    duration: MuxanduDuration,
+    out: &mut MuxanduTimestamp,
+) -> u32
+    ensures status { result ≡ status_of (timestamp_sum_clamped at duration) }
+    ensures written { out.new ≡ written (timestamp_sum_clamped at duration) out.old }
+{
+    answer(timestamp_saturating_add(at, duration), out)
+}
+
+fn timestamp_saturating_subtract(
+    at: MuxanduTimestamp,
+    duration: MuxanduDuration,
+) -> Result<MuxanduTimestamp, Refused>
+    ensures { result ≡ timestamp_less_clamped at duration }
+{
+    let at = read_timestamp(at)?;
+    Ok(timestamp_of(at.saturating_sub(read_duration(duration)?)))
+}
+
+/// The instant so much earlier, or the end of the range that it is beyond. Refused as the timestamp, then DURATION.
+#[unsafe(no_mangle)]
+pub extern "C" fn muxandu_timestamp_saturating_subtract(
+    at: MuxanduTimestamp,
+    duration: MuxanduDuration,
+    out: &mut MuxanduTimestamp,
+) -> u32
+    ensures status { result ≡ status_of (timestamp_less_clamped at duration) }
+    ensures written { out.new ≡ written (timestamp_less_clamped at duration) out.old }
+{
+    answer(timestamp_saturating_subtract(at, duration), out)
+}
+
+fn timestamp_difference(
+    later: MuxanduTimestamp,
+    earlier: MuxanduTimestamp,
+) -> Result<MuxanduDuration, Refused>
+    ensures { result ≡ timestamp_difference later earlier }
+{
+    let later = read_timestamp(later)?;
+    Ok(duration_of(later - read_timestamp(earlier)?))
+}
+
+/// The duration from `earlier` to `later`, negative where `later` comes first. Refused as `later`, then as `earlier`.
+#[unsafe(no_mangle)]
+pub extern "C" fn muxandu_timestamp_difference(
+    later: MuxanduTimestamp,
+    earlier: MuxanduTimestamp,
+    out: &mut MuxanduDuration,
+) -> u32
+    ensures status { result ≡ status_of (timestamp_difference later earlier) }
+    ensures written { out.new ≡ written (timestamp_difference later earlier) out.old }
+{
+    answer(timestamp_difference(later, earlier), out)
+}
+
+fn timestamp_truncate(at: MuxanduTimestamp, unit: u32) -> Result<MuxanduTimestamp, Refused>
+    ensures { result ≡ timestamp_truncated at unit }
+{
+    let at = read_timestamp(at)?.to_utc();
+    Ok(timestamp_of(Timestamp::from(utc_in_unit(at, read_unit(unit)?))))
+}
+
+/// The instant rounded down to a unit in UTC, before 1970 too. Refused as the timestamp, then UNIT.
+#[unsafe(no_mangle)]
+pub extern "C" fn muxandu_timestamp_truncate(
+    at: MuxanduTimestamp,
+    unit: u32,
+    out: &mut MuxanduTimestamp,
+) -> u32
+    ensures status { result ≡ status_of (timestamp_truncated at unit) }
+    ensures written { out.new ≡ written (timestamp_truncated at unit) out.old }
+{
+    answer(timestamp_truncate(at, unit), out)
+}
+
+fn from_milliseconds(milliseconds: i64) -> Result<Timestamp, Refused>
+    ensures { result ≡ count_in_range (instant_of_milliseconds milliseconds) }
+{
+    match Timestamp::from_milliseconds(milliseconds) {
+        Ok(at) => Ok(at),
+        Err(_) => Err(Refused::Timestamp),
+    }
+}
+
+fn timestamp_from_milliseconds(milliseconds: i64) -> Result<MuxanduTimestamp, Refused>
+    ensures { result ≡ timestamp_of_milliseconds milliseconds }
+{
+    Ok(timestamp_of(from_milliseconds(milliseconds)?))
+}
+
+/// The instant so many milliseconds from 1970-01-01 0:00 UTC. Refused TIMESTAMP outside the range.
+#[unsafe(no_mangle)]
+pub extern "C" fn muxandu_timestamp_from_milliseconds(
+    milliseconds: i64,
+    out: &mut MuxanduTimestamp,
+) -> u32
+    ensures status { result ≡ status_of (timestamp_of_milliseconds milliseconds) }
+    ensures written { out.new ≡ written (timestamp_of_milliseconds milliseconds) out.old }
+{
+    answer(timestamp_from_milliseconds(milliseconds), out)
+}
+
+fn timestamp_to_milliseconds(at: MuxanduTimestamp) -> Result<i64, Refused>
+    ensures { result ≡ milliseconds_of_timestamp at }
+{
+    Ok(read_timestamp(at)?.as_milliseconds())
+}
+
+/// The whole milliseconds from 1970-01-01 0:00 UTC, rounded down. Refused as the timestamp.
+#[unsafe(no_mangle)]
+pub extern "C" fn muxandu_timestamp_to_milliseconds(at: MuxanduTimestamp, out: &mut i64) -> u32
+    ensures status { result ≡ status_of (milliseconds_of_timestamp at) }
+    ensures written { out.new ≡ written (milliseconds_of_timestamp at) out.old }
+{
+    answer(timestamp_to_milliseconds(at), out)
+}
+
+/// The instant so many microseconds from 1970-01-01 0:00 UTC. It is always in the range.
+#[unsafe(no_mangle)]
+pub extern "C" fn muxandu_timestamp_from_microseconds(microseconds: i64) -> MuxanduTimestamp
+    ensures { result ≡ timestamp_parts (instant_of_microseconds microseconds) }
+{
+    let nanoseconds = microseconds.rem_euclid(1_000_000) as u32 * 1_000;
+    timestamp_of(Timestamp::new(microseconds.div_euclid(1_000_000), nanoseconds).unwrap())
+}
+
+fn timestamp_to_microseconds(at: MuxanduTimestamp) -> Result<i64, Refused>
+    ensures { result ≡ microseconds_of_timestamp at }
+{
+    in_64_bits(read_timestamp(at)?.as_microseconds())
+}
+
+/// The whole microseconds from 1970-01-01 0:00 UTC, rounded down. Refused as the timestamp, then RESULT where 64 bits do
+/// not hold them, as before -290308-12-21 and after 294247-01-10.
+#[unsafe(no_mangle)]
+pub extern "C" fn muxandu_timestamp_to_microseconds(at: MuxanduTimestamp, out: &mut i64) -> u32
+    ensures status { result ≡ status_of (microseconds_of_timestamp at) }
+    ensures written { out.new ≡ written (microseconds_of_timestamp at) out.old }
+{
+    answer(timestamp_to_microseconds(at), out)
+}
+
+/// The instant so many nanoseconds from 1970-01-01 0:00 UTC. It is always in the range.
+#[unsafe(no_mangle)]
+pub extern "C" fn muxandu_timestamp_from_nanoseconds(nanoseconds: i64) -> MuxanduTimestamp
+    ensures { result ≡ timestamp_parts nanoseconds }
+{
+    timestamp_of(Timestamp::UNIX_EPOCH + SignedDuration::nanoseconds(nanoseconds))
+}
+
+fn timestamp_to_nanoseconds(at: MuxanduTimestamp) -> Result<i64, Refused>
+    ensures { result ≡ nanoseconds_of_timestamp at }
+{
+    in_64_bits(read_timestamp(at)?.as_nanoseconds())
+}
+
+/// The nanoseconds from 1970-01-01 0:00 UTC. Refused as the timestamp, then RESULT where 64 bits do not hold them, as
+/// before 1677-09-21 and after 2262-04-11.
+#[unsafe(no_mangle)]
+pub extern "C" fn muxandu_timestamp_to_nanoseconds(at: MuxanduTimestamp, out: &mut i64) -> u32
+    ensures status { result ≡ status_of (nanoseconds_of_timestamp at) }
+    ensures written { out.new ≡ written (nanoseconds_of_timestamp at) out.old }
+{
+    answer(timestamp_to_nanoseconds(at), out)
+}
+
+// The number in 64 bits, if they hold it.
+fn in_64_bits(number: i128) -> Result<i64, Refused>
+    ensures { result ≡ in_64_bits number }
+{
+    if number < i64::MIN as i128 || number > i64::MAX as i128 {
+        return Err(Refused::Result);
+    }
+    Ok(number as i64)
+}

@@ -1,0 +1,37 @@
+//! The units of a truncation.
+ghost use Rattle.std.specs.Prelude.{◌≡◌};
+ghost use Rattle.muxandu_c.specs.Values.{unit_numbered};
+
+use crate::refused::Refused;
+
+/// A unit of time. A call takes its number.
+#[derive(Clone, Copy, Debug, PartialEq, Eq, Drop)]
+pub enum Unit {
+    /// A day.
+    Day = 1,
+    /// An hour.
+    Hour,
+    /// A minute.
+    Minute,
+    /// A second.
+    Second,
+    /// A millisecond.
+    Millisecond,
+    /// A microsecond.
+    Microsecond,
+}
+
+// The unit of a number.
+pub(crate) fn read_unit(number: u32) -> Result<Unit, Refused>
+    ensures { result ≡ unit_numbered number }
+{
+    match number {
+        1 => Ok(Unit::Day),
+        2 => Ok(Unit::Hour),
+        3 => Ok(Unit::Minute),
+        4 => Ok(Unit::Second),
+        5 => Ok(Unit::Millisecond),
+        6 => Ok(Unit::Microsecond),
+        _ => Err(Refused::Unit),
+    }
+}
