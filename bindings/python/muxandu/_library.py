@@ -35,7 +35,7 @@ library = _loaded()
 
 
 class Refused(ValueError):
-    """A call is refused. `name` says what is refused, and `status` is its number.
+    """A call is refused. `name` is the name that the refusal has in the library, `status` its number.
 
     Each refusal has a class of its own, as RefusedMonth or RefusedDayOfMonth. Where a call over many items is refused,
     `count` is how many were converted: the next is the one that is refused, and what is behind it is as it was.
@@ -46,23 +46,22 @@ class Refused(ValueError):
     count = None
 
     def __init__(self, count=None):
-        super().__init__(self.name if count is None else f"item {count}: {self.name}")
+        told = f"{self.name}: {self.__doc__}"
+        super().__init__(told if count is None else f"item {count}: {told}")
         self.count = count
 
-
-def _refusals():
-    """The class of each refusal, by its status."""
-    classes = {}
-    for constant, status in vars(muxandu_sys.Refused).items():
-        if not constant.startswith("_"):
-            words = constant.lower().split("_")
-            title = "Refused" + "".join(word.capitalize() for word in words)
-            members = {"name": " ".join(words), "status": status, "__module__": "muxandu"}
-            classes[status] = type(title, (Refused,), members)
-    return classes
+    def __reduce__(self):
+        return type(self), (self.count,)
 
 
-REFUSALS = _refusals()
+def _refusal(status, name, told):
+    """The class of a refusal."""
+    title = "".join(word.capitalize() for word in name.split("_"))
+    return type(f"Refused{title}", (Refused,), {"__doc__": told, "__module__": "muxandu", "name": name, "status": status})
+
+
+# The class of each refusal, by its status.
+REFUSALS = {status: _refusal(status, *told) for status, told in muxandu_sys.REFUSALS.items()}
 
 
 def test(status, count=None):
@@ -98,3 +97,8 @@ def parts(structure, *numbers):
     """The structure of these numbers, each the nearest that its field holds."""
     fields = structure._fields_
     return structure(*(nearest(number, kind) for number, (_, kind) in zip(numbers, fields)))
+
+
+def as_bytes(text):
+    """The bytes of a text. A character that is not ASCII becomes bytes that no text of RFC 3339 has."""
+    return text.encode("utf-8", "surrogatepass") if isinstance(text, str) else bytes(text)

@@ -7,7 +7,7 @@ import functools
 from typing import NamedTuple
 
 from . import muxandu_sys
-from ._library import REFUSALS, is_held, library, nearest, parts, test
+from ._library import REFUSALS, as_bytes, is_held, library, nearest, parts, test
 from .muxandu_sys import (
     MuxanduCivil,
     MuxanduDate,
@@ -20,9 +20,6 @@ from .muxandu_sys import (
 Unit = enum.IntEnum("Unit", {name: number for name, number in vars(muxandu_sys.Unit).items() if not name.startswith("_")})
 Unit.__doc__ = "A unit of time, to which a value is rounded down."
 Unit.__module__ = "muxandu"
-
-# The most bytes of a text that the library writes.
-_ROOM = 64
 
 _BEYOND_DURATION = REFUSALS[muxandu_sys.Refused.DURATION]
 _BEYOND_TIMESTAMP = REFUSALS[muxandu_sys.Refused.TIMESTAMP]
@@ -37,17 +34,15 @@ def _answer(call, structure, *words):
 
 def _text(call, value):
     """The text that a call writes."""
-    place, size = (ctypes.c_uint8 * _ROOM)(), ctypes.c_size_t()
-    test(call(value, place, _ROOM, ctypes.byref(size)))
-    return bytes(place[: size.value]).decode("ascii")
+    place, size = ctypes.create_string_buffer(muxandu_sys.TEXT_ROOM), ctypes.c_size_t()
+    test(call(value, place, len(place), ctypes.byref(size)))
+    return place.raw[: size.value].decode("ascii")
 
 
 def _read(call, structure, text):
     """The value of a text, a str or bytes."""
-    # A character that is not ASCII becomes bytes that no text of RFC 3339 has.
-    data = text.encode("utf-8", "surrogatepass") if isinstance(text, str) else bytes(text)
-    place = (ctypes.c_uint8 * max(len(data), 1)).from_buffer_copy(data or b"\0")
-    return _answer(call, structure, place, len(data))
+    data = as_bytes(text)
+    return _answer(call, structure, data, len(data))
 
 
 @functools.total_ordering

@@ -10,7 +10,7 @@
 //! let at: Timestamp = "2024-02-28T23:30:00-01:00".parse()?;
 //! let later = at.checked_add(SignedDuration::from_seconds(86_400))?;
 //! assert_eq!(later.to_civil(0)?.to_rfc3339()?, "2024-03-01T00:30:00Z");
-//! assert_eq!(Date::new(2023, 2, 29).unwrap_err().name(), "day of month");
+//! assert_eq!(Date::new(2023, 2, 29).unwrap_err().name(), "DAY_OF_MONTH");
 //! # Ok::<(), muxandu::Refusal>(())
 //! ```
 

@@ -1,11 +1,9 @@
 use crate::Refusal;
-
-/// The most bytes of a text that the library writes.
-const ROOM: usize = 64;
+use crate::sys::TEXT_ROOM;
 
 /// A text that the library wrote.
 pub(crate) struct Text {
-    bytes: [u8; ROOM],
+    bytes: [u8; TEXT_ROOM],
     size: usize,
 }
 
@@ -15,10 +13,10 @@ impl Text {
         write: impl FnOnce(*mut u8, usize, &mut usize) -> u32,
     ) -> Result<Text, Refusal> {
         let mut text = Text {
-            bytes: [0; ROOM],
+            bytes: [0; TEXT_ROOM],
             size: 0,
         };
-        Refusal::test(write(text.bytes.as_mut_ptr(), ROOM, &mut text.size))?;
+        Refusal::test(write(text.bytes.as_mut_ptr(), TEXT_ROOM, &mut text.size))?;
         Ok(text)
     }
 

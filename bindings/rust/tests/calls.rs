@@ -429,5 +429,8 @@ fn refusals_are_errors_with_names() {
     );
     assert!(!statuses.contains(&0));
     let error: Box<dyn Error> = Box::new(Refusal::DayOfMonth);
-    assert_eq!(error.to_string(), "day of month is out of range");
+    assert_eq!(
+        error.to_string(),
+        "DAY_OF_MONTH: A day of 1 to 31 that the month does not have in this year."
+    );
 }
