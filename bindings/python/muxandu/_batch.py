@@ -7,6 +7,7 @@ came in, and else an array.array of numbers or a ctypes array of structures, whi
 
 import array
 import ctypes
+import itertools
 from collections.abc import Sequence
 
 from ._library import as_bytes, library, nearest, test
@@ -110,18 +111,22 @@ def days_from_dates(dates, out=None):
     return _converted(library.muxandu_days_from_dates, items, MuxanduDate, ctypes.c_int32, out)
 
 
+def _joined(pieces):
+    """One block of texts, and where each lies in it."""
+    lengths = [len(piece) for piece in pieces]
+    numbers = array.array("Q", bytes(ctypes.sizeof(MuxanduSpan) * len(pieces)))
+    numbers[1::2] = array.array("Q", lengths)
+    numbers[2::2] = array.array("Q", itertools.accumulate(lengths[:-1]))
+    return b"".join(pieces), (MuxanduSpan * len(pieces)).from_buffer(numbers) if pieces else (MuxanduSpan * 0)()
+
+
 def timestamps_from_rfc3339(texts, spans=None, out=None):
     """The instant of each text of RFC 3339: items of TimestampParts.
 
     The texts are a sequence of str or bytes, or one block of bytes, of which a buffer of Spans says where each text lies.
     """
     if spans is None:
-        pieces = [as_bytes(text) for text in texts]
-        texts, spans = b"".join(pieces), (MuxanduSpan * len(pieces))()
-        start = 0
-        for span, piece in zip(spans, pieces):
-            span.start, span.length = start, len(piece)
-            start += len(piece)
+        texts, spans = _joined([as_bytes(text) for text in texts])
     block, size = (texts, len(texts)) if isinstance(texts, bytes) else _reading(texts, ctypes.c_uint8)
     places, count = _reading(spans, MuxanduSpan)
     if out is None:
