@@ -16,8 +16,7 @@ def _path():
     if named:
         return Path(named)
     here = Path(__file__).resolve().parent
-    places = [here / NAME] + [folder / "dist" / "lib" / NAME for folder in here.parents[2:3]]
-    for place in places:
+    for place in (here / NAME, here.parent.parent.parent / "dist" / "lib" / NAME):
         if place.is_file():
             return place
     raise ImportError(f"{NAME} is not there: build it with ./build-library, or name it in MUXANDU_LIBRARY")
