@@ -28,7 +28,8 @@ def _buffer(items, kind):
     view = memoryview(items)
     if not view.c_contiguous or view.ndim != 1:
         raise TypeError("one row of items that lie side by side")
-    if view.itemsize != ctypes.sizeof(kind) or _is_number(kind) and view.format.lstrip("@=<") not in _SIGNED:
+    is_signed = not _is_number(kind) or view.format.lstrip("@=<") in _SIGNED
+    if len(view) and (view.itemsize != ctypes.sizeof(kind) or not is_signed):
         raise TypeError(f"items of {ctypes.sizeof(kind)} bytes as {kind.__name__}, not of format {view.format!r}")
     return view
 
