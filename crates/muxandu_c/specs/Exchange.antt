@@ -1,9 +1,10 @@
 -- Values as texts of RFC 3339, and texts as values.
-use Rattle.std.specs.Prelude.{ℕ, ◌%◌, ◌==◌, ◌||◌, Bool, not, List, ℤ, pos, unsigned_abs, nat_lt, Result, Ok, Err, if◌then◌else◌}
+use Rattle.std.specs.Prelude.{◌≡◌, ◌⊎◌, ℕ, ◌+◌, ◌<◌, ◌≤◌, ◌%◌, ◌==◌, ◌||◌, Bool, not, List, ℤ, pos, unsigned_abs, nat_lt, length, take, drop, Result, Ok, Err, if◌then◌else◌}
 use Rattle.calendar_values.specs.Calendar.{year_of}
 use Rattle.calendar_values.specs.Range.{is_outside}
 use Rattle.calendar_values.specs.WallClock.{wall_day}
 use Rattle.offset_times.specs.Local.{Local, local, instant_of}
+use Rattle.rfc3339.specs.Form.{IsDateTime}
 use Rattle.rfc3339.specs.Meaning.{meaning}
 use Rattle.rfc3339.specs.Texts.{rfc3339_text, fixed_text}
 use Rattle.rfc3339.specs.declared.parts.Parts.{Parts}
@@ -12,6 +13,7 @@ use Rattle.muxandu_c.specs.Values.{civil_value, timestamp_value, as_civil, times
 use Rattle.muxandu_c.specs.declared.refused.Refused.{Refused}
 use Rattle.muxandu_c.specs.declared.refused.Refused.TheVariants as refused
 use Rattle.muxandu_c.specs.declared.values.MuxanduCivil.{MuxanduCivil}
+use Rattle.muxandu_c.specs.declared.values.MuxanduSpan.{MuxanduSpan}
 use Rattle.muxandu_c.specs.declared.values.MuxanduTimestamp.{MuxanduTimestamp}
 
 -- the year that is shown has not four digits
@@ -50,3 +52,14 @@ civil_spelled p = as_civil (read_parts p)
 
 abbrev pub timestamp_spelled : Parts → Result MuxanduTimestamp Refused
 timestamp_spelled p = and_then (read_parts p) (λ at. Ok (timestamp_parts (instant_of at)))
+
+-- the answer to a text: what its numbers mean, or that it has not the form
+pub record IsRead (text : List ℕ) (answer : Result MuxanduTimestamp Refused) : Type 0 where
+  pub spelled : (p : Parts) → IsDateTime text p → answer ≡ timestamp_spelled p
+  pub syntax : ((p : Parts) × IsDateTime text p) ⊎ (answer ≡ Err refused.Syntax)
+
+-- the answer to a span of a block: to its text, or that it does not lie there
+abbrev pub IsReadAt : List ℕ → MuxanduSpan → Result MuxanduTimestamp Refused → Type 0
+IsReadAt block span answer =
+    ((length block < span.start + span.length) × (answer ≡ Err refused.Span))
+    ⊎ ((span.start + span.length ≤ length block) × IsRead (take span.length (drop span.start block)) answer)

@@ -1,9 +1,11 @@
 //! Many values in one call.
-ghost use Rattle.std.specs.Prelude.{◌≡◌, ◌≤◌, ◌++◌, length, take, drop, Result};
+ghost use Rattle.std.specs.Prelude.{◌≡◌, ◌<◌, ◌≤◌, ◌++◌, length, take, drop, Result};
 ghost use Rattle.muxandu_c.specs.Answers.{status_number};
-ghost use Rattle.muxandu_c.specs.Batches.{values_of, status_of_items, with_room, batch_status};
+ghost use Rattle.muxandu_c.specs.Batches.{values_of, status_of_items, with_room, batch_status, AreValuesOf};
+ghost use Rattle.muxandu_c.specs.Exchange.{IsRead, IsReadAt};
 ghost use Rattle.muxandu_c.specs.Values.{civil_of_second, second_of_civil, date_of_day, day_of_date};
 ghost use Rattle.muxandu_c.specs.declared.refused.Refused.{Refused};
+ghost use Rattle.muxandu_c.specs.declared.refused.Refused.TheVariants as refused;
 
 use crate::civil::civil_from_timestamp;
 use crate::days::{date_from_day, day_from_date};
@@ -187,17 +189,33 @@ pub extern "C" fn muxandu_timestamps_from_rfc3339(
     texts: &[u8],
     spans: &[MuxanduSpan],
     out: &mut [MuxanduTimestamp],
-) -> MuxanduBatch {
+) -> MuxanduBatch
+    ensures room { length out.old < length spans.now → (result.count ≡ 0)
+        × (result.status ≡ status_number refused.Buffer) }
+    ensures values { length spans.now ≤ length out.old →
+        AreValuesOf (IsReadAt texts.now) spans.now (take result.count out.new) result.status }
+    ensures count { result.count ≤ length spans.now }
+    ensures behind { drop result.count out.new ≡ drop result.count out.old }
+{
     if out.len() < spans.len() {
         return stopped(0, Refused::Buffer);
     }
-    fill_stamps(texts, spans, out)
+    fill_timestamps(texts, spans, out)
 }
 
-fn fill_stamps(texts: &[u8], spans: &[MuxanduSpan], out: &mut [MuxanduTimestamp]) -> MuxanduBatch {
+fn fill_timestamps(
+    texts: &[u8],
+    spans: &[MuxanduSpan],
+    out: &mut [MuxanduTimestamp],
+) -> MuxanduBatch
+    requires room { length spans.now ≤ length out.old }
+    ensures values { AreValuesOf (IsReadAt texts.now) spans.now (take result.count out.new) result.status }
+    ensures count { result.count ≤ length spans.now }
+    ensures behind { drop result.count out.new ≡ drop result.count out.old }
+{
     for (k, span) in spans.iter().enumerate() {
         match timestamp_in(texts, *span) {
-            Ok(value) => out[k] = value,
+            Ok(at) => out[k] = at,
             Err(refused) => return stopped(k, refused),
         }
     }
@@ -207,9 +225,18 @@ fn fill_stamps(texts: &[u8], spans: &[MuxanduSpan], out: &mut [MuxanduTimestamp]
     }
 }
 
-fn timestamp_in(texts: &[u8], span: MuxanduSpan) -> Result<MuxanduTimestamp, Refused> {
+// The instant of the text of a span.
+fn timestamp_in(texts: &[u8], span: MuxanduSpan) -> Result<MuxanduTimestamp, Refused>
+    ensures { IsReadAt texts.now span result }
+{
     if span.start > texts.len() || span.length > texts.len() - span.start {
         return Err(Refused::Span);
     }
-    timestamp_from_rfc3339(&texts[span.start..span.start + span.length])
+    read_timestamp_text(&texts[span.start..span.start + span.length])
+}
+
+fn read_timestamp_text(text: &[u8]) -> Result<MuxanduTimestamp, Refused>
+    ensures { IsRead text.now result }
+{
+    timestamp_from_rfc3339(text)
 }

@@ -6,8 +6,8 @@ ghost use Rattle.muxandu_c.specs.Values.{civil_sum, civil_sum_clamped, civil_les
 ghost use Rattle.muxandu_c.specs.Values.{civil_difference, civil_truncated, civil_order, civil_day};
 
 use crate::parts::{
-    civil_of, day_of, duration_of, in_unit, instant, local_difference, local_sum, read_civil,
-    read_duration, read_offset, read_timestamp, seconds_of, sign, sum, timestamp_of, to_offset,
+    at_offset, civil_of, day_of, duration_of, in_unit, instant, local_difference, local_sum,
+    read_civil, read_duration, read_offset, read_timestamp, sign, timestamp_of, to_offset,
     wall_parts,
 };
 use crate::refused::{Refused, answer, status_of};
@@ -32,7 +32,7 @@ pub(crate) fn civil_from_timestamp(
 {
     let at = read_timestamp(at)?;
     let offset = read_offset(offset_seconds)?;
-    Ok(wall_parts(sum(at, seconds_of(offset))?, offset))
+    Ok(wall_parts(at_offset(at, offset)?, offset))
 }
 
 /// What clocks at an offset, in seconds, show at an instant. Refused as the timestamp, then OFFSET_SECONDS, then RESULT

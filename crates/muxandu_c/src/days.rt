@@ -1,16 +1,16 @@
 //! Day numbers, 0 on 1970-01-01, and the dates that they stand for.
-ghost use Rattle.std.specs.Prelude.{◌≡◌, pos, ◌+ℤ◌, ◌-ℤ◌};
-ghost use Rattle.calendar_values.specs.Calendar.{days_in_year};
+ghost use Rattle.std.specs.Prelude.{◌≡◌, ◌≤◌, ◌-◌, ◌*◌, pos, ◌+ℤ◌, ◌-ℤ◌, ◌≤ℤ◌};
+ghost use Rattle.calendar_values.specs.Range.{first_day, last_day};
 ghost use Rattle.muxandu_c.specs.Answers.{status_of, written};
 ghost use Rattle.muxandu_c.specs.Values.{date_of_day, day_of_date};
 ghost use Rattle.muxandu_c.specs.Values.{ordinal_date_of_day, day_of_ordinal_date};
 ghost use Rattle.muxandu_c.specs.Values.{weekday_of_day, length_of_month};
-ghost use Rattle.muxandu_c.specs.WeekDates.{week_date_of_day, day_of_week_date, monday_of, day_in_range};
+ghost use Rattle.muxandu_c.specs.WeekDates.{week_date_of_day, day_of_week_date, monday_of, day_of_week, day_in_range};
 
 use crate::parts::{date_of, day_of, read_date, read_day};
 use crate::refused::{Refused, answer};
 use crate::values::{MuxanduDate, MuxanduOrdinalDate, MuxanduWeekDate};
-use calendar_values::{Date, Month, days_in_year};
+use calendar_values::{Date, Month};
 
 #[inline(always)]
 pub(crate) fn date_from_day(day: i32) -> Result<MuxanduDate, Refused>
@@ -98,32 +98,50 @@ pub extern "C" fn muxandu_week_date_from_day(day: i32, out: &mut MuxanduWeekDate
 fn day_from_week_date(date: MuxanduWeekDate) -> Result<i32, Refused>
     ensures { result ≡ day_of_week_date date }
 {
-    let january_4 = Date::from_ordinal_date(date.year, 4)?;
+    let january_4 = read_date(date.year, 1, 4)?;
+    let december_31 = read_date(date.year, 12, 31)?;
     if date.week == 0 || date.week > 53 {
         return Err(Refused::Week);
     }
     if date.weekday > 6 {
         return Err(Refused::Weekday);
     }
-    let monday = monday_of(january_4) + (date.week as i32 - 1) * 7;
-    if monday + 3 > last_day_of(date.year, january_4) {
-        return Err(Refused::WeekOfYear);
-    }
-    day_in_range(monday + date.weekday as i32)
+    let monday = monday_of_week(january_4, date.week);
+    day_of_week(monday, date.weekday, day_of(december_31))
+}
+
+// The Monday of a week of a year, from a day of its week 1.
+#[tactic(auto, using(calendar_values::specs::SignedArith::signed_arith))]
+fn monday_of_week(january_4: Date, week: u8) -> i32
+    requires first { 1 ≤ week }
+    requires last { week ≤ 53 }
+    ensures value { result ≡ monday_of january_4 +ℤ pos ((week - 1) * 7) }
+    ensures low { (first_day -ℤ pos 6) ≤ℤ result }
+    ensures high { result ≤ℤ (last_day +ℤ pos 364) }
+{
+    monday_of(january_4) + ((week as u16 - 1) * 7) as i32
 }
 
 // The Monday of the week of a date.
 fn monday_of(date: Date) -> i32
-    ensures { result ≡ monday_of date }
+    ensures value { result ≡ monday_of date }
+    ensures low { (first_day -ℤ pos 6) ≤ℤ result }
+    ensures high { result ≤ℤ last_day }
 {
     day_of(date) - date.weekday().number_days_from_monday() as i32
 }
 
-// 31 December of the year of a 4 January.
-fn last_day_of(year: i32, january_4: Date) -> i32
-    ensures { result ≡ january_4 +ℤ pos (days_in_year year) -ℤ pos 4 }
+// A day of the week of a Monday, if the Thursday of that week is not past the last day of the year.
+fn day_of_week(monday: i32, weekday: u8, last: i32) -> Result<i32, Refused>
+    requires low { (first_day -ℤ pos 6) ≤ℤ monday }
+    requires high { monday ≤ℤ (last_day +ℤ pos 364) }
+    requires weekday { weekday ≤ 6 }
+    ensures { result ≡ day_of_week monday weekday last }
 {
-    day_of(january_4) + days_in_year(year) as i32 - 4
+    if monday + 3 > last {
+        return Err(Refused::WeekOfYear);
+    }
+    day_in_range(monday + weekday as i32)
 }
 
 // A day number, if the range has it.

@@ -1,5 +1,7 @@
 //! Texts of RFC 3339, written and read.
-ghost use Rattle.std.specs.Prelude.{◌≡◌, ◌⊎◌, length};
+ghost use Rattle.std.specs.Prelude.{◌≡◌, ◌⊎◌, length, Err, IfOk};
+ghost use Rattle.calendar_values.specs.WallClock.{IsWallClock};
+ghost use Rattle.offset_times.specs.Local.{instant_of};
 ghost use Rattle.rfc3339.specs.Form.{IsDateTime};
 ghost use Rattle.rfc3339.specs.declared.parts.Parts.{Parts};
 ghost use Rattle.muxandu_c.specs.Answers.{and_then, status_of, status_number, written, written_over, fitting, length_told};
@@ -104,6 +106,7 @@ pub extern "C" fn muxandu_timestamp_to_rfc3339_nanos(
 fn read_text(text: &[u8]) -> Result<OffsetDateTime, Refused>
     ensures spelled { (p : Parts) → IsDateTime text.now p → result ≡ read_parts p }
     ensures syntax { ((p : Parts) × IsDateTime text.now p) ⊎ (result ≡ Err refused.Syntax) }
+    ensures instant { IfOk result (λ at. IsWallClock (instant_of at)) }
 {
     Ok(parse_rfc3339(text)?)
 }

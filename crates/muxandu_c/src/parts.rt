@@ -2,6 +2,7 @@
 ghost use Rattle.std.specs.Prelude.{◌≡◌, ◌+ℤ◌, ◌-ℤ◌};
 ghost use Rattle.calendar_values.specs.Calendar.{year_of, month_of, day_of_month_of};
 ghost use Rattle.calendar_values.specs.Offsets.{offset_of_seconds};
+ghost use Rattle.calendar_values.specs.Range.{IsDay};
 ghost use Rattle.plain_times.specs.Truncations.{rounded_down};
 ghost use Rattle.offset_times.specs.Local.{truncated, instant_of, shown_at, local, offset_nanos};
 ghost use Rattle.muxandu_c.specs.Answers.{told};
@@ -97,6 +98,7 @@ pub(crate) fn timestamp_of(at: Timestamp) -> MuxanduTimestamp
 }
 
 // The instant of a date-time, if the range has it.
+#[tactic(auto, unfolding(offset_times::specs::Local::instant_of))]
 #[inline(always)]
 pub(crate) fn instant(at: OffsetDateTime) -> Result<Timestamp, Refused>
     ensures { result ≡ in_range (instant_of at) }
@@ -138,10 +140,18 @@ pub(crate) fn read_offset(seconds: i32) -> Result<UtcOffset, Refused>
 
 // The offset as a duration.
 #[inline(always)]
-pub(crate) fn seconds_of(offset: UtcOffset) -> SignedDuration
+fn seconds_of(offset: UtcOffset) -> SignedDuration
     ensures { result ≡ offset_nanos offset }
 {
     SignedDuration::seconds(offset.whole_seconds() as i64)
+}
+
+// What clocks at an offset show at an instant, as clocks in UTC show it, if the range has it.
+#[inline(always)]
+pub(crate) fn at_offset(at: Timestamp, offset: UtcOffset) -> Result<Timestamp, Refused>
+    ensures { result ≡ in_range (shown_at at offset) }
+{
+    sum(at, seconds_of(offset))
 }
 
 // The instant so much later, if the range has it.
@@ -216,7 +226,8 @@ pub(crate) fn read_day(day: i32) -> Result<Date, Refused>
 // The day number of a date.
 #[inline(always)]
 pub(crate) fn day_of(date: Date) -> i32
-    ensures { result ≡ date }
+    ensures value { result ≡ date }
+    ensures in_range { IsDay result }
 {
     date.to_julian_day() - EPOCH_JULIAN_DAY
 }

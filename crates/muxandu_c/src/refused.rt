@@ -7,7 +7,7 @@ use rfc3339::{Component, TextRefusal};
 
 /// Why a call refuses. Its status is this number, and 0 where it refuses nothing. Parts are tested from the first to the
 /// last, and the first that is refused is named.
-#[derive(Clone, Copy, Debug, PartialEq, Eq, Drop)]
+#[derive(Clone, Copy, Drop)]
 pub enum Refused {
     /// A year before -999999 or after 999999.
     Year = 1,

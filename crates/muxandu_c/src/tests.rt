@@ -1,11 +1,484 @@
-use crate::timestamps::muxandu_timestamp_check;
-use crate::values::MuxanduTimestamp;
+use crate::batches::{
+    muxandu_civils_from_seconds, muxandu_dates_from_days, muxandu_days_from_dates,
+    muxandu_seconds_from_civils, muxandu_timestamps_from_rfc3339,
+};
+use crate::civil::{
+    muxandu_civil_add, muxandu_civil_check, muxandu_civil_compare, muxandu_civil_day,
+    muxandu_civil_difference, muxandu_civil_from_timestamp, muxandu_civil_saturating_add,
+    muxandu_civil_saturating_subtract, muxandu_civil_subtract, muxandu_civil_to_offset,
+    muxandu_civil_truncate, muxandu_timestamp_from_civil,
+};
+use crate::days::{
+    muxandu_date_from_day, muxandu_day_from_date, muxandu_day_from_ordinal_date,
+    muxandu_day_from_week_date, muxandu_days_in_month, muxandu_ordinal_date_from_day,
+    muxandu_week_date_from_day, muxandu_weekday_from_day,
+};
+use crate::exchange::{
+    muxandu_civil_from_rfc3339, muxandu_civil_to_rfc3339, muxandu_timestamp_from_rfc3339,
+    muxandu_timestamp_to_rfc3339, muxandu_timestamp_to_rfc3339_nanos,
+};
+use crate::texts::{muxandu_civil_text, muxandu_timestamp_text};
+use crate::timestamps::{
+    muxandu_timestamp_add, muxandu_timestamp_check, muxandu_timestamp_compare,
+    muxandu_timestamp_difference, muxandu_timestamp_from_microseconds,
+    muxandu_timestamp_from_milliseconds, muxandu_timestamp_from_nanoseconds,
+    muxandu_timestamp_saturating_add, muxandu_timestamp_saturating_subtract,
+    muxandu_timestamp_subtract, muxandu_timestamp_to_microseconds,
+    muxandu_timestamp_to_milliseconds, muxandu_timestamp_to_nanoseconds,
+    muxandu_timestamp_truncate,
+};
+use crate::values::{
+    MuxanduCivil, MuxanduDate, MuxanduDuration, MuxanduOrdinalDate, MuxanduSpan, MuxanduTimestamp,
+    MuxanduWeekDate,
+};
+
+const LAST: i64 = 31_494_784_780_799;
+
+// The status of a call, and what is then where its result goes.
+macro_rules! called {
+    ($call:ident($($argument:expr),*), $out:expr) => {{
+        let mut out = $out;
+        let status = $call($($argument,)* &mut out);
+        (status, out)
+    }};
+}
+
+fn at(seconds: i64, nanoseconds: u32) -> MuxanduTimestamp {
+    MuxanduTimestamp {
+        seconds,
+        nanoseconds,
+    }
+}
+
+fn lasting(seconds: i64, nanoseconds: i32) -> MuxanduDuration {
+    MuxanduDuration {
+        seconds,
+        nanoseconds,
+    }
+}
+
+fn date(year: i32, month: u8, day: u8) -> MuxanduDate {
+    MuxanduDate { year, month, day }
+}
+
+fn midnight(year: i32, month: u8, day: u8, offset_seconds: i32) -> MuxanduCivil {
+    MuxanduCivil {
+        year,
+        month,
+        day,
+        hour: 0,
+        minute: 0,
+        second: 0,
+        nanosecond: 0,
+        offset_seconds,
+    }
+}
 
 #[test]
-fn checks(rt: HostRuntime) {
-    let at = MuxanduTimestamp {
-        seconds: 0,
-        nanoseconds: 0,
+fn timestamps(rt: HostRuntime) {
+    let half = at(-1, 500_000_000);
+    let short = lasting(0, 500_000_000);
+    assert_eq!(rt; muxandu_timestamp_check(half), 0);
+    assert_eq!(rt; muxandu_timestamp_check(at(LAST + 1, 1_000_000_000)), 15);
+    assert_eq!(rt;
+        muxandu_timestamp_compare(at(0, 1_000_000_000), at(1, 0)),
+        0
+    );
+    let (micro, nano) = (
+        muxandu_timestamp_from_microseconds(-1),
+        muxandu_timestamp_from_nanoseconds(-1),
+    );
+    let there = at(7, 7);
+    for ((status, out), expected) in [
+        (
+            called!(muxandu_timestamp_add(half, short), there),
+            (0, 0, 0),
+        ),
+        (
+            called!(muxandu_timestamp_add(at(LAST, 999_999_999), short), there),
+            (19, 7, 7),
+        ),
+        (
+            called!(muxandu_timestamp_add(at(0, 1_000_000_000), short), there),
+            (13, 7, 7),
+        ),
+        (
+            called!(muxandu_timestamp_subtract(at(0, 0), short), there),
+            (0, -1, 500_000_000),
+        ),
+        (
+            called!(
+                muxandu_timestamp_saturating_add(at(LAST, 0), lasting(1, 0)),
+                there
+            ),
+            (0, LAST, 999_999_999),
+        ),
+        (
+            called!(
+                muxandu_timestamp_saturating_subtract(at(LAST, 0), lasting(-1, 0)),
+                there
+            ),
+            (0, LAST, 999_999_999),
+        ),
+        (
+            called!(muxandu_timestamp_truncate(half, 1), there),
+            (0, -86_400, 0),
+        ),
+        (
+            called!(muxandu_timestamp_truncate(half, 7), there),
+            (18, 7, 7),
+        ),
+        (
+            called!(muxandu_timestamp_from_milliseconds(-1), there),
+            (0, -1, 999_000_000),
+        ),
+        (
+            called!(muxandu_timestamp_from_milliseconds(i64::MAX), there),
+            (15, 7, 7),
+        ),
+        ((0, micro), (0, -1, 999_999_000)),
+        ((0, nano), (0, -1, 999_999_999)),
+    ] {
+        assert_eq!(rt; (status, out.seconds, out.nanoseconds), expected);
+    }
+    for ((status, out), expected) in [
+        (
+            called!(muxandu_timestamp_to_milliseconds(half), 7),
+            (0, -500),
+        ),
+        (
+            called!(muxandu_timestamp_to_microseconds(half), 7),
+            (0, -500_000),
+        ),
+        (
+            called!(muxandu_timestamp_to_nanoseconds(half), 7),
+            (0, -500_000_000),
+        ),
+        (
+            called!(muxandu_timestamp_to_nanoseconds(at(LAST, 0)), 7),
+            (19, 7),
+        ),
+    ] {
+        assert_eq!(rt; (status, out), expected);
+    }
+    let (status, apart) = called!(muxandu_timestamp_difference(half, at(0, 0)), lasting(7, 7));
+    assert_eq!(rt;
+        (status, apart.seconds, apart.nanoseconds),
+        (0, 0, -500_000_000)
+    );
+}
+
+#[test]
+fn civil_date_times(rt: HostRuntime) {
+    let leap_day = midnight(2024, 2, 29, 0);
+    let there = midnight(7, 7, 7, 7);
+    let day = lasting(86_400, 0);
+    assert_eq!(rt; muxandu_civil_check(leap_day), 0);
+    assert_eq!(rt; muxandu_civil_check(midnight(2023, 2, 29, 0)), 4);
+    for ((status, out), expected) in [
+        (
+            called!(
+                muxandu_civil_from_timestamp(at(1_709_231_399, 0), -28_800),
+                there
+            ),
+            (0, 2024, 2, 29, 10, -28_800),
+        ),
+        (
+            called!(muxandu_civil_from_timestamp(at(0, 0), 93_600), there),
+            (14, 7, 7, 7, 0, 7),
+        ),
+        (
+            called!(muxandu_civil_from_timestamp(at(LAST, 0), 1), there),
+            (19, 7, 7, 7, 0, 7),
+        ),
+        (
+            called!(muxandu_civil_to_offset(leap_day, -28_800), there),
+            (0, 2024, 2, 28, 16, -28_800),
+        ),
+        (
+            called!(muxandu_civil_add(leap_day, day), there),
+            (0, 2024, 3, 1, 0, 0),
+        ),
+        (
+            called!(muxandu_civil_subtract(leap_day, day), there),
+            (0, 2024, 2, 28, 0, 0),
+        ),
+        (
+            called!(muxandu_civil_add(midnight(999_999, 12, 31, 0), day), there),
+            (19, 7, 7, 7, 0, 7),
+        ),
+        (
+            called!(
+                muxandu_civil_saturating_add(midnight(999_999, 12, 31, 0), day),
+                there
+            ),
+            (0, 999_999, 12, 31, 23, 0),
+        ),
+        (
+            called!(
+                muxandu_civil_saturating_subtract(midnight(-999_999, 1, 1, 0), day),
+                there
+            ),
+            (0, -999_999, 1, 1, 0, 0),
+        ),
+        (
+            called!(muxandu_civil_truncate(leap_day, 2), there),
+            (0, 2024, 2, 29, 0, 0),
+        ),
+    ] {
+        assert_eq!(rt;
+            (
+                status,
+                out.year,
+                out.month,
+                out.day,
+                out.hour,
+                out.offset_seconds
+            ),
+            expected
+        );
+    }
+    let (status, stamp) = called!(
+        muxandu_timestamp_from_civil(midnight(2024, 2, 29, 19_800)),
+        at(7, 7)
+    );
+    assert_eq!(rt; (status, stamp.seconds), (0, 1_709_145_000));
+    let (status, apart) = called!(
+        muxandu_civil_difference(leap_day, midnight(2024, 2, 29, 60)),
+        lasting(7, 7)
+    );
+    assert_eq!(rt; (status, apart.seconds), (0, 60));
+    assert_eq!(rt;
+        called!(
+            muxandu_civil_compare(leap_day, midnight(2024, 2, 29, 60)),
+            7
+        ),
+        (0, 1)
+    );
+    assert_eq!(rt; called!(muxandu_civil_day(leap_day), 7), (0, 19_782));
+}
+
+#[test]
+fn days(rt: HostRuntime) {
+    let (status, out) = called!(muxandu_date_from_day(19_782), date(7, 7, 7));
+    assert_eq!(rt; (status, out.year, out.month, out.day), (0, 2024, 2, 29));
+    let there = MuxanduOrdinalDate {
+        year: 7,
+        ordinal: 7,
     };
-    assert_eq!(rt; muxandu_timestamp_check(at), 0);
+    let (status, out) = called!(muxandu_ordinal_date_from_day(18_627), there);
+    assert_eq!(rt; (status, out.year, out.ordinal), (0, 2020, 366));
+    let there = MuxanduWeekDate {
+        year: 7,
+        week: 7,
+        weekday: 7,
+    };
+    let (status, out) = called!(muxandu_week_date_from_day(18_630), there);
+    assert_eq!(rt; (status, out.year, out.week, out.weekday), (0, 2020, 53, 6));
+    assert_eq!(rt;
+        called!(muxandu_day_from_date(date(2023, 2, 29)), 7),
+        (4, 7)
+    );
+    assert_eq!(rt; called!(muxandu_weekday_from_day(-1), 7), (0, 2));
+    assert_eq!(rt; called!(muxandu_days_in_month(2024, 2), 7), (0, 29));
+    assert_eq!(rt; called!(muxandu_days_in_month(1_000_000, 13), 7), (2, 7));
+    let ordinal_date = MuxanduOrdinalDate {
+        year: 2021,
+        ordinal: 366,
+    };
+    assert_eq!(rt;
+        called!(muxandu_day_from_ordinal_date(ordinal_date), 7),
+        (6, 7)
+    );
+}
+
+#[test]
+fn week_dates(rt: HostRuntime) {
+    for (year, week, weekday, expected) in [
+        (2020, 53, 6, (0, 18_630)),
+        (1970, 1, 2, (0, -1)),
+        (2021, 53, 0, (8, 7)),
+        (2021, 54, 7, (7, 7)),
+        (2021, 52, 7, (9, 7)),
+        (1_000_000, 0, 0, (1, 7)),
+        (999_999, 52, 5, (19, 7)),
+    ] {
+        let week_date = MuxanduWeekDate {
+            year,
+            week,
+            weekday,
+        };
+        assert_eq!(rt; called!(muxandu_day_from_week_date(week_date), 7), expected);
+    }
+}
+
+// The status of a call that writes a text, and the length that it tells.
+macro_rules! told {
+    ($call:ident($argument:expr), $buffer:expr) => {{
+        let mut size = 7;
+        let status = $call($argument, $buffer, &mut size);
+        (status, size)
+    }};
+}
+
+#[test]
+fn texts(rt: HostRuntime) {
+    let half = at(-1, 500_000_000);
+    let west = midnight(1996, 12, 19, -28_800);
+    let odd = midnight(1996, 12, 19, 1);
+    let mut buffer = [0; 35];
+    for (told, expected) in [
+        (told!(muxandu_civil_text(west), &mut buffer), (0, 30)),
+        (
+            told!(muxandu_civil_text(midnight(1, 0, 1, 0)), &mut buffer),
+            (2, 7),
+        ),
+        (told!(muxandu_civil_to_rfc3339(west), &mut buffer), (0, 25)),
+        (
+            told!(muxandu_civil_to_rfc3339(west), &mut buffer[..24]),
+            (20, 25),
+        ),
+        (told!(muxandu_civil_to_rfc3339(odd), &mut buffer), (25, 7)),
+        (
+            told!(muxandu_timestamp_to_rfc3339(half), &mut buffer),
+            (0, 22),
+        ),
+        (
+            told!(muxandu_timestamp_to_rfc3339_nanos(half), &mut buffer),
+            (0, 30),
+        ),
+        (
+            told!(muxandu_timestamp_to_rfc3339_nanos(at(LAST, 0)), &mut buffer),
+            (25, 7),
+        ),
+        (told!(muxandu_timestamp_text(half), &mut buffer), (0, 4)),
+    ] {
+        assert_eq!(rt; told, expected);
+    }
+    // What lies behind the last text is of the one before.
+    assert_eq!(rt;
+        (buffer[0], buffer[3], buffer[4], buffer[29]),
+        (b'-', b'5', b'-', b'Z')
+    );
+}
+
+#[test]
+fn texts_read(rt: HostRuntime) {
+    let there = midnight(7, 7, 7, 7);
+    for ((status, out), expected) in [
+        (
+            called!(
+                muxandu_civil_from_rfc3339(b"1996-12-19T16:39:57-08:00"),
+                there
+            ),
+            (0, 1996, 16, -28_800),
+        ),
+        (
+            called!(muxandu_civil_from_rfc3339(b"1996-12-19T16:39:57"), there),
+            (22, 7, 0, 7),
+        ),
+        (
+            called!(muxandu_civil_from_rfc3339(b"1996-02-30T16:39:57Z"), there),
+            (3, 7, 0, 7),
+        ),
+        (
+            called!(
+                muxandu_civil_from_rfc3339(b"1996-12-19T16:39:57+24:00"),
+                there
+            ),
+            (23, 7, 0, 7),
+        ),
+        (
+            called!(
+                muxandu_civil_from_rfc3339(b"1996-12-19T16:39:57+23:60"),
+                there
+            ),
+            (24, 7, 0, 7),
+        ),
+    ] {
+        assert_eq!(rt; (status, out.year, out.hour, out.offset_seconds), expected);
+    }
+    let (status, out) = called!(
+        muxandu_timestamp_from_rfc3339(b"1985-04-12T23:20:50.52Z"),
+        at(7, 7)
+    );
+    assert_eq!(rt;
+        (status, out.seconds, out.nanoseconds),
+        (0, 482_196_050, 520_000_000)
+    );
+}
+
+#[test]
+fn batches(rt: HostRuntime) {
+    let there = midnight(7, 7, 7, 7);
+    let mut civils = [there, there, there];
+    let batch = muxandu_civils_from_seconds(&[0, -1, i64::MAX], 0, &mut civils);
+    assert_eq!(rt; (batch.count, batch.status), (2, 15));
+    assert_eq!(rt;
+        (civils[0].year, civils[1].year, civils[2].year),
+        (1970, 1969, 7)
+    );
+    let mut seconds = [7, 7, 7, 7];
+    let batch = muxandu_seconds_from_civils(&civils, &mut seconds[..2]);
+    assert_eq!(rt; (batch.count, batch.status), (0, 20));
+    let batch = muxandu_seconds_from_civils(&civils, &mut seconds);
+    assert_eq!(rt;
+        (batch.count, batch.status, seconds[1], seconds[3]),
+        (3, 0, -1, 7)
+    );
+    let mut dates = [date(7, 7, 7), date(7, 7, 7)];
+    let batch = muxandu_dates_from_days(&[19_782], &mut dates);
+    assert_eq!(rt;
+        (batch.count, batch.status, dates[0].day, dates[1].day),
+        (1, 0, 29, 7)
+    );
+    let mut days = [7, 7];
+    let batch = muxandu_days_from_dates(&dates, &mut days);
+    assert_eq!(rt; (batch.count, batch.status, days[0]), (2, 0, 19_782));
+}
+
+#[test]
+fn texts_of_a_block(rt: HostRuntime) {
+    let block = b"1970-01-01T00:00:01Z,1970-01-01T00:00:61Z";
+    let (first, second) = (
+        MuxanduSpan {
+            start: 0,
+            length: 20,
+        },
+        MuxanduSpan {
+            start: 21,
+            length: 20,
+        },
+    );
+    let mut stamps = [at(7, 7), at(7, 7)];
+    for (spans, expected) in [
+        ([first, first], (2, 0)),
+        ([first, second], (1, 12)),
+        (
+            [
+                first,
+                MuxanduSpan {
+                    start: 22,
+                    length: 20,
+                },
+            ],
+            (1, 21),
+        ),
+        (
+            [
+                first,
+                MuxanduSpan {
+                    start: usize::MAX,
+                    length: 20,
+                },
+            ],
+            (1, 21),
+        ),
+    ] {
+        let batch = muxandu_timestamps_from_rfc3339(block, &spans, &mut stamps);
+        assert_eq!(rt; (batch.count, batch.status), expected);
+    }
+    assert_eq!(rt; (stamps[0].seconds, stamps[1].seconds), (1, 1));
+    let batch = muxandu_timestamps_from_rfc3339(block, &[first, first], &mut stamps[..1]);
+    assert_eq!(rt; (batch.count, batch.status), (0, 20));
 }

@@ -5,7 +5,7 @@ ghost use Rattle.muxandu_c.specs.Values.{unit_numbered};
 use crate::refused::Refused;
 
 /// A unit of time. A call takes its number.
-#[derive(Clone, Copy, Debug, PartialEq, Eq, Drop)]
+#[derive(Clone, Copy, Drop)]
 pub enum Unit {
     /// A day.
     Day = 1,

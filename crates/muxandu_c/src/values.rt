@@ -5,7 +5,7 @@ pub const MUXANDU_TEXT_ROOM: usize = 42;
 
 /// An instant: a Unix second and a nanosecond of that second, before 1970 too.
 #[repr(C)]
-#[derive(Clone, Copy, Debug, PartialEq, Eq)]
+#[derive(Clone, Copy)]
 pub struct MuxanduTimestamp {
     /// The seconds from 1970-01-01 0:00 UTC, rounded down: -31619087596800 to 31494784780799.
     pub seconds: i64,
@@ -17,7 +17,7 @@ pub struct MuxanduTimestamp {
 /// nanoseconds, and takes any whose sum is at least -2^63 seconds - 999999999 ns and at most 2^63 - 1 seconds +
 /// 999999999 ns.
 #[repr(C)]
-#[derive(Clone, Copy, Debug, PartialEq, Eq)]
+#[derive(Clone, Copy)]
 pub struct MuxanduDuration {
     /// The seconds.
     pub seconds: i64,
@@ -27,7 +27,7 @@ pub struct MuxanduDuration {
 
 /// What clocks at an offset from UTC show, in the proleptic Gregorian calendar.
 #[repr(C)]
-#[derive(Clone, Copy, Debug, PartialEq, Eq)]
+#[derive(Clone, Copy)]
 pub struct MuxanduCivil {
     /// The year, -999999 to 999999; year 0 comes before year 1.
     pub year: i32,
@@ -49,7 +49,7 @@ pub struct MuxanduCivil {
 
 /// A date: a year, a month and a day of the month.
 #[repr(C)]
-#[derive(Clone, Copy, Debug, PartialEq, Eq)]
+#[derive(Clone, Copy)]
 pub struct MuxanduDate {
     /// The year, -999999 to 999999.
     pub year: i32,
@@ -61,7 +61,7 @@ pub struct MuxanduDate {
 
 /// A date as a year and a day of the year.
 #[repr(C)]
-#[derive(Clone, Copy, Debug, PartialEq, Eq)]
+#[derive(Clone, Copy)]
 pub struct MuxanduOrdinalDate {
     /// The year, -999999 to 999999.
     pub year: i32,
@@ -71,7 +71,7 @@ pub struct MuxanduOrdinalDate {
 
 /// A date as an ISO year, an ISO week and a day of the week (ISO 8601). The week belongs to the year of its Thursday.
 #[repr(C)]
-#[derive(Clone, Copy, Debug, PartialEq, Eq)]
+#[derive(Clone, Copy)]
 pub struct MuxanduWeekDate {
     /// The ISO year, -999999 to 999999.
     pub year: i32,
@@ -83,7 +83,7 @@ pub struct MuxanduWeekDate {
 
 /// Where a text lies in a block of texts.
 #[repr(C)]
-#[derive(Clone, Copy, Debug, PartialEq, Eq)]
+#[derive(Clone, Copy)]
 pub struct MuxanduSpan {
     /// How many bytes of the block come before the text.
     pub start: usize,
@@ -93,7 +93,7 @@ pub struct MuxanduSpan {
 
 /// What a call with many items did: it goes through them in their order, up to the first that is refused.
 #[repr(C)]
-#[derive(Clone, Copy, Debug, PartialEq, Eq)]
+#[derive(Clone, Copy)]
 pub struct MuxanduBatch {
     /// How many items were converted and written.
     pub count: usize,
