@@ -1,0 +1,1 @@
+../../muxandu_sys.py

@@ -1,0 +1,213 @@
+"""Each call of the package, on values that other programs gave."""
+
+import datetime
+import doctest
+import pickle
+import unittest
+
+import muxandu
+from muxandu import Civil, Date, Duration, IsoWeekDate, OrdinalDate, Refused, Timestamp, Unit, days_in_month
+
+FIRST = Timestamp(-31_619_087_596_800)
+LAST = Timestamp(31_494_784_780_799, 999_999_999)
+EPOCH = Timestamp(0)
+BEYOND = Duration(2**63 - 1, 1_000_000_000)
+
+
+class Timestamps(unittest.TestCase):
+    def test_parts_are_tested(self):
+        for parts, refusal in (
+            ((31_494_784_780_800,), muxandu.RefusedTimestamp),
+            ((-(2**80), -1), muxandu.RefusedTimestamp),
+            ((0, 1_000_000_000), muxandu.RefusedNanosecond),
+            ((0, 2**32), muxandu.RefusedNanosecond),
+        ):
+            self.assertRaises(refusal, Timestamp, *parts)
+        self.assertRaises(TypeError, Timestamp, 0.5)
+
+    def test_counts_round_down(self):
+        at = Timestamp(-1, 999_999)
+        self.assertEqual((at.as_milliseconds(), at.as_microseconds(), at.as_nanoseconds()), (-1000, -999_001, -999_000_001))
+        self.assertEqual(Timestamp.from_milliseconds(-1), Timestamp(-1, 999_000_000))
+        self.assertEqual(Timestamp.from_microseconds(-1), Timestamp(-1, 999_999_000))
+        self.assertEqual(Timestamp.from_nanoseconds(-(2**63)), Timestamp(-9_223_372_037, 145_224_192))
+        self.assertRaises(muxandu.RefusedTimestamp, Timestamp.from_milliseconds, 2**70)
+        self.assertRaises(muxandu.RefusedTimestamp, Timestamp.from_nanoseconds, 2**63)
+        self.assertRaises(muxandu.RefusedResult, LAST.as_microseconds)
+        self.assertRaises(muxandu.RefusedResult, LAST.as_nanoseconds)
+
+    def test_sums_and_differences(self):
+        half, at = Duration(0, 500_000_000), Timestamp(-1, 500_000_000)
+        self.assertEqual((at + half, EPOCH - half, EPOCH - at, at - EPOCH), (EPOCH, at, half, Duration(0, -500_000_000)))
+        self.assertEqual(EPOCH + datetime.timedelta(days=1, microseconds=-1), Timestamp(86_399, 999_999_000))
+        self.assertEqual((LAST.saturating_add(half), FIRST.saturating_sub(half)), (LAST, FIRST))
+        self.assertEqual(LAST - FIRST, Duration(63_113_872_377_599, 999_999_999))
+        for move in (lambda: LAST + half, lambda: FIRST - half):
+            self.assertRaises(muxandu.RefusedResult, move)
+        for move in (lambda: at + BEYOND, lambda: at - BEYOND, lambda: at.saturating_add(BEYOND), lambda: at.saturating_sub(BEYOND)):
+            self.assertRaises(muxandu.RefusedDuration, move)
+        self.assertRaises(TypeError, lambda: at + 1)
+
+    def test_order_and_truncation(self):
+        at = Timestamp(-1, 123_456_789)
+        self.assertEqual(sorted([LAST, at, EPOCH, FIRST]), [FIRST, at, EPOCH, LAST])
+        rounded = [at.truncated_to(unit) for unit in Unit]
+        wanted = [(-86_400, 0), (-3600, 0), (-60, 0), (-1, 0), (-1, 123_000_000), (-1, 123_456_000)]
+        self.assertEqual([(each.seconds, each.nanoseconds) for each in rounded], wanted)
+        self.assertRaises(muxandu.RefusedUnit, at.truncated_to, 7)
+        self.assertEqual(len({at, Timestamp(-1, 123_456_789)}), 1)
+        self.assertNotEqual(at, -1)
+
+
+class Civils(unittest.TestCase):
+    def test_clocks_show_instants(self):
+        at = Timestamp(1_709_210_096, 7)
+        shown = at.to_civil(3600)
+        self.assertEqual(repr(shown), "Civil(2024, 2, 29, 13, 34, 56, 7, 3600)")
+        self.assertEqual((shown.day_number(), shown.date(), shown.to_timestamp()), (19_782, Date(2024, 2, 29), at))
+        self.assertEqual(repr(shown.to_offset(0)), "Civil(2024, 2, 29, 12, 34, 56, 7, 0)")
+        self.assertRaises(muxandu.RefusedOffsetSeconds, at.to_civil, 2**32)
+        self.assertRaises(muxandu.RefusedOffsetSeconds, shown.to_offset, -93_600)
+        self.assertRaises(muxandu.RefusedResult, FIRST.to_civil, -1)
+
+    def test_wall_clocks_beyond_the_instants(self):
+        at = Civil(-999_999, 1, 1, offset_seconds=3600)
+        self.assertRaises(muxandu.RefusedResult, at.to_timestamp)
+        self.assertRaises(muxandu.RefusedResult, at.to_offset, 0)
+        self.assertLess(at, Civil(-999_999, 1, 1))
+        self.assertEqual(str(at.to_offset(7200)), "-999999-01-01 1:00:00.0 +02:00:00")
+
+    def test_sums_and_differences(self):
+        day, at, end, start = Duration(86_400), Civil(2024, 2, 28, 1), LAST.to_civil(), FIRST.to_civil()
+        self.assertTrue((at + day).is_same(Civil(2024, 2, 29, 1)))
+        self.assertTrue((at - datetime.timedelta(days=-1)).is_same(Civil(2024, 2, 29, 1)))
+        self.assertEqual(Civil(2024, 1, 1, offset_seconds=-3600) - Civil(2024, 1, 1), Duration(3600))
+        self.assertTrue(end.saturating_add(day).is_same(end) and start.saturating_sub(day).is_same(start))
+        for move in (lambda: end + day, lambda: start - day):
+            self.assertRaises(muxandu.RefusedResult, move)
+        for move in (lambda: at + BEYOND, lambda: at - BEYOND, lambda: at.saturating_add(BEYOND), lambda: at.saturating_sub(BEYOND)):
+            self.assertRaises(muxandu.RefusedDuration, move)
+        at = Civil(2022, 2, 18, 15, 30, 45, 123_456_789)
+        self.assertEqual(at.truncated_to(Unit.MILLISECOND), Civil(2022, 2, 18, 15, 30, 45, 123_000_000))
+
+    def test_comparison_by_instant(self):
+        here, there = Civil(2024, 1, 1, 1, offset_seconds=3600), Civil(2024, 1, 1)
+        self.assertEqual(here, there)
+        self.assertFalse(here.is_same(there))
+        self.assertEqual(len({here, there}), 1)
+        self.assertLess(Civil(2024, 1, 1, offset_seconds=3600), there)
+
+    def test_parts_are_tested(self):
+        at = Civil(2024, 2, 29, 13, 34, 56)
+        self.assertEqual(at.replace(year=2028, hour=0), Civil(2028, 2, 29, 0, 34, 56))
+        for replaced, refusal in (
+            ({"year": 1_000_000}, muxandu.RefusedYear),
+            ({"year": 2**40}, muxandu.RefusedYear),
+            ({"year": 2023}, muxandu.RefusedDayOfMonth),
+            ({"month": 256 + 1}, muxandu.RefusedMonth),
+            ({"month": -1}, muxandu.RefusedMonth),
+            ({"day": 32}, muxandu.RefusedDay),
+            ({"day": 30}, muxandu.RefusedDayOfMonth),
+            ({"hour": 24}, muxandu.RefusedHour),
+            ({"minute": 60}, muxandu.RefusedMinute),
+            ({"second": 60}, muxandu.RefusedSecond),
+            ({"nanosecond": 1_000_000_000}, muxandu.RefusedNanosecond),
+            ({"offset_seconds": 93_600}, muxandu.RefusedOffsetSeconds),
+        ):
+            self.assertRaises(refusal, at.replace, **replaced)
+        self.assertRaises(TypeError, at.replace, week=1)
+
+    def test_datetime_shows_the_same(self):
+        zone = datetime.timezone(datetime.timedelta(hours=-8, seconds=30))
+        at = datetime.datetime(1996, 12, 19, 16, 39, 57, 123_456, tzinfo=zone)
+        self.assertEqual(Civil.from_datetime(at).to_datetime(), at)
+        self.assertEqual(Timestamp.from_datetime(at).to_civil().to_datetime(), at)
+        self.assertRaises(ValueError, Civil.from_datetime, at.replace(tzinfo=None))
+
+
+class Days(unittest.TestCase):
+    def test_days_are_read(self):
+        date = Date.from_day_number(18_628)
+        self.assertEqual((date.year, date.month, date.day, date.day_number()), (2021, 1, 1, 18_628))
+        self.assertEqual((date.to_ordinal_date(), date.weekday()), (OrdinalDate(2021, 1), 4))
+        self.assertEqual(date.to_iso_week_date(), IsoWeekDate(2020, 53, 4))
+        self.assertEqual(Date.from_iso_week_date(2020, 53, 4), date)
+        self.assertEqual(Date.from_ordinal_date(2021, 1), date)
+        self.assertEqual((days_in_month(2024, 2), str(Date(-5, 3, 1)), str(Date(10_000, 1, 1))), (29, "-0005-03-01", "+10000-01-01"))
+        self.assertLess(Date(-1, 12, 31), Date(0, 1, 1))
+
+    def test_days_are_tested(self):
+        for make, parts, refusal in (
+            (Date.from_day_number, (364_522_972,), muxandu.RefusedDayNumber),
+            (Date.from_day_number, (2**40,), muxandu.RefusedDayNumber),
+            (Date, (1_000_000, 1, 1), muxandu.RefusedYear),
+            (Date, (2023, 13, 1), muxandu.RefusedMonth),
+            (Date, (2023, 2, 0), muxandu.RefusedDay),
+            (Date, (2023, 2, 29), muxandu.RefusedDayOfMonth),
+            (Date.from_ordinal_date, (-1_000_000, 1), muxandu.RefusedYear),
+            (Date.from_ordinal_date, (2024, 2**16 + 1), muxandu.RefusedOrdinal),
+            (Date.from_ordinal_date, (2023, 366), muxandu.RefusedOrdinalOfYear),
+            (Date.from_iso_week_date, (1_000_000, 1, 0), muxandu.RefusedYear),
+            (Date.from_iso_week_date, (2020, 0, 0), muxandu.RefusedWeek),
+            (Date.from_iso_week_date, (2020, 1, 7), muxandu.RefusedWeekday),
+            (Date.from_iso_week_date, (2021, 53, 0), muxandu.RefusedWeekOfYear),
+            (Date.from_iso_week_date, (999_999, 52, 6), muxandu.RefusedResult),
+            (days_in_month, (2024, 13), muxandu.RefusedMonth),
+            (days_in_month, (1_000_000, 12), muxandu.RefusedYear),
+        ):
+            self.assertRaises(refusal, make, *parts)
+
+
+class Texts(unittest.TestCase):
+    def test_texts_are_read_and_written(self):
+        at = Civil.from_rfc3339("1996-12-19t16:39:57-08:00")
+        instant = Timestamp.from_rfc3339(b"1996-12-19 16:39:57-08:00")
+        self.assertEqual((at.to_rfc3339(), instant.seconds), ("1996-12-19T16:39:57-08:00", 851_042_397))
+        self.assertEqual(instant.to_rfc3339(), "1996-12-20T00:39:57Z")
+        self.assertEqual(instant.to_rfc3339_nanos(), "1996-12-20T00:39:57.000000000Z")
+        self.assertEqual((str(Timestamp(-1, 500_000_000)), str(FIRST)), ("-0.5", "-31619087596800"))
+        self.assertEqual(str(at), "1996-12-19 16:39:57.0 -08:00:00")
+        for write in (FIRST.to_rfc3339, LAST.to_rfc3339_nanos, at.replace(offset_seconds=1).to_rfc3339):
+            self.assertRaises(muxandu.RefusedNoText, write)
+
+    def test_texts_are_tested(self):
+        for text, refusal in (
+            ("", muxandu.RefusedSyntax),
+            ("1996-12-19T16:39:57\u00e9", muxandu.RefusedSyntax),
+            ("1996-13-19T16:39:57Z", muxandu.RefusedMonth),
+            ("1995-02-29T16:39:57Z", muxandu.RefusedDay),
+            ("1996-12-19T24:39:57Z", muxandu.RefusedHour),
+            ("1996-12-19T16:60:57Z", muxandu.RefusedMinute),
+            ("1996-12-19T16:39:60Z", muxandu.RefusedSecond),
+            ("1996-12-19T16:39:57+24:00", muxandu.RefusedOffsetHour),
+            ("1996-12-19T16:39:57+00:60", muxandu.RefusedOffsetMinute),
+        ):
+            self.assertRaises(refusal, Civil.from_rfc3339, text)
+            self.assertRaises(refusal, Timestamp.from_rfc3339, text)
+
+
+class Rest(unittest.TestCase):
+    def test_durations(self):
+        self.assertEqual(Duration(1, -1), Duration(0, 999_999_999))
+        self.assertLess(Duration(0, -1), Duration())
+        self.assertEqual(len({Duration(1, -1), Duration(0, 999_999_999)}), 1)
+        self.assertEqual((Duration(1, 2).seconds, Duration(1, 2).nanoseconds), (1, 2))
+        self.assertRaises(muxandu.RefusedDuration, Duration, 2**63)
+
+    def test_refusals_are_value_errors_with_names(self):
+        with self.assertRaises(ValueError) as caught:
+            Civil(2023, 2, 29)
+        self.assertIsInstance(caught.exception, Refused)
+        self.assertEqual((caught.exception.name, caught.exception.status), ("DAY_OF_MONTH", 4))
+        self.assertEqual(str(caught.exception), "DAY_OF_MONTH: A day of 1 to 31 that the month does not have in this year.")
+
+    def test_values_are_pickled(self):
+        values = [LAST, Civil(2024, 2, 29, offset_seconds=60), Date(2024, 2, 29), Duration(1, 2), Unit.DAY]
+        self.assertEqual(pickle.loads(pickle.dumps(values)), values)
+
+    def test_the_example(self):
+        self.assertEqual(doctest.testmod(muxandu).failed, 0)
+
+
+if __name__ == "__main__":
+    unittest.main()

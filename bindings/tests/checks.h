@@ -1,0 +1,80 @@
+/* What the programs of this folder share: how they count, and values in short. */
+#ifndef CHECKS_H
+#define CHECKS_H
+
+#include <stdio.h>
+#include <string.h>
+
+#include "muxandu.h"
+
+static int passed, failed;
+
+static inline void check(int holds, const char *what, const char *file, int line) {
+    if (holds) {
+        passed++;
+    } else {
+        failed++;
+        printf("%s:%d: %s\n", file, line, what);
+    }
+}
+
+#define CHECK(holds) check((holds) != 0, #holds, __FILE__, __LINE__)
+
+/* Prints the count, and gives what the program ends with. */
+static inline int counted(void) {
+    printf("%d passed, %d failed\n", passed, failed);
+    return failed != 0 || passed == 0;
+}
+
+static const int64_t FIRST = -31619087596800, LAST = 31494784780799;
+
+static inline MuxanduTimestamp stamp(int64_t seconds, uint32_t nanoseconds) {
+    MuxanduTimestamp at = {seconds, nanoseconds};
+    return at;
+}
+
+static inline MuxanduDuration length(int64_t seconds, int32_t nanoseconds) {
+    MuxanduDuration duration = {seconds, nanoseconds};
+    return duration;
+}
+
+static inline MuxanduDate date(int32_t year, uint8_t month, uint8_t day) {
+    MuxanduDate value = {year, month, day};
+    return value;
+}
+
+static inline MuxanduCivil civil(int32_t year, uint8_t month, uint8_t day, uint8_t hour, uint8_t minute, uint8_t second,
+                                 uint32_t nanosecond, int32_t offset_seconds) {
+    MuxanduCivil at = {year, month, day, hour, minute, second, nanosecond, offset_seconds};
+    return at;
+}
+
+static inline int is_stamp(MuxanduTimestamp at, int64_t seconds, uint32_t nanoseconds) {
+    return at.seconds == seconds && at.nanoseconds == nanoseconds;
+}
+
+static inline int is_length(MuxanduDuration duration, int64_t seconds, int32_t nanoseconds) {
+    return duration.seconds == seconds && duration.nanoseconds == nanoseconds;
+}
+
+static inline int is_date(MuxanduDate value, int32_t year, int month, int day) {
+    return value.year == year && value.month == month && value.day == day;
+}
+
+static inline int is_civil(MuxanduCivil a, MuxanduCivil b) {
+    return a.year == b.year && a.month == b.month && a.day == b.day && a.hour == b.hour && a.minute == b.minute &&
+           a.second == b.second && a.nanosecond == b.nanosecond && a.offset_seconds == b.offset_seconds;
+}
+
+static inline int is_text(const char *bytes, size_t size, const char *text) {
+    return size == strlen(text) && memcmp(bytes, text, size) == 0;
+}
+
+/* Whether the library's own text of a date-time is this one. */
+static inline int shows(MuxanduCivil at, const char *text) {
+    char bytes[MUXANDU_TEXT_ROOM];
+    size_t size = 0;
+    return muxandu_civil_text(at, bytes, sizeof bytes, &size) == MUXANDU_OK && is_text(bytes, size, text);
+}
+
+#endif
