@@ -1,7 +1,10 @@
 -- The instant of a wall clock at an offset, where the offset or the instant was given.
-use Rattle.std.proofs.Common.{◌≡◌, refl, arith, ℤ, pos, ◌+ℤ◌, ◌-ℤ◌}
+use Rattle.std.proofs.Common.{◌≡◌, refl, sym, arith, ℤ, pos, ◌+ℤ◌, ◌-ℤ◌, ◌<ℤ◌}
 use Rattle.std.proofs.lemmas.Int.{ints}
+use Rattle.calendar_values.specs.Clock.{nanos_per_day}
+use Rattle.calendar_values.specs.WallClock.{wall_day}
 use Rattle.offset_times.specs.Local.{Local, instant_of, local, local_at, shown_at, SameOffset}
+use Rattle.plain_times.specs.MidnightLemmas.{same_day-within}
 
 -- a conversion keeps the instant
 pub instant_of-local_at : (i o : ℤ) → instant_of (local_at i o) ≡ i
@@ -37,6 +40,19 @@ unfolding instant_of
 SameOffset-local at w = (refl, omega (arith, ints))
 
 pub ruleset same_offset = SameOffset-local
+
+-- on one day at one offset two instants are less than a day apart
+pub instant_of-not_a_day_later : (old new : Local) → SameOffset old new → wall_day new.wall ≡ wall_day old.wall
+    → instant_of new <ℤ (instant_of old +ℤ pos nanos_per_day)
+instant_of-not_a_day_later old new same day =
+    let later = same_day-within new.wall old.wall day in omega (arith, ints, same.1)
+
+pub instant_of-not_a_day_earlier : (old new : Local) → SameOffset old new → wall_day new.wall ≡ wall_day old.wall
+    → instant_of old <ℤ (instant_of new +ℤ pos nanos_per_day)
+instant_of-not_a_day_earlier old new same day =
+    let earlier = same_day-within old.wall new.wall (sym day) in omega (arith, ints, same.1)
+
+pub ruleset same_day = (instant_of-not_a_day_later, instant_of-not_a_day_earlier)
 
 -- what callers name where they follow an instant
 pub ruleset instants = (instant_of-local_at, instant_of-utc, instant_of-later, instant_of-earlier)

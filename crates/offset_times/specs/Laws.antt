@@ -34,8 +34,3 @@ pub record DifferencesLeadBack : Type 0 where
 abbrev pub TruncationsRoundDownOnce : Type 0
 TruncationsRoundDownOnce =
     (unit : ℕ) (at : Local) → 0 < unit → truncated unit (truncated unit at) ≡ truncated unit at
-
--- a replaced wall clock or offset reads as given, and the other is as before
-pub record OtherPartStays : Type 0 where
-  pub wall : (at : Local) (w : ℤ) → ((local w at.offset).wall ≡ w) × ((local w at.offset).offset ≡ at.offset)
-  pub offset : (at : Local) (o : ℤ) → ((local at.wall o).offset ≡ o) × ((local at.wall o).wall ≡ at.wall)

@@ -2,9 +2,9 @@
 //! offset and duration, and does nothing when it is called.
 ghost use Rattle.std.specs.Prelude.{◌≡◌};
 ghost use Rattle.std.specs.Ordering.{int_eq, int_cmp};
-ghost use Rattle.offset_times.specs.Laws.{ConversionsCompose, OwnOffsetStays, DifferencesUndoSums, DifferencesLeadBack, TruncationsRoundDownOnce, OtherPartStays};
+ghost use Rattle.offset_times.specs.Laws.{ConversionsCompose, OwnOffsetStays, DifferencesUndoSums, DifferencesLeadBack, TruncationsRoundDownOnce};
 ghost use Rattle.offset_times.specs.Local.{instant_of};
-ghost use Rattle.plain_times.specs.Laws.{ReplacedPartsReadAsGiven, ReplacementsKeepTheRest};
+ghost use Rattle.plain_times.specs.Laws.{ReplacementsKeepTheRest};
 
 use crate::OffsetDateTime;
 use std::hash::Hash;
@@ -44,14 +44,10 @@ pub fn truncations_round_down_once()
     ensures { TruncationsRoundDownOnce }
 {}
 
-/// After an accepted replacement of a part of the wall clock that part reads as given, as by
-/// [`plain_times::laws::replaced_parts_read_as_given`]; so does a replaced wall clock or offset, and the other
-/// of the two is as before.
-pub fn replaced_parts_read_as_given()
-    ensures parts { ReplacedPartsReadAsGiven }
-    ensures date_and_time { ReplacementsKeepTheRest }
-    ensures wall_and_offset { OtherPartStays }
+/// As [`plain_times::laws::replacements_keep_the_rest`], of the wall clock. What else a replacement leaves as it
+/// was is said by the clauses `value` and `shown` of the calls.
+pub fn replacements_keep_the_rest()
+    ensures { ReplacementsKeepTheRest }
 {
-    plain_times::laws::replaced_parts_read_as_given();
-    plain_times::laws::replacements_keep_the_rest();
+    plain_times::laws::replacements_keep_the_rest()
 }

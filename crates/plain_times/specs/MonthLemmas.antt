@@ -6,6 +6,7 @@ use Rattle.calendar_values.specs.MonthLaws.{days_in_month_bounds, days_in_months
 use Rattle.calendar_values.specs.MonthNumbers.{month_number_bounds}
 use Rattle.calendar_values.specs.SignedArith.{signed_arith}
 use Rattle.calendar_values.specs.YearLaws.{year_start-next}
+use Rattle.plain_times.specs.Months.{last_of_month}
 
 -- the first day of a month is of that year and month
 IsCalendarDate-first : (y : ℤ) (m : ℕ) → 1 ≤ m → m ≤ 12 → IsCalendarDate y m 1
@@ -28,10 +29,12 @@ IsCalendarDate-clamped y m d first last some =
     let days = days_in_month_bounds (is_leap_year y) m in
     record { month_first = first; month_last = last; day_first = omega arith; day_last = omega arith }
 
-pub year_of-clamped : (n y : ℤ) (m d : ℕ) → 1 ≤ m → m ≤ 12 → 1 ≤ d → n ≡ day_of_calendar_date y m (min d (days_in_month (is_leap_year y) m)) → year_of n ≡ y
+pub year_of-clamped : (n y : ℤ) (m d : ℕ) → 1 ≤ m → m ≤ 12 → 1 ≤ d
+    → n ≡ day_of_calendar_date y m (min d (days_in_month (is_leap_year y) m)) → year_of n ≡ y
 year_of-clamped n y m d first last some e = rw e (year_of-calendar_date y m _ (IsCalendarDate-clamped y m d first last some))
 
-pub month_of-clamped : (n y : ℤ) (m d : ℕ) → 1 ≤ m → m ≤ 12 → 1 ≤ d → n ≡ day_of_calendar_date y m (min d (days_in_month (is_leap_year y) m)) → month_of n ≡ m
+pub month_of-clamped : (n y : ℤ) (m d : ℕ) → 1 ≤ m → m ≤ 12 → 1 ≤ d
+    → n ≡ day_of_calendar_date y m (min d (days_in_month (is_leap_year y) m)) → month_of n ≡ m
 month_of-clamped n y m d first last some e = rw e (month_of-calendar_date y m _ (IsCalendarDate-clamped y m d first last some))
 
 -- each day has a month of the year, and a day of that month
@@ -63,46 +66,58 @@ next_year y =
     let b = is_leap_year y in
     omega (arith, signed_arith, year_start-next y, days_in_months-twelve b, days_in_months-more b 11, days_in_months-none (is_leap_year (y +ℤ pos 1)))
 
-first_of_month : (n last y : ℤ) (m : ℕ) → 1 ≤ m → last ≡ day_of_calendar_date y m (days_in_month (is_leap_year y) m) → n ≡ last +ℤ pos 1 → n ≡ day_of_calendar_date y (m + 1) 1
-first_of_month n last y m first ends next = next ∙ ap (λ (k : ℤ). k +ℤ pos 1) ends ∙ next_month y m first
-
-first_of_year : (n last y : ℤ) (m : ℕ) → m ≡ 12 → last ≡ day_of_calendar_date y m (days_in_month (is_leap_year y) m) → n ≡ last +ℤ pos 1 → n ≡ day_of_calendar_date (y +ℤ pos 1) 1 1
-first_of_year n last y m december ends next =
-    let shown : last ≡ day_of_calendar_date y 12 (days_in_month (is_leap_year y) 12) = ends ∙ ap (λ (k : ℕ). day_of_calendar_date y k (days_in_month (is_leap_year y) k)) december in
-    next ∙ ap (λ (k : ℤ). k +ℤ pos 1) shown ∙ next_year y
-
--- so after the last day of the month of a day d
-pub day_of_month_of-next_month : (n last d : ℤ) → n ≡ last +ℤ pos 1 → last ≡ day_of_calendar_date (year_of d) (month_of d) (days_in_month (is_leap_year (year_of d)) (month_of d)) → day_of_month_of n ≡ 1
-day_of_month_of-next_month n last d next ends =
+-- so the day after the last of the month of a day d is the first of the next month
+december : (d : ℤ) → month_of d ≡ 12 → last_of_month d +ℤ pos 1 ≡ day_of_calendar_date (year_of d +ℤ pos 1) 1 1
+unfolding last_of_month
+december d last =
     let y = year_of d in
+    ap (λ (m : ℕ). day_of_calendar_date y m (days_in_month (is_leap_year y) m) +ℤ pos 1) last ∙ next_year y
+
+before_december : (d : ℤ) → last_of_month d +ℤ pos 1 ≡ day_of_calendar_date (year_of d) (month_of d + 1) 1
+unfolding last_of_month
+before_december d = next_month (year_of d) (month_of d) (IsCalendarDate-of d).month_first
+
+pub day_of_month_of-next_month : (d : ℤ) → day_of_month_of (last_of_month d +ℤ pos 1) ≡ 1
+day_of_month_of-next_month d =
     let m = month_of d in
     let date = IsCalendarDate-of d in
     elim (cases_order m 12) [
-      | inl december ↦ day_of_month_of-first n (y +ℤ pos 1) 1 (omega arith) (omega arith) (first_of_year n last y m december ends next)
-      | inr (inl before) ↦ day_of_month_of-first n y (m + 1) (omega arith) (omega arith) (first_of_month n last y m date.month_first ends next)
+      | inl last ↦ day_of_month_of-first _ (year_of d +ℤ pos 1) 1 (omega arith) (omega arith) (december d last)
+      | inr (inl before) ↦ day_of_month_of-first _ (year_of d) (m + 1) (omega arith) (omega arith) (before_december d)
       | inr (inr after) ↦ absurd (omega arith)
     ]
 
-pub year_of-next_month : (n last d : ℤ) → n ≡ last +ℤ pos 1 → last ≡ day_of_calendar_date (year_of d) (month_of d) (days_in_month (is_leap_year (year_of d)) (month_of d)) → month_of d < 12 → year_of n ≡ year_of d
-year_of-next_month n last d next ends before =
-    let date = IsCalendarDate-of d in
-    year_of-first n (year_of d) (month_of d + 1) (omega arith) (omega arith) (first_of_month n last (year_of d) (month_of d) date.month_first ends next)
+pub year_of-next_month : (d : ℤ) → month_of d < 12 → year_of (last_of_month d +ℤ pos 1) ≡ year_of d
+year_of-next_month d before =
+    year_of-first _ (year_of d) (month_of d + 1) (omega arith) (omega arith) (before_december d)
 
-pub month_of-next_month : (n last d : ℤ) → n ≡ last +ℤ pos 1 → last ≡ day_of_calendar_date (year_of d) (month_of d) (days_in_month (is_leap_year (year_of d)) (month_of d)) → month_of d < 12 → month_of n ≡ month_of d + 1
-month_of-next_month n last d next ends before =
-    let date = IsCalendarDate-of d in
-    month_of-first n (year_of d) (month_of d + 1) (omega arith) (omega arith) (first_of_month n last (year_of d) (month_of d) date.month_first ends next)
+pub month_of-next_month : (d : ℤ) → month_of d < 12 → month_of (last_of_month d +ℤ pos 1) ≡ month_of d + 1
+month_of-next_month d before =
+    month_of-first _ (year_of d) (month_of d + 1) (omega arith) (omega arith) (before_december d)
 
-pub year_of-next_year : (n last d : ℤ) → n ≡ last +ℤ pos 1 → last ≡ day_of_calendar_date (year_of d) (month_of d) (days_in_month (is_leap_year (year_of d)) (month_of d)) → month_of d ≡ 12 → year_of n ≡ year_of d +ℤ pos 1
-year_of-next_year n last d next ends december =
-    year_of-first n (year_of d +ℤ pos 1) 1 (omega arith) (omega arith) (first_of_year n last (year_of d) (month_of d) december ends next)
+pub year_of-next_year : (d : ℤ) → month_of d ≡ 12 → year_of (last_of_month d +ℤ pos 1) ≡ year_of d +ℤ pos 1
+year_of-next_year d last = year_of-first _ (year_of d +ℤ pos 1) 1 (omega arith) (omega arith) (december d last)
 
-pub month_of-next_year : (n last d : ℤ) → n ≡ last +ℤ pos 1 → last ≡ day_of_calendar_date (year_of d) (month_of d) (days_in_month (is_leap_year (year_of d)) (month_of d)) → month_of d ≡ 12 → month_of n ≡ 1
-month_of-next_year n last d next ends december =
-    month_of-first n (year_of d +ℤ pos 1) 1 (omega arith) (omega arith) (first_of_year n last (year_of d) (month_of d) december ends next)
+pub month_of-next_year : (d : ℤ) → month_of d ≡ 12 → month_of (last_of_month d +ℤ pos 1) ≡ 1
+month_of-next_year d last = month_of-first _ (year_of d +ℤ pos 1) 1 (omega arith) (omega arith) (december d last)
 
 -- what callers name
-pub ruleset month_days = (days_in_month_bounds, month_number_bounds, month_of_bounds, year_of-first, month_of-first, day_of_month_of-first, year_of-clamped, month_of-clamped)
+pub ruleset month_days = (
+  days_in_month_bounds,
+  month_number_bounds,
+  month_of_bounds,
+  year_of-first,
+  month_of-first,
+  day_of_month_of-first,
+  year_of-clamped,
+  month_of-clamped,
+)
 
 -- what callers name who go from a month to the next
-pub ruleset next_months = (year_of-next_month, month_of-next_month, year_of-next_year, month_of-next_year, day_of_month_of-next_month)
+pub ruleset next_months = (
+  day_of_month_of-next_month,
+  year_of-next_month,
+  month_of-next_month,
+  year_of-next_year,
+  month_of-next_year,
+)

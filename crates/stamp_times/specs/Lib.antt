@@ -2,6 +2,7 @@ pub mod Counter
 pub mod InstantLaws
 pub mod Instants
 pub mod Laws
+pub mod LogLaws
 pub mod Numbered
 pub mod Reciprocal
 pub mod Refusals

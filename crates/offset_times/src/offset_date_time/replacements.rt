@@ -7,7 +7,7 @@ ghost use Rattle.calendar_values.specs.Refusals.{IsDateOfRange, date_refusal, or
 ghost use Rattle.calendar_values.specs.WallClock.{wall_clock, wall_day, wall_time};
 ghost use Rattle.plain_times.specs.Replacements.{with_date, with_time, OnDate, OnOrdinalDate, AtTime};
 ghost use Rattle.plain_times.specs.Truncations.{rounded_down};
-ghost use Rattle.offset_times.specs.Local.{local, SameOffset};
+ghost use Rattle.offset_times.specs.Local.{local, instant_of, SameOffset};
 
 use crate::{Assume, OffsetDateTime};
 use calendar_values::{ComponentRange, Date, Month, Time, UtcOffset};
@@ -31,11 +31,14 @@ impl OffsetDateTime {
     }
 
     /// The same date at another time of day, at the same offset.
+    #[tactic(auto, using(crate::specs::InstantLemmas::same_day))]
     pub fn replace_time(self, time: Time) -> OffsetDateTime
         ensures value { result ≡ local (with_time self.wall time) self.offset }
         ensures date { wall_day result.wall ≡ wall_day self.wall }
         ensures time { wall_time result.wall ≡ time }
         ensures instant { SameOffset self result }
+        ensures not_a_day_later { instant_of result <ℤ (instant_of self +ℤ pos nanos_per_day) }
+        ensures not_a_day_earlier { instant_of self <ℤ (instant_of result +ℤ pos nanos_per_day) }
     {
         self.replace_date_time(self.date_time().replace_time(time))
     }

@@ -652,5 +652,5 @@ fn constants_and_laws(rt: HostRuntime) {
     laws::differences_undo_sums();
     laws::differences_lead_back();
     laws::truncations_round_down_once();
-    laws::replaced_parts_read_as_given();
+    laws::replacements_keep_the_rest();
 }

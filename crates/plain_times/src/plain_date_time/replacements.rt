@@ -14,11 +14,13 @@ use calendar_values::{ComponentRange, Date, Month, Time};
 
 impl PlainDateTime {
     /// The same date at another time of day.
-    #[tactic(auto, using(crate::specs::ReplacementLemmas::replaced), unfolding(crate::specs::Replacements::with_time))]
+    #[tactic(auto, using(crate::specs::ReplacementLemmas::replaced, crate::specs::MidnightLemmas::within_a_day), unfolding(crate::specs::Replacements::with_time))]
     pub fn replace_time(self, time: Time) -> PlainDateTime
         ensures value { result ≡ with_time self time }
         ensures date { wall_day result ≡ wall_day self }
         ensures time { wall_time result ≡ time }
+        ensures not_a_day_later { result <ℤ (self +ℤ pos nanos_per_day) }
+        ensures not_a_day_earlier { self <ℤ (result +ℤ pos nanos_per_day) }
     {
         PlainDateTime::new(self.date(), time)
     }

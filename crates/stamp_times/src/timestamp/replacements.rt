@@ -1,7 +1,7 @@
 //! A timestamp with a part of its date or of its time of day replaced, in UTC.
-ghost use Rattle.std.specs.Prelude.{◌≡◌, ◌<◌, ◌≤◌, ◌+◌, ◌*◌, OkIff, IfOk, IfErr, codes};
+ghost use Rattle.std.specs.Prelude.{◌≡◌, ◌<◌, ◌≤◌, ◌+◌, ◌*◌, ◌+ℤ◌, ◌<ℤ◌, pos, OkIff, IfOk, IfErr, codes};
 ghost use Rattle.calendar_values.specs.Calendar.{year_of, month_of, day_of_month_of, is_leap_year, days_in_year, days_in_month, day_of_calendar_date, day_of_ordinal_date};
-ghost use Rattle.calendar_values.specs.Clock.{nanos_per_second, nanos_per_millisecond, nanos_per_microsecond, clock_of_parts, hour_of, minute_of, second_of, nanosecond_of};
+ghost use Rattle.calendar_values.specs.Clock.{nanos_per_day, nanos_per_second, nanos_per_millisecond, nanos_per_microsecond, clock_of_parts, hour_of, minute_of, second_of, nanosecond_of};
 ghost use Rattle.calendar_values.specs.Month.{month_number};
 ghost use Rattle.calendar_values.specs.Range.{IsDay};
 ghost use Rattle.calendar_values.specs.Refusals.{IsDateOfRange, date_refusal, ordinal_refusal, outright_refusal, conditional_refusal};
@@ -19,11 +19,13 @@ const EPOCH_JULIAN_DAY: i32 = 2_440_588;
 
 impl Timestamp {
     /// The same date in UTC at another time of day.
-    #[tactic(auto, using(plain_times::specs::ReplacementLemmas::replaced), unfolding(plain_times::specs::Replacements::with_time))]
+    #[tactic(auto, using(plain_times::specs::ReplacementLemmas::replaced, plain_times::specs::MidnightLemmas::within_a_day), unfolding(plain_times::specs::Replacements::with_time))]
     pub fn replace_time(self, time: Time) -> Timestamp
         ensures value { result ≡ with_time self time }
         ensures date { wall_day result ≡ wall_day self }
         ensures time { wall_time result ≡ time }
+        ensures not_a_day_later { result <ℤ (self +ℤ pos nanos_per_day) }
+        ensures not_a_day_earlier { self <ℤ (result +ℤ pos nanos_per_day) }
     {
         let (hour, minute, second, nanosecond) = time.as_hms_nano();
         let second = (hour as u32 * 60 + minute as u32) * 60 + second as u32;

@@ -19,6 +19,8 @@ impl UtcDateTime {
         ensures value { result ≡ with_time self time }
         ensures date { wall_day result ≡ wall_day self }
         ensures time { wall_time result ≡ time }
+        ensures not_a_day_later { result <ℤ (self +ℤ pos nanos_per_day) }
+        ensures not_a_day_earlier { self <ℤ (result +ℤ pos nanos_per_day) }
     {
         UtcDateTime::from_plain(self.as_plain().replace_time(time))
     }

@@ -1,0 +1,8 @@
+-- The last day of a month, which the first of the next month follows.
+use Rattle.std.specs.Prelude.{ℤ}
+use Rattle.calendar_values.specs.Calendar.{is_leap_year, days_in_month, day_of_calendar_date, year_of, month_of}
+
+-- the last day of the month of a day
+unfoldable pub last_of_month : ℤ → ℤ
+last_of_month n =
+    let y = year_of n in let m = month_of n in day_of_calendar_date y m (days_in_month (is_leap_year y) m)

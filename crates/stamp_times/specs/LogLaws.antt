@@ -1,0 +1,97 @@
+-- Logs in the order of time in which each instant stands once.
+use Rattle.std.proofs.Common.{◌≡◌, ℕ, zero, suc, ◌+◌, subst, inl, inr, Bool, false, arith, ℤ, int_cmp, List, [], ◌∷◌, ◌++◌, length, take, drop, slice_index_or}
+use Rattle.std.proofs.lemmas.Cmp.{int_cmp_total, int_eq_equiv}
+use Rattle.std.proofs.lemmas.Int.{ints}
+use Rattle.std.proofs.lemmas.List.{take-append-drop}
+use Rattle.std.proofs.lemmas.List.Elements.{Contains-append_left, Contains-append_right, Contains-append_cases}
+use Rattle.std.proofs.lemmas.List.Filters.{dedup_is}
+use Rattle.std.proofs.lemmas.List.Kept.{IsStrictlySortedBy-dedup, Contains-dedup, Contains-from_dedup}
+use Rattle.std.proofs.lemmas.List.Sorted.{searchable_from_sorted}
+use Rattle.std.specs.List.{AllByRecursion, AllWithin, Contains, insert}
+use Rattle.std.specs.List.Retain.{IsFiltered, DiffersFromLast}
+use Rattle.std.specs.List.Sorted.{IsSorted, IsStrictlySortedBy, IsNonDecreasingBy, IsPartitionPoint}
+use Rattle.std.specs.Ordering.{int_eq, eq_by_cmp, is_lt, ordering_index}
+use Rattle.std.specs.declared.cmp.Ordering.TheVariants.{Less, Greater}
+
+less-greater : (x y : ℤ) → int_cmp x y ≡ Greater → int_cmp y x ≡ Less
+less-greater x y e = grind (arith, ints)
+
+not_less : (x y : ℤ) → int_cmp x y ≡ Less → is_lt (int_cmp y x) ≡ false
+not_less x y e = grind (arith, ints)
+
+-- a list in which each element stands once is in order
+pub IsSorted-strictly : (xs : List ℤ) → IsStrictlySortedBy int_cmp xs → IsSorted int_cmp xs
+unfolding IsStrictlySortedBy
+IsSorted-strictly [] h k d from within = absurd (omega arith)
+IsSorted-strictly (x ∷ []) h k d from within = absurd (omega arith)
+IsSorted-strictly (x ∷ y ∷ xs) h zero d from within = not_less x y h.0.0
+IsSorted-strictly (x ∷ y ∷ xs) h (suc k) d from within =
+    let next : suc (k + 1) ≡ suc k + 1 = omega arith in
+    subst (λ (n : ℕ). is_lt (int_cmp (slice_index_or (x ∷ y ∷ xs) n d) (slice_index_or (y ∷ xs) k d)) ≡ false) next
+    (IsSorted-strictly (y ∷ xs) h.1 k d (omega arith) (omega arith))
+
+-- each element of a list with one more
+all_inserted : (P : ℤ → Type 0) (xs : List ℤ) (i : ℕ) (x : ℤ) → AllByRecursion P xs → P x → AllByRecursion P (insert xs i x)
+all_inserted P [] zero x h p = (p, h)
+all_inserted P [] (suc i) x h p = (p, h)
+all_inserted P (y ∷ ys) zero x h p = (p, h)
+all_inserted P (y ∷ ys) (suc i) x h p = (h.0, all_inserted P ys i x h.1 p)
+
+all_above : (xs : List ℤ) (x : ℤ) → AllWithin (λ y. int_cmp y x ≡ Greater) xs 0 (length xs) → AllByRecursion (λ y. int_cmp x y ≡ Less) xs
+all_above [] x h = tt
+all_above (y ∷ ys) x h =
+    (less-greater y x (h zero y (omega arith) (omega arith)), all_above ys x (λ k d from within. h (suc k) d (omega arith) (omega arith)))
+
+-- an element put where those before it are less and those after it greater
+inserted_between : (xs : List ℤ) (i : ℕ) (x : ℤ) → IsStrictlySortedBy int_cmp xs
+    → IsPartitionPoint (λ y. int_cmp y x ≡ Less) (λ y. int_cmp y x ≡ Greater) xs i → IsStrictlySortedBy int_cmp (insert xs i x)
+unfolding IsStrictlySortedBy
+inserted_between [] zero x h between = (tt, tt)
+inserted_between [] (suc i) x h between = (tt, tt)
+inserted_between (y ∷ ys) zero x h between = (all_above (y ∷ ys) x between.1, h)
+inserted_between (y ∷ ys) (suc i) x h between =
+    let first : int_cmp y x ≡ Less = between.0 zero x (omega arith) (omega arith) in (
+      all_inserted (λ z. int_cmp y z ≡ Less) ys i x h.0 first,
+      inserted_between ys i x h.1 (
+        (λ k d from below. between.0 (suc k) d (omega arith) (omega arith)),
+        (λ k d from within. between.1 (suc k) d (omega arith) (omega arith)),
+      ),
+    )
+
+-- a list after an insert where a search of it said that the element belongs
+pub strictly-inserted : (xs ys zs : List ℤ) (i : ℕ) (x : ℤ) → ys ≡ insert xs i x → zs ≡ xs → IsStrictlySortedBy int_cmp xs
+    → (IsNonDecreasingBy (λ y. ordering_index (int_cmp y x)) zs
+    → IsPartitionPoint (λ y. int_cmp y x ≡ Less) (λ y. int_cmp y x ≡ Greater) zs i)
+    → IsStrictlySortedBy int_cmp ys
+strictly-inserted xs ys zs i x e same h searched =
+    let here : IsStrictlySortedBy int_cmp zs = rw same h in
+    let rises = searchable_from_sorted int_cmp_total (λ (y : ℤ). y) zs x (IsSorted-strictly zs here) in
+    rw (e, ← same) (inserted_between zs i x here (searched rises))
+
+-- and what was in the list is in it
+pub Contains-inserted : (xs ys : List ℤ) (i : ℕ) (x y : ℤ) → ys ≡ insert xs i x → Contains xs y → Contains ys y
+Contains-inserted xs ys i x y e there =
+    let split : Contains (take i xs ++ drop i xs) y = rw take-append-drop there in
+    rw e (elim (Contains-append_cases (take i xs) (drop i xs) y split) [
+      | inl before ↦ Contains-append_left (take i xs) (x ∷ drop i xs) y before
+      | inr after ↦ Contains-append_right (take i xs) (x ∷ drop i xs) y (suc after.0, omega (arith, after.1), after.2)
+    ])
+
+eq_is_cmp : (x y : ℤ) → int_eq x y ≡ eq_by_cmp int_cmp x y
+eq_is_cmp x y = grind (arith, ints)
+
+same_from_eq : (x y : ℤ) → int_eq x y ≡ Bool.true → x ≡ y
+same_from_eq x y e = grind (arith, ints)
+
+-- what is left of a list in order after its repeats are taken out
+pub strictly-deduped : (xs ys : List ℤ) → IsSorted int_cmp xs → IsFiltered (DiffersFromLast int_eq) [] xs ys → IsStrictlySortedBy int_cmp ys
+strictly-deduped xs ys sorted left = rw (dedup_is int_eq xs ys left) (IsStrictlySortedBy-dedup int_cmp_total eq_is_cmp xs sorted)
+
+pub Contains-deduped : (xs ys : List ℤ) (x : ℤ) → IsFiltered (DiffersFromLast int_eq) [] xs ys → Contains xs x → Contains ys x
+Contains-deduped xs ys x left there = rw (dedup_is int_eq xs ys left) (Contains-dedup int_eq_equiv same_from_eq xs x there)
+
+pub Contains-before_dedup : (xs ys : List ℤ) (x : ℤ) → IsFiltered (DiffersFromLast int_eq) [] xs ys → Contains ys x → Contains xs x
+Contains-before_dedup xs ys x left there = let is = dedup_is int_eq xs ys left in Contains-from_dedup int_eq xs x (rw is at there)
+
+-- what callers name who keep a log in order, each instant once
+pub ruleset without_repeats = IsSorted-strictly
