@@ -1,15 +1,15 @@
--- The order of instants, by dates that lie far apart, by wall clocks at one offset, and by packed parts.
-use Rattle.std.proofs.Common.{◌≡◌, ℕ, arith, ℤ, pos, ◌+ℤ◌, ◌-ℤ◌, ◌*ℤ◌, ◌<ℤ◌, int_cmp}
+-- The order of instants, by dates that lie far apart, by the time between them, and by packed parts.
+use Rattle.std.proofs.Common.{◌≡◌, ℕ, ◌/◌, ◌<◌, ap, ◌∙◌, arith, ℤ, pos, neg_ℤ, ◌+ℤ◌, ◌-ℤ◌, ◌*ℤ◌, ◌<ℤ◌, int_cmp, unsigned_abs}
 use Rattle.std.proofs.lemmas.Int.{ints, by_lt_z}
-use Rattle.calendar_values.specs.Calendar.{year_of, ordinal_of, day_of_ordinal_date, IsOrdinalDate}
-use Rattle.calendar_values.specs.Clock.{IsClock}
+use Rattle.calendar_values.specs.Calendar.{year_start, year_of, ordinal_of, day_of_ordinal_date, IsOrdinalDate}
+use Rattle.calendar_values.specs.Clock.{IsClock, nanos_per_second, nanosecond_of}
 use Rattle.calendar_values.specs.DayLaws.{IsOrdinalDate-of, day_of_ordinal_date-of, year_of-ordinal_date, ordinal_of-ordinal_date}
 use Rattle.calendar_values.specs.Offsets.{IsOffset}
-use Rattle.calendar_values.specs.SignedArith.{signed_arith}
+use Rattle.calendar_values.specs.SignedArith.{one_part, signed_arith}
 use Rattle.calendar_values.specs.WallClock.{wall_clock, wall_day, wall_time}
 use Rattle.calendar_values.specs.WallClockLaws.{wall_clock-parts, IsClock-wall_time, wall_day-wall_clock, wall_time-wall_clock}
 use Rattle.calendar_values.specs.YearLaws.{year_start-later, year_start-next, days_in_year_bounds}
-use Rattle.offset_times.specs.Local.{Local, IsLocal, instant_of, offset_nanos, shown_at}
+use Rattle.offset_times.specs.Local.{Local, IsLocal, instant_of, offset_nanos}
 use Rattle.plain_times.specs.Packed.{packed_parts, packed_wall_clock}
 
 -- days between two dates, where no year has more than 365, are no more than there are
@@ -35,18 +35,45 @@ later_by_dates a b h k far =
     let days = rw (day_of_ordinal_date-of (wall_day a.wall), day_of_ordinal_date-of (wall_day b.wall)) at (later_date _ _ _ _ (IsOrdinalDate-of (wall_day a.wall)) (IsOrdinalDate-of (wall_day b.wall)) far) in
     rw (wall_clock-parts a.wall, wall_clock-parts b.wall) at (later_instant (wall_day b.wall) (wall_day a.wall) a.offset b.offset (wall_time a.wall) (wall_time b.wall) days (IsClock-wall_time b.wall) h.1 k.1)
 
--- at one offset instants compare as their wall clocks
-pub int_cmp-one_offset : (a b : Local) → a.offset ≡ b.offset → int_cmp a.wall b.wall ≡ int_cmp (instant_of a) (instant_of b)
-unfolding instant_of
-int_cmp-one_offset a b e = grind (arith, ints)
+int_cmp_agrees : (a b x y : ℤ) → (a <ℤ b → x <ℤ y) → (b <ℤ a → y <ℤ x) → (a ≡ b → x ≡ y) → int_cmp a b ≡ int_cmp x y
+int_cmp_agrees a b x y l g s = grind (arith, ints)
 
-shown_before : (w o j : ℤ) → int_cmp w (shown_at j o) ≡ int_cmp (w -ℤ offset_nanos o) j
-shown_before w o j = grind (arith, ints)
+-- dates more than three days apart decide
+pub int_cmp-far : (d i j : ℤ) → 3 < unsigned_abs d → (pos 3 <ℤ d → j <ℤ i) → (d <ℤ neg_ℤ (pos 3) → i <ℤ j) → int_cmp d (pos 0) ≡ int_cmp i j
+int_cmp-far d i j far later earlier =
+    int_cmp_agrees d (pos 0) i j (λ lt. earlier (omega (arith, signed_arith, one_part d))) (λ gt. later (omega (arith, signed_arith, one_part d))) (λ e. absurd (omega (arith, signed_arith, one_part d)))
 
--- at two offsets, as what clocks at the first show
-pub int_cmp-shown : (a b : Local) → int_cmp a.wall (shown_at (instant_of b) a.offset) ≡ int_cmp (instant_of a) (instant_of b)
+-- and else the difference of the instants does
+pub int_cmp-difference : (i j : ℤ) → int_cmp (i -ℤ j) (pos 0) ≡ int_cmp i j
+int_cmp-difference i j =
+    int_cmp_agrees (i -ℤ j) (pos 0) i j (λ lt. omega (arith, signed_arith)) (λ gt. omega (arith, signed_arith)) (λ e. omega (arith, signed_arith))
+
+-- days of one year lie apart by their places in it
+pub days_in_one_year : (m n : ℤ) → year_of m ≡ year_of n → pos (ordinal_of m) -ℤ pos (ordinal_of n) ≡ m -ℤ n
+days_in_one_year m n e =
+    let first = day_of_ordinal_date-of m in
+    let second = day_of_ordinal_date-of n in
+    let same : year_start (year_of m) ≡ year_start (year_of n) = ap year_start e in
+    omega (arith, signed_arith)
+
+seconds_between_parts : (d u v o p : ℤ) → d *ℤ pos 86_400 +ℤ ((u -ℤ o) -ℤ (v -ℤ p)) ≡ d *ℤ pos 86_400 +ℤ u -ℤ o -ℤ (v -ℤ p)
+seconds_between_parts d u v o p = omega (arith, ints)
+
+pub seconds_between : (s d a b m n u v o p : ℤ) → s ≡ d *ℤ pos 86_400 +ℤ (a -ℤ b) → d ≡ m -ℤ n → a ≡ u -ℤ o → b ≡ v -ℤ p
+    → s ≡ (m -ℤ n) *ℤ pos 86_400 +ℤ u -ℤ o -ℤ (v -ℤ p)
+seconds_between s d a b m n u v o p whole days first second =
+    rw (days, first, second) at whole ∙ seconds_between_parts (m -ℤ n) u v o p
+
+-- instants lie apart by the days, the seconds of the days, the offsets and the nanoseconds
+pub instants_between : (a b : Local) (s : ℤ) (n m : ℕ)
+    → s ≡ (wall_day a.wall -ℤ wall_day b.wall) *ℤ pos 86_400 +ℤ pos (wall_time a.wall / nanos_per_second) -ℤ a.offset -ℤ (pos (wall_time b.wall / nanos_per_second) -ℤ b.offset)
+    → n ≡ nanosecond_of (wall_time a.wall) → m ≡ nanosecond_of (wall_time b.wall)
+    → s *ℤ pos 1_000_000_000 +ℤ (pos n -ℤ pos m) ≡ instant_of a -ℤ instant_of b
 unfolding instant_of
-int_cmp-shown a b = shown_before a.wall a.offset (b.wall -ℤ offset_nanos b.offset)
+instants_between a b s n m e f g =
+    let first = wall_clock-parts a.wall in
+    let second = wall_clock-parts b.wall in
+    omega (arith, signed_arith)
 
 -- the packed parts of a wall clock are its packed number
 pub packed_parts-is : (w y : ℤ) (o c : ℕ) → IsOrdinalDate y o → IsClock c → wall_clock (day_of_ordinal_date y o) c ≡ w → packed_parts y o c ≡ packed_wall_clock w

@@ -1,17 +1,18 @@
 //! Date-times with an offset compare, and feed a hasher, by their instants.
-ghost use Rattle.std.specs.Prelude.{◌≡◌, ◌≤◌, pos, neg_ℤ, ◌+ℤ◌, ◌*ℤ◌, ◌<ℤ◌};
+ghost use Rattle.std.specs.Prelude.{◌≡◌, ◌<◌, ◌≤◌, ◌/◌, pos, neg_ℤ, unsigned_abs, ◌+ℤ◌, ◌-ℤ◌, ◌*ℤ◌, ◌<ℤ◌, ◌≤ℤ◌};
 ghost use Rattle.std.proofs.Common.{rules};
 ghost use Rattle.std.specs.Cmp.{partial_order_from_own_ties};
 ghost use Rattle.std.specs.Cmp.Rules.{comparing, hashing};
 ghost use Rattle.std.specs.Hash as fed;
 ghost use Rattle.std.specs.Ordering.{on, int_eq, int_cmp, as_partial_cmp};
-ghost use Rattle.calendar_values.specs.Range.{IsYear};
-ghost use Rattle.offset_times.specs.Local.{instant_of, shown_at};
+ghost use Rattle.calendar_values.specs.Clock.{nanos_per_second};
+ghost use Rattle.calendar_values.specs.WallClock.{wall_day, wall_time};
+ghost use Rattle.offset_times.specs.Local.{instant_of};
 ghost use Rattle.plain_times.specs.Packed.{packed_wall_clock};
 
 use crate::OffsetDateTime;
-use crate::carries::{to_offset_raw, to_utc_raw};
-use calendar_values::UtcOffset;
+use crate::carries::to_utc_raw;
+use calendar_values::Time;
 use plain_times::packed;
 use std::cmp::Ordering;
 use std::hash::{Hash, Hasher};
@@ -34,46 +35,60 @@ impl OffsetDateTime {
         self.cmp(&OffsetDateTime::from(other))
     }
 
-    // Dates more than three days apart decide alone. At one offset wall clocks decide; at two, what clocks at
-    // the first show.
+    // Dates more than three days apart decide alone, else the time between the instants does.
+    #[inline(always)]
     fn by_instant(self, other: OffsetDateTime) -> Ordering
         ensures { result ≡ int_cmp (instant_of self) (instant_of other) }
     {
         let days = self.days_after(other);
-        if days > 3 {
-            return Ordering::Greater;
+        if days.unsigned_abs() > 3 {
+            return days.cmp(&0);
         }
-        if days < -3 {
-            return Ordering::Less;
-        }
-        if self.offset() == other.offset() {
-            return self.date_time().cmp(&other.date_time());
-        }
-        self.by_shown(other)
+        self.nanoseconds_after(other).cmp(&0)
     }
 
-    // The order of what clocks at the offset of the first show at both instants.
-    fn by_shown(self, other: OffsetDateTime) -> Ordering
-        ensures { result ≡ int_cmp (instant_of self) (instant_of other) }
+    // The nanoseconds from the other instant to this one.
+    fn nanoseconds_after(self, other: OffsetDateTime) -> i128
+        ensures { result ≡ instant_of self -ℤ instant_of other }
     {
-        self.packed_own().cmp(&other.packed_shown(self.offset()))
+        let nanoseconds = self.nanosecond() as i32 - other.nanosecond() as i32;
+        nanoseconds_of(self.seconds_after(other), nanoseconds)
     }
 
-    // The date and the time of day in one number.
-    #[tactic(auto, unfolding(plain_times::specs::Packed::packed_wall_clock))]
-    fn packed_own(self) -> i128
-        ensures { result ≡ packed_wall_clock self.wall }
+    // The seconds from the other instant to this one, each without the nanosecond of its second.
+    #[inline(always)]
+    fn seconds_after(self, other: OffsetDateTime) -> i64
+        ensures { result ≡ (wall_day self.wall -ℤ wall_day other.wall) *ℤ pos 86_400
+            +ℤ pos (wall_time self.wall / nanos_per_second) -ℤ self.offset
+            -ℤ (pos (wall_time other.wall / nanos_per_second) -ℤ other.offset) }
     {
-        let (year, ordinal) = self.date_time().to_ordinal_date();
-        packed(year, ordinal, self.date_time().time())
+        let seconds = self.second_of_day_in_utc() - other.second_of_day_in_utc();
+        seconds_of(self.date_after(other), seconds)
     }
 
-    // What clocks at the offset show then, in one number, which is told of a date outside the range too.
-    fn packed_shown(self, offset: UtcOffset) -> i128
-        ensures { result ≡ packed_wall_clock (shown_at (instant_of self) offset) }
+    // The days from the other date to this one.
+    #[inline(always)]
+    fn date_after(self, other: OffsetDateTime) -> i32
+        ensures { result ≡ wall_day self.wall -ℤ wall_day other.wall }
     {
-        let (year, ordinal, time) = to_offset_raw(self, offset);
-        packed(year, ordinal, time)
+        let (year, ordinal) = self.to_ordinal_date();
+        let (other_year, other_ordinal) = other.to_ordinal_date();
+        if year == other_year {
+            i32::from(ordinal) - i32::from(other_ordinal)
+        } else {
+            self.to_julian_day() - other.to_julian_day()
+        }
+    }
+
+    // The seconds in UTC from the midnight that begins the date.
+    #[inline(always)]
+    #[tactic(auto, using(calendar_values::specs::SignedArith::signed_casts))]
+    fn second_of_day_in_utc(self) -> i32
+        ensures value { result ≡ pos (wall_time self.wall / nanos_per_second) -ℤ self.offset }
+        ensures low { neg_ℤ (pos 93_599) ≤ℤ result }
+        ensures high { result ≤ℤ pos 179_998 }
+    {
+        second_of_day(self.time()) as i32 - self.offset().whole_seconds()
     }
 
     // What clocks in UTC show then, in one number, which is told of an instant outside the range too.
@@ -85,24 +100,55 @@ impl OffsetDateTime {
     }
 
     // The days from the other date to this one, where no year has more than 365.
+    #[inline(always)]
     fn days_after(self, other: OffsetDateTime) -> i32
         ensures later { pos 3 <ℤ result → instant_of other <ℤ instant_of self }
         ensures earlier { result <ℤ neg_ℤ (pos 3) → instant_of self <ℤ instant_of other }
     {
         let (year, ordinal) = self.date_time().to_ordinal_date();
         let (other_year, other_ordinal) = other.date_time().to_ordinal_date();
-        common_day(year, ordinal) - common_day(other_year, other_ordinal)
+        days_apart(year - other_year, ordinal, other_ordinal)
     }
 }
 
-// The days up to a day of a year, where each year has 365.
+// The nanoseconds of seconds and of nanoseconds.
+#[inline(always)]
 #[tactic(auto, using(calendar_values::specs::SignedArith::signed_casts))]
-fn common_day(year: i32, ordinal: u16) -> i32
-    requires year { IsYear year }
-    requires ordinal { ordinal ≤ 366 }
-    ensures { result ≡ year *ℤ pos 365 +ℤ pos ordinal }
+fn nanoseconds_of(seconds: i64, nanoseconds: i32) -> i128
+    ensures { result ≡ seconds *ℤ pos 1_000_000_000 +ℤ nanoseconds }
 {
-    year * 365 + i32::from(ordinal)
+    seconds as i128 * 1_000_000_000 + nanoseconds as i128
+}
+
+// The seconds of days and of seconds.
+#[inline(always)]
+#[tactic(auto, using(calendar_values::specs::SignedArith::signed_casts))]
+fn seconds_of(days: i32, seconds: i32) -> i64
+    ensures { result ≡ days *ℤ pos 86_400 +ℤ seconds }
+{
+    days as i64 * 86_400 + seconds as i64
+}
+
+// The second of the day that a time of day belongs to.
+#[inline(always)]
+fn second_of_day(time: Time) -> u32
+    ensures value { result ≡ time / nanos_per_second }
+    ensures in_range { result < 86_400 }
+{
+    let (hour, minute, second) = time.as_hms();
+    u32::from(hour) * 3_600 + u32::from(minute) * 60 + u32::from(second)
+}
+
+// The days from one day of a year to another, so many years of 365 days later.
+#[inline(always)]
+#[tactic(auto, using(calendar_values::specs::SignedArith::signed_casts))]
+fn days_apart(years: i32, ordinal: u16, other_ordinal: u16) -> i32
+    requires years { unsigned_abs years ≤ 1_999_998 }
+    requires ordinal { ordinal ≤ 366 }
+    requires other_ordinal { other_ordinal ≤ 366 }
+    ensures { result ≡ years *ℤ pos 365 +ℤ pos ordinal -ℤ pos other_ordinal }
+{
+    years * 365 + i32::from(ordinal) - i32::from(other_ordinal)
 }
 
 impl PartialEq for OffsetDateTime {

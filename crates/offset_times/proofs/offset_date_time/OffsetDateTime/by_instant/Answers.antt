@@ -1,12 +1,21 @@
-use Rattle.std.proofs.Common.{◌≡◌, ◌∙◌, sym, ap, ℤ, int_cmp}
-use Rattle.std.specs.Cmp.{signed_Decides}
-use Rattle.offset_times.proofs.OrderLemmas.{int_cmp-one_offset}
+use Rattle.std.proofs.Common.{◌≡◌, ◌∙◌, ◌<◌, rules, ap, arith, ℤ, pos, int_cmp, to_z, of_z, w32, unsigned_abs}
+use Rattle.std.specs.Int.{w128}
+use Rattle.calendar_values.specs.SignedArith.{signed_casts}
+use Rattle.offset_times.specs.Local.{instant_of}
+use Rattle.offset_times.proofs.OrderLemmas.{int_cmp-far, int_cmp-difference}
 use Rattle.offset_times.proofs.offset_date_time.OffsetDateTime.by_instant.Goals as goal
 
-pub returns-then-eq : goal.returns-then-eq
-returns-then-eq c =
-    let same = (signed_Decides c.offset.result c.offset-2.result).0 (sym c.if-eq.ensures) in
-    let one_offset : c.args.self.offset ≡ c.args.other.offset = sym c.offset.ensures.value ∙ same ∙ c.offset-2.ensures.value in
-    c.cmp.ensures ∙ ap (λ (w : ℤ). int_cmp w c.date_time-then-eq.result) c.date_time.ensures.value
-    ∙ ap (λ (w : ℤ). int_cmp c.args.self.wall w) c.date_time-then-eq.ensures.value
-    ∙ int_cmp-one_offset c.args.self c.args.other one_offset
+pub returns-then-unsigned_abs-gt3 : goal.returns-then-unsigned_abs-gt3
+returns-then-unsigned_abs-gt3 c =
+    let days = c.days_after-days.result in
+    let back : to_z w32 (of_z w32 days) ≡ days = search rules in
+    let far : 3 < unsigned_abs days = omega (arith, c.if-unsigned_abs-gt3.true, c.unsigned_abs.ensures.value ∙ ap unsigned_abs back) in
+    c.cmp.ensures ∙ ap (λ (d : ℤ). int_cmp d (pos 0)) back
+    ∙ int_cmp-far days (instant_of c.args.self) (instant_of c.args.other) far c.days_after-days.ensures.later c.days_after-days.ensures.earlier
+
+pub returns : goal.returns
+returns c =
+    let between = c.nanoseconds_after.result in
+    let back : to_z w128 (of_z w128 between) ≡ between = search rules in
+    c.cmp-2.ensures ∙ ap (λ (n : ℤ). int_cmp n (pos 0)) (back ∙ c.nanoseconds_after.ensures)
+    ∙ int_cmp-difference (instant_of c.args.self) (instant_of c.args.other)
