@@ -1,5 +1,5 @@
 /* What calls of the library cost beside bare.c and the C library: speed [ROUNDS]. Prints a line for each kind of call, with
- * what is compared with, and the medians of the nanoseconds of both and of their ratio. */
+ * what is compared with, the least nanoseconds an item of both, and the median of the rounds' ratios. */
 #define _GNU_SOURCE
 #include <stdio.h>
 #include <stdlib.h>
@@ -68,9 +68,10 @@ static int by_size(const void *first, const void *second) {
     return (a > b) - (a < b);
 }
 
-static double median(double *numbers) {
+/* Puts the measurements of all rounds in order. */
+static const double *sorted(double *numbers) {
     qsort(numbers, (size_t)rounds, sizeof *numbers, by_size);
-    return numbers[rounds / 2];
+    return numbers;
 }
 
 static double timed(void (*run)(void)) {
@@ -91,7 +92,7 @@ static void compare(const char *kind, void (*ours)(void), const char *other, voi
         if (turn % 2 != 0) mine[turn] = timed(ours);
         ratios[turn] = mine[turn] / others[turn];
     }
-    printf("%s|%s|%.1f|%.1f|%.2f\n", kind, other, median(mine), median(others), median(ratios));
+    printf("%s|%s|%.1f|%.1f|%.2f\n", kind, other, sorted(mine)[0], sorted(others)[0], sorted(ratios)[rounds / 2]);
 }
 
 static void fill(uint64_t span, int64_t first) {

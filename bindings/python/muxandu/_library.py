@@ -89,7 +89,8 @@ def is_held(number, kind):
 def nearest(number, kind):
     """The number, or the nearest that the type holds: for parts of which the library refuses the ends of the type."""
     low, high = _ENDS[kind]
-    return min(max(operator.index(number), low), high)
+    number = operator.index(number)
+    return low if number < low else high if number > high else number
 
 
 def parts(structure, *numbers):
