@@ -4,7 +4,10 @@ import re
 from dataclasses import dataclass, field
 
 # What a declaration's first line begins with; then come its lines up to the next one, or a comment before that.
-HEAD = re.compile(r"(?P<marks>(?:(?:abbrev|unfoldable|pub) )*)(?P<kind>(?:(?:record|data|ruleset) )?)(?P<name>[^\s:=(){}]+)(?: [^:=]*)? ?(?::|=|where)")
+HEAD = re.compile(
+    r"(?P<marks>(?:(?:abbrev|unfoldable|pub) )*)(?P<kind>(?:(?:record|data|ruleset) )?)"
+    r"(?P<name>[^\s:=(){}]+)(?: [^:=]*)? ?(?::|=|where)"
+)
 INNER = re.compile(r"  (?:pub )?(?P<name>[^\s:(){}]+) :")
 IMPORT = re.compile(r"(?:pub )?(?:ghost )?(?:use|mod) ")
 FIXITY = re.compile(r"infix[lr]? ")
@@ -58,8 +61,9 @@ def declarations(path, text):
             if current is not None and "◌" in current.name and not line.startswith(("abbrev", "unfoldable", "pub")):
                 head = None
             if head and (current is None or head["name"] not in current.names):
-                is_definition = "abbrev" in head["marks"] or "unfoldable" in head["marks"] or head["kind"] in ("record ", "data ")
-                current = Declaration(path, number, {head["name"]}, comment=comment, name=head["name"], is_definition=is_definition)
+                unfolds = "abbrev" in head["marks"] or "unfoldable" in head["marks"]
+                current = Declaration(path, number, {head["name"]}, comment=comment, name=head["name"])
+                current.is_definition = unfolds or head["kind"] in ("record ", "data ")
                 comment = []
                 yield current
         elif current is not None and line.startswith(" "):

@@ -24,7 +24,8 @@ CLAUSE = re.compile(r"\s*(?:requires|ensures|ghost|//|#\[)")
 @dataclass
 class Item:
     """A public item: its kind (`struct`, `enum`, `trait`, `const`, `fn`), the type or trait that it is of, its name, its
-    signature, its doc comment, its clauses, the traits that are derived for it, and where it begins."""
+    signature, its doc comment, its clauses, the traits that are derived for it, the module of a function that the root does
+    not pass on, and where it begins."""
 
     crate: str
     path: str
@@ -36,12 +37,13 @@ class Item:
     doc: str = ""
     clauses: str = ""
     derived: tuple = ()
+    module: str = ""
 
     def __str__(self):
         return f"{self.path}:{self.line}: {self.full_name()}"
 
     def full_name(self):
-        return f"{self.owner}::{self.name}" if self.owner else self.name
+        return "::".join(word for word in (self.module, self.owner, self.name) if word)
 
 
 def reexported(text):
@@ -159,8 +161,11 @@ def items_of(path, text, is_public, passed_on):
         else:
             continue
         head, clauses = head_from(lines, number)
-        doc = doc_above(lines, number)
-        yield Item(crate, path, number + 1, "fn", owner, found["name"], one_line(head), doc, "\n".join(clauses))
+        item = Item(crate, path, number + 1, "fn", owner, found["name"], one_line(head), doc_above(lines, number))
+        item.clauses = "\n".join(clauses)
+        if not owner and found["name"] not in passed_on:
+            item.module = "::".join(path.removesuffix(".rt").split("/")[3:])
+        yield item
 
 
 def implementations(text):

@@ -20,6 +20,7 @@ pub mod milliseconds;
 pub mod moments;
 pub mod offsets;
 pub mod periods;
+pub mod programs;
 pub mod replays;
 pub mod reports;
 pub mod retry;

@@ -1,6 +1,6 @@
 //! Values of the definitions, from Python's `datetime`, ISO 8601 and RFC 3339: a wrong definition would not have them. The
 //! functions are there for their contracts.
-#![tactic(auto)]
+#![tactic(auto, using(std::proofs::lemmas::Fmt::decimal_digit), unfolding(calendar_values::specs::Calendar::days_from_1970, calendar_values::specs::Calendar::days_until_1970, calendar_values::specs::Calendar::days_of_years, calendar_values::specs::Calendar::year_start, calendar_values::specs::Calendar::days_in_months, calendar_values::specs::Calendar::last_month_begun, calendar_values::specs::Calendar::month_of_ordinal, calendar_values::specs::Calendar::day_of_ordinal, calendar_values::specs::Calendar::year_after_1970, calendar_values::specs::Calendar::year_before_1970, calendar_values::specs::Calendar::year_of, calendar_values::specs::Calendar::ordinal_of, stamp_times::specs::Numbered::month_numbered, stamp_times::specs::Numbered::weekday_numbered, calendar_values::specs::Weeks::weekday_of, calendar_values::specs::Weeks::count_weekday, calendar_values::specs::Refusals::calendar_date, calendar_values::specs::Refusals::ordinal_date, calendar_values::specs::Refusals::clock_with, calendar_values::specs::WallClock::wall_day, calendar_values::specs::WallClock::wall_time, plain_times::specs::Replacements::with_date, plain_times::specs::Replacements::with_time, utc_times::specs::UnixTime::unix_instant_of_nanos, plain_times::specs::Sums::checked, plain_times::specs::Sums::clamped, offset_times::specs::Local::instant_of, stamp_times::specs::Refusals::timestamp_of_parts, calendar_values::specs::Digits::last_digits, calendar_values::specs::Digits::fraction_digits, rfc3339::specs::Form::fraction_value, calendar_values::specs::Texts::year_digits, calendar_values::specs::Texts::date_text, calendar_values::specs::Texts::offset_text, calendar_values::specs::Texts::time_text, stamp_times::specs::Texts::fraction_text, stamp_times::specs::Texts::seconds_text, stamp_times::specs::Texts::timestamp_text, rfc3339::specs::Texts::fraction_text, rfc3339::specs::Texts::offset_text, rfc3339::specs::Texts::rfc3339_text, rfc3339::specs::Texts::fixed_text))]
 
 ghost use Rattle.std.specs.Prelude.{◌≡◌, pos, neg_ℤ, true, false, codes, Some, None, Ok, Err, [], ◌∷◌};
 ghost use Rattle.calendar_values.specs.Calendar.{divides, is_leap_year, year_length, days_in_year, days_from_1970, days_until_1970, year_start, days_in_month, days_in_months, days_before_month, day_of_calendar_date, day_of_ordinal_date, year_of, ordinal_of, month_of, day_of_month_of, month_of_ordinal, day_of_ordinal, julian_day_of};
@@ -33,7 +33,6 @@ ghost use Rattle.rfc3339.specs.Meaning.{offset_of};
 ghost use Rattle.rfc3339.specs.Texts.{rfc3339_text, fixed_text};
 
 /// Leap years, and the days of years.
-#[tactic(auto, unfolding(calendar_values::specs::Calendar::days_from_1970, calendar_values::specs::Calendar::days_until_1970, calendar_values::specs::Calendar::days_of_years, calendar_values::specs::Calendar::year_start))]
 pub fn years()
     ensures fourth { divides 4 (neg_ℤ (pos 4)) ≡ true }
     ensures century { is_leap_year (pos 1900) ≡ false }
@@ -48,7 +47,6 @@ pub fn years()
 {}
 
 /// Months and their days.
-#[tactic(auto, unfolding(calendar_values::specs::Calendar::days_from_1970, calendar_values::specs::Calendar::days_until_1970, calendar_values::specs::Calendar::days_of_years, calendar_values::specs::Calendar::year_start, calendar_values::specs::Calendar::days_in_months, calendar_values::specs::Calendar::last_month_begun, calendar_values::specs::Calendar::month_of_ordinal, calendar_values::specs::Calendar::day_of_ordinal, stamp_times::specs::Numbered::month_numbered))]
 pub fn months()
     ensures february { days_in_month true 2 ≡ 29 }
     ensures first_three { days_in_months false 3 ≡ 90 }
@@ -62,7 +60,6 @@ pub fn months()
 {}
 
 /// What a day shows: 1970-03-01, and 1969-12-31.
-#[tactic(auto, unfolding(calendar_values::specs::Calendar::days_from_1970, calendar_values::specs::Calendar::days_until_1970, calendar_values::specs::Calendar::days_of_years, calendar_values::specs::Calendar::year_start, calendar_values::specs::Calendar::year_after_1970, calendar_values::specs::Calendar::year_before_1970, calendar_values::specs::Calendar::year_of, calendar_values::specs::Calendar::ordinal_of, calendar_values::specs::Calendar::days_in_months, calendar_values::specs::Calendar::last_month_begun, calendar_values::specs::Calendar::month_of_ordinal, calendar_values::specs::Calendar::day_of_ordinal))]
 pub fn days()
     ensures year { year_of (pos 59) ≡ pos 1970 }
     ensures ordinal { ordinal_of (pos 59) ≡ 60 }
@@ -74,7 +71,6 @@ pub fn days()
 {}
 
 /// Weeks: 1970-01-01 was a Thursday, and 1969-12-29 the Monday of the first ISO week of 1970.
-#[tactic(auto, unfolding(calendar_values::specs::Calendar::days_from_1970, calendar_values::specs::Calendar::days_until_1970, calendar_values::specs::Calendar::days_of_years, calendar_values::specs::Calendar::year_start, calendar_values::specs::Calendar::year_after_1970, calendar_values::specs::Calendar::year_before_1970, calendar_values::specs::Calendar::year_of, calendar_values::specs::Calendar::ordinal_of, calendar_values::specs::Weeks::weekday_of, calendar_values::specs::Weeks::count_weekday, stamp_times::specs::Numbered::weekday_numbered))]
 pub fn weeks()
     ensures weekday { weekday_of (pos 0) ≡ 3 }
     ensures thursday { thursday_of (pos 4) ≡ pos 7 }
@@ -101,7 +97,6 @@ pub fn clocks()
 {}
 
 /// What is refused: 29 February in a common year, the day 366 of one, hour 24.
-#[tactic(auto, unfolding(calendar_values::specs::Refusals::calendar_date, calendar_values::specs::Refusals::ordinal_date, calendar_values::specs::Refusals::clock_with))]
 pub fn refused_dates()
     ensures date { calendar_date (pos 2023) 2 29 ≡ Err (conditional_refusal (codes "day")) }
     ensures ordinal { ordinal_date (pos 2023) 366 ≡ Err (conditional_refusal (codes "ordinal")) }
@@ -109,7 +104,6 @@ pub fn refused_dates()
 {}
 
 /// Replacements of 1970-03-01, and of 31 January.
-#[tactic(auto, unfolding(calendar_values::specs::Calendar::days_from_1970, calendar_values::specs::Calendar::days_until_1970, calendar_values::specs::Calendar::days_of_years, calendar_values::specs::Calendar::year_start, calendar_values::specs::Calendar::year_after_1970, calendar_values::specs::Calendar::year_before_1970, calendar_values::specs::Calendar::year_of, calendar_values::specs::Calendar::ordinal_of, calendar_values::specs::Calendar::days_in_months, calendar_values::specs::Calendar::last_month_begun, calendar_values::specs::Calendar::month_of_ordinal, calendar_values::specs::Calendar::day_of_ordinal, calendar_values::specs::Refusals::calendar_date, calendar_values::specs::Refusals::ordinal_date))]
 pub fn replaced_dates()
     ensures year { with_year (pos 59) (pos 1971) ≡ Ok (pos 424) }
     ensures day { with_day (pos 59) 31 ≡ Ok (pos 89) }
@@ -128,7 +122,6 @@ pub fn replaced_clocks()
 {}
 
 /// The nanosecond before 1970.
-#[tactic(auto, unfolding(calendar_values::specs::WallClock::wall_day, calendar_values::specs::WallClock::wall_time, plain_times::specs::Replacements::with_date, plain_times::specs::Replacements::with_time, utc_times::specs::UnixTime::unix_instant_of_nanos))]
 pub fn wall_clocks()
     ensures wall_clock { wall_clock (neg_ℤ (pos 1)) 86_399_999_999_999 ≡ neg_ℤ (pos 1) }
     ensures day { wall_day (neg_ℤ (pos 1)) ≡ neg_ℤ (pos 1) }
@@ -139,7 +132,6 @@ pub fn wall_clocks()
 {}
 
 /// Sums past the last wall clock.
-#[tactic(auto, unfolding(plain_times::specs::Sums::checked, plain_times::specs::Sums::clamped))]
 pub fn sums()
     ensures checked_here { checked (pos 0) ≡ Some (pos 0) }
     ensures checked_past { checked (pos 31_494_784_780_800_000_000_000) ≡ None }
@@ -149,7 +141,6 @@ pub fn sums()
 {}
 
 /// Clocks an hour ahead of UTC.
-#[tactic(auto, unfolding(offset_times::specs::Local::instant_of, stamp_times::specs::Refusals::timestamp_of_parts))]
 pub fn offsets()
     ensures instant { instant_of (local (pos 0) (pos 3_600)) ≡ neg_ℤ (pos 3_600_000_000_000) }
     ensures shown { shown_at (pos 0) (pos 3_600) ≡ pos 3_600_000_000_000 }
@@ -159,7 +150,6 @@ pub fn offsets()
 {}
 
 /// Digits, and fractions of a second.
-#[tactic(auto, unfolding(calendar_values::specs::Digits::last_digits, calendar_values::specs::Digits::fraction_digits, rfc3339::specs::Form::fraction_value))]
 pub fn digits()
     ensures two { last_digits 2 5 ≡ codes "05" }
     ensures fraction { fraction_digits 9 520_000_000 ≡ codes "52" }
@@ -167,7 +157,6 @@ pub fn digits()
 {}
 
 /// Texts of years, dates and offsets.
-#[tactic(auto, unfolding(calendar_values::specs::Calendar::days_from_1970, calendar_values::specs::Calendar::days_until_1970, calendar_values::specs::Calendar::days_of_years, calendar_values::specs::Calendar::year_start, calendar_values::specs::Calendar::year_after_1970, calendar_values::specs::Calendar::year_before_1970, calendar_values::specs::Calendar::year_of, calendar_values::specs::Calendar::ordinal_of, calendar_values::specs::Calendar::days_in_months, calendar_values::specs::Calendar::last_month_begun, calendar_values::specs::Calendar::month_of_ordinal, calendar_values::specs::Calendar::day_of_ordinal, calendar_values::specs::Digits::last_digits, calendar_values::specs::Digits::fraction_digits, calendar_values::specs::Texts::year_digits, calendar_values::specs::Texts::date_text, calendar_values::specs::Texts::offset_text))]
 pub fn date_texts()
     ensures before_0 { year_text (neg_ℤ (pos 44)) ≡ codes "-0044" }
     ensures first { date_text (pos 0) ≡ codes "1970-01-01" }
@@ -176,26 +165,22 @@ pub fn date_texts()
 {}
 
 /// The text of midnight.
-#[tactic(auto, using(std::proofs::lemmas::Fmt::decimal_digit), unfolding(calendar_values::specs::Digits::last_digits, calendar_values::specs::Digits::fraction_digits, calendar_values::specs::Texts::time_text))]
 pub fn text_of_midnight()
     ensures midnight { time_text 0 ≡ codes "0:00:00.0" }
 {}
 
 /// The text of half a second before 1970.
-#[tactic(auto, using(std::proofs::lemmas::Fmt::decimal_digit), unfolding(calendar_values::specs::Digits::last_digits, calendar_values::specs::Digits::fraction_digits, stamp_times::specs::Texts::fraction_text, stamp_times::specs::Texts::seconds_text, stamp_times::specs::Texts::timestamp_text))]
 pub fn text_before_1970()
     ensures half { timestamp_text (neg_ℤ (pos 500_000_000)) ≡ codes "-0.5" }
 {}
 
 /// Texts of RFC 3339.
-#[tactic(auto, unfolding(calendar_values::specs::Calendar::days_from_1970, calendar_values::specs::Calendar::days_until_1970, calendar_values::specs::Calendar::days_of_years, calendar_values::specs::Calendar::year_start, calendar_values::specs::Calendar::year_after_1970, calendar_values::specs::Calendar::year_before_1970, calendar_values::specs::Calendar::year_of, calendar_values::specs::Calendar::ordinal_of, calendar_values::specs::Calendar::days_in_months, calendar_values::specs::Calendar::last_month_begun, calendar_values::specs::Calendar::month_of_ordinal, calendar_values::specs::Calendar::day_of_ordinal, calendar_values::specs::Digits::last_digits, calendar_values::specs::Digits::fraction_digits, calendar_values::specs::WallClock::wall_day, calendar_values::specs::WallClock::wall_time, rfc3339::specs::Texts::fraction_text, rfc3339::specs::Texts::offset_text, rfc3339::specs::Texts::rfc3339_text, rfc3339::specs::Texts::fixed_text))]
 pub fn texts_of_exchange()
     ensures shortest { rfc3339_text (local (pos 0) (pos 0)) ≡ codes "1970-01-01T00:00:00Z" }
     ensures fixed { fixed_text (neg_ℤ (pos 1)) ≡ codes "1969-12-31T23:59:59.999999999Z" }
 {}
 
 /// A run of sums, and one past the last instant.
-#[tactic(auto, unfolding(plain_times::specs::Sums::checked))]
 pub fn runs()
     ensures next { next (pos 0) (Shift (CheckedAdd (pos 5))) ≡ pos 5 }
     ensures refused { next last_wall_clock (Shift (CheckedAdd (pos 1))) ≡ last_wall_clock }
@@ -203,7 +188,6 @@ pub fn runs()
 {}
 
 /// Chains of conversions: at the last instant, clocks ahead of UTC show no date of the range.
-#[tactic(auto, unfolding(plain_times::specs::Sums::checked))]
 pub fn chains()
     ensures arrives { travel (pos 0) (ToStamp ∷ ToOffset (neg_ℤ (pos 1)) ∷ []) ≡ None }
     ensures stops { travel last_wall_clock (ToUtc ∷ ToOffset (pos 1) ∷ []) ≡ Some 1 }

@@ -1,0 +1,22 @@
+//! What small programs do.
+use calendar_values::SignedDuration;
+use std::io;
+use utc_times::UtcDateTime;
+
+/// Prints the day after the epoch.
+pub fn print_tomorrow(rt: HostRuntime) -> io::Result<()> {
+    let day = SignedDuration::days(1);
+    match UtcDateTime::UNIX_EPOCH.checked_add(day) {
+        Some(tomorrow) => println!(rt; "{tomorrow}"),
+        None => println!(rt; "past the last date"),
+    }
+}
+
+/// Prints when a reminder is due.
+pub fn print_due(rt: HostRuntime) -> io::Result<()> {
+    match UtcDateTime::UNIX_EPOCH.checked_add(SignedDuration::days(30)) {
+        Some(due) => println!(rt; "due {due}")?,
+        None => println!(rt; "never due")?,
+    }
+    Ok(())
+}
