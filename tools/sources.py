@@ -26,4 +26,4 @@ def crate_of(path):
 def crates():
     """The names of the crates, in the order of crates.txt."""
     with open(os.path.join(REPOSITORY, "crates.txt"), encoding="utf-8") as file:
-        return [line.split(":")[0] for line in file.read().split("\n") if ":" in line]
+        return [line.split(":")[0].split()[0] for line in file.read().split("\n") if ":" in line]
