@@ -22,6 +22,3 @@ clock_of_parts-of c = omega arith
 
 pub IsTimeOfDay-of : (c : ℕ) → IsClock c → IsTimeOfDay (hour_of c) (minute_of c) (second_of c) (nanosecond_of c)
 IsTimeOfDay-of c p = record { hour = omega arith; minute = omega arith; second = omega arith; nanosecond = omega arith }
-
-pub IsClock-IsTimeOfDay : (c : ℕ) → IsTimeOfDay (hour_of c) (minute_of c) (second_of c) (nanosecond_of c) → IsClock c
-IsClock-IsTimeOfDay c p = omega arith

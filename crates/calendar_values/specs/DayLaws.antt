@@ -87,14 +87,6 @@ IsYear-year_of n h =
       by_lt_z last_year (year_of n) (λ gt. absurd (omega (arith, signed_arith, h.1, year_start-mono (last_year +ℤ pos 1) (year_of n) (omega (arith, signed_arith)), year_start-after_last))) (λ le. le),
     )
 
--- and a day that lies in a year of the range is a day of the range
-pub IsDay-year_of : (n : ℤ) → IsYear (year_of n) → IsDay n
-IsDay-year_of n year =
-    let here = IsInYear-year_of n in
-    let low = year_start-mono first_year (year_of n) year.0 in
-    let high = year_start-mono (year_of n +ℤ pos 1) (last_year +ℤ pos 1) (omega (arith, signed_arith, year.1)) in
-    (omega (arith, signed_arith, year_start-first, here.low), omega (arith, signed_arith, year_start-after_last, here.high))
-
 -- so is each day of a year of the range
 pub IsDay-ordinal_date : (y : ℤ) (ordinal : ℕ) → IsYear y → IsOrdinalDate y ordinal → IsDay (day_of_ordinal_date y ordinal)
 IsDay-ordinal_date y ordinal year h =

@@ -34,10 +34,6 @@ offset_signs h m s p =
       | inr q ↦ inr (omega (arith, signed_arith, one_part h, q), omega (arith, signed_arith, one_part m, q), omega (arith, signed_arith, one_part s, q))
     ]
 
--- the offset of parts of one sign is in range
-pub IsOffset-seconds_of_parts : (h m s : ℤ) → IsOffsetParts h m s → IsOffset (seconds_of_parts h m s)
-IsOffset-seconds_of_parts h m s p = (omega (arith, signed_arith), omega (arith, signed_arith))
-
 pub offset_hours_of-parts : (h m s : ℤ) → IsOffsetParts h m s → offset_hours_of (seconds_of_parts h m s) ≡ h
 unfolding offset_hours_of
 offset_hours_of-parts h m s p =

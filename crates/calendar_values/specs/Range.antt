@@ -1,5 +1,5 @@
 -- The range of the library: the years -999999 to 999999.
-use Rattle.std.specs.Prelude.{◌||◌, if◌then◌else◌, ℤ, pos, neg_ℤ, ◌≤ℤ◌, int_lt, Bool, Option, Some, None}
+use Rattle.std.specs.Prelude.{◌||◌, ℤ, pos, neg_ℤ, ◌≤ℤ◌, int_lt, Bool}
 
 -- the first year and the last
 abbrev pub first_year : ℤ
@@ -27,7 +27,3 @@ IsDay n = (first_day ≤ℤ n) × (n ≤ℤ last_day)
 -- the number lies before the first or after the last
 abbrev pub is_outside : ℤ → ℤ → ℤ → Bool
 is_outside first last n = int_lt n first || int_lt last n
-
--- the day, if the range has it
-unfoldable pub checked_day : ℤ → Option ℤ
-checked_day n = if is_outside first_day last_day n then None else Some n

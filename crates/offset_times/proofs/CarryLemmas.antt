@@ -3,7 +3,7 @@ use Rattle.std.proofs.Common.{◌≡◌, ℕ, ◌<◌, ◌≤◌, arith, ◌∙�
 use Rattle.std.specs.Int.{int_div_euclid, int_rem_euclid}
 use Rattle.std.proofs.lemmas.Int.{ints}
 use Rattle.calendar_values.specs.Clock.{IsClock, clock_of_parts, hour_of, minute_of, second_of, nanosecond_of}
-use Rattle.calendar_values.specs.ClockLaws.{clock_of_parts-of, IsTimeOfDay-of, IsClock-clock_of_parts}
+use Rattle.calendar_values.specs.ClockLaws.{clock_of_parts-of, IsTimeOfDay-of}
 use Rattle.calendar_values.specs.Offsets.{IsOffset, seconds_of_parts, offset_hours_of, offset_minutes_of, offset_seconds_of}
 use Rattle.calendar_values.specs.OffsetLaws.{seconds_of_parts-of, IsOffsetParts-of}
 use Rattle.calendar_values.specs.SignedArith.{signed_arith}
@@ -96,12 +96,6 @@ wall_clock-carried n c from to =
 pub wall_clock-shown : (w n : ℤ) (c : ℕ) (from to : ℤ) → n ≡ wall_day w +ℤ days_carried (wall_time w) from to → c ≡ carried_clock (wall_time w) from to → wall_clock n c ≡ w +ℤ offset_nanos (to -ℤ from)
 wall_clock-shown w n c from to e f =
     rw (e, f) (wall_clock-carried (wall_day w) (wall_time w) from to ∙ ap (λ (v : ℤ). v +ℤ offset_nanos (to -ℤ from)) (wall_clock-parts w))
-
-pub IsClock-carried_clock : (c : ℕ) (from to : ℤ) → IsClock (carried_clock c from to)
-unfolding carried_clock
-IsClock-carried_clock c from to =
-    let k = Carried-of c from to in
-    IsClock-clock_of_parts _ _ _ _ (record { hour = omega (arith, k.hour_in); minute = omega (arith, k.minute_in); second = omega (arith, k.second_in); nanosecond = omega arith })
 
 -- how much each part carries: between two offsets, and from or to UTC
 carries_60_once : (v r : ℕ) (from to into q : ℤ) → v ≤ 59 → IsWithin 59 (to -ℤ from) → IsWithin 1 into → pos v +ℤ to -ℤ from +ℤ into ≡ q *ℤ pos 60 +ℤ pos r → r < 60 → IsWithin 1 q

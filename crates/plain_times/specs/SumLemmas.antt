@@ -1,25 +1,12 @@
 -- Where sums are accepted.
-use Rattle.std.proofs.Common.{◌≡◌, ℕ, sym, ap, ◌∙◌, arith, ℤ, pos, ◌+ℤ◌, ◌≤ℤ◌, ◌<ℤ◌, Option, Some, None, SomeIff}
-use Rattle.std.specs.Option.{option_map}
+use Rattle.std.proofs.Common.{◌≡◌, sym, ap, ◌∙◌, arith, ℤ, pos, ◌+ℤ◌, ◌≤ℤ◌, ◌<ℤ◌, Option, Some, None, SomeIff}
 use Rattle.std.proofs.lemmas.Int.{ints, by_lt_z}
-use Rattle.calendar_values.specs.Clock.{IsClock}
-use Rattle.calendar_values.specs.Range.{checked_day}
 use Rattle.calendar_values.specs.WallClock.{wall_clock, first_wall_clock, last_wall_clock, IsWallClock}
 use Rattle.plain_times.specs.Sums.{checked, clamped}
 
 pub checked-in : (w : ℤ) → IsWallClock w → checked w ≡ Some w
 unfolding checked
 checked-in w h = grind (arith, ints)
-
--- a sum that is accepted lies in the range
-pub IsWallClock-accepted : (w v : ℤ) → checked w ≡ Some v → IsWallClock w
-unfolding checked
-IsWallClock-accepted w v e = (grind (arith, ints), grind (arith, ints))
-
--- an accepted sum is the sum
-pub checked-is_sum : (w v : ℤ) → checked w ≡ Some v → v ≡ w
-unfolding checked
-checked-is_sum w v e = grind (arith, ints)
 
 pub checked-before : (w : ℤ) → w <ℤ first_wall_clock → checked w ≡ None
 unfolding checked
@@ -36,10 +23,6 @@ checked-SomeIff None w h =
     by_lt_z w first_wall_clock (λ lt. sym (checked-before w lt))
     (λ low. by_lt_z last_wall_clock w (λ gt. sym (checked-after w gt)) (λ high. absurd (h (low, high))))
 checked-SomeIff (Some x) w h = ap Some h.1 ∙ sym (checked-in w h.0)
-
-pub SomeIff-checked : (r : Option ℤ) (w : ℤ) → r ≡ checked w → SomeIff r (IsWallClock w) w
-SomeIff-checked None w e = λ h. let no : None ≡ Some w = e ∙ checked-in w h in cc
-SomeIff-checked (Some x) w e = (IsWallClock-accepted w x (sym e), checked-is_sum w x (sym e))
 
 pub clamped-in : (w : ℤ) → IsWallClock w → clamped w ≡ w
 unfolding clamped
@@ -69,8 +52,3 @@ clamped-not_below w d v h e earlier =
     by_lt_z (w +ℤ d) first_wall_clock
     (λ before. let first = e ∙ clamped-before (w +ℤ d) before in omega (arith, ints))
     (λ from_first. let inside = e ∙ clamped-in (w +ℤ d) (from_first, omega (arith, ints)) in omega (arith, ints))
-
--- a wall clock of some day is accepted exactly if the day is
-pub checked-wall_clock : (n : ℤ) (c : ℕ) → IsClock c → checked (wall_clock n c) ≡ option_map (λ m. wall_clock m c) (checked_day n)
-unfolding checked checked_day
-checked-wall_clock n c clock = grind (arith, ints)

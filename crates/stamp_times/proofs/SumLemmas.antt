@@ -28,9 +28,6 @@ IsSplit-neg d =
     let rest = parts.rest in
     record { sum = omega (arith, signed_arith); rest = omega (arith, signed_arith) }
 
-pub IsSplit-std : (n : ℕ) → IsSplit (pos n) (pos (n / nanos_per_second)) (pos (n % nanos_per_second))
-IsSplit-std n = record { sum = omega (arith, signed_arith); rest = omega (arith, signed_arith) }
-
 pub IsSplit-neg_std : (n : ℕ) → IsSplit (neg_ℤ (pos n)) (neg_ℤ (pos (n / nanos_per_second))) (neg_ℤ (pos (n % nanos_per_second)))
 IsSplit-neg_std n = record { sum = omega (arith, signed_arith); rest = omega (arith, signed_arith) }
 

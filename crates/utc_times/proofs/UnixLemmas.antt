@@ -54,12 +54,6 @@ pub SomeIff-result_ok : (r : Result ℤ Refusal) (o : Option ℤ) (m n : ℤ) �
 SomeIff-result_ok (Ok x) o m n e h same = rw (e, ← same) h
 SomeIff-result_ok (Err refusal) o m n e h same = rw (e, ← same) h
 
--- the instant of a second and a nanosecond that together are a number of nanoseconds
-pub instant_of_second-div : (w : ℤ) (n : ℕ) → pos n ≡ int_rem_euclid w (pos nanos_per_second)
-    → instant_of_second (int_div_euclid w (pos nanos_per_second)) +ℤ pos n ≡ w
-instant_of_second-div (pos a) n e = omega (arith, ints)
-instant_of_second-div (negsuc a) n e = omega (arith, ints)
-
 -- each instant of the range has a second of 64 bits
 pub FitsSigned-second : (w : ℤ) → IsWallClock w → FitsSigned w64 (int_div_euclid w (pos nanos_per_second))
 FitsSigned-second (pos a) h = omega (arith, ints)
