@@ -1,10 +1,7 @@
 -- Days of months, as invoices name them.
 use Rattle.std.specs.Prelude.{ℕ, ℤ, pos, ◌+ℤ◌, min}
-use Rattle.calendar_values.specs.Calendar.{is_leap_year, days_in_month, day_of_calendar_date, year_of, month_of}
-
--- the last day of a month
-abbrev pub last_day_of_month : ℤ → ℕ → ℤ
-last_day_of_month y m = day_of_calendar_date y m (days_in_month (is_leap_year y) m)
+use Rattle.calendar_values.specs.Calendar.{is_leap_year, days_in_month, day_of_calendar_date}
+use Rattle.plain_times.specs.Months.{last_of_month}
 
 -- the day of a month, or the month's last day where it is shorter
 abbrev pub day_or_last : ℤ → ℕ → ℕ → ℤ
@@ -12,4 +9,4 @@ day_or_last y m d = day_of_calendar_date y m (min d (days_in_month (is_leap_year
 
 -- the first day of the month after that of a day
 abbrev pub first_of_next_month : ℤ → ℤ
-first_of_next_month n = last_day_of_month (year_of n) (month_of n) +ℤ pos 1
+first_of_next_month n = last_of_month n +ℤ pos 1

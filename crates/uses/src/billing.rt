@@ -1,7 +1,7 @@
 //! Months that are billed, by the clocks of the customer.
-#![tactic(auto, using(calendar_values::specs::Constants::constants, plain_times::specs::MonthLemmas::month_days))]
+#![tactic(auto, using(calendar_values::specs::Constants::constants, plain_times::specs::MonthLemmas::month_days, plain_times::specs::MonthLemmas::next_months))]
 
-ghost use Rattle.std.specs.Prelude.{◌≡◌, ◌≤◌, IfOk, SomeIff};
+ghost use Rattle.std.specs.Prelude.{◌≡◌, ◌<◌, ◌≤◌, ◌+◌, ◌+ℤ◌, pos, IfOk, IfSome, SomeIff};
 ghost use Rattle.calendar_values.specs.Calendar.{year_of, month_of, day_of_month_of};
 ghost use Rattle.calendar_values.specs.Month.{month_number};
 ghost use Rattle.calendar_values.specs.Range.{IsDay};
@@ -44,7 +44,12 @@ pub fn due_day(year: i32, month: Month, day: u8) -> Result<Date, ComponentRange>
 
 /// The first day of the month after that of the date. None in the last month of the range.
 pub fn next_period(date: Date) -> Option<Date>
-    ensures { let first = months.first_of_next_month date in SomeIff result (IsDay first) first }
+    ensures value { let first = months.first_of_next_month date in SomeIff result (IsDay first) first }
+    ensures first { IfSome result (λ first. day_of_month_of first ≡ 1) }
+    ensures within_the_year { IfSome result (λ first. month_of date < 12 →
+        (year_of first ≡ year_of date) × (month_of first ≡ month_of date + 1)) }
+    ensures after_december { IfSome result (λ first. month_of date ≡ 12 →
+        (year_of first ≡ year_of date +ℤ pos 1) × (month_of first ≡ 1)) }
 {
     last_day_of_month(date).next_day()
 }

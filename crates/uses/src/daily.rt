@@ -1,7 +1,7 @@
 //! Work that is done each day at 9:00.
 #![tactic(auto, using(calendar_values::specs::Constants::constants, plain_times::specs::MidnightLemmas::days_later))]
 
-ghost use Rattle.std.specs.Prelude.{◌≡◌, ◌*◌, ◌+ℤ◌, ◌<ℤ◌, pos, IfSome};
+ghost use Rattle.std.specs.Prelude.{◌≡◌, ◌*◌, ◌+ℤ◌, ◌≤ℤ◌, ◌<ℤ◌, pos, IfSome};
 ghost use Rattle.calendar_values.specs.Clock.{nanos_per_day, nanos_per_hour};
 ghost use Rattle.calendar_values.specs.WallClock.{wall_time};
 ghost use Rattle.offset_times.specs.Local.{instant_of};
@@ -29,4 +29,18 @@ pub fn run_after(run: OffsetDateTime) -> Option<OffsetDateTime>
     ensures instant { IfSome result (λ next. instant_of next ≡ instant_of run +ℤ pos nanos_per_day) }
 {
     Some(run.checked_add(SignedDuration::days(1))?)
+}
+
+/// The next 9:00 by the same clocks: later than now, and at most a day later. None outside the range.
+pub fn next_run(now: OffsetDateTime) -> Option<OffsetDateTime>
+    ensures offset { IfSome result (λ next. next.offset ≡ now.offset) }
+    ensures at_nine { IfSome result (λ next. wall_time next.wall ≡ 9 * nanos_per_hour) }
+    ensures later { IfSome result (λ next. instant_of now <ℤ instant_of next) }
+    ensures soon { IfSome result (λ next. instant_of next ≤ℤ (instant_of now +ℤ pos nanos_per_day)) }
+{
+    let nine = now.replace_time(Time::from_hms(9, 0, 0).ok()?);
+    if now < nine {
+        return Some(nine);
+    }
+    run_after(nine)
 }

@@ -6,13 +6,15 @@ ghost use Rattle.calendar_values.specs.Calendar.{day_of_calendar_date, year_of, 
 ghost use Rattle.calendar_values.specs.Month.{month_number};
 ghost use Rattle.calendar_values.specs.Range.{IsYear, IsDay};
 ghost use Rattle.calendar_values.specs.Refusals.{IsDateOfRange, date_refusal, outright_refusal};
+ghost use Rattle.plain_times.specs.Months.{last_of_month};
 ghost use Rattle.uses.specs.Months as months;
 
 use calendar_values::{ComponentRange, Date, Month, days_in_month};
 
 /// The last day of the date's month.
+#[tactic(auto, using(calendar_values::specs::MonthNumbers::months), unfolding(plain_times::specs::Months::last_of_month))]
 pub fn last_day_of_month(date: Date) -> Date
-    ensures { result ≡ months.last_day_of_month (year_of date) (month_of date) }
+    ensures { result ≡ last_of_month date }
 {
     date.replace_day(days_in_month(date.year(), date.month()))
         .unwrap()

@@ -1,6 +1,9 @@
 //! A log in the order of instants.
-ghost use Rattle.std.specs.Prelude.{◌≡◌, ◌↔◌, ◌++◌, [], ◌∷◌, Contains, IfOk, IfSome, IsPermutation, IsSorted, IsTrue, OnOk, if◌then◌else◌};
+#![tactic(auto, using(calendar_values::specs::Constants::constants, stamp_times::specs::LogLaws::without_repeats))]
+
+ghost use Rattle.std.specs.Prelude.{◌≡◌, ◌↔◌, ℤ, ◌++◌, [], ◌∷◌, Contains, IfOk, IfSome, IsPermutation, IsSorted, IsTrue, OnOk, if◌then◌else◌};
 ghost use Rattle.std.specs.List.{HoldsAt};
+ghost use Rattle.std.specs.List.Sorted.{IsStrictlySortedBy};
 ghost use Rattle.std.specs.Ordering.{int_cmp};
 ghost use Rattle.std.specs.declared.cmp.Ordering.TheVariants.{Equal};
 
@@ -41,4 +44,29 @@ pub fn has(entries: &[Timestamp], at: Timestamp) -> bool
     ensures { IsTrue result ↔ Contains entries.now at }
 {
     logs::find(entries, at).is_some()
+}
+
+/// Enters the two ends of a shift in a log in which each instant stands once.
+pub fn enter_shift(
+    log: &mut Vec<Timestamp>,
+    from: Timestamp,
+    until: Timestamp,
+) -> Result<(), AllocError>
+    requires { IsStrictlySortedBy int_cmp log.old.items }
+    ensures in_order { IsStrictlySortedBy int_cmp log.new.items }
+    ensures entered { OnOk result (Contains log.new.items from) }
+    ensures kept { (entry : ℤ) → Contains log.old.items entry → Contains log.new.items entry }
+{
+    logs::enter(log, from)?;
+    logs::enter(log, until)?;
+    Ok(())
+}
+
+/// Puts a log that was put together from others in order, each instant once, and looks for one.
+pub fn joined_has(log: &mut Vec<Timestamp>, at: Timestamp) -> Result<bool, AllocError>
+    ensures in_order { OnOk result (IsStrictlySortedBy int_cmp log.new.items) }
+    ensures found { IfOk result (λ found. IsTrue found ↔ Contains log.new.items at) }
+{
+    logs::put_in_order(log)?;
+    Ok(logs::find(log, at).is_some())
 }

@@ -138,6 +138,11 @@ fn plans_of_days_and_months_are_called(rt: HostRuntime) -> Result<(), Fail> {
         daily::run_after(local(28_800, 1)?),
         Some(local(115_200, 1)?)
     );
+    assert_eq!(rt; daily::next_run(local(28_799, 1)?), Some(local(28_800, 1)?));
+    assert_eq!(rt;
+        daily::next_run(local(28_800, 1)?),
+        Some(local(115_200, 1)?)
+    );
     assert_eq!(rt;
         billing::period_start(local(1_709_164_800, 1)?),
         Ok(local(1_706_742_000, 1)?)
@@ -215,5 +220,15 @@ fn callers_of_timestamps_are_called(rt: HostRuntime) -> Result<(), Fail> {
     );
     assert!(rt; log::has(&[epoch], epoch));
     assert_eq!(rt; reports::hour_of(utc(3_700)?), utc(3_600)?);
+    Ok(())
+}
+
+#[test]
+fn logs_without_repeats_are_called(rt: HostRuntime) -> Result<(), Fail> {
+    let epoch = Timestamp::UNIX_EPOCH;
+    let mut log = [epoch, Timestamp::MIN, epoch].to_vec(rt.alloc())?;
+    assert!(rt; log::joined_has(&mut log, epoch)?);
+    log::enter_shift(&mut log, epoch, Timestamp::MAX)?;
+    assert_eq!(rt; log.len(), 3);
     Ok(())
 }
