@@ -9,16 +9,13 @@
 
 static int passed, failed;
 
-static inline void check(int holds, const char *what, const char *file, int line) {
-    if (holds) {
-        passed++;
-    } else {
-        failed++;
-        printf("%s:%d: %s\n", file, line, what);
-    }
+static inline void tell_failure(const char *what, const char *file, int line) {
+    failed++;
+    printf("%s, line %d: not so: %s\n", file, line, what);
 }
 
-#define CHECK(holds) check((holds) != 0, #holds, __FILE__, __LINE__)
+/* Counts a case, and tells of it where it does not hold. */
+#define CHECK(holds) ((holds) ? (void)passed++ : tell_failure(#holds, __FILE__, __LINE__))
 
 /* Prints the count, and gives what the program ends with. */
 static inline int counted(void) {
@@ -62,8 +59,9 @@ static inline int is_date(MuxanduDate value, int32_t year, int month, int day) {
 }
 
 static inline int is_civil(MuxanduCivil a, MuxanduCivil b) {
-    return a.year == b.year && a.month == b.month && a.day == b.day && a.hour == b.hour && a.minute == b.minute &&
-           a.second == b.second && a.nanosecond == b.nanosecond && a.offset_seconds == b.offset_seconds;
+    int is_day = a.year == b.year && a.month == b.month && a.day == b.day;
+    int is_clock = a.hour == b.hour && a.minute == b.minute && a.second == b.second && a.nanosecond == b.nanosecond;
+    return is_day && is_clock && a.offset_seconds == b.offset_seconds;
 }
 
 static inline int is_text(const char *bytes, size_t size, const char *text) {

@@ -118,3 +118,18 @@ impl fmt::Display for Refusal {
 }
 
 impl Error for Refusal {}
+
+#[cfg(test)]
+mod tests {
+    use super::{Refusal, sys};
+
+    #[test]
+    fn each_refusal_of_the_library_is_one_here() {
+        let statuses: Vec<u32> = sys::REFUSALS.iter().map(|(status, _, _)| *status).collect();
+        let here: Vec<u32> = Refusal::ALL
+            .iter()
+            .map(|refusal| refusal.status())
+            .collect();
+        assert_eq!(here, statuses);
+    }
+}
