@@ -2,7 +2,7 @@
 ghost use Rattle.std.specs.Prelude.{◌≡◌, ◌≤◌, ◌<◌, ◌∷◌, [], ◌++◌, length, codes, decimal, flat_map, is_ok};
 ghost use Rattle.calendar_values.specs.WallClock.{wall_day};
 ghost use Rattle.times_bench.specs.Answers.{unix_answer, stamp_answer, run_answer, chain_answer, held_start, with_instant_nanosecond, day_text, answer_to, request_takes_memory};
-ghost use Rattle.times_bench.specs.Requests.{unix_request, stamp_request, run_request, chain_request, request_after_instant};
+ghost use Rattle.times_bench.specs.Requests.{unix_request, stamp_request, run_request, chain_request};
 ghost use Rattle.times_bench.specs.Words.{words_of};
 ghost use Rattle.times_bench.specs.Progress.{SendsAnswer, SendsBytes};
 ghost use Rattle.stamp_times.specs.Refusals.{timestamp_of_parts};
@@ -90,7 +90,7 @@ fn answer_stamp<W: Sink>(
     pending: &mut Pending,
     words: &[u8],
 ) -> Result<(), DeviceFault>
-    ensures sent { SendsAll result (W.written writer.old) (W.written writer.new) pending.new (pending.old ++ (answer_to (request_after_instant stamp_request (words_of words.now)) ++ 10 ∷ [])) }
+    ensures sent { SendsAll result (W.written writer.old) (W.written writer.new) pending.new (pending.old ++ (answer_to (stamp_request (words_of words.now)) ++ 10 ∷ [])) }
     ensures mark { MarksFailure result (W.is_marked writer.old) (W.is_marked writer.new) }
 {
     match stamp_request_of(words) {
@@ -108,7 +108,7 @@ fn answer_run<W: Sink>(
     words: &[u8],
 ) -> Result<Progress, DeviceFault>
     requires { length words.now < 1024 }
-    ensures sent { let request = request_after_instant run_request (words_of words.now) in
+    ensures sent { let request = run_request (words_of words.now) in
         SendsBytes result (request_takes_memory request) (W.written writer.old) (W.written writer.new) pending.old pending.new (answer_to request ++ 10 ∷ []) }
     ensures mark { MarksFailure result (W.is_marked writer.old) (W.is_marked writer.new) }
 {
@@ -136,7 +136,7 @@ fn answer_chain<W: Sink>(
     words: &[u8],
 ) -> Result<(), DeviceFault>
     requires { length words.now < 1024 }
-    ensures sent { SendsAll result (W.written writer.old) (W.written writer.new) pending.new (pending.old ++ (answer_to (request_after_instant chain_request (words_of words.now)) ++ 10 ∷ [])) }
+    ensures sent { SendsAll result (W.written writer.old) (W.written writer.new) pending.new (pending.old ++ (answer_to (chain_request (words_of words.now)) ++ 10 ∷ [])) }
     ensures mark { MarksFailure result (W.is_marked writer.old) (W.is_marked writer.new) }
 {
     match chain_request_of(words) {
