@@ -7,14 +7,12 @@ ghost use Rattle.times_bench.specs.Requests.{Unix, Stamp, Run, Chain, unix_reque
 ghost use Rattle.times_bench.specs.Words.{words_of, words_left, bytes_left, all_of};
 
 use super::call_words::call_of;
+use super::lines::LONGEST_LINE;
 use super::numbers::{parse_i64, parse_u32};
 use super::step_words::step_of;
 use super::table::Table;
 use super::words::{cut_at, two_fields};
 use stamp_times::{Call, DateRead, Step};
-
-/// The most bytes of a line that asks for something.
-pub const LONGEST_LINE: usize = 1024;
 
 /// The most calls or steps of a line: a word of at least three bytes each, and a space before it.
 pub const MOST_WORDS: usize = 256;
