@@ -1,5 +1,7 @@
 -- What a line is answered with.
-use Rattle.std.proofs.Common.{◌≡◌, ℕ, ℤ, List, [], ◌∷◌, ◌++◌, take, codes, decimal, flat_map, Option, Some, None, refl, sym, ◌∙◌, ap}
+use Rattle.std.proofs.Common.{◌≡◌, ℕ, ℤ, List, [], ◌∷◌, ◌++◌, take, codes, decimal, flat_map, Option, Some, None, refl, sym, ◌∙◌, ap, ◌+◌, ◌<◌, length, get_or, append_assoc, append-nil}
+use Rattle.std.proofs.lemmas.Grind.{flat_map-append}
+use Rattle.std.proofs.lemmas.List.{take_more}
 use Rattle.calendar_values.specs.Weekday.{weekday_number, weekday_name}
 use Rattle.calendar_values.specs.declared.weekday.Weekday.{Weekday}
 use Rattle.calendar_values.specs.declared.weekday.Weekday.TheVariants.{Monday, Tuesday, Wednesday, Thursday, Friday, Saturday, Sunday}
@@ -59,11 +61,17 @@ pub answer_of-request : (line : List ℕ) (request : Option Request) → request
 unfolding answer_of
 answer_of-request line request e = ap (λ (z : Option Request). answer_to z ++ 10 ∷ []) (sym e)
 
--- lines that ask for the same
-pub answer_of-same : (line other : List ℕ) → request_of line ≡ request_of other → answer_of line ≡ answer_of other
-unfolding answer_of
-answer_of-same line other e = ap (λ (z : Option Request). answer_to z ++ 10 ∷ []) e
+-- one text behind another
+pub both_put : (p q r xs ys whole : List ℕ) → q ≡ p ++ xs → r ≡ q ++ ys → xs ++ ys ≡ whole → r ≡ p ++ whole
+both_put p q r xs ys whole e k w =
+    k ∙ ap (λ (z : List ℕ). z ++ ys) e ∙ append_assoc p xs ys ∙ ap (λ (z : List ℕ). p ++ z) w
 
-pub takes_memory-same : (line other : List ℕ) → request_of line ≡ request_of other → takes_memory line ≡ takes_memory other
-unfolding takes_memory
-takes_memory-same line other e = ap request_takes_memory e
+-- the text of the next item of a list
+pub flat_map-next : {X : Type 0} (f : X → List ℕ) (p text : List ℕ) (xs : List X) (i : ℕ) (x : X) → i < length xs → x ≡ get_or xs i x
+    → text ≡ f x → (p ++ flat_map f (take i xs)) ++ text ≡ p ++ flat_map f (take (i + 1) xs)
+flat_map-next {X = X} f p text xs i x low is e =
+    append_assoc p (flat_map f (take i xs)) text
+    ∙ ap (λ (z : List ℕ). p ++ (flat_map f (take i xs) ++ z)) (e ∙ sym (append-nil (f x)))
+    ∙ ap (λ (z : List ℕ). p ++ z) (sym (flat_map-append f (take i xs) (x ∷ [])))
+    ∙ ap (λ (y : X). p ++ flat_map f (take i xs ++ y ∷ [])) is
+    ∙ ap (λ (z : List X). p ++ flat_map f z) (sym (take_more xs i x low))

@@ -1,6 +1,6 @@
 -- The names of calls, and the month of a number.
-use Rattle.std.proofs.Common.{◌≡◌, ℕ, ◌<◌, ◌≤◌, ◌↔◌, Bool, true, false, cond, ◌&&◌, nat_lt, ◌==◌, List, [], ◌∷◌, length, Option, Some, None, Bor, Result, Ok, Err, refl, sym, ◌∙◌, ap, arith, length-append, ℤ, pos, neg_ℤ, ◌||◌}
-use Rattle.std.specs.Prelude.{IsAscii, IsUtf8, IsOk, IfOk, MatchResult, OnSome, int_lt}
+use Rattle.std.proofs.Common.{◌≡◌, ℕ, ◌<◌, ◌≤◌, ◌↔◌, Bool, true, false, cond, ◌&&◌, nat_lt, ◌==◌, List, [], ◌∷◌, length, Option, Some, None, Bor, Result, Ok, Err, refl, sym, ◌∙◌, ap, arith, length-append, ℤ, pos, ◌||◌}
+use Rattle.std.specs.Prelude.{IsAscii, IsUtf8, IsOk, IfOk, MatchResult, OnSome}
 use Rattle.std.specs.List.{join_with_byte, list_all}
 use Rattle.std.specs.Option.{is_some, option_and_then, option_map_or}
 use Rattle.std.specs.Result.{result_ok}
@@ -10,17 +10,14 @@ use Rattle.std.proofs.lemmas.List.Splits.{length-slice_split, join_with_byte-sli
 use Rattle.std.proofs.lemmas.Slice.Eq.{bytes_eq-Decides}
 use Rattle.std.proofs.lemmas.Str.{IsUtf8-from_ascii}
 use Rattle.std.proofs.lemmas.Str.Ascii.{IsAscii-nil, IsAscii-cons}
-use Rattle.calendar_values.specs.Durations.{duration_of_parts}
 use Rattle.calendar_values.specs.Month.{month_number}
 use Rattle.calendar_values.specs.Range.{is_outside}
-use Rattle.calendar_values.specs.Refusals.{calendar_date}
 use Rattle.calendar_values.specs.declared.month.Month.{Month}
 use Rattle.calendar_values.specs.declared.month.Month.TheVariants.{January, February, March, April, May, June, July, August, September, October, November, December}
 use Rattle.stamp_times.specs.Numbered.{month_numbered}
 use Rattle.stamp_times.specs.declared.calls.Call.{Call}
 use Rattle.times_bench.proofs.NumberLemmas.{both_true}
-use Rattle.times_bench.specs.CallWords.{named, reads, single, duration_of, month_of, date_of, call_names, call_with, call_of_parts, call_of}
-use Rattle.times_bench.specs.Numbers.{i64_of, i32_of, u8_of}
+use Rattle.times_bench.specs.CallWords.{named, reads, call_names, call_with, call_of_parts, call_of}
 use Rattle.times_bench.specs.Words.{cut_at, arguments_of}
 
 -- a name in a table passes the test that all names of the table pass
@@ -110,41 +107,10 @@ pub some_parts : (separator : ℕ) (rest : Option (Bor (List ℕ))) → is_some 
 some_parts separator None e = absurd cc
 some_parts separator (Some text) e = omega (arith, length-slice_split (λ byte. byte == separator) text.now)
 
-pub single-more : (argument : List ℕ) (rest : List (List ℕ)) → 0 < length rest → single (argument ∷ rest) ≡ None
-single-more argument [] some = absurd (omega arith)
-single-more argument (next ∷ rest) some = refl
-
 pub call_of_parts-more : (name arguments : List ℕ) (rest : List (List ℕ)) → 0 < length rest → call_of_parts (name ∷ arguments ∷ rest) ≡ None
 unfolding call_of_parts
 call_of_parts-more name arguments [] some = absurd (omega arith)
 call_of_parts-more name arguments (next ∷ rest) some = refl
-
--- what two texts and three texts read as
-single-is : (arguments : List (List ℕ)) (argument : List ℕ) → single arguments ≡ Some argument → arguments ≡ argument ∷ []
-single-is [] argument e = absurd cc
-single-is (only ∷ []) argument e = cc
-single-is (first ∷ next ∷ arguments) argument e = absurd cc
-
-none_of_four : (a b c d : Bool) (value : ℤ) → a ≡ false → b ≡ false → (c || d) ≡ false → cond (((a || b) || c) || d) None (Some value) ≡ Some value
-none_of_four true b c d value e h k = absurd cc
-none_of_four false true c d value e h k = absurd cc
-none_of_four false false c d value e h k = ap (λ (t : Bool). cond t None (Some value)) k
-
-pub duration_of-some : (arguments others : List (List ℕ)) (seconds nanoseconds : List ℕ) (s f : ℤ) → arguments ≡ seconds ∷ others
-    → single others ≡ Some nanoseconds → i64_of seconds ≡ Some s → i32_of nanoseconds ≡ Some f → int_lt f (neg_ℤ (pos 999_999_999)) ≡ false
-    → int_lt (pos 999_999_999) f ≡ false → ((int_lt s (pos 0) && int_lt (pos 0) f) || (int_lt (pos 0) s && int_lt f (pos 0))) ≡ false
-    → duration_of arguments ≡ Some (duration_of_parts s f)
-unfolding duration_of
-duration_of-some arguments others seconds nanoseconds s f e only read_s read_f low high signs =
-    rw (e, single-is others nanoseconds only, read_s, read_f)
-    (none_of_four (int_lt f (neg_ℤ (pos 999_999_999))) (int_lt (pos 999_999_999) f) (int_lt s (pos 0) && int_lt (pos 0) f) (int_lt (pos 0) s && int_lt f (pos 0)) (duration_of_parts s f) low high signs)
-
-pub date_of-some : (arguments others last : List (List ℕ)) (year month day : List ℕ) (y : ℤ) (m : Month) (d : ℕ) → arguments ≡ year ∷ others
-    → others ≡ month ∷ last → single last ≡ Some day → i32_of year ≡ Some y → month_of month ≡ Some m → u8_of day ≡ Some d
-    → date_of arguments ≡ result_ok (calendar_date y (month_number m) d)
-unfolding date_of
-date_of-some arguments others last year month day y m d e k only read_y read_m read_d =
-    rw (e, k, single-is last day only, read_y, read_m, read_d) refl
 
 -- the month of a number
 month_numbered-number : (month : Month) → month_numbered (month_number month) ≡ month

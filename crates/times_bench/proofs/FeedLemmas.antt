@@ -1,16 +1,21 @@
--- The answers to the lines of a block, a byte at a time.
-use Rattle.std.proofs.Common.{◌≡◌, ◌≢◌, ℕ, ◌<◌, ◌≤◌, Bool, true, false, cond, nat_lt, take, List, [], ◌∷◌, ◌++◌, length, Option, None, refl, sym, ◌∙◌, ap, subst, arith, append_assoc, append-nil}
+-- The answers to the lines of a block, which a failed write or a lack of memory may end.
+use Rattle.std.proofs.Common.{◌≡◌, ◌≢◌, ℕ, ◌<◌, ◌≤◌, IsTrue, Bool, true, false, cond, nat_lt, take, List, [], ◌∷◌, ◌++◌, length, Option, None, Result, refl, sym, ◌∙◌, ap, subst, arith, append_assoc, append-nil}
+use Rattle.std.specs.Prelude.{MatchResult}
+use Rattle.std.specs.Io.KnownBytes.{Appends}
 use Rattle.std.proofs.lemmas.Bool.Decides.{nat_tests}
 use Rattle.std.proofs.lemmas.Grind.{flat_map-append}
 use Rattle.std.proofs.lemmas.List.{length-take, take_all}
-use Rattle.times_bench.specs.Answers.{answer_of, answers_of}
+use Rattle.std.proofs.lemmas.Result.{MatchResult-weaker}
+use Rattle.times_bench.specs.Answers.{answer_to, request_takes_memory, takes_memory, answer_of, answers_of}
 use Rattle.times_bench.specs.Lines.{unless_empty}
 use Rattle.times_bench.specs.LineParts.{ended_from, rest_from, Holds}
-use Rattle.times_bench.specs.Requests.{request_of}
+use Rattle.times_bench.specs.Progress.{StopsAtMemory, AnswersBeforeMemory, AtFault, WritesPending, SendsAnswer, WritesAnswers}
+use Rattle.times_bench.specs.Requests.{Request, request_of}
 use Rattle.times_bench.specs.Writing.{AppendsBeginning, Sends}
+use Rattle.times_bench.specs.declared.sending.AnswerFault.{AnswerFault}
 use Rattle.times_bench.proofs.CutLemmas.{ended_from-append, ended_from-line_feed}
 use Rattle.times_bench.proofs.LineLemmas.{Holds-append}
-use Rattle.times_bench.proofs.SendingLemmas.{Sends-append, AppendsBeginning-pending, AppendsBeginning-longer}
+use Rattle.times_bench.proofs.SendingLemmas.{Appends-append, Appends-flushed, AppendsBeginning-flushed, AppendsBeginning-longer, AppendsBeginning-pending, Sends-append, AtFault-weaker}
 
 is_below : (a b : ℕ) → a < b → nat_lt a b ≡ true
 is_below a b low = grind (arith, nat_tests)
@@ -47,31 +52,56 @@ pub request_of-held : (piece line : List ℕ) → Holds piece line → request_o
 request_of-held piece line h = ap request_of h ∙ request_of-cut piece (nat_lt 1024 (length piece)) refl
 
 -- a line is answered
-pub Sends-line : (a b c : Option (List ℕ)) (p0 p1 p2 piece xs : List ℕ)
-    → Sends a b p1 (p0 ++ answers_of (ended_from piece xs))
-    → Sends b c p2 (p1 ++ answer_of (rest_from piece xs))
-    → Sends a c p2 (p0 ++ answers_of (ended_from piece (xs ++ 10 ∷ [])))
-Sends-line a b c p0 p1 p2 piece xs h k =
-    subst (Sends a c p2)
-    (append_assoc p0 (answers_of (ended_from piece xs)) (answer_of (rest_from piece xs)) ∙ ap (λ (z : List ℕ). p0 ++ z) (sym (answers_of-line_feed piece xs)))
-    (Sends-append a b c p1 (p0 ++ answers_of (ended_from piece xs)) p2 (answer_of (rest_from piece xs)) h k)
+pub Sends-line : (a b c : Option (List ℕ)) (p q piece xs : List ℕ) → Sends a b p (answers_of (ended_from piece xs))
+    → Sends b c q (p ++ answer_of (rest_from piece xs)) → Sends a c q (answers_of (ended_from piece (xs ++ 10 ∷ [])))
+Sends-line a b c p q piece xs h k =
+    subst (Sends a c q) (sym (answers_of-line_feed piece xs)) (Sends-append a b c p _ q _ h k)
 
--- the answer to a line is cut short, and so are those of the block
-pub AppendsBeginning-line : (a b c : Option (List ℕ)) (p0 p1 piece xs more block : List ℕ)
-    → block ≡ (xs ++ 10 ∷ []) ++ more
-    → Sends a b p1 (p0 ++ answers_of (ended_from piece xs))
-    → AppendsBeginning b c (p1 ++ answer_of (rest_from piece xs))
-    → AppendsBeginning a c (p0 ++ answers_of (ended_from piece block))
-AppendsBeginning-line a b c p0 p1 piece xs more block e h k =
-    let behind = answers_of (ended_from (rest_from piece (xs ++ 10 ∷ [])) more) in
-    let whole : ((p0 ++ answers_of (ended_from piece xs)) ++ answer_of (rest_from piece xs)) ++ behind ≡ p0 ++ answers_of (ended_from piece block)
-    = ap (λ (z : List ℕ). z ++ behind) (append_assoc p0 (answers_of (ended_from piece xs)) (answer_of (rest_from piece xs)))
-    ∙ append_assoc p0 (answers_of (ended_from piece xs) ++ answer_of (rest_from piece xs)) behind
-    ∙ ap (λ (z : List ℕ). p0 ++ (z ++ behind)) (sym (answers_of-line_feed piece xs))
-    ∙ ap (λ (z : List ℕ). p0 ++ z) (sym (answers_of-append piece (xs ++ 10 ∷ []) more))
-    ∙ ap (λ (z : List ℕ). p0 ++ answers_of (ended_from piece z)) (sym e) in
-    subst (AppendsBeginning a c) whole
-    (AppendsBeginning-longer a c _ behind (AppendsBeginning-pending a b c p1 (p0 ++ answers_of (ended_from piece xs)) (answer_of (rest_from piece xs)) h k))
+-- the lines of a block that has a line feed
+ended_from-line : (piece xs more block : List ℕ) → block ≡ (xs ++ 10 ∷ []) ++ more
+    → ended_from piece block ≡ ended_from piece xs ++ rest_from piece xs ∷ ended_from (rest_from piece (xs ++ 10 ∷ [])) more
+ended_from-line piece xs more block e =
+    let after = ended_from (rest_from piece (xs ++ 10 ∷ [])) more in
+    ap (ended_from piece) e ∙ ended_from-append piece (xs ++ 10 ∷ []) more
+    ∙ ap (λ (z : List (List ℕ)). z ++ after) (ended_from-line_feed piece xs)
+    ∙ append_assoc (ended_from piece xs) (rest_from piece xs ∷ []) after
+
+-- a fault at a line of a block
+pub AtFault-line : (fault : AnswerFault) (a b c : Option (List ℕ)) (p piece xs more block : List ℕ) → block ≡ (xs ++ 10 ∷ []) ++ more
+    → Sends a b p (answers_of (ended_from piece xs))
+    → (let line = rest_from piece xs in AtFault fault (AppendsBeginning b c (p ++ answer_of line)) (Appends b c p × IsTrue (takes_memory line)))
+    → (let lines = ended_from piece block in AtFault fault (AppendsBeginning a c (answers_of lines)) (AnswersBeforeMemory a c lines))
+AtFault-line fault a b c p piece xs more block e h k =
+    let before = ended_from piece xs in
+    let line = rest_from piece xs in
+    let after = ended_from (rest_from piece (xs ++ 10 ∷ [])) more in
+    let lines = ended_from-line piece xs more block e in
+    let whole : (answers_of before ++ answer_of line) ++ answers_of after ≡ answers_of (ended_from piece block)
+    = append_assoc (answers_of before) (answer_of line) (answers_of after)
+    ∙ sym (ap answers_of lines ∙ flat_map-append answer_of before (line ∷ after)) in
+    AtFault-weaker fault k
+    (λ cut. subst (AppendsBeginning a c) whole
+    (AppendsBeginning-longer a c _ (answers_of after) (AppendsBeginning-pending a b c p (answers_of before) (answer_of line) h cut)))
+    (λ short. record {
+      before = before;
+      stops = record { line = line; after = after; whole = lines; takes = short.1 };
+      appended = Appends-flushed a b c p (answers_of before) h short.0;
+    })
+
+-- what is pending is written behind the answers that were sent
+pub WritesAnswers-flushed : {T : Type 0} (a b c : Option (List ℕ)) (p : List ℕ) (lines : List (List ℕ)) (result : Result T AnswerFault)
+    → Sends a b p (answers_of lines) → WritesPending result b c p → WritesAnswers result a c lines
+WritesAnswers-flushed a b c p lines result h k =
+    MatchResult-weaker result k (λ _ w. Appends-flushed a b c p (answers_of lines) h w)
+    (λ fault w. AtFault-weaker fault w (λ cut. AppendsBeginning-flushed a b c p (answers_of lines) h cut) (λ none. absurd none))
+
+-- lines that ask for the same
+pub SendsAnswer-same : {T : Type 0} (a b : Option (List ℕ)) (p q line other : List ℕ) (result : Result T AnswerFault)
+    → request_of line ≡ request_of other → SendsAnswer result a b p q line → SendsAnswer result a b p q other
+unfolding answer_of takes_memory
+SendsAnswer-same a b p q line other result e h =
+    subst (λ (z : Option Request). MatchResult result (λ _. Sends a b q (p ++ (answer_to z ++ 10 ∷ [])))
+    (λ fault. AtFault fault (AppendsBeginning a b (p ++ (answer_to z ++ 10 ∷ []))) (Appends a b p × IsTrue (request_takes_memory z)))) e h
 
 -- the last line
 pub unless_empty-some : (piece : List ℕ) → piece ≢ [] → unless_empty piece ≡ piece ∷ []
@@ -82,3 +112,41 @@ unless_empty-some (byte ∷ piece) some = refl
 pub request_of-pushed : (piece line part bytes : List ℕ) → Holds piece line → bytes ≡ take 1025 (line ++ part) → request_of bytes ≡ request_of (piece ++ part)
 request_of-pushed piece line part bytes h e =
     request_of-held (piece ++ part) bytes (e ∙ Holds-append piece line part h)
+
+-- the answers to lines and then to more lines
+pub AppendsBeginning-more : (a b : Option (List ℕ)) (lines more : List (List ℕ)) → AppendsBeginning a b (answers_of lines) → AppendsBeginning a b (answers_of (lines ++ more))
+AppendsBeginning-more a b lines more h =
+    subst (AppendsBeginning a b) (sym (flat_map-append answer_of lines more)) (AppendsBeginning-longer a b (answers_of lines) (answers_of more) h)
+
+-- lines stand before
+pub AnswersBeforeMemory-append : (a b c : Option (List ℕ)) (before lines : List (List ℕ)) → Appends a b (answers_of before)
+    → AnswersBeforeMemory b c lines → AnswersBeforeMemory a c (before ++ lines)
+AnswersBeforeMemory-append a b c before lines h k =
+    let stops = k.stops in
+    record {
+      before = before ++ k.before;
+      stops = record {
+        line = stops.line;
+        after = stops.after;
+        whole = ap (λ (z : List (List ℕ)). before ++ z) stops.whole ∙ sym (append_assoc before k.before (stops.line ∷ stops.after));
+        takes = stops.takes;
+      };
+      appended =
+          subst (Appends a c) (sym (flat_map-append answer_of before k.before))
+          (Appends-append a b c (answers_of before) (answers_of k.before) h k.appended);
+    }
+
+-- more lines stand behind
+pub AnswersBeforeMemory-longer : (a b : Option (List ℕ)) (lines more : List (List ℕ)) → AnswersBeforeMemory a b lines → AnswersBeforeMemory a b (lines ++ more)
+AnswersBeforeMemory-longer a b lines more h =
+    let stops = h.stops in
+    record {
+      before = h.before;
+      stops = record {
+        line = stops.line;
+        after = stops.after ++ more;
+        whole = ap (λ (z : List (List ℕ)). z ++ more) stops.whole ∙ append_assoc h.before (stops.line ∷ stops.after) more;
+        takes = stops.takes;
+      };
+      appended = h.appended;
+    }

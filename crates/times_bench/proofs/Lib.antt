@@ -4,7 +4,6 @@ pub mod CutLemmas
 pub mod FeedLemmas
 pub mod LineLemmas
 pub mod NumberLemmas
-pub mod ProgressLemmas
 pub mod ReadLemmas
 pub mod RequestLemmas
 pub mod SendingLemmas

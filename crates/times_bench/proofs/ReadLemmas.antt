@@ -9,8 +9,7 @@ use Rattle.times_bench.specs.Lines.{lines_of, whole_lines_of, unless_empty}
 use Rattle.times_bench.specs.LineParts.{ended_from, rest_from}
 use Rattle.times_bench.specs.Answers.{answer_of, answers_of}
 use Rattle.times_bench.proofs.CutLemmas.{lines_of-parts, lines_of-append, whole_lines_of-parts}
-use Rattle.times_bench.proofs.FeedLemmas.{answers_of-append}
-use Rattle.times_bench.proofs.ProgressLemmas.{AnswersBeforeMemory-append, AnswersBeforeMemory-longer, AppendsBeginning-more}
+use Rattle.times_bench.proofs.FeedLemmas.{answers_of-append, AnswersBeforeMemory-append, AnswersBeforeMemory-longer, AppendsBeginning-more}
 use Rattle.times_bench.proofs.SendingLemmas.{Appends-append, AppendsBeginning-append}
 
 pub Consumes-nil : (a : Option (List ℕ)) → Consumes a a []

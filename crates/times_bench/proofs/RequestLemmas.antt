@@ -3,7 +3,7 @@ use Rattle.std.proofs.Common.{◌≡◌, ◌≢◌, ℕ, ◌+◌, ◌*◌, ◌<�
 use Rattle.std.specs.Prelude.{codes}
 use Rattle.std.specs.Char.{is_ascii_digit}
 use Rattle.std.specs.List.{join_with_byte, list_all}
-use Rattle.std.specs.Option.{option_map, option_map_or, option_and_then, is_some}
+use Rattle.std.specs.Option.{option_map, option_map_or, option_and_then}
 use Rattle.std.specs.Str.{bytes_eq}
 use Rattle.std.proofs.lemmas.Bool.Decides.{nat_tests}
 use Rattle.std.proofs.lemmas.List.Splits.{join_with_byte-slice_split}
@@ -11,9 +11,9 @@ use Rattle.std.proofs.lemmas.Slice.Eq.{bytes_eq-Decides}
 use Rattle.std.proofs.lemmas.List.{length-append}
 use Rattle.times_bench.specs.declared.requests.Kind.{Kind}
 use Rattle.times_bench.specs.declared.requests.Kind.TheVariants as kind
-use Rattle.times_bench.specs.Numbers.{number_digits, is_numeral, number_of, within, i64_of, u32_of}
-use Rattle.times_bench.specs.Requests.{Unix, unix_request, stamp_request, run_request, chain_request, RequestOf, request_after_instant, request_of_kind, kind_of_word, request_of_words, request_of}
-use Rattle.times_bench.specs.Words.{words_of, words_left, bytes_left, all_of}
+use Rattle.times_bench.specs.Numbers.{number_digits, is_numeral, number_of, within, i64_of}
+use Rattle.times_bench.specs.Requests.{Unix, unix_request, stamp_request, instant_of, run_request, chain_request, request_of_kind, kind_of_word, request_of_words, request_of}
+use Rattle.times_bench.specs.Words.{words_of, words_left, bytes_left, exactly_one, exactly_two, all_of}
 use Rattle.times_bench.proofs.WordLemmas.{length-cut_at-some}
 
 -- a text with a space is no number
@@ -45,48 +45,18 @@ unfolding i64_of
 i64_of-space front back = ap (λ (z : Option ℤ). within (neg_ℤ (pos (2 ^ 63))) (pos (2 ^ 63 - 1)) z) (number_of-space front back)
 
 -- what follows `unix` is a number, or it is more words than one
-unix_request-joined : (words : List (List ℕ)) (text : List ℕ) → 0 < length words → join_with_byte 32 words ≡ text → unix_request words ≡ option_map Unix (i64_of text)
-unfolding unix_request
+unix_request-joined : (words : List (List ℕ)) (text : List ℕ) → 0 < length words → join_with_byte 32 words ≡ text
+    → unix_request words ≡ option_map Unix (i64_of text)
+unfolding unix_request exactly_one
 unix_request-joined [] text some e = absurd (omega (arith, some))
 unix_request-joined (word ∷ []) text some e = ap (λ (z : List ℕ). option_map Unix (i64_of z)) e
 unix_request-joined (word ∷ next ∷ words) text some e =
-    sym (ap (λ (z : List ℕ). option_map Unix (i64_of z)) (sym e) ∙ ap (λ (z : Option ℤ). option_map Unix z) (i64_of-space word (join_with_byte 32 (next ∷ words))))
+    sym (ap (λ (z : List ℕ). option_map Unix (i64_of z)) (sym e)
+    ∙ ap (λ (z : Option ℤ). option_map Unix z) (i64_of-space word (join_with_byte 32 (next ∷ words))))
 
 pub unix_request-number : (text : List ℕ) → unix_request (words_of text) ≡ option_map Unix (i64_of text)
 unix_request-number text =
     unix_request-joined (words_of text) text (length-cut_at-some 32 text) (join_with_byte-slice_split 32 text)
-
--- what the second and the nanosecond ask for
-pub request_after_instant-one : (request : RequestOf) (words : List (List ℕ)) (second : List ℕ) → words ≡ second ∷ [] → request_after_instant request words ≡ None
-unfolding request_after_instant
-request_after_instant-one request words second e = ap (request_after_instant request) e
-
-pub request_after_instant-second : (request : RequestOf) (text second nanosecond : List ℕ) (words : List (List ℕ)) → words_of text ≡ second ∷ nanosecond ∷ words → i64_of second ≡ None
-    → request_after_instant request (words_of text) ≡ None
-unfolding request_after_instant
-request_after_instant-second request text second nanosecond words e es = ap (request_after_instant request) e ∙ rw es refl
-
-pub request_after_instant-nanosecond : (request : RequestOf) (text second nanosecond : List ℕ) (words : List (List ℕ)) (s : ℤ) → words_of text ≡ second ∷ nanosecond ∷ words → i64_of second ≡ Some s
-    → u32_of nanosecond ≡ None → request_after_instant request (words_of text) ≡ None
-unfolding request_after_instant
-request_after_instant-nanosecond request text second nanosecond words s e es en = ap (request_after_instant request) e ∙ rw (es, en) refl
-
-pub request_after_instant-some : (request : RequestOf) (text second nanosecond : List ℕ) (words : List (List ℕ)) (s : ℤ) (n : ℕ) → words_of text ≡ second ∷ nanosecond ∷ words → i64_of second ≡ Some s
-    → u32_of nanosecond ≡ Some n → request_after_instant request (words_of text) ≡ request s n words
-unfolding request_after_instant
-request_after_instant-some request text second nanosecond words s n e es en = ap (request_after_instant request) e ∙ rw (es, en) refl
-
--- where something is left, there is a word
-pub length-words_left : (left : Option (Bor (List ℕ))) → is_some left ≡ true → 0 < length (words_left left)
-length-words_left None e = absurd cc
-length-words_left (Some text) e = length-cut_at-some 32 text.now
-
-pub stamp_request-more : (s : ℤ) (n : ℕ) (left : Option (Bor (List ℕ))) → is_some left ≡ true → stamp_request s n (words_left left) ≡ None
-stamp_request-more s n left e = more (words_left left) (length-words_left left e)
-  where
-    more : (words : List (List ℕ)) → 0 < length words → stamp_request s n words ≡ None
-    more [] some = absurd (omega (arith, some))
-    more (word ∷ words) some = refl
 
 -- the places that what is left takes: its bytes, and the space before them
 abbrev pub room_left : Option (Bor (List ℕ)) → ℕ
@@ -187,15 +157,15 @@ pub request_of-unix : (line rest : List ℕ) → length line ≤ 1024 → line �
 request_of-unix line rest short e =
     request_of-short line short ∙ ap (λ (z : List ℕ). request_of_words (words_of z)) e
 
-pub request_of-stamp : (line rest : List ℕ) → length line ≤ 1024 → line ≡ codes "stamp " ++ rest → request_of line ≡ request_after_instant stamp_request (words_of rest)
+pub request_of-stamp : (line rest : List ℕ) → length line ≤ 1024 → line ≡ codes "stamp " ++ rest → request_of line ≡ stamp_request (words_of rest)
 request_of-stamp line rest short e =
     request_of-short line short ∙ ap (λ (z : List ℕ). request_of_words (words_of z)) e
 
-pub request_of-run : (line rest : List ℕ) → length line ≤ 1024 → line ≡ codes "run " ++ rest → request_of line ≡ request_after_instant run_request (words_of rest)
+pub request_of-run : (line rest : List ℕ) → length line ≤ 1024 → line ≡ codes "run " ++ rest → request_of line ≡ run_request (words_of rest)
 request_of-run line rest short e =
     request_of-short line short ∙ ap (λ (z : List ℕ). request_of_words (words_of z)) e
 
-pub request_of-chain : (line rest : List ℕ) → length line ≤ 1024 → line ≡ codes "chain " ++ rest → request_of line ≡ request_after_instant chain_request (words_of rest)
+pub request_of-chain : (line rest : List ℕ) → length line ≤ 1024 → line ≡ codes "chain " ++ rest → request_of line ≡ chain_request (words_of rest)
 request_of-chain line rest short e =
     request_of-short line short ∙ ap (λ (z : List ℕ). request_of_words (words_of z)) e
 
@@ -220,7 +190,7 @@ kind_of_word-other word rest line e unix stamp run chain =
 
 -- a first word alone asks for nothing
 request_of_kind-alone : (asked : Option Kind) → option_and_then (λ k. request_of_kind k []) asked ≡ None
-unfolding unix_request request_after_instant
+unfolding unix_request stamp_request instant_of run_request chain_request exactly_one exactly_two
 request_of_kind-alone None = refl
 request_of_kind-alone (Some kind.Unix) = refl
 request_of_kind-alone (Some kind.Stamp) = refl

@@ -1,5 +1,5 @@
 -- The words of a chain, and how they read.
-use Rattle.std.proofs.Common.{◌≡◌, ◌≢◌, ℕ, ◌+◌, ◌*◌, ◌-◌, ◌≤◌, ◌<◌, Bool, true, false, cond, ◌&&◌, nat_lt, nat_eq, not, get_or, List, [], ◌∷◌, length, refl, sym, ◌∙◌, ap, arith, ℤ, pos, neg_ℤ, Option, Some, None, Result, subst}
+use Rattle.std.proofs.Common.{◌≡◌, ◌≢◌, ℕ, ◌+◌, ◌*◌, ◌-◌, ◌≤◌, Bool, true, false, cond, ◌&&◌, nat_lt, nat_eq, not, get_or, List, [], ◌∷◌, length, refl, sym, ◌∙◌, ap, arith, ℤ, neg_ℤ, Option, Some, None, Result, subst}
 use Rattle.std.specs.Char.{is_ascii_digit}
 use Rattle.std.specs.Option.{option_map}
 use Rattle.std.proofs.lemmas.Bool.Decides.{nat_tests}
@@ -10,7 +10,7 @@ use Rattle.std.proofs.lemmas.Result.{Ok-from_Ok_iff}
 use Rattle.calendar_values.specs.Offsets.{IsOffset}
 use Rattle.stamp_times.specs.declared.steps.Step.TheVariants.{ToStamp, ToUtc, ToOffset}
 use Rattle.times_bench.specs.StepWords.{two_digits, seconds_of_words, offset_of, step_of}
-use Rattle.times_bench.specs.Words.{cut_at}
+use Rattle.times_bench.specs.Words.{cut_at, exactly_one, exactly_two, exactly_three}
 use Rattle.times_bench.proofs.WordLemmas.{length-cut_at}
 
 -- two digits by their places
@@ -33,39 +33,14 @@ two_digits-other most (tens ∷ []) e = refl
 two_digits-other most (tens ∷ units ∷ []) e = absurd (omega (arith, e))
 two_digits-other most (tens ∷ units ∷ next ∷ text) e = refl
 
--- the three words of a time of day
-pub seconds_of_words-some : (hours minutes seconds : List ℕ) (h m s : ℕ) → two_digits 25 hours ≡ Some h → two_digits 59 minutes ≡ Some m → two_digits 59 seconds ≡ Some s
-    → seconds_of_words (hours ∷ minutes ∷ seconds ∷ []) ≡ Some (pos (h * 3_600 + m * 60 + s))
-unfolding seconds_of_words
-seconds_of_words-some hours minutes seconds h m s eh em es = rw (eh, em, es) refl
-
-pub seconds_of_words-hours : (hours minutes seconds : List ℕ) → two_digits 25 hours ≡ None → seconds_of_words (hours ∷ minutes ∷ seconds ∷ []) ≡ None
-unfolding seconds_of_words
-seconds_of_words-hours hours minutes seconds eh = rw eh refl
-
-pub seconds_of_words-minutes : (hours minutes seconds : List ℕ) (h : ℕ) → two_digits 25 hours ≡ Some h → two_digits 59 minutes ≡ None → seconds_of_words (hours ∷ minutes ∷ seconds ∷ []) ≡ None
-unfolding seconds_of_words
-seconds_of_words-minutes hours minutes seconds h eh em = rw (eh, em) refl
-
-pub seconds_of_words-seconds : (hours minutes seconds : List ℕ) (h m : ℕ) → two_digits 25 hours ≡ Some h → two_digits 59 minutes ≡ Some m → two_digits 59 seconds ≡ None
-    → seconds_of_words (hours ∷ minutes ∷ seconds ∷ []) ≡ None
-unfolding seconds_of_words
-seconds_of_words-seconds hours minutes seconds h m eh em es = rw (eh, em, es) refl
-
 -- seconds are of three words, so an offset has at least three bytes
 seconds_of_words-length : (words : List (List ℕ)) (seconds : ℤ) → seconds_of_words words ≡ Some seconds → 3 ≤ length words
-unfolding seconds_of_words
+unfolding seconds_of_words exactly_three exactly_two exactly_one
 seconds_of_words-length [] seconds e = absurd cc
 seconds_of_words-length (hours ∷ []) seconds e = absurd cc
 seconds_of_words-length (hours ∷ minutes ∷ []) seconds e = absurd cc
 seconds_of_words-length (hours ∷ minutes ∷ last ∷ []) seconds e = omega arith
 seconds_of_words-length (hours ∷ minutes ∷ last ∷ next ∷ words) seconds e = absurd cc
-
--- a fourth word
-pub seconds_of_words-more : (hours minutes seconds : List ℕ) (words : List (List ℕ)) → 0 < length words → seconds_of_words (hours ∷ minutes ∷ seconds ∷ words) ≡ None
-unfolding seconds_of_words
-seconds_of_words-more hours minutes seconds [] some = absurd (omega (arith, some))
-seconds_of_words-more hours minutes seconds (word ∷ words) some = refl
 
 -- an offset by its sign
 pub offset_of-plus : (word text : List ℕ) (sign : ℕ) → word ≡ sign ∷ text → sign ≡ 43 → offset_of word ≡ seconds_of_words (cut_at 58 text)

@@ -1,14 +1,13 @@
 -- Words, cut at a separator.
-use Rattle.std.proofs.Common.{◌≡◌, ◌≢◌, ℕ, ◌+◌, ◌<◌, ◌≤◌, true, false, ◌==◌, get_or, take, drop, List, [], ◌∷◌, ◌++◌, length, ◌∙◌, ap, subst, arith, Option, Some, None, Bor}
+use Rattle.std.proofs.Common.{◌≡◌, ◌≢◌, ℕ, ◌+◌, ◌<◌, ◌≤◌, true, false, ◌==◌, get_or, take, drop, List, [], ◌∷◌, ◌++◌, length, refl, ◌∙◌, ap, subst, arith, None}
 use Rattle.std.specs.Prelude.{All}
 use Rattle.std.proofs.lemmas.Bool.Decides.{nat_tests}
 use Rattle.std.proofs.lemmas.Grind.{common_steps}
 use Rattle.std.proofs.lemmas.List.{length-take, take_all}
 use Rattle.std.proofs.lemmas.List.Splits.{slice_split_none, slice_split_at, length-slice_split}
 use Rattle.std.proofs.lemmas.List.Sums.{count_by-le-length}
-use Rattle.std.specs.Option.{option_map_or}
 use Rattle.times_bench.specs.LineParts.{HasNone}
-use Rattle.times_bench.specs.Words.{cut_at}
+use Rattle.times_bench.specs.Words.{cut_at, exactly_one}
 
 -- no separator stands before the end of a text
 All-none : (separator : ℕ) (text : List ℕ) (end : ℕ) → end ≤ length text → HasNone separator text 0 end → All (λ byte. (byte == separator) ≡ false) (take end text)
@@ -32,15 +31,6 @@ cut_at-first separator text end low h is =
     let ends : (separator == separator) ≡ true = grind (arith, nat_tests) in
     ap (cut_at separator) whole ∙ slice_split_at (λ byte. byte == separator) (take end text) separator (drop (end + 1) text) (All-none separator text end (omega arith) h) ends
 
--- what a cut says of a text, by whether another word stands behind
-pub cut_at-last : (separator : ℕ) (text word : List ℕ) (rest : Option (Bor (List ℕ))) → cut_at separator text ≡ word ∷ option_map_or (λ more. cut_at separator more.now) rest [] → rest ≡ None
-    → cut_at separator text ≡ word ∷ []
-cut_at-last separator text word rest cut e = rw e at cut
-
-pub cut_at-next : (separator : ℕ) (text word : List ℕ) (rest : Option (Bor (List ℕ))) (next : Bor (List ℕ)) → cut_at separator text ≡ word ∷ option_map_or (λ more. cut_at separator more.now) rest []
-    → rest ≡ Some next → cut_at separator text ≡ word ∷ cut_at separator next.now
-cut_at-next separator text word rest next cut e = rw e at cut
-
 -- a text has at most one word more than bytes
 pub length-cut_at : (separator : ℕ) (text : List ℕ) → length (cut_at separator text) ≤ length text + 1
 length-cut_at separator text =
@@ -49,10 +39,11 @@ length-cut_at separator text =
 pub length-cut_at-some : (separator : ℕ) (text : List ℕ) → 0 < length (cut_at separator text)
 length-cut_at-some separator text = omega (arith, length-slice_split (λ byte. byte == separator) text)
 
--- the third word
-pub cut_at-third : (separator : ℕ) (text one two : List ℕ) (first second : Option (Bor (List ℕ))) (next last : Bor (List ℕ)) (words : List (List ℕ))
-    → cut_at separator text ≡ one ∷ option_map_or (λ more. cut_at separator more.now) first [] → first ≡ Some next
-    → cut_at separator next.now ≡ two ∷ option_map_or (λ more. cut_at separator more.now) second [] → second ≡ Some last
-    → cut_at separator last.now ≡ words → cut_at separator text ≡ one ∷ two ∷ words
-cut_at-third separator text one two first second next last words cut e cut' e' is =
-    cut_at-next separator text one first next cut e ∙ ap (λ (z : List (List ℕ)). one ∷ z) (cut_at-next separator next.now two second last cut' e' ∙ ap (λ (z : List (List ℕ)). two ∷ z) is)
+-- a separator has a field behind it
+pub no_field_more : (separator : ℕ) (field text : List ℕ) → exactly_one (field ∷ cut_at separator text) ≡ None
+unfolding exactly_one
+no_field_more separator field text = more (cut_at separator text) (length-cut_at-some separator text)
+  where
+    more : (fields : List (List ℕ)) → 0 < length fields → exactly_one (field ∷ fields) ≡ None
+    more [] some = absurd (omega (arith, some))
+    more (next ∷ fields) some = refl

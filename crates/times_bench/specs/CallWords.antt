@@ -22,7 +22,7 @@ use Rattle.times_bench.specs.declared.call_words.PartName.{PartName}
 use Rattle.times_bench.specs.declared.call_words.PartName.TheVariants as part
 use Rattle.times_bench.specs.Numbers.{i64_of, i32_of, u32_of, u16_of, u8_of}
 use Rattle.times_bench.specs.StepWords.{offset_of}
-use Rattle.times_bench.specs.Words.{cut_at, arguments_of}
+use Rattle.times_bench.specs.Words.{cut_at, arguments_of, exactly_one, exactly_two, exactly_three, exactly_four}
 
 -- what stands beside a name
 abbrev pub named : {A : Type 0} → List (List ℕ × A) → List ℕ → Option A
@@ -57,12 +57,6 @@ reads =
     (codes "microsecond", call.ReadClock clock_read.Microsecond) ∷
     (codes "nanosecond", call.ReadClock clock_read.Nanosecond) ∷ []
 
--- the one argument, if there is no other
-abbrev pub single : List (List ℕ) → Option (List ℕ)
-single [] = None
-single (argument ∷ []) = Some argument
-single (argument ∷ next ∷ arguments) = None
-
 -- the parts of a duration: seconds, and less than a second in nanoseconds of the same sign
 abbrev pub duration_of_numbers : ℤ → ℤ → Option ℤ
 duration_of_numbers s f =
@@ -71,21 +65,16 @@ duration_of_numbers s f =
 
 -- a duration: seconds and nanoseconds
 unfoldable pub duration_of : List (List ℕ) → Option ℤ
-duration_of [] = None
-duration_of (seconds ∷ []) = None
-duration_of (seconds ∷ nanoseconds ∷ []) =
-    option_and_then (λ s. option_and_then (λ f. duration_of_numbers s f) (i32_of nanoseconds)) (i64_of seconds)
-duration_of (seconds ∷ nanoseconds ∷ next ∷ arguments) = None
+duration_of arguments =
+    option_and_then (λ parts. option_and_then (λ s.
+    option_and_then (λ f. duration_of_numbers s f) (i32_of parts.1)) (i64_of parts.0)) (exactly_two arguments)
 
 -- a time of day: hour, minute, second and nanosecond
 unfoldable pub time_of : List (List ℕ) → Option ℕ
-time_of [] = None
-time_of (hour ∷ []) = None
-time_of (hour ∷ minute ∷ []) = None
-time_of (hour ∷ minute ∷ second ∷ []) = None
-time_of (hour ∷ minute ∷ second ∷ nanosecond ∷ []) =
-    option_and_then (λ h. option_and_then (λ m. option_and_then (λ s. option_and_then (λ n. result_ok (clock_time_nano h m s n)) (u32_of nanosecond)) (u8_of second)) (u8_of minute)) (u8_of hour)
-time_of (hour ∷ minute ∷ second ∷ nanosecond ∷ next ∷ arguments) = None
+time_of arguments =
+    option_and_then (λ parts. option_and_then (λ h. option_and_then (λ m. option_and_then (λ s.
+    option_and_then (λ n. result_ok (clock_time_nano h m s n)) (u32_of parts.3)) (u8_of parts.2)) (u8_of parts.1)) (u8_of parts.0))
+    (exactly_four arguments)
 
 -- the month of a number, 1 to 12
 unfoldable pub month_of : List ℕ → Option Month
@@ -93,12 +82,10 @@ month_of number = option_and_then (λ m. if is_outside (pos 1) (pos 12) (pos m) 
 
 -- a date: year, number of the month and day of the month
 unfoldable pub date_of : List (List ℕ) → Option ℤ
-date_of [] = None
-date_of (year ∷ []) = None
-date_of (year ∷ month ∷ []) = None
-date_of (year ∷ month ∷ day ∷ []) =
-    option_and_then (λ y. option_and_then (λ m. option_and_then (λ d. result_ok (calendar_date y (month_number m) d)) (u8_of day)) (month_of month)) (i32_of year)
-date_of (year ∷ month ∷ day ∷ next ∷ arguments) = None
+date_of arguments =
+    option_and_then (λ parts. option_and_then (λ y. option_and_then (λ m.
+    option_and_then (λ d. result_ok (calendar_date y (month_number m) d)) (u8_of parts.2)) (month_of parts.1)) (i32_of parts.0))
+    (exactly_three arguments)
 
 -- the calls with arguments, by their names
 unfoldable pub call_names : List (List ℕ × CallName)
@@ -142,8 +129,8 @@ call_with name.SaturatingAdd arguments = option_map (λ d. call.Shift (shift.Sat
 call_with name.SaturatingSub arguments = option_map (λ d. call.Shift (shift.SaturatingSub d)) (duration_of arguments)
 call_with name.ReplaceTime arguments = option_map (λ c. call.Replace (replacing.Time c)) (time_of arguments)
 call_with name.ReplaceDate arguments = option_map (λ n. call.Replace (replacing.Date n)) (date_of arguments)
-call_with (name.Replace part) arguments = option_map call.Replace (option_and_then (part_with part) (single arguments))
-call_with name.CheckedToOffset arguments = option_map call.Local (option_and_then offset_of (single arguments))
+call_with (name.Replace part) arguments = option_map call.Replace (option_and_then (part_with part) (exactly_one arguments))
+call_with name.CheckedToOffset arguments = option_map call.Local (option_and_then offset_of (exactly_one arguments))
 
 -- a call, by what stands before its `=` and after it
 unfoldable pub call_of_parts : List (List ℕ) → Option Call

@@ -38,14 +38,18 @@ i64_of text = within (neg_ℤ (pos (2 ^ 63))) (pos (2 ^ 63 - 1)) (number_of text
 unfoldable pub i32_of : List ℕ → Option ℤ
 i32_of text = within (neg_ℤ (pos (2 ^ 31))) (pos (2 ^ 31 - 1)) (number_of text)
 
+-- a number not below 0, and at most this
+unfoldable pub up_to : ℕ → List ℕ → Option ℕ
+up_to most text = option_map unsigned_abs (within (pos 0) (pos most) (number_of text))
+
 -- a number of 32 bits, not below 0
-unfoldable pub u32_of : List ℕ → Option ℕ
-u32_of text = option_map unsigned_abs (within (pos 0) (pos (2 ^ 32 - 1)) (number_of text))
+abbrev pub u32_of : List ℕ → Option ℕ
+u32_of text = up_to (2 ^ 32 - 1) text
 
 -- a number of 16 bits, not below 0
-unfoldable pub u16_of : List ℕ → Option ℕ
-u16_of text = option_map unsigned_abs (within (pos 0) (pos (2 ^ 16 - 1)) (number_of text))
+abbrev pub u16_of : List ℕ → Option ℕ
+u16_of text = up_to (2 ^ 16 - 1) text
 
 -- a number of 8 bits, not below 0
-unfoldable pub u8_of : List ℕ → Option ℕ
-u8_of text = option_map unsigned_abs (within (pos 0) (pos (2 ^ 8 - 1)) (number_of text))
+abbrev pub u8_of : List ℕ → Option ℕ
+u8_of text = up_to (2 ^ 8 - 1) text

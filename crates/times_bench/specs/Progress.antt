@@ -1,10 +1,14 @@
--- How far lines were answered, where one of them may find no memory.
-use Rattle.std.specs.Prelude.{◌≡◌, ℕ, Bool, IsTrue, List, ◌∷◌, ◌++◌, Option, Result, MatchResult}
+-- What is written of the answers to lines, which a failed write or a lack of memory may end.
+use Rattle.std.specs.Prelude.{◌≡◌, ℕ, ◌+◌, ◌≤◌, Bool, true, IsTrue, List, ◌∷◌, ◌++◌, length, Option, Result, Ok, Err, MatchResult}
 use Rattle.std.specs.Io.KnownBytes.{Appends}
-use Rattle.times_bench.specs.declared.progress.Progress.{Progress}
-use Rattle.times_bench.specs.declared.progress.Progress.TheVariants.{Done, OutOfMemory}
+use Rattle.times_bench.specs.declared.sending.AnswerFault.{AnswerFault}
+use Rattle.times_bench.specs.declared.sending.AnswerFault.TheVariants.{Write, Memory}
 use Rattle.times_bench.specs.Answers.{takes_memory, answer_of, answers_of}
 use Rattle.times_bench.specs.Writing.{AppendsBeginning, Sends}
+
+-- an answer has room behind what is pending: 256 replies and what follows them, each of at most 64 bytes
+abbrev pub HasRoom : List ℕ → Type 0
+HasRoom pending = length pending + 16_640 ≤ 65_536
 
 -- behind those before, which begin the lines, stands a line that takes memory
 pub record StopsAtMemory (lines before : List (List ℕ)) : Type 0 where
@@ -19,41 +23,30 @@ pub record AnswersBeforeMemory (old new : Option (List ℕ)) (lines : List (List
   pub stops : StopsAtMemory lines before
   pub appended : Appends old new (answers_of before)
 
--- behind what was pending the bytes were sent, or nothing where what takes memory found none
-abbrev pub BytesSent : Progress → Bool → Option (List ℕ) → Option (List ℕ) → List ℕ → List ℕ → List ℕ → Type 0
-BytesSent Done takes old new was_pending pending bytes = Sends old new pending (was_pending ++ bytes)
-BytesSent OutOfMemory takes old new was_pending pending bytes = Sends old new pending was_pending × IsTrue takes
+-- what holds after a failed write, and what where there was no memory
+abbrev pub AtFault : AnswerFault → Type 0 → Type 0 → Type 0
+AtFault Write Cut Short = Cut
+AtFault Memory Cut Short = Short
 
--- the same, or after a fault a beginning of it and not all
-abbrev pub SendsBytes : {E : Type 0} → Result Progress E → Bool → Option (List ℕ) → Option (List ℕ) → List ℕ → List ℕ → List ℕ → Type 0
-SendsBytes result takes old new was_pending pending bytes =
-    MatchResult result (λ progress. BytesSent progress takes old new was_pending pending bytes) (λ _. AppendsBeginning old new (was_pending ++ bytes))
+-- the mark after the work: a failed write sets it
+abbrev pub mark_after : {T : Type 0} → Result T AnswerFault → Bool → Bool
+mark_after (Ok done) mark = mark
+mark_after (Err Write) mark = true
+mark_after (Err Memory) mark = mark
 
--- behind what was pending the answer to a line was sent, or nothing where the line found no memory
-abbrev pub AnswerSent : Progress → Option (List ℕ) → Option (List ℕ) → List ℕ → List ℕ → List ℕ → Type 0
-AnswerSent progress old new was_pending pending line = BytesSent progress (takes_memory line) old new was_pending pending (answer_of line)
+-- what was pending was written, or a beginning of it
+abbrev pub WritesPending : {T : Type 0} → Result T AnswerFault → Option (List ℕ) → Option (List ℕ) → List ℕ → Type 0
+WritesPending result old new pending =
+    MatchResult result (λ _. Appends old new pending) (λ fault. AtFault fault (AppendsBeginning old new pending) ⊥)
 
--- the same, or after a fault a beginning of it and not all
-abbrev pub SendsAnswer : {E : Type 0} → Result Progress E → Option (List ℕ) → Option (List ℕ) → List ℕ → List ℕ → List ℕ → Type 0
-SendsAnswer result old new was_pending pending line = SendsBytes result (takes_memory line) old new was_pending pending (answer_of line)
+-- the answer to a line was sent behind what was pending, or a beginning of it was written; with no memory, what was pending was written
+abbrev pub SendsAnswer : {T : Type 0} → Result T AnswerFault → Option (List ℕ) → Option (List ℕ) → List ℕ → List ℕ → List ℕ → Type 0
+SendsAnswer result old new was_pending pending line =
+    MatchResult result (λ _. Sends old new pending (was_pending ++ answer_of line))
+    (λ fault. AtFault fault (AppendsBeginning old new (was_pending ++ answer_of line)) (Appends old new was_pending × IsTrue (takes_memory line)))
 
--- behind what was pending the answers to the lines were sent, or those to the lines before one that found no memory
-abbrev pub AnswersSent : Progress → Option (List ℕ) → Option (List ℕ) → List ℕ → List ℕ → List (List ℕ) → Type 0
-AnswersSent Done old new was_pending pending lines = Sends old new pending (was_pending ++ answers_of lines)
-AnswersSent OutOfMemory old new was_pending pending lines =
-    (before : List (List ℕ)) × StopsAtMemory lines before × Sends old new pending (was_pending ++ answers_of before)
-
--- the same, or after a fault a beginning of them and not all
-abbrev pub SendsAnswers : {E : Type 0} → Result Progress E → Option (List ℕ) → Option (List ℕ) → List ℕ → List ℕ → List (List ℕ) → Type 0
-SendsAnswers result old new was_pending pending lines =
-    MatchResult result (λ progress. AnswersSent progress old new was_pending pending lines) (λ _. AppendsBeginning old new (was_pending ++ answers_of lines))
-
--- the answers to the lines were written, or those to the lines before one that found no memory
-abbrev pub AnswersAppended : Progress → Option (List ℕ) → Option (List ℕ) → List (List ℕ) → Type 0
-AnswersAppended Done old new lines = Appends old new (answers_of lines)
-AnswersAppended OutOfMemory old new lines = AnswersBeforeMemory old new lines
-
--- the same, or after a fault a beginning of them and not all
-abbrev pub WritesAnswers : {E : Type 0} → Result Progress E → Option (List ℕ) → Option (List ℕ) → List (List ℕ) → Type 0
+-- the answers to the lines were written, or a beginning of them; with no memory, those to the lines before one that takes memory
+abbrev pub WritesAnswers : {T : Type 0} → Result T AnswerFault → Option (List ℕ) → Option (List ℕ) → List (List ℕ) → Type 0
 WritesAnswers result old new lines =
-    MatchResult result (λ progress. AnswersAppended progress old new lines) (λ _. AppendsBeginning old new (answers_of lines))
+    MatchResult result (λ _. Appends old new (answers_of lines))
+    (λ fault. AtFault fault (AppendsBeginning old new (answers_of lines)) (AnswersBeforeMemory old new lines))

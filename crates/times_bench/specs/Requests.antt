@@ -9,7 +9,7 @@ use Rattle.times_bench.specs.declared.requests.Kind.TheVariants as kind
 use Rattle.times_bench.specs.CallWords.{call_of}
 use Rattle.times_bench.specs.Numbers.{i64_of, u32_of}
 use Rattle.times_bench.specs.StepWords.{step_of}
-use Rattle.times_bench.specs.Words.{words_of, all_of}
+use Rattle.times_bench.specs.Words.{words_of, exactly_one, exactly_two, all_of}
 
 -- what lines ask for
 pub data Request : Type 0 where
@@ -20,41 +20,39 @@ pub data Request : Type 0 where
 
 -- `unix S`: S is a Unix second of 64 bits
 unfoldable pub unix_request : List (List ℕ) → Option Request
-unix_request [] = None
-unix_request (second ∷ []) = option_map Unix (i64_of second)
-unix_request (second ∷ next ∷ words) = None
+unix_request words = option_and_then (λ second. option_map Unix (i64_of second)) (exactly_one words)
 
--- what a second and a nanosecond ask for with the words after them
-abbrev pub RequestOf : Type 0
-RequestOf = ℤ → ℕ → List (List ℕ) → Option Request
+-- `stamp S N`: N is a nanosecond of 32 bits
+unfoldable pub stamp_request : List (List ℕ) → Option Request
+stamp_request words =
+    option_and_then (λ parts. option_and_then (λ s. option_map (Stamp s) (u32_of parts.1)) (i64_of parts.0)) (exactly_two words)
 
--- S and N, a Unix second of 64 bits and a nanosecond of 32 bits, and what the words after them ask for
-unfoldable pub request_after_instant : RequestOf → List (List ℕ) → Option Request
-request_after_instant request [] = None
-request_after_instant request (second ∷ []) = None
-request_after_instant request (second ∷ nanosecond ∷ words) =
-    option_and_then (λ s. option_and_then (λ n. request s n words) (u32_of nanosecond)) (i64_of second)
-
--- `stamp S N`: nothing stands after N
-abbrev pub stamp_request : ℤ → ℕ → List (List ℕ) → Option Request
-stamp_request s n [] = Some (Stamp s n)
-stamp_request s n (word ∷ words) = None
+-- S and N, and the words after them
+unfoldable pub instant_of : List (List ℕ) → Option (ℤ × ℕ × List (List ℕ))
+instant_of [] = None
+instant_of (second ∷ []) = None
+instant_of (second ∷ nanosecond ∷ words) =
+    option_and_then (λ s. option_map (λ n. (s, n, words)) (u32_of nanosecond)) (i64_of second)
 
 -- `run S N CALL..`
-abbrev pub run_request : ℤ → ℕ → List (List ℕ) → Option Request
-run_request s n words = option_map (Run s n) (all_of call_of words)
+unfoldable pub run_request : List (List ℕ) → Option Request
+run_request words = option_and_then (λ from. option_map (Run from.0 from.1) (all_of call_of from.2)) (instant_of words)
 
--- `chain S N START STEP..`: START says what holds the start, as a step says what holds the instant after it
-abbrev pub chain_request : ℤ → ℕ → List (List ℕ) → Option Request
-chain_request s n [] = None
-chain_request s n (start ∷ steps) = option_and_then (λ at. option_map (Chain s n at) (all_of step_of steps)) (step_of start)
+-- `START STEP..`: START says what holds the start, as a step says what holds the instant after it
+unfoldable pub chain_from : ℤ → ℕ → List (List ℕ) → Option Request
+chain_from s n [] = None
+chain_from s n (start ∷ steps) = option_and_then (λ at. option_map (Chain s n at) (all_of step_of steps)) (step_of start)
+
+-- `chain S N START STEP..`
+unfoldable pub chain_request : List (List ℕ) → Option Request
+chain_request words = option_and_then (λ from. chain_from from.0 from.1 from.2) (instant_of words)
 
 -- what the words after the first one ask for, by its kind
 abbrev pub request_of_kind : Kind → List (List ℕ) → Option Request
 request_of_kind kind.Unix words = unix_request words
-request_of_kind kind.Stamp words = request_after_instant stamp_request words
-request_of_kind kind.Run words = request_after_instant run_request words
-request_of_kind kind.Chain words = request_after_instant chain_request words
+request_of_kind kind.Stamp words = stamp_request words
+request_of_kind kind.Run words = run_request words
+request_of_kind kind.Chain words = chain_request words
 
 -- the kind of a line, by its first word
 abbrev pub kind_of_word : List ℕ → Option Kind

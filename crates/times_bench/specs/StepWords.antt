@@ -5,7 +5,7 @@ use Rattle.std.specs.Option.{option_map, option_and_then}
 use Rattle.std.specs.Str.{bytes_eq}
 use Rattle.stamp_times.specs.declared.steps.Step.{Step}
 use Rattle.stamp_times.specs.declared.steps.Step.TheVariants.{ToStamp, ToUtc, ToOffset}
-use Rattle.times_bench.specs.Words.{cut_at}
+use Rattle.times_bench.specs.Words.{cut_at, exactly_three}
 
 -- two decimal digits, of a number that is at most the first
 unfoldable pub two_digits : ℕ → List ℕ → Option ℕ
@@ -17,12 +17,10 @@ two_digits most (tens ∷ units ∷ next ∷ digits) = None
 
 -- the seconds of hours, minutes and seconds of two digits each: at most 25, 59 and 59
 unfoldable pub seconds_of_words : List (List ℕ) → Option ℤ
-seconds_of_words [] = None
-seconds_of_words (hours ∷ []) = None
-seconds_of_words (hours ∷ minutes ∷ []) = None
-seconds_of_words (hours ∷ minutes ∷ seconds ∷ []) =
-    option_and_then (λ h. option_and_then (λ m. option_map (λ s. pos (h * 3_600 + m * 60 + s)) (two_digits 59 seconds)) (two_digits 59 minutes)) (two_digits 25 hours)
-seconds_of_words (hours ∷ minutes ∷ seconds ∷ next ∷ words) = None
+seconds_of_words words =
+    option_and_then (λ parts. option_and_then (λ h. option_and_then (λ m.
+    option_map (λ s. pos (h * 3_600 + m * 60 + s)) (two_digits 59 parts.2)) (two_digits 59 parts.1)) (two_digits 25 parts.0))
+    (exactly_three words)
 
 -- an offset: `+` or `-`, then hours, minutes and seconds with `:` between
 unfoldable pub offset_of : List ℕ → Option ℤ

@@ -1,5 +1,5 @@
 -- What stands between separators.
-use Rattle.std.specs.Prelude.{ℕ, List, [], ◌∷◌, length, ◌==◌, Option, Some}
+use Rattle.std.specs.Prelude.{ℕ, List, [], ◌∷◌, length, ◌==◌, Option, Some, None}
 use Rattle.std.specs.Borrow.{Bor}
 use Rattle.std.specs.List.{slice_split}
 use Rattle.std.specs.Option.{option_map, option_map_or, option_and_then}
@@ -23,6 +23,27 @@ words_left left = option_map_or (λ text. words_of text.now) left []
 -- the bytes of what is left of a line
 abbrev pub bytes_left : Option (Bor (List ℕ)) → ℕ
 bytes_left left = option_map_or (λ text. length text.now) left 0
+
+-- the one field
+unfoldable pub exactly_one : {A : Type 0} → List A → Option A
+exactly_one [] = None
+exactly_one (first ∷ []) = Some first
+exactly_one (first ∷ next ∷ fields) = None
+
+-- the two fields
+unfoldable pub exactly_two : {A : Type 0} → List A → Option (A × A)
+exactly_two [] = None
+exactly_two (first ∷ fields) = option_map (λ second. (first, second)) (exactly_one fields)
+
+-- the three fields
+unfoldable pub exactly_three : {A : Type 0} → List A → Option (A × A × A)
+exactly_three [] = None
+exactly_three (first ∷ fields) = option_map (λ others. (first, others.0, others.1)) (exactly_two fields)
+
+-- the four fields
+unfoldable pub exactly_four : {A : Type 0} → List A → Option (A × A × A × A)
+exactly_four [] = None
+exactly_four (first ∷ fields) = option_map (λ others. (first, others.0, others.1, others.2)) (exactly_three fields)
 
 -- what each of the words reads as, if all of them read
 unfoldable pub all_of : {A : Type 0} → (List ℕ → Option A) → List (List ℕ) → Option (List A)

@@ -20,11 +20,6 @@ pub record Sends (old new : Option (List ℕ)) (pending bytes : List ℕ) : Type
 abbrev pub WritesAll : {T E : Type 0} → Result T E → Option (List ℕ) → Option (List ℕ) → List ℕ → Type 0
 WritesAll result old new bytes = MatchResult result (λ _. Appends old new bytes) (λ _. AppendsBeginning old new bytes)
 
--- the same of bytes that are written or still pending
-abbrev pub SendsAll : {T E : Type 0} → Result T E → Option (List ℕ) → Option (List ℕ) → List ℕ → List ℕ → Type 0
-SendsAll result old new pending bytes =
-    MatchResult result (λ _. Sends old new pending bytes) (λ _. AppendsBeginning old new bytes)
-
 -- a fault sets the mark; else it stays as it was
 abbrev pub MarksFailure : {T E : Type 0} → Result T E → Bool → Bool → Type 0
 MarksFailure result old new = MatchResult result (λ _. new ≡ old) (λ _. new ≡ true)

@@ -1,186 +1,138 @@
 //! The answers to lines.
-ghost use Rattle.std.specs.Prelude.{◌≡◌, ◌≤◌, ◌<◌, ◌∷◌, [], ◌++◌, length, codes, decimal, flat_map, is_ok};
+ghost use Rattle.std.specs.Prelude.{◌≡◌, ◌≤◌, ◌<◌, ◌+◌, ◌*◌, ◌∷◌, [], ◌++◌, length, codes, decimal, flat_map, IsTrue, is_ok, MatchResult};
 ghost use Rattle.calendar_values.specs.WallClock.{wall_day};
-ghost use Rattle.times_bench.specs.Answers.{unix_answer, stamp_answer, run_answer, chain_answer, held_start, with_instant_nanosecond, day_text, answer_to, request_takes_memory};
-ghost use Rattle.times_bench.specs.Requests.{unix_request, stamp_request, run_request, chain_request, request_after_instant};
+ghost use Rattle.times_bench.specs.Answers.{unix_answer, stamp_answer, run_answer, chain_answer, held_start, arrival_text, with_instant_nanosecond, day_text, answer_to, answer_of, takes_memory, request_takes_memory};
+ghost use Rattle.times_bench.specs.Progress.{HasRoom};
+ghost use Rattle.times_bench.specs.Requests.{unix_request, stamp_request, run_request, chain_request};
 ghost use Rattle.times_bench.specs.Words.{words_of};
-ghost use Rattle.times_bench.specs.Progress.{SendsAnswer, SendsBytes};
 ghost use Rattle.stamp_times.specs.Refusals.{timestamp_of_parts};
 ghost use Rattle.stamp_times.specs.Texts.{timestamp_text};
 ghost use Rattle.times_bench.specs.ReplyTexts.{reply_text};
-ghost use Rattle.times_bench.specs.Writing.{MarksFailure, SendsAll};
 ghost use Rattle.utc_times.specs.Texts.{utc_text};
 ghost use Rattle.utc_times.specs.UnixTime.{unix_instant};
 
-use super::devices::{DeviceFault, Sink};
-use super::progress::Progress;
 use super::reply_texts::{held_text, push_signed, refused_text, reply_text};
 use super::requests::{
-    Kind, chain_request_of, kind_of, run_request_of, stamp_request_of, unix_request_of,
+    ChainRequest, Kind, RunRequest, chain_request_of, kind_of, run_request_of, stamp_request_of,
+    unix_request_of,
 };
-use super::sending::{Pending, send, send_line};
+use super::sending::Pending;
 use calendar_values::{ComponentRange, Text};
 use offset_times::{Assume, OffsetDateTime};
-use stamp_times::{Call, Held, Reply, Step, Timestamp, chain, run};
-use std::alloc::Global;
+use stamp_times::{Held, Reply, Step, StoppedAt, Timestamp, chain, run};
+use std::alloc::{AllocError, Global};
 use utc_times::UtcDateTime;
 
-/// Sends the answer to a line, and nothing of it where there is no memory for its replies.
-pub fn answer<W: Sink>(
-    alloc: Global,
-    writer: &mut W,
-    pending: &mut Pending,
-    line: &[u8],
-) -> Result<Progress, DeviceFault>
-    ensures sent { SendsAnswer result (W.written writer.old) (W.written writer.new) pending.old pending.new line.now }
-    ensures mark { MarksFailure result (W.is_marked writer.old) (W.is_marked writer.new) }
+/// Puts the answer to a line behind what is pending, and nothing where there is no memory for its
+/// replies.
+pub fn put_answer(alloc: Global, pending: &mut Pending, line: &[u8]) -> Result<(), AllocError>
+    requires { HasRoom pending.old }
+    ensures { MatchResult result (λ _. pending.new ≡ pending.old ++ answer_of line.now)
+        (λ _. (pending.new ≡ pending.old) × IsTrue (takes_memory line.now)) }
 {
     match kind_of(line) {
-        Some((Kind::Unix, words)) => {
-            answer_unix(writer, pending, words)?;
-            Ok(Progress::Done)
-        }
-        Some((Kind::Stamp, words)) => {
-            answer_stamp(writer, pending, words)?;
-            Ok(Progress::Done)
-        }
-        Some((Kind::Run, words)) => answer_run(alloc, writer, pending, words),
-        Some((Kind::Chain, words)) => {
-            answer_chain(writer, pending, words)?;
-            Ok(Progress::Done)
-        }
-        None => {
-            send_bad_line(writer, pending)?;
-            Ok(Progress::Done)
-        }
+        Some((Kind::Unix, words)) => answer_unix(pending, words),
+        Some((Kind::Stamp, words)) => answer_stamp(pending, words),
+        Some((Kind::Run, words)) => answer_run(alloc, pending, words)?,
+        Some((Kind::Chain, words)) => answer_chain(pending, words),
+        None => pending.push_all(b"bad line"),
     }
+    pending.push(b'\n');
+    Ok(())
 }
 
-// Sends the answer to a line that asks for nothing.
-fn send_bad_line<W: Sink>(writer: &mut W, pending: &mut Pending) -> Result<(), DeviceFault>
-    ensures sent { SendsAll result (W.written writer.old) (W.written writer.new) pending.new (pending.old ++ (codes "bad line" ++ 10 ∷ [])) }
-    ensures mark { MarksFailure result (W.is_marked writer.old) (W.is_marked writer.new) }
-{
-    send(writer, pending, b"bad line\n")
-}
-
-// Sends the answer to the words after `unix`.
-fn answer_unix<W: Sink>(
-    writer: &mut W,
-    pending: &mut Pending,
-    words: &[u8],
-) -> Result<(), DeviceFault>
-    ensures sent { SendsAll result (W.written writer.old) (W.written writer.new) pending.new (pending.old ++ (answer_to (unix_request (words_of words.now)) ++ 10 ∷ [])) }
-    ensures mark { MarksFailure result (W.is_marked writer.old) (W.is_marked writer.new) }
+// Puts the answer to the words after `unix`.
+fn answer_unix(pending: &mut Pending, words: &[u8])
+    requires { HasRoom pending.old }
+    ensures answer { pending.new ≡ pending.old ++ answer_to (unix_request (words_of words.now)) }
+    ensures room { length pending.new < 65_536 }
 {
     match unix_request_of(words) {
-        Some(second) => {
-            let mut text = Text::new();
-            put_unix_answer(second, &mut text);
-            send(writer, pending, text.as_bytes())
-        }
-        None => send_bad_line(writer, pending),
+        Some(second) => put_text(pending, &unix_text(second)),
+        None => pending.push_all(b"bad line"),
     }
 }
 
-// Sends the answer to the words after `stamp`.
+// Puts the answer to the words after `stamp`.
 #[inline(never)]
-fn answer_stamp<W: Sink>(
-    writer: &mut W,
-    pending: &mut Pending,
-    words: &[u8],
-) -> Result<(), DeviceFault>
-    ensures sent { SendsAll result (W.written writer.old) (W.written writer.new) pending.new (pending.old ++ (answer_to (request_after_instant stamp_request (words_of words.now)) ++ 10 ∷ [])) }
-    ensures mark { MarksFailure result (W.is_marked writer.old) (W.is_marked writer.new) }
+fn answer_stamp(pending: &mut Pending, words: &[u8])
+    requires { HasRoom pending.old }
+    ensures answer { pending.new ≡ pending.old ++ answer_to (stamp_request (words_of words.now)) }
+    ensures room { length pending.new < 65_536 }
 {
     match stamp_request_of(words) {
-        Some((second, nanosecond)) => send_stamp_answer(writer, pending, second, nanosecond),
-        None => send_bad_line(writer, pending),
+        Some((second, nanosecond)) => put_stamp_answer(pending, second, nanosecond),
+        None => pending.push_all(b"bad line"),
     }
 }
 
-// Sends the answer to the words after `run`, and nothing of it where there is no memory for the replies.
+// Puts the answer to the words after `run`, and nothing where there is no memory for the replies.
 #[inline(never)]
-fn answer_run<W: Sink>(
-    alloc: Global,
-    writer: &mut W,
-    pending: &mut Pending,
-    words: &[u8],
-) -> Result<Progress, DeviceFault>
-    requires { length words.now < 1024 }
-    ensures sent { let request = request_after_instant run_request (words_of words.now) in
-        SendsBytes result (request_takes_memory request) (W.written writer.old) (W.written writer.new) pending.old pending.new (answer_to request ++ 10 ∷ []) }
-    ensures mark { MarksFailure result (W.is_marked writer.old) (W.is_marked writer.new) }
+fn answer_run(alloc: Global, pending: &mut Pending, words: &[u8]) -> Result<(), AllocError>
+    requires room { HasRoom pending.old }
+    requires words { length words.now < 1024 }
+    ensures answer { let request = run_request (words_of words.now) in
+        MatchResult result (λ _. pending.new ≡ pending.old ++ answer_to request)
+        (λ _. (pending.new ≡ pending.old) × IsTrue (request_takes_memory request)) }
+    ensures room { length pending.new < 65_536 }
 {
     match run_request_of(words) {
-        Some(asked) => send_run_answer(
-            alloc,
-            writer,
-            pending,
-            asked.second,
-            asked.nanosecond,
-            asked.calls.items(),
-        ),
+        Some(asked) => put_run_answer(alloc, pending, &asked),
         None => {
-            send_bad_line(writer, pending)?;
-            Ok(Progress::Done)
+            pending.push_all(b"bad line");
+            Ok(())
         }
     }
 }
 
-// Sends the answer to the words after `chain`.
+// Puts the answer to the words after `chain`.
 #[inline(never)]
-fn answer_chain<W: Sink>(
-    writer: &mut W,
-    pending: &mut Pending,
-    words: &[u8],
-) -> Result<(), DeviceFault>
-    requires { length words.now < 1024 }
-    ensures sent { SendsAll result (W.written writer.old) (W.written writer.new) pending.new (pending.old ++ (answer_to (request_after_instant chain_request (words_of words.now)) ++ 10 ∷ [])) }
-    ensures mark { MarksFailure result (W.is_marked writer.old) (W.is_marked writer.new) }
+fn answer_chain(pending: &mut Pending, words: &[u8])
+    requires room { HasRoom pending.old }
+    requires words { length words.now < 1024 }
+    ensures answer { pending.new ≡ pending.old ++ answer_to (chain_request (words_of words.now)) }
+    ensures room { length pending.new < 65_536 }
 {
     match chain_request_of(words) {
-        Some(asked) => send_chain_answer(
-            writer,
-            pending,
-            asked.second,
-            asked.nanosecond,
-            asked.start,
-            asked.steps.items(),
-        ),
-        None => send_bad_line(writer, pending),
+        Some(asked) => put_chain_answer(pending, &asked),
+        None => pending.push_all(b"bad line"),
     }
 }
 
-// Writes the answer to `unix S`, with its line feed, to an empty text.
-fn put_unix_answer(second: i64, text: &mut Text)
-    requires { text.old ≡ [] }
-    ensures { text.new ≡ unix_answer second ++ 10 ∷ [] }
+// Puts a text.
+fn put_text(pending: &mut Pending, text: &Text)
+    requires { length pending.old + 64 ≤ 65_536 }
+    ensures text { pending.new ≡ pending.old ++ text.now }
+    ensures length { length pending.new ≤ length pending.old + 64 }
 {
+    pending.push_all(text.as_bytes());
+}
+
+// The answer to `unix S`.
+fn unix_text(second: i64) -> Text
+    ensures { result ≡ unix_answer second }
+{
+    let mut text = Text::new();
     match UtcDateTime::from_unix_timestamp(second) {
-        Ok(moment) => moment.append_to(text),
+        Ok(moment) => moment.append_to(&mut text),
         Err(_) => text.push_bytes(b"refused timestamp"),
     }
-    text.push(b'\n');
+    text
 }
 
-// Sends the answer to `stamp S N`.
+// Puts the answer to `stamp S N`.
 #[inline(never)]
-fn send_stamp_answer<W: Sink>(
-    writer: &mut W,
-    pending: &mut Pending,
-    second: i64,
-    nanosecond: u32,
-) -> Result<(), DeviceFault>
-    ensures sent { SendsAll result (W.written writer.old) (W.written writer.new) pending.new (pending.old ++ (stamp_answer second nanosecond ++ 10 ∷ [])) }
-    ensures mark { MarksFailure result (W.is_marked writer.old) (W.is_marked writer.new) }
+fn put_stamp_answer(pending: &mut Pending, second: i64, nanosecond: u32)
+    requires { HasRoom pending.old }
+    ensures answer { pending.new ≡ pending.old ++ stamp_answer second nanosecond }
+    ensures room { length pending.new < 65_536 }
 {
     match moment_of(second, nanosecond) {
         Ok(moment) => {
-            send(writer, pending, moment_text(moment).as_bytes())?;
-            send_line(writer, pending, day_text_of(moment).as_bytes())
+            put_text(pending, &moment_text(moment));
+            put_text(pending, &day_text_of(moment));
         }
-        Err(refusal) => send_line(writer, pending, refused_text(refusal).as_bytes()),
+        Err(refusal) => put_text(pending, &refused_text(refusal)),
     }
 }
 
@@ -213,28 +165,23 @@ fn day_text_of(moment: UtcDateTime) -> Text
     text
 }
 
-// Sends the answer to `chain S N START STEP..`.
+// Puts the answer to `chain S N START STEP..`.
 #[inline(never)]
-fn send_chain_answer<W: Sink>(
-    writer: &mut W,
-    pending: &mut Pending,
-    second: i64,
-    nanosecond: u32,
-    start: Step,
-    steps: &[Step],
-) -> Result<(), DeviceFault>
-    ensures sent { SendsAll result (W.written writer.old) (W.written writer.new) pending.new (pending.old ++ (chain_answer second nanosecond start steps.now ++ 10 ∷ [])) }
-    ensures mark { MarksFailure result (W.is_marked writer.old) (W.is_marked writer.new) }
+fn put_chain_answer(pending: &mut Pending, asked: &ChainRequest)
+    requires { HasRoom pending.old }
+    ensures answer { pending.new ≡ pending.old
+        ++ chain_answer asked.now.second asked.now.nanosecond asked.now.start asked.now.steps }
+    ensures room { length pending.new < 65_536 }
 {
-    match Timestamp::new(second, nanosecond) {
-        Ok(at) => match chain(held_start(start, at), steps) {
-            Ok(held) => send_line(writer, pending, held_text(held).as_bytes()),
+    match Timestamp::new(asked.second, asked.nanosecond) {
+        Ok(at) => match chain(held_start(asked.start, at), asked.steps.items()) {
+            Ok(held) => put_text(pending, &held_text(held)),
             Err(stopped) => {
-                send(writer, pending, stopped_text(stopped.index).as_bytes())?;
-                send_line(writer, pending, held_text(stopped.held).as_bytes())
+                put_text(pending, &stopped_text(stopped.index));
+                put_text(pending, &held_text(stopped.held));
             }
         },
-        Err(refusal) => send_line(writer, pending, refused_text(refusal).as_bytes()),
+        Err(refusal) => put_text(pending, &refused_text(refusal)),
     }
 }
 
@@ -260,22 +207,42 @@ fn stopped_text(index: usize) -> Text
     text
 }
 
-// Sends the replies of a run, each with `; ` after it, then `end` and the last instant.
+// Puts the answer to `run S N CALL..`, and nothing where there is no memory for the replies.
 #[inline(never)]
-fn send_run_text<W: Sink>(
-    writer: &mut W,
+fn put_run_answer(
+    alloc: Global,
     pending: &mut Pending,
-    replies: &[Reply],
-    last: Timestamp,
-) -> Result<(), DeviceFault>
-    ensures sent { SendsAll result (W.written writer.old) (W.written writer.new) pending.new
-        (pending.old ++ (flat_map (λ reply. reply_text reply ++ codes "; ") replies.now ++ codes "end " ++ timestamp_text last ++ 10 ∷ [])) }
-    ensures mark { MarksFailure result (W.is_marked writer.old) (W.is_marked writer.new) }
+    asked: &RunRequest,
+) -> Result<(), AllocError>
+    requires { HasRoom pending.old }
+    ensures answer { MatchResult result
+        (λ _. pending.new ≡ pending.old ++ run_answer asked.now.second asked.now.nanosecond asked.now.calls)
+        (λ _. (pending.new ≡ pending.old)
+        × IsTrue (is_ok (timestamp_of_parts asked.now.second asked.now.nanosecond))) }
+    ensures room { length pending.new < 65_536 }
+{
+    match Timestamp::new(asked.second, asked.nanosecond) {
+        Ok(start) => {
+            let (replies, last) = run(alloc, start, asked.calls.items())?;
+            put_replies(pending, replies.as_slice());
+            put_text(pending, &end_text(last));
+        }
+        Err(refusal) => put_text(pending, &refused_text(refusal)),
+    }
+    Ok(())
+}
+
+// Puts replies, each with `; ` after it.
+#[inline(never)]
+fn put_replies(pending: &mut Pending, replies: &[Reply])
+    requires pending { HasRoom pending.old }
+    requires replies { length replies.now ≤ 256 }
+    ensures replies { pending.new ≡ pending.old ++ flat_map (λ reply. reply_text reply ++ codes "; ") replies.now }
+    ensures room { length pending.new ≤ length pending.old + 16_384 }
 {
     'replies: for reply in replies {
-        send(writer, pending, ended_text(*reply).as_bytes())?;
+        put_text(pending, &ended_text(*reply));
     }
-    send_line(writer, pending, end_text(last).as_bytes())
 }
 
 // The text of a reply, and `; `.
@@ -295,33 +262,4 @@ fn end_text(last: Timestamp) -> Text
     text.push_bytes(b"end ");
     last.append_to(&mut text);
     text
-}
-
-// Sends the answer to `run S N CALL..`, and nothing of it where there is no memory for the replies.
-#[inline(never)]
-fn send_run_answer<W: Sink>(
-    alloc: Global,
-    writer: &mut W,
-    pending: &mut Pending,
-    second: i64,
-    nanosecond: u32,
-    calls: &[Call],
-) -> Result<Progress, DeviceFault>
-    ensures sent { SendsBytes result (is_ok (timestamp_of_parts second nanosecond)) (W.written writer.old) (W.written writer.new) pending.old pending.new
-        (run_answer second nanosecond calls.now ++ 10 ∷ []) }
-    ensures mark { MarksFailure result (W.is_marked writer.old) (W.is_marked writer.new) }
-{
-    match Timestamp::new(second, nanosecond) {
-        Ok(start) => match run(alloc, start, calls) {
-            Ok((replies, last)) => {
-                send_run_text(writer, pending, replies.as_slice(), last)?;
-                Ok(Progress::Done)
-            }
-            Err(_) => Ok(Progress::OutOfMemory),
-        },
-        Err(refusal) => {
-            send_line(writer, pending, refused_text(refusal).as_bytes())?;
-            Ok(Progress::Done)
-        }
-    }
 }

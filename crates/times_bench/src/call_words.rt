@@ -1,11 +1,11 @@
 //! The words of a run.
-ghost use Rattle.std.specs.Prelude.{◌≡◌, ◌≤◌, length, OnSome, Some, option_map};
-ghost use Rattle.times_bench.specs.CallWords.{named, reads, call_names, call_with, part_with, single, duration_of, time_of, month_of, date_of, call_of};
+ghost use Rattle.std.specs.Prelude.{◌≡◌, ◌≤◌, length, OnSome};
+ghost use Rattle.times_bench.specs.CallWords.{named, reads, call_names, call_with, part_with, duration_of, time_of, month_of, date_of, call_of};
 ghost use Rattle.times_bench.specs.Words.{arguments_of};
 
 use super::numbers::{parse_i32, parse_i64, parse_u8, parse_u16, parse_u32};
 use super::step_words::offset_of;
-use super::words::cut_at;
+use super::words::{cut_at, four_fields, one_field, three_fields, two_fields};
 use calendar_values::{Date, Month, SignedDuration, Time};
 use stamp_times::{Call, ClockRead, DateRead, Replace, Shift};
 
@@ -128,8 +128,11 @@ fn call_with(name: CallName, arguments: &[u8]) -> Option<Call>
         CallName::SaturatingSub => Some(Call::Shift(Shift::SaturatingSub(duration_of(arguments)?))),
         CallName::ReplaceTime => Some(Call::Replace(Replace::Time(time_of(arguments)?))),
         CallName::ReplaceDate => Some(Call::Replace(Replace::Date(date_of(arguments)?))),
-        CallName::Replace(part) => Some(Call::Replace(part_with(part, single(arguments)?)?)),
-        CallName::CheckedToOffset => Some(Call::Local(offset_of(single(arguments)?)?)),
+        CallName::Replace(part) => Some(Call::Replace(part_with(
+            part,
+            one_field(b',', arguments)?,
+        )?)),
+        CallName::CheckedToOffset => Some(Call::Local(offset_of(one_field(b',', arguments)?)?)),
     }
 }
 
@@ -152,24 +155,12 @@ fn part_with(part: PartName, number: &[u8]) -> Option<Replace>
     }
 }
 
-// The one argument, if there is no other.
-fn single(arguments: &[u8]) -> Option<&[u8]>
-    ensures { option_map (λ argument. argument.now) result ≡ single (arguments_of arguments.now) }
-{
-    let (argument, more) = cut_at(b',', arguments);
-    if more.is_some() {
-        return None;
-    }
-    Some(argument)
-}
-
 // The duration of seconds and nanoseconds: less than a second, of the same sign.
 #[tactic(auto, unfolding(crate::specs::CallWords::duration_of))]
 fn duration_of(arguments: &[u8]) -> Option<SignedDuration>
     ensures { result ≡ duration_of (arguments_of arguments.now) }
 {
-    let (seconds, arguments) = cut_at(b',', arguments);
-    let nanoseconds = single(arguments?)?;
+    let (seconds, nanoseconds) = two_fields(b',', arguments)?;
     let seconds = parse_i64(seconds)?;
     let nanoseconds = parse_i32(nanoseconds)?;
     let has_two_signs = (seconds < 0) & (nanoseconds > 0) | (seconds > 0) & (nanoseconds < 0);
@@ -184,10 +175,7 @@ fn duration_of(arguments: &[u8]) -> Option<SignedDuration>
 fn time_of(arguments: &[u8]) -> Option<Time>
     ensures { result ≡ time_of (arguments_of arguments.now) }
 {
-    let (hour, arguments) = cut_at(b',', arguments);
-    let (minute, arguments) = cut_at(b',', arguments?);
-    let (second, arguments) = cut_at(b',', arguments?);
-    let nanosecond = single(arguments?)?;
+    let (hour, minute, second, nanosecond) = four_fields(b',', arguments)?;
     Time::from_hms_nano(
         parse_u8(hour)?,
         parse_u8(minute)?,
@@ -202,9 +190,7 @@ fn time_of(arguments: &[u8]) -> Option<Time>
 fn date_of(arguments: &[u8]) -> Option<Date>
     ensures { result ≡ date_of (arguments_of arguments.now) }
 {
-    let (year, arguments) = cut_at(b',', arguments);
-    let (month, arguments) = cut_at(b',', arguments?);
-    let day = single(arguments?)?;
+    let (year, month, day) = three_fields(b',', arguments)?;
     Date::from_calendar_date(parse_i32(year)?, month_of(month)?, parse_u8(day)?).ok()
 }
 

@@ -1,17 +1,16 @@
 //! Lines out of blocks of bytes.
-ghost use Rattle.std.specs.Prelude.{◌≡◌, ℕ, List, [], ◌++◌, Ok, OnOk};
+ghost use Rattle.std.specs.Prelude.{◌≡◌, ℕ, List, [], ◌++◌, IsOk, OnOk};
 ghost use Rattle.times_bench.specs.LineParts.{Holds, ended_from, rest_from};
-ghost use Rattle.times_bench.specs.Progress.{SendsAnswer, SendsAnswers};
-ghost use Rattle.times_bench.specs.Writing.{MarksFailure};
+ghost use Rattle.times_bench.specs.Progress.{SendsAnswer, WritesAnswers, mark_after};
 
-use super::answers::answer;
-use super::devices::{DeviceFault, Sink};
+use super::devices::Sink;
 use super::places::place_of;
-use super::progress::Progress;
-use super::requests::LONGEST_LINE;
-use super::sending::Pending;
+use super::sending::{AnswerFault, Pending, flush, send_answer};
 use super::table::Table;
 use std::alloc::Global;
+
+/// The most bytes of a line that asks for something.
+pub const LONGEST_LINE: usize = 1024;
 
 /// One byte more than a line may have, which tells that it is too long.
 pub const MOST_KEPT: usize = LONGEST_LINE + 1;
@@ -19,7 +18,7 @@ pub const MOST_KEPT: usize = LONGEST_LINE + 1;
 /// The beginning of a line.
 pub type Line = Table<u8, MOST_KEPT>;
 
-/// Takes in a block, and sends the answer to each line that ends in it, up to one that finds no
+/// Takes in a block, and writes the answer to each line that ends in it, up to one that finds no
 /// memory.
 pub fn feed<W: Sink>(
     alloc: Global,
@@ -27,11 +26,14 @@ pub fn feed<W: Sink>(
     pending: &mut Pending,
     line: &mut Line,
     block: &[u8],
-) -> Result<Progress, DeviceFault>
-    ensures line { result ≡ Ok Progress.Done → (piece : List ℕ) → Holds piece line.old → Holds (rest_from piece block.now) line.new }
-    ensures sent { (piece : List ℕ) → Holds piece line.old
-        → SendsAnswers result (W.written writer.old) (W.written writer.new) pending.old pending.new (ended_from piece block.now) }
-    ensures mark { MarksFailure result (W.is_marked writer.old) (W.is_marked writer.new) }
+) -> Result<(), AnswerFault>
+    requires { pending.old ≡ [] }
+    ensures line { IsOk result → (piece : List ℕ) → Holds piece line.old
+        → Holds (rest_from piece block.now) line.new }
+    ensures written { (piece : List ℕ) → Holds piece line.old
+        → WritesAnswers result (W.written writer.old) (W.written writer.new) (ended_from piece block.now) }
+    ensures empty { OnOk result (pending.new ≡ []) }
+    ensures mark { W.is_marked writer.new ≡ mark_after result (W.is_marked writer.old) }
 {
     let mut place = 0;
     'lines: while place < block.len() {
@@ -40,13 +42,11 @@ pub fn feed<W: Sink>(
             line.push_front_of(&block[place..end]);
             place = end;
         } else {
-            match end_line(alloc, writer, pending, line, &block[place..end])? {
-                Progress::Done => place = end + 1,
-                Progress::OutOfMemory => return Ok(Progress::OutOfMemory),
-            }
+            end_line(alloc, writer, pending, line, &block[place..end])?;
+            place = end + 1;
         }
     }
-    Ok(Progress::Done)
+    flush(writer, pending)
 }
 
 // Sends the answer to the line that a part of a block ends, and begins the next line.
@@ -56,17 +56,18 @@ fn end_line<W: Sink>(
     pending: &mut Pending,
     line: &mut Line,
     part: &[u8],
-) -> Result<Progress, DeviceFault>
-    ensures line { OnOk result (line.new ≡ []) }
+) -> Result<(), AnswerFault>
+    ensures line { IsOk result → line.new ≡ [] }
     ensures sent { (piece : List ℕ) → Holds piece line.old
-        → SendsAnswer result (W.written writer.old) (W.written writer.new) pending.old pending.new (piece ++ part.now) }
-    ensures mark { MarksFailure result (W.is_marked writer.old) (W.is_marked writer.new) }
+        → SendsAnswer result (W.written writer.old) (W.written writer.new)
+        pending.old pending.new (piece ++ part.now) }
+    ensures mark { W.is_marked writer.new ≡ mark_after result (W.is_marked writer.old) }
 {
     if line.is_empty() {
-        return answer(alloc, writer, pending, part);
+        return send_answer(alloc, writer, pending, part);
     }
     line.push_front_of(part);
-    let result = answer(alloc, writer, pending, line.items());
+    let result = send_answer(alloc, writer, pending, line.items());
     line.clear();
     result
 }

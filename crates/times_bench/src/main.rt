@@ -8,7 +8,6 @@ mod devices;
 mod lines;
 mod numbers;
 mod places;
-mod progress;
 mod reply_texts;
 mod requests;
 mod sending;

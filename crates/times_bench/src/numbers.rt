@@ -1,7 +1,7 @@
 //! Numbers: an optional `-`, then at least one decimal digit.
-ghost use Rattle.std.specs.Prelude.{◌≡◌, ◌≤◌, length, SomeIff, pos};
+ghost use Rattle.std.specs.Prelude.{◌≡◌, ◌≤◌, length, IfSome, SomeIff, pos};
 ghost use Rattle.std.specs.Str.Parse.{IsNumeral, digits_value};
-ghost use Rattle.times_bench.specs.Numbers.{i64_of, i32_of, u32_of, u16_of, u8_of};
+ghost use Rattle.times_bench.specs.Numbers.{i64_of, i32_of, up_to, u32_of, u16_of, u8_of};
 
 // So many digits fit into 64 bits, whichever they are.
 const SURE_DIGITS: usize = 18;
@@ -19,13 +19,6 @@ pub fn parse_i64(text: &[u8]) -> Option<i64>
     parse_digits(text)
 }
 
-/// The number of 32 bits, not below 0, that a text writes.
-pub fn parse_u32(text: &[u8]) -> Option<u32>
-    ensures { result ≡ u32_of text.now }
-{
-    u32::try_from(parse_i64(text)?).ok()
-}
-
 /// The number of 32 bits, one of them for the sign, that a text writes.
 pub fn parse_i32(text: &[u8]) -> Option<i32>
     ensures { result ≡ i32_of text.now }
@@ -33,18 +26,37 @@ pub fn parse_i32(text: &[u8]) -> Option<i32>
     i32::try_from(parse_i64(text)?).ok()
 }
 
+/// The number of 32 bits, not below 0, that a text writes.
+pub fn parse_u32(text: &[u8]) -> Option<u32>
+    ensures { result ≡ u32_of text.now }
+{
+    parse_up_to(u32::MAX, text)
+}
+
 /// The number of 16 bits, not below 0, that a text writes.
 pub fn parse_u16(text: &[u8]) -> Option<u16>
     ensures { result ≡ u16_of text.now }
 {
-    u16::try_from(parse_i64(text)?).ok()
+    Some(parse_up_to(65_535, text)? as u16)
 }
 
 /// The number of 8 bits, not below 0, that a text writes.
 pub fn parse_u8(text: &[u8]) -> Option<u8>
     ensures { result ≡ u8_of text.now }
 {
-    u8::try_from(parse_i64(text)?).ok()
+    Some(parse_up_to(255, text)? as u8)
+}
+
+// The number that a text writes, not below 0 and at most `most`.
+fn parse_up_to(most: u32, text: &[u8]) -> Option<u32>
+    ensures value { result ≡ up_to most text.now }
+    ensures in_range { IfSome result (λ number. number ≤ most) }
+{
+    let number = parse_i64(text)?;
+    if number < 0 || number > i64::from(most) {
+        return None;
+    }
+    Some(number as u32)
 }
 
 // The same as `parse_i64`, of a text of any length.

@@ -1,20 +1,18 @@
 //! What a line asks for.
-ghost use Rattle.std.specs.Prelude.{◌≡◌, ◌<◌, ◌≤◌, ℕ, ℤ, List, length, IfSome, Option};
+ghost use Rattle.std.specs.Prelude.{◌≡◌, ◌<◌, ◌≤◌, ℕ, List, length, IfSome, OnSome, Option};
 ghost use Rattle.std.specs.Option.{option_map, option_and_then};
 ghost use Rattle.times_bench.specs.CallWords.{call_of};
 ghost use Rattle.times_bench.specs.StepWords.{step_of};
-ghost use Rattle.times_bench.specs.Requests.{Unix, Stamp, Run, Chain, unix_request, stamp_request, run_request, chain_request, RequestOf, request_after_instant, request_of_kind, request_of};
+ghost use Rattle.times_bench.specs.Requests.{Unix, Stamp, Run, Chain, unix_request, stamp_request, instant_of, run_request, chain_request, request_of_kind, request_of};
 ghost use Rattle.times_bench.specs.Words.{words_of, words_left, bytes_left, all_of};
 
 use super::call_words::call_of;
+use super::lines::LONGEST_LINE;
 use super::numbers::{parse_i64, parse_u32};
 use super::step_words::step_of;
 use super::table::Table;
-use super::words::cut_at;
+use super::words::{cut_at, two_fields};
 use stamp_times::{Call, DateRead, Step};
-
-/// The most bytes of a line that asks for something.
-pub const LONGEST_LINE: usize = 1024;
 
 /// The most calls or steps of a line: a word of at least three bytes each, and a space before it.
 pub const MOST_WORDS: usize = 256;
@@ -58,7 +56,8 @@ pub struct ChainRequest {
 /// The kind of a line, and what stands after its first word. None for a line of no kind, and for one of
 /// more than 1,024 bytes.
 pub fn kind_of(line: &[u8]) -> Option<(Kind, &[u8])>
-    ensures request { option_and_then (λ asked. request_of_kind asked.0 (words_of asked.1.now)) result ≡ request_of line.now }
+    ensures request { option_and_then (λ asked. request_of_kind asked.0 (words_of asked.1.now)) result
+        ≡ request_of line.now }
     ensures length { IfSome result (λ asked. length asked.1.now < 1024) }
 {
     if line.len() > LONGEST_LINE {
@@ -87,23 +86,23 @@ pub fn unix_request_of(words: &[u8]) -> Option<i64>
 }
 
 /// The second and the nanosecond of the words after `stamp`.
+#[tactic(auto, unfolding(crate::specs::Requests::stamp_request))]
 pub fn stamp_request_of(words: &[u8]) -> Option<(i64, u32)>
-    ensures { option_map (λ asked. Stamp asked.0 asked.1) result ≡ request_after_instant stamp_request (words_of words.now) }
+    ensures { option_map (λ asked. Stamp asked.0 asked.1) result ≡ stamp_request (words_of words.now) }
 {
-    let (second, nanosecond, more) = instant_of(words)?;
-    if more.is_some() {
-        return None;
-    }
-    Some((second, nanosecond))
+    let (second, nanosecond) = two_fields(b' ', words)?;
+    Some((parse_i64(second)?, parse_u32(nanosecond)?))
 }
 
 /// The run of the words after `run`.
+#[tactic(auto, unfolding(crate::specs::Requests::run_request))]
 pub fn run_request_of(words: &[u8]) -> Option<RunRequest>
     requires { length words.now < 1024 }
-    ensures { option_map (λ asked. Run asked.second asked.nanosecond asked.calls) result ≡ request_after_instant run_request (words_of words.now) }
+    ensures { option_map (λ asked. Run asked.second asked.nanosecond asked.calls) result
+        ≡ run_request (words_of words.now) }
 {
     let (second, nanosecond, calls) = instant_of(words)?;
-    let calls = calls_of(calls)?;
+    let calls = items_of(Call::ReadDate(DateRead::Date), calls)?;
     Some(RunRequest {
         second,
         nanosecond,
@@ -112,14 +111,16 @@ pub fn run_request_of(words: &[u8]) -> Option<RunRequest>
 }
 
 /// The chain of the words after `chain`.
+#[tactic(auto, unfolding(crate::specs::Requests::chain_request, crate::specs::Requests::chain_from))]
 pub fn chain_request_of(words: &[u8]) -> Option<ChainRequest>
     requires { length words.now < 1024 }
-    ensures { option_map (λ asked. Chain asked.second asked.nanosecond asked.start asked.steps) result ≡ request_after_instant chain_request (words_of words.now) }
+    ensures { option_map (λ asked. Chain asked.second asked.nanosecond asked.start asked.steps) result
+        ≡ chain_request (words_of words.now) }
 {
     let (second, nanosecond, words) = instant_of(words)?;
     let (start, steps) = cut_at(b' ', words?);
     let start = step_of(start)?;
-    let steps = steps_of(steps)?;
+    let steps = items_of(Step::ToStamp, steps)?;
     Some(ChainRequest {
         second,
         nanosecond,
@@ -129,8 +130,10 @@ pub fn chain_request_of(words: &[u8]) -> Option<ChainRequest>
 }
 
 // The second and the nanosecond that words begin with, and what is left of them.
+#[tactic(auto, unfolding(crate::specs::Requests::instant_of))]
 fn instant_of(words: &[u8]) -> Option<(i64, u32, Option<&[u8]>)>
-    ensures value { (request : RequestOf) → request_after_instant request (words_of words.now) ≡ option_and_then (λ read. request read.0 read.1 (words_left read.2)) result }
+    ensures value { option_map (λ read. (read.0, read.1, words_left read.2)) result
+        ≡ instant_of (words_of words.now) }
     ensures shorter { IfSome result (λ read. bytes_left read.2 ≤ length words.now) }
 {
     let (second, words) = cut_at(b' ', words);
@@ -138,32 +141,42 @@ fn instant_of(words: &[u8]) -> Option<(i64, u32, Option<&[u8]>)>
     Some((parse_i64(second)?, parse_u32(nanosecond)?, words))
 }
 
-// The calls of words, if all of them read.
-fn calls_of(words: Option<&[u8]>) -> Option<Calls>
-    requires { bytes_left words < 1024 }
-    ensures { result ≡ all_of call_of (words_left words.entry) }
-{
-    let mut calls = Calls::new(Call::ReadDate(DateRead::Date));
-    let mut left = words;
-    'words: while let Some(text) = left {
-        let (word, rest) = cut_at(b' ', text);
-        calls.push(call_of(word)?);
-        left = rest;
-    }
-    Some(calls)
+// What a word of a run or of a chain reads as.
+trait Item: Copy {
+    ghost reading: { List ℕ → Option Self };
+
+    fn read(word: &[u8]) -> Option<Self>
+        ensures value { result ≡ reading word.now }
+        ensures long { OnSome result (3 ≤ length word.now) };
 }
 
-// The steps of words, if all of them read.
-fn steps_of(words: Option<&[u8]>) -> Option<Steps>
+impl Item for Call {
+    ghost reading = { call_of };
+
+    fn read(word: &[u8]) -> Option<Call> {
+        call_of(word)
+    }
+}
+
+impl Item for Step {
+    ghost reading = { step_of };
+
+    fn read(word: &[u8]) -> Option<Step> {
+        step_of(word)
+    }
+}
+
+// The items of words, if all of them read. The one that is given fills the room of those to come.
+fn items_of<T: Item>(fill: T, words: Option<&[u8]>) -> Option<Table<T, MOST_WORDS>>
     requires { bytes_left words < 1024 }
-    ensures { result ≡ all_of step_of (words_left words.entry) }
+    ensures { result ≡ all_of T.reading (words_left words.entry) }
 {
-    let mut steps = Steps::new(Step::ToStamp);
+    let mut items = Table::new(fill);
     let mut left = words;
     'words: while let Some(text) = left {
         let (word, rest) = cut_at(b' ', text);
-        steps.push(step_of(word)?);
+        items.push(T::read(word)?);
         left = rest;
     }
-    Some(steps)
+    Some(items)
 }

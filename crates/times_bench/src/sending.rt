@@ -1,63 +1,74 @@
 //! Bytes on their way to a sink.
-ghost use Rattle.std.specs.Prelude.{◌≡◌, [], ◌∷◌, ◌++◌, OnOk};
-ghost use Rattle.times_bench.specs.Writing.{MarksFailure, SendsAll, WritesAll};
+ghost use Rattle.std.specs.Prelude.{◌≡◌, [], OnOk, MatchResult};
+ghost use Rattle.times_bench.specs.Progress.{AtFault, HasRoom, SendsAnswer, WritesPending, mark_after};
+ghost use Rattle.times_bench.specs.Writing.{AppendsBeginning, Sends};
 
-use super::devices::{DeviceFault, Sink, write_whole};
+use super::answers::put_answer;
+use super::devices::{Sink, write_whole};
 use super::table::Table;
+use std::alloc::Global;
 
 /// The most bytes that wait to be written.
 pub const MOST_PENDING: usize = 65_536;
 
+// More bytes than an answer has.
+const ANSWER_ROOM: usize = 16_640;
+
 /// Bytes that are still to be written.
 pub type Pending = Table<u8, MOST_PENDING>;
 
+/// What ended the work before all lines were answered.
+#[derive(Clone, Copy, Debug, PartialEq, Eq)]
+pub enum AnswerFault {
+    /// A write failed.
+    Write,
+    /// There was no memory for the replies to a line.
+    Memory,
+}
+
 /// Writes what is pending.
-pub fn flush<W: Sink>(writer: &mut W, pending: &mut Pending) -> Result<(), DeviceFault>
-    ensures written { WritesAll result (W.written writer.old) (W.written writer.new) pending.old }
+pub fn flush<W: Sink>(writer: &mut W, pending: &mut Pending) -> Result<(), AnswerFault>
+    ensures written { WritesPending result (W.written writer.old) (W.written writer.new) pending.old }
     ensures empty { OnOk result (pending.new ≡ []) }
-    ensures mark { MarksFailure result (W.is_marked writer.old) (W.is_marked writer.new) }
+    ensures mark { W.is_marked writer.new ≡ mark_after result (W.is_marked writer.old) }
 {
-    write_whole(writer, pending.items())?;
+    let Ok(()) = write_whole(writer, pending.items()) else {
+        return Err(AnswerFault::Write);
+    };
     pending.clear();
     Ok(())
 }
 
-/// Adds a text to what is pending. Where it has no room there, all of that is written before.
-pub fn send<W: Sink>(writer: &mut W, pending: &mut Pending, text: &[u8]) -> Result<(), DeviceFault>
-    ensures sent { SendsAll result (W.written writer.old) (W.written writer.new) pending.new (pending.old ++ text.now) }
-    ensures mark { MarksFailure result (W.is_marked writer.old) (W.is_marked writer.new) }
+/// Sends the answer to a line. Where there is no memory for its replies, all that is pending is
+/// written, and nothing of the answer.
+pub fn send_answer<W: Sink>(
+    alloc: Global,
+    writer: &mut W,
+    pending: &mut Pending,
+    line: &[u8],
+) -> Result<(), AnswerFault>
+    ensures sent { SendsAnswer result (W.written writer.old) (W.written writer.new)
+        pending.old pending.new line.now }
+    ensures mark { W.is_marked writer.new ≡ mark_after result (W.is_marked writer.old) }
 {
-    if text.len() > pending.room() {
-        return send_at_once(writer, pending, text);
-    }
-    pending.push_all(text);
+    make_room(writer, pending)?;
+    let Ok(()) = put_answer(alloc, pending, line) else {
+        flush(writer, pending)?;
+        return Err(AnswerFault::Memory);
+    };
     Ok(())
 }
 
-// Writes what is pending, and then the text.
-#[cold]
-#[inline(never)]
-fn send_at_once<W: Sink>(
-    writer: &mut W,
-    pending: &mut Pending,
-    text: &[u8],
-) -> Result<(), DeviceFault>
-    ensures sent { SendsAll result (W.written writer.old) (W.written writer.new) pending.new (pending.old ++ text.now) }
-    ensures mark { MarksFailure result (W.is_marked writer.old) (W.is_marked writer.new) }
+// Writes what is pending where it leaves too little room for an answer.
+fn make_room<W: Sink>(writer: &mut W, pending: &mut Pending) -> Result<(), AnswerFault>
+    ensures sent { MatchResult result
+        (λ _. Sends (W.written writer.old) (W.written writer.new) pending.new pending.old)
+        (λ fault. AtFault fault (AppendsBeginning (W.written writer.old) (W.written writer.new) pending.old) ⊥) }
+    ensures room { OnOk result (HasRoom pending.new) }
+    ensures mark { W.is_marked writer.new ≡ mark_after result (W.is_marked writer.old) }
 {
-    flush(writer, pending)?;
-    write_whole(writer, text)
-}
-
-/// Sends a text and a line feed.
-pub fn send_line<W: Sink>(
-    writer: &mut W,
-    pending: &mut Pending,
-    text: &[u8],
-) -> Result<(), DeviceFault>
-    ensures sent { SendsAll result (W.written writer.old) (W.written writer.new) pending.new (pending.old ++ (text.now ++ 10 ∷ [])) }
-    ensures mark { MarksFailure result (W.is_marked writer.old) (W.is_marked writer.new) }
-{
-    send(writer, pending, text)?;
-    send(writer, pending, b"\n")
+    if pending.room() < ANSWER_ROOM {
+        return flush(writer, pending);
+    }
+    Ok(())
 }

@@ -3,7 +3,7 @@ ghost use Rattle.std.specs.Prelude.{◌≡◌, ◌≤◌, ◌≤ℤ◌, length, 
 ghost use Rattle.times_bench.specs.StepWords.{two_digits, seconds_of_words, offset_of, step_of};
 ghost use Rattle.times_bench.specs.Words.{cut_at};
 
-use super::words::cut_at;
+use super::words::three_fields;
 use calendar_values::UtcOffset;
 use stamp_times::Step;
 
@@ -34,16 +34,12 @@ pub fn offset_of(word: &[u8]) -> Option<UtcOffset>
 }
 
 // The seconds of `HH:MM:SS`.
+#[tactic(auto, unfolding(crate::specs::StepWords::seconds_of_words))]
 fn seconds_of(text: &[u8]) -> Option<i32>
     ensures value { result ≡ seconds_of_words (cut_at 58 text.now) }
     ensures in_range { IfSome result (λ seconds. (pos 0 ≤ℤ seconds) × (seconds ≤ℤ pos 93_599)) }
 {
-    let (hours, text) = cut_at(b':', text);
-    let (minutes, text) = cut_at(b':', text?);
-    let (seconds, text) = cut_at(b':', text?);
-    if text.is_some() {
-        return None;
-    }
+    let (hours, minutes, seconds) = three_fields(b':', text)?;
     let hours = two_digits(25, hours)?;
     let minutes = two_digits(59, minutes)?;
     let seconds = two_digits(59, seconds)?;

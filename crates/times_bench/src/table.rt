@@ -47,7 +47,8 @@ impl<T: Copy, const ROOM: usize> Table<T, ROOM> {
 
     /// The items.
     pub fn items(&self) -> &[T]
-        ensures { result.now ≡ self.now }
+        ensures value { result.now ≡ self.now }
+        ensures length { length result.now ≤ ROOM }
     {
         &self.items[..self.len]
     }

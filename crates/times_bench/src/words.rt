@@ -1,7 +1,7 @@
 //! What stands between separators.
-ghost use Rattle.std.specs.Prelude.{◌≡◌, [], ◌∷◌};
+ghost use Rattle.std.specs.Prelude.{◌≡◌, [], ◌∷◌, option_map};
 ghost use Rattle.std.specs.Option.{option_map_or};
-ghost use Rattle.times_bench.specs.Words.{cut_at};
+ghost use Rattle.times_bench.specs.Words.{cut_at, exactly_one, exactly_two, exactly_three, exactly_four};
 
 use super::places::place_of;
 
@@ -14,4 +14,54 @@ pub fn cut_at(separator: u8, text: &[u8]) -> (&[u8], Option<&[u8]>)
         return (text, None);
     }
     (&text[..end], Some(&text[end + 1..]))
+}
+
+/// The one field of a text.
+#[tactic(auto, unfolding(crate::specs::Words::exactly_one), using(crate::proofs::WordLemmas::no_field_more))]
+pub fn one_field(separator: u8, text: &[u8]) -> Option<&[u8]>
+    ensures { option_map (λ field. field.now) result ≡ exactly_one (cut_at separator text.now) }
+{
+    match cut_at(separator, text) {
+        (field, None) => Some(field),
+        (_, Some(_)) => None,
+    }
+}
+
+/// The two fields of a text.
+#[tactic(auto, unfolding(crate::specs::Words::exactly_one, crate::specs::Words::exactly_two))]
+pub fn two_fields(separator: u8, text: &[u8]) -> Option<(&[u8], &[u8])>
+    ensures { option_map (λ fields. (fields.0.now, fields.1.now)) result
+        ≡ exactly_two (cut_at separator text.now) }
+{
+    let (first, Some(rest)) = cut_at(separator, text) else {
+        return None;
+    };
+    let second = one_field(separator, rest)?;
+    Some((first, second))
+}
+
+/// The three fields of a text.
+#[tactic(auto, unfolding(crate::specs::Words::exactly_two, crate::specs::Words::exactly_three))]
+pub fn three_fields(separator: u8, text: &[u8]) -> Option<(&[u8], &[u8], &[u8])>
+    ensures { option_map (λ fields. (fields.0.now, fields.1.now, fields.2.now)) result
+        ≡ exactly_three (cut_at separator text.now) }
+{
+    let (first, Some(rest)) = cut_at(separator, text) else {
+        return None;
+    };
+    let (second, third) = two_fields(separator, rest)?;
+    Some((first, second, third))
+}
+
+/// The four fields of a text.
+#[tactic(auto, unfolding(crate::specs::Words::exactly_three, crate::specs::Words::exactly_four))]
+pub fn four_fields(separator: u8, text: &[u8]) -> Option<(&[u8], &[u8], &[u8], &[u8])>
+    ensures { option_map (λ fields. (fields.0.now, fields.1.now, fields.2.now, fields.3.now)) result
+        ≡ exactly_four (cut_at separator text.now) }
+{
+    let (first, Some(rest)) = cut_at(separator, text) else {
+        return None;
+    };
+    let (second, third, fourth) = three_fields(separator, rest)?;
+    Some((first, second, third, fourth))
 }

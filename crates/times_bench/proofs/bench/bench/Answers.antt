@@ -1,4 +1,4 @@
-use Rattle.std.proofs.Common.{arith, ◌≡◌, ◌∙◌, ◌≤◌, [], ◌++◌, length, take, ap, length-append, Ok}
+use Rattle.std.proofs.Common.{arith, ◌≡◌, ◌∙◌, ◌≤◌, [], ◌++◌, length, take, length-append, refl}
 use Rattle.std.specs.Io.KnownBytes.{Appends}
 use Rattle.times_bench.specs.Progress.{AnswersBeforeMemory}
 use Rattle.times_bench.specs.Writing.{AppendsBeginning}
@@ -25,51 +25,46 @@ reads-init g c = (
   },
 )
 
-pub returns-in-Ok-Done-clause-end : goal.returns-in-Ok-Done-clause-end
-returns-in-Ok-Done-clause-end g c =
-    let so_far = c.reads.invariant in
-    left-end _ _ _ (Consumes-none _ _ _ so_far.0 c.read_some.new.buffer c.in-Ok.count so_far.1.consumed c.in-Ok.ensures.bytes.0 c.if-count-eq0.true) (c.in-Ok.ensures.bytes.1 c.if-count-eq0.true (omega arith))
-
-pub returns-in-Ok-Done-clause-answers : goal.returns-in-Ok-Done-clause-answers
-returns-in-Ok-Done-clause-answers g c =
+pub returns-in-Ok-finish-clause-answers : goal.returns-in-Ok-finish-clause-answers
+returns-in-Ok-finish-clause-answers g c =
     let so_far = c.reads.invariant in
     let written = g.W.Sink.written in
     input-end _ _ so_far.0 (λ input. Appends (written c.args.writer.now) (written c.finish.new.writer) (answers_of (lines_of input)))
     (Consumes-none _ _ _ so_far.0 c.read_some.new.buffer c.in-Ok.count so_far.1.consumed c.in-Ok.ensures.bytes.0 c.if-count-eq0.true) (c.in-Ok.ensures.bytes.1 c.if-count-eq0.true (omega arith))
-    (Appends-last _ (written c.reads.writer) _ so_far.0 so_far.1.sent (rw c.in-Ok-Done.field-0-is at (c.in-Ok-Done.ensures.written (rest_from [] so_far.0) so_far.1.line)))
+    (Appends-last _ (written c.reads.writer) _ so_far.0 so_far.1.sent (c.in-Ok-finish.ensures.written (rest_from [] so_far.0) so_far.1.line))
 
-pub returns-in-Err-clause-beginning : goal.returns-in-Err-clause-beginning
-returns-in-Err-clause-beginning g c _ =
+pub returns-in-Err-Write-clause-beginning : goal.returns-in-Err-Write-clause-beginning
+returns-in-Err-Write-clause-beginning g c _ =
     let so_far = c.reads.invariant in
     let written = g.W.Sink.written in
     input-end _ _ so_far.0 (λ input. AppendsBeginning (written c.args.writer.now) (written c.finish.new.writer) (answers_of (lines_of input)))
     (Consumes-none _ _ _ so_far.0 c.read_some.new.buffer c.in-Ok.count so_far.1.consumed c.in-Ok.ensures.bytes.0 c.if-count-eq0.true) (c.in-Ok.ensures.bytes.1 c.if-count-eq0.true (omega arith))
-    (AppendsBeginning-last _ (written c.reads.writer) _ so_far.0 so_far.1.sent (c.in-Err.ensures.written (rest_from [] so_far.0) so_far.1.line))
+    (AppendsBeginning-last _ (written c.reads.writer) _ so_far.0 so_far.1.sent (rw c.in-Err-Write.field-0-is at (c.in-Err-Write.ensures.written (rest_from [] so_far.0) so_far.1.line)))
 
-pub returns-in-Err-absorb-clause-beginning : goal.returns-in-Err-absorb-clause-beginning
-returns-in-Err-absorb-clause-beginning g c _ =
+pub returns-in-Err-Write-feed-clause-beginning : goal.returns-in-Err-Write-feed-clause-beginning
+returns-in-Err-Write-feed-clause-beginning g c _ =
     let so_far = c.reads.invariant in
     let written = g.W.Sink.written in
     let block = take c.in-Ok.count c.read_some.new.buffer in
-    input-begin _ _ (so_far.0 ++ block) (λ input. AppendsBeginning (written c.args.writer.now) (written c.absorb.new.writer) (answers_of (lines_of input)))
+    input-begin _ _ (so_far.0 ++ block) (λ input. AppendsBeginning (written c.args.writer.now) (written c.feed.new.writer) (answers_of (lines_of input)))
     (Consumes-append _ _ _ so_far.0 block so_far.1.consumed c.in-Ok.ensures.bytes.0)
-    (λ rest. AppendsBeginning-block _ (written c.reads.writer) _ so_far.0 block rest so_far.1.sent (c.in-Err-absorb.ensures.written (rest_from [] so_far.0) so_far.1.line))
+    (λ rest. AppendsBeginning-block _ (written c.reads.writer) _ so_far.0 block rest so_far.1.sent (rw c.in-Err-Write-feed.field-0-is at (c.in-Err-Write-feed.ensures.written (rest_from [] so_far.0) so_far.1.line)))
 
-pub returns-in-Ok-OutOfMemory-clause-memory : goal.returns-in-Ok-OutOfMemory-clause-memory
-returns-in-Ok-OutOfMemory-clause-memory g c _ =
+pub returns-in-Err-Memory-clause-memory : goal.returns-in-Err-Memory-clause-memory
+returns-in-Err-Memory-clause-memory g c _ =
     let so_far = c.reads.invariant in
     let written = g.W.Sink.written in
     input-end _ _ so_far.0 (λ input. AnswersBeforeMemory (written c.args.writer.now) (written c.finish.new.writer) (lines_of input))
     (Consumes-none _ _ _ so_far.0 c.read_some.new.buffer c.in-Ok.count so_far.1.consumed c.in-Ok.ensures.bytes.0 c.if-count-eq0.true) (c.in-Ok.ensures.bytes.1 c.if-count-eq0.true (omega arith))
-    (AnswersBeforeMemory-last _ (written c.reads.writer) _ so_far.0 so_far.1.sent (rw c.in-Ok-OutOfMemory.field-0-is at (c.in-Ok-OutOfMemory.ensures.written (rest_from [] so_far.0) so_far.1.line)))
+    (AnswersBeforeMemory-last _ (written c.reads.writer) _ so_far.0 so_far.1.sent (rw c.in-Err-Memory.field-0-is at (c.in-Err-Memory.ensures.written (rest_from [] so_far.0) so_far.1.line)))
 
-pub returns-in-Ok-OutOfMemory-absorb-clause-memory : goal.returns-in-Ok-OutOfMemory-absorb-clause-memory
-returns-in-Ok-OutOfMemory-absorb-clause-memory g c _ =
+pub returns-in-Err-Memory-feed-clause-memory : goal.returns-in-Err-Memory-feed-clause-memory
+returns-in-Err-Memory-feed-clause-memory g c _ =
     let so_far = c.reads.invariant in
     let written = g.W.Sink.written in
     let block = take c.in-Ok.count c.read_some.new.buffer in
-    let stopped = rw c.in-Ok-OutOfMemory-absorb.field-0-is at (c.in-Ok-OutOfMemory-absorb.ensures.written (rest_from [] so_far.0) so_far.1.line) in
-    input-begin _ _ (so_far.0 ++ block) (λ input. AnswersBeforeMemory (written c.args.writer.now) (written c.absorb.new.writer) (lines_of input))
+    let stopped = rw c.in-Err-Memory-feed.field-0-is at (c.in-Err-Memory-feed.ensures.written (rest_from [] so_far.0) so_far.1.line) in
+    input-begin _ _ (so_far.0 ++ block) (λ input. AnswersBeforeMemory (written c.args.writer.now) (written c.feed.new.writer) (lines_of input))
     (Consumes-append _ _ _ so_far.0 block so_far.1.consumed c.in-Ok.ensures.bytes.0)
     (λ rest. AnswersBeforeMemory-block _ (written c.reads.writer) _ so_far.0 block rest so_far.1.sent stopped)
 
@@ -77,7 +72,7 @@ pub reads-preserved : goal.reads-preserved
 reads-preserved g c =
     let so_far = c.reads.invariant in
     let block = take c.in-Ok.count c.read_some.new.buffer in
-    let answered = rw c.in-Ok-Done-absorb.field-0-is at (c.in-Ok-Done-absorb.ensures.written (rest_from [] so_far.0) so_far.1.line) in (
+    let answered = c.in-Ok-feed.ensures.written (rest_from [] so_far.0) so_far.1.line in (
       so_far.0 ++ block,
       record {
         consumed = Consumes-append _ _ _ so_far.0 block so_far.1.consumed c.in-Ok.ensures.bytes.0;
@@ -85,11 +80,11 @@ reads-preserved g c =
             let most : c.reads._turn ≤ length so_far.0 = so_far.1.turns in
             let some : c.in-Ok.count ≡ length block = c.in-Ok.ensures.bound.1 in
             omega (arith, most, some, c.if-count-eq0.false, length-append so_far.0 block);
-        line = rw (rest_from-append [] so_far.0 block) (c.in-Ok-Done-absorb.ensures.line (ap Ok c.in-Ok-Done-absorb.field-0-is) (rest_from [] so_far.0) so_far.1.line);
-        empty = c.in-Ok-Done-absorb.ensures.empty;
+        line = rw (rest_from-append [] so_far.0 block) (c.in-Ok-feed.ensures.line refl (rest_from [] so_far.0) so_far.1.line);
+        empty = c.in-Ok-feed.ensures.empty;
         sent = AnswersWritten-append _ (g.W.Sink.written c.reads.writer) _ so_far.0 block so_far.1.sent answered;
         reader_mark = c.in-Ok.ensures.mark ∙ so_far.1.reader_mark;
-        writer_mark = c.in-Ok-Done-absorb.ensures.mark ∙ so_far.1.writer_mark;
+        writer_mark = c.in-Ok-feed.ensures.mark ∙ so_far.1.writer_mark;
       },
     )
 

@@ -1,4 +1,4 @@
-use Rattle.std.proofs.Common.{◌≡◌, ◌≤◌, ◌-◌, length, List, ℕ, take, ◌++◌}
+use Rattle.std.proofs.Common.{◌≡◌, ◌≤◌, ◌-◌, length, List, ℕ, take}
 use Rattle.times_bench.specs.Answers.{answers_of}
 use Rattle.times_bench.specs.LineParts.{Holds, ended_from, rest_from}
 use Rattle.times_bench.specs.Writing.{Sends}
@@ -11,8 +11,8 @@ invariant-lines g l =
     record {
       within : l.place ≤ length l.block;
       line : (piece : List ℕ) → Holds piece l.fn.line → Holds (rest_from piece read) l.line;
-      sends : (piece : List ℕ) → Holds piece l.fn.line
-          → Sends (written l.fn.writer) (written l.writer) l.pending (l.fn.pending ++ answers_of (ended_from piece read));
+      sent : (piece : List ℕ) → Holds piece l.fn.line
+          → Sends (written l.fn.writer) (written l.writer) l.pending (answers_of (ended_from piece read));
       mark : g.W.Sink.is_marked l.writer ≡ g.W.Sink.is_marked l.fn.writer;
     }
 
