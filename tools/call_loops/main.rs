@@ -18,6 +18,8 @@ const LEAST: u64 = 4_000_000;
 
 type Linked = unsafe extern "C" fn(*const i64, usize, *const i32, usize, u32, *mut u8, usize) -> u64;
 
+// A slice crosses as its address and its length, and in a slice too.
+#[allow(improper_ctypes)]
 unsafe extern "C" {
     fn calls_parts_of_utc(s: *const i64, n: usize, o: *const i32, m: usize, rounds: u32, out: *mut u8, size: usize) -> u64;
     fn calls_parts_of_stamp(s: *const i64, n: usize, o: *const i32, m: usize, rounds: u32, out: *mut u8, size: usize) -> u64;
