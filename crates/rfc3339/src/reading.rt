@@ -42,6 +42,7 @@ pub(crate) fn parts(text: &[u8]) -> Option<Parts>
 
 // A year of four digits, and what follows it.
 #[tactic(auto, unfolding(crate::specs::Reading::year_at))]
+#[inline(always)]
 fn year(text: &[u8]) -> Option<(u16, &[u8])>
     ensures value { option_map (λ read. (read.0, read.1.now)) result ≡ year_at text.now }
     ensures in_range { IfSome result (λ read. read.0 ≤ 9_999) }
@@ -62,6 +63,7 @@ fn part(mark: u8, text: &[u8]) -> Option<(u8, &[u8])>
 
 // A number of two digits, and what follows it.
 #[tactic(auto, unfolding(crate::specs::Reading::two_digits_at))]
+#[inline(always)]
 fn two_digits(text: &[u8]) -> Option<(u8, &[u8])>
     ensures value { option_map (λ read. (read.0, read.1.now)) result ≡ two_digits_at text.now }
     ensures in_range { IfSome result (λ read. read.0 ≤ 99) }
@@ -73,6 +75,7 @@ fn two_digits(text: &[u8]) -> Option<(u8, &[u8])>
 
 // The digit in front, and what follows it.
 #[tactic(auto, unfolding(crate::specs::Reading::digit_at))]
+#[inline(always)]
 fn digit(text: &[u8]) -> Option<(u8, &[u8])>
     ensures value { option_map (λ read. (read.0, read.1.now)) result ≡ digit_at text.now }
     ensures in_range { IfSome result (λ read. read.0 ≤ 9) }
@@ -87,6 +90,7 @@ fn digit(text: &[u8]) -> Option<(u8, &[u8])>
 
 // What follows the mark, if the text begins with it.
 #[tactic(auto, unfolding(crate::specs::Reading::mark_at))]
+#[inline(always)]
 fn after_mark(mark: u8, text: &[u8]) -> Option<&[u8]>
     ensures { option_map (λ rest. rest.now) result ≡ mark_at mark text.now }
 {
@@ -96,6 +100,7 @@ fn after_mark(mark: u8, text: &[u8]) -> Option<&[u8]>
 
 // What follows `T`, `t` or a space, if the text begins with one.
 #[tactic(auto, unfolding(crate::specs::Reading::separator_at))]
+#[inline(always)]
 fn after_separator(text: &[u8]) -> Option<&[u8]>
     ensures { option_map (λ rest. rest.now) result ≡ separator_at text.now }
 {
@@ -159,6 +164,7 @@ fn zone(text: &[u8]) -> Option<(bool, u8, u8)>
 }
 
 // What was read, if the text ends there.
+#[inline(always)]
 fn at_end(zone: (bool, u8, u8), text: &[u8]) -> Option<(bool, u8, u8)>
     ensures { result ≡ ended zone text.now }
 {
