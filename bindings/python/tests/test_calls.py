@@ -21,6 +21,7 @@ class Timestamps(unittest.TestCase):
             ((-(2**80), -1), muxandu.RefusedTimestamp),
             ((0, 1_000_000_000), muxandu.RefusedNanosecond),
             ((0, 2**32), muxandu.RefusedNanosecond),
+            ((0, -1), muxandu.RefusedNanosecond),
         ):
             self.assertRaises(refusal, Timestamp, *parts)
         self.assertRaises(TypeError, Timestamp, 0.5)
@@ -54,7 +55,8 @@ class Timestamps(unittest.TestCase):
         rounded = [at.truncated_to(unit) for unit in Unit]
         wanted = [(-86_400, 0), (-3600, 0), (-60, 0), (-1, 0), (-1, 123_000_000), (-1, 123_456_000)]
         self.assertEqual([(each.seconds, each.nanoseconds) for each in rounded], wanted)
-        self.assertRaises(muxandu.RefusedUnit, at.truncated_to, 7)
+        for number in (-1, 0, 7, 2**32 + 1):
+            self.assertRaises(muxandu.RefusedUnit, at.truncated_to, number)
         self.assertEqual(len({at, Timestamp(-1, 123_456_789)}), 1)
         self.assertNotEqual(at, -1)
 
@@ -111,6 +113,12 @@ class Civils(unittest.TestCase):
             ({"hour": 24}, muxandu.RefusedHour),
             ({"minute": 60}, muxandu.RefusedMinute),
             ({"second": 60}, muxandu.RefusedSecond),
+            ({"day": -1}, muxandu.RefusedDay),
+            ({"hour": -1}, muxandu.RefusedHour),
+            ({"minute": -1}, muxandu.RefusedMinute),
+            ({"second": -1}, muxandu.RefusedSecond),
+            ({"nanosecond": -1}, muxandu.RefusedNanosecond),
+            ({"offset_seconds": -(2**32)}, muxandu.RefusedOffsetSeconds),
             ({"nanosecond": 1_000_000_000}, muxandu.RefusedNanosecond),
             ({"offset_seconds": 93_600}, muxandu.RefusedOffsetSeconds),
         ):
@@ -150,6 +158,10 @@ class Days(unittest.TestCase):
             (Date.from_iso_week_date, (1_000_000, 1, 0), muxandu.RefusedYear),
             (Date.from_iso_week_date, (2020, 0, 0), muxandu.RefusedWeek),
             (Date.from_iso_week_date, (2020, 1, 7), muxandu.RefusedWeekday),
+            (Date.from_iso_week_date, (2020, 1, -1), muxandu.RefusedWeekday),
+            (Date.from_iso_week_date, (2020, -1, 0), muxandu.RefusedWeek),
+            (Date.from_ordinal_date, (2020, -1), muxandu.RefusedOrdinal),
+            (days_in_month, (2020, -1), muxandu.RefusedMonth),
             (Date.from_iso_week_date, (2021, 53, 0), muxandu.RefusedWeekOfYear),
             (Date.from_iso_week_date, (999_999, 52, 6), muxandu.RefusedResult),
             (days_in_month, (2024, 13), muxandu.RefusedMonth),
