@@ -378,7 +378,7 @@ MuxanduBatch muxandu_timestamps_from_rfc3339(const char *texts, size_t texts_cou
  * of at most 35 bytes, as muxandu_civil_text does. Refused as the date-time, then NO_TEXT, then BUFFER. */
 uint32_t muxandu_civil_to_rfc3339(MuxanduCivil civil, char *buffer, size_t buffer_count, size_t *size);
 
-/* Writes the shortest text of RFC 3339 of an instant, in UTC, as '1985-04-12T23:20:50.52Z', of at most 30 bytes, as
+/* Writes the shortest text of RFC 3339 of an instant, in UTC, as '1985-04-12T23:20:50.52Z', of at most 35 bytes, as
  * muxandu_civil_text does. Refused as the timestamp, then NO_TEXT, then BUFFER. */
 uint32_t muxandu_timestamp_to_rfc3339(MuxanduTimestamp at, char *buffer, size_t buffer_count, size_t *size);
 

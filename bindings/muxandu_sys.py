@@ -494,7 +494,7 @@ CALLS = {
     "muxandu_timestamp_to_rfc3339": (
         [MuxanduTimestamp, ctypes.c_void_p, ctypes.c_size_t, ctypes.POINTER(ctypes.c_size_t)],
         ctypes.c_uint32,
-        "Writes the shortest text of RFC 3339 of an instant, in UTC, as `1985-04-12T23:20:50.52Z`, of at most 30 bytes, as muxandu_civil_text does. Refused as the timestamp, then NO_TEXT, then BUFFER.",
+        "Writes the shortest text of RFC 3339 of an instant, in UTC, as `1985-04-12T23:20:50.52Z`, of at most 35 bytes, as muxandu_civil_text does. Refused as the timestamp, then NO_TEXT, then BUFFER.",
     ),
     "muxandu_timestamp_to_rfc3339_nanos": (
         [MuxanduTimestamp, ctypes.c_void_p, ctypes.c_size_t, ctypes.POINTER(ctypes.c_size_t)],

@@ -360,7 +360,7 @@ unsafe extern "C" {
     /// Writes the shortest text of RFC 3339 of a date-time, as `1985-04-12T23:20:50.52Z` or `1996-12-19T16:39:57-08:00`, of
     /// at most 35 bytes, as muxandu_civil_text does. Refused as the date-time, then NO_TEXT, then BUFFER.
     pub unsafe fn muxandu_civil_to_rfc3339(civil: MuxanduCivil, buffer: *mut u8, buffer_count: usize, size: &mut usize) -> u32;
-    /// Writes the shortest text of RFC 3339 of an instant, in UTC, as `1985-04-12T23:20:50.52Z`, of at most 30 bytes, as
+    /// Writes the shortest text of RFC 3339 of an instant, in UTC, as `1985-04-12T23:20:50.52Z`, of at most 35 bytes, as
     /// muxandu_civil_text does. Refused as the timestamp, then NO_TEXT, then BUFFER.
     pub unsafe fn muxandu_timestamp_to_rfc3339(at: MuxanduTimestamp, buffer: *mut u8, buffer_count: usize, size: &mut usize) -> u32;
     /// Writes the text of RFC 3339 of an instant, in UTC, always with nine digits of the fraction, as

@@ -1,5 +1,6 @@
 -- A batch goes on: one more value, an item that is refused, and the end of the items.
-use Rattle.std.proofs.Common.{◌≡◌, ℕ, ◌+◌, ◌<◌, ◌≤◌, List, [], ◌∷◌, ◌++◌, length, take, drop, get_or, set, Result, Ok, Err, refl, subst, sym, ◌∙◌, ap, arith, inl, inr}
+use Rattle.std.proofs.Common.{◌≡◌, ℕ, ◌+◌, ◌<◌, ◌≤◌, List, [], ◌∷◌, ◌++◌, length, take, drop, get_or, set}
+use Rattle.std.proofs.Common.{Result, Ok, Err, refl, subst, sym, ◌∙◌, ap, arith, inl, inr}
 use Rattle.std.proofs.lemmas.List.{drop_more, take_more_set, drop_all, append-nil, append_assoc, drop-set-lt, drop-drop}
 use Rattle.muxandu_c.specs.Answers.{status_number}
 use Rattle.muxandu_c.specs.Batches.{AreValuesOf}

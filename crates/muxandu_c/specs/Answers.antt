@@ -91,9 +91,13 @@ abbrev pub written : {A : Type 0} → Result A Refused → A → A
 written (Ok value) there = value
 written (Err refusal) there = there
 
--- the text, if a buffer of this length has room for it
-abbrev pub fitting : ℕ → List ℕ → Result (List ℕ) Refused
-fitting room text = if nat_lt room (length text) then Err refused.Buffer else Ok text
+-- the text, if a buffer has room for it
+abbrev pub fitting : List ℕ → List ℕ → Result (List ℕ) Refused
+fitting there text = if nat_lt (length there) (length text) then Err refused.Buffer else Ok text
+
+-- the text of an answer, if a buffer has room for it
+abbrev pub fitted : Result (List ℕ) Refused → List ℕ → Result (List ℕ) Refused
+fitted answer there = and_then answer (fitting there)
 
 -- what an answer leaves in a buffer: its text at the front
 abbrev pub written_over : Result (List ℕ) Refused → List ℕ → List ℕ

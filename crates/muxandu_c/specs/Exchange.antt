@@ -1,5 +1,6 @@
 -- Values as texts of RFC 3339, and texts as values.
-use Rattle.std.specs.Prelude.{◌≡◌, ◌⊎◌, ℕ, ◌+◌, ◌<◌, ◌≤◌, ◌%◌, ◌==◌, ◌||◌, Bool, not, List, ℤ, pos, unsigned_abs, nat_lt, length, take, drop, Result, Ok, Err, if◌then◌else◌}
+use Rattle.std.specs.Prelude.{◌≡◌, ◌⊎◌, ℕ, ◌+◌, ◌<◌, ◌≤◌, ◌%◌, ◌==◌, ◌||◌, Bool, not, ℤ, pos, unsigned_abs}
+use Rattle.std.specs.Prelude.{List, nat_lt, length, take, drop, Result, Ok, Err, if◌then◌else◌}
 use Rattle.calendar_values.specs.Calendar.{year_of}
 use Rattle.calendar_values.specs.Range.{is_outside}
 use Rattle.calendar_values.specs.WallClock.{wall_day}

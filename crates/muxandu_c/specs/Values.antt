@@ -4,7 +4,8 @@ use Rattle.std.specs.Ordering.{int_cmp}
 use Rattle.std.specs.declared.cmp.Ordering.{Ordering}
 use Rattle.std.specs.declared.cmp.Ordering.TheVariants.{Less, Equal, Greater}
 use Rattle.calendar_values.specs.Calendar.{year_of, month_of, day_of_month_of, ordinal_of, is_leap_year, days_in_month}
-use Rattle.calendar_values.specs.Clock.{hour_of, minute_of, second_of, nanosecond_of, nanos_per_day, nanos_per_hour, nanos_per_minute, nanos_per_second, nanos_per_millisecond, nanos_per_microsecond}
+use Rattle.calendar_values.specs.Clock.{hour_of, minute_of, second_of, nanosecond_of}
+use Rattle.calendar_values.specs.Clock.{nanos_per_day, nanos_per_hour, nanos_per_minute, nanos_per_second, nanos_per_millisecond, nanos_per_microsecond}
 use Rattle.calendar_values.specs.Durations.{duration_of_parts, least_duration, greatest_duration, whole_seconds_of, subsec_nanoseconds_of}
 use Rattle.calendar_values.specs.Offsets.{offset_of_seconds}
 use Rattle.calendar_values.specs.Range.{is_outside, first_day, last_day}

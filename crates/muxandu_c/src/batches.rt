@@ -1,7 +1,8 @@
 //! Many values in one call.
 ghost use Rattle.std.specs.Prelude.{◌≡◌, ◌<◌, ◌≤◌, ◌++◌, length, take, drop, Result};
 ghost use Rattle.muxandu_c.specs.Answers.{status_number};
-ghost use Rattle.muxandu_c.specs.Batches.{values_of, status_of_items, with_room, batch_status, AreValuesOf};
+ghost use Rattle.muxandu_c.specs.Batches.{values_of, status_of_items, AreValuesOf};
+ghost use Rattle.muxandu_c.specs.Batches.{batch_values, batch_status};
 ghost use Rattle.muxandu_c.specs.Exchange.{IsRead, IsReadAt};
 ghost use Rattle.muxandu_c.specs.Values.{civil_of_second, second_of_civil, date_of_day, day_of_date};
 ghost use Rattle.muxandu_c.specs.declared.refused.Refused.{Refused};
@@ -30,9 +31,10 @@ fn convert_all<A: Copy, B: Copy, C: Conversion<A, B>>(
     items: &[A],
     out: &mut [B],
 ) -> MuxanduBatch
-    ensures count { result.count ≡ length (values_of (C.value_of conversion) (with_room out.old items.now)) }
+    ensures count { result.count ≡ length (batch_values (C.value_of conversion) out.old items.now) }
     ensures status { result.status ≡ batch_status (C.value_of conversion) out.old items.now }
-    ensures written { out.new ≡ values_of (C.value_of conversion) (with_room out.old items.now) ++ drop result.count out.old }
+    ensures written { out.new ≡ batch_values (C.value_of conversion) out.old items.now
+        ++ drop result.count out.old }
 {
     if out.len() < items.len() {
         return stopped(0, Refused::Buffer);
@@ -49,7 +51,8 @@ fn fill<A: Copy, B: Copy, C: Conversion<A, B>>(
     requires room { length items.now ≤ length out.old }
     ensures count { result.count ≡ length (values_of (C.value_of conversion) items.now) }
     ensures status { result.status ≡ status_of_items (C.value_of conversion) items.now }
-    ensures written { out.new ≡ values_of (C.value_of conversion) items.now ++ drop result.count out.old }
+    ensures written { out.new ≡ values_of (C.value_of conversion) items.now
+        ++ drop result.count out.old }
 {
     for (k, item) in items.iter().enumerate() {
         match conversion.convert(*item) {
@@ -101,9 +104,11 @@ pub extern "C" fn muxandu_civils_from_seconds(
     offset_seconds: i32,
     out: &mut [MuxanduCivil],
 ) -> MuxanduBatch
-    ensures count { result.count ≡ length (values_of (civil_of_second offset_seconds) (with_room out.old seconds.now)) }
-    ensures status { result.status ≡ batch_status (civil_of_second offset_seconds) out.old seconds.now }
-    ensures written { out.new ≡ values_of (civil_of_second offset_seconds) (with_room out.old seconds.now)
+    ensures count { result.count ≡
+        length (batch_values (civil_of_second offset_seconds) out.old seconds.now) }
+    ensures status { result.status ≡
+        batch_status (civil_of_second offset_seconds) out.old seconds.now }
+    ensures written { out.new ≡ batch_values (civil_of_second offset_seconds) out.old seconds.now
         ++ drop result.count out.old }
 {
     convert_all(ToCivil { offset_seconds }, seconds, out)
@@ -128,9 +133,10 @@ pub extern "C" fn muxandu_seconds_from_civils(
     civils: &[MuxanduCivil],
     out: &mut [i64],
 ) -> MuxanduBatch
-    ensures count { result.count ≡ length (values_of second_of_civil (with_room out.old civils.now)) }
+    ensures count { result.count ≡ length (batch_values second_of_civil out.old civils.now) }
     ensures status { result.status ≡ batch_status second_of_civil out.old civils.now }
-    ensures written { out.new ≡ values_of second_of_civil (with_room out.old civils.now) ++ drop result.count out.old }
+    ensures written { out.new ≡ batch_values second_of_civil out.old civils.now
+        ++ drop result.count out.old }
 {
     convert_all(ToSecond, civils, out)
 }
@@ -151,9 +157,10 @@ impl Conversion<i32, MuxanduDate> for ToDate {
 /// written, where `out` has fewer items than `days`.
 #[unsafe(no_mangle)]
 pub extern "C" fn muxandu_dates_from_days(days: &[i32], out: &mut [MuxanduDate]) -> MuxanduBatch
-    ensures count { result.count ≡ length (values_of date_of_day (with_room out.old days.now)) }
+    ensures count { result.count ≡ length (batch_values date_of_day out.old days.now) }
     ensures status { result.status ≡ batch_status date_of_day out.old days.now }
-    ensures written { out.new ≡ values_of date_of_day (with_room out.old days.now) ++ drop result.count out.old }
+    ensures written { out.new ≡ batch_values date_of_day out.old days.now
+        ++ drop result.count out.old }
 {
     convert_all(ToDate, days, out)
 }
@@ -174,9 +181,10 @@ impl Conversion<MuxanduDate, i32> for ToDay {
 /// written, where `out` has fewer items than `dates`.
 #[unsafe(no_mangle)]
 pub extern "C" fn muxandu_days_from_dates(dates: &[MuxanduDate], out: &mut [i32]) -> MuxanduBatch
-    ensures count { result.count ≡ length (values_of day_of_date (with_room out.old dates.now)) }
+    ensures count { result.count ≡ length (batch_values day_of_date out.old dates.now) }
     ensures status { result.status ≡ batch_status day_of_date out.old dates.now }
-    ensures written { out.new ≡ values_of day_of_date (with_room out.old dates.now) ++ drop result.count out.old }
+    ensures written { out.new ≡ batch_values day_of_date out.old dates.now
+        ++ drop result.count out.old }
 {
     convert_all(ToDay, dates, out)
 }
@@ -209,7 +217,8 @@ fn fill_timestamps(
     out: &mut [MuxanduTimestamp],
 ) -> MuxanduBatch
     requires room { length spans.now ≤ length out.old }
-    ensures values { AreValuesOf (IsReadAt texts.now) spans.now (take result.count out.new) result.status }
+    ensures values { AreValuesOf (IsReadAt texts.now) spans.now
+        (take result.count out.new) result.status }
     ensures count { result.count ≤ length spans.now }
     ensures behind { drop result.count out.new ≡ drop result.count out.old }
 {

@@ -1,11 +1,13 @@
 //! Texts of RFC 3339, written and read.
-ghost use Rattle.std.specs.Prelude.{◌≡◌, ◌⊎◌, length, Err, IfOk};
+ghost use Rattle.std.specs.Prelude.{◌≡◌, ◌≤◌, ◌⊎◌, length, Err, IfOk};
 ghost use Rattle.calendar_values.specs.WallClock.{IsWallClock};
 ghost use Rattle.offset_times.specs.Local.{instant_of};
 ghost use Rattle.rfc3339.specs.Form.{IsDateTime};
 ghost use Rattle.rfc3339.specs.declared.parts.Parts.{Parts};
-ghost use Rattle.muxandu_c.specs.Answers.{and_then, status_of, status_number, written, written_over, fitting, length_told};
-ghost use Rattle.muxandu_c.specs.Exchange.{rfc3339_of, fixed_rfc3339_of, civil_rfc3339, timestamp_rfc3339, timestamp_rfc3339_nanos};
+ghost use Rattle.muxandu_c.specs.Answers.{status_of, status_number, written};
+ghost use Rattle.muxandu_c.specs.Answers.{written_over, fitted, length_told};
+ghost use Rattle.muxandu_c.specs.Exchange.{rfc3339_of, fixed_rfc3339_of};
+ghost use Rattle.muxandu_c.specs.Exchange.{civil_rfc3339, timestamp_rfc3339, timestamp_rfc3339_nanos};
 ghost use Rattle.muxandu_c.specs.Exchange.{read_parts, civil_spelled, timestamp_spelled};
 ghost use Rattle.muxandu_c.specs.declared.refused.Refused.TheVariants as refused;
 
@@ -19,7 +21,8 @@ use rfc3339::{Rfc3339, parse_rfc3339, to_rfc3339_nanos};
 use stamp_times::Timestamp;
 
 fn rfc3339_of(at: OffsetDateTime) -> Result<Text, Refused>
-    ensures { result ≡ rfc3339_of at }
+    ensures value { result ≡ rfc3339_of at }
+    ensures room { IfOk result (λ text. length text ≤ 35) }
 {
     match at.to_rfc3339() {
         Some(text) => Ok(text),
@@ -28,7 +31,8 @@ fn rfc3339_of(at: OffsetDateTime) -> Result<Text, Refused>
 }
 
 fn fixed_rfc3339_of(at: Timestamp) -> Result<Text, Refused>
-    ensures { result ≡ fixed_rfc3339_of at }
+    ensures value { result ≡ fixed_rfc3339_of at }
+    ensures room { IfOk result (λ text. length text ≡ 30) }
 {
     match to_rfc3339_nanos(at) {
         Some(text) => Ok(text),
@@ -37,7 +41,8 @@ fn fixed_rfc3339_of(at: Timestamp) -> Result<Text, Refused>
 }
 
 fn civil_to_rfc3339(civil: MuxanduCivil) -> Result<Text, Refused>
-    ensures { result ≡ civil_rfc3339 civil }
+    ensures value { result ≡ civil_rfc3339 civil }
+    ensures room { IfOk result (λ text. length text ≤ 35) }
 {
     rfc3339_of(read_civil(civil)?)
 }
@@ -50,21 +55,23 @@ pub extern "C" fn muxandu_civil_to_rfc3339(
     buffer: &mut [u8],
     size: &mut usize,
 ) -> u32
-    ensures status { result ≡ status_of (and_then (civil_rfc3339 civil) (fitting (length buffer.old))) }
+    ensures status { result ≡ status_of (fitted (civil_rfc3339 civil) buffer.old) }
     ensures written { buffer.new ≡
-        written_over (and_then (civil_rfc3339 civil) (fitting (length buffer.old))) buffer.old }
+        written_over (fitted (civil_rfc3339 civil) buffer.old) buffer.old }
     ensures size { size.new ≡ written (length_told (civil_rfc3339 civil)) size.old }
+    ensures room { IfOk (civil_rfc3339 civil) (λ text. length text ≤ 35) }
 {
     put(civil_to_rfc3339(civil), buffer, size)
 }
 
 fn timestamp_to_rfc3339(at: MuxanduTimestamp) -> Result<Text, Refused>
-    ensures { result ≡ timestamp_rfc3339 at }
+    ensures value { result ≡ timestamp_rfc3339 at }
+    ensures room { IfOk result (λ text. length text ≤ 35) }
 {
     rfc3339_of(OffsetDateTime::from(read_timestamp(at)?))
 }
 
-/// Writes the shortest text of RFC 3339 of an instant, in UTC, as `1985-04-12T23:20:50.52Z`, of at most 30 bytes, as
+/// Writes the shortest text of RFC 3339 of an instant, in UTC, as `1985-04-12T23:20:50.52Z`, of at most 35 bytes, as
 /// muxandu_civil_text does. Refused as the timestamp, then NO_TEXT, then BUFFER.
 #[unsafe(no_mangle)]
 pub extern "C" fn muxandu_timestamp_to_rfc3339(
@@ -72,16 +79,18 @@ pub extern "C" fn muxandu_timestamp_to_rfc3339(
     buffer: &mut [u8],
     size: &mut usize,
 ) -> u32
-    ensures status { result ≡ status_of (and_then (timestamp_rfc3339 at) (fitting (length buffer.old))) }
+    ensures status { result ≡ status_of (fitted (timestamp_rfc3339 at) buffer.old) }
     ensures written { buffer.new ≡
-        written_over (and_then (timestamp_rfc3339 at) (fitting (length buffer.old))) buffer.old }
+        written_over (fitted (timestamp_rfc3339 at) buffer.old) buffer.old }
     ensures size { size.new ≡ written (length_told (timestamp_rfc3339 at)) size.old }
+    ensures room { IfOk (timestamp_rfc3339 at) (λ text. length text ≤ 35) }
 {
     put(timestamp_to_rfc3339(at), buffer, size)
 }
 
 fn timestamp_to_rfc3339_nanos(at: MuxanduTimestamp) -> Result<Text, Refused>
-    ensures { result ≡ timestamp_rfc3339_nanos at }
+    ensures value { result ≡ timestamp_rfc3339_nanos at }
+    ensures room { IfOk result (λ text. length text ≡ 30) }
 {
     fixed_rfc3339_of(read_timestamp(at)?)
 }
@@ -95,10 +104,11 @@ pub extern "C" fn muxandu_timestamp_to_rfc3339_nanos(
     buffer: &mut [u8],
     size: &mut usize,
 ) -> u32
-    ensures status { result ≡ status_of (and_then (timestamp_rfc3339_nanos at) (fitting (length buffer.old))) }
+    ensures status { result ≡ status_of (fitted (timestamp_rfc3339_nanos at) buffer.old) }
     ensures written { buffer.new ≡
-        written_over (and_then (timestamp_rfc3339_nanos at) (fitting (length buffer.old))) buffer.old }
+        written_over (fitted (timestamp_rfc3339_nanos at) buffer.old) buffer.old }
     ensures size { size.new ≡ written (length_told (timestamp_rfc3339_nanos at)) size.old }
+    ensures room { IfOk (timestamp_rfc3339_nanos at) (λ text. length text ≡ 30) }
 {
     put(timestamp_to_rfc3339_nanos(at), buffer, size)
 }
@@ -126,7 +136,8 @@ fn civil_from_rfc3339(text: &[u8]) -> Result<MuxanduCivil, Refused>
 #[unsafe(no_mangle)]
 pub extern "C" fn muxandu_civil_from_rfc3339(text: &[u8], out: &mut MuxanduCivil) -> u32
     ensures status { (p : Parts) → IsDateTime text.now p → result ≡ status_of (civil_spelled p) }
-    ensures written { (p : Parts) → IsDateTime text.now p → out.new ≡ written (civil_spelled p) out.old }
+    ensures written { (p : Parts) → IsDateTime text.now p →
+        out.new ≡ written (civil_spelled p) out.old }
     ensures syntax { ((p : Parts) × IsDateTime text.now p)
         ⊎ ((result ≡ status_number refused.Syntax) × (out.new ≡ out.old)) }
 {
@@ -143,8 +154,10 @@ pub(crate) fn timestamp_from_rfc3339(text: &[u8]) -> Result<MuxanduTimestamp, Re
 /// Reads the instant of a text of RFC 3339, as muxandu_civil_from_rfc3339 does, and with its refusals.
 #[unsafe(no_mangle)]
 pub extern "C" fn muxandu_timestamp_from_rfc3339(text: &[u8], out: &mut MuxanduTimestamp) -> u32
-    ensures status { (p : Parts) → IsDateTime text.now p → result ≡ status_of (timestamp_spelled p) }
-    ensures written { (p : Parts) → IsDateTime text.now p → out.new ≡ written (timestamp_spelled p) out.old }
+    ensures status { (p : Parts) → IsDateTime text.now p →
+        result ≡ status_of (timestamp_spelled p) }
+    ensures written { (p : Parts) → IsDateTime text.now p →
+        out.new ≡ written (timestamp_spelled p) out.old }
     ensures syntax { ((p : Parts) × IsDateTime text.now p)
         ⊎ ((result ≡ status_number refused.Syntax) × (out.new ≡ out.old)) }
 {

@@ -1,6 +1,6 @@
 //! The texts of the library, into a buffer of the caller's.
-ghost use Rattle.std.specs.Prelude.{◌≡◌, length};
-ghost use Rattle.muxandu_c.specs.Answers.{and_then, status_of, written, written_over, fitting, length_told};
+ghost use Rattle.std.specs.Prelude.{◌≡◌, ◌≤◌, length, IfOk};
+ghost use Rattle.muxandu_c.specs.Answers.{status_of, written, written_over, fitting, fitted, length_told};
 ghost use Rattle.muxandu_c.specs.Values.{civil_text, timestamp_text_of};
 
 use crate::parts::{read_civil, read_timestamp};
@@ -10,9 +10,8 @@ use calendar_values::Text;
 
 // Puts a text at the front of the buffer, if it has room, and its length where the caller wants it.
 pub(crate) fn put(answer: Result<Text, Refused>, buffer: &mut [u8], size: &mut usize) -> u32
-    ensures status { result ≡ status_of (and_then answer (fitting (length buffer.old))) }
-    ensures written { buffer.new ≡
-        written_over (and_then answer (fitting (length buffer.old))) buffer.old }
+    ensures status { result ≡ status_of (fitted answer buffer.old) }
+    ensures written { buffer.new ≡ written_over (fitted answer buffer.old) buffer.old }
     ensures size { size.new ≡ written (length_told answer) size.old }
 {
     match answer {
@@ -26,8 +25,8 @@ pub(crate) fn put(answer: Result<Text, Refused>, buffer: &mut [u8], size: &mut u
 
 // Puts a text at the front of the buffer, if it has room.
 fn put_bytes(text: &[u8], buffer: &mut [u8]) -> u32
-    ensures status { result ≡ status_of (fitting (length buffer.old) text.now) }
-    ensures written { buffer.new ≡ written_over (fitting (length buffer.old) text.now) buffer.old }
+    ensures status { result ≡ status_of (fitting buffer.old text.now) }
+    ensures written { buffer.new ≡ written_over (fitting buffer.old text.now) buffer.old }
 {
     if buffer.len() < text.len() {
         return status(Refused::Buffer);
@@ -37,7 +36,8 @@ fn put_bytes(text: &[u8], buffer: &mut [u8]) -> u32
 }
 
 fn civil_text(civil: MuxanduCivil) -> Result<Text, Refused>
-    ensures { result ≡ civil_text civil }
+    ensures value { result ≡ civil_text civil }
+    ensures room { IfOk result (λ text. length text ≤ 42) }
 {
     Ok(read_civil(civil)?.text())
 }
@@ -51,16 +51,17 @@ pub extern "C" fn muxandu_civil_text(
     buffer: &mut [u8],
     size: &mut usize,
 ) -> u32
-    ensures status { result ≡ status_of (and_then (civil_text civil) (fitting (length buffer.old))) }
-    ensures written { buffer.new ≡
-        written_over (and_then (civil_text civil) (fitting (length buffer.old))) buffer.old }
+    ensures status { result ≡ status_of (fitted (civil_text civil) buffer.old) }
+    ensures written { buffer.new ≡ written_over (fitted (civil_text civil) buffer.old) buffer.old }
     ensures size { size.new ≡ written (length_told (civil_text civil)) size.old }
+    ensures room { IfOk (civil_text civil) (λ text. length text ≤ 42) }
 {
     put(civil_text(civil), buffer, size)
 }
 
 fn timestamp_text(at: MuxanduTimestamp) -> Result<Text, Refused>
-    ensures { result ≡ timestamp_text_of at }
+    ensures value { result ≡ timestamp_text_of at }
+    ensures room { IfOk result (λ text. length text ≤ 25) }
 {
     Ok(read_timestamp(at)?.text())
 }
@@ -73,10 +74,11 @@ pub extern "C" fn muxandu_timestamp_text(
     buffer: &mut [u8],
     size: &mut usize,
 ) -> u32
-    ensures status { result ≡ status_of (and_then (timestamp_text_of at) (fitting (length buffer.old))) }
+    ensures status { result ≡ status_of (fitted (timestamp_text_of at) buffer.old) }
     ensures written { buffer.new ≡
-        written_over (and_then (timestamp_text_of at) (fitting (length buffer.old))) buffer.old }
+        written_over (fitted (timestamp_text_of at) buffer.old) buffer.old }
     ensures size { size.new ≡ written (length_told (timestamp_text_of at)) size.old }
+    ensures room { IfOk (timestamp_text_of at) (λ text. length text ≤ 25) }
 {
     put(timestamp_text(at), buffer, size)
 }
