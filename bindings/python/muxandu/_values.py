@@ -275,7 +275,8 @@ class Civil(_Moment):
     @classmethod
     def from_parts(cls, item):
         """The date-time of an item of a batch."""
-        return cls(*(int(getattr(item, name) if hasattr(item, name) else item[name]) for name, _ in MuxanduCivil._fields_))
+        read = getattr if isinstance(item, MuxanduCivil) else operator.getitem
+        return cls(*(int(read(item, name)) for name, _ in MuxanduCivil._fields_))
 
     @classmethod
     def from_datetime(cls, at):

@@ -28,7 +28,8 @@ class Timestamps(unittest.TestCase):
 
     def test_counts_round_down(self):
         at = Timestamp(-1, 999_999)
-        self.assertEqual((at.as_milliseconds(), at.as_microseconds(), at.as_nanoseconds()), (-1000, -999_001, -999_000_001))
+        counts = at.as_milliseconds(), at.as_microseconds(), at.as_nanoseconds()
+        self.assertEqual(counts, (-1000, -999_001, -999_000_001))
         self.assertEqual(Timestamp.from_milliseconds(-1), Timestamp(-1, 999_000_000))
         self.assertEqual(Timestamp.from_microseconds(-1), Timestamp(-1, 999_999_000))
         self.assertEqual(Timestamp.from_nanoseconds(-(2**63)), Timestamp(-9_223_372_037, 145_224_192))
@@ -45,8 +46,8 @@ class Timestamps(unittest.TestCase):
         self.assertEqual(LAST - FIRST, Duration(63_113_872_377_599, 999_999_999))
         for move in (lambda: LAST + half, lambda: FIRST - half):
             self.assertRaises(muxandu.RefusedResult, move)
-        for move in (lambda: at + BEYOND, lambda: at - BEYOND, lambda: at.saturating_add(BEYOND), lambda: at.saturating_sub(BEYOND)):
-            self.assertRaises(muxandu.RefusedDuration, move)
+        for move in (at.__add__, at.__sub__, at.saturating_add, at.saturating_sub):
+            self.assertRaises(muxandu.RefusedDuration, move, BEYOND)
         self.assertRaises(TypeError, lambda: at + 1)
 
     def test_order_and_truncation(self):
@@ -87,8 +88,8 @@ class Civils(unittest.TestCase):
         self.assertTrue(end.saturating_add(day).is_same(end) and start.saturating_sub(day).is_same(start))
         for move in (lambda: end + day, lambda: start - day):
             self.assertRaises(muxandu.RefusedResult, move)
-        for move in (lambda: at + BEYOND, lambda: at - BEYOND, lambda: at.saturating_add(BEYOND), lambda: at.saturating_sub(BEYOND)):
-            self.assertRaises(muxandu.RefusedDuration, move)
+        for move in (at.__add__, at.__sub__, at.saturating_add, at.saturating_sub):
+            self.assertRaises(muxandu.RefusedDuration, move, BEYOND)
         at = Civil(2022, 2, 18, 15, 30, 45, 123_456_789)
         self.assertEqual(at.truncated_to(Unit.MILLISECOND), Civil(2022, 2, 18, 15, 30, 45, 123_000_000))
 
@@ -141,7 +142,8 @@ class Days(unittest.TestCase):
         self.assertEqual(date.to_iso_week_date(), IsoWeekDate(2020, 53, 4))
         self.assertEqual(Date.from_iso_week_date(2020, 53, 4), date)
         self.assertEqual(Date.from_ordinal_date(2021, 1), date)
-        self.assertEqual((days_in_month(2024, 2), str(Date(-5, 3, 1)), str(Date(10_000, 1, 1))), (29, "-0005-03-01", "+10000-01-01"))
+        self.assertEqual(days_in_month(2024, 2), 29)
+        self.assertEqual((str(Date(-5, 3, 1)), str(Date(10_000, 1, 1))), ("-0005-03-01", "+10000-01-01"))
         self.assertLess(Date(-1, 12, 31), Date(0, 1, 1))
 
     def test_days_are_tested(self):
