@@ -23,7 +23,8 @@ static inline uint32_t wall_parts(int64_t second, uint32_t nanosecond, int32_t o
 
 static inline uint32_t second_of(const MuxanduCivil *civil, int64_t *out) {
     REFUSE(reference_civil_check(*civil));
-    *out = era_day(civil->year, civil->month, civil->day) * 86400 + civil->hour * 3600 + civil->minute * 60 + civil->second - civil->offset_seconds;
+    *out = era_day(civil->year, civil->month, civil->day) * 86400 + civil->hour * 3600 + civil->minute * 60 +
+           civil->second - civil->offset_seconds;
     return MUXANDU_OK;
 }
 
@@ -81,19 +82,20 @@ uint32_t bare_timestamp_add(MuxanduTimestamp at, MuxanduDuration duration, Muxan
 }
 
 /* Goes through the items up to the first that is refused. */
-#define EACH(total, room, one)                                     \
-    MuxanduBatch done = {0, MUXANDU_OK};                           \
-    if ((room) < (total)) {                                        \
-        done.status = MUXANDU_REFUSED_BUFFER;                      \
-        return done;                                               \
-    }                                                              \
-    for (; done.count < (total); done.count++) {                   \
-        done.status = one;                                         \
-        if (done.status != MUXANDU_OK) return done;                \
-    }                                                              \
+#define EACH(total, room, one)                                                                                         \
+    MuxanduBatch done = {0, MUXANDU_OK};                                                                               \
+    if ((room) < (total)) {                                                                                            \
+        done.status = MUXANDU_REFUSED_BUFFER;                                                                          \
+        return done;                                                                                                   \
+    }                                                                                                                  \
+    for (; done.count < (total); done.count++) {                                                                       \
+        done.status = one;                                                                                             \
+        if (done.status != MUXANDU_OK) return done;                                                                    \
+    }                                                                                                                  \
     return done
 
-MuxanduBatch bare_civils_from_seconds(const int64_t *seconds, size_t items, int32_t offset_seconds, MuxanduCivil *out, size_t room) {
+MuxanduBatch bare_civils_from_seconds(const int64_t *seconds, size_t items, int32_t offset_seconds, MuxanduCivil *out,
+                                      size_t room) {
     MuxanduTimestamp at = {0, 0};
     EACH(items, room, (at.seconds = seconds[done.count], civil_at(at, offset_seconds, out + done.count)));
 }

@@ -42,10 +42,14 @@ static void timestamps_move(void) {
     CHECK(muxandu_timestamp_subtract(stamp(0, 0), length(INT64_MIN, -999999999), &out) == MUXANDU_REFUSED_RESULT);
     CHECK(is_stamp(out, 7, 7));
     CHECK(muxandu_timestamp_add(stamp(-1, 500000000), length(0, 500000000), &out) == MUXANDU_OK && is_stamp(out, 0, 0));
-    CHECK(muxandu_timestamp_add(stamp(0, 0), length(-1, 500000000), &out) == MUXANDU_OK && is_stamp(out, -1, 500000000));
-    CHECK(muxandu_timestamp_subtract(stamp(0, 0), length(-1, 500000000), &out) == MUXANDU_OK && is_stamp(out, 0, 500000000));
-    CHECK(muxandu_timestamp_saturating_add(stamp(LAST, 0), length(1, 0), &out) == MUXANDU_OK && is_stamp(out, LAST, 999999999));
-    CHECK(muxandu_timestamp_saturating_subtract(stamp(FIRST, 0), length(1, 0), &out) == MUXANDU_OK && is_stamp(out, FIRST, 0));
+    CHECK(muxandu_timestamp_add(stamp(0, 0), length(-1, 500000000), &out) == MUXANDU_OK &&
+          is_stamp(out, -1, 500000000));
+    CHECK(muxandu_timestamp_subtract(stamp(0, 0), length(-1, 500000000), &out) == MUXANDU_OK &&
+          is_stamp(out, 0, 500000000));
+    CHECK(muxandu_timestamp_saturating_add(stamp(LAST, 0), length(1, 0), &out) == MUXANDU_OK &&
+          is_stamp(out, LAST, 999999999));
+    CHECK(muxandu_timestamp_saturating_subtract(stamp(FIRST, 0), length(1, 0), &out) == MUXANDU_OK &&
+          is_stamp(out, FIRST, 0));
     out = stamp(5, 5);
     CHECK(muxandu_timestamp_add(out, length(1, 1), &out) == MUXANDU_OK && is_stamp(out, 6, 6));
 }
@@ -55,7 +59,8 @@ static void timestamps_are_apart(void) {
     CHECK(muxandu_timestamp_difference(stamp(LAST + 1, 0), stamp(0, UINT32_MAX), &out) == MUXANDU_REFUSED_TIMESTAMP);
     CHECK(muxandu_timestamp_difference(stamp(0, 0), stamp(0, UINT32_MAX), &out) == MUXANDU_REFUSED_NANOSECOND);
     CHECK(is_length(out, 7, 7));
-    CHECK(muxandu_timestamp_difference(stamp(-1, 500000000), stamp(0, 0), &out) == MUXANDU_OK && is_length(out, 0, -500000000));
+    CHECK(muxandu_timestamp_difference(stamp(-1, 500000000), stamp(0, 0), &out) == MUXANDU_OK &&
+          is_length(out, 0, -500000000));
     CHECK(muxandu_timestamp_difference(stamp(LAST, 999999999), stamp(FIRST, 0), &out) == MUXANDU_OK);
     CHECK(is_length(out, 63113872377599, 999999999));
 }
@@ -90,7 +95,8 @@ static void timestamps_are_counted(void) {
     CHECK(count == 7);
     CHECK(muxandu_timestamp_from_milliseconds(-1, &out) == MUXANDU_OK && is_stamp(out, -1, 999000000));
     CHECK(muxandu_timestamp_to_milliseconds(stamp(-1, 999999), &count) == MUXANDU_OK && count == -1000);
-    CHECK(muxandu_timestamp_to_milliseconds(stamp(LAST, 999999999), &count) == MUXANDU_OK && count == 31494784780799999);
+    CHECK(muxandu_timestamp_to_milliseconds(stamp(LAST, 999999999), &count) == MUXANDU_OK &&
+          count == 31494784780799999);
     CHECK(muxandu_timestamp_to_microseconds(stamp(-1, 999999), &count) == MUXANDU_OK && count == -999001);
     CHECK(muxandu_timestamp_to_nanoseconds(stamp(-1, 999999), &count) == MUXANDU_OK && count == -999000001);
     CHECK(is_stamp(muxandu_timestamp_from_microseconds(-1), -1, 999999000));
@@ -150,7 +156,8 @@ static void refuses_civils(MoveCivil *move) {
 }
 
 static void civils_move(void) {
-    MuxanduCivil out = JUNK, end = civil(999999, 12, 31, 23, 59, 59, 999999999, 60), start = civil(-999999, 1, 1, 0, 0, 0, 0, 60);
+    MuxanduCivil out = JUNK, end = civil(999999, 12, 31, 23, 59, 59, 999999999, 60),
+                 start = civil(-999999, 1, 1, 0, 0, 0, 0, 60);
     refuses_civils(muxandu_civil_add);
     refuses_civils(muxandu_civil_subtract);
     refuses_civils(muxandu_civil_saturating_add);
@@ -163,11 +170,13 @@ static void civils_move(void) {
     CHECK(muxandu_civil_subtract(out, length(0, 5), &out) == MUXANDU_OK);
     CHECK(is_civil(out, civil(2024, 2, 29, 1, 2, 2, 999999999, 60)));
     CHECK(muxandu_civil_saturating_add(out, length(INT64_MAX, 999999999), &out) == MUXANDU_OK && is_civil(out, end));
-    CHECK(muxandu_civil_saturating_subtract(out, length(INT64_MAX, 999999999), &out) == MUXANDU_OK && is_civil(out, start));
+    CHECK(muxandu_civil_saturating_subtract(out, length(INT64_MAX, 999999999), &out) == MUXANDU_OK &&
+          is_civil(out, start));
 }
 
 static void civils_are_compared(void) {
-    MuxanduCivil here = civil(2024, 1, 1, 1, 0, 0, 0, 3600), there = civil(2024, 1, 1, 0, 0, 0, 0, 0), bad = civil(2024, 1, 0, 0, 0, 0, 0, 0);
+    MuxanduCivil here = civil(2024, 1, 1, 1, 0, 0, 0, 3600), there = civil(2024, 1, 1, 0, 0, 0, 0, 0),
+                 bad = civil(2024, 1, 0, 0, 0, 0, 0, 0);
     MuxanduDuration apart = length(7, 7);
     int32_t order = 7;
     CHECK(muxandu_civil_compare(bad, here, &order) == MUXANDU_REFUSED_DAY);
@@ -188,7 +197,8 @@ static void civils_are_read(void) {
     CHECK(muxandu_civil_truncate(at, 0, &out) == MUXANDU_REFUSED_UNIT && is_civil(out, JUNK));
     CHECK(muxandu_civil_day(civil(2024, 1, 1, 0, 61, 0, 0, 0), &day) == MUXANDU_REFUSED_MINUTE && day == 7);
     CHECK(muxandu_civil_day(civil(1970, 1, 2, 0, 0, 0, 0, 3600), &day) == MUXANDU_OK && day == 1);
-    CHECK(muxandu_civil_truncate(at, MUXANDU_UNIT_DAY, &out) == MUXANDU_OK && is_civil(out, civil(2024, 2, 29, 0, 0, 0, 0, 60)));
+    CHECK(muxandu_civil_truncate(at, MUXANDU_UNIT_DAY, &out) == MUXANDU_OK &&
+          is_civil(out, civil(2024, 2, 29, 0, 0, 0, 0, 60)));
     CHECK(muxandu_civil_truncate(at, MUXANDU_UNIT_MICROSECOND, &out) == MUXANDU_OK && out.nanosecond == 123456000);
 }
 
@@ -199,8 +209,10 @@ static void days_are_read(void) {
     int32_t day = 7;
     uint8_t number = 7;
     CHECK(muxandu_date_from_day(364522972, &shown) == MUXANDU_REFUSED_DAY_NUMBER && is_date(shown, 7, 7, 7));
-    CHECK(muxandu_ordinal_date_from_day(-365961663, &ordinal) == MUXANDU_REFUSED_DAY_NUMBER && ordinal.year == 7 && ordinal.ordinal == 7);
-    CHECK(muxandu_week_date_from_day(INT32_MAX, &week) == MUXANDU_REFUSED_DAY_NUMBER && week.year == 7 && week.week == 7 && week.weekday == 7);
+    CHECK(muxandu_ordinal_date_from_day(-365961663, &ordinal) == MUXANDU_REFUSED_DAY_NUMBER && ordinal.year == 7 &&
+          ordinal.ordinal == 7);
+    CHECK(muxandu_week_date_from_day(INT32_MAX, &week) == MUXANDU_REFUSED_DAY_NUMBER && week.year == 7 &&
+          week.week == 7 && week.weekday == 7);
     CHECK(muxandu_weekday_from_day(INT32_MIN, &number) == MUXANDU_REFUSED_DAY_NUMBER && number == 7);
     CHECK(muxandu_days_in_month(1000000, 13, &number) == MUXANDU_REFUSED_MONTH);
     CHECK(muxandu_days_in_month(1000000, 12, &number) == MUXANDU_REFUSED_YEAR && number == 7);
@@ -211,7 +223,8 @@ static void days_are_read(void) {
     CHECK(muxandu_date_from_day(19782, &shown) == MUXANDU_OK && is_date(shown, 2024, 2, 29));
     CHECK(muxandu_day_from_date(shown, &day) == MUXANDU_OK && day == 19782);
     CHECK(muxandu_ordinal_date_from_day(day, &ordinal) == MUXANDU_OK && ordinal.year == 2024 && ordinal.ordinal == 60);
-    CHECK(muxandu_week_date_from_day(day, &week) == MUXANDU_OK && week.year == 2024 && week.week == 9 && week.weekday == 3);
+    CHECK(muxandu_week_date_from_day(day, &week) == MUXANDU_OK && week.year == 2024 && week.week == 9 &&
+          week.weekday == 3);
     CHECK(muxandu_weekday_from_day(day, &number) == MUXANDU_OK && number == 3);
     CHECK(muxandu_days_in_month(2024, 2, &number) == MUXANDU_OK && number == 29);
     CHECK(muxandu_days_in_month(1900, 2, &number) == MUXANDU_OK && number == 28);
@@ -249,7 +262,8 @@ static void days_are_found(void) {
 /* Each call that writes a text, as one that writes that of a date-time. */
 typedef uint32_t WriteText(MuxanduCivil, char *, size_t, size_t *);
 
-static uint32_t write_stamp(uint32_t (*write)(MuxanduTimestamp, char *, size_t, size_t *), MuxanduCivil at, char *buffer, size_t room, size_t *size) {
+static uint32_t write_stamp(uint32_t (*write)(MuxanduTimestamp, char *, size_t, size_t *), MuxanduCivil at,
+                            char *buffer, size_t room, size_t *size) {
     MuxanduTimestamp instant = stamp(0, UINT32_MAX);
     muxandu_timestamp_from_civil(at, &instant);
     return write(instant, buffer, room, size);
@@ -286,7 +300,8 @@ static void writes(WriteText *write, const char *text, uint32_t refused) {
     memset(buffer, 'x', sizeof buffer);
     size = 7;
     at.day = 30;
-    CHECK(write(at, buffer, sizeof buffer, &size) == refused && size == 7 && memcmp(buffer, before, sizeof buffer) == 0);
+    CHECK(write(at, buffer, sizeof buffer, &size) == refused && size == 7 &&
+          memcmp(buffer, before, sizeof buffer) == 0);
 }
 
 static void texts_are_written(void) {
@@ -303,7 +318,8 @@ static void texts_are_written(void) {
     CHECK(muxandu_civil_to_rfc3339(civil(1, 1, 1, 0, 0, 0, 0, 86400), buffer, 0, &size) == MUXANDU_REFUSED_NO_TEXT);
     CHECK(muxandu_timestamp_to_rfc3339(stamp(FIRST, 0), buffer, 0, &size) == MUXANDU_REFUSED_NO_TEXT);
     CHECK(muxandu_timestamp_to_rfc3339_nanos(stamp(LAST, 0), buffer, 0, &size) == MUXANDU_REFUSED_NO_TEXT && size == 7);
-    CHECK(muxandu_civil_text(civil(-999999, 12, 31, 23, 59, 59, 123456789, -93599), buffer, sizeof buffer, &size) == MUXANDU_OK);
+    CHECK(muxandu_civil_text(civil(-999999, 12, 31, 23, 59, 59, 123456789, -93599), buffer, sizeof buffer, &size) ==
+          MUXANDU_OK);
     CHECK(size == MUXANDU_TEXT_ROOM);
 }
 
@@ -333,7 +349,8 @@ static void texts_are_read(void) {
     CHECK(is_civil(out, JUNK) && is_stamp(at, 7, 7));
     CHECK(muxandu_civil_from_rfc3339("1996-12-19t16:39:57.5-08:00?", 27, &out) == MUXANDU_OK);
     CHECK(is_civil(out, civil(1996, 12, 19, 16, 39, 57, 500000000, -28800)));
-    CHECK(muxandu_timestamp_from_rfc3339("1996-12-19 16:39:57.5-08:00", 27, &at) == MUXANDU_OK && is_stamp(at, 851042397, 500000000));
+    CHECK(muxandu_timestamp_from_rfc3339("1996-12-19 16:39:57.5-08:00", 27, &at) == MUXANDU_OK &&
+          is_stamp(at, 851042397, 500000000));
     CHECK(muxandu_timestamp_from_rfc3339("1970-01-01T00:00:00\0", 20, &at) == MUXANDU_REFUSED_SYNTAX);
 }
 
@@ -347,15 +364,18 @@ static void batches_of_seconds(void) {
     CHECK(is_batch(muxandu_civils_from_seconds(seconds, 4, 60, out, 4), 2, MUXANDU_REFUSED_TIMESTAMP));
     CHECK(is_civil(out[0], civil(1970, 1, 1, 0, 1, 0, 0, 60)) && is_civil(out[1], civil(1970, 1, 1, 0, 0, 59, 0, 60)));
     CHECK(is_civil(out[2], JUNK) && is_civil(out[3], JUNK));
-    CHECK(is_batch(muxandu_seconds_from_civils(out, 2, back, 4), 2, MUXANDU_OK) && back[0] == 0 && back[1] == -1 && back[2] == 7);
+    CHECK(is_batch(muxandu_seconds_from_civils(out, 2, back, 4), 2, MUXANDU_OK) && back[0] == 0 && back[1] == -1 &&
+          back[2] == 7);
     out[1].month = 13;
     back[1] = 7;
     CHECK(is_batch(muxandu_seconds_from_civils(out, 2, back, 2), 1, MUXANDU_REFUSED_MONTH) && back[1] == 7);
     out[1] = civil(-999999, 1, 1, 0, 0, 0, 0, 1);
     CHECK(is_batch(muxandu_seconds_from_civils(out, 2, back, 2), 1, MUXANDU_REFUSED_RESULT) && back[1] == 7);
     out[0] = JUNK;
-    CHECK(is_batch(muxandu_civils_from_seconds(seconds, 2, 0, out, 1), 0, MUXANDU_REFUSED_BUFFER) && is_civil(out[0], JUNK));
-    CHECK(is_batch(muxandu_civils_from_seconds(seconds, 2, 93600, out, 2), 0, MUXANDU_REFUSED_OFFSET_SECONDS) && is_civil(out[0], JUNK));
+    CHECK(is_batch(muxandu_civils_from_seconds(seconds, 2, 0, out, 1), 0, MUXANDU_REFUSED_BUFFER) &&
+          is_civil(out[0], JUNK));
+    CHECK(is_batch(muxandu_civils_from_seconds(seconds, 2, 93600, out, 2), 0, MUXANDU_REFUSED_OFFSET_SECONDS) &&
+          is_civil(out[0], JUNK));
     CHECK(is_batch(muxandu_civils_from_seconds(seconds, 0, 93600, out, 0), 0, MUXANDU_OK));
     back[0] = 7;
     CHECK(is_batch(muxandu_seconds_from_civils(out, 2, back, 1), 0, MUXANDU_REFUSED_BUFFER) && back[0] == 7);
@@ -377,7 +397,8 @@ static void batches_of_texts(void) {
     const char *texts = "1970-01-01T00:00:01Z,1970-01-01T01:00:00.5+01:00";
     MuxanduSpan spans[2] = {{0, 20}, {21, 27}};
     MuxanduTimestamp out[2] = {{7, 7}, {7, 7}};
-    CHECK(is_batch(muxandu_timestamps_from_rfc3339(texts, 48, spans, 2, out, 1), 0, MUXANDU_REFUSED_BUFFER) && is_stamp(out[0], 7, 7));
+    CHECK(is_batch(muxandu_timestamps_from_rfc3339(texts, 48, spans, 2, out, 1), 0, MUXANDU_REFUSED_BUFFER) &&
+          is_stamp(out[0], 7, 7));
     CHECK(is_batch(muxandu_timestamps_from_rfc3339(texts, 47, spans, 2, out, 2), 1, MUXANDU_REFUSED_SPAN));
     CHECK(is_stamp(out[0], 1, 0) && is_stamp(out[1], 7, 7));
     spans[1].length = SIZE_MAX;
@@ -386,10 +407,12 @@ static void batches_of_texts(void) {
     CHECK(is_batch(muxandu_timestamps_from_rfc3339(texts, 48, spans, 2, out, 2), 1, MUXANDU_REFUSED_SPAN));
     spans[1].start = 48;
     spans[1].length = 0;
-    CHECK(is_batch(muxandu_timestamps_from_rfc3339(texts, 48, spans, 2, out, 2), 1, MUXANDU_REFUSED_SYNTAX) && is_stamp(out[1], 7, 7));
+    CHECK(is_batch(muxandu_timestamps_from_rfc3339(texts, 48, spans, 2, out, 2), 1, MUXANDU_REFUSED_SYNTAX) &&
+          is_stamp(out[1], 7, 7));
     spans[1].start = 21;
     spans[1].length = 27;
-    CHECK(is_batch(muxandu_timestamps_from_rfc3339(texts, 48, spans, 2, out, 2), 2, MUXANDU_OK) && is_stamp(out[1], 0, 500000000));
+    CHECK(is_batch(muxandu_timestamps_from_rfc3339(texts, 48, spans, 2, out, 2), 2, MUXANDU_OK) &&
+          is_stamp(out[1], 0, 500000000));
 }
 
 int main(void) {

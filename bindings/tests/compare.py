@@ -19,10 +19,12 @@ sys.dont_write_bytecode = True
 
 import civil as calendar  # noqa: E402
 import rfc3339  # noqa: E402
-from muxandu import CivilParts, Refused, civils_from_seconds, dates_from_days, muxandu_sys, seconds_from_civils  # noqa: E402
-from muxandu import days_from_dates, timestamps_from_rfc3339  # noqa: E402
+from muxandu import CivilParts, Refused, muxandu_sys  # noqa: E402
+from muxandu import civils_from_seconds, dates_from_days, days_from_dates  # noqa: E402
+from muxandu import seconds_from_civils, timestamps_from_rfc3339  # noqa: E402
 from muxandu._library import library  # noqa: E402
-from muxandu.muxandu_sys import MuxanduDate, MuxanduDuration, MuxanduOrdinalDate, MuxanduTimestamp, MuxanduWeekDate  # noqa: E402
+from muxandu.muxandu_sys import MuxanduDate, MuxanduDuration, MuxanduTimestamp  # noqa: E402
+from muxandu.muxandu_sys import MuxanduOrdinalDate, MuxanduWeekDate  # noqa: E402
 
 SECOND, FIRST, LAST = calendar.SECOND, calendar.FIRST_SECOND, calendar.LAST_SECOND
 FIRST_DAY, LAST_DAY = FIRST // 86_400, LAST // 86_400
@@ -82,7 +84,8 @@ class Source:
         return self.random.choice((0, 999_999_999, self.random.randrange(SECOND)))
 
     def offset(self):
-        return self.random.choice((0, self.random.randint(-1_439, 1_439) * 60, self.random.randint(-MOST_OFFSET, MOST_OFFSET)))
+        minutes, seconds = self.random.randint(-1_439, 1_439), self.random.randint(-MOST_OFFSET, MOST_OFFSET)
+        return self.random.choice((0, minutes * 60, seconds))
 
     def day(self):
         return self.random.randint(FIRST_DAY, LAST_DAY) if self.random.random() < 0.5 else self.second() // 86_400
@@ -91,8 +94,8 @@ class Source:
         return min(max(self.second(), FIRST), LAST) * SECOND + self.nanosecond()
 
     def length(self):
-        seconds = self.random.choice((self.random.randint(-(10**9), 10**9), self.random.randint(-(2**46), 2**46), self.random.randint(-2, 2)))
-        return MuxanduDuration(seconds, self.random.randint(-SECOND + 1, SECOND - 1))
+        most = self.random.choice((2, 10**9, 2**46))
+        return MuxanduDuration(self.random.randint(-most, most), self.random.randint(-SECOND + 1, SECOND - 1))
 
 
 def stamp(instant):
@@ -121,22 +124,27 @@ def signed(number):
     return (seconds, nanoseconds) if number >= 0 else (-seconds, -nanoseconds)
 
 
+def plain(value):
+    """The parts of a structure, and the number of another."""
+    return parts(value) if hasattr(value, "_fields_") else getattr(value, "value", value)
+
+
 def expect(name, structure, words, wanted):
     """Makes a call, and compares its status and what it writes: `wanted` is its parts, or a status."""
     out = structure()
     status = getattr(library, f"muxandu_{name}")(*words, ctypes.byref(out))
-    said = status or (parts(out) if hasattr(structure, "_fields_") else out.value)
-    count(said == wanted, f"{name}{tuple(parts(w) if hasattr(w, '_fields_') else w for w in words)}: {said}, and not {wanted}")
+    said = status or plain(out)
+    count(said == wanted, (name, [plain(word) for word in words], said, "and not", wanted))
 
 
 def compare_timestamps(source):
     at, other, duration = source.instant(), source.instant(), source.length()
-    place = source.random.randrange(6)
+    place, moved = source.random.randrange(6), (stamp(at), duration)
     later, earlier = at + whole(duration), at - whole(duration)
-    expect("timestamp_add", MuxanduTimestamp, (stamp(at), duration), divmod(later, SECOND) if is_inside(later) else RESULT)
-    expect("timestamp_subtract", MuxanduTimestamp, (stamp(at), duration), divmod(earlier, SECOND) if is_inside(earlier) else RESULT)
-    expect("timestamp_saturating_add", MuxanduTimestamp, (stamp(at), duration), divmod(clamped(later), SECOND))
-    expect("timestamp_saturating_subtract", MuxanduTimestamp, (stamp(at), duration), divmod(clamped(earlier), SECOND))
+    expect("timestamp_add", MuxanduTimestamp, moved, divmod(later, SECOND) if is_inside(later) else RESULT)
+    expect("timestamp_subtract", MuxanduTimestamp, moved, divmod(earlier, SECOND) if is_inside(earlier) else RESULT)
+    expect("timestamp_saturating_add", MuxanduTimestamp, moved, divmod(clamped(later), SECOND))
+    expect("timestamp_saturating_subtract", MuxanduTimestamp, moved, divmod(clamped(earlier), SECOND))
     expect("timestamp_difference", MuxanduDuration, (stamp(at), stamp(other)), signed(at - other))
     expect("timestamp_truncate", MuxanduTimestamp, (stamp(at), place + 1), divmod(at - at % UNITS[place], SECOND))
     for unit, name in ((1_000_000, "milliseconds"), (1_000, "microseconds"), (1, "nanoseconds")):
@@ -145,8 +153,9 @@ def compare_timestamps(source):
     number = at // 1_000_000
     expect("timestamp_from_milliseconds", MuxanduTimestamp, (number,), divmod(number * 1_000_000, SECOND))
     number = source.random.randrange(-(2**63), 2**63)
-    count(parts(library.muxandu_timestamp_from_microseconds(number)) == divmod(number * 1_000, SECOND), ("microseconds", number))
-    count(parts(library.muxandu_timestamp_from_nanoseconds(number)) == divmod(number, SECOND), ("nanoseconds", number))
+    for unit, name in ((1_000, "microseconds"), (1, "nanoseconds")):
+        made = parts(getattr(library, f"muxandu_timestamp_from_{name}")(number))
+        count(made == divmod(number * unit, SECOND), (name, number))
     order = (at > other) - (at < other)
     count(library.muxandu_timestamp_compare(stamp(at), stamp(other)) == order, ("timestamp_compare", at, other))
     count(library.muxandu_timestamp_check(stamp(at)) == 0, ("timestamp_check", at))

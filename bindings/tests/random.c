@@ -38,7 +38,10 @@ static int64_t some_second(void) {
     case 1: return near(FIRST + 93599, LAST - 93599);
     case 2: return between(-2, 2);
     case 3: return one_of(8) ? between(FIRST, LAST) : (int64_t)next();
-    case 4: case 5: case 6: case 7: return between(-2208988800, 4102444800);
+    case 4:
+    case 5:
+    case 6:
+    case 7: return between(-2208988800, 4102444800);
     case 8: return between(-62167219200 - 86400, -62167219200 + 86400);
     case 9: return between(253402300800 - 86400, 253402300800 + 86400);
     default: return between(FIRST, LAST);
@@ -49,7 +52,9 @@ static uint32_t some_nanosecond(void) {
     switch (one_of(16)) {
     case 0: return (uint32_t)near(2, 999999999);
     case 1: return one_of(4) ? one_of(1000) * 1000000 : (uint32_t)next();
-    case 2: case 3: case 4: return 0;
+    case 2:
+    case 3:
+    case 4: return 0;
     default: return one_of(1000000000);
     }
 }
@@ -63,8 +68,12 @@ static int32_t some_offset(void) {
     switch (one_of(16)) {
     case 0: return (int32_t)near(-93599, 93599);
     case 1: return one_of(4) ? (int32_t)between(-93599, 93599) : (int32_t)next();
-    case 2: case 3: return 0;
-    case 4: case 5: case 6: case 7: return (int32_t)between(-1439, 1439) * 60;
+    case 2:
+    case 3: return 0;
+    case 4:
+    case 5:
+    case 6:
+    case 7: return (int32_t)between(-1439, 1439) * 60;
     default: return (int32_t)between(-93599, 93599);
     }
 }
@@ -99,15 +108,18 @@ static MuxanduDate some_date(void) {
 }
 
 static int32_t some_day(void) {
-    return one_of(8) ? (int32_t)between(REFERENCE_FIRST_DAY, REFERENCE_LAST_DAY)
-                     : one_of(4) ? (int32_t)near(REFERENCE_FIRST_DAY, REFERENCE_LAST_DAY) : (int32_t)next();
+    if (one_of(8)) return (int32_t)between(REFERENCE_FIRST_DAY, REFERENCE_LAST_DAY);
+    return one_of(4) ? (int32_t)near(REFERENCE_FIRST_DAY, REFERENCE_LAST_DAY) : (int32_t)next();
 }
 
 static MuxanduDuration some_duration(void) {
     MuxanduDuration duration = {0, (int32_t)between(-999999999, 999999999)};
     switch (one_of(8)) {
     case 0: duration.seconds = (int64_t)next(); break;
-    case 1: duration.seconds = one_of(2) ? INT64_MAX : INT64_MIN; duration.nanoseconds = (int32_t)next(); break;
+    case 1:
+        duration.seconds = one_of(2) ? INT64_MAX : INT64_MIN;
+        duration.nanoseconds = (int32_t)next();
+        break;
     case 2: duration.seconds = between(-2, 2); break;
     case 3: duration.seconds = between(-400, 400) * 86400; break;
     default: duration.seconds = between(FIRST, LAST) * (one_of(2) ? 1 : -1); break;
@@ -119,12 +131,29 @@ static uint32_t some_unit(void) {
     return one_of(16) ? 1 + one_of(6) : one_of(2) ? one_of(10) : (uint32_t)next();
 }
 
-static int same_stamp(MuxanduTimestamp a, MuxanduTimestamp b) { return is_stamp(a, b.seconds, b.nanoseconds); }
-static int same_length(MuxanduDuration a, MuxanduDuration b) { return is_length(a, b.seconds, b.nanoseconds); }
-static int same_date(MuxanduDate a, MuxanduDate b) { return is_date(a, b.year, b.month, b.day); }
-static int same_ordinal(MuxanduOrdinalDate a, MuxanduOrdinalDate b) { return a.year == b.year && a.ordinal == b.ordinal; }
-static int same_week(MuxanduWeekDate a, MuxanduWeekDate b) { return a.year == b.year && a.week == b.week && a.weekday == b.weekday; }
-static int same_number(int64_t a, int64_t b) { return a == b; }
+static int same_stamp(MuxanduTimestamp a, MuxanduTimestamp b) {
+    return is_stamp(a, b.seconds, b.nanoseconds);
+}
+
+static int same_length(MuxanduDuration a, MuxanduDuration b) {
+    return is_length(a, b.seconds, b.nanoseconds);
+}
+
+static int same_date(MuxanduDate a, MuxanduDate b) {
+    return is_date(a, b.year, b.month, b.day);
+}
+
+static int same_ordinal(MuxanduOrdinalDate a, MuxanduOrdinalDate b) {
+    return a.year == b.year && a.ordinal == b.ordinal;
+}
+
+static int same_week(MuxanduWeekDate a, MuxanduWeekDate b) {
+    return a.year == b.year && a.week == b.week && a.weekday == b.weekday;
+}
+
+static int same_number(int64_t a, int64_t b) {
+    return a == b;
+}
 
 static void tell(const char *call, int is_same) {
     if (is_same) {
@@ -135,19 +164,20 @@ static void tell(const char *call, int is_same) {
 }
 
 /* Calls both with what they are to read, where their outs hold the same, and compares. */
-#define COMPARE(type, same, call, ...)                                                       \
-    do {                                                                                     \
-        type ours, theirs;                                                                   \
-        uint32_t status, wanted;                                                             \
-        memset(&ours, 7, sizeof ours);                                                       \
-        theirs = ours;                                                                       \
-        status = muxandu_##call(__VA_ARGS__, &ours);                                         \
-        wanted = reference_##call(__VA_ARGS__, &theirs);                                     \
-        tell(#call, status == wanted && same(ours, theirs));                                 \
+#define COMPARE(type, same, call, ...)                                                                                 \
+    do {                                                                                                               \
+        type ours, theirs;                                                                                             \
+        uint32_t status, wanted;                                                                                       \
+        memset(&ours, 7, sizeof ours);                                                                                 \
+        theirs = ours;                                                                                                 \
+        status = muxandu_##call(__VA_ARGS__, &ours);                                                                   \
+        wanted = reference_##call(__VA_ARGS__, &theirs);                                                               \
+        tell(#call, status == wanted && same(ours, theirs));                                                           \
     } while (0)
 
 /* Whether a text was written as it must: status, bytes, what is behind them, and the size. */
-static int is_written(uint32_t status, const char *buffer, size_t room, size_t size, uint32_t refused, const char *text, size_t whole) {
+static int is_written(uint32_t status, const char *buffer, size_t room, size_t size, uint32_t refused, const char *text,
+                      size_t whole) {
     size_t place;
     if (refused != MUXANDU_OK) whole = 7;
     if (refused == MUXANDU_OK && whole > room) refused = MUXANDU_REFUSED_BUFFER;
@@ -158,30 +188,34 @@ static int is_written(uint32_t status, const char *buffer, size_t room, size_t s
     return 1;
 }
 
-#define COMPARE_TEXT(call, value, refused, whole)                                            \
-    do {                                                                                     \
-        char buffer[REFERENCE_ROOM], text[REFERENCE_ROOM];                                   \
-        size_t size = 7, room = one_of(8) ? MUXANDU_TEXT_ROOM : one_of(REFERENCE_ROOM + 1), wanted = 7; \
-        uint32_t refusal = refused, status;                                                  \
-        memset(buffer, 'x', sizeof buffer);                                                  \
-        if (refusal == MUXANDU_OK) wanted = whole;                                           \
-        if (refusal == MUXANDU_OK && wanted == 0) refusal = MUXANDU_REFUSED_NO_TEXT;         \
-        status = muxandu_##call(value, buffer, room, &size);                                 \
-        tell(#call, is_written(status, buffer, room, size, refusal, text, wanted));          \
+#define COMPARE_TEXT(call, value, refused, whole)                                                                      \
+    do {                                                                                                               \
+        char buffer[REFERENCE_ROOM], text[REFERENCE_ROOM];                                                             \
+        size_t size = 7, room = one_of(8) ? MUXANDU_TEXT_ROOM : one_of(REFERENCE_ROOM + 1), wanted = 7;                \
+        uint32_t refusal = refused, status;                                                                            \
+        memset(buffer, 'x', sizeof buffer);                                                                            \
+        if (refusal == MUXANDU_OK) wanted = whole;                                                                     \
+        if (refusal == MUXANDU_OK && wanted == 0) refusal = MUXANDU_REFUSED_NO_TEXT;                                   \
+        status = muxandu_##call(value, buffer, room, &size);                                                           \
+        tell(#call, is_written(status, buffer, room, size, refusal, text, wanted));                                    \
     } while (0)
 
 static void compare_texts(uint32_t kind) {
     MuxanduCivil civil = some_civil(), in_utc = civil_of(0, 0);
     MuxanduTimestamp at = some_stamp();
     uint32_t refused;
-    if (one_of(2)) civil = civil_of((Nanoseconds)between(-62167219200, 253402300799) * 1000000000 + some_nanosecond() % 1000000000, some_offset());
+    if (one_of(2))
+        civil = civil_of((Nanoseconds)between(-62167219200, 253402300799) * 1000000000 + some_nanosecond() % 1000000000,
+                         some_offset());
     if (one_of(2)) at.seconds = between(-62167219200 - 86400, 253402300799 + 86400);
     refused = reference_timestamp_check(at);
     if (refused == MUXANDU_OK) in_utc = civil_of(instant_of(at), 0);
     switch (kind) {
     case 0: COMPARE_TEXT(civil_text, civil, reference_civil_check(civil), reference_civil_text(civil, text)); break;
     case 1: COMPARE_TEXT(timestamp_text, at, refused, reference_timestamp_text(at, text)); break;
-    case 2: COMPARE_TEXT(civil_to_rfc3339, civil, reference_civil_check(civil), reference_to_rfc3339(civil, text)); break;
+    case 2:
+        COMPARE_TEXT(civil_to_rfc3339, civil, reference_civil_check(civil), reference_to_rfc3339(civil, text));
+        break;
     case 3: COMPARE_TEXT(timestamp_to_rfc3339, at, refused, reference_to_rfc3339(in_utc, text)); break;
     default: COMPARE_TEXT(timestamp_to_rfc3339_nanos, at, refused, reference_to_rfc3339_nanos(in_utc, text)); break;
     }
@@ -189,7 +223,9 @@ static void compare_texts(uint32_t kind) {
 
 /* A text of RFC 3339 spelled in a random way, one in four of them spoiled, with a byte 0 behind its end. */
 static size_t some_text(char *out) {
-    MuxanduCivil at = civil_of((Nanoseconds)between(-62167219200, 253402300799) * 1000000000 + some_nanosecond() % 1000000000, (int32_t)between(-1439, 1439) * 60);
+    MuxanduCivil at =
+        civil_of((Nanoseconds)between(-62167219200, 253402300799) * 1000000000 + some_nanosecond() % 1000000000,
+                 (int32_t)between(-1439, 1439) * 60);
     size_t size = one_of(4) ? reference_to_rfc3339(at, out) : reference_to_rfc3339_nanos(at, out);
     if (size == 0) size = reference_to_rfc3339(civil_of(0, 0), out);
     out[size] = 0;
@@ -213,31 +249,32 @@ static void compare_reading(int is_civil_wanted) {
         tell("civil_from_rfc3339", status == reference_civil_from_rfc3339(text, &wanted) && is_civil(civil, wanted));
     } else {
         uint32_t status = muxandu_timestamp_from_rfc3339(text, size, &at);
-        tell("timestamp_from_rfc3339", status == reference_timestamp_from_rfc3339(text, &instant) && same_stamp(at, instant));
+        tell("timestamp_from_rfc3339",
+             status == reference_timestamp_from_rfc3339(text, &instant) && same_stamp(at, instant));
     }
 }
 
 enum { MOST_ITEMS = 8 };
 
 /* Compares a batch with calls of the reference, item by item: `one` converts item k into theirs[k]. */
-#define COMPARE_BATCH(type, same, name, batch, one)                                          \
-    do {                                                                                     \
-        type ours[MOST_ITEMS], theirs[MOST_ITEMS];                                           \
-        MuxanduBatch done;                                                                   \
-        size_t k = 0;                                                                        \
-        uint32_t status = MUXANDU_OK;                                                        \
-        int is_same = 1;                                                                     \
-        memset(ours, 7, sizeof ours);                                                        \
-        memcpy(theirs, ours, sizeof ours);                                                   \
-        if (room < count) status = MUXANDU_REFUSED_BUFFER;                                   \
-        while (status == MUXANDU_OK && k < count) {                                          \
-            status = one;                                                                    \
-            if (status == MUXANDU_OK) k++;                                                   \
-        }                                                                                    \
-        done = batch;                                                                        \
-        is_same = done.count == k && done.status == status;                                  \
-        for (k = 0; k < MOST_ITEMS; k++) is_same = is_same && same(ours[k], theirs[k]);      \
-        tell(name, is_same);                                                                 \
+#define COMPARE_BATCH(type, same, name, batch, one)                                                                    \
+    do {                                                                                                               \
+        type ours[MOST_ITEMS], theirs[MOST_ITEMS];                                                                     \
+        MuxanduBatch done;                                                                                             \
+        size_t k = 0;                                                                                                  \
+        uint32_t status = MUXANDU_OK;                                                                                  \
+        int is_same = 1;                                                                                               \
+        memset(ours, 7, sizeof ours);                                                                                  \
+        memcpy(theirs, ours, sizeof ours);                                                                             \
+        if (room < count) status = MUXANDU_REFUSED_BUFFER;                                                             \
+        while (status == MUXANDU_OK && k < count) {                                                                    \
+            status = one;                                                                                              \
+            if (status == MUXANDU_OK) k++;                                                                             \
+        }                                                                                                              \
+        done = batch;                                                                                                  \
+        is_same = done.count == k && done.status == status;                                                            \
+        for (k = 0; k < MOST_ITEMS; k++) is_same = is_same && same(ours[k], theirs[k]);                                \
+        tell(name, is_same);                                                                                           \
     } while (0)
 
 static uint32_t second_of(MuxanduCivil civil, int64_t *out) {
@@ -248,7 +285,8 @@ static uint32_t second_of(MuxanduCivil civil, int64_t *out) {
 }
 
 static void compare_batches(uint32_t kind) {
-    size_t count = one_of(MOST_ITEMS + 1), room = one_of(16) ? count + one_of((uint32_t)(MOST_ITEMS - count) + 1) : one_of(MOST_ITEMS + 1), item;
+    size_t count = one_of(MOST_ITEMS + 1),
+           room = one_of(16) ? count + one_of((uint32_t)(MOST_ITEMS - count) + 1) : one_of(MOST_ITEMS + 1), item;
     int64_t seconds[MOST_ITEMS];
     int32_t days[MOST_ITEMS], offset = some_offset();
     MuxanduCivil civils[MOST_ITEMS];
@@ -261,12 +299,13 @@ static void compare_batches(uint32_t kind) {
     }
     switch (kind) {
     case 0:
-        COMPARE_BATCH(MuxanduCivil, is_civil, "civils_from_seconds", muxandu_civils_from_seconds(seconds, count, offset, ours, room),
+        COMPARE_BATCH(MuxanduCivil, is_civil, "civils_from_seconds",
+                      muxandu_civils_from_seconds(seconds, count, offset, ours, room),
                       reference_civil_from_timestamp(stamp(seconds[k], 0), offset, theirs + k));
         break;
     case 1:
-        COMPARE_BATCH(int64_t, same_number, "seconds_from_civils", muxandu_seconds_from_civils(civils, count, ours, room),
-                      second_of(civils[k], theirs + k));
+        COMPARE_BATCH(int64_t, same_number, "seconds_from_civils",
+                      muxandu_seconds_from_civils(civils, count, ours, room), second_of(civils[k], theirs + k));
         break;
     case 2:
         COMPARE_BATCH(MuxanduDate, same_date, "dates_from_days", muxandu_dates_from_days(days, count, ours, room),
@@ -288,80 +327,129 @@ static void compare_batch_of_texts(void) {
         spans[item].length = some_text(texts[item]);
         if (one_of(64) == 0) spans[item].start = one_of(2) ? sizeof texts : (size_t)next() | (size_t)1 << 32;
     }
-    COMPARE_BATCH(MuxanduTimestamp, same_stamp, "timestamps_from_rfc3339",
-                  muxandu_timestamps_from_rfc3339(texts[0], sizeof texts, spans, count, ours, room),
-                  spans[k].start != k * REFERENCE_ROOM
-                      ? (spans[k].start == sizeof texts && spans[k].length == 0 ? MUXANDU_REFUSED_SYNTAX : MUXANDU_REFUSED_SPAN)
-                      : reference_timestamp_from_rfc3339(texts[k], theirs + k));
+    COMPARE_BATCH(
+        MuxanduTimestamp, same_stamp, "timestamps_from_rfc3339",
+        muxandu_timestamps_from_rfc3339(texts[0], sizeof texts, spans, count, ours, room),
+        spans[k].start != k * REFERENCE_ROOM
+            ? (spans[k].start == sizeof texts && spans[k].length == 0 ? MUXANDU_REFUSED_SYNTAX : MUXANDU_REFUSED_SPAN)
+            : reference_timestamp_from_rfc3339(texts[k], theirs + k));
 }
 
-static void compare_week_date(void) {
-    MuxanduWeekDate value = {some_year(), (uint8_t)(one_of(8) ? 1 + one_of(53) : next()), (uint8_t)(one_of(8) ? one_of(7) : next())};
+static void compare_timestamps(uint32_t kind) {
+    MuxanduTimestamp at = some_stamp(), other = some_stamp();
+    MuxanduDuration duration = some_duration();
+    uint32_t unit = some_unit();
+    if (one_of(8) == 0) other.seconds = at.seconds;
+    switch (kind) {
+    case 0: tell("timestamp_check", muxandu_timestamp_check(at) == reference_timestamp_check(at)); break;
+    case 1:
+        tell("timestamp_compare", muxandu_timestamp_compare(at, other) == reference_timestamp_compare(at, other));
+        break;
+    case 2: COMPARE(MuxanduTimestamp, same_stamp, timestamp_add, at, duration); break;
+    case 3: COMPARE(MuxanduTimestamp, same_stamp, timestamp_subtract, at, duration); break;
+    case 4: COMPARE(MuxanduTimestamp, same_stamp, timestamp_saturating_add, at, duration); break;
+    case 5: COMPARE(MuxanduTimestamp, same_stamp, timestamp_saturating_subtract, at, duration); break;
+    case 6: COMPARE(MuxanduDuration, same_length, timestamp_difference, at, other); break;
+    default: COMPARE(MuxanduTimestamp, same_stamp, timestamp_truncate, at, unit); break;
+    }
+}
+
+static void compare_counts(uint32_t kind) {
+    MuxanduTimestamp at = some_stamp();
+    int64_t count = (int64_t)next() >> one_of(40);
+    if (one_of(4)) at.seconds >>= one_of(24);
+    switch (kind) {
+    case 0: COMPARE(MuxanduTimestamp, same_stamp, timestamp_from_milliseconds, count); break;
+    case 1: COMPARE(int64_t, same_number, timestamp_to_milliseconds, at); break;
+    case 2: COMPARE(int64_t, same_number, timestamp_to_microseconds, at); break;
+    case 3: COMPARE(int64_t, same_number, timestamp_to_nanoseconds, at); break;
+    case 4:
+        at = muxandu_timestamp_from_microseconds(count);
+        tell("timestamp_from_microseconds", same_stamp(at, reference_timestamp_from_microseconds(count)));
+        break;
+    default:
+        at = muxandu_timestamp_from_nanoseconds(count);
+        tell("timestamp_from_nanoseconds", same_stamp(at, reference_timestamp_from_nanoseconds(count)));
+        break;
+    }
+}
+
+static void compare_civils(uint32_t kind) {
+    MuxanduCivil civil = some_civil(), other = some_civil();
+    MuxanduTimestamp at = some_stamp();
+    MuxanduDuration duration = some_duration();
+    int32_t offset = some_offset();
+    uint32_t unit = some_unit();
+    switch (kind) {
+    case 0: tell("civil_check", muxandu_civil_check(civil) == reference_civil_check(civil)); break;
+    case 1: COMPARE(MuxanduCivil, is_civil, civil_from_timestamp, at, offset); break;
+    case 2: COMPARE(MuxanduTimestamp, same_stamp, timestamp_from_civil, civil); break;
+    case 3: COMPARE(MuxanduCivil, is_civil, civil_to_offset, civil, offset); break;
+    case 4: COMPARE(MuxanduCivil, is_civil, civil_add, civil, duration); break;
+    case 5: COMPARE(MuxanduCivil, is_civil, civil_subtract, civil, duration); break;
+    case 6: COMPARE(MuxanduCivil, is_civil, civil_saturating_add, civil, duration); break;
+    case 7: COMPARE(MuxanduCivil, is_civil, civil_saturating_subtract, civil, duration); break;
+    case 8: COMPARE(MuxanduDuration, same_length, civil_difference, civil, other); break;
+    case 9: COMPARE(MuxanduCivil, is_civil, civil_truncate, civil, unit); break;
+    case 10: COMPARE(int32_t, same_number, civil_compare, civil, other); break;
+    default: COMPARE(int32_t, same_number, civil_day, civil); break;
+    }
+}
+
+static MuxanduOrdinalDate some_ordinal_date(void) {
+    MuxanduOrdinalDate value = {some_year(), (uint16_t)(1 + one_of(366))};
+    if (one_of(4) == 0) value.ordinal = (uint16_t)(364 + one_of(4));
+    if (one_of(8) == 0) value.ordinal = (uint16_t)next();
+    return value;
+}
+
+static MuxanduWeekDate some_week_date(void) {
+    MuxanduWeekDate value = {some_year(), (uint8_t)(1 + one_of(53)), (uint8_t)one_of(7)};
+    if (one_of(8) == 0) value.week = (uint8_t)next();
+    if (one_of(8) == 0) value.weekday = (uint8_t)next();
     if (one_of(8) == 0) {
         value.year = 999999;
         value.week = (uint8_t)(51 + one_of(3));
     }
-    COMPARE(int32_t, same_number, day_from_week_date, value);
+    return value;
 }
 
-static void compare_ordinal_date(void) {
-    MuxanduOrdinalDate value = {some_year(), (uint16_t)(one_of(4) ? 1 + one_of(366) : one_of(2) ? 364 + one_of(4) : next())};
-    COMPARE(int32_t, same_number, day_from_ordinal_date, value);
+static void compare_days(uint32_t kind) {
+    MuxanduDate value = some_date();
+    MuxanduOrdinalDate of_year = some_ordinal_date();
+    MuxanduWeekDate of_week = some_week_date();
+    int32_t day = some_day();
+    switch (kind) {
+    case 0: COMPARE(MuxanduDate, same_date, date_from_day, day); break;
+    case 1: COMPARE(int32_t, same_number, day_from_date, value); break;
+    case 2: COMPARE(MuxanduOrdinalDate, same_ordinal, ordinal_date_from_day, day); break;
+    case 3: COMPARE(int32_t, same_number, day_from_ordinal_date, of_year); break;
+    case 4: COMPARE(MuxanduWeekDate, same_week, week_date_from_day, day); break;
+    case 5: COMPARE(int32_t, same_number, day_from_week_date, of_week); break;
+    case 6: COMPARE(uint8_t, same_number, weekday_from_day, day); break;
+    default: COMPARE(uint8_t, same_number, days_in_month, value.year, value.month); break;
+    }
 }
 
-static void compare_compare(void) {
-    MuxanduTimestamp first = some_stamp(), second = some_stamp();
-    if (one_of(4) == 0) second.seconds = first.seconds;
-    tell("timestamp_compare", muxandu_timestamp_compare(first, second) == reference_timestamp_compare(first, second));
-}
-
+/* One call of any kind, each group as often as it has calls. */
 static void compare_one(void) {
-    MuxanduCivil civil = some_civil(), other = some_civil();
-    MuxanduTimestamp at = some_stamp();
-    int64_t count = (int64_t)next() >> one_of(40);
-    switch (one_of(46)) {
-    case 0: tell("timestamp_check", muxandu_timestamp_check(at) == reference_timestamp_check(at)); break;
-    case 1: compare_compare(); break;
-    case 2: { MuxanduDuration d = some_duration(); COMPARE(MuxanduTimestamp, same_stamp, timestamp_add, at, d); break; }
-    case 3: { MuxanduDuration d = some_duration(); COMPARE(MuxanduTimestamp, same_stamp, timestamp_subtract, at, d); break; }
-    case 4: { MuxanduDuration d = some_duration(); COMPARE(MuxanduTimestamp, same_stamp, timestamp_saturating_add, at, d); break; }
-    case 5: { MuxanduDuration d = some_duration(); COMPARE(MuxanduTimestamp, same_stamp, timestamp_saturating_subtract, at, d); break; }
-    case 6: { MuxanduTimestamp earlier = some_stamp(); COMPARE(MuxanduDuration, same_length, timestamp_difference, at, earlier); break; }
-    case 7: { uint32_t unit = some_unit(); COMPARE(MuxanduTimestamp, same_stamp, timestamp_truncate, at, unit); break; }
-    case 8: COMPARE(MuxanduTimestamp, same_stamp, timestamp_from_milliseconds, count); break;
-    case 9: COMPARE(int64_t, same_number, timestamp_to_milliseconds, at); break;
-    case 10: tell("timestamp_from_microseconds", same_stamp(muxandu_timestamp_from_microseconds(count), reference_timestamp_from_microseconds(count))); break;
-    case 11: COMPARE(int64_t, same_number, timestamp_to_microseconds, at); break;
-    case 12: tell("timestamp_from_nanoseconds", same_stamp(muxandu_timestamp_from_nanoseconds(count), reference_timestamp_from_nanoseconds(count))); break;
-    case 13: COMPARE(int64_t, same_number, timestamp_to_nanoseconds, at); break;
-    case 14: tell("civil_check", muxandu_civil_check(civil) == reference_civil_check(civil)); break;
-    case 15: { int32_t offset = some_offset(); COMPARE(MuxanduCivil, is_civil, civil_from_timestamp, at, offset); break; }
-    case 16: COMPARE(MuxanduTimestamp, same_stamp, timestamp_from_civil, civil); break;
-    case 17: { int32_t offset = some_offset(); COMPARE(MuxanduCivil, is_civil, civil_to_offset, civil, offset); break; }
-    case 18: { MuxanduDuration d = some_duration(); COMPARE(MuxanduCivil, is_civil, civil_add, civil, d); break; }
-    case 19: { MuxanduDuration d = some_duration(); COMPARE(MuxanduCivil, is_civil, civil_subtract, civil, d); break; }
-    case 20: { MuxanduDuration d = some_duration(); COMPARE(MuxanduCivil, is_civil, civil_saturating_add, civil, d); break; }
-    case 21: { MuxanduDuration d = some_duration(); COMPARE(MuxanduCivil, is_civil, civil_saturating_subtract, civil, d); break; }
-    case 22: COMPARE(MuxanduDuration, same_length, civil_difference, civil, other); break;
-    case 23: { uint32_t unit = some_unit(); COMPARE(MuxanduCivil, is_civil, civil_truncate, civil, unit); break; }
-    case 24: COMPARE(int32_t, same_number, civil_compare, civil, other); break;
-    case 25: COMPARE(int32_t, same_number, civil_day, civil); break;
-    case 26: { int32_t day = some_day(); COMPARE(MuxanduDate, same_date, date_from_day, day); break; }
-    case 27: { MuxanduDate value = some_date(); COMPARE(int32_t, same_number, day_from_date, value); break; }
-    case 28: { int32_t day = some_day(); COMPARE(MuxanduOrdinalDate, same_ordinal, ordinal_date_from_day, day); break; }
-    case 29: compare_ordinal_date(); break;
-    case 30: { int32_t day = some_day(); COMPARE(MuxanduWeekDate, same_week, week_date_from_day, day); break; }
-    case 31: compare_week_date(); break;
-    case 32: { int32_t day = some_day(); COMPARE(uint8_t, same_number, weekday_from_day, day); break; }
-    case 33: { MuxanduDate value = some_date(); COMPARE(uint8_t, same_number, days_in_month, value.year, value.month); break; }
-    case 34: compare_batches(0); break;
-    case 35: compare_batches(1); break;
-    case 36: compare_batches(2); break;
-    case 37: compare_batches(3); break;
-    case 38: compare_batch_of_texts(); break;
-    case 39: compare_reading(1); break;
-    case 40: compare_reading(0); break;
-    default: compare_texts(one_of(5)); break;
+    uint32_t kind = one_of(46);
+    if (kind < 8) {
+        compare_timestamps(kind);
+    } else if (kind < 14) {
+        compare_counts(kind - 8);
+    } else if (kind < 26) {
+        compare_civils(kind - 14);
+    } else if (kind < 34) {
+        compare_days(kind - 26);
+    } else if (kind < 38) {
+        compare_batches(kind - 34);
+    } else if (kind == 38) {
+        compare_batch_of_texts();
+    } else if (kind < 41) {
+        compare_reading(kind == 39);
+    } else {
+        compare_texts(kind - 41);
     }
 }
 

@@ -95,7 +95,8 @@ static inline int is_duration(MuxanduDuration duration) {
 }
 
 static inline Nanoseconds wall_of(MuxanduCivil civil) {
-    int64_t second = era_day(civil.year, civil.month, civil.day) * 86400 + civil.hour * 3600 + civil.minute * 60 + civil.second;
+    int64_t second =
+        era_day(civil.year, civil.month, civil.day) * 86400 + civil.hour * 3600 + civil.minute * 60 + civil.second;
     return (Nanoseconds)second * 1000000000 + civil.nanosecond;
 }
 
@@ -107,8 +108,14 @@ static inline MuxanduCivil civil_of(Nanoseconds wall, int32_t offset_seconds) {
     Nanoseconds nanosecond, second = split(wall, 1000000000, &nanosecond), of_day;
     MuxanduDate date = era_date((int64_t)split(second, 86400, &of_day));
     uint32_t clock = (uint32_t)of_day;
-    MuxanduCivil civil = {date.year, date.month, date.day, (uint8_t)(clock / 3600), (uint8_t)(clock / 60 % 60),
-                          (uint8_t)(clock % 60), (uint32_t)nanosecond, offset_seconds};
+    MuxanduCivil civil = {date.year,
+                          date.month,
+                          date.day,
+                          (uint8_t)(clock / 3600),
+                          (uint8_t)(clock / 60 % 60),
+                          (uint8_t)(clock % 60),
+                          (uint32_t)nanosecond,
+                          offset_seconds};
     return civil;
 }
 
@@ -180,11 +187,10 @@ static inline Nanoseconds truncated(Nanoseconds number, uint32_t unit) {
 }
 
 /* The first refusal of a list of tests, each made only where none before it refuses. */
-#define REFUSE(test)                        \
-    do {                                    \
-        uint32_t refused = (test);          \
-        if (refused != MUXANDU_OK)          \
-            return refused;                 \
+#define REFUSE(test)                                                                                                   \
+    do {                                                                                                               \
+        uint32_t refused = (test);                                                                                     \
+        if (refused != MUXANDU_OK) return refused;                                                                     \
     } while (0)
 
 static inline uint32_t duration_check(MuxanduDuration duration) {
@@ -201,25 +207,29 @@ static inline uint32_t reference_timestamp_add(MuxanduTimestamp at, MuxanduDurat
     return give_stamp(instant_of(at) + length_of(duration), out);
 }
 
-static inline uint32_t reference_timestamp_saturating_add(MuxanduTimestamp at, MuxanduDuration duration, MuxanduTimestamp *out) {
+static inline uint32_t reference_timestamp_saturating_add(MuxanduTimestamp at, MuxanduDuration duration,
+                                                          MuxanduTimestamp *out) {
     REFUSE(reference_timestamp_check(at));
     REFUSE(duration_check(duration));
     return give_stamp(clamped(instant_of(at) + length_of(duration)), out);
 }
 
-static inline uint32_t reference_timestamp_subtract(MuxanduTimestamp at, MuxanduDuration duration, MuxanduTimestamp *out) {
+static inline uint32_t reference_timestamp_subtract(MuxanduTimestamp at, MuxanduDuration duration,
+                                                    MuxanduTimestamp *out) {
     REFUSE(reference_timestamp_check(at));
     REFUSE(duration_check(duration));
     return give_stamp(instant_of(at) - length_of(duration), out);
 }
 
-static inline uint32_t reference_timestamp_saturating_subtract(MuxanduTimestamp at, MuxanduDuration duration, MuxanduTimestamp *out) {
+static inline uint32_t reference_timestamp_saturating_subtract(MuxanduTimestamp at, MuxanduDuration duration,
+                                                               MuxanduTimestamp *out) {
     REFUSE(reference_timestamp_check(at));
     REFUSE(duration_check(duration));
     return give_stamp(clamped(instant_of(at) - length_of(duration)), out);
 }
 
-static inline uint32_t reference_timestamp_difference(MuxanduTimestamp later, MuxanduTimestamp earlier, MuxanduDuration *out) {
+static inline uint32_t reference_timestamp_difference(MuxanduTimestamp later, MuxanduTimestamp earlier,
+                                                      MuxanduDuration *out) {
     REFUSE(reference_timestamp_check(later));
     REFUSE(reference_timestamp_check(earlier));
     *out = duration_of(instant_of(later) - instant_of(earlier));
@@ -326,7 +336,8 @@ static inline uint32_t reference_civil_subtract(MuxanduCivil civil, MuxanduDurat
     return give_civil(wall_of(civil) - length_of(duration), civil.offset_seconds, out);
 }
 
-static inline uint32_t reference_civil_saturating_subtract(MuxanduCivil civil, MuxanduDuration duration, MuxanduCivil *out) {
+static inline uint32_t reference_civil_saturating_subtract(MuxanduCivil civil, MuxanduDuration duration,
+                                                           MuxanduCivil *out) {
     REFUSE(reference_civil_check(civil));
     REFUSE(duration_check(duration));
     return give_civil(clamped(wall_of(civil) - length_of(duration)), civil.offset_seconds, out);
@@ -430,13 +441,15 @@ static inline size_t reference_civil_text(MuxanduCivil civil, char *out) {
     const char *sign = civil.year < 0 ? "-" : civil.year > 9999 ? "+" : "";
     int year = civil.year < 0 ? -civil.year : civil.year;
     int size = civil.offset_seconds < 0 ? -civil.offset_seconds : civil.offset_seconds;
-    int length = sprintf(out, "%s%04d-%02d-%02d %d:%02d:%02d", sign, year, civil.month, civil.day, civil.hour, civil.minute, civil.second);
+    int length = sprintf(out, "%s%04d-%02d-%02d %d:%02d:%02d", sign, year, civil.month, civil.day, civil.hour,
+                         civil.minute, civil.second);
     if (civil.nanosecond == 0) {
         length += sprintf(out + length, ".0");
     } else {
         length += write_fraction(out + length, civil.nanosecond);
     }
-    length += sprintf(out + length, " %c%02d:%02d:%02d", civil.offset_seconds < 0 ? '-' : '+', size / 3600, size / 60 % 60, size % 60);
+    length += sprintf(out + length, " %c%02d:%02d:%02d", civil.offset_seconds < 0 ? '-' : '+', size / 3600,
+                      size / 60 % 60, size % 60);
     return (size_t)length;
 }
 
@@ -451,12 +464,14 @@ static inline size_t reference_timestamp_text(MuxanduTimestamp at, char *out) {
 static inline size_t reference_to_rfc3339(MuxanduCivil civil, char *out) {
     int size = civil.offset_seconds < 0 ? -civil.offset_seconds : civil.offset_seconds, length;
     if (civil.year < 0 || civil.year > 9999 || size % 60 != 0 || size >= 86400) return 0;
-    length = sprintf(out, "%04d-%02d-%02dT%02d:%02d:%02d", (int)civil.year, civil.month, civil.day, civil.hour, civil.minute, civil.second);
+    length = sprintf(out, "%04d-%02d-%02dT%02d:%02d:%02d", (int)civil.year, civil.month, civil.day, civil.hour,
+                     civil.minute, civil.second);
     if (civil.nanosecond != 0) length += write_fraction(out + length, civil.nanosecond);
     if (size == 0) {
         length += sprintf(out + length, "Z");
     } else {
-        length += sprintf(out + length, "%c%02d:%02d", civil.offset_seconds < 0 ? '-' : '+', size / 3600, size / 60 % 60);
+        length +=
+            sprintf(out + length, "%c%02d:%02d", civil.offset_seconds < 0 ? '-' : '+', size / 3600, size / 60 % 60);
     }
     return (size_t)length;
 }
@@ -469,7 +484,8 @@ static inline size_t reference_to_rfc3339_nanos(MuxanduCivil civil, char *out) {
 /* Whether the text has the form: a digit for each `0`, and one of two for `T`; `length` bytes of both are compared. */
 static inline int has_form(const char *text, const char *form) {
     for (; *form != 0; text++, form++) {
-        if (*form == '0' ? *text < '0' || *text > '9' : *form == 'T' ? strchr("Tt ", *text) == NULL : *text != *form) return 0;
+        if (*form == '0' ? *text < '0' || *text > '9' : *form == 'T' ? strchr("Tt ", *text) == NULL : *text != *form)
+            return 0;
     }
     return 1;
 }
@@ -484,7 +500,8 @@ static inline uint32_t reference_civil_from_rfc3339(const char *text, MuxanduCiv
     const char *rest = text + 19;
     uint32_t hour = 0, minute = 0, digit = 100000000;
     int is_west = 0;
-    if (strlen(text) < 20 || strchr("Tt ", text[10]) == NULL || !has_form(text, "0000-00-00T00:00:00")) return MUXANDU_REFUSED_SYNTAX;
+    if (strlen(text) < 20 || strchr("Tt ", text[10]) == NULL || !has_form(text, "0000-00-00T00:00:00"))
+        return MUXANDU_REFUSED_SYNTAX;
     if (*rest == '.') {
         rest++;
         if (*rest < '0' || *rest > '9') return MUXANDU_REFUSED_SYNTAX;
@@ -494,7 +511,8 @@ static inline uint32_t reference_civil_from_rfc3339(const char *text, MuxanduCiv
         if (rest[1] != 0) return MUXANDU_REFUSED_SYNTAX;
     } else {
         is_west = *rest == '-';
-        if ((*rest != '+' && *rest != '-') || strlen(rest) != 6 || !has_form(rest + 1, "00:00")) return MUXANDU_REFUSED_SYNTAX;
+        if ((*rest != '+' && *rest != '-') || strlen(rest) != 6 || !has_form(rest + 1, "00:00"))
+            return MUXANDU_REFUSED_SYNTAX;
         hour = two_digits(rest + 1);
         minute = two_digits(rest + 4);
     }

@@ -29,7 +29,8 @@ static void instants_in_utc(void) {
     for (row = 0; row < COUNT(rows); row++) {
         CHECK(muxandu_civil_from_timestamp(stamp(rows[row].seconds, rows[row].nanoseconds), 0, &at) == MUXANDU_OK);
         CHECK(shows(at, rows[row].text));
-        CHECK(muxandu_timestamp_from_civil(at, &back) == MUXANDU_OK && is_stamp(back, rows[row].seconds, rows[row].nanoseconds));
+        CHECK(muxandu_timestamp_from_civil(at, &back) == MUXANDU_OK &&
+              is_stamp(back, rows[row].seconds, rows[row].nanoseconds));
     }
 }
 
@@ -52,7 +53,8 @@ static void texts_of_instants(void) {
     char text[MUXANDU_TEXT_ROOM];
     size_t row, size;
     for (row = 0; row < COUNT(rows); row++) {
-        CHECK(muxandu_timestamp_text(stamp(rows[row].seconds, rows[row].nanoseconds), text, sizeof text, &size) == MUXANDU_OK);
+        CHECK(muxandu_timestamp_text(stamp(rows[row].seconds, rows[row].nanoseconds), text, sizeof text, &size) ==
+              MUXANDU_OK);
         CHECK(is_text(text, size, rows[row].text));
     }
 }
@@ -118,10 +120,12 @@ static void conversions(void) {
     MuxanduCivil out;
     size_t row;
     for (row = 0; row < COUNT(rows); row++) {
-        CHECK(muxandu_civil_to_offset(rows[row].at, rows[row].offset_seconds, &out) == MUXANDU_OK && shows(out, rows[row].text));
+        CHECK(muxandu_civil_to_offset(rows[row].at, rows[row].offset_seconds, &out) == MUXANDU_OK &&
+              shows(out, rows[row].text));
     }
     CHECK(muxandu_civil_to_offset(civil(999999, 12, 31, 23, 59, 59, 0, -3600), 0, &out) == MUXANDU_REFUSED_RESULT);
-    CHECK(muxandu_civil_to_offset(civil(999999, 12, 31, 23, 59, 59, 999999999, 0), 3600, &out) == MUXANDU_REFUSED_RESULT);
+    CHECK(muxandu_civil_to_offset(civil(999999, 12, 31, 23, 59, 59, 999999999, 0), 3600, &out) ==
+          MUXANDU_REFUSED_RESULT);
     CHECK(muxandu_civil_to_offset(civil(-999999, 1, 1, 0, 0, 0, 0, 93599), 90000, &out) == MUXANDU_REFUSED_RESULT);
 }
 
@@ -130,7 +134,8 @@ static void ends_at_offsets(void) {
     static const int32_t offsets[] = {-93599, -1, 0, 1, 93599};
     size_t from, to;
     for (from = 0; from < COUNT(offsets); from++) {
-        MuxanduCivil first = civil(-999999, 1, 1, 0, 0, 0, 0, offsets[from]), last = civil(999999, 12, 31, 23, 59, 59, 999999999, offsets[from]), out;
+        MuxanduCivil first = civil(-999999, 1, 1, 0, 0, 0, 0, offsets[from]),
+                     last = civil(999999, 12, 31, 23, 59, 59, 999999999, offsets[from]), out;
         MuxanduTimestamp at;
         CHECK((muxandu_timestamp_from_civil(first, &at) == MUXANDU_OK) == (offsets[from] <= 0));
         CHECK((muxandu_timestamp_from_civil(last, &at) == MUXANDU_OK) == (offsets[from] >= 0));
@@ -148,7 +153,10 @@ static void differences(void) {
         int64_t seconds;
         int32_t nanoseconds;
     } rows[] = {
-        {{999999, 12, 31, 23, 59, 59, 999999999, -93599}, {-999999, 1, 1, 0, 0, 0, 0, 93599}, 63113872564797, 999999999},
+        {{999999, 12, 31, 23, 59, 59, 999999999, -93599},
+         {-999999, 1, 1, 0, 0, 0, 0, 93599},
+         63113872564797,
+         999999999},
         {{-9999, 1, 1, 0, 0, 0, 0, 36000}, {-9999, 1, 1, 1, 0, 0, 0, 36000}, -3600, 0},
         {{-9999, 1, 1, 0, 0, 0, 0, 36000}, {-9999, 1, 1, 1, 0, 0, 0, 39600}, 0, 0},
         {{-999999, 1, 1, 0, 0, 0, 0, 93599}, {-999999, 1, 1, 0, 0, 0, 0, 0}, -93599, 0},
@@ -169,20 +177,13 @@ static void seconds(void) {
         MuxanduCivil at;
         int64_t second;
     } rows[] = {
-        {{2000, 1, 1, 0, 0, 0, 0, -18000}, 946702800},
-        {{1970, 1, 1, 0, 0, 0, 0, -3600}, 3600},
-        {{1970, 1, 1, 0, 0, 0, 0, 3600}, -3600},
-        {{-9999, 1, 1, 0, 0, 0, 0, 36000}, -377705152800},
-        {{-9999, 1, 1, 1, 0, 0, 0, 39600}, -377705152800},
-        {{2019, 1, 2, 12, 34, 56, 0, 0}, 1546432496},
-        {{2020, 1, 2, 3, 4, 5, 0, 0}, 1577934245},
-        {{2019, 2, 2, 3, 4, 5, 0, 0}, 1549076645},
-        {{2019, 1, 1, 3, 4, 5, 0, 0}, 1546311845},
-        {{2019, 1, 2, 0, 4, 5, 0, 0}, 1546387445},
-        {{2019, 1, 2, 3, 0, 5, 0, 0}, 1546398005},
-        {{2019, 1, 2, 3, 4, 0, 0, 0}, 1546398240},
-        {{2004, 2, 29, 0, 0, 0, 0, 0}, 1078012800},
-        {{2000, 4, 29, 0, 0, 0, 0, 0}, 956966400},
+        {{2000, 1, 1, 0, 0, 0, 0, -18000}, 946702800},     {{1970, 1, 1, 0, 0, 0, 0, -3600}, 3600},
+        {{1970, 1, 1, 0, 0, 0, 0, 3600}, -3600},           {{-9999, 1, 1, 0, 0, 0, 0, 36000}, -377705152800},
+        {{-9999, 1, 1, 1, 0, 0, 0, 39600}, -377705152800}, {{2019, 1, 2, 12, 34, 56, 0, 0}, 1546432496},
+        {{2020, 1, 2, 3, 4, 5, 0, 0}, 1577934245},         {{2019, 2, 2, 3, 4, 5, 0, 0}, 1549076645},
+        {{2019, 1, 1, 3, 4, 5, 0, 0}, 1546311845},         {{2019, 1, 2, 0, 4, 5, 0, 0}, 1546387445},
+        {{2019, 1, 2, 3, 0, 5, 0, 0}, 1546398005},         {{2019, 1, 2, 3, 4, 0, 0, 0}, 1546398240},
+        {{2004, 2, 29, 0, 0, 0, 0, 0}, 1078012800},        {{2000, 4, 29, 0, 0, 0, 0, 0}, 956966400},
     };
     MuxanduTimestamp at;
     size_t row;
@@ -219,26 +220,32 @@ static void sums_of_date_times(void) {
     MuxanduCivil out, last = civil(9999, 12, 31, 23, 0, 0, 0, 36000), first = civil(-999999, 1, 1, 0, 0, 0, 0, 36000);
     CHECK(muxandu_civil_add(civil(2019, 11, 25, 15, 30, 0, 0, 36000), length(97200, 0), &out) == MUXANDU_OK);
     CHECK(shows(out, "2019-11-26 18:30:00.0 +10:00:00"));
-    CHECK(muxandu_civil_add(last, length(3600, 0), &out) == MUXANDU_OK && shows(out, "+10000-01-01 0:00:00.0 +10:00:00"));
-    CHECK(muxandu_civil_saturating_add(last, length(3600, 0), &out) == MUXANDU_OK && shows(out, "+10000-01-01 0:00:00.0 +10:00:00"));
+    CHECK(muxandu_civil_add(last, length(3600, 0), &out) == MUXANDU_OK &&
+          shows(out, "+10000-01-01 0:00:00.0 +10:00:00"));
+    CHECK(muxandu_civil_saturating_add(last, length(3600, 0), &out) == MUXANDU_OK &&
+          shows(out, "+10000-01-01 0:00:00.0 +10:00:00"));
     CHECK(muxandu_civil_saturating_add(first, length(-172800, 0), &out) == MUXANDU_OK && is_civil(out, first));
     last.year = 999999;
     CHECK(muxandu_civil_add(last, length(3600, 0), &out) == MUXANDU_REFUSED_RESULT);
-    CHECK(muxandu_civil_saturating_add(last, length(3600, 0), &out) == MUXANDU_OK && shows(out, "+999999-12-31 23:59:59.999999999 +10:00:00"));
+    CHECK(muxandu_civil_saturating_add(last, length(3600, 0), &out) == MUXANDU_OK &&
+          shows(out, "+999999-12-31 23:59:59.999999999 +10:00:00"));
 }
 
 static void sums_at_the_ends(void) {
-    MuxanduTimestamp first = stamp(FIRST, 0), last = stamp(LAST, 999999999), out = stamp(7, 7), at = stamp(1546398245, 0);
+    MuxanduTimestamp first = stamp(FIRST, 0), last = stamp(LAST, 999999999), out = stamp(7, 7),
+                     at = stamp(1546398245, 0);
     MuxanduDuration longest = length(INT64_MAX, 999999999), shortest = length(INT64_MIN, -999999999);
     CHECK(muxandu_timestamp_add(first, length(63113872377600, 0), &out) == MUXANDU_REFUSED_RESULT);
     CHECK(muxandu_timestamp_subtract(last, length(63113872377600, 0), &out) == MUXANDU_REFUSED_RESULT);
     CHECK(muxandu_timestamp_add(first, longest, &out) == MUXANDU_REFUSED_RESULT);
     CHECK(muxandu_timestamp_subtract(stamp(0, 0), shortest, &out) == MUXANDU_REFUSED_RESULT && is_stamp(out, 7, 7));
-    CHECK(muxandu_timestamp_add(first, length(63113872377599, 999999999), &out) == MUXANDU_OK && is_stamp(out, LAST, 999999999));
+    CHECK(muxandu_timestamp_add(first, length(63113872377599, 999999999), &out) == MUXANDU_OK &&
+          is_stamp(out, LAST, 999999999));
     CHECK(muxandu_timestamp_saturating_add(first, longest, &out) == MUXANDU_OK && is_stamp(out, LAST, 999999999));
     CHECK(muxandu_timestamp_saturating_add(last, shortest, &out) == MUXANDU_OK && is_stamp(out, FIRST, 0));
     CHECK(muxandu_timestamp_saturating_subtract(last, shortest, &out) == MUXANDU_OK && is_stamp(out, LAST, 999999999));
-    CHECK(muxandu_timestamp_saturating_subtract(stamp(0, 0), shortest, &out) == MUXANDU_OK && is_stamp(out, LAST, 999999999));
+    CHECK(muxandu_timestamp_saturating_subtract(stamp(0, 0), shortest, &out) == MUXANDU_OK &&
+          is_stamp(out, LAST, 999999999));
     CHECK(muxandu_timestamp_saturating_add(stamp(0, 0), shortest, &out) == MUXANDU_OK && is_stamp(out, FIRST, 0));
     CHECK(muxandu_timestamp_add(at, length(86400, 0), &out) == MUXANDU_OK && is_stamp(out, 1546484645, 0));
     CHECK(muxandu_timestamp_subtract(at, length(86400, 0), &out) == MUXANDU_OK && is_stamp(out, 1546311845, 0));
@@ -247,10 +254,13 @@ static void sums_at_the_ends(void) {
 static void truncations(void) {
     MuxanduCivil at = civil(2022, 2, 18, 15, 30, 45, 123456789, 3600), out;
     MuxanduTimestamp stamped;
-    CHECK(muxandu_civil_truncate(at, MUXANDU_UNIT_MILLISECOND, &out) == MUXANDU_OK && shows(out, "2022-02-18 15:30:45.123 +01:00:00"));
-    CHECK(muxandu_civil_truncate(at, MUXANDU_UNIT_DAY, &out) == MUXANDU_OK && shows(out, "2022-02-18 0:00:00.0 +01:00:00"));
+    CHECK(muxandu_civil_truncate(at, MUXANDU_UNIT_MILLISECOND, &out) == MUXANDU_OK &&
+          shows(out, "2022-02-18 15:30:45.123 +01:00:00"));
+    CHECK(muxandu_civil_truncate(at, MUXANDU_UNIT_DAY, &out) == MUXANDU_OK &&
+          shows(out, "2022-02-18 0:00:00.0 +01:00:00"));
     at = civil(1969, 12, 31, 23, 59, 59, 500000000, 0);
-    CHECK(muxandu_civil_truncate(at, MUXANDU_UNIT_SECOND, &out) == MUXANDU_OK && shows(out, "1969-12-31 23:59:59.0 +00:00:00"));
+    CHECK(muxandu_civil_truncate(at, MUXANDU_UNIT_SECOND, &out) == MUXANDU_OK &&
+          shows(out, "1969-12-31 23:59:59.0 +00:00:00"));
     CHECK(muxandu_timestamp_truncate(stamp(-1, 999999999), MUXANDU_UNIT_MILLISECOND, &stamped) == MUXANDU_OK);
     CHECK(is_stamp(stamped, -1, 999000000));
 }

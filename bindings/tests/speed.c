@@ -28,26 +28,46 @@ static double now(void) {
     return (double)at.tv_sec * 1e9 + (double)at.tv_nsec;
 }
 
-#define LOOP(name, ...)                                            \
-    static void name(void) {                                       \
-        int k;                                                     \
-        for (k = 0; k < ITEMS; k++) {                              \
-            __VA_ARGS__;                                           \
-        }                                                          \
+#define LOOP(name, ...)                                                                                                \
+    static void name(void) {                                                                                           \
+        int k;                                                                                                         \
+        for (k = 0; k < ITEMS; k++) { __VA_ARGS__; }                                                                   \
     }
 
-static void batch_civils(void) { sink += muxandu_civils_from_seconds(seconds, ITEMS, offset_seconds, civils, ITEMS).status; }
-static void bare_batch_civils(void) { sink += bare_civils_from_seconds(seconds, ITEMS, offset_seconds, bare_civils, ITEMS).status; }
-static void batch_seconds(void) { sink += muxandu_seconds_from_civils(civils, ITEMS, back, ITEMS).status; }
-static void bare_batch_seconds(void) { sink += bare_seconds_from_civils(civils, ITEMS, bare_back, ITEMS).status; }
-static void batch_dates(void) { sink += muxandu_dates_from_days(days, ITEMS, dates, ITEMS).status; }
-static void bare_batch_dates(void) { sink += bare_dates_from_days(days, ITEMS, bare_dates, ITEMS).status; }
-static void batch_texts(void) { sink += muxandu_timestamps_from_rfc3339(texts, sizeof texts, spans, ITEMS, stamps, ITEMS).status; }
+static void batch_civils(void) {
+    sink += muxandu_civils_from_seconds(seconds, ITEMS, offset_seconds, civils, ITEMS).status;
+}
+
+static void bare_batch_civils(void) {
+    sink += bare_civils_from_seconds(seconds, ITEMS, offset_seconds, bare_civils, ITEMS).status;
+}
+
+static void batch_seconds(void) {
+    sink += muxandu_seconds_from_civils(civils, ITEMS, back, ITEMS).status;
+}
+
+static void bare_batch_seconds(void) {
+    sink += bare_seconds_from_civils(civils, ITEMS, bare_back, ITEMS).status;
+}
+
+static void batch_dates(void) {
+    sink += muxandu_dates_from_days(days, ITEMS, dates, ITEMS).status;
+}
+
+static void bare_batch_dates(void) {
+    sink += bare_dates_from_days(days, ITEMS, bare_dates, ITEMS).status;
+}
+
+static void batch_texts(void) {
+    sink += muxandu_timestamps_from_rfc3339(texts, sizeof texts, spans, ITEMS, stamps, ITEMS).status;
+}
 
 static const MuxanduDuration HALF_DAY = {43200, 500000000};
 
-LOOP(single_civils, MuxanduTimestamp at = {seconds[k], 5}; sink += muxandu_civil_from_timestamp(at, offset_seconds, civils + k))
-LOOP(bare_single_civils, MuxanduTimestamp at = {seconds[k], 5}; sink += bare_civil_from_timestamp(at, offset_seconds, bare_civils + k))
+LOOP(single_civils, MuxanduTimestamp at = {seconds[k], 5};
+     sink += muxandu_civil_from_timestamp(at, offset_seconds, civils + k))
+LOOP(bare_single_civils, MuxanduTimestamp at = {seconds[k], 5};
+     sink += bare_civil_from_timestamp(at, offset_seconds, bare_civils + k))
 LOOP(single_stamps, sink += muxandu_timestamp_from_civil(civils[k], stamps + k))
 LOOP(bare_single_stamps, sink += bare_timestamp_from_civil(civils[k], bare_stamps + k))
 LOOP(single_offsets, sink += muxandu_civil_to_offset(civils[k], -12600, bare_civils + k))
@@ -119,7 +139,9 @@ static int same_civils(void) {
     int k;
     for (k = 0; k < ITEMS; k++) {
         const MuxanduCivil *a = civils + k, *b = bare_civils + k;
-        if (a->year != b->year || a->month != b->month || a->day != b->day || a->hour != b->hour || a->minute != b->minute || a->second != b->second) return 0;
+        if (a->year != b->year || a->month != b->month || a->day != b->day || a->hour != b->hour ||
+            a->minute != b->minute || a->second != b->second)
+            return 0;
     }
     return 1;
 }

@@ -58,9 +58,10 @@ static int is_day(int32_t day) {
     MuxanduWeekDate of_week;
     int32_t first, second;
     uint8_t weekday;
-    return muxandu_ordinal_date_from_day(day, &of_year) == MUXANDU_OK && of_year.year == shown.year && of_year.ordinal == ordinal &&
-           muxandu_week_date_from_day(day, &of_week) == MUXANDU_OK && of_week.year == week.year && of_week.week == week.week &&
-           of_week.weekday == week.weekday && muxandu_weekday_from_day(day, &weekday) == MUXANDU_OK && weekday == week.weekday &&
+    return muxandu_ordinal_date_from_day(day, &of_year) == MUXANDU_OK && of_year.year == shown.year &&
+           of_year.ordinal == ordinal && muxandu_week_date_from_day(day, &of_week) == MUXANDU_OK &&
+           of_week.year == week.year && of_week.week == week.week && of_week.weekday == week.weekday &&
+           muxandu_weekday_from_day(day, &weekday) == MUXANDU_OK && weekday == week.weekday &&
            muxandu_day_from_ordinal_date(of_year, &first) == MUXANDU_OK && first == day &&
            muxandu_day_from_week_date(of_week, &second) == MUXANDU_OK && second == day;
 }
@@ -81,16 +82,24 @@ static void walk(int32_t day, size_t count) {
         if (seconds[item] < FIRST || seconds[item] > LAST) seconds[item] = offset_seconds < 0 ? LAST : FIRST;
     }
     is_whole = muxandu_dates_from_days(days, count, dates, BATCH).count == count &&
-               muxandu_days_from_dates(dates, count, back, BATCH).count == count && memcmp(days, back, count * sizeof *days) == 0 &&
+               muxandu_days_from_dates(dates, count, back, BATCH).count == count &&
+               memcmp(days, back, count * sizeof *days) == 0 &&
                muxandu_civils_from_seconds(seconds, count, offset_seconds, civils, BATCH).count == count &&
                muxandu_seconds_from_civils(civils, count, seconds_back, BATCH).count == count &&
                memcmp(seconds, seconds_back, count * sizeof *seconds) == 0;
     for (item = 0; item < count; item++) {
         uint32_t clock = (uint32_t)(item * 21) % 86400;
-        MuxanduCivil wanted = {shown.year, shown.month, shown.day, (uint8_t)(clock / 3600), (uint8_t)(clock / 60 % 60),
-                               (uint8_t)(clock % 60), 0, offset_seconds};
+        MuxanduCivil wanted = {shown.year,
+                               shown.month,
+                               shown.day,
+                               (uint8_t)(clock / 3600),
+                               (uint8_t)(clock / 60 % 60),
+                               (uint8_t)(clock % 60),
+                               0,
+                               offset_seconds};
         int is_moved = seconds[item] == FIRST || seconds[item] == LAST;
-        CHECK(is_whole && is_date(dates[item], shown.year, shown.month, shown.day) && (is_moved || is_civil(civils[item], wanted)) && is_day(days[item]));
+        CHECK(is_whole && is_date(dates[item], shown.year, shown.month, shown.day) &&
+              (is_moved || is_civil(civils[item], wanted)) && is_day(days[item]));
         count_day();
     }
 }

@@ -10,7 +10,7 @@ import ctypes
 import itertools
 from collections.abc import Sequence
 
-from ._library import as_bytes, library, nearest, test
+from ._library import as_bytes, held, library, test
 from ._values import Civil, Date
 from .muxandu_sys import MuxanduCivil, MuxanduDate, MuxanduSpan, MuxanduTimestamp
 
@@ -61,12 +61,12 @@ def _room(count, kind, like):
 
 
 def _numbers(numbers, kind):
-    """Numbers as a buffer: those of a sequence are copied, each as the nearest that the type holds."""
+    """Numbers as a buffer: those of a sequence are copied, each as the type holds it."""
     try:
         memoryview(numbers)
         return numbers
     except TypeError:
-        return array.array(_CODES[kind], [nearest(number, kind) for number in numbers])
+        return array.array(_CODES[kind], [held(number, kind) for number in numbers])
 
 
 def _structures(values, kind, of):
@@ -91,7 +91,7 @@ def civils_from_seconds(seconds, offset_seconds=0, out=None):
     """What clocks at an offset show at each Unix second: items of CivilParts, of which Civil.from_parts makes values."""
     items = _numbers(seconds, ctypes.c_int64)
     call = library.muxandu_civils_from_seconds
-    return _converted(call, items, ctypes.c_int64, MuxanduCivil, out, nearest(offset_seconds, ctypes.c_int32))
+    return _converted(call, items, ctypes.c_int64, MuxanduCivil, out, held(offset_seconds, ctypes.c_int32))
 
 
 def seconds_from_civils(civils, out=None):

@@ -86,17 +86,20 @@ def is_held(number, kind):
     return low <= operator.index(number) <= high
 
 
-def nearest(number, kind):
-    """The number, or the nearest that the type holds: for parts of which the library refuses the ends of the type."""
+def held(number, kind):
+    """The number, and where the type does not hold it, an end of the type that the library refuses: the upper one of a
+    type with no sign, whose lower end is 0."""
     low, high = _ENDS[kind]
     number = operator.index(number)
-    return low if number < low else high if number > high else number
+    if low <= number <= high:
+        return number
+    return low if number < low < 0 else high
 
 
 def parts(structure, *numbers):
-    """The structure of these numbers, each the nearest that its field holds."""
+    """The structure of these numbers, each as its field holds it."""
     fields = structure._fields_
-    return structure(*(nearest(number, kind) for number, (_, kind) in zip(numbers, fields)))
+    return structure(*(held(number, kind) for number, (_, kind) in zip(numbers, fields)))
 
 
 def as_bytes(text):

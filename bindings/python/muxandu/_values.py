@@ -4,10 +4,11 @@ import ctypes
 import datetime
 import enum
 import functools
+import operator
 from typing import NamedTuple
 
 from . import muxandu_sys
-from ._library import REFUSALS, as_bytes, is_held, library, nearest, parts, test
+from ._library import REFUSALS, as_bytes, held, is_held, library, parts, test
 from .muxandu_sys import (
     MuxanduCivil,
     MuxanduDate,
@@ -54,7 +55,7 @@ class Duration:
     def __init__(self, seconds=0, nanoseconds=0):
         if not is_held(seconds, ctypes.c_int64) or not is_held(nanoseconds, ctypes.c_int32):
             raise _BEYOND_DURATION()
-        self._seconds, self._nanoseconds = seconds, nanoseconds
+        self._seconds, self._nanoseconds = operator.index(seconds), operator.index(nanoseconds)
 
     @classmethod
     def of(cls, duration):
@@ -136,7 +137,7 @@ class _Moment:
 
     def truncated_to(self, unit):
         """Rounded down to a unit, before 1970 too."""
-        return self._of(_answer(self._TRUNCATE, type(self._parts), self._parts, nearest(unit, ctypes.c_uint32)))
+        return self._of(_answer(self._TRUNCATE, type(self._parts), self._parts, held(unit, ctypes.c_uint32)))
 
     @classmethod
     def from_rfc3339(cls, text):
@@ -183,7 +184,7 @@ class Timestamp(_Moment):
     @classmethod
     def from_milliseconds(cls, milliseconds):
         """The instant so many milliseconds from 1970-01-01 0:00 UTC."""
-        count = nearest(milliseconds, ctypes.c_int64)
+        count = held(milliseconds, ctypes.c_int64)
         return cls._of(_answer(library.muxandu_timestamp_from_milliseconds, MuxanduTimestamp, count))
 
     @classmethod
@@ -231,7 +232,7 @@ class Timestamp(_Moment):
 
     def to_civil(self, offset_seconds=0):
         """What clocks at an offset from UTC, in seconds, show at the instant."""
-        offset = nearest(offset_seconds, ctypes.c_int32)
+        offset = held(offset_seconds, ctypes.c_int32)
         return Civil._of(_answer(library.muxandu_civil_from_timestamp, MuxanduCivil, self._parts, offset))
 
     def to_rfc3339_nanos(self):
@@ -274,7 +275,8 @@ class Civil(_Moment):
     @classmethod
     def from_parts(cls, item):
         """The date-time of an item of a batch."""
-        return cls(*(int(getattr(item, name) if hasattr(item, name) else item[name]) for name, _ in MuxanduCivil._fields_))
+        read = getattr if isinstance(item, MuxanduCivil) else operator.getitem
+        return cls(*(int(read(item, name)) for name, _ in MuxanduCivil._fields_))
 
     @classmethod
     def from_datetime(cls, at):
@@ -302,7 +304,7 @@ class Civil(_Moment):
 
     def to_offset(self, offset_seconds):
         """What clocks at another offset show at the same instant."""
-        offset = nearest(offset_seconds, ctypes.c_int32)
+        offset = held(offset_seconds, ctypes.c_int32)
         return self._of(_answer(library.muxandu_civil_to_offset, MuxanduCivil, self._parts, offset))
 
     def day_number(self):
@@ -372,7 +374,7 @@ class Date:
     def from_day_number(cls, number):
         """The day so many days from 1970-01-01."""
         date = object.__new__(cls)
-        date._number = nearest(number, ctypes.c_int32)
+        date._number = held(number, ctypes.c_int32)
         date._parts = _answer(library.muxandu_date_from_day, MuxanduDate, date._number)
         return date
 
@@ -431,5 +433,5 @@ class Date:
 
 def days_in_month(year, month):
     """How many days a month of a year has."""
-    words = nearest(year, ctypes.c_int32), nearest(month, ctypes.c_uint8)
+    words = held(year, ctypes.c_int32), held(month, ctypes.c_uint8)
     return _answer(library.muxandu_days_in_month, ctypes.c_uint8, *words).value

@@ -25,7 +25,8 @@ class Batches(unittest.TestCase):
     def test_days_and_dates(self):
         days = array.array("i", [-365_961_662, -1, 364_522_971])
         dates = muxandu.dates_from_days(days)
-        self.assertEqual([(date.year, date.month, date.day) for date in dates], [(-999_999, 1, 1), (1969, 12, 31), (999_999, 12, 31)])
+        shown = [(date.year, date.month, date.day) for date in dates]
+        self.assertEqual(shown, [(-999_999, 1, 1), (1969, 12, 31), (999_999, 12, 31)])
         self.assertEqual(muxandu.days_from_dates(dates), days)
         self.assertEqual(list(muxandu.days_from_dates([Date(1970, 1, 2)])), [1])
 
@@ -85,7 +86,8 @@ class Batches(unittest.TestCase):
         self.assertEqual(len(muxandu.civils_from_seconds([])), 0)
 
     def test_other_buffers_are_not_taken(self):
-        for items in (array.array("i", [1]), array.array("Q", [1]), array.array("d", [1.0]), memoryview(array.array("q", [1, 2, 3]))[::2]):
+        others = [array.array("i", [1]), array.array("Q", [1]), array.array("d", [1.0])]
+        for items in (*others, memoryview(array.array("q", [1, 2, 3]))[::2]):
             self.assertRaises(TypeError, muxandu.civils_from_seconds, items)
         self.assertRaises(TypeError, muxandu.seconds_from_civils, (CivilParts * 1)(), bytes(8))
         self.assertRaises(TypeError, muxandu.civils_from_seconds, [0.5])
