@@ -1,6 +1,6 @@
 //! Values of the definitions, from Python's `datetime`, ISO 8601 and RFC 3339: a wrong definition would not have them. The
 //! functions are there for their contracts.
-#![tactic(auto, using(std::proofs::lemmas::Fmt::decimal_digit), unfolding(calendar_values::specs::Calendar::days_from_1970, calendar_values::specs::Calendar::days_until_1970, calendar_values::specs::Calendar::days_of_years, calendar_values::specs::Calendar::year_start, calendar_values::specs::Calendar::days_in_months, calendar_values::specs::Calendar::last_month_begun, calendar_values::specs::Calendar::month_of_ordinal, calendar_values::specs::Calendar::day_of_ordinal, calendar_values::specs::Calendar::year_after_1970, calendar_values::specs::Calendar::year_before_1970, calendar_values::specs::Calendar::year_of, calendar_values::specs::Calendar::ordinal_of, stamp_times::specs::Numbered::month_numbered, stamp_times::specs::Numbered::weekday_numbered, calendar_values::specs::Weeks::weekday_of, calendar_values::specs::Weeks::count_weekday, calendar_values::specs::Refusals::calendar_date, calendar_values::specs::Refusals::ordinal_date, calendar_values::specs::Refusals::clock_with, calendar_values::specs::WallClock::wall_day, calendar_values::specs::WallClock::wall_time, plain_times::specs::Replacements::with_date, plain_times::specs::Replacements::with_time, utc_times::specs::UnixTime::unix_instant_of_nanos, plain_times::specs::Sums::checked, plain_times::specs::Sums::clamped, offset_times::specs::Local::instant_of, stamp_times::specs::Refusals::timestamp_of_parts, calendar_values::specs::Digits::last_digits, calendar_values::specs::Digits::fraction_digits, rfc3339::specs::Form::fraction_value, calendar_values::specs::Texts::year_digits, calendar_values::specs::Texts::date_text, calendar_values::specs::Texts::offset_text, calendar_values::specs::Texts::time_text, stamp_times::specs::Texts::fraction_text, stamp_times::specs::Texts::seconds_text, stamp_times::specs::Texts::timestamp_text, rfc3339::specs::Texts::fraction_text, rfc3339::specs::Texts::offset_text, rfc3339::specs::Texts::rfc3339_text, rfc3339::specs::Texts::fixed_text))]
+#![tactic(auto, using(std::proofs::lemmas::Fmt::decimal_digit), unfolding(calendar_values::specs::Calendar::days_from_1970, calendar_values::specs::Calendar::days_until_1970, calendar_values::specs::Calendar::days_of_years, calendar_values::specs::Calendar::year_start, calendar_values::specs::Calendar::days_in_months, calendar_values::specs::Calendar::last_month_begun, calendar_values::specs::Calendar::month_of_ordinal, calendar_values::specs::Calendar::day_of_ordinal, calendar_values::specs::Calendar::year_after_1970, calendar_values::specs::Calendar::year_before_1970, calendar_values::specs::Calendar::year_of, calendar_values::specs::Calendar::ordinal_of, stamp_times::specs::Numbered::month_numbered, stamp_times::specs::Numbered::weekday_numbered, calendar_values::specs::Weeks::weekday_of, calendar_values::specs::Weeks::count_weekday, calendar_values::specs::Refusals::calendar_date, calendar_values::specs::Refusals::ordinal_date, calendar_values::specs::Refusals::clock_with, calendar_values::specs::WallClock::wall_day, calendar_values::specs::WallClock::wall_time, plain_times::specs::Replacements::with_date, plain_times::specs::Replacements::with_time, utc_times::specs::UnixTime::unix_instant_of_nanos, plain_times::specs::Sums::checked, plain_times::specs::Sums::clamped, offset_times::specs::Local::instant_of, stamp_times::specs::Refusals::timestamp_of_parts, calendar_values::specs::Digits::last_digits, calendar_values::specs::Digits::fraction_digits, rfc3339::specs::Form::fraction_value, calendar_values::specs::Texts::year_digits, calendar_values::specs::Texts::date_text, calendar_values::specs::Texts::offset_text, calendar_values::specs::Texts::time_text, stamp_times::specs::Texts::fraction_text, stamp_times::specs::Texts::seconds_text, stamp_times::specs::Texts::timestamp_text, rfc3339::specs::Texts::fraction_text, rfc3339::specs::Texts::offset_text, rfc3339::specs::Texts::rfc3339_text, rfc3339::specs::Texts::fixed_text, rfc3339::specs::Meaning::meaning))]
 
 ghost use Rattle.std.specs.Prelude.{◌≡◌, pos, neg_ℤ, true, false, codes, Some, None, Ok, Err, [], ◌∷◌};
 ghost use Rattle.calendar_values.specs.Calendar.{divides, is_leap_year, year_length, days_in_year, days_from_1970, days_until_1970, year_start, days_in_month, days_in_months, days_before_month, day_of_calendar_date, day_of_ordinal_date, year_of, ordinal_of, month_of, day_of_month_of, month_of_ordinal, day_of_ordinal, julian_day_of};
@@ -29,7 +29,9 @@ ghost use Rattle.stamp_times.specs.declared.calls.Call.TheVariants.{Shift};
 ghost use Rattle.stamp_times.specs.declared.calls.Shift.TheVariants.{CheckedAdd, CheckedSub};
 ghost use Rattle.stamp_times.specs.declared.steps.Step.TheVariants.{ToStamp, ToUtc, ToOffset};
 ghost use Rattle.rfc3339.specs.Form.{fraction_value};
-ghost use Rattle.rfc3339.specs.Meaning.{offset_of};
+ghost use Rattle.rfc3339.specs.Meaning.{offset_of, value_of, meaning};
+ghost use Rattle.rfc3339.specs.declared.refusal.Component.TheVariants.{Month};
+ghost use Rattle.rfc3339.specs.declared.refusal.TextRefusal.TheVariants.{OutOfRange};
 ghost use Rattle.rfc3339.specs.Texts.{rfc3339_text, fixed_text};
 
 /// Leap years, and the days of years.
@@ -92,8 +94,10 @@ pub fn clocks()
     ensures millisecond { millisecond_of 45_296_123_456_789 ≡ 123 }
     ensures microsecond { microsecond_of 45_296_123_456_789 ≡ 123_456 }
     ensures nanosecond { nanosecond_of 45_296_123_456_789 ≡ 123_456_789 }
-    ensures duration { duration_of_parts (neg_ℤ (pos 1)) (neg_ℤ (pos 5)) ≡ neg_ℤ (pos 1_000_000_005) }
-    ensures offset { seconds_of_parts (neg_ℤ (pos 3)) (neg_ℤ (pos 30)) (pos 0) ≡ neg_ℤ (pos 12_600) }
+    ensures duration { duration_of_parts (neg_ℤ (pos 1)) (neg_ℤ (pos 5))
+        ≡ neg_ℤ (pos 1_000_000_005) }
+    ensures offset { seconds_of_parts (neg_ℤ (pos 3)) (neg_ℤ (pos 30)) (pos 0)
+        ≡ neg_ℤ (pos 12_600) }
 {}
 
 /// What is refused: 29 February in a common year, the day 366 of one, hour 24.
@@ -135,7 +139,8 @@ pub fn wall_clocks()
 pub fn sums()
     ensures checked_here { checked (pos 0) ≡ Some (pos 0) }
     ensures checked_past { checked (pos 31_494_784_780_800_000_000_000) ≡ None }
-    ensures clamped_past { clamped (pos 31_494_784_780_800_000_000_000) ≡ pos 31_494_784_780_799_999_999_999 }
+    ensures clamped_past { clamped (pos 31_494_784_780_800_000_000_000)
+        ≡ pos 31_494_784_780_799_999_999_999 }
     ensures first { first_wall_clock ≡ neg_ℤ (pos 31_619_087_596_800_000_000_000) }
     ensures last { last_wall_clock ≡ pos 31_494_784_780_799_999_999_999 }
 {}
@@ -145,7 +150,8 @@ pub fn offsets()
     ensures instant { instant_of (local (pos 0) (pos 3_600)) ≡ neg_ℤ (pos 3_600_000_000_000) }
     ensures shown { shown_at (pos 0) (pos 3_600) ≡ pos 3_600_000_000_000 }
     ensures local { local_at (pos 0) (pos 3_600) ≡ local (pos 3_600_000_000_000) (pos 3_600) }
-    ensures timestamp { timestamp_of_parts (neg_ℤ (pos 1)) 500_000_000 ≡ Ok (neg_ℤ (pos 500_000_000)) }
+    ensures timestamp { timestamp_of_parts (neg_ℤ (pos 1)) 500_000_000
+        ≡ Ok (neg_ℤ (pos 500_000_000)) }
     ensures west { offset_of true 8 0 ≡ neg_ℤ (pos 28_800) }
 {}
 
@@ -180,11 +186,42 @@ pub fn texts_of_exchange()
     ensures fixed { fixed_text (neg_ℤ (pos 1)) ≡ codes "1969-12-31T23:59:59.999999999Z" }
 {}
 
+/// What the numbers of RFC 3339's first example mean; month 13 is refused.
+pub fn meanings()
+    ensures value { value_of (record {
+      year = 1985;
+      month = 4;
+      day = 12;
+      hour = 23;
+      minute = 20;
+      second = 50;
+      nanosecond = 520_000_000;
+      is_west = false;
+      offset_hour = 0;
+      offset_minute = 0;
+    })
+        ≡ local (pos 482_196_050_520_000_000) (pos 0) }
+    ensures month { meaning (record {
+      year = 1985;
+      month = 13;
+      day = 12;
+      hour = 23;
+      minute = 20;
+      second = 50;
+      nanosecond = 520_000_000;
+      is_west = false;
+      offset_hour = 0;
+      offset_minute = 0;
+    })
+        ≡ Err (OutOfRange Month) }
+{}
+
 /// A run of sums, and one past the last instant.
 pub fn runs()
     ensures next { next (pos 0) (Shift (CheckedAdd (pos 5))) ≡ pos 5 }
     ensures refused { next last_wall_clock (Shift (CheckedAdd (pos 1))) ≡ last_wall_clock }
-    ensures last { last (pos 0) (Shift (CheckedAdd (pos 5)) ∷ Shift (CheckedSub (pos 7)) ∷ []) ≡ neg_ℤ (pos 2) }
+    ensures last { last (pos 0) (Shift (CheckedAdd (pos 5)) ∷ Shift (CheckedSub (pos 7)) ∷ [])
+        ≡ neg_ℤ (pos 2) }
 {}
 
 /// Chains of conversions: at the last instant, clocks ahead of UTC show no date of the range.
