@@ -41,9 +41,6 @@ month_of-clamped n y m d first last some e = rw e (month_of-calendar_date y m _ 
 pub month_of_bounds : (n : ℤ) → (1 ≤ month_of n) × (month_of n ≤ 12)
 month_of_bounds n = let date = IsCalendarDate-of n in (date.month_first, date.month_last)
 
-pub day_of_month_of_bounds : (n : ℤ) → (1 ≤ day_of_month_of n) × (day_of_month_of n ≤ days_in_month (is_leap_year (year_of n)) (month_of n))
-day_of_month_of_bounds n = let date = IsCalendarDate-of n in (date.day_first, date.day_last)
-
 days_in_months-none : (b : Bool) → days_in_months b 0 ≡ 0
 unfolding days_in_months
 days_in_months-none b = refl
