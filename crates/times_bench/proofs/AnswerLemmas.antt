@@ -1,5 +1,6 @@
 -- What a line is answered with.
-use Rattle.std.proofs.Common.{◌≡◌, ℕ, ℤ, List, [], ◌∷◌, ◌++◌, take, codes, decimal, flat_map, Option, Some, None, refl, sym, ◌∙◌, ap, ◌+◌, ◌<◌, length, get_or, append_assoc, append-nil}
+use Rattle.std.proofs.Common.{◌≡◌, ℕ, ℤ, List, [], ◌∷◌, ◌++◌, take, codes, decimal, flat_map, Option, Some, None, refl, sym, ◌∙◌, ap, ◌+◌, ◌<◌, length}
+use Rattle.std.proofs.Common.{get_or, append_assoc, append-nil}
 use Rattle.std.proofs.lemmas.Grind.{flat_map-append}
 use Rattle.std.proofs.lemmas.List.{take_more}
 use Rattle.calendar_values.specs.Weekday.{weekday_number, weekday_name}
@@ -12,7 +13,7 @@ use Rattle.stamp_times.specs.declared.calls.Reply.{Reply}
 use Rattle.stamp_times.specs.Travel.{held_instant, travel, held_after}
 use Rattle.stamp_times.specs.declared.steps.Held.{Held}
 use Rattle.stamp_times.specs.declared.steps.Step.{Step}
-use Rattle.times_bench.specs.Answers.{weekday_from_monday, held_start, arrival_text, chain_text, run_text, answer_to, answer_of, request_takes_memory, takes_memory}
+use Rattle.times_bench.specs.Answers.{weekday_from_monday, held_start, arrival_text, chain_text, run_text, answer_to, answer_of}
 use Rattle.times_bench.specs.ReplyTexts.{reply_text, held_text}
 use Rattle.times_bench.specs.Requests.{Request, request_of}
 

@@ -1,5 +1,6 @@
 -- The names of calls, and the month of a number.
-use Rattle.std.proofs.Common.{◌≡◌, ℕ, ◌<◌, ◌≤◌, ◌↔◌, Bool, true, false, cond, ◌&&◌, nat_lt, ◌==◌, List, [], ◌∷◌, length, Option, Some, None, Bor, Result, Ok, Err, refl, sym, ◌∙◌, ap, arith, length-append, ℤ, pos, ◌||◌}
+use Rattle.std.proofs.Common.{◌≡◌, ℕ, ◌<◌, ◌≤◌, ◌↔◌, Bool, true, false, cond, ◌&&◌, nat_lt, ◌==◌, List, [], ◌∷◌, length, Option, Some, None, Bor, Result, Ok}
+use Rattle.std.proofs.Common.{Err, refl, sym, ◌∙◌, ap, arith, length-append, pos}
 use Rattle.std.specs.Prelude.{IsAscii, IsUtf8, IsOk, IfOk, MatchResult, OnSome}
 use Rattle.std.specs.List.{join_with_byte, list_all}
 use Rattle.std.specs.Option.{is_some, option_and_then, option_map_or}
@@ -13,7 +14,8 @@ use Rattle.std.proofs.lemmas.Str.Ascii.{IsAscii-nil, IsAscii-cons}
 use Rattle.calendar_values.specs.Month.{month_number}
 use Rattle.calendar_values.specs.Range.{is_outside}
 use Rattle.calendar_values.specs.declared.month.Month.{Month}
-use Rattle.calendar_values.specs.declared.month.Month.TheVariants.{January, February, March, April, May, June, July, August, September, October, November, December}
+use Rattle.calendar_values.specs.declared.month.Month.TheVariants.{January, February, March, April, May, June, July, August, September, October, November}
+use Rattle.calendar_values.specs.declared.month.Month.TheVariants.{December}
 use Rattle.stamp_times.specs.Numbered.{month_numbered}
 use Rattle.stamp_times.specs.declared.calls.Call.{Call}
 use Rattle.times_bench.proofs.NumberLemmas.{both_true}
@@ -60,10 +62,11 @@ IsName-read name call e = IsName-is_name name (named-passes is_name reads name c
 IsName-call : (name arguments : List ℕ) (call : Call)
     → option_and_then (λ call. call_with call (arguments_of arguments)) (named call_names name) ≡ Some call → IsName name
 unfolding call_names
-IsName-call name arguments call e = elim (named call_names name) as (λ found. named call_names name ≡ found → option_and_then (λ call. call_with call (arguments_of arguments)) found ≡ Some call → IsName name) [
-  | None ↦ λ is h. absurd cc
-  | Some read ↦ λ is h. IsName-is_name name (named-passes is_name call_names name read refl is)
-] refl e
+IsName-call name arguments call e = elim (named call_names name) as (λ found. named call_names name ≡ found
+    → option_and_then (λ call. call_with call (arguments_of arguments)) found ≡ Some call → IsName name) [
+      | None ↦ λ is h. absurd cc
+      | Some read ↦ λ is h. IsName-is_name name (named-passes is_name call_names name read refl is)
+    ] refl e
 
 IsName-parts : (name : List ℕ) (rest : List (List ℕ)) (call : Call) → call_of_parts (name ∷ rest) ≡ Some call → IsName name
 unfolding call_of_parts

@@ -1,5 +1,6 @@
 -- The answers to the lines of a block, which a failed write or a lack of memory may end.
-use Rattle.std.proofs.Common.{◌≡◌, ◌≢◌, ℕ, ◌<◌, ◌≤◌, IsTrue, Bool, true, false, cond, nat_lt, take, List, [], ◌∷◌, ◌++◌, length, Option, None, Result, refl, sym, ◌∙◌, ap, subst, arith, append_assoc, append-nil}
+use Rattle.std.proofs.Common.{◌≡◌, ◌≢◌, ℕ, ◌<◌, ◌≤◌, IsTrue, Bool, true, false, cond, nat_lt, take, List, [], ◌∷◌, ◌++◌, length, Option, None, Result, refl}
+use Rattle.std.proofs.Common.{sym, ◌∙◌, ap, subst, arith, append_assoc, append-nil}
 use Rattle.std.specs.Prelude.{MatchResult}
 use Rattle.std.specs.Io.KnownBytes.{Appends}
 use Rattle.std.proofs.lemmas.Bool.Decides.{nat_tests}
@@ -9,13 +10,14 @@ use Rattle.std.proofs.lemmas.Result.{MatchResult-weaker}
 use Rattle.times_bench.specs.Answers.{answer_to, request_takes_memory, takes_memory, answer_of, answers_of}
 use Rattle.times_bench.specs.Lines.{unless_empty}
 use Rattle.times_bench.specs.LineParts.{ended_from, rest_from, Holds}
-use Rattle.times_bench.specs.Progress.{StopsAtMemory, AnswersBeforeMemory, AtFault, WritesPending, SendsAnswer, WritesAnswers}
+use Rattle.times_bench.specs.Progress.{AnswersBeforeMemory, AtFault, WritesPending, SendsAnswer, WritesAnswers}
 use Rattle.times_bench.specs.Requests.{Request, request_of}
 use Rattle.times_bench.specs.Writing.{AppendsBeginning, Sends}
 use Rattle.times_bench.specs.declared.sending.AnswerFault.{AnswerFault}
 use Rattle.times_bench.proofs.CutLemmas.{ended_from-append, ended_from-line_feed}
 use Rattle.times_bench.proofs.LineLemmas.{Holds-append}
-use Rattle.times_bench.proofs.SendingLemmas.{Appends-append, Appends-flushed, AppendsBeginning-flushed, AppendsBeginning-longer, AppendsBeginning-pending, Sends-append, AtFault-weaker}
+use Rattle.times_bench.proofs.SendingLemmas.{Appends-append, Appends-flushed, AppendsBeginning-flushed, AppendsBeginning-longer, AppendsBeginning-pending}
+use Rattle.times_bench.proofs.SendingLemmas.{Sends-append, AtFault-weaker}
 
 is_below : (a b : ℕ) → a < b → nat_lt a b ≡ true
 is_below a b low = grind (arith, nat_tests)
@@ -26,12 +28,14 @@ none_both false t x y e f = cc
 none_both true false x y e f = cc
 
 -- the answers to the lines of one part and then of another
-pub answers_of-append : (piece xs ys : List ℕ) → answers_of (ended_from piece (xs ++ ys)) ≡ answers_of (ended_from piece xs) ++ answers_of (ended_from (rest_from piece xs) ys)
+pub answers_of-append : (piece xs ys : List ℕ)
+    → answers_of (ended_from piece (xs ++ ys)) ≡ answers_of (ended_from piece xs) ++ answers_of (ended_from (rest_from piece xs) ys)
 answers_of-append piece xs ys =
     ap answers_of (ended_from-append piece xs ys) ∙ flat_map-append answer_of (ended_from piece xs) (ended_from (rest_from piece xs) ys)
 
 -- with a line feed more, there is one answer more
-pub answers_of-line_feed : (piece xs : List ℕ) → answers_of (ended_from piece (xs ++ 10 ∷ [])) ≡ answers_of (ended_from piece xs) ++ answer_of (rest_from piece xs)
+pub answers_of-line_feed : (piece xs : List ℕ)
+    → answers_of (ended_from piece (xs ++ 10 ∷ [])) ≡ answers_of (ended_from piece xs) ++ answer_of (rest_from piece xs)
 answers_of-line_feed piece xs =
     ap answers_of (ended_from-line_feed piece xs) ∙ flat_map-append answer_of (ended_from piece xs) (rest_from piece xs ∷ [])
     ∙ ap (λ (z : List ℕ). answers_of (ended_from piece xs) ++ z) (append-nil (answer_of (rest_from piece xs)))
@@ -114,7 +118,8 @@ request_of-pushed piece line part bytes h e =
     request_of-held (piece ++ part) bytes (e ∙ Holds-append piece line part h)
 
 -- the answers to lines and then to more lines
-pub AppendsBeginning-more : (a b : Option (List ℕ)) (lines more : List (List ℕ)) → AppendsBeginning a b (answers_of lines) → AppendsBeginning a b (answers_of (lines ++ more))
+pub AppendsBeginning-more : (a b : Option (List ℕ)) (lines more : List (List ℕ)) → AppendsBeginning a b (answers_of lines)
+    → AppendsBeginning a b (answers_of (lines ++ more))
 AppendsBeginning-more a b lines more h =
     subst (AppendsBeginning a b) (sym (flat_map-append answer_of lines more)) (AppendsBeginning-longer a b (answers_of lines) (answers_of more) h)
 

@@ -1,5 +1,6 @@
 -- What the words of a line ask for.
-use Rattle.std.proofs.Common.{◌≡◌, ◌≢◌, ℕ, ◌+◌, ◌*◌, ◌<◌, ◌≤◌, Bool, true, false, cond, ◌&&◌, nat_lt, nat_eq, List, [], ◌∷◌, ◌++◌, length, Option, Some, None, refl, sym, ◌∙◌, ap, arith, ◌-◌, ◌^◌, ℤ, pos, neg_ℤ, append_assoc, append-nil, Bor}
+use Rattle.std.proofs.Common.{◌≡◌, ◌≢◌, ℕ, ◌+◌, ◌*◌, ◌<◌, ◌≤◌, Bool, true, false, cond, ◌&&◌, nat_lt, nat_eq, List, [], ◌∷◌, ◌++◌, length, Option, Some, None}
+use Rattle.std.proofs.Common.{refl, sym, ◌∙◌, ap, arith, ◌-◌, ◌^◌, ℤ, pos, neg_ℤ, append_assoc, append-nil, Bor}
 use Rattle.std.specs.Prelude.{codes}
 use Rattle.std.specs.Char.{is_ascii_digit}
 use Rattle.std.specs.List.{join_with_byte, list_all}
@@ -12,7 +13,8 @@ use Rattle.std.proofs.lemmas.List.{length-append}
 use Rattle.times_bench.specs.declared.requests.Kind.{Kind}
 use Rattle.times_bench.specs.declared.requests.Kind.TheVariants as kind
 use Rattle.times_bench.specs.Numbers.{number_digits, is_numeral, number_of, within, i64_of}
-use Rattle.times_bench.specs.Requests.{Unix, unix_request, stamp_request, instant_of, run_request, chain_request, request_of_kind, kind_of_word, request_of_words, request_of}
+use Rattle.times_bench.specs.Requests.{Unix, unix_request, stamp_request, instant_of, run_request, chain_request, request_of_kind, kind_of_word}
+use Rattle.times_bench.specs.Requests.{request_of_words, request_of}
 use Rattle.times_bench.specs.Words.{words_of, words_left, bytes_left, exactly_one, exactly_two, all_of}
 use Rattle.times_bench.proofs.WordLemmas.{length-cut_at-some}
 
@@ -85,7 +87,8 @@ length-words text word (Some next) e =
     ∙ sym (join-next word (words_of next.now) (length-cut_at-some 32 next.now)) ∙ ap (join_with_byte 32) (sym e) ∙ join_with_byte-slice_split 32 text in
     omega (arith, ap length joined, length-append word (32 ∷ next.now))
 
-pub length-next : (text word : List ℕ) (left : Option (Bor (List ℕ))) (next : Bor (List ℕ)) → words_of text ≡ word ∷ words_left left → left ≡ Some next → length text ≡ length word + length next.now + 1
+pub length-next : (text word : List ℕ) (left : Option (Bor (List ℕ))) (next : Bor (List ℕ)) → words_of text ≡ word ∷ words_left left → left ≡ Some next
+    → length text ≡ length word + length next.now + 1
 length-next text word left next e is =
     let room : room_left left ≡ length next.now + 1 = ap room_left is in omega (arith, length-words text word left e, room)
 
@@ -98,7 +101,8 @@ room-next items new item left rest text word room is cut long grown =
     let count : length new ≡ length items + 1 = ap length grown ∙ length-append items (item ∷ []) in
     omega (arith, room, place, count, long, length-words text.now word rest cut)
 
-pub room-smaller : (left rest : Option (Bor (List ℕ))) (text : Bor (List ℕ)) (word : List ℕ) → left ≡ Some text → words_of text.now ≡ word ∷ words_left rest → room_left rest < room_left left
+pub room-smaller : (left rest : Option (Bor (List ℕ))) (text : Bor (List ℕ)) (word : List ℕ) → left ≡ Some text → words_of text.now ≡ word ∷ words_left rest
+    → room_left rest < room_left left
 room-smaller left rest text word is cut =
     let place : room_left left ≡ length text.now + 1 = ap room_left is in omega (arith, place, length-words text.now word rest cut)
 
@@ -106,32 +110,39 @@ room-smaller left rest text word is cut =
 abbrev pub AllSoFar : {A : Type 0} → (List ℕ → Option A) → Option (List A) → List A → List (List ℕ) → Type 0
 AllSoFar read all items words = all ≡ option_map (λ more. items ++ more) (all_of read words)
 
-pub AllSoFar-start : {A : Type 0} (read : List ℕ → Option A) (words : List (List ℕ)) (items : List A) → items ≡ [] → AllSoFar read (all_of read words) items words
+pub AllSoFar-start : {A : Type 0} (read : List ℕ → Option A) (words : List (List ℕ)) (items : List A) → items ≡ []
+    → AllSoFar read (all_of read words) items words
 AllSoFar-start {A} read words items e = same (all_of read words) ∙ ap (λ (z : List A). option_map (λ more. z ++ more) (all_of read words)) (sym e)
   where
     same : (all : Option (List A)) → all ≡ option_map (λ more. more) all
     same None = refl
     same (Some all) = refl
 
-pub AllSoFar-next : {A : Type 0} (read : List ℕ → Option A) (all : Option (List A)) (items new : List A) (left rest : Option (Bor (List ℕ))) (text : Bor (List ℕ)) (word : List ℕ) (item : A)
-    → AllSoFar read all items (words_left left) → left ≡ Some text → words_of text.now ≡ word ∷ words_left rest → read word ≡ Some item → new ≡ items ++ item ∷ []
+pub AllSoFar-next : {A : Type 0} (read : List ℕ → Option A) (all : Option (List A)) (items new : List A)
+    (left rest : Option (Bor (List ℕ))) (text : Bor (List ℕ)) (word : List ℕ) (item : A)
+    → AllSoFar read all items (words_left left) → left ≡ Some text → words_of text.now ≡ word ∷ words_left rest → read word ≡ Some item
+    → new ≡ items ++ item ∷ []
     → AllSoFar read all new (words_left rest)
 unfolding all_of
 AllSoFar-next {A} read all items new left rest text word item so_far is cut known grown =
-    so_far ∙ ap (λ (z : List (List ℕ)). option_map (λ more. items ++ more) (all_of read z)) (ap words_left is ∙ cut) ∙ rw known (onto (all_of read (words_left rest)))
+    so_far ∙ ap (λ (z : List (List ℕ)). option_map (λ more. items ++ more) (all_of read z)) (ap words_left is ∙ cut)
+    ∙ rw known (onto (all_of read (words_left rest)))
     ∙ ap (λ (z : List A). option_map (λ more. z ++ more) (all_of read (words_left rest))) (sym grown)
   where
-    onto : (others : Option (List A)) → option_map (λ more. items ++ more) (option_map (λ others. item ∷ others) others) ≡ option_map (λ more. (items ++ item ∷ []) ++ more) others
+    onto : (others : Option (List A))
+        → option_map (λ more. items ++ more) (option_map (λ others. item ∷ others) others) ≡ option_map (λ more. (items ++ item ∷ []) ++ more) others
     onto None = refl
     onto (Some others) = ap Some (sym (append_assoc items (item ∷ []) others))
 
-pub AllSoFar-none : {A : Type 0} (read : List ℕ → Option A) (all : Option (List A)) (items : List A) (left rest : Option (Bor (List ℕ))) (text : Bor (List ℕ)) (word : List ℕ)
+pub AllSoFar-none : {A : Type 0} (read : List ℕ → Option A) (all : Option (List A)) (items : List A)
+    (left rest : Option (Bor (List ℕ))) (text : Bor (List ℕ)) (word : List ℕ)
     → AllSoFar read all items (words_left left) → left ≡ Some text → words_of text.now ≡ word ∷ words_left rest → read word ≡ None → all ≡ None
 unfolding all_of
 AllSoFar-none read all items left rest text word so_far is cut unknown =
     so_far ∙ ap (λ (z : List (List ℕ)). option_map (λ more. items ++ more) (all_of read z)) (ap words_left is ∙ cut) ∙ rw unknown refl
 
-pub AllSoFar-end : {A : Type 0} (read : List ℕ → Option A) (all : Option (List A)) (items : List A) (words : List (List ℕ)) → AllSoFar read all items words → words ≡ [] → all ≡ Some items
+pub AllSoFar-end : {A : Type 0} (read : List ℕ → Option A) (all : Option (List A)) (items : List A) (words : List (List ℕ)) → AllSoFar read all items words
+    → words ≡ [] → all ≡ Some items
 unfolding all_of
 AllSoFar-end {A} read all items words so_far e =
     so_far ∙ ap (λ (z : List (List ℕ)). option_map (λ more. items ++ more) (all_of read z)) e ∙ ap Some (append-nil items)
@@ -197,14 +208,16 @@ request_of_kind-alone (Some kind.Stamp) = refl
 request_of_kind-alone (Some kind.Run) = refl
 request_of_kind-alone (Some kind.Chain) = refl
 
-request_of_words-other : (words : List (List ℕ)) (line : List ℕ) → join_with_byte 32 words ≡ line → BeginsOtherwise line (codes "unix ") → BeginsOtherwise line (codes "stamp ")
+request_of_words-other : (words : List (List ℕ)) (line : List ℕ) → join_with_byte 32 words ≡ line → BeginsOtherwise line (codes "unix ")
+    → BeginsOtherwise line (codes "stamp ")
     → BeginsOtherwise line (codes "run ") → BeginsOtherwise line (codes "chain ") → request_of_words words ≡ None
 request_of_words-other [] line e unix stamp run chain = refl
 request_of_words-other (first ∷ []) line e unix stamp run chain = request_of_kind-alone (kind_of_word first)
 request_of_words-other (first ∷ next ∷ words) line e unix stamp run chain =
     ap (option_and_then (λ k. request_of_kind k (next ∷ words))) (kind_of_word-other first (join_with_byte 32 (next ∷ words)) line e unix stamp run chain)
 
-pub request_of-other : (line : List ℕ) → length line ≤ 1024 → BeginsOtherwise line (codes "unix ") → BeginsOtherwise line (codes "stamp ") → BeginsOtherwise line (codes "run ")
+pub request_of-other : (line : List ℕ) → length line ≤ 1024 → BeginsOtherwise line (codes "unix ") → BeginsOtherwise line (codes "stamp ")
+    → BeginsOtherwise line (codes "run ")
     → BeginsOtherwise line (codes "chain ") → request_of line ≡ None
 request_of-other line short unix stamp run chain =
     request_of-short line short ∙ request_of_words-other (words_of line) line (join_with_byte-slice_split 32 line) unix stamp run chain

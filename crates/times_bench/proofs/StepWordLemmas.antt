@@ -1,5 +1,6 @@
 -- The words of a chain, and how they read.
-use Rattle.std.proofs.Common.{◌≡◌, ◌≢◌, ℕ, ◌+◌, ◌*◌, ◌-◌, ◌≤◌, Bool, true, false, cond, ◌&&◌, nat_lt, nat_eq, not, get_or, List, [], ◌∷◌, length, refl, sym, ◌∙◌, ap, arith, ℤ, neg_ℤ, Option, Some, None, Result, subst}
+use Rattle.std.proofs.Common.{◌≡◌, ◌≢◌, ℕ, ◌+◌, ◌*◌, ◌-◌, ◌≤◌, Bool, true, false, cond, ◌&&◌, nat_lt, nat_eq, not, get_or, List, [], ◌∷◌, length, refl, sym}
+use Rattle.std.proofs.Common.{◌∙◌, ap, arith, ℤ, neg_ℤ, Option, Some, None, Result, subst}
 use Rattle.std.specs.Char.{is_ascii_digit}
 use Rattle.std.specs.Option.{option_map}
 use Rattle.std.proofs.lemmas.Bool.Decides.{nat_tests}
@@ -96,6 +97,7 @@ pub step_of-utc : (word : List ℕ) → bytes_eq word (codes "stamp") ≡ false 
 unfolding step_of
 step_of-utc word e e' = rw (e, e') refl
 
-pub step_of-offset : (word : List ℕ) → bytes_eq word (codes "stamp") ≡ false → bytes_eq word (codes "utc") ≡ false → step_of word ≡ option_map ToOffset (offset_of word)
+pub step_of-offset : (word : List ℕ) → bytes_eq word (codes "stamp") ≡ false → bytes_eq word (codes "utc") ≡ false
+    → step_of word ≡ option_map ToOffset (offset_of word)
 unfolding step_of
 step_of-offset word e e' = rw (e, e') refl

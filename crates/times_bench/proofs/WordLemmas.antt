@@ -10,7 +10,8 @@ use Rattle.times_bench.specs.LineParts.{HasNone}
 use Rattle.times_bench.specs.Words.{cut_at, exactly_one}
 
 -- no separator stands before the end of a text
-All-none : (separator : ℕ) (text : List ℕ) (end : ℕ) → end ≤ length text → HasNone separator text 0 end → All (λ byte. (byte == separator) ≡ false) (take end text)
+All-none : (separator : ℕ) (text : List ℕ) (end : ℕ) → end ≤ length text → HasNone separator text 0 end
+    → All (λ byte. (byte == separator) ≡ false) (take end text)
 All-none separator text end high h k d low =
     let before : k < end = omega (arith, low, length-take end text) in
     let same : get_or (take end text) k d ≡ get_or text k 0 = grind (arith, common_steps) in
@@ -29,7 +30,8 @@ pub cut_at-first : (separator : ℕ) (text : List ℕ) (end : ℕ) → end < len
 cut_at-first separator text end low h is =
     let whole : text ≡ take end text ++ separator ∷ drop (end + 1) text = grind (arith, common_steps) in
     let ends : (separator == separator) ≡ true = grind (arith, nat_tests) in
-    ap (cut_at separator) whole ∙ slice_split_at (λ byte. byte == separator) (take end text) separator (drop (end + 1) text) (All-none separator text end (omega arith) h) ends
+    ap (cut_at separator) whole ∙ slice_split_at (λ byte. byte == separator) (take end text) separator (drop (end + 1) text) (All-none separator text end
+    (omega arith) h) ends
 
 -- a text has at most one word more than bytes
 pub length-cut_at : (separator : ℕ) (text : List ℕ) → length (cut_at separator text) ≤ length text + 1

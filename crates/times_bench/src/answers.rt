@@ -216,7 +216,8 @@ fn put_run_answer(
 ) -> Result<(), AllocError>
     requires { HasRoom pending.old }
     ensures answer { MatchResult result
-        (λ _. pending.new ≡ pending.old ++ run_answer asked.now.second asked.now.nanosecond asked.now.calls)
+        (λ _. pending.new ≡ pending.old
+        ++ run_answer asked.now.second asked.now.nanosecond asked.now.calls)
         (λ _. (pending.new ≡ pending.old)
         × IsTrue (is_ok (timestamp_of_parts asked.now.second asked.now.nanosecond))) }
     ensures room { length pending.new < 65_536 }
@@ -237,7 +238,8 @@ fn put_run_answer(
 fn put_replies(pending: &mut Pending, replies: &[Reply])
     requires pending { HasRoom pending.old }
     requires replies { length replies.now ≤ 256 }
-    ensures replies { pending.new ≡ pending.old ++ flat_map (λ reply. reply_text reply ++ codes "; ") replies.now }
+    ensures replies { pending.new ≡ pending.old
+        ++ flat_map (λ reply. reply_text reply ++ codes "; ") replies.now }
     ensures room { length pending.new ≤ length pending.old + 16_384 }
 {
     'replies: for reply in replies {

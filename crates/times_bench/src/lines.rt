@@ -31,7 +31,8 @@ pub fn feed<W: Sink>(
     ensures line { IsOk result → (piece : List ℕ) → Holds piece line.old
         → Holds (rest_from piece block.now) line.new }
     ensures written { (piece : List ℕ) → Holds piece line.old
-        → WritesAnswers result (W.written writer.old) (W.written writer.new) (ended_from piece block.now) }
+        → WritesAnswers result (W.written writer.old) (W.written writer.new)
+        (ended_from piece block.now) }
     ensures empty { OnOk result (pending.new ≡ []) }
     ensures mark { W.is_marked writer.new ≡ mark_after result (W.is_marked writer.old) }
 {

@@ -56,7 +56,8 @@ pub struct ChainRequest {
 /// The kind of a line, and what stands after its first word. None for a line of no kind, and for one of
 /// more than 1,024 bytes.
 pub fn kind_of(line: &[u8]) -> Option<(Kind, &[u8])>
-    ensures request { option_and_then (λ asked. request_of_kind asked.0 (words_of asked.1.now)) result
+    ensures request { option_and_then
+        (λ asked. request_of_kind asked.0 (words_of asked.1.now)) result
         ≡ request_of line.now }
     ensures length { IfSome result (λ asked. length asked.1.now < 1024) }
 {
@@ -88,7 +89,8 @@ pub fn unix_request_of(words: &[u8]) -> Option<i64>
 /// The second and the nanosecond of the words after `stamp`.
 #[tactic(auto, unfolding(crate::specs::Requests::stamp_request))]
 pub fn stamp_request_of(words: &[u8]) -> Option<(i64, u32)>
-    ensures { option_map (λ asked. Stamp asked.0 asked.1) result ≡ stamp_request (words_of words.now) }
+    ensures { option_map (λ asked. Stamp asked.0 asked.1) result
+        ≡ stamp_request (words_of words.now) }
 {
     let (second, nanosecond) = two_fields(b' ', words)?;
     Some((parse_i64(second)?, parse_u32(nanosecond)?))
@@ -114,7 +116,8 @@ pub fn run_request_of(words: &[u8]) -> Option<RunRequest>
 #[tactic(auto, unfolding(crate::specs::Requests::chain_request, crate::specs::Requests::chain_from))]
 pub fn chain_request_of(words: &[u8]) -> Option<ChainRequest>
     requires { length words.now < 1024 }
-    ensures { option_map (λ asked. Chain asked.second asked.nanosecond asked.start asked.steps) result
+    ensures { option_map
+        (λ asked. Chain asked.second asked.nanosecond asked.start asked.steps) result
         ≡ chain_request (words_of words.now) }
 {
     let (second, nanosecond, words) = instant_of(words)?;

@@ -28,7 +28,8 @@ pub enum AnswerFault {
 
 /// Writes what is pending.
 pub fn flush<W: Sink>(writer: &mut W, pending: &mut Pending) -> Result<(), AnswerFault>
-    ensures written { WritesPending result (W.written writer.old) (W.written writer.new) pending.old }
+    ensures written { WritesPending result
+        (W.written writer.old) (W.written writer.new) pending.old }
     ensures empty { OnOk result (pending.new ≡ []) }
     ensures mark { W.is_marked writer.new ≡ mark_after result (W.is_marked writer.old) }
 {
@@ -63,7 +64,8 @@ pub fn send_answer<W: Sink>(
 fn make_room<W: Sink>(writer: &mut W, pending: &mut Pending) -> Result<(), AnswerFault>
     ensures sent { MatchResult result
         (λ _. Sends (W.written writer.old) (W.written writer.new) pending.new pending.old)
-        (λ fault. AtFault fault (AppendsBeginning (W.written writer.old) (W.written writer.new) pending.old) ⊥) }
+        (λ fault. AtFault fault
+        (AppendsBeginning (W.written writer.old) (W.written writer.new) pending.old) ⊥) }
     ensures room { OnOk result (HasRoom pending.new) }
     ensures mark { W.is_marked writer.new ≡ mark_after result (W.is_marked writer.old) }
 {

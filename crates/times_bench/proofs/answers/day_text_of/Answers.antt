@@ -15,11 +15,13 @@ unfolding day_text
 returns c =
     let day = wall_day c.args.moment in
     let fits : FitsSigned w32 c.to_julian_day.result = search rules in
-    let julian_day : to_z w32 (of_z w32 c.to_julian_day.result) ≡ julian_day_of day = to_z-of_z w32 c.to_julian_day.result fits ∙ c.to_julian_day.ensures.value in
+    let julian_day : to_z w32 (of_z w32 c.to_julian_day.result) ≡ julian_day_of day = to_z-of_z w32 c.to_julian_day.result fits
+    ∙ c.to_julian_day.ensures.value in
     let name : c.as_bytes.result.now ≡ weekday_name (weekday_from_monday (weekday_of day))
     = c.as_bytes.ensures.value ∙ c.text.ensures.text ∙ weekday_name-from_monday c.weekday.result (weekday_of day) c.weekday.ensures in
     let ordinal : c.push_decimal.new.self ≡ decimal (ordinal_of day) = search rules in
     let front = c.push.ensures.value ∙ ap (λ (z : List ℕ). z ++ 32 ∷ []) ordinal in
-    let middle = c.push_bytes.ensures.value ∙ ap (λ (z : List ℕ). z ++ c.as_bytes.result.now) front ∙ ap (λ (z : List ℕ). decimal (ordinal_of day) ++ 32 ∷ [] ++ z) name in
+    let middle = c.push_bytes.ensures.value ∙ ap (λ (z : List ℕ). z ++ c.as_bytes.result.now) front
+    ∙ ap (λ (z : List ℕ). decimal (ordinal_of day) ++ 32 ∷ [] ++ z) name in
     c.push_signed.ensures.value ∙ ap (λ (z : ℤ). c.push-2.new.self ++ signed_decimal z) julian_day
     ∙ ap (λ (z : List ℕ). z ++ signed_decimal (julian_day_of day)) (c.push-2.ensures.value ∙ ap (λ (z : List ℕ). z ++ 32 ∷ []) middle)

@@ -5,7 +5,8 @@ use Rattle.times_bench.specs.Requests.{Request, request_of_kind, request_of}
 use Rattle.times_bench.specs.Words.{words_of}
 use Rattle.times_bench.specs.declared.requests.Kind.TheVariants as kind
 use Rattle.times_bench.proofs.answers.put_answer.Goals as goal
-use Rattle.times_bench.proofs.answers.put_answer.Goals.{in-Some-Unix-default, in-Some-Stamp-default, in-Some-Run-default+in_ok-answer_run-in-Some-Run-default, in-Some-Chain-default, in-None}
+use Rattle.times_bench.proofs.answers.put_answer.Goals.{in-Some-Unix-default, in-Some-Stamp-default, in-Some-Run-default+in_ok-answer_run-in-Some-Run-default}
+use Rattle.times_bench.proofs.answers.put_answer.Goals.{in-Some-Chain-default, in-None}
 
 pub returns-in_err-answer_run-in-Some-Run-default : goal.returns-in_err-answer_run-in-Some-Run-default
 unfolding takes_memory

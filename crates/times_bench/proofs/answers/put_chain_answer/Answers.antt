@@ -1,4 +1,4 @@
-use Rattle.std.proofs.Common.{rules, ◌≡◌, ◌∙◌, ℤ, ℕ, List, ◌++◌, ap, codes, decimal, sym, w64, FitsSigned, to_z, of_z}
+use Rattle.std.proofs.Common.{rules, ◌∙◌, ℤ, ℕ, List, ◌++◌, ap, codes, decimal, sym, w64, FitsSigned}
 use Rattle.std.proofs.lemmas.Int.{to_z-of_z}
 use Rattle.stamp_times.specs.Refusals.{timestamp_of_parts}
 use Rattle.stamp_times.specs.declared.steps.Step.{Step}

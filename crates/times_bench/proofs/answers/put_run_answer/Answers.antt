@@ -1,4 +1,4 @@
-use Rattle.std.proofs.Common.{rules, ◌≡◌, ◌∙◌, ℤ, ℕ, List, ◌++◌, ap, append_assoc, codes, flat_map, sym, w64, FitsSigned}
+use Rattle.std.proofs.Common.{rules, ◌∙◌, ℤ, ℕ, List, ◌++◌, ap, append_assoc, codes, flat_map, sym, w64, FitsSigned}
 use Rattle.std.proofs.lemmas.Int.{to_z-of_z}
 use Rattle.stamp_times.specs.Refusals.{timestamp_of_parts}
 use Rattle.stamp_times.specs.Texts.{timestamp_text}
@@ -16,7 +16,8 @@ returns-in_ok-replies-in-Ok-clause-answer c =
     let fits : FitsSigned w64 asked.second = search rules in
     let known = c.new.ensures.equation ∙ ap (λ (z : ℤ). timestamp_of_parts z asked.nanosecond) (to_z-of_z w64 asked.second fits) in
     let ran = c.in_ok-replies-in-Ok in
-    let text = run_text-replies c.items.result.now c.in-Ok.start ran.last c.as_slice.result.now (c.as_slice.ensures.value ∙ ran.ensures.replies) ran.ensures.last in
+    let text = run_text-replies c.items.result.now c.in-Ok.start ran.last c.as_slice.result.now (c.as_slice.ensures.value
+    ∙ ran.ensures.replies) ran.ensures.last in
     let before = flat_map (λ (reply : Reply). reply_text reply ++ codes "; ") c.as_slice.result.now in
     both_put c.args.pending.now _ _ before c.end_text.result _ c.put_replies.ensures.replies c.put_text.ensures.text
     (ap (λ (z : List ℕ). before ++ z) c.end_text.ensures ∙ sym (append_assoc before (codes "end ") (timestamp_text ran.last))

@@ -4,7 +4,6 @@ use Rattle.std.proofs.lemmas.Result.{err_from_is_err_and}
 use Rattle.std.proofs.lemmas.List.{take_all, take-append-drop}
 use Rattle.times_bench.specs.Answers.{answers_of}
 use Rattle.times_bench.specs.LineParts.{HasNone, ended_from, rest_from}
-use Rattle.times_bench.specs.Progress.{SendsAnswer}
 use Rattle.times_bench.specs.Writing.{Sends}
 use Rattle.times_bench.proofs.CutLemmas.{ended_from-until, rest_from-until, rest_from-line_feed}
 use Rattle.times_bench.proofs.FeedLemmas.{Sends-line, AtFault-line, WritesAnswers-flushed}
