@@ -41,7 +41,10 @@ int_cmp_agrees a b x y l g s = grind (arith, ints)
 -- dates more than three days apart decide
 pub int_cmp-far : (d i j : ℤ) → 3 < unsigned_abs d → (pos 3 <ℤ d → j <ℤ i) → (d <ℤ neg_ℤ (pos 3) → i <ℤ j) → int_cmp d (pos 0) ≡ int_cmp i j
 int_cmp-far d i j far later earlier =
-    int_cmp_agrees d (pos 0) i j (λ lt. earlier (omega (arith, signed_arith, one_part d))) (λ gt. later (omega (arith, signed_arith, one_part d))) (λ e. absurd (omega (arith, signed_arith, one_part d)))
+    int_cmp_agrees d (pos 0) i j
+    (λ lt. earlier (omega (arith, signed_arith, one_part d)))
+    (λ gt. later (omega (arith, signed_arith, one_part d)))
+    (λ e. absurd (omega (arith, signed_arith, one_part d)))
 
 -- and else the difference of the instants does
 pub int_cmp-difference : (i j : ℤ) → int_cmp (i -ℤ j) (pos 0) ≡ int_cmp i j
@@ -66,7 +69,8 @@ seconds_between s d a b m n u v o p whole days first second =
 
 -- instants lie apart by the days, the seconds of the days, the offsets and the nanoseconds
 pub instants_between : (a b : Local) (s : ℤ) (n m : ℕ)
-    → s ≡ (wall_day a.wall -ℤ wall_day b.wall) *ℤ pos 86_400 +ℤ pos (wall_time a.wall / nanos_per_second) -ℤ a.offset -ℤ (pos (wall_time b.wall / nanos_per_second) -ℤ b.offset)
+    → s ≡ (wall_day a.wall -ℤ wall_day b.wall) *ℤ pos 86_400 +ℤ pos (wall_time a.wall / nanos_per_second) -ℤ a.offset
+    -ℤ (pos (wall_time b.wall / nanos_per_second) -ℤ b.offset)
     → n ≡ nanosecond_of (wall_time a.wall) → m ≡ nanosecond_of (wall_time b.wall)
     → s *ℤ pos 1_000_000_000 +ℤ (pos n -ℤ pos m) ≡ instant_of a -ℤ instant_of b
 unfolding instant_of

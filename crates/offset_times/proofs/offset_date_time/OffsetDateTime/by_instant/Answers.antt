@@ -1,6 +1,5 @@
 use Rattle.std.proofs.Common.{◌≡◌, ◌∙◌, ◌<◌, rules, ap, arith, ℤ, pos, int_cmp, to_z, of_z, w32, unsigned_abs}
 use Rattle.std.specs.Int.{w128}
-use Rattle.calendar_values.specs.SignedArith.{signed_casts}
 use Rattle.offset_times.specs.Local.{instant_of}
 use Rattle.offset_times.proofs.OrderLemmas.{int_cmp-far, int_cmp-difference}
 use Rattle.offset_times.proofs.offset_date_time.OffsetDateTime.by_instant.Goals as goal

@@ -1,4 +1,4 @@
-use Rattle.std.proofs.Common.{◌≡◌, ◌∙◌, ◌/◌, rules, arith, ℤ, pos, ◌-ℤ◌, to_z, of_z, w32, w64}
+use Rattle.std.proofs.Common.{◌≡◌, ◌∙◌, ◌/◌, rules, arith, pos, ◌-ℤ◌, to_z, of_z, w32, w64}
 use Rattle.calendar_values.specs.Clock.{nanos_per_second}
 use Rattle.calendar_values.specs.SignedArith.{signed_casts}
 use Rattle.calendar_values.specs.WallClock.{wall_day, wall_time}
