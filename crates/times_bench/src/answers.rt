@@ -48,7 +48,11 @@ fn answer_unix(pending: &mut Pending, words: &[u8])
     ensures room { length pending.new < 65_536 }
 {
     match unix_request_of(words) {
-        Some(second) => put_text(pending, &unix_text(second)),
+        Some(second) => {
+            let mut text = Text::new();
+            unix_text(&mut text, second);
+            put_text(pending, &text);
+        }
         None => pending.push_all(b"bad line"),
     }
 }
@@ -108,16 +112,15 @@ fn put_text(pending: &mut Pending, text: &Text)
     pending.push_all(text.as_bytes());
 }
 
-// The answer to `unix S`.
-fn unix_text(second: i64) -> Text
-    ensures { result ≡ unix_answer second }
+// Writes the answer to `unix S` to an empty text.
+fn unix_text(text: &mut Text, second: i64)
+    requires { text.old ≡ [] }
+    ensures { text.new ≡ unix_answer second }
 {
-    let mut text = Text::new();
     match UtcDateTime::from_unix_timestamp(second) {
-        Ok(moment) => moment.append_to(&mut text),
+        Ok(moment) => moment.append_to(text),
         Err(_) => text.push_bytes(b"refused timestamp"),
     }
-    text
 }
 
 // Puts the answer to `stamp S N`.

@@ -12,12 +12,12 @@ pub returns-in-Ok : goal.returns-in-Ok
 unfolding unix_answer
 returns-in-Ok c =
     let known = c.from_unix_timestamp.ensures.equation ∙ ap unix_instant (to_z-of_z w64 c.args.second c.ranges.second) in
-    c.append_to.ensures.text ∙ ap (λ (z : List ℕ). z ++ utc_text c.in-Ok.moment) c.new-text.ensures
+    c.append_to.ensures.text ∙ ap (λ (z : List ℕ). z ++ utc_text c.in-Ok.moment) c.requires
     ∙ ap (text_or_refusal utc_text) (sym c.in-Ok.is ∙ known)
 
 pub returns-in-Err : goal.returns-in-Err
 unfolding unix_answer
 returns-in-Err c =
     let known = c.from_unix_timestamp.ensures.equation ∙ ap unix_instant (to_z-of_z w64 c.args.second c.ranges.second) in
-    c.push_bytes.ensures.value ∙ ap (λ (z : List ℕ). z ++ codes "refused timestamp") c.new-text.ensures
+    c.push_bytes.ensures.value ∙ ap (λ (z : List ℕ). z ++ codes "refused timestamp") c.requires
     ∙ sym (ap (λ (z : Refusal). codes "refused " ++ z.name) c.in-Err.ensures.refused) ∙ ap (text_or_refusal utc_text) (sym c.in-Err.is ∙ known)
