@@ -1,14 +1,16 @@
 -- What an accepted date says of its parts.
 use Rattle.std.proofs.Common.{◌≡◌, ℕ, ◌≤◌, Bool, true, false, ◌||◌, ◌==◌, cond, refl, arith, sym, ◌∙◌, ℤ, Result, Ok, Err, nat_lt}
 use Rattle.std.proofs.lemmas.Bool.Decides.{nat_tests}
-use Rattle.calendar_values.specs.Calendar.{is_leap_year, days_in_year, days_in_month, year_of, month_of, day_of_month_of, day_of_calendar_date, day_of_ordinal_date, IsCalendarDate, IsOrdinalDate}
+use Rattle.calendar_values.specs.Calendar.{is_leap_year, days_in_year, days_in_month, year_of, month_of, day_of_month_of, day_of_calendar_date}
+use Rattle.calendar_values.specs.Calendar.{day_of_ordinal_date, IsCalendarDate, IsOrdinalDate}
 use Rattle.calendar_values.specs.Range.{first_year, last_year, is_outside}
 use Rattle.calendar_values.specs.Refusals.{Refusal, calendar_date, ordinal_date}
 use Rattle.calendar_values.specs.Laws.{IsOnlyDay}
 use Rattle.calendar_values.specs.MonthLaws.{day_of_calendar_date-of, year_of-calendar_date, month_of-calendar_date, day_of_month_of-calendar_date}
 
 -- where a test does not refuse, what follows it is accepted
-not_refused : {A : Type 0} (test : Bool) (refusal : Refusal) (rest : Result A Refusal) (x : A) → cond test (Err refusal) rest ≡ Ok x → (test ≡ false) × (rest ≡ Ok x)
+not_refused : {A : Type 0} (test : Bool) (refusal : Refusal) (rest : Result A Refusal) (x : A) → cond test (Err refusal) rest ≡ Ok x → (test ≡ false) ×
+    (rest ≡ Ok x)
 not_refused true refusal rest x e = cc
 not_refused false refusal rest x e = (refl, e)
 

@@ -14,7 +14,8 @@ duration_below s t m n p q lt =
     omega (arith, signed_arith, duration_signs s m p, duration_signs t n q)
 
 -- the parts are compared one after the other
-pub int_cmp-duration_of_parts : (s t m n : ℤ) → IsDurationParts s m → IsDurationParts t n → ordering_then (int_cmp s t) (int_cmp m n) ≡ int_cmp (duration_of_parts s m) (duration_of_parts t n)
+pub int_cmp-duration_of_parts : (s t m n : ℤ) → IsDurationParts s m → IsDurationParts t n →
+    ordering_then (int_cmp s t) (int_cmp m n) ≡ int_cmp (duration_of_parts s m) (duration_of_parts t n)
 int_cmp-duration_of_parts s t m n p q =
     by_lt_z s t
     (λ lt. rw (sym (int_cmp_is s t Less lt)) (int_cmp_is (duration_of_parts s m) (duration_of_parts t n) Less (duration_below s t m n p q lt)))
@@ -35,12 +36,15 @@ whole_days_of-whole_seconds_of (pos n) = omega (arith, ints)
 whole_days_of-whole_seconds_of (negsuc n) = omega (arith, ints)
 
 -- where the sum of two durations is in range, the sum of their seconds fits
-pub FitsSigned-sum : (s t m n : ℤ) → FitsSigned w64 s → FitsSigned w64 t → IsDurationParts s m → IsDurationParts t n → IsDuration (duration_of_parts s m +ℤ duration_of_parts t n) → FitsSigned w64 (s +ℤ t)
+pub FitsSigned-sum : (s t m n : ℤ) → FitsSigned w64 s → FitsSigned w64 t → IsDurationParts s m → IsDurationParts t n →
+    IsDuration (duration_of_parts s m +ℤ duration_of_parts t n) → FitsSigned w64 (s +ℤ t)
 FitsSigned-sum s t m n f g p q r =
     omega (arith, signed_arith, duration_signs s m p, duration_signs t n q)
 
 -- the parts are added one by one
-pub duration_of_parts-sum : (s t m n : ℤ) → FitsSigned w64 s → FitsSigned w64 t → IsDurationParts s m → IsDurationParts t n → IsDuration (duration_of_parts s m +ℤ duration_of_parts t n) → duration_of_parts (to_z w64 (of_z w64 (to_z w64 (of_z w64 s) +ℤ to_z w64 (of_z w64 t)))) (to_z w32 (of_z w32 (to_z w32 (of_z w32 m) +ℤ to_z w32 (of_z w32 n)))) ≡ duration_of_parts s m +ℤ duration_of_parts t n
+pub duration_of_parts-sum : (s t m n : ℤ) → FitsSigned w64 s → FitsSigned w64 t → IsDurationParts s m → IsDurationParts t n →
+    IsDuration (duration_of_parts s m +ℤ duration_of_parts t n) → duration_of_parts (to_z w64 (of_z w64 (to_z w64 (of_z w64 s) +ℤ to_z w64 (of_z w64 t))))
+    (to_z w32 (of_z w32 (to_z w32 (of_z w32 m) +ℤ to_z w32 (of_z w32 n)))) ≡ duration_of_parts s m +ℤ duration_of_parts t n
 duration_of_parts-sum s t m n f g p q r =
     let h : FitsSigned w32 m = omega (arith, signed_arith) in
     let k : FitsSigned w32 n = omega (arith, signed_arith) in
@@ -56,7 +60,10 @@ FitsSigned-nanoseconds s t m n p q =
     simp to_z-of_z (omega (arith, signed_arith))
 
 -- the parts are taken away one by one, where the seconds fit
-pub duration_of_parts-difference : (s t m n seconds : ℤ) → FitsSigned w64 s → FitsSigned w64 t → IsDurationParts s m → IsDurationParts t n → FitsSigned w64 (to_z w64 (of_z w64 s) -ℤ to_z w64 (of_z w64 t)) × (seconds ≡ to_z w64 (of_z w64 s) -ℤ to_z w64 (of_z w64 t)) → duration_of_parts (to_z w64 (of_z w64 seconds)) (to_z w32 (of_z w32 (to_z w32 (of_z w32 m) -ℤ to_z w32 (of_z w32 n)))) ≡ duration_of_parts s m -ℤ duration_of_parts t n
+pub duration_of_parts-difference : (s t m n seconds : ℤ) → FitsSigned w64 s → FitsSigned w64 t → IsDurationParts s m → IsDurationParts t n →
+    FitsSigned w64 (to_z w64 (of_z w64 s) -ℤ to_z w64 (of_z w64 t)) × (seconds ≡ to_z w64 (of_z w64 s) -ℤ to_z w64 (of_z w64 t)) →
+    duration_of_parts (to_z w64 (of_z w64 seconds)) (to_z w32 (of_z w32 (to_z w32 (of_z w32 m) -ℤ to_z w32 (of_z w32 n)))) ≡ duration_of_parts s m -ℤ
+    duration_of_parts t n
 duration_of_parts-difference s t m n seconds f g p q e =
     let h : FitsSigned w32 m = omega (arith, signed_arith) in
     let k : FitsSigned w32 n = omega (arith, signed_arith) in
@@ -66,14 +73,18 @@ duration_of_parts-difference s t m n seconds f g p q e =
     rw plain.1 (simp to_z-of_z (omega (arith, signed_arith)))
 
 -- where the difference is in range and that of the seconds does not fit, it is 2^63 seconds, and the nanoseconds are negative
-seconds_excess : (s t m n : ℤ) → FitsSigned w64 s → FitsSigned w64 t → IsDurationParts s m → IsDurationParts t n → IsDuration (duration_of_parts s m -ℤ duration_of_parts t n) → ¬ FitsSigned w64 (to_z w64 (of_z w64 s) -ℤ to_z w64 (of_z w64 t)) → (s -ℤ t ≡ pos 9_223_372_036_854_775_808) × ((m -ℤ n) <ℤ pos 0)
+seconds_excess : (s t m n : ℤ) → FitsSigned w64 s → FitsSigned w64 t → IsDurationParts s m → IsDurationParts t n →
+    IsDuration (duration_of_parts s m -ℤ duration_of_parts t n) → ¬ FitsSigned w64 (to_z w64 (of_z w64 s) -ℤ to_z w64 (of_z w64 t)) →
+    (s -ℤ t ≡ pos 9_223_372_036_854_775_808) × ((m -ℤ n) <ℤ pos 0)
 seconds_excess s t m n f g p q r unfit =
     by_lt_z (s -ℤ t) (pos 9_223_372_036_854_775_808)
     (λ lt. absurd (unfit (simp to_z-of_z (omega (arith, signed_arith, duration_signs s m p, duration_signs t n q)))))
     (λ ge. (omega (arith, signed_arith, duration_signs s m p, duration_signs t n q), omega (arith, signed_arith, duration_signs s m p, duration_signs t n q)))
 
 -- the nanoseconds that have borrowed a second fit
-pub FitsSigned-borrowed : (s t m n : ℤ) → FitsSigned w64 s → FitsSigned w64 t → IsDurationParts s m → IsDurationParts t n → IsDuration (duration_of_parts s m -ℤ duration_of_parts t n) → ¬ FitsSigned w64 (to_z w64 (of_z w64 s) -ℤ to_z w64 (of_z w64 t)) → FitsSigned w32 (to_z w32 (of_z w32 (to_z w32 (of_z w32 m) -ℤ to_z w32 (of_z w32 n))) +ℤ pos 1_000_000_000)
+pub FitsSigned-borrowed : (s t m n : ℤ) → FitsSigned w64 s → FitsSigned w64 t → IsDurationParts s m → IsDurationParts t n →
+    IsDuration (duration_of_parts s m -ℤ duration_of_parts t n) → ¬ FitsSigned w64 (to_z w64 (of_z w64 s) -ℤ to_z w64 (of_z w64 t)) →
+    FitsSigned w32 (to_z w32 (of_z w32 (to_z w32 (of_z w32 m) -ℤ to_z w32 (of_z w32 n))) +ℤ pos 1_000_000_000)
 FitsSigned-borrowed s t m n f g p q r unfit =
     let h : FitsSigned w32 m = omega (arith, signed_arith) in
     let k : FitsSigned w32 n = omega (arith, signed_arith) in
@@ -82,7 +93,10 @@ FitsSigned-borrowed s t m n f g p q r unfit =
     simp to_z-of_z (omega (arith, signed_arith, excess))
 
 -- and the parts are then those of the difference
-pub duration_of_parts-borrowed : (s t m n : ℤ) → FitsSigned w64 s → FitsSigned w64 t → IsDurationParts s m → IsDurationParts t n → IsDuration (duration_of_parts s m -ℤ duration_of_parts t n) → ¬ FitsSigned w64 (to_z w64 (of_z w64 s) -ℤ to_z w64 (of_z w64 t)) → duration_of_parts (pos 9_223_372_036_854_775_807) (to_z w32 (of_z w32 (to_z w32 (of_z w32 (to_z w32 (of_z w32 m) -ℤ to_z w32 (of_z w32 n))) +ℤ pos 1_000_000_000))) ≡ duration_of_parts s m -ℤ duration_of_parts t n
+pub duration_of_parts-borrowed : (s t m n : ℤ) → FitsSigned w64 s → FitsSigned w64 t → IsDurationParts s m → IsDurationParts t n →
+    IsDuration (duration_of_parts s m -ℤ duration_of_parts t n) → ¬ FitsSigned w64 (to_z w64 (of_z w64 s) -ℤ to_z w64 (of_z w64 t)) →
+    duration_of_parts (pos 9_223_372_036_854_775_807) (to_z w32 (of_z w32
+    (to_z w32 (of_z w32 (to_z w32 (of_z w32 m) -ℤ to_z w32 (of_z w32 n))) +ℤ pos 1_000_000_000))) ≡ duration_of_parts s m -ℤ duration_of_parts t n
 duration_of_parts-borrowed s t m n f g p q r unfit =
     let h : FitsSigned w32 m = omega (arith, signed_arith) in
     let k : FitsSigned w32 n = omega (arith, signed_arith) in

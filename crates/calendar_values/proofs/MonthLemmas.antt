@@ -41,14 +41,16 @@ and-both : (s t : Bool) → s && t ≡ true → (s ≡ true) × (t ≡ true)
 and-both true t e = (refl, e)
 and-both false t e = grind (arith, nat_tests)
 
-agrees-at : (b : Bool) (days months n day : ℕ) → agrees_below b days months n ≡ true → 1 ≤ day → day ≤ n → (month_of_ordinal b (days + day) ≡ month_by_product day + months) × (day_of_ordinal b (days + day) ≡ day_by_product day)
+agrees-at : (b : Bool) (days months n day : ℕ) → agrees_below b days months n ≡ true → 1 ≤ day → day ≤ n →
+    (month_of_ordinal b (days + day) ≡ month_by_product day + months) × (day_of_ordinal b (days + day) ≡ day_by_product day)
 agrees-at b days months zero day t low high = absurd (omega arith)
 agrees-at b days months (suc n) day t low high = elim (cases_order day (suc n)) [
   | inl e ↦ rw e (here (and-both _ _ t).1)
   | inr (inl lt) ↦ agrees-at b days months n day (and-both _ _ t).0 low (omega arith)
   | inr (inr gt) ↦ absurd (omega arith)
 ] where
-  here : agrees b days months (suc n) ≡ true → (month_of_ordinal b (days + suc n) ≡ month_by_product (suc n) + months) × (day_of_ordinal b (days + suc n) ≡ day_by_product (suc n))
+  here : agrees b days months (suc n) ≡ true → (month_of_ordinal b (days + suc n) ≡ month_by_product (suc n) + months) ×
+      (day_of_ordinal b (days + suc n) ≡ day_by_product (suc n))
   here s = let both = and-both _ _ s in (eqb-true _ _ both.0, eqb-true _ _ both.1)
 
 -- up to the end of February the day is counted from 1 January
@@ -64,13 +66,15 @@ early-day b ordinal low high =
     rw same at (agrees-at b 0 0 (until_march b) ordinal (agrees-early b) low high).1
 
 -- and later from 1 March
-pub late-month : (b : Bool) (ordinal : ℕ) → until_march b < ordinal → ordinal ≤ year_length b → month_of_ordinal b ordinal ≡ month_by_product (ordinal - until_march b) + 2
+pub late-month : (b : Bool) (ordinal : ℕ) → until_march b < ordinal → ordinal ≤ year_length b →
+    month_of_ordinal b ordinal ≡ month_by_product (ordinal - until_march b) + 2
 late-month b ordinal low high =
     let same : until_march b + (ordinal - until_march b) ≡ ordinal = omega arith in
     let most : ordinal - until_march b ≤ 306 = grind arith in
     rw same at (agrees-at b (until_march b) 2 306 (ordinal - until_march b) (agrees-late b) (omega arith) most).0
 
-pub late-day : (b : Bool) (ordinal : ℕ) → until_march b < ordinal → ordinal ≤ year_length b → day_of_ordinal b ordinal ≡ day_by_product (ordinal - until_march b)
+pub late-day : (b : Bool) (ordinal : ℕ) → until_march b < ordinal → ordinal ≤ year_length b →
+    day_of_ordinal b ordinal ≡ day_by_product (ordinal - until_march b)
 late-day b ordinal low high =
     let same : until_march b + (ordinal - until_march b) ≡ ordinal = omega arith in
     let most : ordinal - until_march b ≤ 306 = grind arith in

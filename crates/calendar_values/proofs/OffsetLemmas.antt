@@ -1,10 +1,12 @@
 -- The signs, the parts and the texts of offsets.
-use Rattle.std.proofs.Common.{lit≤, ◌≡◌, ℕ, ℤ, FitsSigned, w8, w32, to_z, of_z, to_z-of_z, int_div, int_rem, pos, negsuc, ◌/◌, ◌%◌, ◌<ℤ◌, neg_ℤ, unsigned_abs, inl, inr, List, ◌++◌, refl, arith, IsTrue, false, ◌≤◌}
+use Rattle.std.proofs.Common.{lit≤, ◌≡◌, ℕ, ℤ, FitsSigned, w8, w32, to_z, of_z, to_z-of_z, int_div, int_rem, pos, negsuc, ◌/◌, ◌%◌, ◌<ℤ◌, neg_ℤ, unsigned_abs}
+use Rattle.std.proofs.Common.{inl, inr, List, ◌++◌, refl, arith, IsTrue, false, ◌≤◌}
 use Rattle.std.proofs.lemmas.Int.{by_lt_z, ints}
 use Rattle.std.specs.Prelude.{Ok, codes, int_lt, if◌then◌else◌}
 use Rattle.calendar_values.specs.Digits.{last_digits}
 use Rattle.calendar_values.specs.OffsetLaws.{offset_signs}
-use Rattle.calendar_values.specs.Offsets.{IsOffset, IsOffsetParts, seconds_of_parts, offset_hours_of, offset_minutes_of, offset_seconds_of, with_sign_of, offset_of_seconds}
+use Rattle.calendar_values.specs.Offsets.{IsOffset, IsOffsetParts, seconds_of_parts, offset_hours_of, offset_minutes_of, offset_seconds_of, with_sign_of}
+use Rattle.calendar_values.specs.Offsets.{offset_of_seconds}
 use Rattle.calendar_values.specs.SignedArith.{signed_arith, one_part}
 use Rattle.calendar_values.specs.Texts.{offset_text}
 
@@ -22,7 +24,8 @@ computed_hours o p =
     let hours' : FitsSigned w8 (int_div o (pos 3_600)) = omega (arith, signed_arith, one_part o) in
     simp to_z-of_z
 
-pub computed_minutes : (o : ℤ) → IsOffset o → to_z w8 (of_z w8 (to_z w32 (of_z w32 (int_rem (to_z w32 (of_z w32 (int_div (to_z w32 (of_z w32 o)) (pos 60)))) (pos 60))))) ≡ offset_minutes_of o
+pub computed_minutes : (o : ℤ) → IsOffset o → to_z w8 (of_z w8 (to_z w32
+    (of_z w32 (int_rem (to_z w32 (of_z w32 (int_div (to_z w32 (of_z w32 o)) (pos 60)))) (pos 60))))) ≡ offset_minutes_of o
 unfolding offset_minutes_of
 computed_minutes o p =
     let fits : FitsSigned w32 o = omega (arith, signed_arith) in
@@ -64,7 +67,8 @@ IsOffsetParts-seconds (negsuc s) b = record {
 }
 
 -- parts with the sign of hours that are not 0
-IsOffsetParts-positive : (h m s : ℤ) → pos 0 <ℤ h → unsigned_abs h ≤ 25 → unsigned_abs m ≤ 59 → unsigned_abs s ≤ 59 → IsOffsetParts h (with_sign_of h m) (with_sign_of h s)
+IsOffsetParts-positive : (h m s : ℤ) → pos 0 <ℤ h → unsigned_abs h ≤ 25 → unsigned_abs m ≤ 59 → unsigned_abs s ≤ 59 →
+    IsOffsetParts h (with_sign_of h m) (with_sign_of h s)
 IsOffsetParts-positive h m s p a b d =
     rw (with_sign_of-positive h m p, with_sign_of-positive h s p) (record {
       hours_in_range = a;
@@ -73,7 +77,8 @@ IsOffsetParts-positive h m s p a b d =
       one_sign = inl (omega (arith, signed_arith), omega (arith, signed_arith), omega (arith, signed_arith));
     })
 
-IsOffsetParts-negative : (h m s : ℤ) → h <ℤ pos 0 → unsigned_abs h ≤ 25 → unsigned_abs m ≤ 59 → unsigned_abs s ≤ 59 → IsOffsetParts h (with_sign_of h m) (with_sign_of h s)
+IsOffsetParts-negative : (h m s : ℤ) → h <ℤ pos 0 → unsigned_abs h ≤ 25 → unsigned_abs m ≤ 59 → unsigned_abs s ≤ 59 →
+    IsOffsetParts h (with_sign_of h m) (with_sign_of h s)
 IsOffsetParts-negative h m s p a b d =
     rw (with_sign_of-negative h m p, with_sign_of-negative h s p) (record {
       hours_in_range = a;
@@ -102,7 +107,8 @@ IsOffsetParts-minutes m s a b =
     (λ at_least. let none : m ≡ pos 0 = omega (arith, signed_arith) in rw none (IsOffsetParts-seconds s b)))
 
 -- parts that have been given their signs are parts of an offset
-pub IsOffsetParts-with_sign_of : (h m s : ℤ) → unsigned_abs h ≤ 25 → unsigned_abs m ≤ 59 → unsigned_abs s ≤ 59 → IsOffsetParts h (with_sign_of h m) (with_sign_of h (with_sign_of m s))
+pub IsOffsetParts-with_sign_of : (h m s : ℤ) → unsigned_abs h ≤ 25 → unsigned_abs m ≤ 59 → unsigned_abs s ≤ 59 →
+    IsOffsetParts h (with_sign_of h m) (with_sign_of h (with_sign_of m s))
 IsOffsetParts-with_sign_of h m s a b d =
     let bound : unsigned_abs (with_sign_of m s) ≤ 59 = rw (unsigned_abs-with_sign_of m s) d in
     by_lt_z (pos 0) h
@@ -136,7 +142,8 @@ pub sign_text-not_negative : (o : ℤ) → (o <ℤ pos 0 → IsTrue false) → c
 sign_text-not_negative o h = grind (arith, ints)
 
 -- what an offset shows, by its parts
-pub offset_text-parts : (h m s : ℤ) → IsOffsetParts h m s → offset_text (seconds_of_parts h m s) ≡ sign_text (seconds_of_parts h m s) ++ last_digits 2 (unsigned_abs h) ++ codes ":" ++ last_digits 2 (unsigned_abs m) ++ codes ":" ++ last_digits 2 (unsigned_abs s)
+pub offset_text-parts : (h m s : ℤ) → IsOffsetParts h m s → offset_text (seconds_of_parts h m s) ≡ sign_text (seconds_of_parts h m s) ++
+    last_digits 2 (unsigned_abs h) ++ codes ":" ++ last_digits 2 (unsigned_abs m) ++ codes ":" ++ last_digits 2 (unsigned_abs s)
 unfolding offset_text
 offset_text-parts h m s p =
     rw (unsigned_abs-hours h m s p, unsigned_abs-minutes h m s p, unsigned_abs-seconds h m s p) refl

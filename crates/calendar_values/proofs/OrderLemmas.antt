@@ -15,7 +15,8 @@ earlier_year : (y z : ℤ) (o p : ℕ) → IsOrdinalDate y o → IsOrdinalDate z
 earlier_year y z o p h k lt =
     omega (arith, signed_arith, year_start-next y, year_start-mono (y +ℤ pos 1) z (omega (arith, signed_arith)), h.last, k.first)
 
-pub cmp-ordinal_dates : (y z : ℤ) (o p : ℕ) → IsOrdinalDate y o → IsOrdinalDate z p → ordering_then (int_cmp y z) (nat_cmp o p) ≡ int_cmp (day_of_ordinal_date y o) (day_of_ordinal_date z p)
+pub cmp-ordinal_dates : (y z : ℤ) (o p : ℕ) → IsOrdinalDate y o → IsOrdinalDate z p →
+    ordering_then (int_cmp y z) (nat_cmp o p) ≡ int_cmp (day_of_ordinal_date y o) (day_of_ordinal_date z p)
 cmp-ordinal_dates y z o p h k =
     by_lt_z y z
     (λ lt. rw (sym (int_cmp_is y z Less lt)) (int_cmp_is (day_of_ordinal_date y o) (day_of_ordinal_date z p) Less (earlier_year y z o p h k lt)))
@@ -25,7 +26,8 @@ cmp-ordinal_dates y z o p h k =
     rw (same, sym (int_cmp_is z z Equal refl)) (elim (cases_order o p) [
       | inl e ↦ rw (e, sym (nat_cmp_is p p Equal refl)) (int_cmp_is (day_of_ordinal_date z p) (day_of_ordinal_date z p) Equal refl)
       | inr (inl lt) ↦ rw (sym (nat_cmp_is o p Less lt)) (int_cmp_is (day_of_ordinal_date z o) (day_of_ordinal_date z p) Less (omega (arith, signed_arith)))
-      | inr (inr gt) ↦ rw (sym (nat_cmp_is o p Greater gt)) (int_cmp_is (day_of_ordinal_date z o) (day_of_ordinal_date z p) Greater (omega (arith, signed_arith)))
+      | inr (inr gt) ↦ rw (sym (nat_cmp_is o p Greater gt)) (int_cmp_is (day_of_ordinal_date z o) (day_of_ordinal_date z p) Greater
+          (omega (arith, signed_arith)))
     ])))
 
 int_eq-apart : (m n : ℤ) → ¬ (m ≡ n) → int_eq m n ≡ false
@@ -34,6 +36,7 @@ int_eq-apart m n h =
     (λ ge. by_lt_z n m (λ gt. rw (sym (int_cmp_is m n Greater gt))) (λ le. absurd (h (omega (arith, signed_arith)))))
 
 -- dates of two years differ
-pub eq-ordinal_dates : (m n y z : ℤ) (o p : ℕ) → IsOrdinalDate y o → IsOrdinalDate z p → day_of_ordinal_date y o ≡ m → day_of_ordinal_date z p ≡ n → ¬ (y ≡ z) → int_eq m n ≡ false
+pub eq-ordinal_dates : (m n y z : ℤ) (o p : ℕ) → IsOrdinalDate y o → IsOrdinalDate z p → day_of_ordinal_date y o ≡ m → day_of_ordinal_date z p ≡ n → ¬ (y ≡ z) →
+    int_eq m n ≡ false
 eq-ordinal_dates m n y z o p h k e f apart =
     int_eq-apart m n (λ same. apart (sym (year_of-is m y o h e) ∙ ap year_of same ∙ year_of-is n z p k f))

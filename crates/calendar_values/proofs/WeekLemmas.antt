@@ -59,7 +59,13 @@ iso_week_of-closed n =
     let t = thursday_of n in
     let place = IsOrdinalDate-of t in
     let moved = weekday_of-ordinal t in
-    omega (arith, place.first, weekday_of-thursday_of n, count_weekday-closed 3 (year_start (year_of t)) (ordinal_of t) (omega arith), weekday_of-bound (year_start (year_of t)))
+    omega (
+      arith,
+      place.first,
+      weekday_of-thursday_of n,
+      count_weekday-closed 3 (year_start (year_of t)) (ordinal_of t) (omega arith),
+      weekday_of-bound (year_start (year_of t)),
+    )
 
 -- the Thursday of the week of a day of the range lies in the range, which begins on a Monday and ends on a Friday
 IsDay-thursday_of : (n : ℤ) → IsDay n → IsDay (thursday_of n)
@@ -73,17 +79,26 @@ pub record IsThursdayOf (n y : ℤ) (ordinal : ℕ) : Type 0 where
 
 thursday_at : (n y : ℤ) (ordinal : ℕ) → IsDay n → IsOrdinalDate y ordinal → day_of_ordinal_date y ordinal ≡ thursday_of n → IsThursdayOf n y ordinal
 thursday_at n y ordinal h date e =
-    record { year_in_range = rw (year_of-is (thursday_of n) y ordinal date e) at (IsYear-year_of (thursday_of n) (IsDay-thursday_of n h)); date = date; day = e }
+    record {
+      year_in_range = rw (year_of-is (thursday_of n) y ordinal date e) at (IsYear-year_of (thursday_of n) (IsDay-thursday_of n h));
+      date = date;
+      day = e;
+    }
 
 -- it lies in the year before, or in the next
-pub IsThursdayOf-previous : (n y previous : ℤ) (ordinal days thursday : ℕ) → IsDay n → IsOrdinalDate y ordinal → day_of_ordinal_date y ordinal ≡ n → previous +ℤ pos 1 ≡ y → days ≡ weekday_of n → ordinal + 3 ≤ days → thursday ≡ days_in_year previous + (ordinal + 3) - days → IsThursdayOf n previous thursday
+pub IsThursdayOf-previous : (n y previous : ℤ) (ordinal days thursday : ℕ) → IsDay n → IsOrdinalDate y ordinal → day_of_ordinal_date y ordinal ≡ n →
+    previous +ℤ pos 1 ≡ y → days ≡ weekday_of n → ordinal + 3 ≤ days → thursday ≡ days_in_year previous + (ordinal + 3) - days →
+    IsThursdayOf n previous thursday
 IsThursdayOf-previous n y previous ordinal days thursday day_in date day before weekday early is =
     let bound = weekday_of-bound n in
     let length = days_in_year_bounds previous in
     let start = rw before at (year_start-next previous) in
-    thursday_at n previous thursday day_in (record { first = omega (arith, length); last = omega (arith, date.first, length) }) (omega (arith, signed_arith, date.first, length))
+    thursday_at n previous thursday day_in (record { first = omega (arith, length); last = omega (arith, date.first, length) })
+    (omega (arith, signed_arith, date.first, length))
 
-pub IsThursdayOf-next : (n y next : ℤ) (ordinal days thursday : ℕ) → IsDay n → IsOrdinalDate y ordinal → day_of_ordinal_date y ordinal ≡ n → next ≡ y +ℤ pos 1 → days ≡ weekday_of n → days < ordinal + 3 → days_in_year y < ordinal + 3 - days → thursday ≡ ordinal + 3 - days - days_in_year y → IsThursdayOf n next thursday
+pub IsThursdayOf-next : (n y next : ℤ) (ordinal days thursday : ℕ) → IsDay n → IsOrdinalDate y ordinal → day_of_ordinal_date y ordinal ≡ n → next ≡ y +ℤ pos 1 →
+    days ≡ weekday_of n → days < ordinal + 3 → days_in_year y < ordinal + 3 - days → thursday ≡ ordinal + 3 - days - days_in_year y →
+    IsThursdayOf n next thursday
 IsThursdayOf-next n y next ordinal days thursday day_in date day after weekday late past is =
     let length = days_in_year_bounds next in
     let start = rw (← after) at (year_start-next y) in

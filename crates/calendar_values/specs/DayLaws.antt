@@ -4,17 +4,35 @@ use Rattle.std.proofs.lemmas.Int.{by_lt_z}
 use Rattle.calendar_values.specs.Calendar.{year_start, IsInYear, IsOrdinalDate, year_after_1970, year_before_1970, year_of, ordinal_of, day_of_ordinal_date}
 use Rattle.calendar_values.specs.Range.{first_year, last_year, first_day, last_day, IsYear, IsDay}
 use Rattle.calendar_values.specs.SignedArith.{signed_arith, one_part}
-use Rattle.calendar_values.specs.YearLaws.{year_start-1970, year_start-next, year_start-mono, year_start-first, year_start-after_last, IsInYear-unique, days_in_year_bounds}
+use Rattle.calendar_values.specs.YearLaws.{year_start-1970, year_start-next, year_start-mono, year_start-first, year_start-after_last, IsInYear-unique}
+use Rattle.calendar_values.specs.YearLaws.{days_in_year_bounds}
 
 in_1970 : IsInYear (pos 0) (pos 1970)
-in_1970 = record { low = omega (arith, signed_arith, year_start-1970); high = omega (arith, signed_arith, year_start-1970, year_start-next (pos 1970), days_in_year_bounds (pos 1970)) }
+in_1970 = record {
+  low = omega (arith, signed_arith, year_start-1970);
+  high = omega (
+    arith,
+    signed_arith,
+    year_start-1970,
+    year_start-next (pos 1970),
+    days_in_year_bounds (pos 1970),
+  );
+}
 
 -- the next day lies in the same year, or begins the next
 IsInYear-next : (n next y : ℤ) → next ≡ n +ℤ pos 1 → IsInYear n y → IsInYear next (cond (int_lt next (year_start (y +ℤ pos 1))) y (y +ℤ pos 1))
 IsInYear-next n next y e h = choose (int_lt next (year_start (y +ℤ pos 1))) refl where
   choose : (b : Bool) → int_lt next (year_start (y +ℤ pos 1)) ≡ b → IsInYear next (cond b y (y +ℤ pos 1))
   choose true t = record { low = omega (arith, signed_arith); high = omega (arith, signed_arith) }
-  choose false t = record { low = omega (arith, signed_arith); high = omega (arith, signed_arith, year_start-next (y +ℤ pos 1), days_in_year_bounds (y +ℤ pos 1)) }
+  choose false t = record {
+    low = omega (arith, signed_arith);
+    high = omega (
+      arith,
+      signed_arith,
+      year_start-next (y +ℤ pos 1),
+      days_in_year_bounds (y +ℤ pos 1),
+    );
+  }
 
 -- the day before lies in the same year, or ends the year before
 IsInYear-previous : (n previous y : ℤ) → n ≡ previous +ℤ pos 1 → IsInYear n y → IsInYear previous (cond (int_lt previous (year_start y)) (y -ℤ pos 1) y)
@@ -22,7 +40,10 @@ IsInYear-previous n previous y e h = choose (int_lt previous (year_start y)) ref
   choose : (b : Bool) → int_lt previous (year_start y) ≡ b → IsInYear previous (cond b (y -ℤ pos 1) y)
   choose true t =
       let back : y -ℤ pos 1 +ℤ pos 1 ≡ y = omega (arith, signed_arith) in
-      record { low = omega (arith, signed_arith, rw back at (year_start-next (y -ℤ pos 1)), days_in_year_bounds (y -ℤ pos 1)); high = rw back (omega (arith, signed_arith)) }
+      record {
+        low = omega (arith, signed_arith, rw back at (year_start-next (y -ℤ pos 1)), days_in_year_bounds (y -ℤ pos 1));
+        high = rw back (omega (arith, signed_arith));
+      }
   choose false t = record { low = omega (arith, signed_arith); high = omega (arith, signed_arith) }
 
 in_year_after : (n : ℕ) → IsInYear (pos n) (year_after_1970 n)
@@ -83,8 +104,20 @@ ordinal_of-is n y ordinal h e = rw (← e) (ordinal_of-ordinal_date y ordinal h)
 pub IsYear-year_of : (n : ℤ) → IsDay n → IsYear (year_of n)
 IsYear-year_of n h =
     let here = IsInYear-year_of n in (
-      by_lt_z (year_of n) first_year (λ lt. absurd (omega (arith, signed_arith, h.0, year_start-mono (year_of n +ℤ pos 1) first_year (omega (arith, signed_arith)), year_start-first))) (λ ge. ge),
-      by_lt_z last_year (year_of n) (λ gt. absurd (omega (arith, signed_arith, h.1, year_start-mono (last_year +ℤ pos 1) (year_of n) (omega (arith, signed_arith)), year_start-after_last))) (λ le. le),
+      by_lt_z (year_of n) first_year (λ lt. absurd (omega (
+        arith,
+        signed_arith,
+        h.0,
+        year_start-mono (year_of n +ℤ pos 1) first_year (omega (arith, signed_arith)),
+        year_start-first,
+      ))) (λ ge. ge),
+      by_lt_z last_year (year_of n) (λ gt. absurd (omega (
+        arith,
+        signed_arith,
+        h.1,
+        year_start-mono (last_year +ℤ pos 1) (year_of n) (omega (arith, signed_arith)),
+        year_start-after_last,
+      ))) (λ le. le),
     )
 
 -- so is each day of a year of the range

@@ -1,9 +1,11 @@
 -- What shows that the definitions are those of the calendar: laws of all years, days and clocks, each proved by a function of `src/laws.rt`.
 use Rattle.std.specs.Prelude.{◌≡◌, ◌↔◌, ℕ, ◌*◌, ◌<◌, ◌≤◌, ℤ, pos, ◌+ℤ◌, Ok}
-use Rattle.calendar_values.specs.Calendar.{days_in_year, year_start, year_of, ordinal_of, month_of, day_of_month_of, day_of_calendar_date, day_of_ordinal_date, IsInYear, IsCalendarDate, IsOrdinalDate}
+use Rattle.calendar_values.specs.Calendar.{days_in_year, year_start, year_of, ordinal_of, month_of, day_of_month_of, day_of_calendar_date, day_of_ordinal_date}
+use Rattle.calendar_values.specs.Calendar.{IsInYear, IsCalendarDate, IsOrdinalDate}
 use Rattle.calendar_values.specs.Clock.{IsClock, Shows, hour_of, minute_of, second_of, nanosecond_of, nanos_per_millisecond, nanos_per_microsecond}
 use Rattle.calendar_values.specs.Range.{first_year, last_year, first_day, last_day}
-use Rattle.calendar_values.specs.Replacements.{with_year, with_month, with_day, with_ordinal, with_hour, with_minute, with_second, with_millisecond, with_microsecond, with_nanosecond}
+use Rattle.calendar_values.specs.Replacements.{with_year, with_month, with_day, with_ordinal, with_hour, with_minute, with_second, with_millisecond}
+use Rattle.calendar_values.specs.Replacements.{with_microsecond, with_nanosecond}
 use Rattle.calendar_values.specs.Truncations.{truncated, IsGreatestMultiple}
 use Rattle.calendar_values.specs.Weeks.{weekday_of}
 
@@ -53,7 +55,8 @@ pub record ReplacementsKeepTheRest : Type 0 where
   pub day : (n k : ℤ) (d : ℕ) → with_day n d ≡ Ok k → IsOnlyDay k (year_of n) (month_of n) d
   pub ordinal : (n k : ℤ) (o : ℕ) → with_ordinal n o ≡ Ok k → (year_of k ≡ year_of n) × (ordinal_of k ≡ o)
 
--- a replacement of a part of a clock is accepted exactly where a clock shows the part as given, the other parts as before and 0 for what is finer than a millisecond or a microsecond; it gives that clock
+-- a replacement of a part of a clock is accepted exactly where a clock shows the part as given, the other parts as
+-- before and 0 for what is finer than a millisecond or a microsecond; it gives that clock
 pub record ClockReplacementsKeepTheRest : Type 0 where
   pub hour : (c h d : ℕ) → IsClock c → (with_hour c h ≡ Ok d) ↔ Shows d h (minute_of c) (second_of c) (nanosecond_of c)
   pub minute : (c m d : ℕ) → IsClock c → (with_minute c m ≡ Ok d) ↔ Shows d (hour_of c) m (second_of c) (nanosecond_of c)

@@ -1,7 +1,8 @@
 -- Each day of the year is one day of one month, and the parts of a date and its day number determine each other.
 use Rattle.std.proofs.Common.{◌≡◌, ℕ, zero, suc, ◌+◌, ◌-◌, ◌<◌, ◌≤◌, inl, inr, refl, cond, Bool, true, false, arith, ℤ, nat_lt}
 use Rattle.std.proofs.lemmas.Bool.{cases_order, ltb-true, ltb-false}
-use Rattle.calendar_values.specs.Calendar.{is_leap_year, year_length, days_in_month, days_in_months, days_before_month, last_month_begun, month_of_ordinal, day_of_ordinal, year_of, ordinal_of, month_of, day_of_month_of, day_of_calendar_date, IsOrdinalDate, IsCalendarDate}
+use Rattle.calendar_values.specs.Calendar.{is_leap_year, year_length, days_in_month, days_in_months, days_before_month, last_month_begun, month_of_ordinal}
+use Rattle.calendar_values.specs.Calendar.{day_of_ordinal, year_of, ordinal_of, month_of, day_of_month_of, day_of_calendar_date, IsOrdinalDate, IsCalendarDate}
 use Rattle.calendar_values.specs.SignedArith.{signed_arith}
 use Rattle.calendar_values.specs.DayLaws.{IsOrdinalDate-of, ordinal_of-start, year_of-ordinal_date, ordinal_of-ordinal_date}
 
@@ -33,7 +34,8 @@ in_last_begun : (n : ℕ) (b : Bool) (ordinal : ℕ) → n ≤ 12 → 1 ≤ ordi
 unfolding last_month_begun
 in_last_begun zero b ordinal last low high = absurd (omega (arith, days_in_months-zero b))
 in_last_begun (suc n) b ordinal last low high = choose (nat_lt (days_in_months b n) ordinal) refl (λ h. in_last_begun n b ordinal (omega arith) low h) where
-  choose : (t : Bool) → nat_lt (days_in_months b n) ordinal ≡ t → (ordinal ≤ days_in_months b n → IsInMonth b ordinal (last_month_begun n b ordinal)) → IsInMonth b ordinal (cond t (suc n) (last_month_begun n b ordinal))
+  choose : (t : Bool) → nat_lt (days_in_months b n) ordinal ≡ t → (ordinal ≤ days_in_months b n → IsInMonth b ordinal (last_month_begun n b ordinal)) →
+      IsInMonth b ordinal (cond t (suc n) (last_month_begun n b ordinal))
   choose true t earlier =
       let back : suc n - 1 ≡ n = omega arith in
       record { first = omega arith; last = last; low = rw back (omega (arith, ltb-true)); high = rw back (omega (arith, days_in_months-suc b n)) }
@@ -88,7 +90,8 @@ pub record IsMonthDay (is_leap : Bool) (ordinal m d : ℕ) : Type 0 where
   pub day_last : d ≤ days_in_month is_leap m
   pub sum : days_before_month is_leap m + d ≡ ordinal
 
-pub IsMonthDay-of_ordinal : (b : Bool) (ordinal : ℕ) → 1 ≤ ordinal → ordinal ≤ year_length b → IsMonthDay b ordinal (month_of_ordinal b ordinal) (day_of_ordinal b ordinal)
+pub IsMonthDay-of_ordinal : (b : Bool) (ordinal : ℕ) → 1 ≤ ordinal → ordinal ≤ year_length b →
+    IsMonthDay b ordinal (month_of_ordinal b ordinal) (day_of_ordinal b ordinal)
 unfolding day_of_ordinal
 IsMonthDay-of_ordinal b ordinal low high =
     let h = IsInMonth-month_of_ordinal b ordinal low high in
@@ -100,7 +103,8 @@ month_in b ordinal m d h = record { first = h.month_first; last = h.month_last; 
 
 pub month_of_ordinal-is : (b : Bool) (ordinal m d : ℕ) → IsMonthDay b ordinal m d → month_of_ordinal b ordinal ≡ m
 month_of_ordinal-is b ordinal m d h =
-    month_of_ordinal-unique b ordinal m (omega arith) (omega (arith, days_before_month-end b m d h.month_first h.month_last h.day_last)) (month_in b ordinal m d h)
+    month_of_ordinal-unique b ordinal m (omega arith) (omega (arith, days_before_month-end b m d h.month_first h.month_last h.day_last))
+    (month_in b ordinal m d h)
 
 pub day_of_ordinal-is : (b : Bool) (ordinal m d : ℕ) → IsMonthDay b ordinal m d → day_of_ordinal b ordinal ≡ d
 unfolding day_of_ordinal
@@ -111,7 +115,13 @@ pub IsMonthDay-date : (y : ℤ) (m d : ℕ) → IsCalendarDate y m d → IsMonth
 IsMonthDay-date y m d h = record { month_first = h.month_first; month_last = h.month_last; day_first = h.day_first; day_last = h.day_last; sum = refl }
 
 pub IsOrdinalDate-date : (y : ℤ) (m d : ℕ) → IsCalendarDate y m d → IsOrdinalDate y (days_before_month (is_leap_year y) m + d)
-IsOrdinalDate-date y m d h = record { first = omega arith; last = omega (arith, days_before_month-end (is_leap_year y) m d h.month_first h.month_last h.day_last) }
+IsOrdinalDate-date y m d h = record {
+  first = omega arith;
+  last = omega (
+    arith,
+    days_before_month-end (is_leap_year y) m d h.month_first h.month_last h.day_last,
+  );
+}
 
 -- a day shows a date of the calendar
 pub IsCalendarDate-of : (n : ℤ) → IsCalendarDate (year_of n) (month_of n) (day_of_month_of n)
@@ -135,7 +145,9 @@ pub ordinal_of-calendar_date : (y : ℤ) (m d : ℕ) → IsCalendarDate y m d �
 ordinal_of-calendar_date y m d h = ordinal_of-ordinal_date y (days_before_month (is_leap_year y) m + d) (IsOrdinalDate-date y m d h)
 
 pub month_of-calendar_date : (y : ℤ) (m d : ℕ) → IsCalendarDate y m d → month_of (day_of_calendar_date y m d) ≡ m
-month_of-calendar_date y m d h = rw (year_of-calendar_date y m d h, ordinal_of-calendar_date y m d h) (month_of_ordinal-is (is_leap_year y) _ m d (IsMonthDay-date y m d h))
+month_of-calendar_date y m d h = rw (year_of-calendar_date y m d h, ordinal_of-calendar_date y m d h)
+    (month_of_ordinal-is (is_leap_year y) _ m d (IsMonthDay-date y m d h))
 
 pub day_of_month_of-calendar_date : (y : ℤ) (m d : ℕ) → IsCalendarDate y m d → day_of_month_of (day_of_calendar_date y m d) ≡ d
-day_of_month_of-calendar_date y m d h = rw (year_of-calendar_date y m d h, ordinal_of-calendar_date y m d h) (day_of_ordinal-is (is_leap_year y) _ m d (IsMonthDay-date y m d h))
+day_of_month_of-calendar_date y m d h = rw (year_of-calendar_date y m d h, ordinal_of-calendar_date y m d h)
+    (day_of_ordinal-is (is_leap_year y) _ m d (IsMonthDay-date y m d h))

@@ -3,7 +3,8 @@ use Rattle.std.proofs.Common.{◌≤◌, arith, to_z-of_z}
 use Rattle.calendar_values.specs.Month.{month_number}
 use Rattle.calendar_values.specs.MonthLaws.{days_in_month_bounds}
 use Rattle.calendar_values.specs.declared.month.Month.{Month}
-use Rattle.calendar_values.specs.declared.month.Month.TheVariants.{January, February, March, April, May, June, July, August, September, October, November, December}
+use Rattle.calendar_values.specs.declared.month.Month.TheVariants.{January, February, March, April, May, June, July, August, September, October, November}
+use Rattle.calendar_values.specs.declared.month.Month.TheVariants.{December}
 
 pub month_number_bounds : (m : Month) → (1 ≤ month_number m) × (month_number m ≤ 12)
 month_number_bounds January = omega arith

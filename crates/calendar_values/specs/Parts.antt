@@ -3,7 +3,9 @@ use Rattle.std.specs.Prelude.{◌≡◌, ℕ, Bool, List, [], ◌∷◌, codes, 
 use Rattle.std.specs.List.{list_any}
 use Rattle.std.specs.Cmp.Lexicographic.{pointwise}
 use Rattle.calendar_values.specs.declared.component_range.Part.{Part}
-use Rattle.calendar_values.specs.declared.component_range.Part.TheVariants.{Year, Month, Day, Ordinal, JulianDay, Hour, Minute, Second, Millisecond, Microsecond, Nanosecond, Hours, Minutes, Seconds, OffsetSeconds, Timestamp, Milliseconds, Microseconds, Nanoseconds}
+use Rattle.calendar_values.specs.declared.component_range.Part.TheVariants.{Year, Month, Day, Ordinal, JulianDay, Hour, Minute, Second, Millisecond}
+use Rattle.calendar_values.specs.declared.component_range.Part.TheVariants.{Microsecond, Nanosecond, Hours, Minutes, Seconds, OffsetSeconds, Timestamp}
+use Rattle.calendar_values.specs.declared.component_range.Part.TheVariants.{Milliseconds, Microseconds, Nanoseconds}
 
 abbrev pub part_name : Part → List ℕ
 part_name Year = codes "year"
@@ -29,7 +31,8 @@ part_name Nanoseconds = codes "nanoseconds"
 -- all parts
 abbrev pub all_parts : List Part
 all_parts =
-    Year ∷ Month ∷ Day ∷ Ordinal ∷ JulianDay ∷ Hour ∷ Minute ∷ Second ∷ Millisecond ∷ Microsecond ∷ Nanosecond ∷ Hours ∷ Minutes ∷ Seconds ∷ OffsetSeconds ∷ Timestamp ∷ Milliseconds ∷ Microseconds ∷ Nanoseconds ∷ []
+    Year ∷ Month ∷ Day ∷ Ordinal ∷ JulianDay ∷ Hour ∷ Minute ∷ Second ∷ Millisecond ∷ Microsecond ∷ Nanosecond ∷ Hours ∷ Minutes ∷ Seconds ∷ OffsetSeconds ∷
+    Timestamp ∷ Milliseconds ∷ Microseconds ∷ Nanoseconds ∷ []
 
 -- this is the name of the part
 abbrev pub is_name_of : List ℕ → Part → Bool

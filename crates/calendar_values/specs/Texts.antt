@@ -25,13 +25,15 @@ date_text n =
 -- the hour with no zero in front, `:`, two digits of the minute, `:`, two digits of the second, `.`, the fraction
 unfoldable pub time_text : ℕ → List ℕ
 time_text c =
-    decimal (hour_of c) ++ codes ":" ++ last_digits 2 (minute_of c) ++ codes ":" ++ last_digits 2 (second_of c) ++ codes "." ++ fraction_digits 9 (nanosecond_of c)
+    decimal (hour_of c) ++ codes ":" ++ last_digits 2 (minute_of c) ++ codes ":" ++ last_digits 2 (second_of c) ++ codes "." ++
+    fraction_digits 9 (nanosecond_of c)
 
 -- `-` before a negative offset, else `+`, then two digits each of the hours, the minutes and the seconds with `:` between
 unfoldable pub offset_text : ℤ → List ℕ
 offset_text o =
     let n = unsigned_abs o in
-    (if int_lt o (pos 0) then codes "-" else codes "+") ++ last_digits 2 (n / 3_600) ++ codes ":" ++ last_digits 2 (n / 60 % 60) ++ codes ":" ++ last_digits 2 (n % 60)
+    (if int_lt o (pos 0) then codes "-" else codes "+") ++ last_digits 2 (n / 3_600) ++ codes ":" ++ last_digits 2 (n / 60 % 60) ++ codes ":" ++
+    last_digits 2 (n % 60)
 
 -- the name of the part, and that it is out of range, by itself or with the other parts
 unfoldable pub refusal_text : Refusal → List ℕ

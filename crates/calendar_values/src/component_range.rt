@@ -113,7 +113,10 @@ impl Model for ComponentRange {
 
     ghost inverse = { λ r. record { part = part_named r.name; conditional = r.conditional } };
 
-    ghost inverse_ok = { λ c h i. record { part = part_named-part_name c.part i; conditional = c.conditional } };
+    ghost inverse_ok = { λ c h i. record {
+      part = part_named-part_name c.part i;
+      conditional = c.conditional;
+    } };
 }
 
 impl ComponentRange {

@@ -43,7 +43,10 @@ impl Model for SignedDuration {
 
     ghost invariant = { λ a. IsDurationParts a.seconds a.nanoseconds };
 
-    ghost inverse = { λ d. record { seconds = whole_seconds_of d; nanoseconds = subsec_nanoseconds_of d } };
+    ghost inverse = { λ d. record {
+      seconds = whole_seconds_of d;
+      nanoseconds = subsec_nanoseconds_of d;
+    } };
 
     ghost inverse_ok = { λ a h i. record {
       seconds = whole_seconds_of-parts a.seconds a.nanoseconds h i;
@@ -211,7 +214,8 @@ impl Ord for SignedDuration {
 impl PartialOrd for SignedDuration {
     ghost partial_cmp = { as_partial_cmp int_cmp };
 
-    ghost laws = { partial_order_from_own_ties (Prim.search (comparing, rules)) (Prim.search (comparing, rules)) };
+    ghost laws = { partial_order_from_own_ties (Prim.search (comparing, rules))
+        (Prim.search (comparing, rules)) };
 
     fn partial_cmp(&self, other: &SignedDuration) -> Option<Ordering> {
         Some(self.cmp(other))

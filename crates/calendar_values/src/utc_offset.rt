@@ -41,7 +41,11 @@ impl Model for UtcOffset {
 
     ghost invariant = { λ a. IsOffsetParts a.hours a.minutes a.seconds };
 
-    ghost inverse = { λ o. record { hours = offset_hours_of o; minutes = offset_minutes_of o; seconds = offset_seconds_of o } };
+    ghost inverse = { λ o. record {
+      hours = offset_hours_of o;
+      minutes = offset_minutes_of o;
+      seconds = offset_seconds_of o;
+    } };
 
     ghost inverse_ok = { λ a h i. record {
       hours = offset_hours_of-parts a.hours a.minutes a.seconds h i;
@@ -90,7 +94,8 @@ impl UtcOffset {
     #[tactic(auto, unfolding(crate::specs::Offsets::offset_of_seconds))]
     pub fn from_whole_seconds(seconds: i32) -> Result<UtcOffset, ComponentRange>
         ensures value { OkIff result (IsOffset seconds) seconds }
-        ensures refused { IfErr result (λ refusal. refusal ≡ outright_refusal (codes "offset_seconds")) }
+        ensures refused { IfErr result (λ refusal.
+            refusal ≡ outright_refusal (codes "offset_seconds")) }
         ensures equation { result ≡ offset_of_seconds seconds }
     {
         if seconds < -93_599 || seconds > 93_599 {

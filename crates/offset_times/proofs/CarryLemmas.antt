@@ -9,7 +9,8 @@ use Rattle.calendar_values.specs.OffsetLaws.{seconds_of_parts-of, IsOffsetParts-
 use Rattle.calendar_values.specs.SignedArith.{signed_arith}
 use Rattle.calendar_values.specs.WallClock.{wall_clock, wall_day, wall_time}
 use Rattle.calendar_values.specs.WallClockLaws.{wall_clock-parts}
-use Rattle.offset_times.specs.Carries.{moved_second, moved_minute, moved_hour, minutes_carried, hours_carried, days_carried, carried_second, carried_minute, carried_hour, carried_clock, IsWithin, CarriesWithin}
+use Rattle.offset_times.specs.Carries.{moved_second, moved_minute, moved_hour, minutes_carried, hours_carried, days_carried, carried_second, carried_minute}
+use Rattle.offset_times.specs.Carries.{carried_hour, carried_clock, IsWithin, CarriesWithin}
 use Rattle.offset_times.specs.Local.{offset_nanos}
 
 -- quotient and remainder by 60 and by 24, where the quotient rounds down
@@ -31,11 +32,13 @@ pub record Carried (c : ℕ) (from to : ℤ) (hour minute second : ℕ) (days ho
   pub hour_in : hour < 24
 
 -- the carries of the definitions are of this kind
-euclid_60 : (z : ℤ) → (z ≡ int_div_euclid z (pos 60) *ℤ pos 60 +ℤ pos (unsigned_abs (int_rem_euclid z (pos 60)))) × (unsigned_abs (int_rem_euclid z (pos 60)) < 60)
+euclid_60 : (z : ℤ) → (z ≡ int_div_euclid z (pos 60) *ℤ pos 60 +ℤ pos (unsigned_abs (int_rem_euclid z (pos 60)))) ×
+    (unsigned_abs (int_rem_euclid z (pos 60)) < 60)
 euclid_60 (pos a) = (omega (arith, ints), omega (arith, ints))
 euclid_60 (negsuc a) = (omega (arith, ints), omega (arith, ints))
 
-euclid_24 : (z : ℤ) → (z ≡ int_div_euclid z (pos 24) *ℤ pos 24 +ℤ pos (unsigned_abs (int_rem_euclid z (pos 24)))) × (unsigned_abs (int_rem_euclid z (pos 24)) < 24)
+euclid_24 : (z : ℤ) → (z ≡ int_div_euclid z (pos 24) *ℤ pos 24 +ℤ pos (unsigned_abs (int_rem_euclid z (pos 24)))) ×
+    (unsigned_abs (int_rem_euclid z (pos 24)) < 24)
 euclid_24 (pos a) = (omega (arith, ints), omega (arith, ints))
 euclid_24 (negsuc a) = (omega (arith, ints), omega (arith, ints))
 
@@ -81,27 +84,37 @@ carried_moment : (n days hours minutes from_h from_m from_s to_h to_m to_s : ℤ
     → pos s +ℤ to_s -ℤ from_s ≡ minutes *ℤ pos 60 +ℤ pos second
     → pos m +ℤ to_m -ℤ from_m +ℤ minutes ≡ hours *ℤ pos 60 +ℤ pos minute
     → pos h +ℤ to_h -ℤ from_h +ℤ hours ≡ days *ℤ pos 24 +ℤ pos hour
-    → wall_clock (n +ℤ days) (clock_of_parts hour minute second k) ≡ wall_clock n (clock_of_parts h m s k) +ℤ offset_nanos (seconds_of_parts to_h to_m to_s -ℤ seconds_of_parts from_h from_m from_s)
+    → wall_clock (n +ℤ days) (clock_of_parts hour minute second k) ≡ wall_clock n (clock_of_parts h m s k) +ℤ
+    offset_nanos (seconds_of_parts to_h to_m to_s -ℤ seconds_of_parts from_h from_m from_s)
 carried_moment n days hours minutes from_h from_m from_s to_h to_m to_s h m s k hour minute second p q r =
     omega (arith, ints, p, q, r)
 
-pub wall_clock-carried : (n : ℤ) (c : ℕ) (from to : ℤ) → wall_clock (n +ℤ days_carried c from to) (carried_clock c from to) ≡ wall_clock n c +ℤ offset_nanos (to -ℤ from)
+pub wall_clock-carried : (n : ℤ) (c : ℕ) (from to : ℤ) → wall_clock (n +ℤ days_carried c from to) (carried_clock c from to) ≡ wall_clock n c +ℤ
+    offset_nanos (to -ℤ from)
 unfolding carried_clock
 wall_clock-carried n c from to =
     let k = Carried-of c from to in
-    let moment = carried_moment n (days_carried c from to) (hours_carried c from to) (minutes_carried c from to) (offset_hours_of from) (offset_minutes_of from) (offset_seconds_of from) (offset_hours_of to) (offset_minutes_of to) (offset_seconds_of to) (hour_of c) (minute_of c) (second_of c) (nanosecond_of c) _ _ _ k.second_sum k.minute_sum k.hour_sum in
-    moment ∙ ap (λ (d : ℕ). wall_clock n d +ℤ offset_nanos (seconds_of_parts (offset_hours_of to) (offset_minutes_of to) (offset_seconds_of to) -ℤ seconds_of_parts (offset_hours_of from) (offset_minutes_of from) (offset_seconds_of from))) (clock_of_parts-of c) ∙ ap (λ (o : ℤ). wall_clock n c +ℤ offset_nanos (o -ℤ seconds_of_parts (offset_hours_of from) (offset_minutes_of from) (offset_seconds_of from))) (seconds_of_parts-of to) ∙ ap (λ (o : ℤ). wall_clock n c +ℤ offset_nanos (to -ℤ o)) (seconds_of_parts-of from)
+    let moment = carried_moment n (days_carried c from to) (hours_carried c from to) (minutes_carried c from to) (offset_hours_of from) (offset_minutes_of from)
+    (offset_seconds_of from) (offset_hours_of to) (offset_minutes_of to) (offset_seconds_of to) (hour_of c) (minute_of c) (second_of c)
+    (nanosecond_of c) _ _ _ k.second_sum k.minute_sum k.hour_sum in
+    moment ∙ ap (λ (d : ℕ). wall_clock n d +ℤ offset_nanos (seconds_of_parts (offset_hours_of to) (offset_minutes_of to) (offset_seconds_of to) -ℤ
+    seconds_of_parts (offset_hours_of from) (offset_minutes_of from) (offset_seconds_of from))) (clock_of_parts-of c) ∙
+    ap (λ (o : ℤ). wall_clock n c +ℤ offset_nanos (o -ℤ seconds_of_parts (offset_hours_of from) (offset_minutes_of from) (offset_seconds_of from)))
+    (seconds_of_parts-of to) ∙ ap (λ (o : ℤ). wall_clock n c +ℤ offset_nanos (to -ℤ o)) (seconds_of_parts-of from)
 
 -- so the day and the clock that the carries give are what clocks at the other offset show
-pub wall_clock-shown : (w n : ℤ) (c : ℕ) (from to : ℤ) → n ≡ wall_day w +ℤ days_carried (wall_time w) from to → c ≡ carried_clock (wall_time w) from to → wall_clock n c ≡ w +ℤ offset_nanos (to -ℤ from)
+pub wall_clock-shown : (w n : ℤ) (c : ℕ) (from to : ℤ) → n ≡ wall_day w +ℤ days_carried (wall_time w) from to → c ≡ carried_clock (wall_time w) from to →
+    wall_clock n c ≡ w +ℤ offset_nanos (to -ℤ from)
 wall_clock-shown w n c from to e f =
     rw (e, f) (wall_clock-carried (wall_day w) (wall_time w) from to ∙ ap (λ (v : ℤ). v +ℤ offset_nanos (to -ℤ from)) (wall_clock-parts w))
 
 -- how much each part carries: between two offsets, and from or to UTC
-carries_60_once : (v r : ℕ) (from to into q : ℤ) → v ≤ 59 → IsWithin 59 (to -ℤ from) → IsWithin 1 into → pos v +ℤ to -ℤ from +ℤ into ≡ q *ℤ pos 60 +ℤ pos r → r < 60 → IsWithin 1 q
+carries_60_once : (v r : ℕ) (from to into q : ℤ) → v ≤ 59 → IsWithin 59 (to -ℤ from) → IsWithin 1 into → pos v +ℤ to -ℤ from +ℤ into ≡ q *ℤ pos 60 +ℤ pos r →
+    r < 60 → IsWithin 1 q
 carries_60_once v r from to into q a b d e f = (omega (arith, signed_arith), omega (arith, signed_arith))
 
-carries_24_twice : (v r : ℕ) (from to into q : ℤ) → v ≤ 23 → IsWithin 25 (to -ℤ from) → IsWithin 1 into → pos v +ℤ to -ℤ from +ℤ into ≡ q *ℤ pos 24 +ℤ pos r → r < 24 → IsWithin 2 q
+carries_24_twice : (v r : ℕ) (from to into q : ℤ) → v ≤ 23 → IsWithin 25 (to -ℤ from) → IsWithin 1 into → pos v +ℤ to -ℤ from +ℤ into ≡ q *ℤ pos 24 +ℤ pos r →
+    r < 24 → IsWithin 2 q
 carries_24_twice v r from to into q a b d e f = (omega (arith, signed_arith), omega (arith, signed_arith))
 
 -- how far the hours, the minutes and the seconds of two offsets lie apart
@@ -119,9 +132,14 @@ within_once c from to clock apart =
     let hour = carried_hour c from to in
     let a = minutes_carried c from to in
     let b = hours_carried c from to in
-    let minutes = carries_60_once (second_of c) second (offset_seconds_of from) (offset_seconds_of to) (pos 0) a t.second apart.seconds (omega (arith, ints), omega (arith, ints)) (omega (arith, ints, k.second_sum)) k.second_in in
-    let hours = carries_60_once (minute_of c) minute (offset_minutes_of from) (offset_minutes_of to) a b t.minute apart.minutes minutes k.minute_sum k.minute_in in
-    let days = carries_24_twice (hour_of c) hour (offset_hours_of from) (offset_hours_of to) b (days_carried c from to) t.hour apart.hours hours k.hour_sum k.hour_in in
+    let minutes = carries_60_once (second_of c) second (offset_seconds_of from) (offset_seconds_of to) (pos 0) a t.second apart.seconds (
+      omega (arith, ints),
+      omega (arith, ints),
+    ) (omega (arith, ints, k.second_sum)) k.second_in in
+    let hours = carries_60_once (minute_of c) minute (offset_minutes_of from)
+    (offset_minutes_of to) a b t.minute apart.minutes minutes k.minute_sum k.minute_in in
+    let days = carries_24_twice (hour_of c) hour (offset_hours_of from) (offset_hours_of to) b
+    (days_carried c from to) t.hour apart.hours hours k.hour_sum k.hour_in in
     record { minutes = minutes; hours = hours; days = days }
 
 pub CarriesWithin-to_utc : (c : ℕ) (from : ℤ) → IsClock c → IsOffset from → CarriesWithin 1 1 2 c from (pos 0)

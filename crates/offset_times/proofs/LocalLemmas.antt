@@ -28,17 +28,21 @@ unix_seconds_of_instant w o = omega (arith, signed_arith)
 pub IsYear-wall_clock : (y : ℤ) (ordinal c : ℕ) → IsOrdinalDate y ordinal → IsClock c → IsWallClock (wall_clock (day_of_ordinal_date y ordinal) c) → IsYear y
 IsYear-wall_clock y ordinal c date clock w =
     let day = IsDay-wall_day _ w in
-    rw (year_of-ordinal_date y ordinal date) at (IsYear-year_of (day_of_ordinal_date y ordinal) (rw (wall_day-wall_clock (day_of_ordinal_date y ordinal) c clock) at day))
+    rw (year_of-ordinal_date y ordinal date) at (IsYear-year_of (day_of_ordinal_date y ordinal)
+    (rw (wall_day-wall_clock (day_of_ordinal_date y ordinal) c clock) at day))
 
 -- a wall clock and an offset of their ranges
-pub IsLocal-fields : (at : Local) (day o : ℤ) (time : ℕ) → local (wall_clock day time) o ≡ at → IsWallClock (wall_clock day time) × IsClock time × IsOffset o → IsLocal at
+pub IsLocal-fields : (at : Local) (day o : ℤ) (time : ℕ) → local (wall_clock day time) o ≡ at → IsWallClock (wall_clock day time) × IsClock time × IsOffset o →
+    IsLocal at
 IsLocal-fields at day o time e h = rw (← e) (h.0, h.2)
 
 -- the wall clocks lie apart by the instants and the offsets
-pub instants_apart : (a b : Local) (walls offsets : ℤ) → walls ≡ a.wall -ℤ b.wall → offsets ≡ offset_nanos (b.offset -ℤ a.offset) → walls +ℤ offsets ≡ instant_of a -ℤ instant_of b
+pub instants_apart : (a b : Local) (walls offsets : ℤ) → walls ≡ a.wall -ℤ b.wall → offsets ≡ offset_nanos (b.offset -ℤ a.offset) →
+    walls +ℤ offsets ≡ instant_of a -ℤ instant_of b
 unfolding instant_of
 instants_apart a b walls offsets e f = omega (arith, ints)
 
 -- no further than durations reach
-pub IsDuration-apart : (a b : Local) (walls offsets : ℤ) → IsLocal a → IsLocal b → walls ≡ a.wall -ℤ b.wall → offsets ≡ offset_nanos (b.offset -ℤ a.offset) → IsDuration (walls +ℤ offsets)
+pub IsDuration-apart : (a b : Local) (walls offsets : ℤ) → IsLocal a → IsLocal b → walls ≡ a.wall -ℤ b.wall → offsets ≡ offset_nanos (b.offset -ℤ a.offset) →
+    IsDuration (walls +ℤ offsets)
 IsDuration-apart a b walls offsets h k e f = (omega (arith, ints), omega (arith, ints))

@@ -13,7 +13,8 @@ use Rattle.offset_times.specs.Local.{Local, IsLocal, instant_of, offset_nanos}
 use Rattle.plain_times.specs.Packed.{packed_parts, packed_wall_clock}
 
 -- days between two dates, where no year has more than 365, are no more than there are
-later_date : (y z : ℤ) (o p : ℕ) → IsOrdinalDate y o → IsOrdinalDate z p → pos 3 <ℤ ((y -ℤ z) *ℤ pos 365 +ℤ pos o -ℤ pos p) → (day_of_ordinal_date z p +ℤ pos 3) <ℤ day_of_ordinal_date y o
+later_date : (y z : ℤ) (o p : ℕ) → IsOrdinalDate y o → IsOrdinalDate z p → pos 3 <ℤ ((y -ℤ z) *ℤ pos 365 +ℤ pos o -ℤ pos p) →
+    (day_of_ordinal_date z p +ℤ pos 3) <ℤ day_of_ordinal_date y o
 later_date y z o p h k far =
     by_lt_z z y
     (λ lt. by_lt_z (z +ℤ pos 1) y
@@ -26,14 +27,18 @@ later_date y z o p h k far =
     (λ le. let e : y ≡ z = omega (arith, signed_arith) in rw e (omega (arith, signed_arith))))
 
 -- and three days are more than two offsets lie apart
-later_instant : (m n o p : ℤ) (c d : ℕ) → (m +ℤ pos 3) <ℤ n → IsClock d → IsOffset o → IsOffset p → (wall_clock m d -ℤ offset_nanos p) <ℤ (wall_clock n c -ℤ offset_nanos o)
+later_instant : (m n o p : ℤ) (c d : ℕ) → (m +ℤ pos 3) <ℤ n → IsClock d → IsOffset o → IsOffset p →
+    (wall_clock m d -ℤ offset_nanos p) <ℤ (wall_clock n c -ℤ offset_nanos o)
 later_instant m n o p c d far clock h k = omega (arith, signed_arith)
 
-pub later_by_dates : (a b : Local) → IsLocal a → IsLocal b → pos 3 <ℤ ((year_of (wall_day a.wall) -ℤ year_of (wall_day b.wall)) *ℤ pos 365 +ℤ pos (ordinal_of (wall_day a.wall)) -ℤ pos (ordinal_of (wall_day b.wall))) → instant_of b <ℤ instant_of a
+pub later_by_dates : (a b : Local) → IsLocal a → IsLocal b → pos 3 <ℤ ((year_of (wall_day a.wall) -ℤ year_of (wall_day b.wall)) *ℤ pos 365 +ℤ
+    pos (ordinal_of (wall_day a.wall)) -ℤ pos (ordinal_of (wall_day b.wall))) → instant_of b <ℤ instant_of a
 unfolding instant_of
 later_by_dates a b h k far =
-    let days = rw (day_of_ordinal_date-of (wall_day a.wall), day_of_ordinal_date-of (wall_day b.wall)) at (later_date _ _ _ _ (IsOrdinalDate-of (wall_day a.wall)) (IsOrdinalDate-of (wall_day b.wall)) far) in
-    rw (wall_clock-parts a.wall, wall_clock-parts b.wall) at (later_instant (wall_day b.wall) (wall_day a.wall) a.offset b.offset (wall_time a.wall) (wall_time b.wall) days (IsClock-wall_time b.wall) h.1 k.1)
+    let days = rw (day_of_ordinal_date-of (wall_day a.wall), day_of_ordinal_date-of (wall_day b.wall)) at
+    (later_date _ _ _ _ (IsOrdinalDate-of (wall_day a.wall)) (IsOrdinalDate-of (wall_day b.wall)) far) in
+    rw (wall_clock-parts a.wall, wall_clock-parts b.wall) at (later_instant (wall_day b.wall) (wall_day a.wall) a.offset b.offset (wall_time a.wall)
+    (wall_time b.wall) days (IsClock-wall_time b.wall) h.1 k.1)
 
 int_cmp_agrees : (a b x y : ℤ) → (a <ℤ b → x <ℤ y) → (b <ℤ a → y <ℤ x) → (a ≡ b → x ≡ y) → int_cmp a b ≡ int_cmp x y
 int_cmp_agrees a b x y l g s = grind (arith, ints)
@@ -80,7 +85,8 @@ instants_between a b s n m e f g =
     omega (arith, signed_arith)
 
 -- the packed parts of a wall clock are its packed number
-pub packed_parts-is : (w y : ℤ) (o c : ℕ) → IsOrdinalDate y o → IsClock c → wall_clock (day_of_ordinal_date y o) c ≡ w → packed_parts y o c ≡ packed_wall_clock w
+pub packed_parts-is : (w y : ℤ) (o c : ℕ) → IsOrdinalDate y o → IsClock c → wall_clock (day_of_ordinal_date y o) c ≡ w →
+    packed_parts y o c ≡ packed_wall_clock w
 unfolding packed_wall_clock
 packed_parts-is w y o c date clock e =
     let day : wall_day w ≡ day_of_ordinal_date y o = rw (← e) (wall_day-wall_clock (day_of_ordinal_date y o) c clock) in

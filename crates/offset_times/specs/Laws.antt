@@ -1,4 +1,5 @@
--- What shows that conversions, sums and truncations are what their names say: laws of all wall clocks, offsets and durations, each proved by a function of `src/laws.rt`.
+-- What shows that conversions, sums and truncations are what their names say: laws of all wall clocks, offsets and
+-- durations, each proved by a function of `src/laws.rt`.
 use Rattle.std.specs.Prelude.{◌≡◌, ℕ, ◌<◌, ℤ, ◌+ℤ◌, ◌-ℤ◌, Option, Some, SomeIff}
 use Rattle.calendar_values.specs.WallClock.{IsWallClock}
 use Rattle.offset_times.specs.Local.{Local, instant_of, shown_at, local, local_at, truncated}

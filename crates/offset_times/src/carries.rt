@@ -20,8 +20,10 @@ use utc_times::UtcDateTime;
 pub fn to_offset_raw(at: OffsetDateTime, offset: UtcOffset) -> (i32, u16, Time)
     ensures date { IsOrdinalDate result.0 result.1 }
     ensures clock { IsClock result.2 }
-    ensures shown { wall_clock (day_of_ordinal_date result.0 result.1) result.2 ≡ shown_at (instant_of at) offset }
-    ensures day_step { day_of_ordinal_date result.0 result.1 ≡ wall_day at.wall +ℤ days_carried (wall_time at.wall) at.offset offset }
+    ensures shown { wall_clock (day_of_ordinal_date result.0 result.1) result.2 ≡
+        shown_at (instant_of at) offset }
+    ensures day_step { day_of_ordinal_date result.0 result.1 ≡ wall_day at.wall +ℤ
+        days_carried (wall_time at.wall) at.offset offset }
     ensures carried { result.2 ≡ carried_clock (wall_time at.wall) at.offset offset }
     ensures within { CarriesWithin 2 2 3 (wall_time at.wall) at.offset offset }
 {
@@ -35,7 +37,8 @@ pub fn to_utc_raw(at: OffsetDateTime) -> (i32, u16, Time)
     ensures date { IsOrdinalDate result.0 result.1 }
     ensures clock { IsClock result.2 }
     ensures shown { wall_clock (day_of_ordinal_date result.0 result.1) result.2 ≡ instant_of at }
-    ensures day_step { day_of_ordinal_date result.0 result.1 ≡ wall_day at.wall +ℤ days_carried (wall_time at.wall) at.offset (pos 0) }
+    ensures day_step { day_of_ordinal_date result.0 result.1 ≡ wall_day at.wall +ℤ
+        days_carried (wall_time at.wall) at.offset (pos 0) }
     ensures carried { result.2 ≡ carried_clock (wall_time at.wall) at.offset (pos 0) }
     ensures within { CarriesWithin 1 1 2 (wall_time at.wall) at.offset (pos 0) }
 {
@@ -48,8 +51,10 @@ pub fn to_utc_raw(at: OffsetDateTime) -> (i32, u16, Time)
 pub fn utc_to_offset_raw(at: UtcDateTime, offset: UtcOffset) -> (i32, u16, Time)
     ensures date { IsOrdinalDate result.0 result.1 }
     ensures clock { IsClock result.2 }
-    ensures shown { wall_clock (day_of_ordinal_date result.0 result.1) result.2 ≡ shown_at at offset }
-    ensures day_step { day_of_ordinal_date result.0 result.1 ≡ wall_day at +ℤ days_carried (wall_time at) (pos 0) offset }
+    ensures shown { wall_clock (day_of_ordinal_date result.0 result.1) result.2 ≡
+        shown_at at offset }
+    ensures day_step { day_of_ordinal_date result.0 result.1 ≡ wall_day at +ℤ
+        days_carried (wall_time at) (pos 0) offset }
     ensures carried { result.2 ≡ carried_clock (wall_time at) (pos 0) offset }
     ensures within { CarriesWithin 1 1 2 (wall_time at) (pos 0) offset }
 {
@@ -61,7 +66,8 @@ pub fn utc_to_offset_raw(at: UtcDateTime, offset: UtcOffset) -> (i32, u16, Time)
 fn moved(at: PlainDateTime, from: UtcOffset, to: UtcOffset) -> (i32, u16, Time)
     ensures date { IsOrdinalDate result.0 result.1 }
     ensures clock { IsClock result.2 }
-    ensures day_step { day_of_ordinal_date result.0 result.1 ≡ wall_day at +ℤ days_carried (wall_time at) from to }
+    ensures day_step { day_of_ordinal_date result.0 result.1 ≡ wall_day at +ℤ
+        days_carried (wall_time at) from to }
     ensures carried { result.2 ≡ carried_clock (wall_time at) from to }
     ensures within { CarriesWithin 2 2 3 (wall_time at) from to }
 {

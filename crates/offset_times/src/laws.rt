@@ -12,9 +12,12 @@ use std::hash::Hash;
 /// Date-times are equal exactly where their instants are, their order is that of their instants, and equal
 /// ones feed a hasher the same.
 pub fn compared_by_instant()
-    ensures equal { (x y : _) → ⟦<OffsetDateTime as PartialEq>⟧.eq x y ≡ int_eq (instant_of x) (instant_of y) }
-    ensures order { (x y : _) → ⟦<OffsetDateTime as Ord>⟧.cmp x y ≡ int_cmp (instant_of x) (instant_of y) }
-    ensures hashed { (x y : _) → instant_of x ≡ instant_of y → ⟦<OffsetDateTime as Hash>⟧.hash_input x ≡ ⟦<OffsetDateTime as Hash>⟧.hash_input y }
+    ensures equal { (x y : _) → ⟦<OffsetDateTime as PartialEq>⟧.eq x y ≡
+        int_eq (instant_of x) (instant_of y) }
+    ensures order { (x y : _) → ⟦<OffsetDateTime as Ord>⟧.cmp x y ≡
+        int_cmp (instant_of x) (instant_of y) }
+    ensures hashed { (x y : _) → instant_of x ≡ instant_of y →
+        ⟦<OffsetDateTime as Hash>⟧.hash_input x ≡ ⟦<OffsetDateTime as Hash>⟧.hash_input y }
 {}
 
 /// Where a conversion to an offset is accepted, a second one gives what it gives of the original, wall clock

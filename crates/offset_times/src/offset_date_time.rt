@@ -50,9 +50,14 @@ impl Model for OffsetDateTime {
 
     ghost view = { λ at. local (wall_clock at.date at.time) at.offset };
 
-    ghost invariant = { λ at. IsWallClock (wall_clock at.date at.time) × IsClock at.time × IsOffset at.offset };
+    ghost invariant = { λ at. IsWallClock (wall_clock at.date at.time) × IsClock at.time ×
+        IsOffset at.offset };
 
-    ghost inverse = { λ at. record { date = wall_day at.wall; time = wall_time at.wall; offset = at.offset } };
+    ghost inverse = { λ at. record {
+      date = wall_day at.wall;
+      time = wall_time at.wall;
+      offset = at.offset;
+    } };
 
     ghost inverse_ok = { λ at h i. record {
       date = wall_day-wall_clock at.date at.time h.1 i;

@@ -23,7 +23,8 @@ pub trait ToOffset {
 
     /// The same instant at an offset. None where the clocks there show a date outside the range.
     fn checked_to_offset(self, offset: UtcOffset) -> Option<OffsetDateTime>
-        ensures value { SomeIff result (IsWallClock (shown_at (instant_shown self) offset)) (local_at (instant_shown self) offset) }
+        ensures value { SomeIff result (IsWallClock (shown_at (instant_shown self) offset))
+            (local_at (instant_shown self) offset) }
         ensures instant { IfSome result (λ at. instant_of at ≡ instant_shown self) };
 }
 

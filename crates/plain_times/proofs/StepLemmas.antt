@@ -1,5 +1,6 @@
 -- A wall clock moves by the whole days of a duration and by what they leave.
-use Rattle.std.proofs.Common.{◌≡◌, ◌↔◌, refl, sym, Bool, true, false, cond, not, IsTrue, ℕ, ◌/◌, ◌%◌, arith, ℤ, pos, negsuc, neg_ℤ, ◌+ℤ◌, ◌-ℤ◌, ◌*ℤ◌, ◌≤ℤ◌, ◌<ℤ◌, Option, None, SomeIff}
+use Rattle.std.proofs.Common.{◌≡◌, ◌↔◌, refl, sym, Bool, true, false, cond, not, IsTrue, ℕ, ◌/◌, ◌%◌, arith, ℤ, pos, negsuc, neg_ℤ, ◌+ℤ◌, ◌-ℤ◌, ◌*ℤ◌, ◌≤ℤ◌}
+use Rattle.std.proofs.Common.{◌<ℤ◌, Option, None, SomeIff}
 use Rattle.std.proofs.lemmas.Int.{ints, by_lt_z}
 use Rattle.calendar_values.specs.Adjustments.{subday_nanoseconds_of}
 use Rattle.calendar_values.specs.Clock.{IsClock, nanos_per_day}
@@ -41,7 +42,8 @@ not_IsDay-days w d n days rest c r day range splits not e =
     (λ positive. let rest_is = splits.later positive in (omega (arith, ints), omega (arith, ints)))
     (λ to_zero. (omega (arith, ints), omega (arith, ints))))))
 
--- a duration that is added to a wall clock w of the day n: its whole days lead to the day `moved` of the range, and what they leave leads to the clock t, k days further
+-- a duration that is added to a wall clock w of the day n: its whole days lead to the day `moved` of the range, and
+-- what they leave leads to the clock t, k days further
 pub record Leads (w d n days moved k : ℤ) (t : ℕ) : Type 0 where
   pub day : n ≡ wall_day w
   pub moves : moved ≡ n +ℤ days
@@ -95,13 +97,15 @@ clamped-later w d h not positive =
     (λ to_last. absurd (not (omega (arith, ints), to_last)))
 
 -- the end of the range that a sum is brought to, by the sign of the duration
-pub clamped-sum : (w d : ℤ) (is_negative : Bool) → IsWallClock w → (IsWallClock (w +ℤ d) → ⊥) → (IsTrue is_negative ↔ (d <ℤ pos 0)) → cond is_negative first_wall_clock last_wall_clock ≡ clamped (w +ℤ d)
+pub clamped-sum : (w d : ℤ) (is_negative : Bool) → IsWallClock w → (IsWallClock (w +ℤ d) → ⊥) → (IsTrue is_negative ↔ (d <ℤ pos 0)) →
+    cond is_negative first_wall_clock last_wall_clock ≡ clamped (w +ℤ d)
 clamped-sum w d true h not sign = let lt : d <ℤ pos 0 = sign.0 refl in sym (clamped-earlier w d h not (omega (arith, ints)))
 clamped-sum w d false h not sign =
     sym (clamped-later w d h not (by_lt_z d (pos 0) (λ lt. let no : false ≡ true = sign.1 lt in cc) (λ ge. ge)))
 
 -- and a difference
-pub clamped-difference : (w d : ℤ) (is_negative : Bool) → IsWallClock w → (IsWallClock (w -ℤ d) → ⊥) → (IsTrue is_negative ↔ (d <ℤ pos 0)) → cond (not is_negative) first_wall_clock last_wall_clock ≡ clamped (w -ℤ d)
+pub clamped-difference : (w d : ℤ) (is_negative : Bool) → IsWallClock w → (IsWallClock (w -ℤ d) → ⊥) → (IsTrue is_negative ↔ (d <ℤ pos 0)) →
+    cond (not is_negative) first_wall_clock last_wall_clock ≡ clamped (w -ℤ d)
 clamped-difference w d true h not sign =
     let lt : d <ℤ pos 0 = sign.0 refl in sym (clamped-later w (neg_ℤ d) h not (omega (arith, ints)))
 clamped-difference w d false h not sign =
@@ -115,8 +119,10 @@ clamped-accepted w v h e = clamped-is w v (h, e)
 pub ruleset saturations = (ints, clamped-accepted)
 
 -- the difference of two wall clocks is that of their days and of their times
-pub wall_clock-difference : (v w m n days rest : ℤ) (c t : ℕ) → m ≡ wall_day v → n ≡ wall_day w → c ≡ wall_time v → t ≡ wall_time w → days ≡ (m -ℤ n) *ℤ pos nanos_per_day → rest ≡ pos c -ℤ pos t → days +ℤ rest ≡ v -ℤ w
-wall_clock-difference v w m n days rest c t first second clock other date time = let left = wall_clock-parts v in let right = wall_clock-parts w in omega (arith, ints)
+pub wall_clock-difference : (v w m n days rest : ℤ) (c t : ℕ) → m ≡ wall_day v → n ≡ wall_day w → c ≡ wall_time v → t ≡ wall_time w →
+    days ≡ (m -ℤ n) *ℤ pos nanos_per_day → rest ≡ pos c -ℤ pos t → days +ℤ rest ≡ v -ℤ w
+wall_clock-difference v w m n days rest c t first second clock other date time = let left = wall_clock-parts v in let right = wall_clock-parts w in
+    omega (arith, ints)
 
 pub IsDuration-difference : (v w : ℤ) → IsWallClock v → IsWallClock w → IsDuration (v -ℤ w)
 IsDuration-difference v w h k = (omega (arith, ints), omega (arith, ints))

@@ -2,7 +2,8 @@
 use Rattle.std.specs.Prelude.{◌≡◌, ◌↔◌, ℕ, ◌<◌, ◌≤◌, ℤ, ◌+ℤ◌, ◌-ℤ◌, ◌<ℤ◌, Option, Some, SomeIff, Ok}
 use Rattle.calendar_values.specs.Calendar.{year_of, month_of, day_of_month_of, ordinal_of}
 use Rattle.calendar_values.specs.Clock.{IsClock, hour_of, minute_of, second_of, millisecond_of, microsecond_of, nanosecond_of}
-use Rattle.calendar_values.specs.Replacements.{with_year, with_month, with_day, with_ordinal, with_hour, with_minute, with_second, with_millisecond, with_microsecond, with_nanosecond}
+use Rattle.calendar_values.specs.Replacements.{with_year, with_month, with_day, with_ordinal, with_hour, with_minute, with_second, with_millisecond}
+use Rattle.calendar_values.specs.Replacements.{with_microsecond, with_nanosecond}
 use Rattle.calendar_values.specs.WallClock.{wall_day, wall_time, IsWallClock}
 use Rattle.plain_times.specs.Packed.{packed_wall_clock}
 use Rattle.plain_times.specs.Replacements.{with_date, with_time, keeping_time, keeping_day}

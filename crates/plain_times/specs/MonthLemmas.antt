@@ -1,8 +1,10 @@
 -- What callers name where they ask for the first day of a month, for a day that a month may not have, or for the month after a month.
 use Rattle.std.proofs.Common.{◌≡◌, ℕ, zero, suc, ◌+◌, ◌-◌, ◌<◌, ◌≤◌, min, inl, inr, refl, ap, ◌∙◌, Bool, arith, ℤ, pos, ◌+ℤ◌}
 use Rattle.std.proofs.lemmas.Bool.{cases_order}
-use Rattle.calendar_values.specs.Calendar.{IsCalendarDate, is_leap_year, days_in_month, days_in_months, day_of_calendar_date, year_of, month_of, day_of_month_of}
-use Rattle.calendar_values.specs.MonthLaws.{days_in_month_bounds, days_in_months-twelve, IsCalendarDate-of, year_of-calendar_date, month_of-calendar_date, day_of_month_of-calendar_date}
+use Rattle.calendar_values.specs.Calendar.{IsCalendarDate, is_leap_year, days_in_month, days_in_months, day_of_calendar_date, year_of, month_of}
+use Rattle.calendar_values.specs.Calendar.{day_of_month_of}
+use Rattle.calendar_values.specs.MonthLaws.{days_in_month_bounds, days_in_months-twelve, IsCalendarDate-of, year_of-calendar_date, month_of-calendar_date}
+use Rattle.calendar_values.specs.MonthLaws.{day_of_month_of-calendar_date}
 use Rattle.calendar_values.specs.MonthNumbers.{month_number_bounds}
 use Rattle.calendar_values.specs.SignedArith.{signed_arith}
 use Rattle.calendar_values.specs.YearLaws.{year_start-next}

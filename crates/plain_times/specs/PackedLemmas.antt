@@ -25,21 +25,25 @@ later_year_packed y z o p c d h k lt =
     let in_day = h.clock in
     omega (arith, ints, days_in_year_bounds y)
 
-same_year : (y : ℤ) (o p c d : ℕ) → IsParts y o c → IsParts y p d → packed_parts y o c <ℤ packed_parts y p d → wall_clock_of_parts y o c <ℤ wall_clock_of_parts y p d
+same_year : (y : ℤ) (o p c d : ℕ) → IsParts y o c → IsParts y p d → packed_parts y o c <ℤ packed_parts y p d →
+    wall_clock_of_parts y o c <ℤ wall_clock_of_parts y p d
 same_year y o p c d h k lt = let in_day = h.clock in let in_other_day = k.clock in omega (arith, ints)
 
-same_parts : (y : ℤ) (o p c d : ℕ) → IsParts y o c → IsParts y p d → packed_parts y o c ≡ packed_parts y p d → wall_clock_of_parts y o c ≡ wall_clock_of_parts y p d
+same_parts : (y : ℤ) (o p c d : ℕ) → IsParts y o c → IsParts y p d → packed_parts y o c ≡ packed_parts y p d →
+    wall_clock_of_parts y o c ≡ wall_clock_of_parts y p d
 same_parts y o p c d h k e = let in_day = h.clock in let in_other_day = k.clock in omega (arith, ints)
 
 -- a smaller packed number is that of an earlier wall clock
-pub packed_parts-lt : (y z : ℤ) (o p c d : ℕ) → IsParts y o c → IsParts z p d → packed_parts y o c <ℤ packed_parts z p d → wall_clock_of_parts y o c <ℤ wall_clock_of_parts z p d
+pub packed_parts-lt : (y z : ℤ) (o p c d : ℕ) → IsParts y o c → IsParts z p d → packed_parts y o c <ℤ packed_parts z p d →
+    wall_clock_of_parts y o c <ℤ wall_clock_of_parts z p d
 packed_parts-lt y z o p c d h k lt =
     by_lt_z y z (later_year y z o p c d h k) (λ ge. by_lt_z z y
     (λ gt. absurd (omega (arith, ints, later_year_packed z y p o d c k h gt)))
     (λ le. let e : z ≡ y = omega (arith, ints) in rw e (same_year y o p c d h (rw e at k) (rw e at lt))))
 
 -- equal packed numbers are those of one wall clock
-pub packed_parts-same : (y z : ℤ) (o p c d : ℕ) → IsParts y o c → IsParts z p d → packed_parts y o c ≡ packed_parts z p d → wall_clock_of_parts y o c ≡ wall_clock_of_parts z p d
+pub packed_parts-same : (y z : ℤ) (o p c d : ℕ) → IsParts y o c → IsParts z p d → packed_parts y o c ≡ packed_parts z p d →
+    wall_clock_of_parts y o c ≡ wall_clock_of_parts z p d
 packed_parts-same y z o p c d h k same =
     by_lt_z y z
     (λ lt. absurd (omega (arith, ints, later_year_packed y z o p c d h k lt)))
@@ -51,7 +55,8 @@ int_cmp_agrees : (a b x y : ℤ) → (a <ℤ b → x <ℤ y) → (b <ℤ a → y
 int_cmp_agrees a b x y l g s = grind (arith, ints)
 
 -- so parts compare as their wall clocks do
-pub int_cmp-packed_parts : (y z : ℤ) (o p c d : ℕ) → IsParts y o c → IsParts z p d → int_cmp (packed_parts y o c) (packed_parts z p d) ≡ int_cmp (wall_clock_of_parts y o c) (wall_clock_of_parts z p d)
+pub int_cmp-packed_parts : (y z : ℤ) (o p c d : ℕ) → IsParts y o c → IsParts z p d →
+    int_cmp (packed_parts y o c) (packed_parts z p d) ≡ int_cmp (wall_clock_of_parts y o c) (wall_clock_of_parts z p d)
 int_cmp-packed_parts y z o p c d h k =
     int_cmp_agrees _ _ _ _ (packed_parts-lt y z o p c d h k) (packed_parts-lt z y p o d c k h) (packed_parts-same y z o p c d h k)
 
@@ -76,8 +81,11 @@ packed_wall_clock-same w v e =
 
 pub int_eq-packed_wall_clock : (w v : ℤ) → int_eq (packed_wall_clock w) (packed_wall_clock v) ≡ int_eq w v
 int_eq-packed_wall_clock w v =
-    one_answer (int_eq (packed_wall_clock w) (packed_wall_clock v)) (int_eq w v)
-    (λ t. packed_wall_clock-same w v ((signed_Decides (packed_wall_clock w) (packed_wall_clock v)).0 t), λ e. (signed_Decides (packed_wall_clock w) (packed_wall_clock v)).1 (ap packed_wall_clock e))
+    one_answer (int_eq (packed_wall_clock w) (packed_wall_clock v)) (int_eq w v) (
+      λ t. packed_wall_clock-same w v ((signed_Decides (packed_wall_clock w) (packed_wall_clock v)).0 t),
+      λ e.
+          (signed_Decides (packed_wall_clock w) (packed_wall_clock v)).1 (ap packed_wall_clock e),
+    )
     (signed_Decides w v)
 
 pub packed_wall_clock-equal : (w v : ℤ) → (packed_wall_clock w ≡ packed_wall_clock v) ↔ (w ≡ v)

@@ -1,6 +1,7 @@
 -- What a replaced wall clock shows.
 use Rattle.std.proofs.Common.{◌≡◌, ℕ, ◌≤◌, refl, sym, ap, ◌∙◌, ℤ, Result, Ok, Err}
-use Rattle.calendar_values.specs.Calendar.{IsCalendarDate, IsOrdinalDate, day_of_calendar_date, day_of_ordinal_date, days_in_month, days_in_year, is_leap_year, year_of, month_of, day_of_month_of}
+use Rattle.calendar_values.specs.Calendar.{IsCalendarDate, IsOrdinalDate, day_of_calendar_date, day_of_ordinal_date, days_in_month, days_in_year, is_leap_year}
+use Rattle.calendar_values.specs.Calendar.{year_of, month_of, day_of_month_of}
 use Rattle.calendar_values.specs.Clock.{IsClock, IsTimeOfDay, clock_of_parts, hour_of, minute_of, second_of, nanosecond_of}
 use Rattle.calendar_values.specs.ClockLaws.{IsTimeOfDay-of}
 use Rattle.calendar_values.specs.DayLaws.{year_of-ordinal_date, ordinal_of-ordinal_date}

@@ -10,7 +10,8 @@ use Rattle.calendar_values.specs.WallClockLaws.{IsDay-wall_day}
 use Rattle.calendar_values.specs.Weeks.{weekday_of}
 use Rattle.plain_times.specs.Replacements.{with_time}
 use Rattle.utc_times.specs.UnixTime.{instant_of_second}
-use Rattle.stamp_times.specs.Instants.{instant_of_parts, instant_of_milliseconds, instant_of_microseconds, unix_nanosecond_of, unix_milliseconds_of, unix_microseconds_of}
+use Rattle.stamp_times.specs.Instants.{instant_of_parts, instant_of_milliseconds, instant_of_microseconds, unix_nanosecond_of, unix_milliseconds_of}
+use Rattle.stamp_times.specs.Instants.{unix_microseconds_of}
 use Rattle.stamp_times.specs.InstantLaws.{unix_seconds_of-parts, unix_nanosecond_of-parts}
 
 pub unix_seconds_of-is : (i s : ℤ) (n : ℕ) → n < nanos_per_second → instant_of_parts s n ≡ i → unix_seconds_of i ≡ s
@@ -19,11 +20,13 @@ unix_seconds_of-is i s n p e = rw (← e) (unix_seconds_of-parts s n p)
 pub unix_nanosecond_of-is : (i s : ℤ) (n : ℕ) → n < nanos_per_second → instant_of_parts s n ≡ i → unix_nanosecond_of i ≡ n
 unix_nanosecond_of-is i s n p e = rw (← e) (unix_nanosecond_of-parts s n p)
 
-pub unix_milliseconds_of-is : (i s : ℤ) (n : ℕ) → n < nanos_per_second → instant_of_parts s n ≡ i → unix_milliseconds_of i ≡ s *ℤ pos 1_000 +ℤ pos (n / 1_000_000)
+pub unix_milliseconds_of-is : (i s : ℤ) (n : ℕ) → n < nanos_per_second → instant_of_parts s n ≡ i →
+    unix_milliseconds_of i ≡ s *ℤ pos 1_000 +ℤ pos (n / 1_000_000)
 unix_milliseconds_of-is (pos a) s n p e = omega (arith, ints)
 unix_milliseconds_of-is (negsuc a) s n p e = omega (arith, ints)
 
-pub unix_microseconds_of-is : (i s : ℤ) (n : ℕ) → n < nanos_per_second → instant_of_parts s n ≡ i → unix_microseconds_of i ≡ s *ℤ pos 1_000_000 +ℤ pos (n / 1_000)
+pub unix_microseconds_of-is : (i s : ℤ) (n : ℕ) → n < nanos_per_second → instant_of_parts s n ≡ i →
+    unix_microseconds_of i ≡ s *ℤ pos 1_000_000 +ℤ pos (n / 1_000)
 unix_microseconds_of-is (pos a) s n p e = omega (arith, ints)
 unix_microseconds_of-is (negsuc a) s n p e = omega (arith, ints)
 
@@ -54,12 +57,14 @@ unfolding weekday_of
 weekday_of-Monday n h = omega (arith, signed_arith)
 
 -- another nanosecond of the same second
-pub with_time-second : (i : ℤ) (n : ℕ) → with_time i (clock_of_parts (hour_of (wall_time i)) (minute_of (wall_time i)) (second_of (wall_time i)) n) ≡ instant_of_parts (unix_seconds_of i) n
+pub with_time-second : (i : ℤ) (n : ℕ) → with_time i (clock_of_parts (hour_of (wall_time i)) (minute_of (wall_time i)) (second_of (wall_time i)) n) ≡
+    instant_of_parts (unix_seconds_of i) n
 unfolding with_time wall_day wall_time
 with_time-second (pos a) n = omega (arith, ints)
 with_time-second (negsuc a) n = omega (arith, ints)
 
-pub with_time-nanosecond : (i s : ℤ) (n m : ℕ) → n < nanos_per_second → instant_of_parts s n ≡ i → with_time i (clock_of_parts (hour_of (wall_time i)) (minute_of (wall_time i)) (second_of (wall_time i)) m) ≡ instant_of_parts s m
+pub with_time-nanosecond : (i s : ℤ) (n m : ℕ) → n < nanos_per_second → instant_of_parts s n ≡ i →
+    with_time i (clock_of_parts (hour_of (wall_time i)) (minute_of (wall_time i)) (second_of (wall_time i)) m) ≡ instant_of_parts s m
 with_time-nanosecond i s n m p e = with_time-second i m ∙ ap (λ (t : ℤ). instant_of_parts t m) (unix_seconds_of-is i s n p e)
 
 pub ruleset fields = (unix_seconds_of-is, unix_nanosecond_of-is)

@@ -7,7 +7,8 @@ use Rattle.calendar_values.specs.Refusals.{Refusal}
 use Rattle.calendar_values.specs.WallClock.{IsWallClock}
 use Rattle.calendar_values.specs.Weekday.{weekday_number}
 use Rattle.calendar_values.specs.declared.month.Month.{Month}
-use Rattle.calendar_values.specs.declared.month.Month.TheVariants.{January, February, March, April, May, June, July, August, September, October, November, December}
+use Rattle.calendar_values.specs.declared.month.Month.TheVariants.{January, February, March, April, May, June, July, August, September, October, November}
+use Rattle.calendar_values.specs.declared.month.Month.TheVariants.{December}
 use Rattle.calendar_values.specs.declared.weekday.Weekday.{Weekday}
 use Rattle.calendar_values.specs.declared.weekday.Weekday.TheVariants.{Monday, Tuesday, Wednesday, Thursday, Friday, Saturday, Sunday}
 use Rattle.offset_times.specs.Local.{Local, local}
@@ -57,7 +58,8 @@ replaced-as_is (Err x) s e = e
 pub ruleset moves = (shifted-SomeIff, replaced-as_is)
 
 -- what a conversion to an offset replies, accepted and refused
-pub local_reply-accepted : (at : Local) (w o : ℤ) → SomeIff (Some at) (IsWallClock w) (local w o) → local_reply at.offset (Some at.wall) ≡ local_reply o (checked w)
+pub local_reply-accepted : (at : Local) (w o : ℤ) → SomeIff (Some at) (IsWallClock w) (local w o) →
+    local_reply at.offset (Some at.wall) ≡ local_reply o (checked w)
 local_reply-accepted at w o h =
     ap (λ (p : Local). local_reply p.offset (Some p.wall)) h.1 ∙ ap (local_reply o) (sym (checked-in w h.0))
 

@@ -12,7 +12,8 @@ use Rattle.stamp_times.specs.Instants.{instant_of_parts}
 earlier_second : (s t : ℤ) (n m : ℕ) → n < nanos_per_second → s <ℤ t → instant_of_parts s n <ℤ instant_of_parts t m
 earlier_second s t n m h lt = omega (arith, signed_arith)
 
-pub int_cmp-instant_of_parts : (s t : ℤ) (n m : ℕ) → n < nanos_per_second → m < nanos_per_second → ordering_then (int_cmp s t) (nat_cmp n m) ≡ int_cmp (instant_of_parts s n) (instant_of_parts t m)
+pub int_cmp-instant_of_parts : (s t : ℤ) (n m : ℕ) → n < nanos_per_second → m < nanos_per_second →
+    ordering_then (int_cmp s t) (nat_cmp n m) ≡ int_cmp (instant_of_parts s n) (instant_of_parts t m)
 int_cmp-instant_of_parts s t n m h k =
     by_lt_z s t
     (λ lt. rw (sym (int_cmp_is s t Less lt)) (int_cmp_is (instant_of_parts s n) (instant_of_parts t m) Less (earlier_second s t n m h lt)))

@@ -67,12 +67,14 @@ year_of-step n h = year_of-is n (step_year (shifted_day n)) (step_ordinal (shift
 pub ordinal_of-step : (n : ℤ) → IsDay n → ordinal_of n ≡ step_ordinal (shifted_day n)
 ordinal_of-step n h = ordinal_of-is n (step_year (shifted_day n)) (step_ordinal (shifted_day n)) (IsOrdinalDate-step n h) (day_of_ordinal_date-step n h)
 
-pub IsOrdinalDateOfRange-found : (n y : ℤ) (ordinal : ℕ) → IsDay n → y ≡ step_year (shifted_day n) → ordinal ≡ step_ordinal (shifted_day n) → IsOrdinalDateOfRange y ordinal
+pub IsOrdinalDateOfRange-found : (n y : ℤ) (ordinal : ℕ) → IsDay n → y ≡ step_year (shifted_day n) → ordinal ≡ step_ordinal (shifted_day n) →
+    IsOrdinalDateOfRange y ordinal
 IsOrdinalDateOfRange-found n y ordinal h year place =
     let date = IsOrdinalDate-step n h in
     rw (year, place) (rw (year_of-step n h) at (IsYear-year_of n h), (date.first, date.last))
 
-pub day_of_ordinal_date-found : (n y : ℤ) (ordinal : ℕ) → IsDay n → y ≡ step_year (shifted_day n) → ordinal ≡ step_ordinal (shifted_day n) → day_of_ordinal_date y ordinal ≡ n
+pub day_of_ordinal_date-found : (n y : ℤ) (ordinal : ℕ) → IsDay n → y ≡ step_year (shifted_day n) → ordinal ≡ step_ordinal (shifted_day n) →
+    day_of_ordinal_date y ordinal ≡ n
 day_of_ordinal_date-found n y ordinal h year place = rw (year, place) (day_of_ordinal_date-step n h)
 
 pub IsInRange-found : (n : ℤ) (ordinal : ℕ) → IsDay n → ordinal ≡ step_ordinal (shifted_day n) → IsInRange 1 366 ordinal

@@ -32,7 +32,8 @@ pub IsSplit-neg_std : (n : ℕ) → IsSplit (neg_ℤ (pos n)) (neg_ℤ (pos (n /
 IsSplit-neg_std n = record { sum = omega (arith, signed_arith); rest = omega (arith, signed_arith) }
 
 -- where the seconds of a sum are not a number of 64 bits, the range does not have the sum
-pub not_IsWallClock-large : (i d s m : ℤ) (r : Option ℤ) → IsWallClock i → IsSplit d s m → (FitsSigned w64 (unix_seconds_of i +ℤ s) → ⊥) → r ≡ None → SomeIff r (IsWallClock (i +ℤ d)) (i +ℤ d)
+pub not_IsWallClock-large : (i d s m : ℤ) (r : Option ℤ) → IsWallClock i → IsSplit d s m → (FitsSigned w64 (unix_seconds_of i +ℤ s) → ⊥) → r ≡ None →
+    SomeIff r (IsWallClock (i +ℤ d)) (i +ℤ d)
 not_IsWallClock-large i d s m r h split large e =
     let here = instant_of_parts-of i in
     let sum = split.sum in
@@ -40,14 +41,16 @@ not_IsWallClock-large i d s m r h split large e =
     rw e (λ k. large (omega (arith, signed_arith)))
 
 -- otherwise the sum is that of the seconds and of the nanoseconds
-pub SomeIff-parts : (i d s m t u : ℤ) (n : ℕ) (r : Option ℤ) → IsSplit d s m → t ≡ unix_seconds_of i +ℤ s → n ≡ unix_nanosecond_of i → u ≡ m → SomeIff r (IsWallClock (instant_of_parts t n +ℤ u)) (instant_of_parts t n +ℤ u) → SomeIff r (IsWallClock (i +ℤ d)) (i +ℤ d)
+pub SomeIff-parts : (i d s m t u : ℤ) (n : ℕ) (r : Option ℤ) → IsSplit d s m → t ≡ unix_seconds_of i +ℤ s → n ≡ unix_nanosecond_of i → u ≡ m →
+    SomeIff r (IsWallClock (instant_of_parts t n +ℤ u)) (instant_of_parts t n +ℤ u) → SomeIff r (IsWallClock (i +ℤ d)) (i +ℤ d)
 SomeIff-parts i d s m t u n r split seconds nanosecond rest h =
     let here = instant_of_parts-of i in
     let sum = split.sum in
     IsWallClock-same r _ _ h (omega (arith, signed_arith))
 
 -- the difference of two instants by their seconds and nanoseconds
-pub difference-parts : (i j s m : ℤ) → s ≡ unix_seconds_of i -ℤ unix_seconds_of j → m ≡ pos (unix_nanosecond_of i) -ℤ pos (unix_nanosecond_of j) → duration_of_parts s m ≡ i -ℤ j
+pub difference-parts : (i j s m : ℤ) → s ≡ unix_seconds_of i -ℤ unix_seconds_of j → m ≡ pos (unix_nanosecond_of i) -ℤ pos (unix_nanosecond_of j) →
+    duration_of_parts s m ≡ i -ℤ j
 difference-parts i j s m seconds nanoseconds =
     let left = instant_of_parts-of i in let right = instant_of_parts-of j in omega (arith, signed_arith)
 

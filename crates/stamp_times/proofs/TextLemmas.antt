@@ -1,5 +1,6 @@
 -- The text of an instant by the seconds and the nanoseconds of its absolute value, and what it tells of them.
-use Rattle.std.proofs.Common.{◌≡◌, ◌≢◌, ◌≤◌, ℕ, zero, suc, ◌+◌, ◌/◌, ◌%◌, ◌<◌, ◌^◌, Bool, true, false, List, [], ◌∷◌, ◌++◌, append_assoc, append-nil, refl, sym, ap, ◌∙◌, arith, ℤ, pos, negsuc, unsigned_abs, decimal, length, length-append}
+use Rattle.std.proofs.Common.{◌≡◌, ◌≢◌, ◌≤◌, ℕ, zero, suc, ◌+◌, ◌/◌, ◌%◌, ◌<◌, ◌^◌, Bool, true, false, List, [], ◌∷◌, ◌++◌, append_assoc, append-nil, refl, sym}
+use Rattle.std.proofs.Common.{ap, ◌∙◌, arith, ℤ, pos, negsuc, unsigned_abs, decimal, length, length-append}
 use Rattle.std.specs.Prelude.{⊤, nat_eq, int_lt}
 use Rattle.std.specs.Str.Parse.{digits_value}
 use Rattle.std.proofs.lemmas.Bool.Decides.{nat_tests}
@@ -52,25 +53,27 @@ fraction_digits-injective : (k n m : ℕ) → n < 10 ^ k → m < 10 ^ k → frac
 unfolding fraction_digits
 fraction_digits-injective zero n m p q e = omega arith
 fraction_digits-injective (suc zero) n m p q e = last_digits-injective 1 n m p q e
-fraction_digits-injective (suc (suc k)) n m p q e = choose (nat_eq (n % 10) 0) refl (nat_eq (m % 10) 0) refl (λ shorter. fraction_digits-injective (suc k) (n / 10) (m / 10) (omega arith) (omega arith) shorter) where
-  choose : (a : Bool) → nat_eq (n % 10) 0 ≡ a → (b : Bool) → nat_eq (m % 10) 0 ≡ b → (fraction_digits (suc k) (n / 10) ≡ fraction_digits (suc k) (m / 10) → n / 10 ≡ m / 10) → n ≡ m
-  choose true f true g earlier =
-      let left : fraction_digits (suc (suc k)) n ≡ fraction_digits (suc k) (n / 10) = rw f in
-      let right : fraction_digits (suc (suc k)) m ≡ fraction_digits (suc k) (m / 10) = rw g in
-      let same = earlier (sym left ∙ e ∙ right) in
-      grind (arith, nat_tests)
-  choose true f false g earlier =
-      let left : fraction_digits (suc (suc k)) n ≡ fraction_digits (suc k) (n / 10) = rw f in
-      let right : fraction_digits (suc (suc k)) m ≡ last_digits (suc (suc k)) m = rw g in
-      absurd (omega (arith, ap (length {A = ℕ}) (sym left ∙ e ∙ right), length-fraction_digits (suc k) (n / 10), length-last_digits (suc (suc k)) m))
-  choose false f true g earlier =
-      let left : fraction_digits (suc (suc k)) n ≡ last_digits (suc (suc k)) n = rw f in
-      let right : fraction_digits (suc (suc k)) m ≡ fraction_digits (suc k) (m / 10) = rw g in
-      absurd (omega (arith, ap (length {A = ℕ}) (sym left ∙ e ∙ right), length-fraction_digits (suc k) (m / 10), length-last_digits (suc (suc k)) n))
-  choose false f false g earlier =
-      let left : fraction_digits (suc (suc k)) n ≡ last_digits (suc (suc k)) n = rw f in
-      let right : fraction_digits (suc (suc k)) m ≡ last_digits (suc (suc k)) m = rw g in
-      last_digits-injective (suc (suc k)) n m p q (sym left ∙ e ∙ right)
+fraction_digits-injective (suc (suc k)) n m p q e = choose (nat_eq (n % 10) 0) refl (nat_eq (m % 10) 0) refl (λ shorter.
+    fraction_digits-injective (suc k) (n / 10) (m / 10) (omega arith) (omega arith) shorter) where
+      choose : (a : Bool) → nat_eq (n % 10) 0 ≡ a → (b : Bool) → nat_eq (m % 10) 0 ≡ b →
+          (fraction_digits (suc k) (n / 10) ≡ fraction_digits (suc k) (m / 10) → n / 10 ≡ m / 10) → n ≡ m
+      choose true f true g earlier =
+          let left : fraction_digits (suc (suc k)) n ≡ fraction_digits (suc k) (n / 10) = rw f in
+          let right : fraction_digits (suc (suc k)) m ≡ fraction_digits (suc k) (m / 10) = rw g in
+          let same = earlier (sym left ∙ e ∙ right) in
+          grind (arith, nat_tests)
+      choose true f false g earlier =
+          let left : fraction_digits (suc (suc k)) n ≡ fraction_digits (suc k) (n / 10) = rw f in
+          let right : fraction_digits (suc (suc k)) m ≡ last_digits (suc (suc k)) m = rw g in
+          absurd (omega (arith, ap (length {A = ℕ}) (sym left ∙ e ∙ right), length-fraction_digits (suc k) (n / 10), length-last_digits (suc (suc k)) m))
+      choose false f true g earlier =
+          let left : fraction_digits (suc (suc k)) n ≡ last_digits (suc (suc k)) n = rw f in
+          let right : fraction_digits (suc (suc k)) m ≡ fraction_digits (suc k) (m / 10) = rw g in
+          absurd (omega (arith, ap (length {A = ℕ}) (sym left ∙ e ∙ right), length-fraction_digits (suc k) (m / 10), length-last_digits (suc (suc k)) n))
+      choose false f false g earlier =
+          let left : fraction_digits (suc (suc k)) n ≡ last_digits (suc (suc k)) n = rw f in
+          let right : fraction_digits (suc (suc k)) m ≡ last_digits (suc (suc k)) m = rw g in
+          last_digits-injective (suc (suc k)) n m p q (sym left ∙ e ∙ right)
 
 -- a fraction that is not 0 ends in another digit than 0
 fraction_digits-end : (k n : ℕ) (front : List ℕ) (d : ℕ) → 0 < n → n < 10 ^ k → fraction_digits k n ≡ front ++ d ∷ [] → d ≢ 48
@@ -78,17 +81,18 @@ unfolding fraction_digits last_digits
 fraction_digits-end zero n front d some p e = absurd (omega arith)
 fraction_digits-end (suc zero) n front d some p e =
     let last = (push-injective [] front (48 + n % 10) d e).1 in λ zero_digit. absurd (omega arith)
-fraction_digits-end (suc (suc k)) n front d some p e = choose (nat_eq (n % 10) 0) refl (λ more shorter. fraction_digits-end (suc k) (n / 10) front d more (omega arith) shorter) where
-  choose : (a : Bool) → nat_eq (n % 10) 0 ≡ a → (0 < n / 10 → fraction_digits (suc k) (n / 10) ≡ front ++ d ∷ [] → d ≢ 48) → d ≢ 48
-  choose true f earlier =
-      let left : fraction_digits (suc (suc k)) n ≡ fraction_digits (suc k) (n / 10) = rw f in
-      let short : n % 10 ≡ 0 = grind (arith, nat_tests) in
-      earlier (omega arith) (sym left ∙ e)
-  choose false f earlier =
-      let left : fraction_digits (suc (suc k)) n ≡ last_digits (suc (suc k)) n = rw f in
-      let last = (push-injective (last_digits (suc k) (n / 10)) front (48 + n % 10) d (sym left ∙ e)).1 in
-      let some_digit : n % 10 ≢ 0 = grind (arith, nat_tests) in
-      λ zero_digit. some_digit (omega arith)
+fraction_digits-end (suc (suc k)) n front d some p e = choose (nat_eq (n % 10) 0) refl (λ more shorter.
+    fraction_digits-end (suc k) (n / 10) front d more (omega arith) shorter) where
+      choose : (a : Bool) → nat_eq (n % 10) 0 ≡ a → (0 < n / 10 → fraction_digits (suc k) (n / 10) ≡ front ++ d ∷ [] → d ≢ 48) → d ≢ 48
+      choose true f earlier =
+          let left : fraction_digits (suc (suc k)) n ≡ fraction_digits (suc k) (n / 10) = rw f in
+          let short : n % 10 ≡ 0 = grind (arith, nat_tests) in
+          earlier (omega arith) (sym left ∙ e)
+      choose false f earlier =
+          let left : fraction_digits (suc (suc k)) n ≡ last_digits (suc (suc k)) n = rw f in
+          let last = (push-injective (last_digits (suc k) (n / 10)) front (48 + n % 10) d (sym left ∙ e)).1 in
+          let some_digit : n % 10 ≢ 0 = grind (arith, nat_tests) in
+          λ zero_digit. some_digit (omega arith)
 
 -- the bytes are digits, or come after them in ASCII: none is `-` or `.`
 abbrev HasNoMarks : List ℕ → Type 0
@@ -144,14 +148,17 @@ fraction_text-injective zero (suc m) p q e =
 fraction_text-injective (suc n) zero p q e =
     let apart : 46 ∷ fraction_digits 9 (suc n) ≡ [] = sym (fraction_text-some (suc n) (omega arith)) ∙ e ∙ fraction_text-zero in absurd cc
 fraction_text-injective (suc n) (suc m) p q e =
-    let both : 46 ∷ fraction_digits 9 (suc n) ≡ 46 ∷ fraction_digits 9 (suc m) = sym (fraction_text-some (suc n) (omega arith)) ∙ e ∙ fraction_text-some (suc m) (omega arith) in
+    let both : 46 ∷ fraction_digits 9 (suc n) ≡ 46 ∷ fraction_digits 9 (suc m) =
+    sym (fraction_text-some (suc n) (omega arith)) ∙ e ∙ fraction_text-some (suc m) (omega arith) in
     let digits : fraction_digits 9 (suc n) ≡ fraction_digits 9 (suc m) = cc in
     fraction_digits-injective 9 (suc n) (suc m) (omega arith) (omega arith) digits
 
-seconds_text-injective : (s t n m : ℕ) → s < 2 ^ 64 → t < 2 ^ 64 → n < nanos_per_second → m < nanos_per_second → seconds_text s n ≡ seconds_text t m → (s ≡ t) × (n ≡ m)
+seconds_text-injective : (s t n m : ℕ) → s < 2 ^ 64 → t < 2 ^ 64 → n < nanos_per_second → m < nanos_per_second → seconds_text s n ≡ seconds_text t m → (s ≡ t) ×
+    (n ≡ m)
 unfolding seconds_text
 seconds_text-injective s t n m p q h k e =
-    let same = split-injective (decimal s) (decimal t) (fraction_text n) (fraction_text m) (HasNoMarks-decimal s p) (HasNoMarks-decimal t q) (IsFraction-fraction_text n) (IsFraction-fraction_text m) e in
+    let same = split-injective (decimal s) (decimal t) (fraction_text n) (fraction_text m) (HasNoMarks-decimal s p) (HasNoMarks-decimal t q)
+    (IsFraction-fraction_text n) (IsFraction-fraction_text m) e in
     (decimal-injective s t p q same.0, fraction_text-injective n m h k same.1)
 
 -- a text with no sign has no minus first
@@ -176,18 +183,23 @@ pub timestamp_text-injective : (i j : ℤ) → IsWallClock i → IsWallClock j �
 timestamp_text-injective (pos a) (pos b) h k e =
     let a_in : a / nanos_per_second < 2 ^ 64 = omega (arith, ints) in
     let b_in : b / nanos_per_second < 2 ^ 64 = omega (arith, ints) in
-    let same = seconds_text-injective (a / nanos_per_second) (b / nanos_per_second) (a % nanos_per_second) (b % nanos_per_second) a_in b_in (omega arith) (omega arith) (sym (timestamp_text-later a) ∙ e ∙ timestamp_text-later b) in
+    let same = seconds_text-injective (a / nanos_per_second) (b / nanos_per_second) (a % nanos_per_second) (b % nanos_per_second) a_in b_in (omega arith)
+    (omega arith) (sym (timestamp_text-later a) ∙ e ∙ timestamp_text-later b) in
     omega (arith, ints, same.0, same.1)
 timestamp_text-injective (pos a) (negsuc b) h k e =
-    absurd (seconds_text-not_minus (a / nanos_per_second) (a % nanos_per_second) _ (omega (arith, ints)) (sym (timestamp_text-later a) ∙ e ∙ timestamp_text-earlier b))
+    absurd (seconds_text-not_minus (a / nanos_per_second) (a % nanos_per_second) _ (omega (arith, ints))
+    (sym (timestamp_text-later a) ∙ e ∙ timestamp_text-earlier b))
 timestamp_text-injective (negsuc a) (pos b) h k e =
-    absurd (seconds_text-not_minus (b / nanos_per_second) (b % nanos_per_second) _ (omega (arith, ints)) (sym (timestamp_text-later b) ∙ sym e ∙ timestamp_text-earlier a))
+    absurd (seconds_text-not_minus (b / nanos_per_second) (b % nanos_per_second) _ (omega (arith, ints))
+    (sym (timestamp_text-later b) ∙ sym e ∙ timestamp_text-earlier a))
 timestamp_text-injective (negsuc a) (negsuc b) h k e =
     let a_in : suc a / nanos_per_second < 2 ^ 64 = omega (arith, ints) in
     let b_in : suc b / nanos_per_second < 2 ^ 64 = omega (arith, ints) in
-    let both : 45 ∷ seconds_text (suc a / nanos_per_second) (suc a % nanos_per_second) ≡ 45 ∷ seconds_text (suc b / nanos_per_second) (suc b % nanos_per_second) = sym (timestamp_text-earlier a) ∙ e ∙ timestamp_text-earlier b in
+    let both : 45 ∷ seconds_text (suc a / nanos_per_second) (suc a % nanos_per_second) ≡
+    45 ∷ seconds_text (suc b / nanos_per_second) (suc b % nanos_per_second) = sym (timestamp_text-earlier a) ∙ e ∙ timestamp_text-earlier b in
     let text : seconds_text (suc a / nanos_per_second) (suc a % nanos_per_second) ≡ seconds_text (suc b / nanos_per_second) (suc b % nanos_per_second) = cc in
-    let same = seconds_text-injective (suc a / nanos_per_second) (suc b / nanos_per_second) (suc a % nanos_per_second) (suc b % nanos_per_second) a_in b_in (omega arith) (omega arith) text in
+    let same = seconds_text-injective (suc a / nanos_per_second) (suc b / nanos_per_second) (suc a % nanos_per_second) (suc b % nanos_per_second) a_in b_in
+    (omega arith) (omega arith) text in
     omega (arith, ints, same.0, same.1)
 
 -- a list that is not empty has a last element
@@ -207,7 +219,9 @@ seconds_text-zero_end s (suc n) before front h e = absurd (ended (fraction_digit
       let end = last_of c cs in
       let digits : fraction_digits 9 (suc n) ≡ end.0 ++ end.1.0 ∷ [] = is ∙ end.1.1 in
       let text : fraction_text (suc n) ≡ 46 ∷ (end.0 ++ end.1.0 ∷ []) = fraction_text-some (suc n) (omega arith) ∙ ap (λ (t : List ℕ). 46 ∷ t) digits in
-      let whole : (before ++ (decimal s ++ (46 ∷ end.0))) ++ (end.1.0 ∷ []) ≡ front ++ 48 ∷ [] = append_assoc before (decimal s ++ (46 ∷ end.0)) (end.1.0 ∷ []) ∙ ap (λ (t : List ℕ). before ++ t) (append_assoc (decimal s) (46 ∷ end.0) (end.1.0 ∷ []) ∙ ap (λ (t : List ℕ). decimal s ++ t) (sym text)) ∙ e in
+      let whole : (before ++ (decimal s ++ (46 ∷ end.0))) ++ (end.1.0 ∷ []) ≡ front ++ 48 ∷ [] =
+      append_assoc before (decimal s ++ (46 ∷ end.0)) (end.1.0 ∷ []) ∙
+      ap (λ (t : List ℕ). before ++ t) (append_assoc (decimal s) (46 ∷ end.0) (end.1.0 ∷ []) ∙ ap (λ (t : List ℕ). decimal s ++ t) (sym text)) ∙ e in
       let last = (push-injective (before ++ (decimal s ++ (46 ∷ end.0))) front end.1.0 48 whole).1 in
       fraction_digits-end 9 (suc n) end.0 end.1.0 (omega arith) (omega arith) digits last
 
@@ -268,5 +282,6 @@ timestamp_text-not_zero (negsuc a) h e =
     let in_range : suc a / nanos_per_second < 2 ^ 64 = omega (arith, ints) in
     let both : 45 ∷ seconds_text (suc a / nanos_per_second) (suc a % nanos_per_second) ≡ 45 ∷ 48 ∷ [] = sym (timestamp_text-earlier a) ∙ e in
     let text : seconds_text (suc a / nanos_per_second) (suc a % nanos_per_second) ≡ 48 ∷ [] = cc in
-    let same = seconds_text-injective (suc a / nanos_per_second) 0 (suc a % nanos_per_second) 0 in_range (omega arith) (omega arith) (omega arith) (text ∙ sym seconds_text-zero) in
+    let same = seconds_text-injective (suc a / nanos_per_second) 0 (suc a % nanos_per_second) 0 in_range (omega arith) (omega arith) (omega arith)
+    (text ∙ sym seconds_text-zero) in
     omega (arith, same.0, same.1)

@@ -1,5 +1,6 @@
 -- One more step of a chain of conversions.
-use Rattle.std.proofs.Common.{◌≡◌, ℕ, suc, ◌+◌, ◌<◌, ℤ, List, [], ◌∷◌, ◌++◌, Option, Some, None, SomeIff, Bool, true, false, length, take, drop, get_or, sym, ap, ◌∙◌, refl, arith, add-one, cond, option_map}
+use Rattle.std.proofs.Common.{◌≡◌, ℕ, suc, ◌+◌, ◌<◌, ℤ, List, [], ◌∷◌, ◌++◌, Option, Some, None, SomeIff, Bool, true, false, length, take, drop, get_or, sym}
+use Rattle.std.proofs.Common.{ap, ◌∙◌, refl, arith, add-one, cond, option_map}
 use Rattle.std.proofs.Math.Seq.{drop-cons}
 use Rattle.std.proofs.lemmas.List.{take_more}
 use Rattle.std.specs.Option.{is_some}
@@ -48,17 +49,21 @@ rest : (steps : List Step) (k : ℕ) (step : Step) → k < length steps → step
 rest steps k step below here =
     rw add-one (drop-cons steps k step below ∙ ap (λ (x : Step). x ∷ drop (suc k) steps) (sym here))
 
-pub held_after-more : (start next : Held) (i : ℤ) (steps : List Step) (k : ℕ) (step : Step) → k < length steps → step ≡ get_or steps k step → next ≡ held_by step i → next ≡ held_after start i (take (k + 1) steps)
+pub held_after-more : (start next : Held) (i : ℤ) (steps : List Step) (k : ℕ) (step : Step) → k < length steps → step ≡ get_or steps k step →
+    next ≡ held_by step i → next ≡ held_after start i (take (k + 1) steps)
 held_after-more start next i steps k step below here e =
     let more : take (k + 1) steps ≡ take k steps ++ step ∷ [] = take_more steps k step below ∙ ap (λ (x : Step). take k steps ++ x ∷ []) (sym here) in
     e ∙ sym (ap (held_after start i) more ∙ held_after-append start i (take k steps) step)
 
-pub travel-more : (i : ℤ) (steps : List Step) (k : ℕ) (step : Step) → k < length steps → step ≡ get_or steps k step → IsWallClock (shown_by step i) → travel i steps ≡ later k (travel i (drop k steps)) → travel i steps ≡ later (k + 1) (travel i (drop (k + 1) steps))
+pub travel-more : (i : ℤ) (steps : List Step) (k : ℕ) (step : Step) → k < length steps → step ≡ get_or steps k step → IsWallClock (shown_by step i) →
+    travel i steps ≡ later k (travel i (drop k steps)) → travel i steps ≡ later (k + 1) (travel i (drop (k + 1) steps))
 travel-more i steps k step below here h so =
-    let one : travel i (drop k steps) ≡ later 1 (travel i (drop (k + 1) steps)) = ap (travel i) (rest steps k step below here) ∙ travel-on i step (drop (k + 1) steps) h in
+    let one : travel i (drop k steps) ≡ later 1 (travel i (drop (k + 1) steps)) =
+    ap (travel i) (rest steps k step below here) ∙ travel-on i step (drop (k + 1) steps) h in
     so ∙ ap (later k) one ∙ later-later k (travel i (drop (k + 1) steps))
 
-pub travel-ends : (i : ℤ) (steps : List Step) (k : ℕ) (step : Step) → k < length steps → step ≡ get_or steps k step → SomeIff None (IsWallClock (shown_by step i)) (held_by step i) → travel i steps ≡ later k (travel i (drop k steps)) → travel i steps ≡ Some k
+pub travel-ends : (i : ℤ) (steps : List Step) (k : ℕ) (step : Step) → k < length steps → step ≡ get_or steps k step →
+    SomeIff None (IsWallClock (shown_by step i)) (held_by step i) → travel i steps ≡ later k (travel i (drop k steps)) → travel i steps ≡ Some k
 travel-ends i steps k step below here h so =
     let from_here : 0 + k ≡ k = omega arith in
     let ends : travel i (drop k steps) ≡ Some 0 = ap (travel i) (rest steps k step below here) ∙ travel-stopped i step (drop (k + 1) steps) h in

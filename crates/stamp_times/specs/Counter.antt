@@ -4,7 +4,8 @@ use Rattle.calendar_values.specs.Calendar.{year_of, month_of, day_of_month_of, o
 use Rattle.calendar_values.specs.Clock.{hour_of, minute_of, second_of, millisecond_of, microsecond_of, nanosecond_of}
 use Rattle.calendar_values.specs.Month.{month_number}
 use Rattle.calendar_values.specs.Refusals.{Refusal}
-use Rattle.calendar_values.specs.Replacements.{with_year, with_month, with_day, with_ordinal, with_hour, with_minute, with_second, with_millisecond, with_microsecond, with_nanosecond}
+use Rattle.calendar_values.specs.Replacements.{with_year, with_month, with_day, with_ordinal, with_hour, with_minute, with_second, with_millisecond}
+use Rattle.calendar_values.specs.Replacements.{with_microsecond, with_nanosecond}
 use Rattle.calendar_values.specs.WallClock.{wall_day, wall_time, IsWallClock}
 use Rattle.calendar_values.specs.Weeks.{iso_year_of, iso_week_of, sunday_week_of, monday_week_of, weekday_of}
 use Rattle.offset_times.specs.Local.{shown_at}

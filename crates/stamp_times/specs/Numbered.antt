@@ -1,7 +1,8 @@
 -- The month and the day of the week that have a number.
 use Rattle.std.specs.Prelude.{ℕ, ◌-◌, [], ◌∷◌, get_or}
 use Rattle.calendar_values.specs.declared.month.Month.{Month}
-use Rattle.calendar_values.specs.declared.month.Month.TheVariants.{January, February, March, April, May, June, July, August, September, October, November, December}
+use Rattle.calendar_values.specs.declared.month.Month.TheVariants.{January, February, March, April, May, June, July, August, September, October, November}
+use Rattle.calendar_values.specs.declared.month.Month.TheVariants.{December}
 use Rattle.calendar_values.specs.declared.weekday.Weekday.{Weekday}
 use Rattle.calendar_values.specs.declared.weekday.Weekday.TheVariants.{Monday, Tuesday, Wednesday, Thursday, Friday, Saturday, Sunday}
 

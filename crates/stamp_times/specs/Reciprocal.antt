@@ -1,4 +1,5 @@
--- The year of a day by two multiplications: days are counted from a year that 400 divides, and a product with a reciprocal has its whole part in one word and its fraction in the word below.
+-- The year of a day by two multiplications: days are counted from a year that 400 divides, and a product with a
+-- reciprocal has its whole part in one word and its fraction in the word below.
 use Rattle.std.specs.Prelude.{ℕ, ◌+◌, ◌-◌, ◌*◌, ◌/◌, ◌%◌, ◌^◌, ◌≤◌, Bool, ◌&&◌, ◌||◌, ◌==◌, nat_lt, if◌then◌else◌, ℤ, pos, ◌+ℤ◌, ◌-ℤ◌, unsigned_abs}
 
 -- the day n, counted from 1 January of the year -2379600, 5,949 spans of 400 years before the year 0

@@ -24,7 +24,8 @@ impl Timestamp {
             (batch.stamps.items ≡ map instant_of_second seconds.now)) }
         ensures before { IfOk result (λ batch. IfSome batch.refused (λ place.
             batch.stamps.items ≡ map instant_of_second (take place seconds.now))) }
-        ensures refused { IfOk result (λ batch. IfSome batch.refused (λ place. (place < length seconds.now)
+        ensures refused { IfOk result (λ batch.
+            IfSome batch.refused (λ place. (place < length seconds.now)
             × HoldsAt (λ second. ¬ IsWallClock (instant_of_second second)) seconds.now place)) }
         ensures none { seconds.now ≡ [] → IsOk result }
     {

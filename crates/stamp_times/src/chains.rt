@@ -18,11 +18,13 @@ pub fn chain(start: Held, steps: &[Step]) -> Result<Held, StoppedAt>
     ensures arrived { IfOk result (λ _. travel (held_instant start) steps.now ≡ None) }
     ensures held { IfOk result (λ held. held ≡ held_after start (held_instant start) steps.now) }
     ensures instant { IfOk result (λ held. held_instant held ≡ held_instant start) }
-    ensures stopped { IfErr result (λ stopped. travel (held_instant start) steps.now ≡ Some stopped.index) }
+    ensures stopped { IfErr result (λ stopped.
+        travel (held_instant start) steps.now ≡ Some stopped.index) }
     ensures kept { IfErr result (λ stopped. stopped.held ≡
         held_after start (held_instant start) (take stopped.index steps.now)) }
     ensures place { IfErr result (λ stopped. stopped.index < length steps.now) }
-    ensures kept_instant { IfErr result (λ stopped. held_instant stopped.held ≡ held_instant start) }
+    ensures kept_instant { IfErr result (λ stopped.
+        held_instant stopped.held ≡ held_instant start) }
 {
     let mut held = start;
     for (index, step) in steps.iter().enumerate() {
@@ -37,7 +39,8 @@ pub fn chain(start: Held, steps: &[Step]) -> Result<Held, StoppedAt>
 
 // The instant as the target of the step holds it. None where it cannot.
 fn converted(held: Held, step: Step) -> Option<Held>
-    ensures { let i = held_instant held in SomeIff result (IsWallClock (shown_by step i)) (held_by step i) }
+    ensures { let i = held_instant held in SomeIff result (IsWallClock (shown_by step i))
+        (held_by step i) }
 {
     match step {
         Step::ToStamp => Some(Held::Stamp(Timestamp::from(in_utc(held)?))),
@@ -62,7 +65,8 @@ fn in_utc(held: Held) -> Option<UtcDateTime>
 
 // The instant as a date-time at an offset. None where its date there is out of the range.
 fn at_offset(held: Held, offset: UtcOffset) -> Option<OffsetDateTime>
-    ensures { let i = held_instant held in SomeIff result (IsWallClock (shown_at i offset)) (local_at i offset) }
+    ensures { let i = held_instant held in SomeIff result (IsWallClock (shown_at i offset))
+        (local_at i offset) }
 {
     match held {
         Held::Stamp(stamp) => stamp.at_offset(offset),

@@ -12,7 +12,8 @@ use utc_times::UtcDateTime;
 pub fn conversions_lose_nothing()
     ensures stamps { (stamp at back : _) → ⟦<UtcDateTime as From<Timestamp>>⟧.from_gives stamp at
         → ⟦<Timestamp as From<UtcDateTime>>⟧.from_gives at back → back ≡ stamp }
-    ensures date_times { (at stamp back : _) → ⟦<Timestamp as From<UtcDateTime>>⟧.from_gives at stamp
+    ensures date_times { (at stamp back : _) →
+        ⟦<Timestamp as From<UtcDateTime>>⟧.from_gives at stamp
         → ⟦<UtcDateTime as From<Timestamp>>⟧.from_gives stamp back → back ≡ at }
 {}
 

@@ -35,7 +35,8 @@ pub trait Moment: Copy + Eq + Ord + Hash {
 
     /// The value with a part replaced in UTC. Refused as the replacement of that part is.
     fn replace(self, replace: Replace) -> Result<Self, ComponentRange>
-        ensures { result_map_both instant (λ refusal. refusal) result ≡ replaced (instant self) replace };
+        ensures { result_map_both instant (λ refusal. refusal) result ≡
+            replaced (instant self) replace };
 
     /// The date and the time of day in UTC.
     fn parts(self) -> (Date, Time)
@@ -46,7 +47,8 @@ pub trait Moment: Copy + Eq + Ord + Hash {
     /// What clocks at the offset show at the instant, with the offset, as
     /// [`ToOffset::checked_to_offset`]. None where that is out of the range.
     fn at_offset(self, offset: UtcOffset) -> Option<OffsetDateTime>
-        ensures value { SomeIff result (IsWallClock (shown_at (instant self) offset)) (local_at (instant self) offset) }
+        ensures value { SomeIff result (IsWallClock (shown_at (instant self) offset))
+            (local_at (instant self) offset) }
         ensures instant { IfSome result (λ at. instant_of at ≡ instant self) };
 
     /// Values are equal exactly where their instants are.

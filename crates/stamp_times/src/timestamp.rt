@@ -52,9 +52,13 @@ impl Model for Timestamp {
 
     ghost view = { λ at. instant_of_parts at.seconds at.nanosecond };
 
-    ghost invariant = { λ at. IsWallClock (instant_of_parts at.seconds at.nanosecond) × (at.nanosecond < nanos_per_second) };
+    ghost invariant = { λ at. IsWallClock (instant_of_parts at.seconds at.nanosecond) ×
+        (at.nanosecond < nanos_per_second) };
 
-    ghost inverse = { λ i. record { seconds = unix_seconds_of i; nanosecond = unix_nanosecond_of i } };
+    ghost inverse = { λ i. record {
+      seconds = unix_seconds_of i;
+      nanosecond = unix_nanosecond_of i;
+    } };
 
     ghost inverse_ok = { λ at h i. record {
       seconds = unix_seconds_of-parts at.seconds at.nanosecond h.1 i;
@@ -85,7 +89,8 @@ impl Timestamp {
     /// [`Timestamp::MIN`] or after that of [`Timestamp::MAX`], then `nanoseconds` above 999,999,999.
     #[tactic(auto, unfolding(crate::specs::Refusals::timestamp_of_parts))]
     pub fn new(seconds: i64, nanoseconds: u32) -> Result<Timestamp, ComponentRange>
-        ensures value { OkIff result (IsWallClock (instant_of_second seconds) × (nanoseconds < nanos_per_second))
+        ensures value { OkIff result (IsWallClock (instant_of_second seconds) ×
+            (nanoseconds < nanos_per_second))
             (instant_of_parts seconds nanoseconds) }
         ensures refused { IfErr result (λ refusal. refusal ≡ parts_refusal seconds) }
         ensures equation { result ≡ timestamp_of_parts seconds nanoseconds }
@@ -120,8 +125,10 @@ impl Timestamp {
     /// The instant so many milliseconds from 1970-01-01 0:00 UTC. Refused `milliseconds` before
     /// [`Timestamp::MIN`] or after [`Timestamp::MAX`].
     pub fn from_milliseconds(milliseconds: i64) -> Result<Timestamp, ComponentRange>
-        ensures value { let i = instant_of_milliseconds milliseconds in OkIff result (IsWallClock i) i }
-        ensures refused { IfErr result (λ refusal. refusal ≡ outright_refusal (codes "milliseconds")) }
+        ensures value { let i = instant_of_milliseconds milliseconds in
+            OkIff result (IsWallClock i) i }
+        ensures refused { IfErr result (λ refusal.
+            refusal ≡ outright_refusal (codes "milliseconds")) }
     {
         if milliseconds < FIRST_SECOND * 1_000 || milliseconds > LAST_SECOND * 1_000 + 999 {
             return Err(ComponentRange::new("milliseconds", false));
@@ -135,8 +142,10 @@ impl Timestamp {
     /// The instant so many microseconds from 1970-01-01 0:00 UTC. Refused `microseconds` before
     /// [`Timestamp::MIN`] or after [`Timestamp::MAX`].
     pub fn from_microseconds(microseconds: i128) -> Result<Timestamp, ComponentRange>
-        ensures value { let i = instant_of_microseconds microseconds in OkIff result (IsWallClock i) i }
-        ensures refused { IfErr result (λ refusal. refusal ≡ outright_refusal (codes "microseconds")) }
+        ensures value { let i = instant_of_microseconds microseconds in
+            OkIff result (IsWallClock i) i }
+        ensures refused { IfErr result (λ refusal.
+            refusal ≡ outright_refusal (codes "microseconds")) }
     {
         if microseconds < FIRST_SECOND as i128 * 1_000_000
             || microseconds > LAST_SECOND as i128 * 1_000_000 + 999_999
@@ -153,7 +162,8 @@ impl Timestamp {
     /// [`Timestamp::MIN`] or after [`Timestamp::MAX`].
     pub fn from_nanoseconds(nanoseconds: i128) -> Result<Timestamp, ComponentRange>
         ensures value { OkIff result (IsWallClock nanoseconds) nanoseconds }
-        ensures refused { IfErr result (λ refusal. refusal ≡ outright_refusal (codes "nanoseconds")) }
+        ensures refused { IfErr result (λ refusal.
+            refusal ≡ outright_refusal (codes "nanoseconds")) }
     {
         if nanoseconds < FIRST_SECOND as i128 * 1_000_000_000
             || nanoseconds > LAST_SECOND as i128 * 1_000_000_000 + 999_999_999

@@ -17,8 +17,10 @@ pub fn period_start(at: OffsetDateTime) -> Result<OffsetDateTime, ComponentRange
     ensures offset { IfOk result (λ start. start.offset ≡ at.offset) }
     ensures midnight { IfOk result (λ start. wall_time start.wall ≡ 0) }
     ensures first { IfOk result (λ start. day_of_month_of (wall_day start.wall) ≡ 1) }
-    ensures month { IfOk result (λ start. month_of (wall_day start.wall) ≡ month_of (wall_day at.wall)) }
-    ensures year { IfOk result (λ start. year_of (wall_day start.wall) ≡ year_of (wall_day at.wall)) }
+    ensures month { IfOk result (λ start. month_of (wall_day start.wall) ≡
+        month_of (wall_day at.wall)) }
+    ensures year { IfOk result (λ start. year_of (wall_day start.wall) ≡
+        year_of (wall_day at.wall)) }
 {
     Ok(at.replace_day(1)?.replace_time(Time::MIDNIGHT))
 }
@@ -44,7 +46,8 @@ pub fn due_day(year: i32, month: Month, day: u8) -> Result<Date, ComponentRange>
 
 /// The first day of the month after that of the date. None in the last month of the range.
 pub fn next_period(date: Date) -> Option<Date>
-    ensures value { let first = months.first_of_next_month date in SomeIff result (IsDay first) first }
+    ensures value { let first = months.first_of_next_month date in
+        SomeIff result (IsDay first) first }
     ensures first { IfSome result (λ first. day_of_month_of first ≡ 1) }
     ensures within_the_year { IfSome result (λ first. month_of date < 12 →
         (year_of first ≡ year_of date) × (month_of first ≡ month_of date + 1)) }

@@ -26,7 +26,8 @@ pub fn run_today(now: OffsetDateTime) -> Option<OffsetDateTime>
 pub fn run_after(run: OffsetDateTime) -> Option<OffsetDateTime>
     ensures offset { IfSome result (λ next. next.offset ≡ run.offset) }
     ensures time { IfSome result (λ next. wall_time next.wall ≡ wall_time run.wall) }
-    ensures instant { IfSome result (λ next. instant_of next ≡ instant_of run +ℤ pos nanos_per_day) }
+    ensures instant { IfSome result (λ next. instant_of next ≡ instant_of run +ℤ
+        pos nanos_per_day) }
 {
     Some(run.checked_add(SignedDuration::days(1))?)
 }
@@ -36,7 +37,8 @@ pub fn next_run(now: OffsetDateTime) -> Option<OffsetDateTime>
     ensures offset { IfSome result (λ next. next.offset ≡ now.offset) }
     ensures at_nine { IfSome result (λ next. wall_time next.wall ≡ 9 * nanos_per_hour) }
     ensures later { IfSome result (λ next. instant_of now <ℤ instant_of next) }
-    ensures soon { IfSome result (λ next. instant_of next ≤ℤ (instant_of now +ℤ pos nanos_per_day)) }
+    ensures soon { IfSome result (λ next. instant_of next ≤ℤ
+        (instant_of now +ℤ pos nanos_per_day)) }
 {
     let nine = now.replace_time(Time::from_hms(9, 0, 0).ok()?);
     if now < nine {

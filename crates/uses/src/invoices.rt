@@ -31,7 +31,8 @@ pub fn day_or_last(year: i32, month: Month, day: u8) -> Result<Date, ComponentRa
 /// The same day of the next month, or its last day where it is shorter. None in the last month of the range.
 pub fn due_next_month(date: Date) -> Option<Date>
     ensures { let first = months.first_of_next_month date in
-        SomeIff result (IsDay first) (months.day_or_last (year_of first) (month_of first) (day_of_month_of date)) }
+        SomeIff result (IsDay first) (months.day_or_last (year_of first) (month_of first)
+        (day_of_month_of date)) }
 {
     let first = last_day_of_month(date).next_day()?;
     day_or_last(first.year(), first.month(), date.day()).ok()
@@ -42,7 +43,8 @@ pub fn date_of_form(year: i32, month: u8, day: u8) -> Result<Date, ComponentRang
     ensures value { OkIff result (((1 ≤ month) × (month ≤ 12)) × IsDateOfRange year month day)
         (day_of_calendar_date year month day) }
     ensures refused { IfErr result (λ refusal. refusal ≡
-        (if month == 0 || nat_lt 12 month then outright_refusal (codes "month") else date_refusal year day)) }
+        (if month == 0 || nat_lt 12 month then outright_refusal
+        (codes "month") else date_refusal year day)) }
 {
     Date::from_calendar_date(year, Month::from_number(month)?, day)
 }

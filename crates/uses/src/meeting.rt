@@ -15,7 +15,8 @@ pub fn shown_to(
 ) -> Result<OffsetDateTime, ComponentRange>
     ensures value { let i = instant_of meeting in
         OkIff result (IsWallClock (shown_at i offset)) (local_at i offset) }
-    ensures refused { IfErr result (λ refusal. refusal ≡ conditional_refusal (codes "offset_seconds")) }
+    ensures refused { IfErr result (λ refusal.
+        refusal ≡ conditional_refusal (codes "offset_seconds")) }
 {
     match meeting.checked_to_offset(offset) {
         Some(shown) => Ok(shown),

@@ -57,7 +57,8 @@ pub struct Record {
 
 /// The text of a record at its offset, or None where clocks there show no date of the range.
 pub fn record_text(entry: Record) -> Option<Text>
-    ensures { IfSome result (λ text. text ≡ offset_date_time_text (local_at entry.at entry.offset)) }
+    ensures { IfSome result (λ text. text ≡ offset_date_time_text
+        (local_at entry.at entry.offset)) }
 {
     Some(entry.at.checked_to_offset(entry.offset)?.text())
 }

@@ -14,7 +14,8 @@ pub fn has_timed_out(started: OffsetDateTime, limit: SignedDuration, now: Offset
 
 /// What is left until the deadline, and nothing after it.
 pub fn remaining(now: OffsetDateTime, deadline: OffsetDateTime) -> SignedDuration
-    ensures before { instant_of now <ℤ instant_of deadline → result ≡ instant_of deadline -ℤ instant_of now }
+    ensures before { instant_of now <ℤ instant_of deadline →
+        result ≡ instant_of deadline -ℤ instant_of now }
     ensures after { instant_of deadline ≤ℤ instant_of now → result ≡ pos 0 }
 {
     if now < deadline {

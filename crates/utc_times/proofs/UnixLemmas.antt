@@ -17,12 +17,14 @@ pub wall_clock-second : (second : ℤ) (n c : ℕ) → pos c ≡ int_rem_euclid 
 wall_clock-second (pos a) n c e = omega (arith, ints)
 wall_clock-second (negsuc a) n c e = omega (arith, ints)
 
-clock_of_second : (second : ℤ) (n c : ℕ) → n < nanos_per_second → pos c ≡ int_rem_euclid second (pos 86_400) *ℤ pos nanos_per_second +ℤ pos n → c < nanos_per_day
+clock_of_second : (second : ℤ) (n c : ℕ) → n < nanos_per_second → pos c ≡ int_rem_euclid second (pos 86_400) *ℤ pos nanos_per_second +ℤ pos n →
+    c < nanos_per_day
 clock_of_second (pos a) n c below e = omega (arith, ints)
 clock_of_second (negsuc a) n c below e = omega (arith, ints)
 
 -- the range has an instant of a second if it has the day
-pub IsWallClock-second : (second d v : ℤ) (n c : ℕ) → IsDay (int_div_euclid second (pos 86_400)) × (d ≡ int_div_euclid second (pos 86_400)) → n < nanos_per_second
+pub IsWallClock-second : (second d v : ℤ) (n c : ℕ) → IsDay (int_div_euclid second (pos 86_400)) × (d ≡ int_div_euclid second (pos 86_400)) →
+    n < nanos_per_second
     → pos c ≡ int_rem_euclid second (pos 86_400) *ℤ pos nanos_per_second +ℤ pos n → v ≡ wall_clock d c
     → IsWallClock (instant_of_second second +ℤ pos n) × (v ≡ instant_of_second second +ℤ pos n)
 IsWallClock-second second d v n c day below clock e =

@@ -19,7 +19,8 @@ unfolding unix_instant_of_nanos
 unix_instant_of_nanos-after i high = grind (arith, ints)
 
 -- an answer that is the instant exactly where the range has it, and else this refusal
-pub OkIff-unix_instant_of_nanos : (r : Result ℤ Refusal) (i : ℤ) → OkIff r (IsWallClock i) i → IfErr r (λ refusal. refusal ≡ outright_refusal (codes "timestamp")) → r ≡ unix_instant_of_nanos i
+pub OkIff-unix_instant_of_nanos : (r : Result ℤ Refusal) (i : ℤ) → OkIff r (IsWallClock i) i →
+    IfErr r (λ refusal. refusal ≡ outright_refusal (codes "timestamp")) → r ≡ unix_instant_of_nanos i
 OkIff-unix_instant_of_nanos (Ok x) i h refused = ap Ok h.1 ∙ sym (unix_instant_of_nanos-in i h.0)
 OkIff-unix_instant_of_nanos (Err refusal) i h refused =
     by_lt_z i first_wall_clock

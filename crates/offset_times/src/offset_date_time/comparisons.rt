@@ -182,7 +182,8 @@ impl Ord for OffsetDateTime {
 impl PartialOrd for OffsetDateTime {
     ghost partial_cmp = { as_partial_cmp (on instant_of int_cmp) };
 
-    ghost laws = { partial_order_from_own_ties (Prim.search (comparing, rules)) (Prim.search (comparing, rules)) };
+    ghost laws = { partial_order_from_own_ties (Prim.search (comparing, rules))
+        (Prim.search (comparing, rules)) };
 
     fn partial_cmp(&self, other: &OffsetDateTime) -> Option<Ordering> {
         Some(self.cmp(other))

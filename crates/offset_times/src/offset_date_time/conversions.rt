@@ -26,7 +26,8 @@ impl OffsetDateTime {
     /// The same instant at another offset. None where the clocks there show a date outside the range;
     /// whether the date in UTC lies in it does not matter.
     pub fn checked_to_offset(self, offset: UtcOffset) -> Option<OffsetDateTime>
-        ensures value { SomeIff result (IsWallClock (shown_at (instant_of self) offset)) (local_at (instant_of self) offset) }
+        ensures value { SomeIff result (IsWallClock (shown_at (instant_of self) offset))
+            (local_at (instant_of self) offset) }
         ensures instant { IfSome result (λ at. instant_of at ≡ instant_of self) }
     {
         if self.offset() == offset {
@@ -62,7 +63,8 @@ impl OffsetDateTime {
 pub(crate) fn in_range(year: i32, ordinal: u16, time: Time) -> Option<PlainDateTime>
     requires date { IsOrdinalDate year ordinal }
     requires clock { IsClock time }
-    ensures { SomeIff result (IsWallClock (wall_clock (day_of_ordinal_date year ordinal) time)) (wall_clock (day_of_ordinal_date year ordinal) time) }
+    ensures { SomeIff result (IsWallClock (wall_clock (day_of_ordinal_date year ordinal) time))
+        (wall_clock (day_of_ordinal_date year ordinal) time) }
 {
     match Date::from_ordinal_date(year, ordinal) {
         Ok(date) => Some(PlainDateTime::new(date, time)),

@@ -84,7 +84,8 @@ impl Sub<Duration> for OffsetDateTime {
 
     ghost can_sub = { λ at duration. IsWallClock (at.wall -ℤ pos (as_nanos duration)) };
 
-    ghost sub_gives = { λ at duration difference. IsEarlier at (pos (as_nanos duration)) difference };
+    ghost sub_gives = { λ at duration difference.
+        IsEarlier at (pos (as_nanos duration)) difference };
 
     #[tactic(auto, using(crate::specs::InstantLemmas::instants))]
     fn sub(self, duration: Duration) -> OffsetDateTime {
@@ -95,7 +96,8 @@ impl Sub<Duration> for OffsetDateTime {
 impl SubAssign<Duration> for OffsetDateTime {
     ghost can_sub_assign = { λ at duration. IsWallClock (at.wall -ℤ pos (as_nanos duration)) };
 
-    ghost sub_assign_gives = { λ at duration difference. IsEarlier at (pos (as_nanos duration)) difference };
+    ghost sub_assign_gives = { λ at duration difference.
+        IsEarlier at (pos (as_nanos duration)) difference };
 
     fn sub_assign(&mut self, duration: Duration) {
         *self = *self - duration;

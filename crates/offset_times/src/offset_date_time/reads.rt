@@ -135,7 +135,8 @@ impl OffsetDateTime {
 
     /// As [`Time::as_hms`], of the time of day of the wall clock.
     pub fn to_hms(self) -> (u8, u8, u8)
-        ensures value { let c = wall_time self.wall in result ≡ (hour_of c, minute_of c, second_of c) }
+        ensures value { let c = wall_time self.wall in
+            result ≡ (hour_of c, minute_of c, second_of c) }
         ensures in_range { IsTimeOfDay result.0 result.1 result.2 0 }
     {
         self.date_time().as_hms()
@@ -143,23 +144,28 @@ impl OffsetDateTime {
 
     /// As [`Time::as_hms_milli`], of the time of day of the wall clock.
     pub fn to_hms_milli(self) -> (u8, u8, u8, u16)
-        ensures value { let c = wall_time self.wall in result ≡ (hour_of c, minute_of c, second_of c, millisecond_of c) }
-        ensures in_range { IsTimeOfDay result.0 result.1 result.2 (result.3 * nanos_per_millisecond) }
+        ensures value { let c = wall_time self.wall in
+            result ≡ (hour_of c, minute_of c, second_of c, millisecond_of c) }
+        ensures in_range { IsTimeOfDay result.0 result.1 result.2
+            (result.3 * nanos_per_millisecond) }
     {
         self.date_time().as_hms_milli()
     }
 
     /// As [`Time::as_hms_micro`], of the time of day of the wall clock.
     pub fn to_hms_micro(self) -> (u8, u8, u8, u32)
-        ensures value { let c = wall_time self.wall in result ≡ (hour_of c, minute_of c, second_of c, microsecond_of c) }
-        ensures in_range { IsTimeOfDay result.0 result.1 result.2 (result.3 * nanos_per_microsecond) }
+        ensures value { let c = wall_time self.wall in
+            result ≡ (hour_of c, minute_of c, second_of c, microsecond_of c) }
+        ensures in_range { IsTimeOfDay result.0 result.1 result.2
+            (result.3 * nanos_per_microsecond) }
     {
         self.date_time().as_hms_micro()
     }
 
     /// As [`Time::as_hms_nano`], of the time of day of the wall clock.
     pub fn to_hms_nano(self) -> (u8, u8, u8, u32)
-        ensures value { let c = wall_time self.wall in result ≡ (hour_of c, minute_of c, second_of c, nanosecond_of c) }
+        ensures value { let c = wall_time self.wall in
+            result ≡ (hour_of c, minute_of c, second_of c, nanosecond_of c) }
         ensures in_range { IsTimeOfDay result.0 result.1 result.2 result.3 }
     {
         self.date_time().as_hms_nano()

@@ -57,8 +57,10 @@ impl OffsetDateTime {
     pub fn replace_year(self, year: i32) -> Result<OffsetDateTime, ComponentRange>
         ensures value { let n = wall_day self.wall in OkIff result
             (IsDateOfRange year (month_of n) (day_of_month_of n))
-            (local (with_date self.wall (day_of_calendar_date year (month_of n) (day_of_month_of n))) self.offset) }
-        ensures refused { IfErr result (λ refusal. refusal ≡ date_refusal year (day_of_month_of (wall_day self.wall))) }
+            (local (with_date self.wall (day_of_calendar_date year (month_of n)
+            (day_of_month_of n))) self.offset) }
+        ensures refused { IfErr result (λ refusal.
+            refusal ≡ date_refusal year (day_of_month_of (wall_day self.wall))) }
         ensures shown { let n = wall_day self.wall in
             IfOk result (λ at. OnDate self.wall year (month_of n) (day_of_month_of n) at.wall) }
         ensures instant { IfOk result (λ at. SameOffset self at) }
@@ -70,10 +72,12 @@ impl OffsetDateTime {
     pub fn replace_month(self, month: Month) -> Result<OffsetDateTime, ComponentRange>
         ensures value { let n = wall_day self.wall in OkIff result
             (day_of_month_of n ≤ days_in_month (is_leap_year (year_of n)) (month_number month))
-            (local (with_date self.wall (day_of_calendar_date (year_of n) (month_number month) (day_of_month_of n))) self.offset) }
+            (local (with_date self.wall (day_of_calendar_date (year_of n) (month_number month)
+            (day_of_month_of n))) self.offset) }
         ensures refused { IfErr result (λ refusal. refusal ≡ conditional_refusal (codes "day")) }
         ensures shown { let n = wall_day self.wall in
-            IfOk result (λ at. OnDate self.wall (year_of n) (month_number month) (day_of_month_of n) at.wall) }
+            IfOk result (λ at. OnDate self.wall (year_of n) (month_number month)
+            (day_of_month_of n) at.wall) }
         ensures instant { IfOk result (λ at. SameOffset self at) }
     {
         Ok(self.replace_date_time(self.date_time().replace_month(month)?))
@@ -83,8 +87,10 @@ impl OffsetDateTime {
     pub fn replace_day(self, day: u8) -> Result<OffsetDateTime, ComponentRange>
         ensures value { let n = wall_day self.wall in OkIff result
             ((1 ≤ day) × (day ≤ days_in_month (is_leap_year (year_of n)) (month_of n)))
-            (local (with_date self.wall (day_of_calendar_date (year_of n) (month_of n) day)) self.offset) }
-        ensures refused { IfErr result (λ refusal. refusal ≡ date_refusal (year_of (wall_day self.wall)) day) }
+            (local (with_date self.wall (day_of_calendar_date (year_of n) (month_of n) day))
+            self.offset) }
+        ensures refused { IfErr result (λ refusal.
+            refusal ≡ date_refusal (year_of (wall_day self.wall)) day) }
         ensures shown { let n = wall_day self.wall in
             IfOk result (λ at. OnDate self.wall (year_of n) (month_of n) day at.wall) }
         ensures instant { IfOk result (λ at. SameOffset self at) }
@@ -97,7 +103,8 @@ impl OffsetDateTime {
         ensures value { let n = wall_day self.wall in OkIff result
             ((1 ≤ ordinal) × (ordinal ≤ days_in_year (year_of n)))
             (local (with_date self.wall (day_of_ordinal_date (year_of n) ordinal)) self.offset) }
-        ensures refused { IfErr result (λ refusal. refusal ≡ ordinal_refusal (year_of (wall_day self.wall)) ordinal) }
+        ensures refused { IfErr result (λ refusal.
+            refusal ≡ ordinal_refusal (year_of (wall_day self.wall)) ordinal) }
         ensures shown { let n = wall_day self.wall in
             IfOk result (λ at. OnOrdinalDate self.wall (year_of n) ordinal at.wall) }
         ensures instant { IfOk result (λ at. SameOffset self at) }
@@ -121,10 +128,12 @@ impl OffsetDateTime {
     /// As [`Time::replace_hour`], of the time of day of the wall clock, with the date and the offset kept.
     pub fn replace_hour(self, hour: u8) -> Result<OffsetDateTime, ComponentRange>
         ensures value { let c = wall_time self.wall in OkIff result (hour ≤ 23)
-            (local (with_time self.wall (clock_of_parts hour (minute_of c) (second_of c) (nanosecond_of c))) self.offset) }
+            (local (with_time self.wall (clock_of_parts hour (minute_of c) (second_of c)
+            (nanosecond_of c))) self.offset) }
         ensures refused { IfErr result (λ refusal. refusal ≡ outright_refusal (codes "hour")) }
         ensures shown { let c = wall_time self.wall in
-            IfOk result (λ at. AtTime self.wall hour (minute_of c) (second_of c) (nanosecond_of c) at.wall) }
+            IfOk result (λ at. AtTime self.wall hour (minute_of c) (second_of c)
+            (nanosecond_of c) at.wall) }
         ensures instant { IfOk result (λ at. SameOffset self at) }
     {
         Ok(self.replace_date_time(self.date_time().replace_hour(hour)?))
@@ -143,10 +152,12 @@ impl OffsetDateTime {
     /// As [`Time::replace_minute`], of the time of day of the wall clock, with the date and the offset kept.
     pub fn replace_minute(self, minute: u8) -> Result<OffsetDateTime, ComponentRange>
         ensures value { let c = wall_time self.wall in OkIff result (minute ≤ 59)
-            (local (with_time self.wall (clock_of_parts (hour_of c) minute (second_of c) (nanosecond_of c))) self.offset) }
+            (local (with_time self.wall (clock_of_parts (hour_of c) minute (second_of c)
+            (nanosecond_of c))) self.offset) }
         ensures refused { IfErr result (λ refusal. refusal ≡ outright_refusal (codes "minute")) }
         ensures shown { let c = wall_time self.wall in
-            IfOk result (λ at. AtTime self.wall (hour_of c) minute (second_of c) (nanosecond_of c) at.wall) }
+            IfOk result (λ at. AtTime self.wall (hour_of c) minute (second_of c)
+            (nanosecond_of c) at.wall) }
         ensures instant { IfOk result (λ at. SameOffset self at) }
     {
         Ok(self.replace_date_time(self.date_time().replace_minute(minute)?))
@@ -165,10 +176,12 @@ impl OffsetDateTime {
     /// As [`Time::replace_second`], of the time of day of the wall clock, with the date and the offset kept.
     pub fn replace_second(self, second: u8) -> Result<OffsetDateTime, ComponentRange>
         ensures value { let c = wall_time self.wall in OkIff result (second ≤ 59)
-            (local (with_time self.wall (clock_of_parts (hour_of c) (minute_of c) second (nanosecond_of c))) self.offset) }
+            (local (with_time self.wall (clock_of_parts (hour_of c) (minute_of c) second
+            (nanosecond_of c))) self.offset) }
         ensures refused { IfErr result (λ refusal. refusal ≡ outright_refusal (codes "second")) }
         ensures shown { let c = wall_time self.wall in
-            IfOk result (λ at. AtTime self.wall (hour_of c) (minute_of c) second (nanosecond_of c) at.wall) }
+            IfOk result (λ at. AtTime self.wall (hour_of c) (minute_of c) second
+            (nanosecond_of c) at.wall) }
         ensures instant { IfOk result (λ at. SameOffset self at) }
     {
         Ok(self.replace_date_time(self.date_time().replace_second(second)?))
@@ -188,8 +201,10 @@ impl OffsetDateTime {
     /// kept.
     pub fn replace_millisecond(self, millisecond: u16) -> Result<OffsetDateTime, ComponentRange>
         ensures value { let c = wall_time self.wall in OkIff result (millisecond ≤ 999)
-            (local (with_time self.wall (clock_of_parts (hour_of c) (minute_of c) (second_of c) (millisecond * nanos_per_millisecond))) self.offset) }
-        ensures refused { IfErr result (λ refusal. refusal ≡ outright_refusal (codes "millisecond")) }
+            (local (with_time self.wall (clock_of_parts (hour_of c) (minute_of c) (second_of c)
+            (millisecond * nanos_per_millisecond))) self.offset) }
+        ensures refused { IfErr result (λ refusal.
+            refusal ≡ outright_refusal (codes "millisecond")) }
         ensures shown { let c = wall_time self.wall in
             let n = millisecond * nanos_per_millisecond in
             IfOk result (λ at. AtTime self.wall (hour_of c) (minute_of c) (second_of c) n at.wall) }
@@ -212,8 +227,10 @@ impl OffsetDateTime {
     /// kept.
     pub fn replace_microsecond(self, microsecond: u32) -> Result<OffsetDateTime, ComponentRange>
         ensures value { let c = wall_time self.wall in OkIff result (microsecond ≤ 999_999)
-            (local (with_time self.wall (clock_of_parts (hour_of c) (minute_of c) (second_of c) (microsecond * nanos_per_microsecond))) self.offset) }
-        ensures refused { IfErr result (λ refusal. refusal ≡ outright_refusal (codes "microsecond")) }
+            (local (with_time self.wall (clock_of_parts (hour_of c) (minute_of c) (second_of c)
+            (microsecond * nanos_per_microsecond))) self.offset) }
+        ensures refused { IfErr result (λ refusal.
+            refusal ≡ outright_refusal (codes "microsecond")) }
         ensures shown { let c = wall_time self.wall in
             let n = microsecond * nanos_per_microsecond in
             IfOk result (λ at. AtTime self.wall (hour_of c) (minute_of c) (second_of c) n at.wall) }
@@ -236,10 +253,13 @@ impl OffsetDateTime {
     /// kept.
     pub fn replace_nanosecond(self, nanosecond: u32) -> Result<OffsetDateTime, ComponentRange>
         ensures value { let c = wall_time self.wall in OkIff result (nanosecond ≤ 999_999_999)
-            (local (with_time self.wall (clock_of_parts (hour_of c) (minute_of c) (second_of c) nanosecond)) self.offset) }
-        ensures refused { IfErr result (λ refusal. refusal ≡ outright_refusal (codes "nanosecond")) }
+            (local (with_time self.wall (clock_of_parts (hour_of c) (minute_of c)
+            (second_of c) nanosecond)) self.offset) }
+        ensures refused { IfErr result (λ refusal.
+            refusal ≡ outright_refusal (codes "nanosecond")) }
         ensures shown { let c = wall_time self.wall in
-            IfOk result (λ at. AtTime self.wall (hour_of c) (minute_of c) (second_of c) nanosecond at.wall) }
+            IfOk result (λ at. AtTime self.wall (hour_of c) (minute_of c)
+            (second_of c) nanosecond at.wall) }
         ensures instant { IfOk result (λ at. SameOffset self at) }
     {
         Ok(self.replace_date_time(self.date_time().replace_nanosecond(nanosecond)?))

@@ -14,7 +14,8 @@ impl OffsetDateTime {
     /// clock would be outside the range; whether the instant lies in it does not matter.
     #[tactic(auto, using(crate::specs::InstantLemmas::instants))]
     pub fn checked_add(self, duration: SignedDuration) -> Option<OffsetDateTime>
-        ensures value { let wall = self.wall +ℤ duration in SomeIff result (IsWallClock wall) (local wall self.offset) }
+        ensures value { let wall = self.wall +ℤ duration in
+            SomeIff result (IsWallClock wall) (local wall self.offset) }
         ensures instant { IfSome result (λ at. instant_of at ≡ instant_of self +ℤ duration) }
     {
         Some(self.replace_date_time(self.date_time().checked_add(duration)?))
@@ -24,7 +25,8 @@ impl OffsetDateTime {
     /// clock would be outside the range; whether the instant lies in it does not matter.
     #[tactic(auto, using(crate::specs::InstantLemmas::instants))]
     pub fn checked_sub(self, duration: SignedDuration) -> Option<OffsetDateTime>
-        ensures value { let wall = self.wall -ℤ duration in SomeIff result (IsWallClock wall) (local wall self.offset) }
+        ensures value { let wall = self.wall -ℤ duration in
+            SomeIff result (IsWallClock wall) (local wall self.offset) }
         ensures instant { IfSome result (λ at. instant_of at ≡ instant_of self -ℤ duration) }
     {
         Some(self.replace_date_time(self.date_time().checked_sub(duration)?))
@@ -34,8 +36,10 @@ impl OffsetDateTime {
     /// whether the instant lies in it does not matter.
     #[tactic(auto, using(crate::specs::InstantLemmas::instants))]
     pub fn checked_add_std(self, duration: Duration) -> Option<OffsetDateTime>
-        ensures value { let wall = self.wall +ℤ pos (as_nanos duration) in SomeIff result (IsWallClock wall) (local wall self.offset) }
-        ensures instant { IfSome result (λ at. instant_of at ≡ instant_of self +ℤ pos (as_nanos duration)) }
+        ensures value { let wall = self.wall +ℤ pos (as_nanos duration) in
+            SomeIff result (IsWallClock wall) (local wall self.offset) }
+        ensures instant { IfSome result (λ at.
+            instant_of at ≡ instant_of self +ℤ pos (as_nanos duration)) }
     {
         Some(self.replace_date_time(self.date_time().checked_add_std(duration)?))
     }
@@ -44,8 +48,10 @@ impl OffsetDateTime {
     /// whether the instant lies in it does not matter.
     #[tactic(auto, using(crate::specs::InstantLemmas::instants))]
     pub fn checked_sub_std(self, duration: Duration) -> Option<OffsetDateTime>
-        ensures value { let wall = self.wall -ℤ pos (as_nanos duration) in SomeIff result (IsWallClock wall) (local wall self.offset) }
-        ensures instant { IfSome result (λ at. instant_of at ≡ instant_of self -ℤ pos (as_nanos duration)) }
+        ensures value { let wall = self.wall -ℤ pos (as_nanos duration) in
+            SomeIff result (IsWallClock wall) (local wall self.offset) }
+        ensures instant { IfSome result (λ at.
+            instant_of at ≡ instant_of self -ℤ pos (as_nanos duration)) }
     {
         Some(self.replace_date_time(self.date_time().checked_sub_std(duration)?))
     }

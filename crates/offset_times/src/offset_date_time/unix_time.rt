@@ -13,7 +13,8 @@ impl OffsetDateTime {
     /// The instant of a Unix second, in UTC. Refused `timestamp` before that of [`UtcDateTime::MIN`] or after
     /// that of [`UtcDateTime::MAX`].
     pub fn from_unix_timestamp(timestamp: i64) -> Result<OffsetDateTime, ComponentRange>
-        ensures value { let i = instant_of_second timestamp in OkIff result (IsWallClock i) (local i (pos 0)) }
+        ensures value { let i = instant_of_second timestamp in
+            OkIff result (IsWallClock i) (local i (pos 0)) }
         ensures instant { IfOk result (λ at. instant_of at ≡ instant_of_second timestamp) }
         ensures refused { IfErr result (λ refusal. refusal ≡ outright_refusal (codes "timestamp")) }
     {

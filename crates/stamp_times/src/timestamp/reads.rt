@@ -198,8 +198,10 @@ impl Timestamp {
 
     /// As [`Time::as_hms_milli`], of the time of day in UTC.
     pub fn as_hms_milli(self) -> (u8, u8, u8, u16)
-        ensures value { let c = wall_time self in result ≡ (hour_of c, minute_of c, second_of c, millisecond_of c) }
-        ensures in_range { IsTimeOfDay result.0 result.1 result.2 (result.3 * nanos_per_millisecond) }
+        ensures value { let c = wall_time self in
+            result ≡ (hour_of c, minute_of c, second_of c, millisecond_of c) }
+        ensures in_range { IsTimeOfDay result.0 result.1 result.2
+            (result.3 * nanos_per_millisecond) }
     {
         let (hour, minute, second) = self.as_hms();
         (hour, minute, second, self.millisecond())
@@ -207,8 +209,10 @@ impl Timestamp {
 
     /// As [`Time::as_hms_micro`], of the time of day in UTC.
     pub fn as_hms_micro(self) -> (u8, u8, u8, u32)
-        ensures value { let c = wall_time self in result ≡ (hour_of c, minute_of c, second_of c, microsecond_of c) }
-        ensures in_range { IsTimeOfDay result.0 result.1 result.2 (result.3 * nanos_per_microsecond) }
+        ensures value { let c = wall_time self in
+            result ≡ (hour_of c, minute_of c, second_of c, microsecond_of c) }
+        ensures in_range { IsTimeOfDay result.0 result.1 result.2
+            (result.3 * nanos_per_microsecond) }
     {
         let (hour, minute, second) = self.as_hms();
         (hour, minute, second, self.microsecond())
@@ -216,7 +220,8 @@ impl Timestamp {
 
     /// As [`Time::as_hms_nano`], of the time of day in UTC.
     pub fn as_hms_nano(self) -> (u8, u8, u8, u32)
-        ensures value { let c = wall_time self in result ≡ (hour_of c, minute_of c, second_of c, nanosecond_of c) }
+        ensures value { let c = wall_time self in
+            result ≡ (hour_of c, minute_of c, second_of c, nanosecond_of c) }
         ensures in_range { IsTimeOfDay result.0 result.1 result.2 result.3 }
     {
         let (hour, minute, second) = self.as_hms();

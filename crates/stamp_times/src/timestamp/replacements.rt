@@ -49,7 +49,8 @@ impl Timestamp {
         ensures value { let n = wall_day self in OkIff result
             (IsDateOfRange year (month_of n) (day_of_month_of n))
             (with_date self (day_of_calendar_date year (month_of n) (day_of_month_of n))) }
-        ensures refused { IfErr result (λ refusal. refusal ≡ date_refusal year (day_of_month_of (wall_day self))) }
+        ensures refused { IfErr result (λ refusal.
+            refusal ≡ date_refusal year (day_of_month_of (wall_day self))) }
         ensures shown { let n = wall_day self in
             IfOk result (OnDate self year (month_of n) (day_of_month_of n)) }
         ensures equation { result ≡ keeping_time self (with_year (wall_day self) year) }
@@ -62,11 +63,13 @@ impl Timestamp {
     pub fn replace_month(self, month: Month) -> Result<Timestamp, ComponentRange>
         ensures value { let n = wall_day self in OkIff result
             (day_of_month_of n ≤ days_in_month (is_leap_year (year_of n)) (month_number month))
-            (with_date self (day_of_calendar_date (year_of n) (month_number month) (day_of_month_of n))) }
+            (with_date self (day_of_calendar_date (year_of n) (month_number month)
+            (day_of_month_of n))) }
         ensures refused { IfErr result (λ refusal. refusal ≡ conditional_refusal (codes "day")) }
         ensures shown { let n = wall_day self in
             IfOk result (OnDate self (year_of n) (month_number month) (day_of_month_of n)) }
-        ensures equation { result ≡ keeping_time self (with_month (wall_day self) (month_number month)) }
+        ensures equation { result ≡ keeping_time self
+            (with_month (wall_day self) (month_number month)) }
     {
         Ok(self.replace_date(self.date().replace_month(month)?))
     }
@@ -77,7 +80,8 @@ impl Timestamp {
         ensures value { let n = wall_day self in OkIff result
             ((1 ≤ day) × (day ≤ days_in_month (is_leap_year (year_of n)) (month_of n)))
             (with_date self (day_of_calendar_date (year_of n) (month_of n) day)) }
-        ensures refused { IfErr result (λ refusal. refusal ≡ date_refusal (year_of (wall_day self)) day) }
+        ensures refused { IfErr result (λ refusal.
+            refusal ≡ date_refusal (year_of (wall_day self)) day) }
         ensures shown { let n = wall_day self in
             IfOk result (OnDate self (year_of n) (month_of n) day) }
         ensures equation { result ≡ keeping_time self (with_day (wall_day self) day) }
@@ -91,7 +95,8 @@ impl Timestamp {
         ensures value { let n = wall_day self in OkIff result
             ((1 ≤ ordinal) × (ordinal ≤ days_in_year (year_of n)))
             (with_date self (day_of_ordinal_date (year_of n) ordinal)) }
-        ensures refused { IfErr result (λ refusal. refusal ≡ ordinal_refusal (year_of (wall_day self)) ordinal) }
+        ensures refused { IfErr result (λ refusal.
+            refusal ≡ ordinal_refusal (year_of (wall_day self)) ordinal) }
         ensures shown { let n = wall_day self in
             IfOk result (OnOrdinalDate self (year_of n) ordinal) }
         ensures equation { result ≡ keeping_time self (with_ordinal (wall_day self) ordinal) }
@@ -143,12 +148,15 @@ impl Timestamp {
     #[tactic(auto, unfolding(plain_times::specs::Replacements::keeping_day))]
     pub fn replace_millisecond(self, millisecond: u16) -> Result<Timestamp, ComponentRange>
         ensures value { let c = wall_time self in OkIff result (millisecond ≤ 999)
-            (with_time self (clock_of_parts (hour_of c) (minute_of c) (second_of c) (millisecond * nanos_per_millisecond))) }
-        ensures refused { IfErr result (λ refusal. refusal ≡ outright_refusal (codes "millisecond")) }
+            (with_time self (clock_of_parts (hour_of c) (minute_of c) (second_of c)
+            (millisecond * nanos_per_millisecond))) }
+        ensures refused { IfErr result (λ refusal.
+            refusal ≡ outright_refusal (codes "millisecond")) }
         ensures shown { let c = wall_time self in
             let n = millisecond * nanos_per_millisecond in
             IfOk result (AtTime self (hour_of c) (minute_of c) (second_of c) n) }
-        ensures equation { result ≡ keeping_day self (with_millisecond (wall_time self) millisecond) }
+        ensures equation { result ≡ keeping_day self
+            (with_millisecond (wall_time self) millisecond) }
     {
         if millisecond > 999 {
             return Err(ComponentRange::new("millisecond", false));
@@ -161,12 +169,15 @@ impl Timestamp {
     #[tactic(auto, unfolding(plain_times::specs::Replacements::keeping_day))]
     pub fn replace_microsecond(self, microsecond: u32) -> Result<Timestamp, ComponentRange>
         ensures value { let c = wall_time self in OkIff result (microsecond ≤ 999_999)
-            (with_time self (clock_of_parts (hour_of c) (minute_of c) (second_of c) (microsecond * nanos_per_microsecond))) }
-        ensures refused { IfErr result (λ refusal. refusal ≡ outright_refusal (codes "microsecond")) }
+            (with_time self (clock_of_parts (hour_of c) (minute_of c) (second_of c)
+            (microsecond * nanos_per_microsecond))) }
+        ensures refused { IfErr result (λ refusal.
+            refusal ≡ outright_refusal (codes "microsecond")) }
         ensures shown { let c = wall_time self in
             let n = microsecond * nanos_per_microsecond in
             IfOk result (AtTime self (hour_of c) (minute_of c) (second_of c) n) }
-        ensures equation { result ≡ keeping_day self (with_microsecond (wall_time self) microsecond) }
+        ensures equation { result ≡ keeping_day self
+            (with_microsecond (wall_time self) microsecond) }
     {
         if microsecond > 999_999 {
             return Err(ComponentRange::new("microsecond", false));
@@ -180,7 +191,8 @@ impl Timestamp {
     pub fn replace_nanosecond(self, nanosecond: u32) -> Result<Timestamp, ComponentRange>
         ensures value { let c = wall_time self in OkIff result (nanosecond ≤ 999_999_999)
             (with_time self (clock_of_parts (hour_of c) (minute_of c) (second_of c) nanosecond)) }
-        ensures refused { IfErr result (λ refusal. refusal ≡ outright_refusal (codes "nanosecond")) }
+        ensures refused { IfErr result (λ refusal.
+            refusal ≡ outright_refusal (codes "nanosecond")) }
         ensures shown { let c = wall_time self in
             IfOk result (AtTime self (hour_of c) (minute_of c) (second_of c) nanosecond) }
         ensures equation { result ≡ keeping_day self (with_nanosecond (wall_time self) nanosecond) }

@@ -32,7 +32,8 @@ impl Timestamp {
 
     /// The instant so much later. None outside the range.
     pub fn checked_add_std(self, duration: Duration) -> Option<Timestamp>
-        ensures { SomeIff result (IsWallClock (self +ℤ pos (as_nanos duration))) (self +ℤ pos (as_nanos duration)) }
+        ensures { SomeIff result (IsWallClock (self +ℤ pos (as_nanos duration)))
+            (self +ℤ pos (as_nanos duration)) }
     {
         let seconds = self.as_seconds().checked_add_unsigned(duration.as_secs())?;
         carried(seconds, self.nanosecond(), duration.subsec_nanos() as i32)
@@ -40,7 +41,8 @@ impl Timestamp {
 
     /// The instant so much earlier. None outside the range.
     pub fn checked_sub_std(self, duration: Duration) -> Option<Timestamp>
-        ensures { SomeIff result (IsWallClock (self -ℤ pos (as_nanos duration))) (self -ℤ pos (as_nanos duration)) }
+        ensures { SomeIff result (IsWallClock (self -ℤ pos (as_nanos duration)))
+            (self -ℤ pos (as_nanos duration)) }
     {
         let seconds = self.as_seconds().checked_sub_unsigned(duration.as_secs())?;
         carried(
@@ -103,7 +105,8 @@ impl Timestamp {
 fn carried(seconds: i64, nanosecond: u32, change: i32) -> Option<Timestamp>
     requires nanosecond { nanosecond < nanos_per_second }
     requires change { unsigned_abs change < nanos_per_second }
-    ensures { let sum = instant_of_parts seconds nanosecond +ℤ change in SomeIff result (IsWallClock sum) sum }
+    ensures { let sum = instant_of_parts seconds nanosecond +ℤ change in
+        SomeIff result (IsWallClock sum) sum }
 {
     let nanoseconds = nanosecond as i32 + change;
     if nanoseconds < 0 {
@@ -124,7 +127,8 @@ fn carried(seconds: i64, nanosecond: u32, change: i32) -> Option<Timestamp>
 // The instant of a second and a nanosecond of that second, if the range has it.
 fn at(seconds: i64, nanosecond: u32) -> Option<Timestamp>
     requires { nanosecond < nanos_per_second }
-    ensures { SomeIff result (IsWallClock (instant_of_parts seconds nanosecond)) (instant_of_parts seconds nanosecond) }
+    ensures { SomeIff result (IsWallClock (instant_of_parts seconds nanosecond))
+        (instant_of_parts seconds nanosecond) }
 {
     if seconds < FIRST_SECOND || seconds > LAST_SECOND {
         return None;

@@ -89,7 +89,8 @@ impl Sub<Duration> for UtcDateTime {
 impl SubAssign<Duration> for UtcDateTime {
     ghost can_sub_assign = { λ at duration. IsWallClock (at -ℤ pos (as_nanos duration)) };
 
-    ghost sub_assign_gives = { λ at duration difference. difference ≡ at -ℤ pos (as_nanos duration) };
+    ghost sub_assign_gives = { λ at duration difference.
+        difference ≡ at -ℤ pos (as_nanos duration) };
 
     fn sub_assign(&mut self, duration: Duration) {
         *self = *self - duration;

@@ -6,4 +6,5 @@ pub returns-clause-day : goal.returns-clause-day
 returns-clause-day c =
     let fits : FitsSigned w32 c.year_from_first_cycle.result = search rules in
     let counted = rw (to_z-of_z c.ranges.day) at c.days_from_first_cycle-day.ensures.value in
-    rw (to_z-of_z fits) (day_of_ordinal_date-cycle c.args.day c.year_from_first_cycle.result _ _ _ counted c.year_from_first_cycle.ensures c.year_and_ordinal_in_cycle-year.ensures.day)
+    rw (to_z-of_z fits) (day_of_ordinal_date-cycle c.args.day c.year_from_first_cycle.result _ _ _ counted c.year_from_first_cycle.ensures
+    c.year_and_ordinal_in_cycle-year.ensures.day)

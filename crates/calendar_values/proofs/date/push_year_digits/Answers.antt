@@ -7,4 +7,5 @@ returns-then-year-lt10000-clause-text c =
 
 pub returns-else-year-lt10000-clause-text : goal.returns-else-year-lt10000-clause-text
 returns-else-year-lt10000-clause-text c =
-    year_digits-pushed_long _ _ _ c.args.year c.if-year-lt10000.false c.requires.year c.push_short_decimal.ensures.value c.push_four_digits-else-year-lt10000.ensures.value
+    year_digits-pushed_long _ _ _ c.args.year c.if-year-lt10000.false c.requires.year c.push_short_decimal.ensures.value
+    c.push_four_digits-else-year-lt10000.ensures.value

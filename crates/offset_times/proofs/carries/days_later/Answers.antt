@@ -7,7 +7,13 @@ use Rattle.offset_times.proofs.carries.days_later.Goals as goal
 pub returns-then-moved-lt1-clause-day : goal.returns-then-moved-lt1-clause-day
 returns-then-moved-lt1-clause-day c =
     let length = rw (year_before c.args.year c.requires.year) at c.length_of_year.ensures.value in
-    rw (year_before c.args.year c.requires.year) (omega (arith, signed_casts, days_in_year_bounds c.args.year, days_in_year_bounds (c.args.year -ℤ pos 1), year_start-previous c.args.year))
+    rw (year_before c.args.year c.requires.year) (omega (
+      arith,
+      signed_casts,
+      days_in_year_bounds c.args.year,
+      days_in_year_bounds (c.args.year -ℤ pos 1),
+      year_start-previous c.args.year,
+    ))
 
 pub returns-clause-date : goal.returns-clause-date
 returns-clause-date c =

@@ -8,7 +8,8 @@ use Rattle.offset_times.proofs.carries.utc_to_offset_raw.Goals as goal
 
 pub returns-clause-shown : goal.returns-clause-shown
 returns-clause-shown c =
-    let moved = wall_clock-shown c.as_plain.result (day_of_ordinal_date c.moved.result.0 c.moved.result.1) c.moved.result.2 (pos 0) c.args.offset c.moved.ensures.day_step c.moved.ensures.carried in
+    let moved = wall_clock-shown c.as_plain.result (day_of_ordinal_date c.moved.result.0 c.moved.result.1) c.moved.result.2
+    (pos 0) c.args.offset c.moved.ensures.day_step c.moved.ensures.carried in
     omega (arith, ints)
 
 pub returns-clause-within : goal.returns-clause-within

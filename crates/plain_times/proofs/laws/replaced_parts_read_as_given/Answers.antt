@@ -25,6 +25,8 @@ returns c =
       minute = λ w v n e. (shown w v _ _ _ _ _ (λ c. clocks.minute (wall_time w) n c (IsClock-wall_time w)) e).minute;
       second = λ w v n e. (shown w v _ _ _ _ _ (λ c. clocks.second (wall_time w) n c (IsClock-wall_time w)) e).second;
       nanosecond = λ w v n e. (shown w v _ _ _ _ _ (λ c. clocks.nanosecond (wall_time w) n c (IsClock-wall_time w)) e).nanosecond;
-      millisecond = λ w v n e. millisecond_of-exact (wall_time v) n (shown w v _ _ _ _ _ (λ c. clocks.millisecond (wall_time w) n c (IsClock-wall_time w)) e).nanosecond;
-      microsecond = λ w v n e. microsecond_of-exact (wall_time v) n (shown w v _ _ _ _ _ (λ c. clocks.microsecond (wall_time w) n c (IsClock-wall_time w)) e).nanosecond;
+      millisecond = λ w v n e. millisecond_of-exact (wall_time v) n (shown w v _ _ _ _ _ (λ c.
+          clocks.millisecond (wall_time w) n c (IsClock-wall_time w)) e).nanosecond;
+      microsecond = λ w v n e. microsecond_of-exact (wall_time v) n (shown w v _ _ _ _ _ (λ c.
+          clocks.microsecond (wall_time w) n c (IsClock-wall_time w)) e).nanosecond;
     }

@@ -5,7 +5,9 @@ use Rattle.calendar_values.specs.SignedArith.{signed_casts}
 use Rattle.calendar_values.specs.WallClock.{wall_day}
 use Rattle.rfc3339.proofs.WriteLemmas.{written}
 use Rattle.rfc3339.proofs.write.text_of.Goals as goal
-use Rattle.rfc3339.proofs.write.text_of.Goals.{then-year-lt0-via-then-year-lt0, then-year-lt0-via-else-year-lt0+then-year-gt9999, then-year-lt0-via-else-year-lt0+else-year-gt9999+then-size-ne0, then-year-lt0-via-else-year-lt0+else-year-gt9999+else-size-ne0+then-size-ge86400}
+use Rattle.rfc3339.proofs.write.text_of.Goals.{then-year-lt0-via-then-year-lt0, then-year-lt0-via-else-year-lt0+then-year-gt9999}
+use Rattle.rfc3339.proofs.write.text_of.Goals.{then-year-lt0-via-else-year-lt0+else-year-gt9999+then-size-ne0}
+use Rattle.rfc3339.proofs.write.text_of.Goals.{then-year-lt0-via-else-year-lt0+else-year-gt9999+else-size-ne0+then-size-ge86400}
 
 pub returns-then-year-lt0-clause-text : goal.returns-then-year-lt0-clause-text
 returns-then-year-lt0-clause-text c h =

@@ -1,6 +1,7 @@
 use Rattle.std.proofs.Common.{◌≡◌, ◌∙◌, sym, rules, w32, to_z, of_z}
 use Rattle.stamp_times.specs.Reciprocal.{shifted_day, step_year, step_leap, step_ordinal}
-use Rattle.stamp_times.proofs.ReciprocalLemmas.{year_of-step, is_leap_year-step, ordinal_of-step, IsOrdinalDateOfRange-found, day_of_ordinal_date-found, IsInRange-found}
+use Rattle.stamp_times.proofs.ReciprocalLemmas.{year_of-step, is_leap_year-step, ordinal_of-step, IsOrdinalDateOfRange-found, day_of_ordinal_date-found}
+use Rattle.stamp_times.proofs.ReciprocalLemmas.{IsInRange-found}
 use Rattle.stamp_times.proofs.reciprocal.year_leap_ordinal.Goals as goal
 
 pub returns-clause-year : goal.returns-clause-year

@@ -5,5 +5,6 @@ use Rattle.calendar_values.proofs.date.DateSub.sub.Goals as goal
 
 pub returns : goal.returns
 returns c =
-    let days : to_z w64 (of_z w64 (to_z w64 (of_z w64 (to_z w32 (of_z w32 c.day_number.result))) -ℤ to_z w64 (of_z w64 (to_z w32 (of_z w32 c.day_number-2.result))))) ≡ c.args.self -ℤ c.args.other = omega (arith, signed_arith) in
+    let days : to_z w64 (of_z w64 (to_z w64 (of_z w64 (to_z w32 (of_z w32 c.day_number.result))) -ℤ
+    to_z w64 (of_z w64 (to_z w32 (of_z w32 c.day_number-2.result))))) ≡ c.args.self -ℤ c.args.other = omega (arith, signed_arith) in
     c.days.ensures ∙ ap (λ (d : ℤ). d *ℤ pos nanos_per_day) days

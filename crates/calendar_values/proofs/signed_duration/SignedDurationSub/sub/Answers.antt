@@ -30,12 +30,14 @@ pub new-requires-in-None : goal.new-requires-in-None
 new-requires-in-None c =
     let s : FitsSigned w64 c.self.inside.seconds = search rules in
     let t : FitsSigned w64 c.other.inside.seconds = search rules in
-    let difference = duration_of_parts-borrowed _ _ _ _ s t c.self.invariant c.other.invariant (rw (c.self.view_is, c.other.view_is) c.requires) c.in-None.ensures in
+    let difference = duration_of_parts-borrowed _ _ _ _ s t c.self.invariant c.other.invariant
+    (rw (c.self.view_is, c.other.view_is) c.requires) c.in-None.ensures in
     rw (difference, c.self.view_is, c.other.view_is) c.requires
 
 pub returns-in-None : goal.returns-in-None
 returns-in-None c =
     let s : FitsSigned w64 c.self.inside.seconds = search rules in
     let t : FitsSigned w64 c.other.inside.seconds = search rules in
-    let difference = duration_of_parts-borrowed _ _ _ _ s t c.self.invariant c.other.invariant (rw (c.self.view_is, c.other.view_is) c.requires) c.in-None.ensures in
+    let difference = duration_of_parts-borrowed _ _ _ _ s t c.self.invariant c.other.invariant
+    (rw (c.self.view_is, c.other.view_is) c.requires) c.in-None.ensures in
     c.new-in-None.ensures ∙ rw (difference, c.self.view_is, c.other.view_is)

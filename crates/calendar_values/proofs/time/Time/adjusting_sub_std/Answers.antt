@@ -11,7 +11,8 @@ use Rattle.calendar_values.specs.declared.date_adjustment.DateAdjustment.TheVari
 use Rattle.calendar_values.proofs.time.Time.adjusting_sub_std.Goals as goal
 
 -- an earlier time is not on the next day
-earlier : (adjustment : DateAdjustment) (changes : Bool) (c d t : ℕ) → changes ≡ sameb the_type adjustment Previous → wall_clock (adjustment_days adjustment) t ≡ pos c -ℤ pos d → IsClock c → wall_clock (days_earlier changes) t ≡ pos c -ℤ pos d
+earlier : (adjustment : DateAdjustment) (changes : Bool) (c d t : ℕ) → changes ≡ sameb the_type adjustment Previous →
+    wall_clock (adjustment_days adjustment) t ≡ pos c -ℤ pos d → IsClock c → wall_clock (days_earlier changes) t ≡ pos c -ℤ pos d
 earlier Previous changes c d t is sum clock = rw is sum
 earlier Same changes c d t is sum clock = rw is sum
 earlier Next changes c d t is sum clock = absurd (omega (arith, ints))

@@ -20,6 +20,7 @@ returns-clause-text c =
     let hours = simp to_z-of_z at c.unsigned_abs.ensures.value in
     let minutes = simp to_z-of_z at c.unsigned_abs-2.ensures.value in
     let seconds = simp to_z-of_z at c.unsigned_abs-3.ensures.value in
-    let shown : offset_text c.args.self ≡ sign_text c.args.self ++ last_digits 2 (unsigned_abs c.self.inside.hours) ++ codes ":" ++ last_digits 2 (unsigned_abs c.self.inside.minutes) ++ codes ":" ++ last_digits 2 (unsigned_abs c.self.inside.seconds) =
+    let shown : offset_text c.args.self ≡ sign_text c.args.self ++ last_digits 2 (unsigned_abs c.self.inside.hours) ++ codes ":" ++
+    last_digits 2 (unsigned_abs c.self.inside.minutes) ++ codes ":" ++ last_digits 2 (unsigned_abs c.self.inside.seconds) =
     rw (← c.self.view_is) (offset_text-parts _ _ _ c.self.invariant) in
     rw (c.push_part-3.ensures.value, c.push_part-2.ensures.value, c.push_part.ensures.value, hours, minutes, seconds, shown, ← mark) (simp append_assoc refl)

@@ -14,4 +14,6 @@ invariant_of-result c =
     let minutes = simp to_z-of_z at c.with_sign_of.ensures in
     let seconds = simp to_z-of_z at c.with_sign_of-2.ensures in
     let seconds' = simp to_z-of_z at c.with_sign_of-3.ensures in
-    simp to_z-of_z (rw (minutes, seconds', seconds) (IsOffsetParts-with_sign_of c.args.hours c.args.minutes c.args.seconds (omega (arith, signed_arith, one_part c.args.hours)) (omega (arith, signed_arith, one_part c.args.minutes)) (omega (arith, signed_arith, one_part c.args.seconds))))
+    simp to_z-of_z (rw (minutes, seconds', seconds) (IsOffsetParts-with_sign_of c.args.hours c.args.minutes c.args.seconds
+    (omega (arith, signed_arith, one_part c.args.hours)) (omega (arith, signed_arith, one_part c.args.minutes))
+    (omega (arith, signed_arith, one_part c.args.seconds))))

@@ -22,4 +22,5 @@ pub returns-clause-equation : goal.returns-clause-equation
 returns-clause-equation c =
     let o = c.args.seconds in
     let in_range : IsOffset o = (omega (arith, signed_arith), omega (arith, signed_arith)) in
-    rw (computed_hours o in_range, computed_minutes o in_range, computed_seconds o in_range) (ap Ok (seconds_of_parts-of o) ∙ sym (offset_of_seconds-in o in_range))
+    rw (computed_hours o in_range, computed_minutes o in_range, computed_seconds o in_range)
+    (ap Ok (seconds_of_parts-of o) ∙ sym (offset_of_seconds-in o in_range))

@@ -36,5 +36,6 @@ returns-clause-value c =
     let hours : FitsSigned w32 (c.self.inside.hours *ℤ pos 3_600) = omega (arith, signed_arith) in
     let minutes : FitsSigned w32 (c.self.inside.minutes *ℤ pos 60) = omega (arith, signed_arith) in
     let sum : FitsSigned w32 ((c.self.inside.hours *ℤ pos 3_600) +ℤ (c.self.inside.minutes *ℤ pos 60)) = omega (arith, signed_arith) in
-    let all : FitsSigned w32 (((c.self.inside.hours *ℤ pos 3_600) +ℤ (c.self.inside.minutes *ℤ pos 60)) +ℤ c.self.inside.seconds) = omega (arith, signed_arith) in
+    let all : FitsSigned w32 (((c.self.inside.hours *ℤ pos 3_600) +ℤ (c.self.inside.minutes *ℤ pos 60)) +ℤ c.self.inside.seconds) =
+    omega (arith, signed_arith) in
     simp to_z-of_z c.self.view_is

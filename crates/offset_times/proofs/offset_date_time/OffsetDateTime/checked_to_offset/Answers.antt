@@ -10,12 +10,15 @@ use Rattle.offset_times.proofs.offset_date_time.OffsetDateTime.checked_to_offset
 pub returns-then-eq-clause-value : goal.returns-then-eq-clause-value
 returns-then-eq-clause-value c =
     let same = (signed_Decides c.offset.result c.args.offset).0 (sym c.if-eq.ensures) in
-    let own : c.args.self.offset ≡ c.args.offset = sym c.offset.ensures.value ∙ same in
-    (subst (λ (w : ℤ). IsWallClock w) (sym (shown_at-own c.args.self c.args.offset own)) c.offset.ensures.in_range.0, sym (local_at-own c.args.self c.args.offset own))
+    let own : c.args.self.offset ≡ c.args.offset = sym c.offset.ensures.value ∙ same in (
+      subst (λ (w : ℤ). IsWallClock w) (sym (shown_at-own c.args.self c.args.offset own)) c.offset.ensures.in_range.0,
+      sym (local_at-own c.args.self c.args.offset own),
+    )
 
 pub returns-in_err-in_range-clause-value : goal.returns-in_err-in_range-clause-value
 returns-in_err-in_range-clause-value c =
-    let shown : wall_clock (day_of_ordinal_date (to_z w32 (of_z w32 c.to_offset_raw-year.result.0)) c.to_offset_raw-year.result.1) c.to_offset_raw-year.result.2 ≡ shown_at (instant_of c.args.self) c.args.offset = search rules in
+    let shown : wall_clock (day_of_ordinal_date (to_z w32 (of_z w32 c.to_offset_raw-year.result.0)) c.to_offset_raw-year.result.1) c.to_offset_raw-year.result.2
+    ≡ shown_at (instant_of c.args.self) c.args.offset = search rules in
     rw c.from_residual.ensures (λ in_range. c.in_err-in_range.ensures (subst (λ (w : ℤ). IsWallClock w) (sym shown) in_range))
 
 pub returns-clause-instant : goal.returns-clause-instant

@@ -6,5 +6,6 @@ use Rattle.offset_times.proofs.offset_date_time.OffsetDateTime.checked_to_utc.Go
 
 pub returns-in_err-in_range : goal.returns-in_err-in_range
 returns-in_err-in_range c =
-    let shown : wall_clock (day_of_ordinal_date (to_z w32 (of_z w32 c.to_utc_raw-year.result.0)) c.to_utc_raw-year.result.1) c.to_utc_raw-year.result.2 ≡ instant_of c.args.self = search rules in
+    let shown : wall_clock (day_of_ordinal_date (to_z w32 (of_z w32 c.to_utc_raw-year.result.0)) c.to_utc_raw-year.result.1) c.to_utc_raw-year.result.2 ≡
+    instant_of c.args.self = search rules in
     rw c.from_residual.ensures (λ in_range. c.in_err-in_range.ensures (subst (λ (w : ℤ). IsWallClock w) (sym shown) in_range))

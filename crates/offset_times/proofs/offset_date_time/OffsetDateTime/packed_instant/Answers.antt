@@ -10,4 +10,5 @@ returns c =
     let raw = c.to_utc_raw-year.ensures in
     let year : to_z w32 (of_z w32 c.to_utc_raw-year.result.0) ≡ c.to_utc_raw-year.result.0 = search rules in
     let back : to_z w128 (of_z w128 c.packed.result) ≡ c.packed.result = search rules in
-    back ∙ c.packed.ensures ∙ ap (λ (y : ℤ). packed_parts y c.to_utc_raw-year.result.1 c.to_utc_raw-year.result.2) year ∙ packed_parts-is (instant_of c.args.self) c.to_utc_raw-year.result.0 c.to_utc_raw-year.result.1 c.to_utc_raw-year.result.2 raw.date raw.clock raw.shown
+    back ∙ c.packed.ensures ∙ ap (λ (y : ℤ). packed_parts y c.to_utc_raw-year.result.1 c.to_utc_raw-year.result.2) year ∙
+    packed_parts-is (instant_of c.args.self) c.to_utc_raw-year.result.0 c.to_utc_raw-year.result.1 c.to_utc_raw-year.result.2 raw.date raw.clock raw.shown

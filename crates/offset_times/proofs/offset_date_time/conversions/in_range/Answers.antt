@@ -9,8 +9,11 @@ use Rattle.offset_times.proofs.offset_date_time.conversions.in_range.Goals as go
 pub returns-in-Ok : goal.returns-in-Ok
 returns-in-Ok c =
     let year = rw (to_z-of_z c.ranges.year) at c.in-Ok.ensures.value.0.0 in
-    let day = rw (to_z-of_z c.ranges.year) at c.in-Ok.ensures.value.1 in
-    (IsWallClock-wall_clock (day_of_ordinal_date c.args.year c.args.ordinal) c.args.time c.requires.clock (IsDay-ordinal_date c.args.year c.args.ordinal year c.requires.date), c.new.ensures ∙ ap (λ (n : ℤ). wall_clock n c.args.time) day)
+    let day = rw (to_z-of_z c.ranges.year) at c.in-Ok.ensures.value.1 in (
+      IsWallClock-wall_clock (day_of_ordinal_date c.args.year c.args.ordinal) c.args.time c.requires.clock
+          (IsDay-ordinal_date c.args.year c.args.ordinal year c.requires.date),
+      c.new.ensures ∙ ap (λ (n : ℤ). wall_clock n c.args.time) day,
+    )
 
 pub returns-in-Err : goal.returns-in-Err
 returns-in-Err c = λ in_range.

@@ -23,7 +23,8 @@ returns-then-is_utc-clause-value c =
 
 pub returns-in_err-in_range-clause-value : goal.returns-in_err-in_range-clause-value
 returns-in_err-in_range-clause-value c =
-    let shown : wall_clock (day_of_ordinal_date (to_z w32 (of_z w32 c.utc_to_offset_raw-year.result.0)) c.utc_to_offset_raw-year.result.1) c.utc_to_offset_raw-year.result.2 ≡ shown_at c.args.self c.args.offset = search rules in
+    let shown : wall_clock (day_of_ordinal_date (to_z w32 (of_z w32 c.utc_to_offset_raw-year.result.0)) c.utc_to_offset_raw-year.result.1)
+    c.utc_to_offset_raw-year.result.2 ≡ shown_at c.args.self c.args.offset = search rules in
     rw c.from_residual.ensures (λ in_range. c.in_err-in_range.ensures (subst (λ (w : ℤ). IsWallClock w) (sym shown) in_range))
 
 pub returns-clause-instant : goal.returns-clause-instant

@@ -5,4 +5,5 @@ use Rattle.plain_times.proofs.plain_date_time.PlainDateTime.replace_year.Goals a
 pub returns-clause-shown : goal.returns-clause-shown
 returns-clause-shown c =
     let accepted = rw (to_z-of_z c.ranges.year) at c.in_ok-replace_year.ensures.value in
-    OnDate-year c.args.self c.replace_date.result c.date.result c.in_ok-replace_year.field-0 c.args.year c.date.ensures.value accepted.0 accepted.1 c.replace_date.ensures.value
+    OnDate-year c.args.self c.replace_date.result c.date.result c.in_ok-replace_year.field-0 c.args.year c.date.ensures.value accepted.0 accepted.1
+    c.replace_date.ensures.value

@@ -8,7 +8,8 @@ pub returns-in_err-seconds : goal.returns-in_err-seconds
 returns-in_err-seconds c =
     let second : to_z w64 (of_z w64 c.as_seconds.result) ≡ unix_seconds_of c.args.self = search rules in
     let whole : to_z w64 (of_z w64 c.whole_seconds.result) ≡ whole_seconds_of c.args.duration = search rules in
-    not_IsWallClock-large _ _ _ _ _ c.as_seconds.ensures.self_in_range (IsSplit-of c.args.duration) (rw (second, whole) at c.in_err-seconds.ensures) c.from_residual.ensures
+    not_IsWallClock-large _ _ _ _ _ c.as_seconds.ensures.self_in_range (IsSplit-of c.args.duration)
+    (rw (second, whole) at c.in_err-seconds.ensures) c.from_residual.ensures
 
 pub returns : goal.returns
 returns c =

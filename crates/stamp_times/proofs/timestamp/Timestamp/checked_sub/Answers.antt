@@ -9,15 +9,18 @@ pub returns-in_err-seconds : goal.returns-in_err-seconds
 returns-in_err-seconds c =
     let second : to_z w64 (of_z w64 c.as_seconds.result) ≡ unix_seconds_of c.args.self = search rules in
     let whole : to_z w64 (of_z w64 c.whole_seconds.result) ≡ whole_seconds_of c.args.duration = search rules in
-    not_IsWallClock-large _ _ _ _ _ c.as_seconds.ensures.self_in_range (IsSplit-neg c.args.duration) (rw (second, whole) at c.in_err-seconds.ensures) c.from_residual.ensures
+    not_IsWallClock-large _ _ _ _ _ c.as_seconds.ensures.self_in_range (IsSplit-neg c.args.duration)
+    (rw (second, whole) at c.in_err-seconds.ensures) c.from_residual.ensures
 
 pub carried-requires-clause-change : goal.carried-requires-clause-change
 carried-requires-clause-change c =
-    let rest : to_z w32 (of_z w32 (pos 0 -ℤ to_z w32 (of_z w32 c.subsec_nanoseconds.result))) ≡ neg_ℤ (subsec_nanoseconds_of c.args.duration) = omega (arith, signed_casts) in
+    let rest : to_z w32 (of_z w32 (pos 0 -ℤ to_z w32 (of_z w32 c.subsec_nanoseconds.result))) ≡ neg_ℤ (subsec_nanoseconds_of c.args.duration) =
+    omega (arith, signed_casts) in
     rw rest (IsSplit-neg c.args.duration).rest
 
 pub returns : goal.returns
 returns c =
     let seconds : to_z w64 (of_z w64 c.in_ok-seconds.seconds) ≡ unix_seconds_of c.args.self -ℤ whole_seconds_of c.args.duration = search rules in
-    let rest : to_z w32 (of_z w32 (pos 0 -ℤ to_z w32 (of_z w32 c.subsec_nanoseconds.result))) ≡ neg_ℤ (subsec_nanoseconds_of c.args.duration) = omega (arith, signed_casts) in
+    let rest : to_z w32 (of_z w32 (pos 0 -ℤ to_z w32 (of_z w32 c.subsec_nanoseconds.result))) ≡ neg_ℤ (subsec_nanoseconds_of c.args.duration) =
+    omega (arith, signed_casts) in
     SomeIff-parts _ _ _ _ _ _ _ _ (IsSplit-neg c.args.duration) seconds c.nanosecond.ensures.value rest c.carried.ensures

@@ -4,4 +4,5 @@ use Rattle.stamp_times.proofs.timestamp.Timestamp.replace_month.Goals as goal
 pub returns-clause-shown : goal.returns-clause-shown
 returns-clause-shown c =
     let accepted = c.in_ok-replace_month.ensures.value in
-    OnDate-month c.args.self c.replace_date.result c.date.result c.in_ok-replace_month.field-0 c.args.month c.date.ensures.value accepted.0 accepted.1 c.replace_date.ensures.value
+    OnDate-month c.args.self c.replace_date.result c.date.result c.in_ok-replace_month.field-0 c.args.month c.date.ensures.value accepted.0 accepted.1
+    c.replace_date.ensures.value

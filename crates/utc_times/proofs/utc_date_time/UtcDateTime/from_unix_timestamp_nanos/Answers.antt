@@ -10,7 +10,8 @@ use Rattle.utc_times.proofs.utc_date_time.UtcDateTime.from_unix_timestamp_nanos.
 
 pub returns-in-Ok : goal.returns-in-Ok
 returns-in-Ok c =
-    let value = OkIff-same _ _ c.args.timestamp c.after_second.ensures.value (omega (arith, signed_casts, c.rem_euclid-nanosecond.ensures.value, c.div_euclid.ensures, c.in-Ok.ensures)) in
+    let value = OkIff-same _ _ c.args.timestamp c.after_second.ensures.value
+    (omega (arith, signed_casts, c.rem_euclid-nanosecond.ensures.value, c.div_euclid.ensures, c.in-Ok.ensures)) in
     let refused = c.after_second.ensures.refused in
     record { value = value; refused = refused; equation = OkIff-unix_instant_of_nanos _ _ value refused }
 

@@ -5,5 +5,6 @@ use Rattle.calendar_values.proofs.date.comparisons.DatePartialEq.eq.Goals as goa
 
 pub returns-else-self-other : goal.returns-else-self-other
 returns-else-self-other c =
-    let differ = eq-ordinal_dates _ _ _ _ _ _ c.self.invariant.1 c.other.invariant.1 c.self.view_is c.other.view_is (λ same. c.if-self-other.false (ap (of_z w32) same)) in
+    let differ = eq-ordinal_dates _ _ _ _ _ _ c.self.invariant.1 c.other.invariant.1 c.self.view_is c.other.view_is (λ same.
+    c.if-self-other.false (ap (of_z w32) same)) in
     rw differ (grind (arith, nat_tests))
