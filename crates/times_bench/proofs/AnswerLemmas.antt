@@ -13,9 +13,8 @@ use Rattle.stamp_times.specs.declared.calls.Reply.{Reply}
 use Rattle.stamp_times.specs.Travel.{held_instant, travel, held_after}
 use Rattle.stamp_times.specs.declared.steps.Held.{Held}
 use Rattle.stamp_times.specs.declared.steps.Step.{Step}
-use Rattle.times_bench.specs.Answers.{weekday_from_monday, held_start, arrival_text, chain_text, run_text, answer_to, answer_of}
+use Rattle.times_bench.specs.Answers.{weekday_from_monday, held_start, arrival_text, chain_text, run_text}
 use Rattle.times_bench.specs.ReplyTexts.{reply_text, held_text}
-use Rattle.times_bench.specs.Requests.{Request, request_of}
 
 weekday_from_monday-number : (weekday : Weekday) → weekday_from_monday (weekday_number weekday) ≡ weekday
 weekday_from_monday-number Monday = refl
@@ -56,11 +55,6 @@ unfolding run_text
 run_text-replies calls start end rs e l =
     ap (λ (z : List Reply). flat_map (λ (reply : Reply). reply_text reply ++ codes "; ") z ++ codes "end " ++ timestamp_text end) e
     ∙ ap (λ (z : ℤ). flat_map (λ (reply : Reply). reply_text reply ++ codes "; ") (replies start calls) ++ codes "end " ++ timestamp_text z) l
-
--- the answer to what a line asks for
-pub answer_of-request : (line : List ℕ) (request : Option Request) → request ≡ request_of line → answer_of line ≡ answer_to request ++ 10 ∷ []
-unfolding answer_of
-answer_of-request line request e = ap (λ (z : Option Request). answer_to z ++ 10 ∷ []) (sym e)
 
 -- one text behind another
 pub both_put : (p q r xs ys whole : List ℕ) → q ≡ p ++ xs → r ≡ q ++ ys → xs ++ ys ≡ whole → r ≡ p ++ whole

@@ -35,12 +35,6 @@ Consumes-keep (Some a) None c xs h k = absurd h
 Consumes-keep (Some a) (Some b) None xs h k = absurd k
 Consumes-keep (Some a) (Some b) (Some c) xs h k = h ∙ ap (λ (z : List ℕ). xs ++ z) (sym k)
 
--- at the end no byte is left
-pub left-end : (a b : Option (List ℕ)) (taken : List ℕ) → Consumes a b taken → IsAtEnd b → IfSome a (λ _. b ≡ Some [])
-left-end None b taken h e = tt
-left-end (Some xs) None taken h e = absurd h
-left-end (Some xs) (Some ys) taken h e = ap Some e
-
 -- at the end what was taken is the input
 pub input-end : (a b : Option (List ℕ)) (taken : List ℕ) (P : List ℕ → Type 0) → Consumes a b taken → IsAtEnd b → P taken → IfSome a P
 input-end None b taken P h e p = tt

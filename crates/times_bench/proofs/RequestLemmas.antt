@@ -64,10 +64,6 @@ unix_request-number text =
 abbrev pub room_left : Option (Bor (List ℕ)) → ℕ
 room_left left = option_map_or (λ text. length text.now + 1) left 0
 
-pub room_left-bytes : (left : Option (Bor (List ℕ))) → room_left left ≤ bytes_left left + 1
-room_left-bytes None = omega arith
-room_left-bytes (Some text) = omega arith
-
 pub bytes_left-room : (left : Option (Bor (List ℕ))) → bytes_left left ≤ room_left left
 bytes_left-room None = omega arith
 bytes_left-room (Some text) = omega arith
@@ -109,14 +105,6 @@ room-smaller left rest text word is cut =
 -- the items of the words before, and those of what is left
 abbrev pub AllSoFar : {A : Type 0} → (List ℕ → Option A) → Option (List A) → List A → List (List ℕ) → Type 0
 AllSoFar read all items words = all ≡ option_map (λ more. items ++ more) (all_of read words)
-
-pub AllSoFar-start : {A : Type 0} (read : List ℕ → Option A) (words : List (List ℕ)) (items : List A) → items ≡ []
-    → AllSoFar read (all_of read words) items words
-AllSoFar-start {A} read words items e = same (all_of read words) ∙ ap (λ (z : List A). option_map (λ more. z ++ more) (all_of read words)) (sym e)
-  where
-    same : (all : Option (List A)) → all ≡ option_map (λ more. more) all
-    same None = refl
-    same (Some all) = refl
 
 pub AllSoFar-next : {A : Type 0} (read : List ℕ → Option A) (all : Option (List A)) (items new : List A)
     (left rest : Option (Bor (List ℕ))) (text : Bor (List ℕ)) (word : List ℕ) (item : A)

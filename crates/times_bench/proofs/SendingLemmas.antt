@@ -1,12 +1,9 @@
 -- Writing one text after another.
-use Rattle.std.proofs.Common.{◌≡◌, ℕ, ◌+◌, ◌<◌, List, [], ◌++◌, length, length-append, take, drop, Option, Some, None, Result, Ok, Err, refl, sym, ◌∙◌, ap}
+use Rattle.std.proofs.Common.{ℕ, ◌+◌, List, [], ◌++◌, length, length-append, take, drop, Option, Some, None, refl, sym, ◌∙◌, ap}
 use Rattle.std.proofs.Common.{subst, arith, append_assoc, append-nil}
-use Rattle.std.specs.Prelude.{MatchResult, OnOk}
-use Rattle.std.specs.Io.KnownBytes.{Appends, Keeps}
-use Rattle.std.proofs.lemmas.Grind.{common_steps}
-use Rattle.std.proofs.lemmas.List.{take-append-drop}
+use Rattle.std.specs.Io.KnownBytes.{Appends}
 use Rattle.std.proofs.Math.Seq.{take-add}
-use Rattle.times_bench.specs.Progress.{AtFault, WritesPending}
+use Rattle.times_bench.specs.Progress.{AtFault}
 use Rattle.times_bench.specs.Writing.{AppendsBeginning, Sends}
 use Rattle.times_bench.specs.declared.sending.AnswerFault.{AnswerFault}
 use Rattle.times_bench.specs.declared.sending.AnswerFault.TheVariants.{Write, Memory}
@@ -23,29 +20,11 @@ Appends-append (Some a) None c xs ys h k = absurd h
 Appends-append (Some a) (Some b) None xs ys h k = absurd k
 Appends-append (Some a) (Some b) (Some c) xs ys h k = k ∙ ap (λ (z : List ℕ). z ++ ys) h ∙ append_assoc a xs ys
 
--- a call that keeps what was written appends nothing
-pub Appends-keep : (a b c : Option (List ℕ)) (xs : List ℕ) → Appends a b xs → Keeps b c → Appends a c xs
-Appends-keep None b c xs h k = tt
-Appends-keep (Some a) None c xs h k = absurd h
-Appends-keep (Some a) (Some b) None xs h k = absurd k
-Appends-keep (Some a) (Some b) (Some c) xs h k = k ∙ h
-
 -- a write of the next n bytes of a text
 pub Appends-take : (a b c : Option (List ℕ)) (at n : ℕ) (text : List ℕ) → Appends a b (take at text) → Appends b c (take n (drop at text))
     → Appends a c (take (at + n) text)
 Appends-take a b c at n text h k =
     subst (Appends a c) (sym (take-add at n text)) (Appends-append a b c (take at text) (take n (drop at text)) h k)
-
--- a write that failed with bytes left
-pub AppendsBeginning-take : (a b c : Option (List ℕ)) (at : ℕ) (text : List ℕ) → at < length text → Appends a b (take at text) → Keeps b c
-    → AppendsBeginning a c text
-AppendsBeginning-take a b c at text low h k = record {
-  beginning = take at text;
-  missing = drop at text;
-  appended = Appends-keep a b c (take at text) h k;
-  whole = sym (take-append-drop at text);
-  some_missing = grind (arith, common_steps);
-}
 
 -- with more bytes behind, a beginning is a beginning still
 pub AppendsBeginning-longer : (a b : Option (List ℕ)) (xs ys : List ℕ) → AppendsBeginning a b xs → AppendsBeginning a b (xs ++ ys)
@@ -86,14 +65,6 @@ AppendsBeginning-pending a b c p xs ys h k =
     subst (AppendsBeginning a c) (sym (ap (λ (z : List ℕ). z ++ ys) h.whole ∙ append_assoc h.sent p ys))
     (AppendsBeginning-append a b c h.sent (p ++ ys) h.appended k)
 
--- what is sent grows at its end
-pub Sends-more : (a b : Option (List ℕ)) (p q xs ys : List ℕ) → Sends a b p xs → q ≡ p ++ ys → Sends a b q (xs ++ ys)
-Sends-more a b p q xs ys h e = record {
-  sent = h.sent;
-  appended = h.appended;
-  whole = ap (λ (z : List ℕ). z ++ ys) h.whole ∙ append_assoc h.sent p ys ∙ ap (λ (z : List ℕ). h.sent ++ z) (sym e);
-}
-
 -- what is pending is written behind the bytes that were sent
 pub Appends-flushed : (a b c : Option (List ℕ)) (p bytes : List ℕ) → Sends a b p bytes → Appends b c p → Appends a c bytes
 Appends-flushed a b c p bytes h k = subst (Appends a c) (sym h.whole) (Appends-append a b c h.sent p h.appended k)
@@ -102,12 +73,6 @@ pub AppendsBeginning-flushed : (a b c : Option (List ℕ)) (p bytes : List ℕ) 
     → AppendsBeginning a c bytes
 AppendsBeginning-flushed a b c p bytes h k =
     subst (AppendsBeginning a c) (sym h.whole) (AppendsBeginning-append a b c h.sent p h.appended k)
-
--- what was pending was written, and so it is sent
-pub Sends-flushed : {T : Type 0} (a b : Option (List ℕ)) (p q : List ℕ) (result : Result T AnswerFault) → WritesPending result a b p
-    → OnOk result (q ≡ []) → MatchResult result (λ _. Sends a b q p) (λ fault. AtFault fault (AppendsBeginning a b p) ⊥)
-Sends-flushed a b p q (Ok done) h e = record { sent = p; appended = h; whole = rw e (sym (append-nil p)) }
-Sends-flushed a b p q (Err fault) h e = h
 
 -- what holds after a fault, weakened
 pub AtFault-weaker : {Cut Short Cut' Short' : Type 0} (fault : AnswerFault) → AtFault fault Cut Short → (Cut → Cut') → (Short → Short')
