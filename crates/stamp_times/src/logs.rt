@@ -49,20 +49,3 @@ pub fn put_in_order(log: &mut Vec<Timestamp>) -> Result<(), AllocError>
     log.dedup();
     Ok(())
 }
-
-#[cfg(test)]
-mod tests {
-    use crate::{Timestamp, logs};
-    use std::test::Fail;
-
-    #[test]
-    fn each_timestamp_once(rt: HostRuntime) -> Result<(), Fail> {
-        let epoch = Timestamp::UNIX_EPOCH;
-        let mut log = [epoch, Timestamp::MIN, epoch].to_vec(rt.alloc())?;
-        logs::put_in_order(&mut log)?;
-        assert!(rt; logs::enter(&mut log, Timestamp::MAX)?);
-        assert!(rt; !logs::enter(&mut log, epoch)?);
-        assert_eq!(rt; log.len(), 3);
-        Ok(())
-    }
-}

@@ -4,6 +4,7 @@ use std::process::Abort;
 
 mod batches;
 mod chains;
+mod logs;
 mod reciprocal;
 mod runs;
 mod timestamp;
