@@ -337,7 +337,8 @@ uint32_t muxandu_ordinal_date_from_day(int32_t day, MuxanduOrdinalDate *out);
 /* The day number of a day of a year. Refused YEAR, ORDINAL or ORDINAL_OF_YEAR, tested in this order. */
 uint32_t muxandu_day_from_ordinal_date(MuxanduOrdinalDate date, int32_t *out);
 
-/* The ISO year, the ISO week and the day of the week of a day number. Refused DAY_NUMBER. */
+/* The ISO year, the ISO week and the day of the week of a day number, of which muxandu_day_from_week_date makes the
+ * day number again. Refused DAY_NUMBER. */
 uint32_t muxandu_week_date_from_day(int32_t day, MuxanduWeekDate *out);
 
 /* The day number of an ISO week date. Refused YEAR, WEEK, WEEKDAY or WEEK_OF_YEAR, tested in this order, then RESULT

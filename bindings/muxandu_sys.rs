@@ -332,7 +332,8 @@ unsafe extern "C" {
     pub safe fn muxandu_ordinal_date_from_day(day: i32, out: &mut MuxanduOrdinalDate) -> u32;
     /// The day number of a day of a year. Refused YEAR, ORDINAL or ORDINAL_OF_YEAR, tested in this order.
     pub safe fn muxandu_day_from_ordinal_date(date: MuxanduOrdinalDate, out: &mut i32) -> u32;
-    /// The ISO year, the ISO week and the day of the week of a day number. Refused DAY_NUMBER.
+    /// The ISO year, the ISO week and the day of the week of a day number, of which muxandu_day_from_week_date makes the day
+    /// number again. Refused DAY_NUMBER.
     pub safe fn muxandu_week_date_from_day(day: i32, out: &mut MuxanduWeekDate) -> u32;
     /// The day number of an ISO week date. Refused YEAR, WEEK, WEEKDAY or WEEK_OF_YEAR, tested in this order, then RESULT
     /// for the two days of the last week that lie past the range.

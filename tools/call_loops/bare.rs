@@ -1,5 +1,8 @@
 // What a caller would write for these numbers alone: whole numbers, eras of 400 years, no library.
-use crate::{delta, nanosecond_after, told, word};
+use crate::{CALLS, call_of, delta, nanosecond_after, told, told_replies, word};
+
+type Call = crate::Call<i64, i32>;
+type Reply = crate::Reply<Local, Local>;
 
 const FIRST_SECOND: i64 = -31_619_087_596_800;
 const LAST_SECOND: i64 = 31_494_784_780_799;
@@ -215,6 +218,17 @@ struct Local {
 const DAYS_BEFORE: [u16; 12] = [0, 31, 59, 90, 120, 151, 181, 212, 243, 273, 304, 334];
 const LENGTHS: [u8; 12] = [31, 28, 31, 30, 31, 30, 31, 31, 30, 31, 30, 31];
 
+fn month_length(year: i32, month: u8) -> u8 {
+    LENGTHS[usize::from(month) - 1] + u8::from(month == 2 && is_leap_year(year))
+}
+
+fn shown_at(second: i64, nanosecond: u32, offset: i32) -> Local {
+    let shown = second + i64::from(offset);
+    let (year, ordinal) = ordinal_date(shown.div_euclid(86_400));
+    let (hour, minute, second) = clock(shown);
+    Local { year, ordinal, hour, minute, second, nanosecond, offset }
+}
+
 impl Local {
     fn unix_timestamp(&self) -> i64 {
         let years = i64::from(self.year) - 1;
@@ -239,13 +253,7 @@ pub fn written(seconds: &[i64], offsets: &[i32], rounds: u32, out: &mut [u8]) ->
     let held: Vec<Local> = seconds
         .iter()
         .zip(offsets)
-        .map(|(second, offset)| {
-            let shown = *second + i64::from(*offset);
-            let (year, ordinal) = ordinal_date(shown.div_euclid(86_400));
-            let (hour, minute, second_of_minute) = clock(shown);
-            let nanosecond = nanosecond_after(*second);
-            Local { year, ordinal, hour, minute, second: second_of_minute, nanosecond, offset: *offset }
-        })
+        .map(|(second, offset)| shown_at(*second, nanosecond_after(*second), *offset))
         .collect();
     let mut sum = 0_u64;
     for _ in 0..rounds {
@@ -381,4 +389,85 @@ pub fn read(texts: &[&[u8]], rounds: u32) -> u64 {
         }
     }
     held.iter().fold(0, |sum, at| sum.wrapping_add(told(at.unix_timestamp(), at.nanosecond, at.offset)))
+}
+
+// What a call replies, and where the run goes on.
+fn step(second: &mut i64, nanosecond: u32, call: Call) -> Reply {
+    let day = second.div_euclid(86_400);
+    let moved = match call {
+        Call::CalendarDate => {
+            let (year, month, day) = civil_date(day);
+            return Reply::Date(year, month, day);
+        }
+        Call::IsoWeekDate => {
+            let weekday = (day + 3).rem_euclid(7);
+            let (year, ordinal) = ordinal_date(day - weekday + 3);
+            return Reply::Date(year, ((ordinal - 1) / 7 + 1) as u8, weekday as u8);
+        }
+        Call::Weekday => return Reply::Number((day + 3).rem_euclid(7) as u32),
+        Call::Hms => {
+            let (hour, minute, second) = clock(*second);
+            return Reply::Hms(hour, minute, second);
+        }
+        Call::Nanosecond => return Reply::Number(nanosecond),
+        Call::Add(seconds) => in_range(*second + seconds),
+        Call::Subtract(seconds) => in_range(*second - seconds),
+        Call::Day(wanted) => {
+            let (year, month, day) = civil_date(day);
+            if wanted == 0 || wanted > month_length(year, month) {
+                return Reply::RefusedPart("day");
+            }
+            Some(*second + (i64::from(wanted) - i64::from(day)) * 86_400)
+        }
+        Call::Hour(wanted) => {
+            if wanted > 23 {
+                return Reply::RefusedPart("hour");
+            }
+            Some(*second + (i64::from(wanted) - second.rem_euclid(86_400) / 3_600) * 3_600)
+        }
+        Call::Shown(offset) => {
+            return match in_range(*second + i64::from(offset)) {
+                Some(_) => Reply::Shown(shown_at(*second, nanosecond, offset)),
+                None => Reply::Refused,
+            };
+        }
+    };
+    match moved {
+        Some(moved) => {
+            *second = moved;
+            Reply::Now(shown_at(moved, nanosecond, 0))
+        }
+        None => Reply::Refused,
+    }
+}
+
+#[inline(never)]
+fn replies(start: i64, nanosecond: u32, calls: &[Call]) -> Vec<Reply> {
+    let mut at = start;
+    calls.iter().map(|call| step(&mut at, nanosecond, *call)).collect()
+}
+
+fn told_local(at: &Local) -> u64 {
+    word(at.year, at.ordinal, 0, at.hour, at.minute, at.second)
+        .wrapping_add(u64::from(at.nanosecond))
+        .wrapping_add(u64::from(at.offset < 0))
+}
+
+#[inline(never)]
+pub fn run(seconds: &[i64], offsets: &[i32], rounds: u32, _out: &mut [u8]) -> u64 {
+    let held: Vec<Call> = seconds
+        .iter()
+        .zip(offsets)
+        .map(|(second, offset)| call_of(*second, *offset, |seconds| seconds, |offset| offset))
+        .collect();
+    let mut sum = 0_u64;
+    for _ in 0..rounds {
+        for (calls, second) in held.chunks(CALLS).zip(seconds.iter().step_by(CALLS)) {
+            if let Some(start) = in_range(*second) {
+                let replies = replies(start, nanosecond_after(*second), calls);
+                sum = sum.wrapping_add(told_replies(&replies, told_local, told_local));
+            }
+        }
+    }
+    sum
 }

@@ -8,9 +8,11 @@ mod with_chrono;
 #[cfg(feature = "with_time")]
 mod with_time;
 
-// How many values a loop works on, how many are sorted, and how many answers are compared one by one.
+// How many values a loop works on, how many are sorted, how many calls a run makes, and how many answers are compared
+// one by one.
 const HELD: usize = 16_384;
 const SORTED: usize = 100_000;
+pub const CALLS: usize = 8;
 const COMPARED: usize = 4_000;
 
 // The processor time, in nanoseconds, that a measurement of one contender takes at least.
@@ -32,6 +34,8 @@ unsafe extern "C" {
     fn calls_sorted(s: *const i64, n: usize, o: *const i32, m: usize, rounds: u32, out: *mut u8, size: usize) -> u64;
     fn calls_written(s: *const i64, n: usize, o: *const i32, m: usize, rounds: u32, out: *mut u8, size: usize) -> u64;
     fn calls_read(texts: *const &[u8], n: usize, rounds: u32) -> u64;
+    fn calls_run_of_utc(s: *const i64, n: usize, o: *const i32, m: usize, rounds: u32, out: *mut u8, size: usize) -> u64;
+    fn calls_run_of_stamp(s: *const i64, n: usize, o: *const i32, m: usize, rounds: u32, out: *mut u8, size: usize) -> u64;
     fn clock_gettime(clock: c_int, time: *mut [i64; 2]) -> c_int;
 }
 
@@ -65,6 +69,74 @@ pub fn nanosecond_after(second: i64) -> u32 {
         3 => second.rem_euclid(1_000_000_000) as u32,
         _ => second.rem_euclid(1_000) as u32 * 1_000_000,
     }
+}
+
+/// A call of a run. Day and hour replace that part, and some of them are refused.
+#[derive(Clone, Copy)]
+pub enum Call<Duration, Offset> {
+    CalendarDate,
+    IsoWeekDate,
+    Weekday,
+    Hms,
+    Nanosecond,
+    Add(Duration),
+    Subtract(Duration),
+    Day(u8),
+    Hour(u8),
+    Shown(Offset),
+}
+
+/// The call that an item stands for.
+pub fn call_of<Duration, Offset>(
+    second: i64,
+    offset: i32,
+    duration: impl Fn(i64) -> Duration,
+    shown: impl Fn(i32) -> Offset,
+) -> Call<Duration, Offset> {
+    let quarters = offset.unsigned_abs() / 900;
+    match second.rem_euclid(10) {
+        0 => Call::CalendarDate,
+        1 => Call::IsoWeekDate,
+        2 => Call::Weekday,
+        3 => Call::Hms,
+        4 => Call::Nanosecond,
+        5 => Call::Add(duration(offset.into())),
+        6 => Call::Subtract(duration(offset.into())),
+        7 => Call::Day((quarters % 32) as u8),
+        8 => Call::Hour((quarters % 25) as u8),
+        _ => Call::Shown(shown(offset)),
+    }
+}
+
+/// What a call replies: a date has a month or a week, and a day of it.
+pub enum Reply<Now, Shown> {
+    Date(i32, u8, u8),
+    Hms(u8, u8, u8),
+    Number(u32),
+    Now(Now),
+    Shown(Shown),
+    Refused,
+    RefusedPart(&'static str),
+}
+
+/// What a run replied, in one number.
+pub fn told_replies<Now, Shown>(
+    replies: &[Reply<Now, Shown>],
+    told_now: impl Fn(&Now) -> u64,
+    told_shown: impl Fn(&Shown) -> u64,
+) -> u64 {
+    replies.iter().fold(0, |sum, reply| {
+        let told = match reply {
+            Reply::Date(year, high, low) => word(*year, (*high).into(), *low, 0, 0, 0),
+            Reply::Hms(hour, minute, second) => word(0, 0, 0, *hour, *minute, *second),
+            Reply::Number(number) => u64::from(*number),
+            Reply::Now(now) => told_now(now),
+            Reply::Shown(shown) => told_shown(shown),
+            Reply::Refused => 1,
+            Reply::RefusedPart(name) => name.len() as u64,
+        };
+        sum.wrapping_mul(31).wrapping_add(told)
+    })
 }
 
 // What a loop works on.
@@ -147,28 +219,20 @@ fn part(input: &Input, from: usize, count: usize) -> Input {
 
 // Ends the program where two contenders have another answer to an item, or to all.
 fn compare_answers(row: &Row) {
-    let whole = if row.group == SORTED { vec![row.input.clone()] } else { Vec::new() };
     let parts = (0..COMPARED).map(|from| part(&row.input, from, row.group)).filter(|_| row.group < SORTED);
-    for input in parts.chain(whole) {
-        let mut expected: Option<(u64, Vec<u8>)> = None;
-        for contender in row.contenders.iter().filter(|contender| contender.same) {
-            for rounds in [1, 2] {
+    for input in parts.chain([row.input.clone()]) {
+        for rounds in [1, 2] {
+            let mut expected: Option<(u64, Vec<u8>)> = None;
+            for contender in row.contenders.iter().filter(|contender| contender.same) {
                 let mut out = vec![0; 64];
                 let answer = contender.code.run(&input, &views(&input), rounds, &mut out);
-                if rounds == 2 {
-                    continue;
-                }
-                match &expected {
-                    None => expected = Some((answer, out)),
-                    Some((first, bytes)) => {
-                        if *first != answer || *bytes != out {
-                            let text = String::from_utf8_lossy(&out);
-                            println!("{}: {} answers {answer} {text:?}", row.name, contender.name);
-                            println!("and {} {first} {:?}", row.contenders[0].name, String::from_utf8_lossy(bytes));
-                            println!("to {:?} {:?} {:?}", input.seconds, input.offsets, views(&input));
-                            std::process::exit(1);
-                        }
-                    }
+                let (first, bytes) = expected.get_or_insert_with(|| (answer, out.clone()));
+                if *first != answer || *bytes != out {
+                    println!("{}: {} answers {answer} {:?}", row.name, contender.name, String::from_utf8_lossy(&out));
+                    println!("and {} {first} {:?}", row.contenders[0].name, String::from_utf8_lossy(bytes));
+                    let count = row.group.min(input.seconds.len());
+                    println!("to {:?} {:?} {:?}", &input.seconds[..count], &input.offsets[..count], views(&input).first());
+                    std::process::exit(1);
                 }
             }
         }
@@ -221,13 +285,15 @@ fn row(name: &'static str, input: &Input, group: usize, contenders: Vec<(&'stati
 }
 
 macro_rules! contenders {
-    ($bare:expr; $($name:literal: $linked:expr),+; $word:ident, $variant:ident, $time:literal, $chrono:literal) => {{
+    ($bare:expr; $($name:literal: $linked:expr),+; $word:ident, $variant:ident, $time:literal $(, $chrono:literal)?) => {{
         let mut all = vec![("bare", Loop::$variant($bare))];
         all.extend([$(($name, $linked)),+]);
         #[cfg(feature = "with_time")]
         all.push(($time, Loop::$variant(with_time::$word)));
-        #[cfg(feature = "with_chrono")]
-        all.push(($chrono, Loop::$variant(with_chrono::$word)));
+        $(
+            #[cfg(feature = "with_chrono")]
+            all.push(($chrono, Loop::$variant(with_chrono::$word)));
+        )?
         all
     }};
 }
@@ -290,6 +356,9 @@ fn rows(source: &mut Source, first: i64, last: i64) -> Vec<Row> {
             "here": Loop::Linked(calls_written); written, Rust, "time", "chrono*")),
         row("RFC 3339 read", &spelled, 1, contenders!(bare::read;
             "here": Loop::LinkedReader(calls_read); read, RustReader, "time", "chrono")),
+        row("run", &plain, CALLS, contenders!(bare::run;
+            "UtcDateTime": Loop::Linked(calls_run_of_utc), "Timestamp": Loop::Linked(calls_run_of_stamp);
+            run, Rust, "time")),
     ]
 }
 

@@ -1,8 +1,12 @@
 // The same by the crate `time`.
-use crate::{delta, nanosecond_after, told, word};
+use crate::{CALLS, call_of, delta, nanosecond_after, told, told_replies, word};
 use std::fmt::Write as _;
+use time::error::ComponentRange;
 use time::format_description::well_known::Rfc3339;
-use time::{Duration, OffsetDateTime, UtcOffset};
+use time::{Date, Duration, OffsetDateTime, Time, UtcOffset};
+
+type Call = crate::Call<Duration, UtcOffset>;
+type Reply = crate::Reply<(Date, Time), (Date, Time, UtcOffset)>;
 
 fn at_offset(second: i64, nanosecond: u32, offset: i32) -> OffsetDateTime {
     let nanoseconds = i128::from(second) * 1_000_000_000 + i128::from(nanosecond);
@@ -143,4 +147,81 @@ pub fn read(texts: &[&[u8]], rounds: u32) -> u64 {
     }
     held.iter()
         .fold(0, |sum, at| sum.wrapping_add(told(at.unix_timestamp(), at.nanosecond(), at.offset().whole_seconds())))
+}
+
+fn refused_part(refusal: ComponentRange) -> Reply {
+    Reply::RefusedPart(refusal.name())
+}
+
+// What a call replies, and where the run goes on.
+fn step(at: &mut OffsetDateTime, call: Call) -> Reply {
+    let moved = match call {
+        Call::CalendarDate => {
+            let (year, month, day) = at.to_calendar_date();
+            return Reply::Date(year, month.into(), day);
+        }
+        Call::IsoWeekDate => {
+            let (year, week, weekday) = at.to_iso_week_date();
+            return Reply::Date(year, week, weekday.number_days_from_monday());
+        }
+        Call::Weekday => return Reply::Number(at.weekday().number_days_from_monday().into()),
+        Call::Hms => {
+            let (hour, minute, second) = at.to_hms();
+            return Reply::Hms(hour, minute, second);
+        }
+        Call::Nanosecond => return Reply::Number(at.nanosecond()),
+        Call::Add(duration) => at.checked_add(duration).ok_or(Reply::Refused),
+        Call::Subtract(duration) => at.checked_sub(duration).ok_or(Reply::Refused),
+        Call::Day(day) => at.replace_day(day).map_err(refused_part),
+        Call::Hour(hour) => at.replace_hour(hour).map_err(refused_part),
+        // No item lies so near to an end of the range that this could be refused.
+        Call::Shown(offset) => {
+            let shown = at.to_offset(offset);
+            return Reply::Shown((shown.date(), shown.time(), offset));
+        }
+    };
+    match moved {
+        Ok(moved) => {
+            *at = moved;
+            Reply::Now((at.date(), at.time()))
+        }
+        Err(refused) => refused,
+    }
+}
+
+#[inline(never)]
+fn replies(start: OffsetDateTime, calls: &[Call]) -> Vec<Reply> {
+    let mut at = start;
+    calls.iter().map(|call| step(&mut at, *call)).collect()
+}
+
+fn told_date_time(date: Date, time: Time) -> u64 {
+    let (year, ordinal) = date.to_ordinal_date();
+    let (hour, minute, second, nanosecond) = time.as_hms_nano();
+    word(year, ordinal, 0, hour, minute, second).wrapping_add(u64::from(nanosecond))
+}
+
+#[inline(never)]
+pub fn run(seconds: &[i64], offsets: &[i32], rounds: u32, _out: &mut [u8]) -> u64 {
+    let at_offset = |offset| UtcOffset::from_whole_seconds(offset).unwrap();
+    let held: Vec<Call> = seconds
+        .iter()
+        .zip(offsets)
+        .map(|(second, offset)| call_of(*second, *offset, Duration::seconds, at_offset))
+        .collect();
+    let mut sum = 0_u64;
+    for _ in 0..rounds {
+        for (calls, second) in held.chunks(CALLS).zip(seconds.iter().step_by(CALLS)) {
+            let start = OffsetDateTime::from_unix_timestamp(*second)
+                .and_then(|start| start.replace_nanosecond(nanosecond_after(*second)));
+            if let Ok(start) = start {
+                let told_now = |(date, time): &(Date, Time)| told_date_time(*date, *time);
+                let told_shown = |(date, time, offset): &(Date, Time, UtcOffset)| {
+                    told_date_time(*date, *time).wrapping_add(u64::from(offset.is_negative()))
+                };
+                sum = sum.wrapping_add(told_replies(&replies(start, calls), told_now, told_shown));
+            }
+        }
+    }
+    sum
 }

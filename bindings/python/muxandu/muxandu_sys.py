@@ -444,7 +444,7 @@ CALLS = {
     "muxandu_week_date_from_day": (
         [ctypes.c_int32, ctypes.POINTER(MuxanduWeekDate)],
         ctypes.c_uint32,
-        "The ISO year, the ISO week and the day of the week of a day number. Refused DAY_NUMBER.",
+        "The ISO year, the ISO week and the day of the week of a day number, of which muxandu_day_from_week_date makes the day number again. Refused DAY_NUMBER.",
     ),
     "muxandu_day_from_week_date": (
         [MuxanduWeekDate, ctypes.POINTER(ctypes.c_int32)],

@@ -1,9 +1,9 @@
 -- The month and the day of the month by one multiplication each.
-use Rattle.std.proofs.Common.{◌≡◌, ℕ, zero, suc, ◌+◌, ◌-◌, ◌*◌, ◌/◌, ◌<◌, ◌≤◌, Bool, true, false, ◌&&◌, ◌==◌, cond, inl, inr, refl, arith}
-use Rattle.std.proofs.lemmas.Bool.{cases_order, eqb-true}
+use Rattle.std.proofs.Common.{◌≡◌, ℕ, zero, suc, ◌+◌, ◌-◌, ◌*◌, ◌/◌, ◌<◌, ◌≤◌, Bool, true, false, ◌&&◌, ◌==◌, nat_lt, cond, inl, inr, refl, arith}
+use Rattle.std.proofs.lemmas.Bool.{cases_order, eqb-true, ltb-true, ltb-false}
 use Rattle.std.proofs.lemmas.Bool.Decides.{nat_tests}
 use Rattle.calendar_values.specs.MonthLaws.{IsMonthDay-of_ordinal, days_in_month_bounds}
-use Rattle.calendar_values.specs.Calendar.{year_length, days_in_months, last_month_begun, month_of_ordinal, day_of_ordinal}
+use Rattle.calendar_values.specs.Calendar.{year_length, days_in_months, days_before_month, last_month_begun, month_of_ordinal, day_of_ordinal}
 
 -- the days that end before March
 abbrev pub until_march : Bool → ℕ
@@ -85,5 +85,28 @@ pub day_of_ordinal_bounds : (b : Bool) (ordinal : ℕ) → 1 ≤ ordinal → ord
 day_of_ordinal_bounds b ordinal low high =
     let h = IsMonthDay-of_ordinal b ordinal low high in
     (h.day_first, omega (arith, h.day_last, days_in_month_bounds b (month_of_ordinal b ordinal)))
+
+-- a leap year has a day more before each month from March on
+leap_day-later : (n : ℕ) → days_in_months true (suc (suc n)) ≡ days_in_months false (suc (suc n)) + 1
+unfolding days_in_months
+leap_day-later zero = refl
+leap_day-later (suc n) = grind (arith, nat_tests, leap_day-later n)
+
+pub leap_day-counts : (b : Bool) (m : ℕ) → b && nat_lt 2 m ≡ true → days_before_month b m ≡ days_before_month false m + 1
+leap_day-counts true m t = let e : m - 1 ≡ suc (suc (m - 3)) = omega (arith, ltb-true) in rw e (leap_day-later (m - 3))
+leap_day-counts false m t = absurd cc
+
+no_leap_day-early : (b : Bool) (m : ℕ) → m ≤ 2 → days_before_month b m ≡ days_before_month false m
+unfolding days_in_months
+no_leap_day-early b zero h = refl
+no_leap_day-early b (suc zero) h = refl
+no_leap_day-early b (suc (suc zero)) h = refl
+no_leap_day-early b (suc (suc (suc m))) h = absurd (omega arith)
+
+pub leap_day-none : (b : Bool) (m : ℕ) → b && nat_lt 2 m ≡ false → days_before_month b m ≡ days_before_month false m
+leap_day-none true m t = no_leap_day-early true m (omega (arith, ltb-false))
+leap_day-none false m t = refl
+
+pub ruleset leap_days = (leap_day-counts, leap_day-none)
 
 pub ruleset products = (early-month, early-day, late-month, late-day, day_of_ordinal_bounds)

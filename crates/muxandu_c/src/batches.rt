@@ -122,7 +122,8 @@ impl Conversion<MuxanduCivil, i64> for ToSecond {
 
     #[inline(always)]
     fn convert(self, item: MuxanduCivil) -> Result<i64, Refused> {
-        Ok(instant(read_civil(item)?)?.as_seconds())
+        let at = read_civil(item)?;
+        Ok(instant(at, item.offset_seconds)?.as_seconds())
     }
 }
 

@@ -1,18 +1,22 @@
 //! Civil date-times: what clocks at an offset show.
 ghost use Rattle.std.specs.Prelude.{◌≡◌};
+ghost use Rattle.calendar_values.specs.Offsets.{IsOffset};
+ghost use Rattle.offset_times.specs.Local.{instant_of, shown_at};
 ghost use Rattle.muxandu_c.specs.Answers.{status_of, written};
 ghost use Rattle.muxandu_c.specs.Values.{civil_value, civil_shown, timestamp_of_civil, civil_at_offset};
+ghost use Rattle.muxandu_c.specs.Values.{as_civil, local_in_range};
 ghost use Rattle.muxandu_c.specs.Values.{civil_sum, civil_sum_clamped, civil_less, civil_less_clamped};
 ghost use Rattle.muxandu_c.specs.Values.{civil_difference, civil_truncated, civil_order, civil_day};
 
 use crate::parts::{
-    at_offset, civil_of, day_of, duration_of, in_unit, instant, local_difference, local_sum,
-    read_civil, read_duration, read_offset, read_timestamp, sign, timestamp_of, to_offset,
+    at_offset, checked_offset, civil_of, day_of, duration_of, in_unit, instant, local_difference,
+    local_sum, read_civil, read_duration, read_timestamp, sign, timestamp_of, to_offset,
     wall_parts,
 };
 use crate::refused::{Refused, answer, status_of};
 use crate::unit::read_unit;
 use crate::values::{MuxanduCivil, MuxanduDuration, MuxanduTimestamp};
+use offset_times::OffsetDateTime;
 
 /// Whether the parts make a civil date-time. Refused, as by each call that takes one, MONTH, YEAR, DAY, DAY_OF_MONTH,
 /// HOUR, MINUTE, SECOND, NANOSECOND or OFFSET_SECONDS, tested in this order. To replace a part, write it and ask this.
@@ -31,8 +35,8 @@ pub(crate) fn civil_from_timestamp(
     ensures { result ≡ civil_shown at offset_seconds }
 {
     let at = read_timestamp(at)?;
-    let offset = read_offset(offset_seconds)?;
-    Ok(wall_parts(at_offset(at, offset)?, offset))
+    let offset_seconds = checked_offset(offset_seconds)?;
+    Ok(wall_parts(at_offset(at, offset_seconds)?, offset_seconds))
 }
 
 /// What clocks at an offset, in seconds, show at an instant. Refused as the timestamp, then OFFSET_SECONDS, then RESULT
@@ -52,7 +56,8 @@ pub extern "C" fn muxandu_civil_from_timestamp(
 fn timestamp_from_civil(civil: MuxanduCivil) -> Result<MuxanduTimestamp, Refused>
     ensures { result ≡ timestamp_of_civil civil }
 {
-    Ok(timestamp_of(instant(read_civil(civil)?)?))
+    let at = read_civil(civil)?;
+    Ok(timestamp_of(instant(at, civil.offset_seconds)?))
 }
 
 /// The instant at which clocks at its offset show the date-time. Refused as the date-time, then RESULT outside the range
@@ -68,11 +73,22 @@ pub extern "C" fn muxandu_timestamp_from_civil(
     answer(timestamp_from_civil(civil), out)
 }
 
+// The parts of what clocks at another offset show at the instant of a date-time, if the range has it. Both
+// offsets are given in seconds.
+#[inline(always)]
+fn shown_parts(at: OffsetDateTime, from: i32, to: i32) -> Result<MuxanduCivil, Refused>
+    requires from { at.offset ≡ from }
+    requires to { IsOffset to }
+    ensures { result ≡ as_civil (local_in_range (shown_at (instant_of at) to) to) }
+{
+    Ok(wall_parts(to_offset(at, from, to)?, to))
+}
+
 fn civil_to_offset(civil: MuxanduCivil, offset_seconds: i32) -> Result<MuxanduCivil, Refused>
     ensures { result ≡ civil_at_offset civil offset_seconds }
 {
     let at = read_civil(civil)?;
-    Ok(civil_of(to_offset(at, read_offset(offset_seconds)?)?))
+    shown_parts(at, civil.offset_seconds, checked_offset(offset_seconds)?)
 }
 
 /// What clocks at another offset, in seconds, show at the same instant. Refused as the date-time, then OFFSET_SECONDS,

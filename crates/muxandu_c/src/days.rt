@@ -1,5 +1,5 @@
 //! Day numbers, 0 on 1970-01-01, and the dates that they stand for.
-ghost use Rattle.std.specs.Prelude.{◌≡◌, ◌≤◌, ◌-◌, ◌*◌, pos, ◌+ℤ◌, ◌-ℤ◌, ◌≤ℤ◌};
+ghost use Rattle.std.specs.Prelude.{◌≡◌, IfOk, Ok, ◌≤◌, ◌-◌, ◌*◌, pos, ◌+ℤ◌, ◌-ℤ◌, ◌≤ℤ◌};
 ghost use Rattle.calendar_values.specs.Range.{first_day, last_day};
 ghost use Rattle.muxandu_c.specs.Answers.{status_of, written};
 ghost use Rattle.muxandu_c.specs.Values.{date_of_day, day_of_date};
@@ -16,7 +16,8 @@ use calendar_values::{Date, Month};
 pub(crate) fn date_from_day(day: i32) -> Result<MuxanduDate, Refused>
     ensures { result ≡ date_of_day day }
 {
-    Ok(date_of(read_day(day)?))
+    read_day(day)?;
+    Ok(date_of(day))
 }
 
 /// The date of a day number. Refused DAY_NUMBER.
@@ -86,11 +87,13 @@ fn week_date_from_day(day: i32) -> Result<MuxanduWeekDate, Refused>
     })
 }
 
-/// The ISO year, the ISO week and the day of the week of a day number. Refused DAY_NUMBER.
+/// The ISO year, the ISO week and the day of the week of a day number, of which muxandu_day_from_week_date makes the day
+/// number again. Refused DAY_NUMBER.
 #[unsafe(no_mangle)]
 pub extern "C" fn muxandu_week_date_from_day(day: i32, out: &mut MuxanduWeekDate) -> u32
     ensures status { result ≡ status_of (week_date_of_day day) }
     ensures written { out.new ≡ written (week_date_of_day day) out.old }
+    ensures reads_back { IfOk (week_date_of_day day) (λ date. day_of_week_date date ≡ Ok day) }
 {
     answer(week_date_from_day(day), out)
 }
@@ -160,6 +163,7 @@ fn day_in_range(day: i32) -> Result<i32, Refused>
 pub extern "C" fn muxandu_day_from_week_date(date: MuxanduWeekDate, out: &mut i32) -> u32
     ensures status { result ≡ status_of (day_of_week_date date) }
     ensures written { out.new ≡ written (day_of_week_date date) out.old }
+    ensures reads_back { IfOk (day_of_week_date date) (λ day. week_date_of_day day ≡ Ok date) }
 {
     answer(day_from_week_date(date), out)
 }

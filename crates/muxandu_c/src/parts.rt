@@ -1,8 +1,10 @@
 //! What crosses, as the values of the library, and back.
-ghost use Rattle.std.specs.Prelude.{◌≡◌, ◌+ℤ◌, ◌-ℤ◌};
+ghost use Rattle.std.specs.Prelude.{◌≡◌, ◌<◌, ◌/◌, ◌+ℤ◌, ◌-ℤ◌, IfOk};
 ghost use Rattle.calendar_values.specs.Calendar.{year_of, month_of, day_of_month_of};
-ghost use Rattle.calendar_values.specs.Offsets.{offset_of_seconds};
+ghost use Rattle.calendar_values.specs.Clock.{nanos_per_second};
+ghost use Rattle.calendar_values.specs.Offsets.{IsOffset, offset_of_seconds};
 ghost use Rattle.calendar_values.specs.Range.{IsDay};
+ghost use Rattle.calendar_values.specs.WallClock.{wall_day, wall_time};
 ghost use Rattle.plain_times.specs.Truncations.{rounded_down};
 ghost use Rattle.offset_times.specs.Local.{truncated, instant_of, shown_at, local, offset_nanos};
 ghost use Rattle.muxandu_c.specs.Answers.{told};
@@ -13,14 +15,22 @@ ghost use Rattle.muxandu_c.specs.Values.{in_range, local_in_range, unit_nanos, s
 use crate::refused::Refused;
 use crate::unit::Unit;
 use crate::values::{MuxanduCivil, MuxanduDate, MuxanduDuration, MuxanduTimestamp};
-use calendar_values::{Date, Month, SignedDuration, Time, UtcOffset};
+use calendar_values::{Date, Month, SignedDuration, Time, UtcOffset, leap_ordinal_to_month_day};
 use offset_times::OffsetDateTime;
 use stamp_times::Timestamp;
+use stamp_times::reciprocal::year_leap_ordinal;
 use std::cmp::Ordering;
 use utc_times::{AsUtc, UtcDateTime};
 
 // The Julian day of 1970-01-01.
 const EPOCH_JULIAN_DAY: i32 = 2_440_588;
+
+const SECONDS_PER_DAY: u64 = 86_400;
+
+// More days than the range has before 1970, and their seconds.
+const DAYS_BEFORE: i32 = 400_000_000;
+
+const SECONDS_BEFORE: i64 = DAYS_BEFORE as i64 * 86_400;
 
 // The date of its parts.
 #[inline(always)]
@@ -33,7 +43,8 @@ pub(crate) fn read_date(year: i32, month: u8, day: u8) -> Result<Date, Refused>
 // The date-time of its parts.
 #[inline(always)]
 pub(crate) fn read_civil(civil: MuxanduCivil) -> Result<OffsetDateTime, Refused>
-    ensures { result ≡ civil_value civil }
+    ensures value { result ≡ civil_value civil }
+    ensures offset { IfOk result (λ at. at.offset ≡ civil.offset_seconds) }
 {
     let date = read_date(civil.year, civil.month, civil.day)?;
     let time = Time::from_hms_nano(civil.hour, civil.minute, civil.second, civil.nanosecond)?;
@@ -59,23 +70,39 @@ pub(crate) fn civil_of(at: OffsetDateTime) -> MuxanduCivil
     }
 }
 
-// The parts of what clocks at an offset show, which is given as clocks in UTC show it.
+// The parts of what clocks at an offset, in seconds, show, which is given as clocks in UTC show it.
 #[inline(always)]
-pub(crate) fn wall_parts(wall: Timestamp, offset: UtcOffset) -> MuxanduCivil
-    ensures { result ≡ civil_parts (local wall offset) }
+pub(crate) fn wall_parts(wall: Timestamp, offset_seconds: i32) -> MuxanduCivil
+    ensures { result ≡ civil_parts (local wall offset_seconds) }
 {
-    let (year, month, day) = wall.to_calendar_date();
-    let (hour, minute, second, nanosecond) = wall.as_hms_nano();
+    let (day, second_of_day) = day_and_second(wall);
+    let (year, is_leap, ordinal) = year_leap_ordinal(day);
+    let (month, day) = leap_ordinal_to_month_day(is_leap, ordinal);
     MuxanduCivil {
         year,
         month: u8::from(month),
         day,
-        hour,
-        minute,
-        second,
-        nanosecond,
-        offset_seconds: offset.whole_seconds(),
+        hour: (second_of_day / 3_600) as u8,
+        minute: (second_of_day / 60 % 60) as u8,
+        second: (second_of_day % 60) as u8,
+        nanosecond: wall.nanosecond(),
+        offset_seconds,
     }
+}
+
+// The day number and the second of the day. Seconds are counted from a day before the range, so that no
+// negative number is divided.
+#[inline(always)]
+#[tactic(auto, using(crate::proofs::DayLemmas::days))]
+fn day_and_second(at: Timestamp) -> (i32, u32)
+    ensures day { result.0 ≡ wall_day at }
+    ensures second { result.1 ≡ wall_time at / nanos_per_second }
+    ensures day_in_range { IsDay result.0 }
+    ensures second_in_range { result.1 < 86_400 }
+{
+    let seconds = (at.as_seconds() + SECONDS_BEFORE) as u64;
+    let days = (seconds / SECONDS_PER_DAY) as i32;
+    (days - DAYS_BEFORE, (seconds % SECONDS_PER_DAY) as u32)
 }
 
 // The instant of its parts.
@@ -97,20 +124,32 @@ pub(crate) fn timestamp_of(at: Timestamp) -> MuxanduTimestamp
     }
 }
 
-// The instant of a date-time, if the range has it.
+// The instant of a date-time at an offset of so many seconds, if the range has it.
 #[tactic(auto, unfolding(offset_times::specs::Local::instant_of))]
 #[inline(always)]
-pub(crate) fn instant(at: OffsetDateTime) -> Result<Timestamp, Refused>
+pub(crate) fn instant(at: OffsetDateTime, offset_seconds: i32) -> Result<Timestamp, Refused>
+    requires { at.offset ≡ offset_seconds }
     ensures { result ≡ in_range (instant_of at) }
 {
     difference(
         Timestamp::from(at.date_time().as_utc()),
-        seconds_of(at.offset()),
+        seconds_of(offset_seconds),
     )
 }
 
-// The duration of its parts together.
+// The duration of its parts together. Most have less than a second of nanoseconds, and carry none.
+#[inline(always)]
 pub(crate) fn read_duration(duration: MuxanduDuration) -> Result<SignedDuration, Refused>
+    ensures { result ≡ duration_value duration }
+{
+    if duration.nanoseconds.unsigned_abs() < 1_000_000_000 {
+        return Ok(SignedDuration::new(duration.seconds, duration.nanoseconds));
+    }
+    carried_duration(duration)
+}
+
+// The same of any number of nanoseconds.
+fn carried_duration(duration: MuxanduDuration) -> Result<SignedDuration, Refused>
     ensures { result ≡ duration_value duration }
 {
     let carried = (duration.nanoseconds / 1_000_000_000) as i64;
@@ -133,25 +172,38 @@ pub(crate) fn duration_of(duration: SignedDuration) -> MuxanduDuration
 // The offset of so many seconds.
 #[inline(always)]
 pub(crate) fn read_offset(seconds: i32) -> Result<UtcOffset, Refused>
-    ensures { result ≡ told (offset_of_seconds seconds) }
+    ensures value { result ≡ told (offset_of_seconds seconds) }
+    ensures seconds { IfOk result (λ offset. offset ≡ seconds) }
 {
     Ok(UtcOffset::from_whole_seconds(seconds)?)
 }
 
-// The offset as a duration.
+// The seconds of an offset, if there is such an offset: to count with them, which an offset would have to
+// add up from its hours, minutes and seconds.
 #[inline(always)]
-fn seconds_of(offset: UtcOffset) -> SignedDuration
-    ensures { result ≡ offset_nanos offset }
+pub(crate) fn checked_offset(seconds: i32) -> Result<i32, Refused>
+    ensures value { result ≡ told (offset_of_seconds seconds) }
+    ensures in_range { IfOk result IsOffset }
 {
-    SignedDuration::seconds(offset.whole_seconds() as i64)
+    UtcOffset::from_whole_seconds(seconds)?;
+    Ok(seconds)
 }
 
-// What clocks at an offset show at an instant, as clocks in UTC show it, if the range has it.
+// The seconds of an offset as a duration.
 #[inline(always)]
-pub(crate) fn at_offset(at: Timestamp, offset: UtcOffset) -> Result<Timestamp, Refused>
-    ensures { result ≡ in_range (shown_at at offset) }
+fn seconds_of(offset_seconds: i32) -> SignedDuration
+    ensures { result ≡ offset_nanos offset_seconds }
 {
-    sum(at, seconds_of(offset))
+    SignedDuration::seconds(offset_seconds as i64)
+}
+
+// What clocks at an offset of so many seconds show at an instant, as clocks in UTC show it, if the range has
+// it.
+#[inline(always)]
+pub(crate) fn at_offset(at: Timestamp, offset_seconds: i32) -> Result<Timestamp, Refused>
+    ensures { result ≡ in_range (shown_at at offset_seconds) }
+{
+    sum(at, seconds_of(offset_seconds))
 }
 
 // The instant so much later, if the range has it.
@@ -202,20 +254,26 @@ pub(crate) fn local_difference(
     }
 }
 
-// What clocks at another offset show at the same instant, if the range has it.
-pub(crate) fn to_offset(at: OffsetDateTime, offset: UtcOffset) -> Result<OffsetDateTime, Refused>
-    ensures { result ≡ local_in_range (shown_at (instant_of at) offset) offset }
+// What clocks at another offset show at the instant of a date-time, as clocks in UTC show it, if the range
+// has it. Both offsets are given in seconds.
+#[tactic(auto, unfolding(offset_times::specs::Local::instant_of))]
+#[inline(always)]
+pub(crate) fn to_offset(at: OffsetDateTime, from: i32, to: i32) -> Result<Timestamp, Refused>
+    requires from { at.offset ≡ from }
+    requires to { IsOffset to }
+    ensures { result ≡ in_range (shown_at (instant_of at) to) }
 {
-    match at.checked_to_offset(offset) {
-        Some(shown) => Ok(shown),
-        None => Err(Refused::Result),
-    }
+    sum(
+        Timestamp::from(at.date_time().as_utc()),
+        seconds_of(to - from),
+    )
 }
 
 // The date of a day number.
 #[inline(always)]
 pub(crate) fn read_day(day: i32) -> Result<Date, Refused>
-    ensures { result ≡ day_value day }
+    ensures value { result ≡ day_value day }
+    ensures in_range { IfOk result (λ date. IsDay day) }
 {
     match day.checked_add(EPOCH_JULIAN_DAY) {
         Some(julian_day) => Ok(Date::from_julian_day(julian_day)?),
@@ -232,12 +290,14 @@ pub(crate) fn day_of(date: Date) -> i32
     date.to_julian_day() - EPOCH_JULIAN_DAY
 }
 
-// The parts of a date.
+// The parts of the date of a day number.
 #[inline(always)]
-pub(crate) fn date_of(date: Date) -> MuxanduDate
-    ensures { result ≡ date_parts date }
+pub(crate) fn date_of(day: i32) -> MuxanduDate
+    requires { IsDay day }
+    ensures { result ≡ date_parts day }
 {
-    let (year, month, day) = date.to_calendar_date();
+    let (year, is_leap, ordinal) = year_leap_ordinal(day);
+    let (month, day) = leap_ordinal_to_month_day(is_leap, ordinal);
     MuxanduDate {
         year,
         month: u8::from(month),

@@ -1,19 +1,19 @@
 -- The order of instants, by dates that lie far apart, by the time between them, and by packed parts.
-use Rattle.std.proofs.Common.{◌≡◌, ℕ, ◌/◌, ◌<◌, ap, ◌∙◌, arith, ℤ, pos, neg_ℤ, ◌+ℤ◌, ◌-ℤ◌, ◌*ℤ◌, ◌<ℤ◌, int_cmp, unsigned_abs}
+use Rattle.std.proofs.Common.{◌≡◌, ℕ, ◌/◌, ◌<◌, ap, ◌∙◌, arith, ℤ, pos, ◌+ℤ◌, ◌-ℤ◌, ◌*ℤ◌, ◌<ℤ◌, int_cmp}
 use Rattle.std.proofs.lemmas.Int.{ints, by_lt_z}
 use Rattle.calendar_values.specs.Calendar.{year_start, year_of, ordinal_of, day_of_ordinal_date, IsOrdinalDate}
 use Rattle.calendar_values.specs.Clock.{IsClock, nanos_per_second, nanosecond_of}
 use Rattle.calendar_values.specs.DayLaws.{IsOrdinalDate-of, day_of_ordinal_date-of, year_of-ordinal_date, ordinal_of-ordinal_date}
 use Rattle.calendar_values.specs.Offsets.{IsOffset}
-use Rattle.calendar_values.specs.SignedArith.{one_part, signed_arith}
+use Rattle.calendar_values.specs.SignedArith.{signed_arith}
 use Rattle.calendar_values.specs.WallClock.{wall_clock, wall_day, wall_time}
 use Rattle.calendar_values.specs.WallClockLaws.{wall_clock-parts, IsClock-wall_time, wall_day-wall_clock, wall_time-wall_clock}
 use Rattle.calendar_values.specs.YearLaws.{year_start-later, year_start-next, days_in_year_bounds}
 use Rattle.offset_times.specs.Local.{Local, IsLocal, instant_of, offset_nanos}
 use Rattle.plain_times.specs.Packed.{packed_parts, packed_wall_clock}
 
--- days between two dates, where no year has more than 365, are no more than there are
-later_date : (y z : ℤ) (o p : ℕ) → IsOrdinalDate y o → IsOrdinalDate z p → pos 3 <ℤ ((y -ℤ z) *ℤ pos 365 +ℤ pos o -ℤ pos p) →
+-- dates that lie more than four days apart, were each year of 366, lie more than three apart
+later_date : (y z : ℤ) (o p : ℕ) → IsOrdinalDate y o → IsOrdinalDate z p → pos 4 <ℤ ((y -ℤ z) *ℤ pos 366 +ℤ pos o -ℤ pos p) →
     (day_of_ordinal_date z p +ℤ pos 3) <ℤ day_of_ordinal_date y o
 later_date y z o p h k far =
     by_lt_z z y
@@ -31,7 +31,7 @@ later_instant : (m n o p : ℤ) (c d : ℕ) → (m +ℤ pos 3) <ℤ n → IsCloc
     (wall_clock m d -ℤ offset_nanos p) <ℤ (wall_clock n c -ℤ offset_nanos o)
 later_instant m n o p c d far clock h k = omega (arith, signed_arith)
 
-pub later_by_dates : (a b : Local) → IsLocal a → IsLocal b → pos 3 <ℤ ((year_of (wall_day a.wall) -ℤ year_of (wall_day b.wall)) *ℤ pos 365 +ℤ
+pub later_by_dates : (a b : Local) → IsLocal a → IsLocal b → pos 4 <ℤ ((year_of (wall_day a.wall) -ℤ year_of (wall_day b.wall)) *ℤ pos 366 +ℤ
     pos (ordinal_of (wall_day a.wall)) -ℤ pos (ordinal_of (wall_day b.wall))) → instant_of b <ℤ instant_of a
 unfolding instant_of
 later_by_dates a b h k far =
@@ -43,18 +43,27 @@ later_by_dates a b h k far =
 int_cmp_agrees : (a b x y : ℤ) → (a <ℤ b → x <ℤ y) → (b <ℤ a → y <ℤ x) → (a ≡ b → x ≡ y) → int_cmp a b ≡ int_cmp x y
 int_cmp_agrees a b x y l g s = grind (arith, ints)
 
--- dates more than three days apart decide
-pub int_cmp-far : (d i j : ℤ) → 3 < unsigned_abs d → (pos 3 <ℤ d → j <ℤ i) → (d <ℤ neg_ℤ (pos 3) → i <ℤ j) → int_cmp d (pos 0) ≡ int_cmp i j
-int_cmp-far d i j far later earlier =
-    int_cmp_agrees d (pos 0) i j
-    (λ lt. earlier (omega (arith, signed_arith, one_part d)))
-    (λ gt. later (omega (arith, signed_arith, one_part d)))
-    (λ e. absurd (omega (arith, signed_arith, one_part d)))
+-- a number of the sign that tells the earlier from the later compares with 0 as they do
+pub int_cmp-later : (d i j : ℤ) → pos 0 <ℤ d → j <ℤ i → int_cmp d (pos 0) ≡ int_cmp i j
+int_cmp-later d i j sign later =
+    int_cmp_agrees d (pos 0) i j (λ lt. absurd (omega (arith, ints))) (λ gt. later) (λ e. absurd (omega (arith, ints)))
 
--- and else the difference of the instants does
-pub int_cmp-difference : (i j : ℤ) → int_cmp (i -ℤ j) (pos 0) ≡ int_cmp i j
-int_cmp-difference i j =
-    int_cmp_agrees (i -ℤ j) (pos 0) i j (λ lt. omega (arith, signed_arith)) (λ gt. omega (arith, signed_arith)) (λ e. omega (arith, signed_arith))
+pub int_cmp-earlier : (d i j : ℤ) → d <ℤ pos 0 → i <ℤ j → int_cmp d (pos 0) ≡ int_cmp i j
+int_cmp-earlier d i j sign earlier =
+    int_cmp_agrees d (pos 0) i j (λ lt. earlier) (λ gt. absurd (omega (arith, ints))) (λ e. absurd (omega (arith, ints)))
+
+-- the seconds between two instants decide
+pub int_cmp-seconds : (s i j : ℤ) (n m : ℕ) → s *ℤ pos 1_000_000_000 +ℤ (pos n -ℤ pos m) ≡ i -ℤ j → n < 1_000_000_000 → m < 1_000_000_000
+    → (s ≡ pos 0 → ⊥) → int_cmp s (pos 0) ≡ int_cmp i j
+int_cmp-seconds s i j n m e h k apart =
+    int_cmp_agrees s (pos 0) i j (λ lt. omega (arith, signed_arith)) (λ gt. omega (arith, signed_arith)) (λ none. absurd (apart none))
+
+-- and where there are none, the nanoseconds do
+pub int_cmp-nanoseconds : (s i j : ℤ) (n m : ℕ) → s *ℤ pos 1_000_000_000 +ℤ (pos n -ℤ pos m) ≡ i -ℤ j → s ≡ pos 0
+    → int_cmp (pos n -ℤ pos m) (pos 0) ≡ int_cmp i j
+int_cmp-nanoseconds s i j n m e none =
+    int_cmp_agrees (pos n -ℤ pos m) (pos 0) i j
+    (λ lt. omega (arith, signed_arith)) (λ gt. omega (arith, signed_arith)) (λ same. omega (arith, signed_arith))
 
 -- days of one year lie apart by their places in it
 pub days_in_one_year : (m n : ℤ) → year_of m ≡ year_of n → pos (ordinal_of m) -ℤ pos (ordinal_of n) ≡ m -ℤ n

@@ -28,6 +28,12 @@ Splits-neg d days rest s = record { sum = omega (arith, ints); later = λ h. ome
 pub Splits-std : (n : ℕ) → Splits (pos n) (pos (n / nanos_per_day)) (pos (n % nanos_per_day))
 Splits-std n = record { sum = omega (arith, ints); later = λ h. omega (arith, ints); earlier = λ h. omega (arith, ints) }
 
+-- so many days have so many whole days
+pub whole_days_of-days : (d k : ℤ) → d ≡ k *ℤ pos nanos_per_day → whole_days_of d ≡ k
+unfolding whole_days_of
+whole_days_of-days (pos n) k e = omega (arith, ints)
+whole_days_of-days (negsuc n) k e = omega (arith, ints)
+
 -- where the whole days alone leave the range, so does the sum
 pub not_IsDay-days : (w d n days rest : ℤ) (c : ℕ) (r : Option ℤ) → n ≡ wall_day w → IsWallClock w → Splits d days rest
     → (IsDay (n +ℤ days) → ⊥) → r ≡ None → SomeIff r (IsWallClock (w +ℤ d)) (w +ℤ d)

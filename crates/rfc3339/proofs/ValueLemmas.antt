@@ -1,12 +1,9 @@
 -- What was written has the form, and means what was written.
-use Rattle.std.proofs.Common.{◌≡◌, inl, inr, ℕ, zero, suc, ◌+◌, ◌-◌, ◌*◌, ◌/◌, ◌%◌, ◌≤◌, ◌<◌, Bool, true, false, cond, nat_eq, List, [], ◌∷◌, ◌++◌, length}
+use Rattle.std.proofs.Common.{◌≡◌, inl, inr, ℕ, suc, ◌+◌, ◌*◌, ◌/◌, ◌%◌, ◌≤◌, ◌<◌, Bool, true, false, cond, nat_eq, List, [], ◌++◌, length}
 use Rattle.std.proofs.Common.{length-append, refl, sym, ap, subst, ◌∙◌, arith, ℤ, pos, negsuc, neg_ℤ, unsigned_abs, ◌≤ℤ◌, Ok}
 use Rattle.std.specs.Prelude.{codes, int_lt}
-use Rattle.std.specs.Char.{is_ascii_digit}
-use Rattle.std.specs.List.{list_all}
 use Rattle.std.proofs.lemmas.Bool.{eqb-true}
 use Rattle.std.proofs.lemmas.Bool.Decides.{nat_tests}
-use Rattle.std.proofs.lemmas.List.Folds.{list_all-append}
 use Rattle.std.proofs.lemmas.Int.{ints}
 use Rattle.calendar_values.specs.Calendar.{is_leap_year, days_in_month, year_of, month_of, day_of_month_of}
 use Rattle.calendar_values.specs.ClockLaws.{clock_of_parts-of, IsTimeOfDay-of}
@@ -18,7 +15,7 @@ use Rattle.calendar_values.specs.Clock.{nanosecond_of}
 use Rattle.calendar_values.specs.Digits.{last_digits, fraction_digits}
 use Rattle.calendar_values.specs.DigitLaws.{length-last_digits}
 use Rattle.rfc3339.specs.declared.parts.Parts.{Parts}
-use Rattle.rfc3339.specs.Form.{fraction_value, IsFraction, IsOffsetText, IsDateTime}
+use Rattle.rfc3339.specs.Form.{IsFraction, IsOffsetText, IsDateTime}
 use Rattle.rfc3339.specs.Meaning.{AreInRange, offset_of, value_of, meaning}
 use Rattle.rfc3339.specs.Texts.{HasText, HasFixedText, parts_of, fraction_text, offset_text, rfc3339_text, fixed_text}
 use Rattle.rfc3339.proofs.MeaningLemmas.{meaning-in_range, ok_is}

@@ -1,6 +1,5 @@
 //! Texts read.
 ghost use Rattle.std.specs.Prelude.{◌≡◌, ◌≤◌, ◌⊎◌, IfOk, OkIff, Err, Ok, ℤ, pos};
-ghost use Rattle.calendar_values.specs.Offsets.{IsOffset};
 ghost use Rattle.calendar_values.specs.WallClock.{IsWallClock};
 ghost use Rattle.offset_times.specs.Local.{Local, local, instant_of};
 ghost use Rattle.rfc3339.specs.Form.{IsDateTime};
@@ -83,18 +82,10 @@ fn offset(is_west: bool, hour: u8, minute: u8) -> UtcOffset
     requires minute { minute ≤ 59 }
     ensures { result ≡ offset_of is_west hour minute }
 {
-    let seconds = hour as i32 * 3_600 + minute as i32 * 60;
+    let (hours, minutes) = (hour as i8, minute as i8);
     if is_west {
-        offset_of_seconds(-seconds)
+        UtcOffset::from_hms(-hours, -minutes, 0).unwrap()
     } else {
-        offset_of_seconds(seconds)
+        UtcOffset::from_hms(hours, minutes, 0).unwrap()
     }
-}
-
-// The offset of so many seconds.
-fn offset_of_seconds(seconds: i32) -> UtcOffset
-    requires { IsOffset seconds }
-    ensures { result ≡ seconds }
-{
-    UtcOffset::from_whole_seconds(seconds).unwrap()
 }

@@ -1,12 +1,14 @@
 //! The parts of a text, read from its front on.
-ghost use Rattle.std.specs.Prelude.{◌≡◌, ℕ, ◌≤◌, ◌<◌, option_map, IfSome};
+ghost use Rattle.std.specs.Prelude.{◌≡◌, ℕ, ◌+◌, ◌-◌, ◌*◌, ◌≤◌, ◌<◌, option_map, IfSome};
+ghost use Rattle.std.specs.Int.{IsInRange};
 ghost use Rattle.rfc3339.specs.Reading.{digit_at, two_digits_at, mark_at, part_at, year_at};
 ghost use Rattle.rfc3339.specs.Reading.{separator_at, digits_at, fraction_at, ended, zone_at, parts_at};
 
 use crate::Parts;
 
 // The bytes of the shortest text, as `1985-04-12T23:20:50Z`. What is known to be as long is read without a test of what
-// is left of it at each byte.
+// is left of it at each byte; and the bytes of a part are tested together, by `&` and `|`, so that a processor has few
+// branches to guess.
 const SHORTEST: usize = 20;
 
 // The parts of a text, if it has the form.
@@ -41,36 +43,68 @@ pub(crate) fn parts(text: &[u8]) -> Option<Parts>
 }
 
 // A year of four digits, and what follows it.
-#[tactic(auto, unfolding(crate::specs::Reading::year_at))]
+#[tactic(auto, unfolding(crate::specs::Reading::year_at, crate::specs::Reading::two_digits_at, crate::specs::Reading::digit_at))]
 #[inline(always)]
 fn year(text: &[u8]) -> Option<(u16, &[u8])>
     ensures value { option_map (λ read. (read.0, read.1.now)) result ≡ year_at text.now }
     ensures in_range { IfSome result (λ read. read.0 ≤ 9_999) }
 {
-    let (century, text) = two_digits(text)?;
-    let (year, text) = two_digits(text)?;
-    Some((century as u16 * 100 + year as u16, text))
+    let [thousands, hundreds, tens, units, rest @ ..] = text else {
+        return None;
+    };
+    if thousands.is_ascii_digit()
+        & hundreds.is_ascii_digit()
+        & tens.is_ascii_digit()
+        & units.is_ascii_digit()
+    {
+        let century = number(*thousands, *hundreds);
+        Some((century as u16 * 100 + number(*tens, *units) as u16, rest))
+    } else {
+        None
+    }
 }
 
 // The two digits after a mark, and what follows them.
-#[tactic(auto, unfolding(crate::specs::Reading::part_at))]
+#[tactic(auto, unfolding(crate::specs::Reading::part_at, crate::specs::Reading::mark_at, crate::specs::Reading::two_digits_at, crate::specs::Reading::digit_at))]
 #[inline(always)]
 fn part(mark: u8, text: &[u8]) -> Option<(u8, &[u8])>
     ensures { option_map (λ read. (read.0, read.1.now)) result ≡ part_at mark text.now }
 {
-    two_digits(after_mark(mark, text)?)
+    let [first, tens, units, rest @ ..] = text else {
+        return None;
+    };
+    if (*first == mark) & tens.is_ascii_digit() & units.is_ascii_digit() {
+        Some((number(*tens, *units), rest))
+    } else {
+        None
+    }
 }
 
 // A number of two digits, and what follows it.
-#[tactic(auto, unfolding(crate::specs::Reading::two_digits_at))]
+#[tactic(auto, unfolding(crate::specs::Reading::two_digits_at, crate::specs::Reading::digit_at))]
 #[inline(always)]
 fn two_digits(text: &[u8]) -> Option<(u8, &[u8])>
     ensures value { option_map (λ read. (read.0, read.1.now)) result ≡ two_digits_at text.now }
     ensures in_range { IfSome result (λ read. read.0 ≤ 99) }
 {
-    let (tens, text) = digit(text)?;
-    let (units, text) = digit(text)?;
-    Some((tens * 10 + units, text))
+    let [tens, units, rest @ ..] = text else {
+        return None;
+    };
+    if tens.is_ascii_digit() & units.is_ascii_digit() {
+        Some((number(*tens, *units), rest))
+    } else {
+        None
+    }
+}
+
+// The number of two digits.
+#[inline(always)]
+fn number(tens: u8, units: u8) -> u8
+    requires tens { IsInRange 48 57 tens }
+    requires units { IsInRange 48 57 units }
+    ensures { result ≡ (tens - 48) * 10 + (units - 48) }
+{
+    (tens - b'0') * 10 + (units - b'0')
 }
 
 // The digit in front, and what follows it.
@@ -137,26 +171,46 @@ fn nanosecond(text: &[u8]) -> (u32, &[u8])
     let mut rest = text;
     let mut unit = 100_000_000;
     let mut nanosecond = 0;
-    while let Some((digit, more)) = digit(rest) {
+    while unit > 0 {
+        let Some((digit, more)) = digit(rest) else {
+            return (nanosecond, rest);
+        };
         nanosecond += digit as u32 * unit;
         unit /= 10;
         rest = more;
     }
-    (nanosecond, rest)
+    (nanosecond, after_digits(rest))
+}
+
+// What follows the digits in front.
+fn after_digits(text: &[u8]) -> &[u8]
+    ensures { (0, result.now) ≡ digits_at 0 text.now }
+{
+    let mut rest = text;
+    while let Some((_, more)) = digit(rest) {
+        rest = more;
+    }
+    rest
 }
 
 // `Z` or `z`, or a sign, hours and minutes, and no more: whether it is west, the hours, the minutes.
-#[tactic(auto, unfolding(crate::specs::Reading::zone_at))]
+#[tactic(auto, unfolding(crate::specs::Reading::zone_at, crate::specs::Reading::two_digits_at, crate::specs::Reading::digit_at))]
 #[inline(always)]
 fn zone(text: &[u8]) -> Option<(bool, u8, u8)>
     ensures { result ≡ zone_at text.now }
 {
-    let (first, text) = text.split_first()?;
+    let [first, text @ ..] = text else {
+        return None;
+    };
     if *first == b'Z' || *first == b'z' {
         return at_end((false, 0, 0), text);
     }
-    if *first == b'+' || *first == b'-' {
-        let (hour, text) = two_digits(text)?;
+    let [tens, units, text @ ..] = text else {
+        return None;
+    };
+    // Which sign it is no processor could guess.
+    if ((*first == b'+') | (*first == b'-')) & tens.is_ascii_digit() & units.is_ascii_digit() {
+        let hour = number(*tens, *units);
         let (minute, text) = part(b':', text)?;
         return at_end((*first == b'-', hour, minute), text);
     }

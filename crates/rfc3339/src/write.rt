@@ -1,6 +1,7 @@
 //! Texts written.
-ghost use Rattle.std.specs.Prelude.{◌≡◌, ◌≤◌, ◌<◌, ◌+◌, ◌++◌, codes, length, SomeIff, IfSome, unsigned_abs};
+ghost use Rattle.std.specs.Prelude.{◌≡◌, ◌≤◌, ◌<◌, ◌+◌, ◌++◌, codes, length, SomeIff, IfSome, pos};
 ghost use Rattle.calendar_values.specs.Digits.{last_digits, text_capacity};
+ghost use Rattle.calendar_values.specs.Offsets.{IsOffsetParts, seconds_of_parts};
 ghost use Rattle.rfc3339.specs.Texts.{HasText, fraction_text, offset_text, rfc3339_text};
 
 use calendar_values::Text;
@@ -14,9 +15,8 @@ pub(crate) fn text_of(at: OffsetDateTime) -> Option<Text>
 {
     let (date, time, offset) = at.parts();
     let (year, month, day) = date.to_calendar_date();
-    let seconds = offset.whole_seconds();
-    let size = seconds.unsigned_abs();
-    if year < 0 || year > 9_999 || size % 60 != 0 || size >= 86_400 {
+    let (hours, minutes, seconds) = offset.as_hms();
+    if year < 0 || year > 9_999 || seconds != 0 || hours.unsigned_abs() > 23 {
         return None;
     }
     let (hour, minute, second, nanosecond) = time.as_hms_nano();
@@ -25,7 +25,7 @@ pub(crate) fn text_of(at: OffsetDateTime) -> Option<Text>
     text.push(b'T');
     push_clock(&mut text, hour, minute, second);
     push_fraction(&mut text, nanosecond);
-    push_offset(&mut text, seconds);
+    push_offset(&mut text, hours, minutes);
     Some(text)
 }
 
@@ -68,20 +68,19 @@ fn push_fraction(text: &mut Text, nanosecond: u32)
     }
 }
 
-// Adds the offset of so many seconds.
-#[tactic(auto, unfolding(crate::specs::Texts::offset_text))]
-fn push_offset(text: &mut Text, seconds: i32)
+// Adds the offset of so many hours and minutes, of one sign.
+fn push_offset(text: &mut Text, hours: i8, minutes: i8)
     requires room { length text.old + 6 ≤ text_capacity }
-    requires size { unsigned_abs seconds < 86_400 }
-    ensures value { text.new ≡ text.old ++ offset_text seconds }
+    requires parts { IsOffsetParts hours minutes (pos 0) }
+    ensures value { text.new ≡ text.old ++ offset_text (seconds_of_parts hours minutes (pos 0)) }
     ensures length { length text.new ≤ length text.old + 6 }
 {
-    let size = seconds.unsigned_abs();
-    if size == 0 {
+    if hours == 0 && minutes == 0 {
         text.push(b'Z');
         return;
     }
-    let sign = if seconds < 0 { b'-' } else { b'+' };
-    text.push_part(sign, (size / 3_600) as u8);
-    text.push_part(b':', (size / 60 % 60) as u8);
+    let is_west = (hours < 0) | (minutes < 0);
+    let sign = if is_west { b'-' } else { b'+' };
+    text.push_part(sign, hours.unsigned_abs());
+    text.push_part(b':', minutes.unsigned_abs());
 }

@@ -1,6 +1,6 @@
 -- Unix seconds as days and times of day.
-use Rattle.std.proofs.Common.{◌≡◌, ℕ, ◌/◌, ◌<◌, Option, SomeIff, Result, Ok, Err, OkIff, ◌∙◌, arith, ℤ, pos, negsuc, ◌+ℤ◌, ◌*ℤ◌, FitsSigned}
-use Rattle.std.specs.Int.{w32, w64, w128, int_div_euclid, int_rem_euclid}
+use Rattle.std.proofs.Common.{◌≡◌, ℕ, ◌/◌, ◌<◌, Option, SomeIff, Result, Ok, Err, OkIff, ◌∙◌, arith, ℤ, pos, negsuc, neg_ℤ, ◌+ℤ◌, ◌-ℤ◌, ◌*ℤ◌, ◌≤ℤ◌, FitsSigned}
+use Rattle.std.specs.Int.{w64, w128, int_div_euclid, int_rem_euclid}
 use Rattle.std.specs.Result.{result_ok}
 use Rattle.std.proofs.lemmas.Int.{ints}
 use Rattle.calendar_values.specs.Clock.{nanos_per_day, nanos_per_second, nanosecond_of}
@@ -38,18 +38,16 @@ pub IsDay-second : (second : ℤ) (n : ℕ) → n < nanos_per_second → IsWallC
 IsDay-second (pos a) n below h = (omega (arith, ints), omega (arith, ints))
 IsDay-second (negsuc a) n below h = (omega (arith, ints), omega (arith, ints))
 
--- the Julian day of a second's day is a number of 64 bits
-pub FitsSigned-day : (second : ℤ) → FitsSigned w64 second → FitsSigned w64 (int_div_euclid second (pos 86_400))
-FitsSigned-day (pos a) h = omega (arith, ints)
-FitsSigned-day (negsuc a) h = omega (arith, ints)
+-- a second of the range lies less than 400,000,000 days from 1970
+pub IsDay-near : (second : ℤ) → IsDay (int_div_euclid second (pos 86_400))
+    → (neg_ℤ (pos 34_560_000_000_000) ≤ℤ second) × (second ≤ℤ pos 34_560_000_000_000)
+IsDay-near (pos a) day = (omega (arith, ints), omega (arith, ints))
+IsDay-near (negsuc a) day = (omega (arith, ints), omega (arith, ints))
 
-pub FitsSigned-julian_day : (second : ℤ) → FitsSigned w64 second → FitsSigned w64 (int_div_euclid second (pos 86_400) +ℤ pos 2_440_588)
-FitsSigned-julian_day (pos a) h = omega (arith, ints)
-FitsSigned-julian_day (negsuc a) h = omega (arith, ints)
-
--- each day of the range has a Julian day of 32 bits
-pub FitsSigned-IsDay : (d : ℤ) → IsDay d → FitsSigned w32 (d +ℤ pos 2_440_588)
-FitsSigned-IsDay d h = omega (arith, ints)
+-- and its day is found by whole days from there
+pub day_of_second : (second : ℤ) (n : ℕ) → pos n ≡ second +ℤ pos 34_560_000_000_000 → pos (n / 86_400) -ℤ pos 400_000_000 ≡ int_div_euclid second (pos 86_400)
+day_of_second (pos a) n e = omega (arith, ints)
+day_of_second (negsuc a) n e = omega (arith, ints)
 
 -- the date of a Julian day, if it has one
 pub SomeIff-result_ok : (r : Result ℤ Refusal) (o : Option ℤ) (m n : ℤ) → o ≡ result_ok r → OkIff r (IsDay m) m → m ≡ n → SomeIff o (IsDay n) n

@@ -13,7 +13,7 @@ ghost use Rattle.plain_times.specs.Packed.{packed_wall_clock};
 use crate::OffsetDateTime;
 use crate::carries::to_utc_raw;
 use calendar_values::Time;
-use plain_times::packed;
+use plain_times::{PlainDateTime, packed};
 use std::cmp::Ordering;
 use std::hash::{Hash, Hasher};
 use utc_times::UtcDateTime;
@@ -35,24 +35,37 @@ impl OffsetDateTime {
         self.cmp(&OffsetDateTime::from(other))
     }
 
-    // Dates more than three days apart decide alone, else the time between the instants does.
     #[inline(always)]
     fn by_instant(self, other: OffsetDateTime) -> Ordering
         ensures { result ≡ int_cmp (instant_of self) (instant_of other) }
     {
-        let days = self.days_after(other);
-        if days.unsigned_abs() > 3 {
-            return days.cmp(&0);
-        }
-        self.nanoseconds_after(other).cmp(&0)
+        self.sign_after(other).cmp(&0)
     }
 
-    // The nanoseconds from the other instant to this one.
-    fn nanoseconds_after(self, other: OffsetDateTime) -> i128
-        ensures { result ≡ instant_of self -ℤ instant_of other }
+    // A number of the sign of the time from the other instant to this one. Dates more than four days apart
+    // decide alone, else the time between the instants does.
+    #[inline(always)]
+    fn sign_after(self, other: OffsetDateTime) -> i64
+        ensures { int_cmp result (pos 0) ≡ int_cmp (instant_of self) (instant_of other) }
     {
-        let nanoseconds = self.nanosecond() as i32 - other.nanosecond() as i32;
-        nanoseconds_of(self.seconds_after(other), nanoseconds)
+        let days = self.days_after(other);
+        if days < -4 || days > 4 {
+            return days as i64;
+        }
+        self.sign_of_time_after(other)
+    }
+
+    // The seconds from the other instant to this one, or where there are none the nanoseconds.
+    #[inline(always)]
+    fn sign_of_time_after(self, other: OffsetDateTime) -> i64
+        ensures { int_cmp result (pos 0) ≡ int_cmp (instant_of self) (instant_of other) }
+    {
+        let seconds = self.seconds_after(other);
+        if seconds == 0 {
+            self.nanosecond() as i64 - other.nanosecond() as i64
+        } else {
+            seconds
+        }
     }
 
     // The seconds from the other instant to this one, each without the nanosecond of its second.
@@ -76,7 +89,7 @@ impl OffsetDateTime {
         if year == other_year {
             i32::from(ordinal) - i32::from(other_ordinal)
         } else {
-            self.to_julian_day() - other.to_julian_day()
+            days_between(self.date_time(), other.date_time())
         }
     }
 
@@ -99,11 +112,11 @@ impl OffsetDateTime {
         packed(year, ordinal, time)
     }
 
-    // The days from the other date to this one, where no year has more than 365.
+    // The days from the other date to this one, as if each year had 366.
     #[inline(always)]
     fn days_after(self, other: OffsetDateTime) -> i32
-        ensures later { pos 3 <ℤ result → instant_of other <ℤ instant_of self }
-        ensures earlier { result <ℤ neg_ℤ (pos 3) → instant_of self <ℤ instant_of other }
+        ensures later { pos 4 <ℤ result → instant_of other <ℤ instant_of self }
+        ensures earlier { result <ℤ neg_ℤ (pos 4) → instant_of self <ℤ instant_of other }
     {
         let (year, ordinal) = self.date_time().to_ordinal_date();
         let (other_year, other_ordinal) = other.date_time().to_ordinal_date();
@@ -111,13 +124,13 @@ impl OffsetDateTime {
     }
 }
 
-// The nanoseconds of seconds and of nanoseconds.
-#[inline(always)]
-#[tactic(auto, using(calendar_values::specs::SignedArith::signed_casts))]
-fn nanoseconds_of(seconds: i64, nanoseconds: i32) -> i128
-    ensures { result ≡ seconds *ℤ pos 1_000_000_000 +ℤ nanoseconds }
+// The days from the second date to the first. Few dates that lie near are of two years.
+#[cold]
+#[inline(never)]
+fn days_between(at: PlainDateTime, other: PlainDateTime) -> i32
+    ensures { result ≡ wall_day at -ℤ wall_day other }
 {
-    seconds as i128 * 1_000_000_000 + nanoseconds as i128
+    at.to_julian_day() - other.to_julian_day()
 }
 
 // The seconds of days and of seconds.
@@ -139,16 +152,16 @@ fn second_of_day(time: Time) -> u32
     u32::from(hour) * 3_600 + u32::from(minute) * 60 + u32::from(second)
 }
 
-// The days from one day of a year to another, so many years of 365 days later.
+// The days from one day of a year to another, so many years of 366 days later.
 #[inline(always)]
 #[tactic(auto, using(calendar_values::specs::SignedArith::signed_casts))]
 fn days_apart(years: i32, ordinal: u16, other_ordinal: u16) -> i32
     requires years { unsigned_abs years ≤ 1_999_998 }
     requires ordinal { ordinal ≤ 366 }
     requires other_ordinal { other_ordinal ≤ 366 }
-    ensures { result ≡ years *ℤ pos 365 +ℤ pos ordinal -ℤ pos other_ordinal }
+    ensures { result ≡ years *ℤ pos 366 +ℤ pos ordinal -ℤ pos other_ordinal }
 {
-    years * 365 + i32::from(ordinal) - i32::from(other_ordinal)
+    years * 366 + i32::from(ordinal) - i32::from(other_ordinal)
 }
 
 impl PartialEq for OffsetDateTime {

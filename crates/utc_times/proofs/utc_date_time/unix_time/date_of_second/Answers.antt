@@ -1,29 +1,27 @@
-use Rattle.std.proofs.Common.{◌≡◌, ◌∙◌, ℤ, pos, ◌+ℤ◌, ◌-ℤ◌, ap, arith, subst, sym, to_z, of_z, FitsSigned}
-use Rattle.std.proofs.lemmas.Int.{ints, to_z-of_z}
-use Rattle.std.specs.Int.{w32, w64, int_div_euclid}
-use Rattle.utc_times.proofs.UnixLemmas.{FitsSigned-day, FitsSigned-julian_day, FitsSigned-IsDay, SomeIff-result_ok}
+use Rattle.std.proofs.Common.{◌≡◌, ◌/◌, arith, pos, ◌-ℤ◌, to_z, of_z}
+use Rattle.std.proofs.lemmas.Int.{ints, to_z-of_z, to_z_pos}
+use Rattle.std.specs.Int.{w32, w64}
+use Rattle.calendar_values.specs.SignedArith.{signed_arith, signed_casts}
+use Rattle.utc_times.proofs.UnixLemmas.{IsDay-near, day_of_second, SomeIff-result_ok}
+use Rattle.utc_times.proofs.utc_date_time.unix_time.date_of_second.Goals.{then-second-via-then-second}
+use Rattle.utc_times.proofs.utc_date_time.unix_time.date_of_second.Goals.{then-second-via-else-second+then-second-gt-SECONDS_BEFORE_1970}
 use Rattle.utc_times.proofs.utc_date_time.unix_time.date_of_second.Goals as goal
 
--- the Julian day as the code computes it
-julian_day : (second day : ℤ) → FitsSigned w64 second → day ≡ int_div_euclid (to_z w64 (of_z w64 second)) (pos 86_400)
-    → to_z w64 (of_z w64 (to_z w64 (of_z w64 day) +ℤ pos 2_440_588)) ≡ int_div_euclid second (pos 86_400) +ℤ pos 2_440_588
-julian_day second day fits e =
-    let quotient : day ≡ int_div_euclid second (pos 86_400) = e ∙ ap (λ (z : ℤ). int_div_euclid z (pos 86_400)) (to_z-of_z w64 second fits) in
-    let day_fits = FitsSigned-day second fits in
-    ap (λ (z : ℤ). to_z w64 (of_z w64 (to_z w64 (of_z w64 z) +ℤ pos 2_440_588))) quotient
-    ∙ ap (λ (z : ℤ). to_z w64 (of_z w64 (z +ℤ pos 2_440_588))) (to_z-of_z w64 _ day_fits) ∙ to_z-of_z w64 _ (FitsSigned-julian_day second fits)
+pub returns-then-second : goal.returns-then-second
+returns-then-second c = λ day.
+    let near = IsDay-near c.args.second day in
+    elim c.then-second.branch [
+      | then-second-via-then-second w ↦ omega (arith, signed_casts, w.if-second, near.0)
+      | then-second-via-else-second+then-second-gt-SECONDS_BEFORE_1970 w ↦
+          omega (arith, signed_casts, w.if-second-gt-SECONDS_BEFORE_1970, near.1)
+    ]
 
--- and the day that it is of
-day_of : (julian_day day : ℤ) → julian_day ≡ day +ℤ pos 2_440_588 → julian_day -ℤ pos 2_440_588 ≡ day
-day_of julian_day day e = omega (arith, ints)
-
-pub returns-in-Err : goal.returns-in-Err
-returns-in-Err c =
-    let e = julian_day c.args.second c.div_euclid.result c.ranges.second c.div_euclid.ensures in
-    λ day. subst (λ (z : ℤ). FitsSigned w32 z → ⊥) e c.in-Err.ensures (FitsSigned-IsDay _ day)
-
-pub returns-in-Ok : goal.returns-in-Ok
-returns-in-Ok c =
-    let e = julian_day c.args.second c.div_euclid.result c.ranges.second c.div_euclid.ensures in
-    let fits : FitsSigned w32 c.in-Ok.julian_day = subst (FitsSigned w32) (sym c.in-Ok.ensures.1) c.in-Ok.ensures.0 in
-    SomeIff-result_ok _ _ _ _ c.ok.ensures.value c.from_julian_day.ensures.value (day_of _ _ (to_z-of_z w32 _ fits ∙ c.in-Ok.ensures.1 ∙ e))
+pub returns : goal.returns
+returns c =
+    let n = c.seconds_from_start.result in
+    let second = to_z-of_z w64 c.args.second c.ranges.second in
+    let day = day_of_second c.args.second n (rw second at c.seconds_from_start.ensures.value) in
+    let cast : to_z w32 (n / 86_400) ≡ pos (n / 86_400) = to_z_pos w32 (n / 86_400) (omega arith) in
+    let julian_day : to_z w32 (of_z w32 (to_z w32 (n / 86_400) -ℤ pos 397_559_412)) ≡ pos (n / 86_400) -ℤ pos 397_559_412 =
+    omega (arith, signed_arith, cast) in
+    SomeIff-result_ok _ _ _ _ c.ok.ensures.value c.from_julian_day.ensures.value (omega (arith, ints, julian_day, day))
