@@ -4,38 +4,30 @@ use Rattle.std.proofs.lemmas.Bool.Decides.{nat_tests}
 use Rattle.calendar_values.specs.Calendar.{is_leap_year, days_in_year, days_in_month, year_of, month_of, day_of_month_of, day_of_calendar_date}
 use Rattle.calendar_values.specs.Calendar.{day_of_ordinal_date, IsCalendarDate, IsOrdinalDate}
 use Rattle.calendar_values.specs.Range.{first_year, last_year, is_outside}
-use Rattle.calendar_values.specs.Refusals.{Refusal, calendar_date, ordinal_date}
+use Rattle.calendar_values.specs.Constructors.{calendar_date, ordinal_date}
+use Rattle.calendar_values.specs.Refusals.{Refusal}
 use Rattle.calendar_values.specs.Laws.{IsOnlyDay}
-use Rattle.calendar_values.specs.MonthLaws.{day_of_calendar_date-of, year_of-calendar_date, month_of-calendar_date, day_of_month_of-calendar_date}
+use Rattle.calendar_values.specs.CalendarDateLemmas.{day_of_calendar_date-of, year_of-calendar_date, month_of-calendar_date, day_of_month_of-calendar_date}
 
--- where a test does not refuse, what follows it is accepted
-not_refused : {A : Type 0} (test : Bool) (refusal : Refusal) (rest : Result A Refusal) (x : A) → cond test (Err refusal) rest ≡ Ok x → (test ≡ false) ×
-    (rest ≡ Ok x)
-not_refused true refusal rest x e = cc
-not_refused false refusal rest x e = (refl, e)
+-- where a test does not refuse, the value is given
+not_refused : {A : Type 0} (test : Bool) (refusal : Refusal) (x y : A) → cond test (Err refusal) (Ok x) ≡ Ok y → (test ≡ false) × (x ≡ y)
+not_refused true refusal x y e = cc
+not_refused false refusal x y e = (refl, cc)
 
 -- an accepted date is one of the calendar, and is its day number
 pub calendar_date-accepted : (y n : ℤ) (m d : ℕ) → 1 ≤ m → m ≤ 12 → calendar_date y m d ≡ Ok n → IsCalendarDate y m d × (day_of_calendar_date y m d ≡ n)
 unfolding calendar_date
 calendar_date-accepted y n m d first last e =
-    let year = not_refused (is_outside first_year last_year y) _ _ n e in
-    let day = not_refused ((d == 0) || nat_lt 31 d) _ _ n year.1 in
-    let month = not_refused (nat_lt (days_in_month (is_leap_year y) m) d) _ _ n day.1 in
-    let tested = day.0 in
-    let fits = month.0 in (
-      record { month_first = first; month_last = last; day_first = grind (arith, nat_tests); day_last = grind (arith, nat_tests) },
-      cc,
-    )
+    let accepted = not_refused (is_outside first_year last_year y || ((d == 0) || nat_lt (days_in_month (is_leap_year y) m) d)) _ _ n e in
+    let tested = accepted.0 in
+    (record { month_first = first; month_last = last; day_first = grind (arith, nat_tests); day_last = grind (arith, nat_tests) }, accepted.1)
 
 pub ordinal_date-accepted : (y n : ℤ) (o : ℕ) → ordinal_date y o ≡ Ok n → IsOrdinalDate y o × (day_of_ordinal_date y o ≡ n)
 unfolding ordinal_date
 ordinal_date-accepted y n o e =
-    let year = not_refused (is_outside first_year last_year y) _ _ n e in
-    let place = not_refused ((o == 0) || nat_lt 366 o) _ _ n year.1 in
-    let length = not_refused (nat_lt (days_in_year y) o) _ _ n place.1 in
-    let tested = place.0 in
-    let fits = length.0 in
-    (record { first = grind (arith, nat_tests); last = grind (arith, nat_tests) }, cc)
+    let accepted = not_refused (is_outside first_year last_year y || ((o == 0) || nat_lt (days_in_year y) o)) _ _ n e in
+    let tested = accepted.0 in
+    (record { first = grind (arith, nat_tests); last = grind (arith, nat_tests) }, accepted.1)
 
 same_date : (y z : ℤ) (m l d e : ℕ) → y ≡ z → m ≡ l → d ≡ e → day_of_calendar_date y m d ≡ day_of_calendar_date z l e
 same_date y z m l d e year month day = rw (year, month, day)

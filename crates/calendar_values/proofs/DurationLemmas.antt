@@ -4,7 +4,7 @@ use Rattle.std.proofs.lemmas.Int.{by_lt_z, ints}
 use Rattle.std.specs.Cmp.{int_cmp_is}
 use Rattle.std.specs.Ordering.{int_cmp, ordering_then}
 use Rattle.std.specs.declared.cmp.Ordering.TheVariants.{Less, Equal, Greater}
-use Rattle.calendar_values.specs.DurationLaws.{duration_signs}
+use Rattle.calendar_values.specs.DurationPartLemmas.{duration_signs}
 use Rattle.calendar_values.specs.Durations.{duration_of_parts, IsDuration, whole_seconds_of, whole_days_of, IsDurationParts}
 use Rattle.calendar_values.specs.SignedArith.{signed_arith}
 

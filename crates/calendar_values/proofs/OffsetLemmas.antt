@@ -4,7 +4,7 @@ use Rattle.std.proofs.Common.{inl, inr, List, ◌++◌, refl, arith, IsTrue, fal
 use Rattle.std.proofs.lemmas.Int.{by_lt_z, ints}
 use Rattle.std.specs.Prelude.{Ok, codes, int_lt, if◌then◌else◌}
 use Rattle.calendar_values.specs.Digits.{last_digits}
-use Rattle.calendar_values.specs.OffsetLaws.{offset_signs}
+use Rattle.calendar_values.specs.OffsetPartLemmas.{offset_signs}
 use Rattle.calendar_values.specs.Offsets.{IsOffset, IsOffsetParts, seconds_of_parts, offset_hours_of, offset_minutes_of, offset_seconds_of, with_sign_of}
 use Rattle.calendar_values.specs.Offsets.{offset_of_seconds}
 use Rattle.calendar_values.specs.SignedArith.{signed_arith, one_part}

@@ -3,7 +3,7 @@ use Rattle.std.proofs.Common.{◌≡◌, pos, arith, to_z-of_z}
 use Rattle.calendar_values.specs.Calendar.{year_start}
 use Rattle.calendar_values.specs.Range.{last_year}
 use Rattle.calendar_values.specs.SignedArith.{signed_arith}
-use Rattle.calendar_values.specs.YearLaws.{year_start-1970, year_start-first, year_start-after_last, year_start-next}
+use Rattle.calendar_values.specs.YearLemmas.{year_start-1970, year_start-first, year_start-after_last, year_start-next}
 
 pub year_start-last : year_start last_year ≡ pos 364_522_607
 year_start-last = omega (arith, signed_arith, year_start-after_last, year_start-next last_year)

@@ -6,7 +6,7 @@ use Rattle.calendar_values.specs.Clock.{IsClock, Shows, hour_of, minute_of, seco
 use Rattle.calendar_values.specs.Range.{first_year, last_year, first_day, last_day}
 use Rattle.calendar_values.specs.Replacements.{with_year, with_month, with_day, with_ordinal, with_hour, with_minute, with_second, with_millisecond}
 use Rattle.calendar_values.specs.Replacements.{with_microsecond, with_nanosecond}
-use Rattle.calendar_values.specs.Truncations.{truncated, IsGreatestMultiple}
+use Rattle.calendar_values.specs.Truncations.{multiple_below, IsGreatestMultiple}
 use Rattle.calendar_values.specs.Weeks.{weekday_of}
 
 -- 1970 begins on day 0, and each year begins after the days of the year before
@@ -68,4 +68,4 @@ pub record ClockReplacementsKeepTheRest : Type 0 where
 
 -- a truncation gives the greatest multiple of the unit that is not above the clock
 abbrev pub TruncationIsGreatestMultiple : Type 0
-TruncationIsGreatestMultiple = (unit c : ℕ) → 0 < unit → IsGreatestMultiple unit c (truncated unit c)
+TruncationIsGreatestMultiple = (unit c : ℕ) → 0 < unit → IsGreatestMultiple unit c (multiple_below unit c)

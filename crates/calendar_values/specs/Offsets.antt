@@ -1,7 +1,8 @@
 -- An offset from UTC is a whole number of seconds, from -25:59:59 to 25:59:59. Its hours, minutes and seconds have one sign.
-use Rattle.std.specs.Prelude.{◌≤◌, ◌⊎◌, if◌then◌else◌, ℤ, pos, neg_ℤ, ◌+ℤ◌, ◌*ℤ◌, ◌≤ℤ◌, int_lt, int_div, int_rem, unsigned_abs, codes, Result, Ok}
+use Rattle.std.specs.Prelude.{◌≤◌, ◌⊎◌, if◌then◌else◌, ℤ, pos, neg_ℤ, ◌+ℤ◌, ◌*ℤ◌, ◌≤ℤ◌, int_lt, int_div, int_rem, unsigned_abs, codes, Result, Ok, Err, ◌||◌}
+use Rattle.calendar_values.specs.Outcomes.{Outcome}
 use Rattle.calendar_values.specs.Range.{is_outside}
-use Rattle.calendar_values.specs.Refusals.{Refusal, out_of_range, outright_refusal}
+use Rattle.calendar_values.specs.Refusals.{Refusal, outright_refusal}
 
 -- the least offset and the greatest
 abbrev pub least_offset : ℤ
@@ -59,15 +60,32 @@ abbrev pub seconds_of_signed_parts : ℤ → ℤ → ℤ → ℤ
 seconds_of_signed_parts h m s =
     seconds_of_parts h (with_sign_of h m) (with_sign_of h (with_sign_of m s))
 
--- the offset of hours, minutes and seconds
+-- the offset of hours, minutes and seconds, or the refusal of one of them
 unfoldable pub offset_of_parts : ℤ → ℤ → ℤ → Result ℤ Refusal
 offset_of_parts h m s =
-    if is_outside (neg_ℤ (pos 25)) (pos 25) h then out_of_range (codes "hours")
-    else (if is_outside (neg_ℤ (pos 59)) (pos 59) m then out_of_range (codes "minutes")
-    else (if is_outside (neg_ℤ (pos 59)) (pos 59) s then out_of_range (codes "seconds")
-    else Ok (seconds_of_signed_parts h m s)))
+    if is_outside (neg_ℤ (pos 25)) (pos 25) h || (is_outside (neg_ℤ (pos 59)) (pos 59) m || is_outside (neg_ℤ (pos 59)) (pos 59) s)
+    then Err (offset_refusal h m)
+    else Ok (seconds_of_signed_parts h m s)
 
--- the offset of so many seconds
+-- what hours, minutes and seconds come to
+abbrev pub offset_outcome : ℤ → ℤ → ℤ → Outcome ℤ
+offset_outcome h m s = record {
+  fits = AreOffsetParts h m s;
+  value = seconds_of_signed_parts h m s;
+  refusal = offset_refusal h m;
+  answer = offset_of_parts h m s;
+}
+
+-- the offset of so many seconds, or their refusal
 unfoldable pub offset_of_seconds : ℤ → Result ℤ Refusal
 offset_of_seconds o =
-    if is_outside least_offset greatest_offset o then out_of_range (codes "offset_seconds") else Ok o
+    if is_outside least_offset greatest_offset o then Err (outright_refusal (codes "offset_seconds")) else Ok o
+
+-- what so many seconds come to
+abbrev pub offset_seconds_outcome : ℤ → Outcome ℤ
+offset_seconds_outcome o = record {
+  fits = IsOffset o;
+  value = o;
+  refusal = outright_refusal (codes "offset_seconds");
+  answer = offset_of_seconds o;
+}

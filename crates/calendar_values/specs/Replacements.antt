@@ -1,57 +1,97 @@
--- A date or a clock with one part replaced: the one whose other parts are as before, or the refusal of a part that is out of its range.
-use Rattle.std.specs.Prelude.{ℕ, ◌*◌, ℤ, Result, Ok, if◌then◌else◌, nat_lt, codes}
-use Rattle.calendar_values.specs.Calendar.{year_of, month_of, day_of_month_of}
+-- What a date or a clock comes to with one part replaced: the one whose other parts are as before, or the refusal of a part.
+use Rattle.std.specs.Prelude.{ℕ, ◌≤◌, ◌*◌, ℤ, Result, codes}
+use Rattle.calendar_values.specs.Calendar.{year_of, month_of, day_of_month_of, is_leap_year, days_in_month, days_in_year, day_of_calendar_date}
+use Rattle.calendar_values.specs.Calendar.{day_of_ordinal_date}
 use Rattle.calendar_values.specs.Clock.{nanos_per_microsecond, nanos_per_millisecond, clock_of_parts, hour_of, minute_of, second_of, nanosecond_of}
-use Rattle.calendar_values.specs.Refusals.{Refusal, out_of_range, calendar_date, ordinal_date}
+use Rattle.calendar_values.specs.Constructors.{calendar_date, ordinal_date, calendar_date_outcome}
+use Rattle.calendar_values.specs.Outcomes.{Outcome, at_most}
+use Rattle.calendar_values.specs.Refusals.{Refusal, date_refusal, ordinal_refusal, conditional_refusal}
 
 -- another year, with the month and the day of the month kept
-abbrev pub with_year : ℤ → ℤ → Result ℤ Refusal
-with_year n y = calendar_date y (month_of n) (day_of_month_of n)
+abbrev pub year_outcome : ℤ → ℤ → Outcome ℤ
+year_outcome n y = calendar_date_outcome y (month_of n) (day_of_month_of n)
 
 -- another month, with the year and the day of the month kept
-abbrev pub with_month : ℤ → ℕ → Result ℤ Refusal
-with_month n m = calendar_date (year_of n) m (day_of_month_of n)
+abbrev pub month_outcome : ℤ → ℕ → Outcome ℤ
+month_outcome n m = record {
+  fits = day_of_month_of n ≤ days_in_month (is_leap_year (year_of n)) m;
+  value = day_of_calendar_date (year_of n) m (day_of_month_of n);
+  refusal = conditional_refusal (codes "day");
+  answer = calendar_date (year_of n) m (day_of_month_of n);
+}
 
 -- another day of the month, with the year and the month kept
-abbrev pub with_day : ℤ → ℕ → Result ℤ Refusal
-with_day n d = calendar_date (year_of n) (month_of n) d
+abbrev pub day_outcome : ℤ → ℕ → Outcome ℤ
+day_outcome n d = record {
+  fits = (1 ≤ d) × (d ≤ days_in_month (is_leap_year (year_of n)) (month_of n));
+  value = day_of_calendar_date (year_of n) (month_of n) d;
+  refusal = date_refusal (year_of n) d;
+  answer = calendar_date (year_of n) (month_of n) d;
+}
 
 -- another day of the year, with the year kept
-abbrev pub with_ordinal : ℤ → ℕ → Result ℤ Refusal
-with_ordinal n ordinal = ordinal_date (year_of n) ordinal
+abbrev pub ordinal_outcome : ℤ → ℕ → Outcome ℤ
+ordinal_outcome n ordinal = record {
+  fits = (1 ≤ ordinal) × (ordinal ≤ days_in_year (year_of n));
+  value = day_of_ordinal_date (year_of n) ordinal;
+  refusal = ordinal_refusal (year_of n) ordinal;
+  answer = ordinal_date (year_of n) ordinal;
+}
 
 -- another hour, with the minute, the second and the nanosecond kept
-abbrev pub with_hour : ℕ → ℕ → Result ℕ Refusal
-with_hour c h =
-    if nat_lt 23 h then out_of_range (codes "hour")
-    else Ok (clock_of_parts h (minute_of c) (second_of c) (nanosecond_of c))
+abbrev pub hour_outcome : ℕ → ℕ → Outcome ℕ
+hour_outcome c h = at_most 23 (codes "hour") h (clock_of_parts h (minute_of c) (second_of c) (nanosecond_of c))
 
 -- another minute, with the hour, the second and the nanosecond kept
-abbrev pub with_minute : ℕ → ℕ → Result ℕ Refusal
-with_minute c m =
-    if nat_lt 59 m then out_of_range (codes "minute")
-    else Ok (clock_of_parts (hour_of c) m (second_of c) (nanosecond_of c))
+abbrev pub minute_outcome : ℕ → ℕ → Outcome ℕ
+minute_outcome c m = at_most 59 (codes "minute") m (clock_of_parts (hour_of c) m (second_of c) (nanosecond_of c))
 
 -- another second, with the hour, the minute and the nanosecond kept
-abbrev pub with_second : ℕ → ℕ → Result ℕ Refusal
-with_second c s =
-    if nat_lt 59 s then out_of_range (codes "second")
-    else Ok (clock_of_parts (hour_of c) (minute_of c) s (nanosecond_of c))
+abbrev pub second_outcome : ℕ → ℕ → Outcome ℕ
+second_outcome c s = at_most 59 (codes "second") s (clock_of_parts (hour_of c) (minute_of c) s (nanosecond_of c))
 
 -- another millisecond of the second, with the hour, the minute and the second kept, and what is finer cleared
-abbrev pub with_millisecond : ℕ → ℕ → Result ℕ Refusal
-with_millisecond c milli =
-    if nat_lt 999 milli then out_of_range (codes "millisecond")
-    else Ok (clock_of_parts (hour_of c) (minute_of c) (second_of c) (milli * nanos_per_millisecond))
+abbrev pub millisecond_outcome : ℕ → ℕ → Outcome ℕ
+millisecond_outcome c milli =
+    at_most 999 (codes "millisecond") milli (clock_of_parts (hour_of c) (minute_of c) (second_of c) (milli * nanos_per_millisecond))
 
 -- another microsecond of the second, with the hour, the minute and the second kept, and what is finer cleared
-abbrev pub with_microsecond : ℕ → ℕ → Result ℕ Refusal
-with_microsecond c micro =
-    if nat_lt 999_999 micro then out_of_range (codes "microsecond")
-    else Ok (clock_of_parts (hour_of c) (minute_of c) (second_of c) (micro * nanos_per_microsecond))
+abbrev pub microsecond_outcome : ℕ → ℕ → Outcome ℕ
+microsecond_outcome c micro =
+    at_most 999_999 (codes "microsecond") micro (clock_of_parts (hour_of c) (minute_of c) (second_of c) (micro * nanos_per_microsecond))
 
 -- another nanosecond of the second, with the hour, the minute and the second kept
+abbrev pub nanosecond_outcome : ℕ → ℕ → Outcome ℕ
+nanosecond_outcome c n =
+    at_most 999_999_999 (codes "nanosecond") n (clock_of_parts (hour_of c) (minute_of c) (second_of c) n)
+
+-- what each of them answers
+abbrev pub with_year : ℤ → ℤ → Result ℤ Refusal
+with_year n y = (year_outcome n y).answer
+
+abbrev pub with_month : ℤ → ℕ → Result ℤ Refusal
+with_month n m = (month_outcome n m).answer
+
+abbrev pub with_day : ℤ → ℕ → Result ℤ Refusal
+with_day n d = (day_outcome n d).answer
+
+abbrev pub with_ordinal : ℤ → ℕ → Result ℤ Refusal
+with_ordinal n ordinal = (ordinal_outcome n ordinal).answer
+
+abbrev pub with_hour : ℕ → ℕ → Result ℕ Refusal
+with_hour c h = (hour_outcome c h).answer
+
+abbrev pub with_minute : ℕ → ℕ → Result ℕ Refusal
+with_minute c m = (minute_outcome c m).answer
+
+abbrev pub with_second : ℕ → ℕ → Result ℕ Refusal
+with_second c s = (second_outcome c s).answer
+
+abbrev pub with_millisecond : ℕ → ℕ → Result ℕ Refusal
+with_millisecond c milli = (millisecond_outcome c milli).answer
+
+abbrev pub with_microsecond : ℕ → ℕ → Result ℕ Refusal
+with_microsecond c micro = (microsecond_outcome c micro).answer
+
 abbrev pub with_nanosecond : ℕ → ℕ → Result ℕ Refusal
-with_nanosecond c n =
-    if nat_lt 999_999_999 n then out_of_range (codes "nanosecond")
-    else Ok (clock_of_parts (hour_of c) (minute_of c) (second_of c) n)
+with_nanosecond c n = (nanosecond_outcome c n).answer

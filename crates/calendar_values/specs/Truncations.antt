@@ -2,8 +2,8 @@
 use Rattle.std.specs.Prelude.{◌≡◌, ℕ, ◌*◌, ◌/◌, ◌≤◌}
 
 -- the greatest multiple of the unit that is not above c
-abbrev pub truncated : ℕ → ℕ → ℕ
-truncated unit c = c / unit * unit
+abbrev pub multiple_below : ℕ → ℕ → ℕ
+multiple_below unit c = c / unit * unit
 
 -- t is the greatest multiple of the unit that is not above c
 pub record IsGreatestMultiple (unit c t : ℕ) : Type 0 where

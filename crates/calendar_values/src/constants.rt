@@ -6,22 +6,44 @@ ghost use Rattle.calendar_values.specs.Range.{first_day, last_day};
 
 use crate::{Date, SignedDuration, Time, UtcOffset};
 
+/// The constants of [`Date`].
+#[derive(Clone, Copy)]
+pub struct DateConstants {
+    pub first: Date,
+    pub last: Date,
+    pub epoch: Date,
+}
+
 /// [`Date::MIN`], [`Date::MAX`] and [`Date::UNIX_EPOCH`].
 #[tactic(auto, using(crate::specs::Constants::constants))]
-pub fn dates() -> (Date, Date, Date)
-    ensures first { result.0 ≡ first_day }
-    ensures last { result.1 ≡ last_day }
-    ensures epoch { result.2 ≡ pos 0 }
+pub fn dates() -> DateConstants
+    ensures first { result.first ≡ first_day }
+    ensures last { result.last ≡ last_day }
+    ensures epoch { result.epoch ≡ pos 0 }
 {
-    (Date::MIN, Date::MAX, Date::UNIX_EPOCH)
+    DateConstants {
+        first: Date::MIN,
+        last: Date::MAX,
+        epoch: Date::UNIX_EPOCH,
+    }
+}
+
+/// The constants of [`Time`].
+#[derive(Clone, Copy)]
+pub struct TimeConstants {
+    pub midnight: Time,
+    pub last: Time,
 }
 
 /// [`Time::MIDNIGHT`] and [`Time::MAX`].
-pub fn times() -> (Time, Time)
-    ensures midnight { result.0 ≡ 0 }
-    ensures last { result.1 ≡ nanos_per_day - 1 }
+pub fn times() -> TimeConstants
+    ensures midnight { result.midnight ≡ 0 }
+    ensures last { result.last ≡ nanos_per_day - 1 }
 {
-    (Time::MIDNIGHT, Time::MAX)
+    TimeConstants {
+        midnight: Time::MIDNIGHT,
+        last: Time::MAX,
+    }
 }
 
 /// [`UtcOffset::UTC`].
@@ -31,15 +53,23 @@ pub fn offsets() -> UtcOffset
     UtcOffset::UTC
 }
 
+/// The constants of [`SignedDuration`].
+#[derive(Clone, Copy)]
+pub struct DurationConstants {
+    pub zero: SignedDuration,
+    pub least: SignedDuration,
+    pub greatest: SignedDuration,
+}
+
 /// [`SignedDuration::ZERO`], [`SignedDuration::MIN`] and [`SignedDuration::MAX`].
-pub fn durations() -> (SignedDuration, SignedDuration, SignedDuration)
-    ensures zero { result.0 ≡ pos 0 }
-    ensures least { result.1 ≡ least_duration }
-    ensures greatest { result.2 ≡ greatest_duration }
+pub fn durations() -> DurationConstants
+    ensures zero { result.zero ≡ pos 0 }
+    ensures least { result.least ≡ least_duration }
+    ensures greatest { result.greatest ≡ greatest_duration }
 {
-    (
-        SignedDuration::ZERO,
-        SignedDuration::MIN,
-        SignedDuration::MAX,
-    )
+    DurationConstants {
+        zero: SignedDuration::ZERO,
+        least: SignedDuration::MIN,
+        greatest: SignedDuration::MAX,
+    }
 }

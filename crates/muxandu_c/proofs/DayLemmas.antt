@@ -4,7 +4,7 @@ use Rattle.std.proofs.lemmas.Int.{ints}
 use Rattle.calendar_values.specs.Clock.{nanos_per_second}
 use Rattle.calendar_values.specs.SignedArith.{signed_casts}
 use Rattle.calendar_values.specs.WallClock.{unix_seconds_of, wall_day, wall_time}
-use Rattle.calendar_values.specs.WallClockLaws.{IsDay-wall_day}
+use Rattle.calendar_values.specs.WallClockLemmas.{IsDay-wall_day}
 
 pub wall_day-counted : (i : ℤ) (n : ℕ) → unix_seconds_of i +ℤ pos 34_560_000_000_000 ≡ pos n → pos (n / 86_400) -ℤ pos 400_000_000 ≡ wall_day i
 unfolding wall_day

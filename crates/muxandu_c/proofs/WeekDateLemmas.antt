@@ -1,16 +1,17 @@
 -- The day of an ISO week date: that of the week date of a day is the day.
 use Rattle.std.proofs.Common.{◌≡◌, ◌+◌, ◌-◌, ◌*◌, ◌<◌, ◌≤◌, ◌==◌, ◌||◌, ℕ, Bool, true, false, nat_lt, int_lt, refl, ap, arith}
 use Rattle.std.proofs.Common.{ℤ, pos, ◌+ℤ◌, ◌≤ℤ◌, Result, Ok, Err}
-use Rattle.std.specs.Prelude.{IfOk, if◌then◌else◌, codes}
+use Rattle.std.specs.Prelude.{IfOk, if◌then◌else◌}
 use Rattle.std.proofs.lemmas.Bool.Decides.{nat_tests}
 use Rattle.calendar_values.specs.Calendar.{is_leap_year, days_in_year, year_length, year_start, days_before_month, days_in_months}
 use Rattle.calendar_values.specs.Calendar.{day_of_calendar_date, day_of_ordinal_date, IsOrdinalDate}
-use Rattle.calendar_values.specs.DayLaws.{IsYear-year_of, IsOrdinalDate-of, ordinal_of-start, year_of-is, ordinal_of-is}
+use Rattle.calendar_values.specs.Constructors.{calendar_date}
+use Rattle.calendar_values.specs.DayLemmas.{IsYear-year_of, IsOrdinalDate-of, ordinal_of-start, year_of-is, ordinal_of-is}
 use Rattle.calendar_values.specs.Range.{IsDay, IsYear, first_day, last_day, first_year, last_year, is_outside}
-use Rattle.calendar_values.specs.Refusals.{calendar_date, out_of_range}
+use Rattle.calendar_values.specs.Refusals.{date_refusal}
 use Rattle.calendar_values.specs.SignedArith.{signed_arith}
-use Rattle.calendar_values.specs.WeekLaws.{weekday_of-parts, weekday_of-bound, weekday_of-thursday_of, iso_week_of-closed, IsDay-thursday_of}
-use Rattle.calendar_values.specs.YearLaws.{days_in_year_bounds}
+use Rattle.calendar_values.specs.WeekLemmas.{weekday_of-parts, weekday_of-bound, weekday_of-thursday_of, iso_week_of-closed, IsDay-thursday_of}
+use Rattle.calendar_values.specs.YearLemmas.{days_in_year_bounds}
 use Rattle.calendar_values.specs.Weeks.{weekday_of, thursday_of, iso_year_of, iso_week_of}
 use Rattle.muxandu_c.specs.Answers.{and_then, told}
 use Rattle.muxandu_c.specs.Values.{date_value}
@@ -119,7 +120,7 @@ year_accepted : (y n : ℤ) → date_value y 1 4 ≡ Ok n → IsYear y
 unfolding calendar_date
 year_accepted y n e = choose (int_lt y first_year) (int_lt last_year y) refl refl e where
   choose : (s t : Bool) → int_lt y first_year ≡ s → int_lt last_year y ≡ t →
-      told (if s || t then out_of_range (codes "year") else Ok (day_of_calendar_date y 1 4)) ≡ Ok n → IsYear y
+      told (if (s || t) || false then Err (date_refusal y 4) else Ok (day_of_calendar_date y 1 4)) ≡ Ok n → IsYear y
   choose true t low high e = absurd cc
   choose false true low high e = absurd cc
   choose false false low high e = (omega (arith, signed_arith), omega (arith, signed_arith))

@@ -4,7 +4,7 @@ use Rattle.std.specs.Prelude.{List, nat_lt, length, take, drop, Result, Ok, Err,
 use Rattle.calendar_values.specs.Calendar.{year_of}
 use Rattle.calendar_values.specs.Range.{is_outside}
 use Rattle.calendar_values.specs.WallClock.{wall_day}
-use Rattle.offset_times.specs.Local.{Local, local, instant_of}
+use Rattle.offset_times.specs.Local.{Local, local_in_utc, instant_of}
 use Rattle.rfc3339.specs.Form.{IsDateTime}
 use Rattle.rfc3339.specs.Meaning.{meaning}
 use Rattle.rfc3339.specs.Texts.{rfc3339_text, fixed_text}
@@ -38,7 +38,7 @@ abbrev pub civil_rfc3339 : MuxanduCivil → Result (List ℕ) Refused
 civil_rfc3339 v = and_then (civil_value v) rfc3339_of
 
 abbrev pub timestamp_rfc3339 : MuxanduTimestamp → Result (List ℕ) Refused
-timestamp_rfc3339 v = and_then (timestamp_value v) (λ i. rfc3339_of (local i (pos 0)))
+timestamp_rfc3339 v = and_then (timestamp_value v) (λ i. rfc3339_of (local_in_utc i))
 
 abbrev pub timestamp_rfc3339_nanos : MuxanduTimestamp → Result (List ℕ) Refused
 timestamp_rfc3339_nanos v = and_then (timestamp_value v) fixed_rfc3339_of

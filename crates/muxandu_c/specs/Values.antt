@@ -9,12 +9,12 @@ use Rattle.calendar_values.specs.Clock.{nanos_per_day, nanos_per_hour, nanos_per
 use Rattle.calendar_values.specs.Durations.{duration_of_parts, least_duration, greatest_duration, whole_seconds_of, subsec_nanoseconds_of}
 use Rattle.calendar_values.specs.Offsets.{offset_of_seconds}
 use Rattle.calendar_values.specs.Range.{is_outside, first_day, last_day}
-use Rattle.calendar_values.specs.Refusals.{calendar_date, ordinal_date, clock_time_nano}
+use Rattle.calendar_values.specs.Constructors.{calendar_date, ordinal_date, clock_time_nano}
 use Rattle.calendar_values.specs.WallClock.{wall_clock, wall_day, wall_time, unix_seconds_of, first_wall_clock, last_wall_clock}
 use Rattle.calendar_values.specs.Weeks.{weekday_of}
-use Rattle.plain_times.specs.Sums.{clamped}
-use Rattle.plain_times.specs.Truncations.{rounded_down}
-use Rattle.offset_times.specs.Local.{Local, local, instant_of, shown_at, truncated}
+use Rattle.plain_times.specs.Sums.{nearest_wall_clock}
+use Rattle.plain_times.specs.Truncations.{wall_multiple_below}
+use Rattle.offset_times.specs.Local.{Local, wall_at, instant_of, shown_at, local_multiple_below}
 use Rattle.stamp_times.specs.Instants.{unix_nanosecond_of, instant_of_parts, instant_of_milliseconds, unix_milliseconds_of, unix_microseconds_of}
 use Rattle.stamp_times.specs.Refusals.{timestamp_of_parts}
 use Rattle.offset_times.specs.Texts.{offset_date_time_text}
@@ -43,7 +43,7 @@ abbrev pub civil_value : MuxanduCivil → Result Local Refused
 civil_value v =
     and_then (date_value v.year v.month v.day) (λ n.
     and_then (told (clock_time_nano v.hour v.minute v.second v.nanosecond)) (λ c.
-    and_then (told (offset_of_seconds v.offset_seconds)) (λ o. Ok (local (wall_clock n c) o))))
+    and_then (told (offset_of_seconds v.offset_seconds)) (λ o. Ok (wall_at (wall_clock n c) o))))
 
 -- the parts of a date-time
 abbrev pub civil_parts : Local → MuxanduCivil
@@ -82,7 +82,7 @@ in_range i = if is_outside first_wall_clock last_wall_clock i then Err refused.R
 
 -- a wall clock at an offset, if the range has it
 abbrev pub local_in_range : ℤ → ℤ → Result Local Refused
-local_in_range wall o = and_then (in_range wall) (λ shown. Ok (local shown o))
+local_in_range wall o = and_then (in_range wall) (λ shown. Ok (wall_at shown o))
 
 -- what clocks at an offset show at an instant, if the range has it
 abbrev pub shown : ℤ → ℤ → Result Local Refused
@@ -124,7 +124,7 @@ timestamp_sum v w =
 
 abbrev pub timestamp_sum_clamped : MuxanduTimestamp → MuxanduDuration → Result MuxanduTimestamp Refused
 timestamp_sum_clamped v w =
-    as_timestamp (and_then (timestamp_value v) (λ i. and_then (duration_value w) (λ d. Ok (clamped (i +ℤ d)))))
+    as_timestamp (and_then (timestamp_value v) (λ i. and_then (duration_value w) (λ d. Ok (nearest_wall_clock (i +ℤ d)))))
 
 -- a timestamp less a duration, if the range has it, or brought into the range
 abbrev pub timestamp_less : MuxanduTimestamp → MuxanduDuration → Result MuxanduTimestamp Refused
@@ -133,7 +133,7 @@ timestamp_less v w =
 
 abbrev pub timestamp_less_clamped : MuxanduTimestamp → MuxanduDuration → Result MuxanduTimestamp Refused
 timestamp_less_clamped v w =
-    as_timestamp (and_then (timestamp_value v) (λ i. and_then (duration_value w) (λ d. Ok (clamped (i -ℤ d)))))
+    as_timestamp (and_then (timestamp_value v) (λ i. and_then (duration_value w) (λ d. Ok (nearest_wall_clock (i -ℤ d)))))
 
 -- from the second timestamp to the first
 abbrev pub timestamp_difference : MuxanduTimestamp → MuxanduTimestamp → Result MuxanduDuration Refused
@@ -163,11 +163,11 @@ unit_nanos unit.Microsecond = nanos_per_microsecond
 -- a date-time truncated to a unit, and a timestamp, rounded down before 1970 too
 abbrev pub civil_truncated : MuxanduCivil → ℕ → Result MuxanduCivil Refused
 civil_truncated v number =
-    as_civil (and_then (civil_value v) (λ at. and_then (unit_numbered number) (λ unit. Ok (truncated (unit_nanos unit) at))))
+    as_civil (and_then (civil_value v) (λ at. and_then (unit_numbered number) (λ unit. Ok (local_multiple_below (unit_nanos unit) at))))
 
 abbrev pub timestamp_truncated : MuxanduTimestamp → ℕ → Result MuxanduTimestamp Refused
 timestamp_truncated v number =
-    as_timestamp (and_then (timestamp_value v) (λ i. and_then (unit_numbered number) (λ unit. Ok (rounded_down (unit_nanos unit) i))))
+    as_timestamp (and_then (timestamp_value v) (λ i. and_then (unit_numbered number) (λ unit. Ok (wall_multiple_below (unit_nanos unit) i))))
 
 -- -1, 0 or 1
 abbrev pub sign_of : Ordering → ℤ
@@ -265,7 +265,7 @@ civil_sum v w =
 
 abbrev pub civil_sum_clamped : MuxanduCivil → MuxanduDuration → Result MuxanduCivil Refused
 civil_sum_clamped v w =
-    as_civil (and_then (civil_value v) (λ at. and_then (duration_value w) (λ d. Ok (local (clamped (at.wall +ℤ d)) at.offset))))
+    as_civil (and_then (civil_value v) (λ at. and_then (duration_value w) (λ d. Ok (wall_at (nearest_wall_clock (at.wall +ℤ d)) at.offset))))
 
 -- a date-time less a duration at one offset, if the range has it, or brought into the range
 abbrev pub civil_less : MuxanduCivil → MuxanduDuration → Result MuxanduCivil Refused
@@ -274,7 +274,7 @@ civil_less v w =
 
 abbrev pub civil_less_clamped : MuxanduCivil → MuxanduDuration → Result MuxanduCivil Refused
 civil_less_clamped v w =
-    as_civil (and_then (civil_value v) (λ at. and_then (duration_value w) (λ d. Ok (local (clamped (at.wall -ℤ d)) at.offset))))
+    as_civil (and_then (civil_value v) (λ at. and_then (duration_value w) (λ d. Ok (wall_at (nearest_wall_clock (at.wall -ℤ d)) at.offset))))
 
 -- from the second date-time to the first, by instant
 abbrev pub civil_difference : MuxanduCivil → MuxanduCivil → Result MuxanduDuration Refused

@@ -5,8 +5,8 @@ ghost use Rattle.calendar_values.specs.Clock.{nanos_per_second};
 ghost use Rattle.calendar_values.specs.Offsets.{IsOffset, offset_of_seconds};
 ghost use Rattle.calendar_values.specs.Range.{IsDay};
 ghost use Rattle.calendar_values.specs.WallClock.{wall_day, wall_time};
-ghost use Rattle.plain_times.specs.Truncations.{rounded_down};
-ghost use Rattle.offset_times.specs.Local.{truncated, instant_of, shown_at, local, offset_nanos};
+ghost use Rattle.plain_times.specs.Truncations.{wall_multiple_below};
+ghost use Rattle.offset_times.specs.Local.{local_multiple_below, instant_of, shown_at, wall_at, offset_nanos};
 ghost use Rattle.muxandu_c.specs.Answers.{told};
 ghost use Rattle.muxandu_c.specs.Values.{date_value, date_parts, civil_value, civil_parts, day_value};
 ghost use Rattle.muxandu_c.specs.Values.{timestamp_value, timestamp_parts, duration_value, duration_parts};
@@ -15,6 +15,7 @@ ghost use Rattle.muxandu_c.specs.Values.{in_range, local_in_range, unit_nanos, s
 use crate::refused::Refused;
 use crate::unit::Unit;
 use crate::values::{MuxanduCivil, MuxanduDate, MuxanduDuration, MuxanduTimestamp};
+use calendar_values::units::{NANOS_PER_SECOND, SECONDS_PER_DAY, SECONDS_PER_HOUR};
 use calendar_values::{Date, Month, SignedDuration, Time, UtcOffset, leap_ordinal_to_month_day};
 use offset_times::OffsetDateTime;
 use stamp_times::Timestamp;
@@ -22,15 +23,10 @@ use stamp_times::reciprocal::year_leap_ordinal;
 use std::cmp::Ordering;
 use utc_times::{AsUtc, UtcDateTime};
 
-// The Julian day of 1970-01-01.
-const EPOCH_JULIAN_DAY: i32 = 2_440_588;
-
-const SECONDS_PER_DAY: u64 = 86_400;
-
 // More days than the range has before 1970, and their seconds.
 const DAYS_BEFORE: i32 = 400_000_000;
 
-const SECONDS_BEFORE: i64 = DAYS_BEFORE as i64 * 86_400;
+const SECONDS_BEFORE: i64 = DAYS_BEFORE as i64 * SECONDS_PER_DAY;
 
 // The date of its parts.
 #[inline(always)]
@@ -73,7 +69,7 @@ pub(crate) fn civil_of(at: OffsetDateTime) -> MuxanduCivil
 // The parts of what clocks at an offset, in seconds, show, which is given as clocks in UTC show it.
 #[inline(always)]
 pub(crate) fn wall_parts(wall: Timestamp, offset_seconds: i32) -> MuxanduCivil
-    ensures { result ≡ civil_parts (local wall offset_seconds) }
+    ensures { result ≡ civil_parts (wall_at wall offset_seconds) }
 {
     let (day, second_of_day) = day_and_second(wall);
     let (year, is_leap, ordinal) = year_leap_ordinal(day);
@@ -82,7 +78,7 @@ pub(crate) fn wall_parts(wall: Timestamp, offset_seconds: i32) -> MuxanduCivil
         year,
         month: u8::from(month),
         day,
-        hour: (second_of_day / 3_600) as u8,
+        hour: (second_of_day / SECONDS_PER_HOUR as u32) as u8,
         minute: (second_of_day / 60 % 60) as u8,
         second: (second_of_day % 60) as u8,
         nanosecond: wall.nanosecond(),
@@ -101,8 +97,11 @@ fn day_and_second(at: Timestamp) -> (i32, u32)
     ensures second_in_range { result.1 < 86_400 }
 {
     let seconds = (at.as_seconds() + SECONDS_BEFORE) as u64;
-    let days = (seconds / SECONDS_PER_DAY) as i32;
-    (days - DAYS_BEFORE, (seconds % SECONDS_PER_DAY) as u32)
+    let days = (seconds / SECONDS_PER_DAY as u64) as i32;
+    (
+        days - DAYS_BEFORE,
+        (seconds % SECONDS_PER_DAY as u64) as u32,
+    )
 }
 
 // The instant of its parts.
@@ -142,7 +141,7 @@ pub(crate) fn instant(at: OffsetDateTime, offset_seconds: i32) -> Result<Timesta
 pub(crate) fn read_duration(duration: MuxanduDuration) -> Result<SignedDuration, Refused>
     ensures { result ≡ duration_value duration }
 {
-    if duration.nanoseconds.unsigned_abs() < 1_000_000_000 {
+    if duration.nanoseconds.unsigned_abs() < NANOS_PER_SECOND as u32 {
         return Ok(SignedDuration::new(duration.seconds, duration.nanoseconds));
     }
     carried_duration(duration)
@@ -152,7 +151,7 @@ pub(crate) fn read_duration(duration: MuxanduDuration) -> Result<SignedDuration,
 fn carried_duration(duration: MuxanduDuration) -> Result<SignedDuration, Refused>
     ensures { result ≡ duration_value duration }
 {
-    let carried = (duration.nanoseconds / 1_000_000_000) as i64;
+    let carried = (duration.nanoseconds / NANOS_PER_SECOND) as i64;
     if duration.seconds.checked_add(carried).is_none() {
         return Err(Refused::Duration);
     }
@@ -275,8 +274,8 @@ pub(crate) fn read_day(day: i32) -> Result<Date, Refused>
     ensures value { result ≡ day_value day }
     ensures in_range { IfOk result (λ date. IsDay day) }
 {
-    match day.checked_add(EPOCH_JULIAN_DAY) {
-        Some(julian_day) => Ok(Date::from_julian_day(julian_day)?),
+    match Date::from_days_since_epoch(day) {
+        Some(date) => Ok(date),
         None => Err(Refused::DayNumber),
     }
 }
@@ -287,7 +286,7 @@ pub(crate) fn day_of(date: Date) -> i32
     ensures value { result ≡ date }
     ensures in_range { IsDay result }
 {
-    date.to_julian_day() - EPOCH_JULIAN_DAY
+    date.days_since_epoch()
 }
 
 // The parts of the date of a day number.
@@ -307,7 +306,7 @@ pub(crate) fn date_of(day: i32) -> MuxanduDate
 
 // The date-time truncated to a unit.
 pub(crate) fn in_unit(at: OffsetDateTime, unit: Unit) -> OffsetDateTime
-    ensures { result ≡ truncated (unit_nanos unit) at }
+    ensures { result ≡ local_multiple_below (unit_nanos unit) at }
 {
     match unit {
         Unit::Day => at.truncate_to_day(),
@@ -321,7 +320,7 @@ pub(crate) fn in_unit(at: OffsetDateTime, unit: Unit) -> OffsetDateTime
 
 // The instant rounded down to a unit.
 pub(crate) fn utc_in_unit(at: UtcDateTime, unit: Unit) -> UtcDateTime
-    ensures { result ≡ rounded_down (unit_nanos unit) at }
+    ensures { result ≡ wall_multiple_below (unit_nanos unit) at }
 {
     match unit {
         Unit::Day => at.truncate_to_day(),

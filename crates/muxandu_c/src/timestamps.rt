@@ -17,6 +17,7 @@ use crate::refused::{Refused, answer, status_of};
 use crate::unit::read_unit;
 use crate::values::{MuxanduDuration, MuxanduTimestamp};
 use calendar_values::SignedDuration;
+use calendar_values::units::NANOS_PER_SECOND;
 use stamp_times::Timestamp;
 
 /// Whether the parts make a timestamp. Refused TIMESTAMP, then NANOSECOND.
@@ -42,7 +43,7 @@ pub extern "C" fn muxandu_timestamp_compare(
 fn nanoseconds(at: MuxanduTimestamp) -> i128
     ensures { result ≡ instant_of_parts at.seconds at.nanoseconds }
 {
-    at.seconds as i128 * 1_000_000_000 + at.nanoseconds as i128
+    at.seconds as i128 * NANOS_PER_SECOND as i128 + at.nanoseconds as i128
 }
 
 fn timestamp_add(

@@ -3,12 +3,12 @@ use Rattle.std.proofs.Common.{◌≡◌, ℕ, ◌<◌, ◌≤◌, arith, ◌∙�
 use Rattle.std.specs.Int.{int_div_euclid, int_rem_euclid}
 use Rattle.std.proofs.lemmas.Int.{ints}
 use Rattle.calendar_values.specs.Clock.{IsClock, clock_of_parts, hour_of, minute_of, second_of, nanosecond_of}
-use Rattle.calendar_values.specs.ClockLaws.{clock_of_parts-of, IsTimeOfDay-of}
+use Rattle.calendar_values.specs.ClockLemmas.{clock_of_parts-of, IsTimeOfDay-of}
 use Rattle.calendar_values.specs.Offsets.{IsOffset, seconds_of_parts, offset_hours_of, offset_minutes_of, offset_seconds_of}
-use Rattle.calendar_values.specs.OffsetLaws.{seconds_of_parts-of, IsOffsetParts-of}
+use Rattle.calendar_values.specs.OffsetPartLemmas.{seconds_of_parts-of, IsOffsetParts-of}
 use Rattle.calendar_values.specs.SignedArith.{signed_arith}
 use Rattle.calendar_values.specs.WallClock.{wall_clock, wall_day, wall_time}
-use Rattle.calendar_values.specs.WallClockLaws.{wall_clock-parts}
+use Rattle.calendar_values.specs.WallClockLemmas.{wall_clock-parts}
 use Rattle.offset_times.specs.Carries.{moved_second, moved_minute, moved_hour, minutes_carried, hours_carried, days_carried, carried_second, carried_minute}
 use Rattle.offset_times.specs.Carries.{carried_hour, carried_clock, IsWithin, CarriesWithin}
 use Rattle.offset_times.specs.Local.{offset_nanos}

@@ -1,5 +1,5 @@
 pub mod CarryLemmas
-pub mod LawLemmas
+pub mod ConversionLawLemmas
+pub mod InstantOrderLemmas
 pub mod LocalLemmas
-pub mod OrderLemmas
-pub mod YearLemmas
+pub mod NextYearLemmas

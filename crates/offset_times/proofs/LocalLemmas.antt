@@ -3,15 +3,15 @@ use Rattle.std.proofs.Common.{◌≡◌, ℕ, sym, ap, ◌∙◌, arith, ℤ, �
 use Rattle.std.proofs.lemmas.Int.{ints}
 use Rattle.calendar_values.specs.Calendar.{day_of_ordinal_date, IsOrdinalDate}
 use Rattle.calendar_values.specs.Clock.{IsClock}
-use Rattle.calendar_values.specs.DayLaws.{IsYear-year_of, year_of-ordinal_date}
+use Rattle.calendar_values.specs.DayLemmas.{IsYear-year_of, year_of-ordinal_date}
 use Rattle.calendar_values.specs.Durations.{IsDuration}
 use Rattle.calendar_values.specs.Offsets.{IsOffset}
 use Rattle.calendar_values.specs.Range.{IsYear}
 use Rattle.calendar_values.specs.SignedArith.{signed_arith}
 use Rattle.calendar_values.specs.WallClock.{wall_clock, IsWallClock, unix_seconds_of}
-use Rattle.calendar_values.specs.WallClockLaws.{IsDay-wall_day, wall_day-wall_clock}
+use Rattle.calendar_values.specs.WallClockLemmas.{IsDay-wall_day, wall_day-wall_clock}
 use Rattle.offset_times.specs.InstantLemmas.{shown_at-instant_of, local_at-instant_of}
-use Rattle.offset_times.specs.Local.{Local, IsLocal, instant_of, local, local_at, shown_at, offset_nanos}
+use Rattle.offset_times.specs.Local.{Local, IsLocal, instant_of, wall_at, local_at, shown_at, offset_nanos}
 
 -- clocks at the own offset show the own wall clock
 pub shown_at-own : (at : Local) (o : ℤ) → at.offset ≡ o → shown_at (instant_of at) o ≡ at.wall
@@ -32,8 +32,8 @@ IsYear-wall_clock y ordinal c date clock w =
     (rw (wall_day-wall_clock (day_of_ordinal_date y ordinal) c clock) at day))
 
 -- a wall clock and an offset of their ranges
-pub IsLocal-fields : (at : Local) (day o : ℤ) (time : ℕ) → local (wall_clock day time) o ≡ at → IsWallClock (wall_clock day time) × IsClock time × IsOffset o →
-    IsLocal at
+pub IsLocal-fields : (at : Local) (day o : ℤ) (time : ℕ) → wall_at (wall_clock day time) o ≡ at
+    → IsWallClock (wall_clock day time) × IsClock time × IsOffset o → IsLocal at
 IsLocal-fields at day o time e h = rw (← e) (h.0, h.2)
 
 -- the wall clocks lie apart by the instants and the offsets

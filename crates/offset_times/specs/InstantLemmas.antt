@@ -3,8 +3,8 @@ use Rattle.std.proofs.Common.{◌≡◌, refl, sym, arith, ℤ, pos, ◌+ℤ◌,
 use Rattle.std.proofs.lemmas.Int.{ints}
 use Rattle.calendar_values.specs.Clock.{nanos_per_day}
 use Rattle.calendar_values.specs.WallClock.{wall_day}
-use Rattle.offset_times.specs.Local.{Local, instant_of, local, local_at, shown_at, SameOffset}
-use Rattle.plain_times.specs.MidnightLemmas.{same_day-within}
+use Rattle.offset_times.specs.Local.{Local, instant_of, wall_at, local_in_utc, local_at, shown_at, SameOffset}
+use Rattle.plain_times.specs.DaysLaterLemmas.{same_day-within}
 
 -- a conversion keeps the instant
 pub instant_of-local_at : (i o : ℤ) → instant_of (local_at i o) ≡ i
@@ -12,7 +12,7 @@ unfolding instant_of
 instant_of-local_at i o = omega (arith, ints)
 
 -- an instant in UTC is what clocks there show
-pub instant_of-utc : (i : ℤ) → instant_of (local i (pos 0)) ≡ i
+pub instant_of-utc : (i : ℤ) → instant_of (local_in_utc i) ≡ i
 unfolding instant_of
 instant_of-utc i = omega (arith, ints)
 
@@ -26,20 +26,20 @@ unfolding instant_of
 local_at-instant_of at = rw (shown_at-instant_of at)
 
 -- a later wall clock at the same offset is as much later an instant
-pub instant_of-later : (at : Local) (d : ℤ) → instant_of (local (at.wall +ℤ d) at.offset) ≡ instant_of at +ℤ d
+pub instant_of-later : (at : Local) (d : ℤ) → instant_of (wall_at (at.wall +ℤ d) at.offset) ≡ instant_of at +ℤ d
 unfolding instant_of
 instant_of-later at d = omega (arith, ints)
 
-pub instant_of-earlier : (at : Local) (d : ℤ) → instant_of (local (at.wall -ℤ d) at.offset) ≡ instant_of at -ℤ d
+pub instant_of-earlier : (at : Local) (d : ℤ) → instant_of (wall_at (at.wall -ℤ d) at.offset) ≡ instant_of at -ℤ d
 unfolding instant_of
 instant_of-earlier at d = omega (arith, ints)
 
 -- another wall clock at the same offset
-pub SameOffset-local : (at : Local) (w : ℤ) → SameOffset at (local w at.offset)
+pub SameOffset-wall_at : (at : Local) (w : ℤ) → SameOffset at (wall_at w at.offset)
 unfolding instant_of
-SameOffset-local at w = (refl, omega (arith, ints))
+SameOffset-wall_at at w = (refl, omega (arith, ints))
 
-pub ruleset same_offset = SameOffset-local
+pub ruleset same_offset = SameOffset-wall_at
 
 -- on one day at one offset two instants are less than a day apart
 pub instant_of-not_a_day_later : (old new : Local) → SameOffset old new → wall_day new.wall ≡ wall_day old.wall

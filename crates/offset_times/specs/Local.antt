@@ -3,7 +3,7 @@ use Rattle.std.specs.Prelude.{◌≡◌, ℕ, ℤ, pos, ◌+ℤ◌, ◌-ℤ◌, 
 use Rattle.calendar_values.specs.Clock.{nanos_per_second}
 use Rattle.calendar_values.specs.Offsets.{IsOffset}
 use Rattle.calendar_values.specs.WallClock.{IsWallClock}
-use Rattle.plain_times.specs.Truncations.{rounded_down}
+use Rattle.plain_times.specs.Truncations.{wall_multiple_below}
 
 -- the wall clock, in nanoseconds, and the offset of the clocks that show it, in seconds
 pub record Local : Type 0 where
@@ -31,12 +31,20 @@ abbrev pub local_at : ℤ → ℤ → Local
 local_at instant o = record { wall = shown_at instant o; offset = o }
 
 -- a wall clock at an offset
-abbrev pub local : ℤ → ℤ → Local
-local wall o = record { wall = wall; offset = o }
+abbrev pub wall_at : ℤ → ℤ → Local
+wall_at wall o = record { wall = wall; offset = o }
+
+-- an instant in UTC: the wall clock there
+abbrev pub local_in_utc : ℤ → Local
+local_in_utc instant = wall_at instant (pos 0)
+
+-- another wall clock at the same offset
+abbrev pub at_offset_of : Local → ℤ → Local
+at_offset_of at wall = wall_at wall at.offset
 
 -- the wall clock truncated to a unit, at the same offset
-abbrev pub truncated : ℕ → Local → Local
-truncated unit at = local (rounded_down unit at.wall) at.offset
+abbrev pub local_multiple_below : ℕ → Local → Local
+local_multiple_below unit at = at_offset_of at (wall_multiple_below unit at.wall)
 
 -- another wall clock at the same offset: the instant lies as far off as the wall clock does
 abbrev pub SameOffset : Local → Local → Type 0
@@ -44,9 +52,9 @@ SameOffset old new = (new.offset ≡ old.offset) × (instant_of new ≡ instant_
 
 -- so much later at the same offset: the wall clock is, and so is the instant
 abbrev pub IsLater : Local → ℤ → Local → Type 0
-IsLater at d sum = (sum ≡ local (at.wall +ℤ d) at.offset) × (instant_of sum ≡ instant_of at +ℤ d)
+IsLater at d sum = (sum ≡ at_offset_of at (at.wall +ℤ d)) × (instant_of sum ≡ instant_of at +ℤ d)
 
 -- so much earlier
 abbrev pub IsEarlier : Local → ℤ → Local → Type 0
 IsEarlier at d difference =
-    (difference ≡ local (at.wall -ℤ d) at.offset) × (instant_of difference ≡ instant_of at -ℤ d)
+    (difference ≡ at_offset_of at (at.wall -ℤ d)) × (instant_of difference ≡ instant_of at -ℤ d)

@@ -27,7 +27,7 @@ pub fn to_offset_raw(at: OffsetDateTime, offset: UtcOffset) -> (i32, u16, Time)
     ensures carried { result.2 ≡ carried_clock (wall_time at.wall) at.offset offset }
     ensures within { CarriesWithin 2 2 3 (wall_time at.wall) at.offset offset }
 {
-    moved(at.date_time(), at.offset(), offset)
+    parts_at(at.date_time(), at.offset(), offset)
 }
 
 /// The year, the day of the year and the time of day that clocks in UTC show at the instant of a date-time.
@@ -42,7 +42,7 @@ pub fn to_utc_raw(at: OffsetDateTime) -> (i32, u16, Time)
     ensures carried { result.2 ≡ carried_clock (wall_time at.wall) at.offset (pos 0) }
     ensures within { CarriesWithin 1 1 2 (wall_time at.wall) at.offset (pos 0) }
 {
-    moved(at.date_time(), at.offset(), UtcOffset::UTC)
+    parts_at(at.date_time(), at.offset(), UtcOffset::UTC)
 }
 
 /// The year, the day of the year and the time of day that clocks at the offset show at an instant. The
@@ -58,12 +58,13 @@ pub fn utc_to_offset_raw(at: UtcDateTime, offset: UtcOffset) -> (i32, u16, Time)
     ensures carried { result.2 ≡ carried_clock (wall_time at) (pos 0) offset }
     ensures within { CarriesWithin 1 1 2 (wall_time at) (pos 0) offset }
 {
+    // For the proof alone: what is read lies in its range.
     let _in_range = offset.whole_seconds();
-    moved(at.as_plain(), UtcOffset::UTC, offset)
+    parts_at(at.as_plain(), UtcOffset::UTC, offset)
 }
 
 // The day of the year and the time of day that clocks at `to` show when clocks at `from` show these.
-fn moved(at: PlainDateTime, from: UtcOffset, to: UtcOffset) -> (i32, u16, Time)
+fn parts_at(at: PlainDateTime, from: UtcOffset, to: UtcOffset) -> (i32, u16, Time)
     ensures date { IsOrdinalDate result.0 result.1 }
     ensures clock { IsClock result.2 }
     ensures day_step { day_of_ordinal_date result.0 result.1 ≡ wall_day at +ℤ
@@ -152,7 +153,7 @@ fn carry_sixty(part: u8, from: i8, to: i8, carried: i8) -> (u8, i8)
     requires to { IsWithin 59 to }
     requires carried { IsWithin 2 carried }
     ensures sum { pos part +ℤ to -ℤ from +ℤ carried ≡ result.1 *ℤ pos 60 +ℤ pos result.0 }
-    ensures rest { result.0 < 60 }
+    ensures below_limit { result.0 < 60 }
     ensures within { IsWithin 2 result.1 }
 {
     carry(moved_part(part, from, to) + carried as i16, 60)
@@ -165,7 +166,7 @@ fn carry_day(hour: u8, from: i8, to: i8, carried: i8) -> (u8, i8)
     requires to { IsWithin 25 to }
     requires carried { IsWithin 2 carried }
     ensures sum { pos hour +ℤ to -ℤ from +ℤ carried ≡ result.1 *ℤ pos 24 +ℤ pos result.0 }
-    ensures rest { result.0 < 24 }
+    ensures below_limit { result.0 < 24 }
     ensures within { IsWithin 3 result.1 }
 {
     carry(moved_part(hour, from, to) + carried as i16, 24)
@@ -188,7 +189,7 @@ fn carry(sum: i16, limit: u8) -> (u8, i8)
     requires low { neg_ℤ (pos 3 *ℤ pos limit) ≤ℤ sum }
     requires high { sum <ℤ (pos 4 *ℤ pos limit) }
     ensures sum { sum ≡ result.1 *ℤ pos limit +ℤ pos result.0 }
-    ensures rest { result.0 < limit }
+    ensures below_limit { result.0 < limit }
 {
     let limit = i16::from(limit);
     if sum < 0 - 2 * limit {
@@ -209,7 +210,7 @@ fn carry(sum: i16, limit: u8) -> (u8, i8)
 }
 
 // The day that comes so many days later: at most three, so that it lies in the same year or in one beside it.
-#[tactic(auto, using(crate::proofs::YearLemmas::lengths))]
+#[tactic(auto, using(crate::proofs::NextYearLemmas::lengths))]
 fn days_later(year: i32, ordinal: u16, days: i8) -> (i32, u16)
     requires year { IsYear year }
     requires date { IsOrdinalDate year ordinal }
@@ -243,7 +244,7 @@ fn moved_ordinal(ordinal: u16, days: i8) -> i16
 }
 
 // The number of days of the year.
-#[tactic(auto, using(crate::proofs::YearLemmas::lengths))]
+#[tactic(auto, using(crate::proofs::NextYearLemmas::lengths))]
 fn length_of_year(year: i32) -> i16
     ensures value { result ≡ pos (days_in_year year) }
     ensures low { pos 365 ≤ℤ result }

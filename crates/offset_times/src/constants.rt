@@ -1,12 +1,12 @@
 //! What the constant is: its numbers stand in the contract here.
 ghost use Rattle.std.specs.Prelude.{◌≡◌, pos};
-ghost use Rattle.offset_times.specs.Local.{local};
+ghost use Rattle.offset_times.specs.Local.{wall_at};
 
 use crate::OffsetDateTime;
 
 /// [`OffsetDateTime::UNIX_EPOCH`].
 pub fn offset_date_times() -> OffsetDateTime
-    ensures { result ≡ local (pos 0) (pos 0) }
+    ensures { result ≡ wall_at (pos 0) (pos 0) }
 {
     OffsetDateTime::UNIX_EPOCH
 }

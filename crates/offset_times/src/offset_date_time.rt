@@ -1,12 +1,11 @@
 //! A date and a time of day at an offset from UTC.
 ghost use Rattle.std.specs.Prelude.{◌≡◌, pos, ◌-ℤ◌};
 ghost use Rattle.calendar_values.specs.WallClock.{wall_clock, wall_day, wall_time};
-ghost use Rattle.offset_times.specs.Local.{instant_of, local, offset_nanos, IsLocal};
+ghost use Rattle.offset_times.specs.Local.{instant_of, wall_at, offset_nanos, IsLocal};
 
 use calendar_values::{Date, Time, UtcOffset};
 use plain_times::PlainDateTime;
 use std::marker::Model;
-use utc_times::UtcDateTime;
 
 mod comparisons;
 mod conversions;
@@ -16,6 +15,7 @@ mod replacements;
 mod sums;
 mod texts;
 mod unix_time;
+mod with_utc;
 
 pub(crate) use conversions::in_range;
 
@@ -43,12 +43,12 @@ impl Model for OffsetDateTime {
     ghost use Rattle.calendar_values.specs.Clock.{IsClock};
     ghost use Rattle.calendar_values.specs.Offsets.{IsOffset};
     ghost use Rattle.calendar_values.specs.WallClock.{wall_clock, wall_day, wall_time, IsWallClock};
-    ghost use Rattle.calendar_values.specs.WallClockLaws.{wall_day-wall_clock, wall_time-wall_clock};
-    ghost use Rattle.offset_times.specs.Local.{Local, local};
+    ghost use Rattle.calendar_values.specs.WallClockLemmas.{wall_day-wall_clock, wall_time-wall_clock};
+    ghost use Rattle.offset_times.specs.Local.{Local, wall_at};
 
     ghost Value = { Local };
 
-    ghost view = { λ at. local (wall_clock at.date at.time) at.offset };
+    ghost view = { λ at. wall_at (wall_clock at.date at.time) at.offset };
 
     ghost invariant = { λ at. IsWallClock (wall_clock at.date at.time) × IsClock at.time ×
         IsOffset at.offset };
@@ -77,18 +77,18 @@ impl OffsetDateTime {
     /// The date and the time of day that clocks at the offset show.
     #[tactic(auto, unfolding(crate::specs::Local::instant_of))]
     pub fn new_in_offset(date: Date, time: Time, offset: UtcOffset) -> OffsetDateTime
-        ensures value { result ≡ local (wall_clock date time) offset }
+        ensures value { result ≡ wall_at (wall_clock date time) offset }
         ensures instant { instant_of result ≡ wall_clock date time -ℤ offset_nanos offset }
     {
-        let _date_in_range = date.year();
-        let _offset_in_range = offset.whole_seconds();
+        // For the proof alone: what is read lies in its range.
+        let _in_range = (date.year(), offset.whole_seconds());
         OffsetDateTime { date, time, offset }
     }
 
     /// The date and the time of day, in UTC.
     #[tactic(auto, using(crate::specs::InstantLemmas::instants))]
     pub fn new_utc(date: Date, time: Time) -> OffsetDateTime
-        ensures value { result ≡ local (wall_clock date time) (pos 0) }
+        ensures value { result ≡ wall_at (wall_clock date time) (pos 0) }
         ensures instant { instant_of result ≡ wall_clock date time }
     {
         OffsetDateTime::new_in_offset(date, time, UtcOffset::UTC)
@@ -97,16 +97,16 @@ impl OffsetDateTime {
     /// The offset.
     pub fn offset(self) -> UtcOffset
         ensures value { result ≡ self.offset }
-        ensures in_range { IsLocal self }
+        ensures self_in_range { IsLocal self }
     {
         self.offset
     }
 
     /// The date and the time of day, without the offset.
-    #[tactic(auto, using(calendar_values::specs::WallClockLaws::parts))]
+    #[tactic(auto, using(calendar_values::specs::WallClockLemmas::parts))]
     pub fn date_time(self) -> PlainDateTime
         ensures value { result ≡ self.wall }
-        ensures in_range { IsLocal self }
+        ensures self_in_range { IsLocal self }
     {
         PlainDateTime::new(self.date, self.time)
     }
@@ -116,18 +116,9 @@ impl OffsetDateTime {
         ensures date { result.0 ≡ wall_day self.wall }
         ensures time { result.1 ≡ wall_time self.wall }
         ensures offset { result.2 ≡ self.offset }
-        ensures in_range { IsLocal self }
+        ensures self_in_range { IsLocal self }
     {
         let shown = self.date_time();
         (shown.date(), shown.time(), self.offset())
-    }
-}
-
-impl From<UtcDateTime> for OffsetDateTime {
-    ghost from_gives = { λ instant at. (at ≡ local instant (pos 0)) × (instant_of at ≡ instant) };
-
-    #[tactic(auto, using(crate::specs::InstantLemmas::instants))]
-    fn from(at: UtcDateTime) -> OffsetDateTime {
-        OffsetDateTime::new_utc(at.date(), at.time())
     }
 }

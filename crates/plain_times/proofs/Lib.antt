@@ -1,3 +1,3 @@
-pub mod FieldLemmas
-pub mod LawLemmas
-pub mod StepLemmas
+pub mod DateAndTimeLemmas
+pub mod SumStepLemmas
+pub mod WallClockLawLemmas

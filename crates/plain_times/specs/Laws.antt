@@ -2,12 +2,13 @@
 use Rattle.std.specs.Prelude.{◌≡◌, ◌↔◌, ℕ, ◌<◌, ◌≤◌, ℤ, ◌+ℤ◌, ◌-ℤ◌, ◌<ℤ◌, Option, Some, SomeIff, Ok}
 use Rattle.calendar_values.specs.Calendar.{year_of, month_of, day_of_month_of, ordinal_of}
 use Rattle.calendar_values.specs.Clock.{IsClock, hour_of, minute_of, second_of, millisecond_of, microsecond_of, nanosecond_of}
-use Rattle.calendar_values.specs.Replacements.{with_year, with_month, with_day, with_ordinal, with_hour, with_minute, with_second, with_millisecond}
-use Rattle.calendar_values.specs.Replacements.{with_microsecond, with_nanosecond}
 use Rattle.calendar_values.specs.WallClock.{wall_day, wall_time, IsWallClock}
 use Rattle.plain_times.specs.Packed.{packed_wall_clock}
-use Rattle.plain_times.specs.Replacements.{with_date, with_time, keeping_time, keeping_day}
-use Rattle.plain_times.specs.Truncations.{rounded_down, IsRoundedDown}
+use Rattle.plain_times.specs.Replacements.{with_date, with_time, wall_year_outcome, wall_month_outcome, wall_day_outcome, wall_ordinal_outcome}
+use Rattle.plain_times.specs.Replacements.{wall_hour_outcome}
+use Rattle.plain_times.specs.Replacements.{wall_minute_outcome, wall_second_outcome, wall_millisecond_outcome, wall_microsecond_outcome}
+use Rattle.plain_times.specs.Replacements.{wall_nanosecond_outcome}
+use Rattle.plain_times.specs.Truncations.{wall_multiple_below, IsGreatestWallMultiple}
 
 -- where a sum with a wall clock of the range is accepted, the duration taken away from it gives the wall clock back
 abbrev pub DifferencesUndoSums : Type 0
@@ -32,24 +33,24 @@ pub record ReplacementsKeepTheRest : Type 0 where
 
 -- after an accepted replacement the part reads as given
 pub record ReplacedPartsReadAsGiven : Type 0 where
-  pub year : (w v y : ℤ) → keeping_time w (with_year (wall_day w) y) ≡ Ok v → year_of (wall_day v) ≡ y
-  pub month : (w v : ℤ) (m : ℕ) → 1 ≤ m → m ≤ 12 → keeping_time w (with_month (wall_day w) m) ≡ Ok v → month_of (wall_day v) ≡ m
-  pub day : (w v : ℤ) (d : ℕ) → keeping_time w (with_day (wall_day w) d) ≡ Ok v → day_of_month_of (wall_day v) ≡ d
-  pub ordinal : (w v : ℤ) (o : ℕ) → keeping_time w (with_ordinal (wall_day w) o) ≡ Ok v → ordinal_of (wall_day v) ≡ o
-  pub hour : (w v : ℤ) (h : ℕ) → keeping_day w (with_hour (wall_time w) h) ≡ Ok v → hour_of (wall_time v) ≡ h
-  pub minute : (w v : ℤ) (m : ℕ) → keeping_day w (with_minute (wall_time w) m) ≡ Ok v → minute_of (wall_time v) ≡ m
-  pub second : (w v : ℤ) (s : ℕ) → keeping_day w (with_second (wall_time w) s) ≡ Ok v → second_of (wall_time v) ≡ s
-  pub millisecond : (w v : ℤ) (n : ℕ) → keeping_day w (with_millisecond (wall_time w) n) ≡ Ok v → millisecond_of (wall_time v) ≡ n
-  pub microsecond : (w v : ℤ) (n : ℕ) → keeping_day w (with_microsecond (wall_time w) n) ≡ Ok v → microsecond_of (wall_time v) ≡ n
-  pub nanosecond : (w v : ℤ) (n : ℕ) → keeping_day w (with_nanosecond (wall_time w) n) ≡ Ok v → nanosecond_of (wall_time v) ≡ n
+  pub year : (w v y : ℤ) → (wall_year_outcome w y).answer ≡ Ok v → year_of (wall_day v) ≡ y
+  pub month : (w v : ℤ) (m : ℕ) → 1 ≤ m → m ≤ 12 → (wall_month_outcome w m).answer ≡ Ok v → month_of (wall_day v) ≡ m
+  pub day : (w v : ℤ) (d : ℕ) → (wall_day_outcome w d).answer ≡ Ok v → day_of_month_of (wall_day v) ≡ d
+  pub ordinal : (w v : ℤ) (o : ℕ) → (wall_ordinal_outcome w o).answer ≡ Ok v → ordinal_of (wall_day v) ≡ o
+  pub hour : (w v : ℤ) (h : ℕ) → (wall_hour_outcome w h).answer ≡ Ok v → hour_of (wall_time v) ≡ h
+  pub minute : (w v : ℤ) (m : ℕ) → (wall_minute_outcome w m).answer ≡ Ok v → minute_of (wall_time v) ≡ m
+  pub second : (w v : ℤ) (s : ℕ) → (wall_second_outcome w s).answer ≡ Ok v → second_of (wall_time v) ≡ s
+  pub millisecond : (w v : ℤ) (n : ℕ) → (wall_millisecond_outcome w n).answer ≡ Ok v → millisecond_of (wall_time v) ≡ n
+  pub microsecond : (w v : ℤ) (n : ℕ) → (wall_microsecond_outcome w n).answer ≡ Ok v → microsecond_of (wall_time v) ≡ n
+  pub nanosecond : (w v : ℤ) (n : ℕ) → (wall_nanosecond_outcome w n).answer ≡ Ok v → nanosecond_of (wall_time v) ≡ n
 
 -- a truncation gives the greatest multiple of its unit that is not above the wall clock
 abbrev pub TruncationsRoundDown : Type 0
-TruncationsRoundDown = (unit : ℕ) (w : ℤ) → 0 < unit → IsRoundedDown unit w (rounded_down unit w)
+TruncationsRoundDown = (unit : ℕ) (w : ℤ) → 0 < unit → IsGreatestWallMultiple unit w (wall_multiple_below unit w)
 
 -- truncating twice to a unit is truncating once
 abbrev pub TruncationsRoundDownOnce : Type 0
-TruncationsRoundDownOnce = (unit : ℕ) (w : ℤ) → 0 < unit → rounded_down unit (rounded_down unit w) ≡ rounded_down unit w
+TruncationsRoundDownOnce = (unit : ℕ) (w : ℤ) → 0 < unit → wall_multiple_below unit (wall_multiple_below unit w) ≡ wall_multiple_below unit w
 
 -- packed numbers are equal, and in order, exactly where their wall clocks are
 pub record PackedNumbersKeepTheOrder : Type 0 where

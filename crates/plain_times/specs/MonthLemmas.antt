@@ -3,11 +3,12 @@ use Rattle.std.proofs.Common.{◌≡◌, ℕ, zero, suc, ◌+◌, ◌-◌, ◌<�
 use Rattle.std.proofs.lemmas.Bool.{cases_order}
 use Rattle.calendar_values.specs.Calendar.{IsCalendarDate, is_leap_year, days_in_month, days_in_months, day_of_calendar_date, year_of, month_of}
 use Rattle.calendar_values.specs.Calendar.{day_of_month_of}
-use Rattle.calendar_values.specs.MonthLaws.{days_in_month_bounds, days_in_months-twelve, IsCalendarDate-of, year_of-calendar_date, month_of-calendar_date}
-use Rattle.calendar_values.specs.MonthLaws.{day_of_month_of-calendar_date}
-use Rattle.calendar_values.specs.MonthNumbers.{month_number_bounds}
+use Rattle.calendar_values.specs.CalendarDateLemmas.{days_in_month_bounds, days_in_months-twelve, IsCalendarDate-of, year_of-calendar_date}
+use Rattle.calendar_values.specs.CalendarDateLemmas.{month_of-calendar_date}
+use Rattle.calendar_values.specs.CalendarDateLemmas.{day_of_month_of-calendar_date}
+use Rattle.calendar_values.specs.MonthNumberLemmas.{month_number_bounds}
 use Rattle.calendar_values.specs.SignedArith.{signed_arith}
-use Rattle.calendar_values.specs.YearLaws.{year_start-next}
+use Rattle.calendar_values.specs.YearLemmas.{year_start-next}
 use Rattle.plain_times.specs.Months.{last_of_month}
 
 -- the first day of a month is of that year and month

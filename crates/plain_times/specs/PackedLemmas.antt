@@ -5,11 +5,11 @@ use Rattle.std.specs.Bool.{one_answer}
 use Rattle.std.specs.Cmp.{signed_Decides}
 use Rattle.std.specs.Ordering.{int_eq}
 use Rattle.calendar_values.specs.Calendar.{year_of, ordinal_of}
-use Rattle.calendar_values.specs.DayLaws.{IsOrdinalDate-of, day_of_ordinal_date-of}
+use Rattle.calendar_values.specs.DayLemmas.{IsOrdinalDate-of, day_of_ordinal_date-of}
 use Rattle.calendar_values.specs.SignedArith.{signed_arith}
 use Rattle.calendar_values.specs.WallClock.{wall_day, wall_time}
-use Rattle.calendar_values.specs.WallClockLaws.{wall_clock-parts, IsClock-wall_time}
-use Rattle.calendar_values.specs.YearLaws.{year_start-mono, year_start-next, days_in_year_bounds}
+use Rattle.calendar_values.specs.WallClockLemmas.{wall_clock-parts, IsClock-wall_time}
+use Rattle.calendar_values.specs.YearLemmas.{year_start-mono, year_start-next, days_in_year_bounds}
 use Rattle.plain_times.specs.Packed.{IsParts, wall_clock_of_parts, packed_parts, packed_wall_clock}
 
 later_year : (y z : ℤ) (o p c d : ℕ) → IsParts y o c → IsParts z p d → y <ℤ z → wall_clock_of_parts y o c <ℤ wall_clock_of_parts z p d

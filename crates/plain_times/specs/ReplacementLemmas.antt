@@ -3,17 +3,18 @@ use Rattle.std.proofs.Common.{◌≡◌, ℕ, ◌≤◌, refl, sym, ap, ◌∙�
 use Rattle.calendar_values.specs.Calendar.{IsCalendarDate, IsOrdinalDate, day_of_calendar_date, day_of_ordinal_date, days_in_month, days_in_year, is_leap_year}
 use Rattle.calendar_values.specs.Calendar.{year_of, month_of, day_of_month_of}
 use Rattle.calendar_values.specs.Clock.{IsClock, IsTimeOfDay, clock_of_parts, hour_of, minute_of, second_of, nanosecond_of}
-use Rattle.calendar_values.specs.ClockLaws.{IsTimeOfDay-of}
-use Rattle.calendar_values.specs.DayLaws.{year_of-ordinal_date, ordinal_of-ordinal_date}
+use Rattle.calendar_values.specs.ClockLemmas.{IsTimeOfDay-of}
+use Rattle.calendar_values.specs.DayLemmas.{year_of-ordinal_date, ordinal_of-ordinal_date}
 use Rattle.calendar_values.specs.Month.{month_number}
-use Rattle.calendar_values.specs.MonthLaws.{IsCalendarDate-of, year_of-calendar_date, month_of-calendar_date, day_of_month_of-calendar_date}
-use Rattle.calendar_values.specs.MonthNumbers.{month_number_bounds}
+use Rattle.calendar_values.specs.CalendarDateLemmas.{IsCalendarDate-of, year_of-calendar_date, month_of-calendar_date, day_of_month_of-calendar_date}
+use Rattle.calendar_values.specs.MonthNumberLemmas.{month_number_bounds}
+use Rattle.calendar_values.specs.Outcomes.{answer_within}
 use Rattle.calendar_values.specs.Refusals.{IsDateOfRange, Refusal}
-use Rattle.calendar_values.specs.ReplacementLaws.{Shows-clock_of_parts}
+use Rattle.calendar_values.specs.ClockReplacementLemmas.{Shows-clock_of_parts}
 use Rattle.calendar_values.specs.WallClock.{wall_day, wall_time}
 use Rattle.calendar_values.specs.declared.month.Month.{Month}
-use Rattle.calendar_values.specs.WallClockLaws.{IsClock-wall_time, wall_day-wall_clock, wall_time-wall_clock}
-use Rattle.plain_times.specs.Replacements.{with_date, with_time, keeping_time, keeping_day, OnDate, OnOrdinalDate, AtTime}
+use Rattle.calendar_values.specs.WallClockLemmas.{IsClock-wall_time, wall_day-wall_clock, wall_time-wall_clock}
+use Rattle.plain_times.specs.Replacements.{with_date, with_time, OnDate, OnOrdinalDate, AtTime}
 
 -- another date, and the time of day as before
 pub wall_day-with_date : (w n : ℤ) → wall_day (with_date w n) ≡ n
@@ -34,16 +35,16 @@ unfolding with_time
 wall_time-with_time w c clock = wall_time-wall_clock (wall_day w) c clock
 
 -- an accepted replacement shows the date that was accepted
-pub wall_day-keeping_time : (w v : ℤ) (r : Result ℤ Refusal) → keeping_time w r ≡ Ok v → r ≡ Ok (wall_day v)
-unfolding keeping_time
-wall_day-keeping_time w v (Ok n) e = let same : with_date w n ≡ v = cc in ap Ok (sym (wall_day-with_date w n) ∙ ap wall_day same)
-wall_day-keeping_time w v (Err refusal) e = absurd cc
+pub wall_day-accepted : (w v : ℤ) (r : Result ℤ Refusal) → answer_within (with_date w) r ≡ Ok v → r ≡ Ok (wall_day v)
+unfolding answer_within
+wall_day-accepted w v (Ok n) e = let same : with_date w n ≡ v = cc in ap Ok (sym (wall_day-with_date w n) ∙ ap wall_day same)
+wall_day-accepted w v (Err refusal) e = absurd cc
 
 -- or the time of day
-pub wall_time-keeping_day : (w v : ℤ) (r : Result ℕ Refusal) → ((c : ℕ) → r ≡ Ok c → IsClock c) → keeping_day w r ≡ Ok v → r ≡ Ok (wall_time v)
-unfolding keeping_day
-wall_time-keeping_day w v (Ok c) clock e = let same : with_time w c ≡ v = cc in ap Ok (sym (wall_time-with_time w c (clock c refl)) ∙ ap wall_time same)
-wall_time-keeping_day w v (Err refusal) clock e = absurd cc
+pub wall_time-accepted : (w v : ℤ) (r : Result ℕ Refusal) → ((c : ℕ) → r ≡ Ok c → IsClock c) → answer_within (with_time w) r ≡ Ok v → r ≡ Ok (wall_time v)
+unfolding answer_within
+wall_time-accepted w v (Ok c) clock e = let same : with_time w c ≡ v = cc in ap Ok (sym (wall_time-with_time w c (clock c refl)) ∙ ap wall_time same)
+wall_time-accepted w v (Err refusal) clock e = absurd cc
 
 pub ruleset replaced = (wall_day-with_date, wall_time-with_date, wall_day-with_time, wall_time-with_time)
 

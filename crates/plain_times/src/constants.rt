@@ -4,15 +4,23 @@ ghost use Rattle.calendar_values.specs.WallClock.{first_wall_clock, last_wall_cl
 
 use crate::PlainDateTime;
 
+/// The constants of [`PlainDateTime`].
+#[derive(Clone, Copy)]
+pub struct PlainDateTimeConstants {
+    pub first: PlainDateTime,
+    pub last: PlainDateTime,
+    pub epoch: PlainDateTime,
+}
+
 /// [`PlainDateTime::MIN`], [`PlainDateTime::MAX`] and [`PlainDateTime::UNIX_EPOCH`].
-pub fn plain_date_times() -> (PlainDateTime, PlainDateTime, PlainDateTime)
-    ensures first { result.0 ≡ first_wall_clock }
-    ensures last { result.1 ≡ last_wall_clock }
-    ensures epoch { result.2 ≡ pos 0 }
+pub fn plain_date_times() -> PlainDateTimeConstants
+    ensures first { result.first ≡ first_wall_clock }
+    ensures last { result.last ≡ last_wall_clock }
+    ensures epoch { result.epoch ≡ pos 0 }
 {
-    (
-        PlainDateTime::MIN,
-        PlainDateTime::MAX,
-        PlainDateTime::UNIX_EPOCH,
-    )
+    PlainDateTimeConstants {
+        first: PlainDateTime::MIN,
+        last: PlainDateTime::MAX,
+        epoch: PlainDateTime::UNIX_EPOCH,
+    }
 }

@@ -1,10 +1,10 @@
-pub mod DigitLemmas
+pub mod FieldDigitLemmas
 pub mod FormLemmas
 pub mod FractionLemmas
-pub mod TextLemmas
 pub mod MeaningLemmas
-pub mod WrittenDigits
-pub mod InstantLemmas
+pub mod ReadInstantLemmas
+pub mod TextLemmas
+pub mod TextOrderLemmas
 pub mod ValueLemmas
 pub mod WriteLemmas
-pub mod OrderLemmas
+pub mod WrittenDigits

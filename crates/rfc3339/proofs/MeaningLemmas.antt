@@ -6,10 +6,10 @@ use Rattle.std.proofs.lemmas.Bool.Decides.{nat_tests}
 use Rattle.std.proofs.lemmas.Int.{ints}
 use Rattle.calendar_values.specs.Calendar.{is_leap_year, days_in_month, year_of, day_of_calendar_date}
 use Rattle.calendar_values.specs.Clock.{clock_of_parts}
-use Rattle.calendar_values.specs.ClockLaws.{IsClock-clock_of_parts}
-use Rattle.calendar_values.specs.MonthLaws.{year_of-calendar_date}
+use Rattle.calendar_values.specs.ClockLemmas.{IsClock-clock_of_parts}
+use Rattle.calendar_values.specs.CalendarDateLemmas.{year_of-calendar_date}
 use Rattle.calendar_values.specs.WallClock.{wall_day}
-use Rattle.calendar_values.specs.WallClockLaws.{wall_day-wall_clock}
+use Rattle.calendar_values.specs.WallClockLemmas.{wall_day-wall_clock}
 use Rattle.offset_times.specs.Local.{Local}
 use Rattle.rfc3339.specs.declared.parts.Parts.{Parts}
 use Rattle.rfc3339.specs.declared.refusal.TextRefusal.{TextRefusal}

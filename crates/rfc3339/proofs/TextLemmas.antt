@@ -3,7 +3,7 @@ use Rattle.std.proofs.Common.{◌≡◌, ℕ, Bool, List, ◌∷◌, ◌++◌, a
 use Rattle.std.proofs.Common.{arith}
 use Rattle.std.proofs.lemmas.Option.{same_Some}
 use Rattle.calendar_values.specs.Digits.{last_digits}
-use Rattle.calendar_values.specs.DigitLaws.{length-last_digits}
+use Rattle.calendar_values.specs.DigitCountLemmas.{length-last_digits}
 use Rattle.rfc3339.specs.declared.parts.Parts.{Parts}
 use Rattle.rfc3339.specs.Form.{IsFraction, spelling, IsDateTime}
 use Rattle.rfc3339.specs.Reading.{◌>>=◌, two_digits_at, part_at, year_at, separator_at, fraction_at, zone_at, fraction_on, time_on, parts_at}

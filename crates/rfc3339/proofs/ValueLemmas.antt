@@ -6,14 +6,14 @@ use Rattle.std.proofs.lemmas.Bool.{eqb-true}
 use Rattle.std.proofs.lemmas.Bool.Decides.{nat_tests}
 use Rattle.std.proofs.lemmas.Int.{ints}
 use Rattle.calendar_values.specs.Calendar.{is_leap_year, days_in_month, year_of, month_of, day_of_month_of}
-use Rattle.calendar_values.specs.ClockLaws.{clock_of_parts-of, IsTimeOfDay-of}
-use Rattle.calendar_values.specs.MonthLaws.{IsCalendarDate-of, day_of_calendar_date-of, days_in_month_bounds}
+use Rattle.calendar_values.specs.ClockLemmas.{clock_of_parts-of, IsTimeOfDay-of}
+use Rattle.calendar_values.specs.CalendarDateLemmas.{IsCalendarDate-of, day_of_calendar_date-of, days_in_month_bounds}
 use Rattle.calendar_values.specs.WallClock.{wall_day, wall_time}
-use Rattle.calendar_values.specs.WallClockLaws.{wall_clock-parts, IsClock-wall_time}
-use Rattle.offset_times.specs.Local.{Local, local}
+use Rattle.calendar_values.specs.WallClockLemmas.{wall_clock-parts, IsClock-wall_time}
+use Rattle.offset_times.specs.Local.{Local, wall_at, local_in_utc}
 use Rattle.calendar_values.specs.Clock.{nanosecond_of}
 use Rattle.calendar_values.specs.Digits.{last_digits, fraction_digits}
-use Rattle.calendar_values.specs.DigitLaws.{length-last_digits}
+use Rattle.calendar_values.specs.DigitCountLemmas.{length-last_digits}
 use Rattle.rfc3339.specs.declared.parts.Parts.{Parts}
 use Rattle.rfc3339.specs.Form.{IsFraction, IsOffsetText, IsDateTime}
 use Rattle.rfc3339.specs.Meaning.{AreInRange, offset_of, value_of, meaning}
@@ -77,7 +77,7 @@ value_of-parts at h =
     let time = clock_of_parts-of clock in
     let offset = offset_of-parts at.offset h.whole_minutes in
     let year = year_is (year_of day) h.year_first in
-    rw (year, date, time, offset) (ap (λ w. local w at.offset) (wall_clock-parts at.wall))
+    rw (year, date, time, offset) (ap (λ w. wall_at w at.offset) (wall_clock-parts at.wall))
 
 parts-in_range : (at : Local) → HasText at → AreInRange (parts_of at)
 parts-in_range at h =
@@ -131,18 +131,18 @@ IsDateTime-text at h =
     }
 
 -- a text of fixed width has the form, too
-HasText-fixed : (i : ℤ) → HasFixedText i → HasText (local i (pos 0))
+HasText-fixed : (i : ℤ) → HasFixedText i → HasText (local_in_utc i)
 HasText-fixed i h = record { year_first = h.year_first; year_last = h.year_last; whole_minutes = refl; below_a_day = omega arith }
 
 IsFraction-nine : (n : ℕ) → n < 1_000_000_000 → IsFraction (codes "." ++ last_digits 9 n) n
 IsFraction-nine n low =
     inr (last_digits 9 n, refl, omega (arith, length-last_digits 9 n), last_digits-are 9 n, sym (fraction_value-nine n low))
 
-pub IsDateTime-fixed : (i : ℤ) → HasFixedText i → IsDateTime (fixed_text i) (parts_of (local i (pos 0)))
+pub IsDateTime-fixed : (i : ℤ) → HasFixedText i → IsDateTime (fixed_text i) (parts_of (local_in_utc i))
 unfolding fixed_text
 IsDateTime-fixed i h =
-    let p = parts_of (local i (pos 0)) in
-    let d = IsDateTime-text (local i (pos 0)) (HasText-fixed i h) in
+    let p = parts_of (local_in_utc i) in
+    let d = IsDateTime-text (local_in_utc i) (HasText-fixed i h) in
     record {
       separator = 84;
       fraction = codes "." ++ last_digits 9 (nanosecond_of (wall_time i));
@@ -154,8 +154,8 @@ IsDateTime-fixed i h =
       fits = d.fits;
     }
 
-pub meaning-fixed : (i : ℤ) → HasFixedText i → meaning (parts_of (local i (pos 0))) ≡ Ok (local i (pos 0))
-meaning-fixed i h = meaning-text (local i (pos 0)) (HasText-fixed i h)
+pub meaning-fixed : (i : ℤ) → HasFixedText i → meaning (parts_of (local_in_utc i)) ≡ Ok (local_in_utc i)
+meaning-fixed i h = meaning-text (local_in_utc i) (HasText-fixed i h)
 
 -- ---- laws
 

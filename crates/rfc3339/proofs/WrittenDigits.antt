@@ -8,7 +8,7 @@ use Rattle.std.proofs.lemmas.Bool.{eqb-true}
 use Rattle.std.proofs.lemmas.Bool.Decides.{nat_tests}
 use Rattle.std.proofs.lemmas.List.Folds.{list_all-append}
 use Rattle.calendar_values.specs.Digits.{last_digits, fraction_digits}
-use Rattle.calendar_values.specs.DigitLaws.{length-last_digits}
+use Rattle.calendar_values.specs.DigitCountLemmas.{length-last_digits}
 use Rattle.rfc3339.specs.Form.{fraction_value}
 
 -- the number has at most so many digits

@@ -1,7 +1,7 @@
 //! Texts read.
 ghost use Rattle.std.specs.Prelude.{◌≡◌, ◌≤◌, ◌⊎◌, IfOk, OkIff, Err, Ok, ℤ, pos};
 ghost use Rattle.calendar_values.specs.WallClock.{IsWallClock};
-ghost use Rattle.offset_times.specs.Local.{Local, local, instant_of};
+ghost use Rattle.offset_times.specs.Local.{Local, local_in_utc, instant_of};
 ghost use Rattle.rfc3339.specs.Form.{IsDateTime};
 ghost use Rattle.rfc3339.specs.Meaning.{meaning, offset_of, value_of, AreInRange};
 ghost use Rattle.rfc3339.specs.Texts.{HasText, rfc3339_text, HasFixedText, fixed_text};
@@ -35,7 +35,7 @@ pub fn parse_rfc3339(text: &[u8]) -> Result<OffsetDateTime, TextRefusal>
     ensures written { (at : Local) → HasText at → text.now ≡ rfc3339_text at → result ≡ Ok at }
     // And what `to_rfc3339_nanos` wrote, in UTC.
     ensures written_fixed { (i : ℤ) → HasFixedText i → text.now ≡ fixed_text i →
-        result ≡ Ok (local i (pos 0)) }
+        result ≡ Ok (local_in_utc i) }
 {
     match parts(text) {
         Some(parts) => date_time(parts),

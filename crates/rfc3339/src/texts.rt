@@ -1,7 +1,7 @@
 //! Every type that has texts of RFC 3339.
 ghost use Rattle.std.specs.Prelude.{◌≡◌, ◌≤◌, ◌⊎◌, SomeIff, IfSome, OkIff, Err, Ok, pos, length};
 ghost use Rattle.std.specs.Result.{result_map_both};
-ghost use Rattle.offset_times.specs.Local.{Local, local, instant_of};
+ghost use Rattle.offset_times.specs.Local.{Local, local_in_utc, instant_of};
 ghost use Rattle.rfc3339.specs.Form.{IsDateTime};
 ghost use Rattle.rfc3339.specs.Meaning.{meaning, value_of, AreInRange};
 ghost use Rattle.rfc3339.specs.Texts.{HasText, rfc3339_text};
@@ -58,7 +58,7 @@ impl Rfc3339 for OffsetDateTime {
 }
 
 impl Rfc3339 for UtcDateTime {
-    ghost shown = { λ instant. local instant (pos 0) };
+    ghost shown = { λ instant. local_in_utc instant };
 
     ghost value_shown = { λ at. instant_of at };
 
@@ -72,7 +72,7 @@ impl Rfc3339 for UtcDateTime {
 }
 
 impl Rfc3339 for Timestamp {
-    ghost shown = { λ instant. local instant (pos 0) };
+    ghost shown = { λ instant. local_in_utc instant };
 
     ghost value_shown = { λ at. instant_of at };
 

@@ -1,8 +1,8 @@
-pub mod InstantLemmas
-pub mod LogLemmas
+pub mod HeldInstantLemmas
+pub mod LogSearchLemmas
 pub mod MomentLemmas
-pub mod OrderLemmas
 pub mod ReciprocalLemmas
-pub mod SumLemmas
-pub mod TextLemmas
+pub mod TimestampOrderLemmas
+pub mod TimestampSumLemmas
+pub mod TimestampTextLemmas
 pub mod TravelLemmas

@@ -4,10 +4,10 @@ use Rattle.std.proofs.lemmas.Bool.Decides.{nat_tests}
 use Rattle.std.proofs.lemmas.Int.{ints}
 use Rattle.std.specs.Int.{IsInRange}
 use Rattle.calendar_values.specs.Calendar.{is_leap_year, year_start, year_of, ordinal_of, day_of_ordinal_date, IsOrdinalDate}
-use Rattle.calendar_values.specs.DayLaws.{year_of-is, ordinal_of-is, IsYear-year_of}
+use Rattle.calendar_values.specs.DayLemmas.{year_of-is, ordinal_of-is, IsYear-year_of}
 use Rattle.calendar_values.specs.Range.{IsDay}
 use Rattle.calendar_values.specs.Refusals.{IsOrdinalDateOfRange}
-use Rattle.calendar_values.specs.YearLaws.{days_from_0, days_from_0-suc, leap_day-shift, days_in_year-leap_day, days_in_year_bounds, year_start-closed}
+use Rattle.calendar_values.specs.YearLemmas.{days_from_0, days_from_0-suc, leap_day-shift, days_in_year-leap_day, days_in_year_bounds, year_start-closed}
 use Rattle.stamp_times.specs.Reciprocal.{shifted_day, IsShiftedDay, years_of, step_year, step_leap, step_ordinal}
 
 -- the days before the year and the day of the year make the day

@@ -6,12 +6,12 @@ use Rattle.std.proofs.lemmas.List.{take_more}
 use Rattle.std.specs.Option.{is_some}
 use Rattle.calendar_values.specs.WallClock.{IsWallClock}
 use Rattle.offset_times.specs.InstantLemmas.{instant_of-local_at}
-use Rattle.plain_times.specs.SumLemmas.{checked-in, checked-SomeIff}
-use Rattle.plain_times.specs.Sums.{checked}
-use Rattle.stamp_times.specs.Travel.{held_instant, shown_by, holds, held_by, travel, held_after}
-use Rattle.stamp_times.specs.declared.steps.Held.{Held}
-use Rattle.stamp_times.specs.declared.steps.Step.{Step}
-use Rattle.stamp_times.specs.declared.steps.Step.TheVariants.{ToStamp, ToUtc, ToOffset}
+use Rattle.plain_times.specs.SumLemmas.{wall_clock_if_any-in, wall_clock_if_any-SomeIff}
+use Rattle.plain_times.specs.Sums.{wall_clock_if_any}
+use Rattle.stamp_times.specs.Travel.{held_instant, shown_by, holds, held_by, stop_index, held_after}
+use Rattle.stamp_times.specs.declared.chains.steps.Held.{Held}
+use Rattle.stamp_times.specs.declared.chains.steps.Step.{Step}
+use Rattle.stamp_times.specs.declared.chains.steps.Step.TheVariants.{ToStamp, ToUtc, ToOffset}
 
 -- a place counted from k on
 abbrev pub later : ℕ → Option ℕ → Option ℕ
@@ -34,16 +34,17 @@ held_after-append : (held : Held) (i : ℤ) (steps : List Step) (step : Step) �
 held_after-append held i [] step = refl
 held_after-append held i (x ∷ steps) step = held_after-append (held_by x i) i steps step
 
-travel-on : (i : ℤ) (step : Step) (steps : List Step) → IsWallClock (shown_by step i) → travel i (step ∷ steps) ≡ later 1 (travel i steps)
+travel-on : (i : ℤ) (step : Step) (steps : List Step) → IsWallClock (shown_by step i) → stop_index i (step ∷ steps) ≡ later 1 (stop_index i steps)
 travel-on i step steps h =
-    let on : holds step i ≡ true = ap is_some (checked-in (shown_by step i) h) in
-    ap (λ (b : Bool). cond b (later 1 (travel i steps)) (Some 0)) on
+    let on : holds step i ≡ true = ap is_some (wall_clock_if_any-in (shown_by step i) h) in
+    ap (λ (b : Bool). cond b (later 1 (stop_index i steps)) (Some 0)) on
 
-travel-stopped : (i : ℤ) (step : Step) (steps : List Step) → SomeIff None (IsWallClock (shown_by step i)) (held_by step i) → travel i (step ∷ steps) ≡ Some 0
+travel-stopped : (i : ℤ) (step : Step) (steps : List Step) → SomeIff None (IsWallClock (shown_by step i)) (held_by step i)
+    → stop_index i (step ∷ steps) ≡ Some 0
 travel-stopped i step steps h =
-    let none : None ≡ checked (shown_by step i) = checked-SomeIff None (shown_by step i) h in
+    let none : None ≡ wall_clock_if_any (shown_by step i) = wall_clock_if_any-SomeIff None (shown_by step i) h in
     let stopped : holds step i ≡ false = ap is_some (sym none) in
-    ap (λ (b : Bool). cond b (later 1 (travel i steps)) (Some 0)) stopped
+    ap (λ (b : Bool). cond b (later 1 (stop_index i steps)) (Some 0)) stopped
 
 rest : (steps : List Step) (k : ℕ) (step : Step) → k < length steps → step ≡ get_or steps k step → drop k steps ≡ step ∷ drop (k + 1) steps
 rest steps k step below here =
@@ -56,15 +57,15 @@ held_after-more start next i steps k step below here e =
     e ∙ sym (ap (held_after start i) more ∙ held_after-append start i (take k steps) step)
 
 pub travel-more : (i : ℤ) (steps : List Step) (k : ℕ) (step : Step) → k < length steps → step ≡ get_or steps k step → IsWallClock (shown_by step i) →
-    travel i steps ≡ later k (travel i (drop k steps)) → travel i steps ≡ later (k + 1) (travel i (drop (k + 1) steps))
+    stop_index i steps ≡ later k (stop_index i (drop k steps)) → stop_index i steps ≡ later (k + 1) (stop_index i (drop (k + 1) steps))
 travel-more i steps k step below here h so =
-    let one : travel i (drop k steps) ≡ later 1 (travel i (drop (k + 1) steps)) =
-    ap (travel i) (rest steps k step below here) ∙ travel-on i step (drop (k + 1) steps) h in
-    so ∙ ap (later k) one ∙ later-later k (travel i (drop (k + 1) steps))
+    let one : stop_index i (drop k steps) ≡ later 1 (stop_index i (drop (k + 1) steps)) =
+    ap (stop_index i) (rest steps k step below here) ∙ travel-on i step (drop (k + 1) steps) h in
+    so ∙ ap (later k) one ∙ later-later k (stop_index i (drop (k + 1) steps))
 
 pub travel-ends : (i : ℤ) (steps : List Step) (k : ℕ) (step : Step) → k < length steps → step ≡ get_or steps k step →
-    SomeIff None (IsWallClock (shown_by step i)) (held_by step i) → travel i steps ≡ later k (travel i (drop k steps)) → travel i steps ≡ Some k
+    SomeIff None (IsWallClock (shown_by step i)) (held_by step i) → stop_index i steps ≡ later k (stop_index i (drop k steps)) → stop_index i steps ≡ Some k
 travel-ends i steps k step below here h so =
     let from_here : 0 + k ≡ k = omega arith in
-    let ends : travel i (drop k steps) ≡ Some 0 = ap (travel i) (rest steps k step below here) ∙ travel-stopped i step (drop (k + 1) steps) h in
+    let ends : stop_index i (drop k steps) ≡ Some 0 = ap (stop_index i) (rest steps k step below here) ∙ travel-stopped i step (drop (k + 1) steps) h in
     so ∙ ap (later k) ends ∙ ap (λ (n : ℕ). let place : Option ℕ = Some n in place) from_here

@@ -4,30 +4,31 @@ use Rattle.calendar_values.specs.Calendar.{year_of, month_of, day_of_month_of, o
 use Rattle.calendar_values.specs.Clock.{hour_of, minute_of, second_of, millisecond_of, microsecond_of, nanosecond_of}
 use Rattle.calendar_values.specs.Month.{month_number}
 use Rattle.calendar_values.specs.Refusals.{Refusal}
-use Rattle.calendar_values.specs.Replacements.{with_year, with_month, with_day, with_ordinal, with_hour, with_minute, with_second, with_millisecond}
-use Rattle.calendar_values.specs.Replacements.{with_microsecond, with_nanosecond}
 use Rattle.calendar_values.specs.WallClock.{wall_day, wall_time, IsWallClock}
 use Rattle.calendar_values.specs.Weeks.{iso_year_of, iso_week_of, sunday_week_of, monday_week_of, weekday_of}
 use Rattle.offset_times.specs.Local.{shown_at}
-use Rattle.plain_times.specs.Replacements.{with_date, with_time, keeping_time, keeping_day}
-use Rattle.plain_times.specs.Sums.{checked, clamped}
+use Rattle.plain_times.specs.Replacements.{with_date, with_time, wall_year_outcome, wall_month_outcome, wall_day_outcome, wall_ordinal_outcome}
+use Rattle.plain_times.specs.Replacements.{wall_hour_outcome}
+use Rattle.plain_times.specs.Replacements.{wall_minute_outcome, wall_second_outcome, wall_millisecond_outcome, wall_microsecond_outcome}
+use Rattle.plain_times.specs.Replacements.{wall_nanosecond_outcome}
+use Rattle.plain_times.specs.Sums.{wall_clock_if_any, nearest_wall_clock}
 use Rattle.stamp_times.specs.Numbered.{month_numbered, weekday_numbered}
-use Rattle.stamp_times.specs.declared.calls.DateRead.{DateRead}
-use Rattle.stamp_times.specs.declared.calls.DateRead.TheVariants as date_read
-use Rattle.stamp_times.specs.declared.calls.DatePart.{DatePart}
-use Rattle.stamp_times.specs.declared.calls.DatePart.TheVariants as date_part
-use Rattle.stamp_times.specs.declared.calls.ClockRead.{ClockRead}
-use Rattle.stamp_times.specs.declared.calls.ClockRead.TheVariants as clock_read
-use Rattle.stamp_times.specs.declared.calls.ClockPart.{ClockPart}
-use Rattle.stamp_times.specs.declared.calls.ClockPart.TheVariants as clock_part
-use Rattle.stamp_times.specs.declared.calls.Shift.{Shift}
-use Rattle.stamp_times.specs.declared.calls.Shift.TheVariants.{CheckedAdd, CheckedSub, SaturatingAdd, SaturatingSub}
-use Rattle.stamp_times.specs.declared.calls.Replace.{Replace}
-use Rattle.stamp_times.specs.declared.calls.Replace.TheVariants as replacing
-use Rattle.stamp_times.specs.declared.calls.Call.{Call}
-use Rattle.stamp_times.specs.declared.calls.Call.TheVariants as call
-use Rattle.stamp_times.specs.declared.calls.Reply.{Reply}
-use Rattle.stamp_times.specs.declared.calls.Reply.TheVariants as replied
+use Rattle.stamp_times.specs.declared.runs.calls.DateRead.{DateRead}
+use Rattle.stamp_times.specs.declared.runs.calls.DateRead.TheVariants as date_read
+use Rattle.stamp_times.specs.declared.runs.calls.DatePart.{DatePart}
+use Rattle.stamp_times.specs.declared.runs.calls.DatePart.TheVariants as date_part
+use Rattle.stamp_times.specs.declared.runs.calls.ClockRead.{ClockRead}
+use Rattle.stamp_times.specs.declared.runs.calls.ClockRead.TheVariants as clock_read
+use Rattle.stamp_times.specs.declared.runs.calls.ClockPart.{ClockPart}
+use Rattle.stamp_times.specs.declared.runs.calls.ClockPart.TheVariants as clock_part
+use Rattle.stamp_times.specs.declared.runs.calls.Shift.{Shift}
+use Rattle.stamp_times.specs.declared.runs.calls.Shift.TheVariants.{CheckedAdd, CheckedSub, SaturatingAdd, SaturatingSub}
+use Rattle.stamp_times.specs.declared.runs.calls.Replace.{Replace}
+use Rattle.stamp_times.specs.declared.runs.calls.Replace.TheVariants as replacing
+use Rattle.stamp_times.specs.declared.runs.calls.Call.{Call}
+use Rattle.stamp_times.specs.declared.runs.calls.Call.TheVariants as call
+use Rattle.stamp_times.specs.declared.runs.calls.Reply.{Reply}
+use Rattle.stamp_times.specs.declared.runs.calls.Reply.TheVariants as replied
 
 -- what a read of the date gives on a day
 abbrev pub date_part_of : ℤ → DateRead → DatePart
@@ -62,42 +63,42 @@ clock_part_of c clock_read.Microsecond = clock_part.Microsecond (microsecond_of 
 clock_part_of c clock_read.Nanosecond = clock_part.Nanosecond (nanosecond_of c)
 
 -- where a sum or a difference leads, if it is accepted
-abbrev pub shifted : ℤ → Shift → Option ℤ
-shifted i (CheckedAdd d) = checked (i +ℤ d)
-shifted i (CheckedSub d) = checked (i -ℤ d)
-shifted i (SaturatingAdd d) = Some (clamped (i +ℤ d))
-shifted i (SaturatingSub d) = Some (clamped (i -ℤ d))
+abbrev pub instant_after_shift : ℤ → Shift → Option ℤ
+instant_after_shift i (CheckedAdd d) = wall_clock_if_any (i +ℤ d)
+instant_after_shift i (CheckedSub d) = wall_clock_if_any (i -ℤ d)
+instant_after_shift i (SaturatingAdd d) = Some (nearest_wall_clock (i +ℤ d))
+instant_after_shift i (SaturatingSub d) = Some (nearest_wall_clock (i -ℤ d))
 
 -- a checked sum or difference is given exactly where the range has it, and a saturating one always is
 abbrev pub Shifts : ℤ → Shift → Option ℤ → Type 0
 Shifts i (CheckedAdd d) sum = SomeIff sum (IsWallClock (i +ℤ d)) (i +ℤ d)
 Shifts i (CheckedSub d) sum = SomeIff sum (IsWallClock (i -ℤ d)) (i -ℤ d)
-Shifts i (SaturatingAdd d) sum = sum ≡ Some (clamped (i +ℤ d))
-Shifts i (SaturatingSub d) sum = sum ≡ Some (clamped (i -ℤ d))
+Shifts i (SaturatingAdd d) sum = sum ≡ Some (nearest_wall_clock (i +ℤ d))
+Shifts i (SaturatingSub d) sum = sum ≡ Some (nearest_wall_clock (i -ℤ d))
 
 -- where a replacement leads, or what it is refused by
-abbrev pub replaced : ℤ → Replace → Result ℤ Refusal
-replaced i (replacing.Time c) = Ok (with_time i c)
-replaced i (replacing.Date n) = Ok (with_date i n)
-replaced i (replacing.Year y) = keeping_time i (with_year (wall_day i) y)
-replaced i (replacing.Month m) = keeping_time i (with_month (wall_day i) (month_number m))
-replaced i (replacing.Day d) = keeping_time i (with_day (wall_day i) d)
-replaced i (replacing.Ordinal ordinal) = keeping_time i (with_ordinal (wall_day i) ordinal)
-replaced i (replacing.Hour h) = keeping_day i (with_hour (wall_time i) h)
-replaced i (replacing.Minute m) = keeping_day i (with_minute (wall_time i) m)
-replaced i (replacing.Second s) = keeping_day i (with_second (wall_time i) s)
-replaced i (replacing.Millisecond milli) = keeping_day i (with_millisecond (wall_time i) milli)
-replaced i (replacing.Microsecond micro) = keeping_day i (with_microsecond (wall_time i) micro)
-replaced i (replacing.Nanosecond n) = keeping_day i (with_nanosecond (wall_time i) n)
+abbrev pub instant_after_replacement : ℤ → Replace → Result ℤ Refusal
+instant_after_replacement i (replacing.Time c) = Ok (with_time i c)
+instant_after_replacement i (replacing.Date n) = Ok (with_date i n)
+instant_after_replacement i (replacing.Year y) = (wall_year_outcome i y).answer
+instant_after_replacement i (replacing.Month m) = (wall_month_outcome i (month_number m)).answer
+instant_after_replacement i (replacing.Day d) = (wall_day_outcome i d).answer
+instant_after_replacement i (replacing.Ordinal ordinal) = (wall_ordinal_outcome i ordinal).answer
+instant_after_replacement i (replacing.Hour h) = (wall_hour_outcome i h).answer
+instant_after_replacement i (replacing.Minute m) = (wall_minute_outcome i m).answer
+instant_after_replacement i (replacing.Second s) = (wall_second_outcome i s).answer
+instant_after_replacement i (replacing.Millisecond milli) = (wall_millisecond_outcome i milli).answer
+instant_after_replacement i (replacing.Microsecond micro) = (wall_microsecond_outcome i micro).answer
+instant_after_replacement i (replacing.Nanosecond n) = (wall_nanosecond_outcome i n).answer
 
 -- the reply that says where the counter is
-abbrev pub now : ℤ → Reply
-now i = replied.Now (wall_day i) (wall_time i)
+abbrev pub reply_of_instant : ℤ → Reply
+reply_of_instant i = replied.Now (wall_day i) (wall_time i)
 
 -- what a sum or a difference replies, and where it leaves the counter
 abbrev pub shift_reply : Option ℤ → Reply
 shift_reply None = replied.Refused
-shift_reply (Some j) = now j
+shift_reply (Some j) = reply_of_instant j
 
 abbrev pub shift_next : ℤ → Option ℤ → ℤ
 shift_next i None = i
@@ -105,7 +106,7 @@ shift_next i (Some j) = j
 
 -- what a replacement replies, and where it leaves the counter
 abbrev pub replace_reply : Result ℤ Refusal → Reply
-replace_reply (Ok j) = now j
+replace_reply (Ok j) = reply_of_instant j
 replace_reply (Err refusal) = replied.RefusedPart refusal
 
 abbrev pub replace_next : ℤ → Result ℤ Refusal → ℤ
@@ -121,24 +122,24 @@ local_reply o (Some w) = replied.Local (wall_day w) (wall_time w) o
 abbrev pub reply : ℤ → Call → Reply
 reply i (call.ReadDate read) = replied.DatePart (date_part_of (wall_day i) read)
 reply i (call.ReadClock read) = replied.ClockPart (clock_part_of (wall_time i) read)
-reply i (call.Shift shift) = shift_reply (shifted i shift)
-reply i (call.Replace replace) = replace_reply (replaced i replace)
-reply i (call.Local o) = local_reply o (checked (shown_at i o))
+reply i (call.Shift shift) = shift_reply (instant_after_shift i shift)
+reply i (call.Replace replace) = replace_reply (instant_after_replacement i replace)
+reply i (call.Local o) = local_reply o (wall_clock_if_any (shown_at i o))
 
 -- where a call leaves the counter: a read, a conversion to an offset and a refused call change nothing
-abbrev pub next : ℤ → Call → ℤ
-next i (call.ReadDate read) = i
-next i (call.ReadClock read) = i
-next i (call.Shift shift) = shift_next i (shifted i shift)
-next i (call.Replace replace) = replace_next i (replaced i replace)
-next i (call.Local o) = i
+abbrev pub instant_after : ℤ → Call → ℤ
+instant_after i (call.ReadDate read) = i
+instant_after i (call.ReadClock read) = i
+instant_after i (call.Shift shift) = shift_next i (instant_after_shift i shift)
+instant_after i (call.Replace replace) = replace_next i (instant_after_replacement i replace)
+instant_after i (call.Local o) = i
 
 -- the replies to calls in their order
 abbrev pub replies : ℤ → List Call → List Reply
 replies i [] = []
-replies i (c ∷ cs) = reply i c ∷ replies (next i c) cs
+replies i (c ∷ cs) = reply i c ∷ replies (instant_after i c) cs
 
 -- where they leave the counter
-abbrev pub last : ℤ → List Call → ℤ
-last i [] = i
-last i (c ∷ cs) = last (next i c) cs
+abbrev pub last_instant : ℤ → List Call → ℤ
+last_instant i [] = i
+last_instant i (c ∷ cs) = last_instant (instant_after i c) cs

@@ -1,10 +1,11 @@
 pub mod Counter
-pub mod InstantLaws
 pub mod Instants
 pub mod Laws
-pub mod LogLaws
+pub mod LogLemmas
 pub mod Numbered
+pub mod NumberedLemmas
 pub mod Reciprocal
 pub mod Refusals
 pub mod Texts
+pub mod TimestampLemmas
 pub mod Travel

@@ -1,19 +1,30 @@
--- The instant of a second and a nanosecond of it, and what the two are refused by.
-use Rattle.std.specs.Prelude.{ℕ, nat_lt, if◌then◌else◌, ℤ, codes, Result, Ok}
+-- What a second and a nanosecond of it come to: their instant, or the refusal of one of them.
+use Rattle.std.specs.Prelude.{ℕ, ◌<◌, ◌||◌, nat_lt, if◌then◌else◌, ℤ, codes, Result, Ok, Err}
+use Rattle.calendar_values.specs.Clock.{nanos_per_second}
+use Rattle.calendar_values.specs.Outcomes.{Outcome}
 use Rattle.calendar_values.specs.Range.{is_outside}
-use Rattle.calendar_values.specs.Refusals.{Refusal, outright_refusal, out_of_range}
-use Rattle.calendar_values.specs.WallClock.{first_wall_clock, last_wall_clock}
+use Rattle.calendar_values.specs.Refusals.{Refusal, outright_refusal}
+use Rattle.calendar_values.specs.WallClock.{first_wall_clock, last_wall_clock, IsWallClock}
 use Rattle.utc_times.specs.UnixTime.{instant_of_second}
 use Rattle.stamp_times.specs.Instants.{instant_of_parts}
 
--- a second, or else a nanosecond of it
+-- what a second, or else a nanosecond of it, is refused by
 abbrev pub parts_refusal : ℤ → Refusal
 parts_refusal s =
     if is_outside first_wall_clock last_wall_clock (instant_of_second s) then outright_refusal (codes "seconds")
     else outright_refusal (codes "nanoseconds")
 
--- the instant of a second and a nanosecond of it
+-- the instant of a second and a nanosecond of it, or the refusal of one of them
 unfoldable pub timestamp_of_parts : ℤ → ℕ → Result ℤ Refusal
 timestamp_of_parts s n =
-    if is_outside first_wall_clock last_wall_clock (instant_of_second s) then out_of_range (codes "seconds")
-    else (if nat_lt 999_999_999 n then out_of_range (codes "nanoseconds") else Ok (instant_of_parts s n))
+    if is_outside first_wall_clock last_wall_clock (instant_of_second s) || nat_lt 999_999_999 n then Err (parts_refusal s)
+    else Ok (instant_of_parts s n)
+
+-- what a second and a nanosecond of it come to
+abbrev pub timestamp_outcome : ℤ → ℕ → Outcome ℤ
+timestamp_outcome s n = record {
+  fits = IsWallClock (instant_of_second s) × (n < nanos_per_second);
+  value = instant_of_parts s n;
+  refusal = parts_refusal s;
+  answer = timestamp_of_parts s n;
+}

@@ -1,11 +1,11 @@
 -- A chain of conversions: where it stops, and what is held.
 use Rattle.std.specs.Prelude.{ℕ, ◌+◌, Bool, List, [], ◌∷◌, ℤ, if◌then◌else◌, Option, Some, None, option_map, is_some}
 use Rattle.offset_times.specs.Local.{instant_of, shown_at, local_at}
-use Rattle.plain_times.specs.Sums.{checked}
-use Rattle.stamp_times.specs.declared.steps.Held.{Held}
-use Rattle.stamp_times.specs.declared.steps.Held.TheVariants.{Stamp, Utc, Offset}
-use Rattle.stamp_times.specs.declared.steps.Step.{Step}
-use Rattle.stamp_times.specs.declared.steps.Step.TheVariants.{ToStamp, ToUtc, ToOffset}
+use Rattle.plain_times.specs.Sums.{wall_clock_if_any}
+use Rattle.stamp_times.specs.declared.chains.steps.Held.{Held}
+use Rattle.stamp_times.specs.declared.chains.steps.Held.TheVariants.{Stamp, Utc, Offset}
+use Rattle.stamp_times.specs.declared.chains.steps.Step.{Step}
+use Rattle.stamp_times.specs.declared.chains.steps.Step.TheVariants.{ToStamp, ToUtc, ToOffset}
 
 -- the instant of what is held
 abbrev pub held_instant : Held → ℤ
@@ -21,7 +21,7 @@ shown_by (ToOffset o) i = shown_at i o
 
 -- the target of a step can hold the instant: the range has what its clocks show
 abbrev pub holds : Step → ℤ → Bool
-holds step i = is_some (checked (shown_by step i))
+holds step i = is_some (wall_clock_if_any (shown_by step i))
 
 -- the instant as the target of a step holds it
 abbrev pub held_by : Step → ℤ → Held
@@ -30,9 +30,9 @@ held_by ToUtc i = Utc i
 held_by (ToOffset o) i = Offset (local_at i o)
 
 -- the place, counted from 0, of the first step whose target cannot hold the instant
-abbrev pub travel : ℤ → List Step → Option ℕ
-travel i [] = None
-travel i (step ∷ steps) = if holds step i then option_map (λ k. k + 1) (travel i steps) else Some 0
+abbrev pub stop_index : ℤ → List Step → Option ℕ
+stop_index i [] = None
+stop_index i (step ∷ steps) = if holds step i then option_map (λ k. k + 1) (stop_index i steps) else Some 0
 
 -- what is held after the steps, if each of their targets can hold the instant
 abbrev pub held_after : Held → ℤ → List Step → Held

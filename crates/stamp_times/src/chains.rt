@@ -2,24 +2,26 @@
 ghost use Rattle.std.specs.Prelude.{◌≡◌, ◌<◌, None, Some, SomeIff, IfOk, IfErr, length, take};
 ghost use Rattle.calendar_values.specs.WallClock.{IsWallClock};
 ghost use Rattle.offset_times.specs.Local.{shown_at, local_at};
-ghost use Rattle.stamp_times.specs.Travel.{held_instant, shown_by, held_by, travel, held_after};
+ghost use Rattle.stamp_times.specs.Travel.{held_instant, shown_by, held_by, stop_index, held_after};
 
-use crate::steps::{Held, Step, StoppedAt};
+use crate::chains::steps::{Held, Step, StoppedAt};
 use crate::{Moment, Timestamp};
 use calendar_values::UtcOffset;
 use offset_times::OffsetDateTime;
 use utc_times::UtcDateTime;
+
+pub mod steps;
 
 /// Converts the instant step by step, as far as each target can hold it: a timestamp and a date-time in UTC
 /// hold an instant of the range, and a date-time at an offset holds one at which clocks there show a date of
 /// the range. Ok what the last step gives, or the start where there is no step. Err the first step that
 /// cannot hold the instant, and what the steps before it gave. Either way the instant is that of the start.
 pub fn chain(start: Held, steps: &[Step]) -> Result<Held, StoppedAt>
-    ensures arrived { IfOk result (λ _. travel (held_instant start) steps.now ≡ None) }
+    ensures arrived { IfOk result (λ _. stop_index (held_instant start) steps.now ≡ None) }
     ensures held { IfOk result (λ held. held ≡ held_after start (held_instant start) steps.now) }
     ensures instant { IfOk result (λ held. held_instant held ≡ held_instant start) }
     ensures stopped { IfErr result (λ stopped.
-        travel (held_instant start) steps.now ≡ Some stopped.index) }
+        stop_index (held_instant start) steps.now ≡ Some stopped.index) }
     ensures kept { IfErr result (λ stopped. stopped.held ≡
         held_after start (held_instant start) (take stopped.index steps.now)) }
     ensures place { IfErr result (λ stopped. stopped.index < length steps.now) }
@@ -29,7 +31,7 @@ pub fn chain(start: Held, steps: &[Step]) -> Result<Held, StoppedAt>
     let mut held = start;
     for (index, step) in steps.iter().enumerate() {
         let before = held;
-        match converted(before, *step) {
+        match held_by(before, *step) {
             Some(next) => held = next,
             None => return Err(StoppedAt { index, held }),
         }
@@ -38,14 +40,14 @@ pub fn chain(start: Held, steps: &[Step]) -> Result<Held, StoppedAt>
 }
 
 // The instant as the target of the step holds it. None where it cannot.
-fn converted(held: Held, step: Step) -> Option<Held>
+fn held_by(held: Held, step: Step) -> Option<Held>
     ensures { let i = held_instant held in SomeIff result (IsWallClock (shown_by step i))
         (held_by step i) }
 {
     match step {
         Step::ToStamp => Some(Held::Stamp(Timestamp::from(in_utc(held)?))),
         Step::ToUtc => Some(Held::Utc(in_utc(held)?)),
-        Step::ToOffset(offset) => Some(Held::Offset(at_offset(held, offset)?)),
+        Step::ToOffset(offset) => Some(Held::Offset(held_at_offset(held, offset)?)),
     }
 }
 
@@ -56,6 +58,7 @@ fn in_utc(held: Held) -> Option<UtcDateTime>
     match held {
         Held::Stamp(stamp) => Some(stamp.to_utc()),
         Held::Utc(at) => {
+            // For the proof alone: what is read lies in its range.
             let _in_range = at.date();
             Some(at)
         }
@@ -64,7 +67,7 @@ fn in_utc(held: Held) -> Option<UtcDateTime>
 }
 
 // The instant as a date-time at an offset. None where its date there is out of the range.
-fn at_offset(held: Held, offset: UtcOffset) -> Option<OffsetDateTime>
+fn held_at_offset(held: Held, offset: UtcOffset) -> Option<OffsetDateTime>
     ensures { let i = held_instant held in SomeIff result (IsWallClock (shown_at i offset))
         (local_at i offset) }
 {

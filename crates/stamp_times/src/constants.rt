@@ -4,11 +4,23 @@ ghost use Rattle.calendar_values.specs.WallClock.{first_wall_clock, last_wall_cl
 
 use crate::Timestamp;
 
+/// The constants of [`Timestamp`].
+#[derive(Clone, Copy)]
+pub struct TimestampConstants {
+    pub first: Timestamp,
+    pub last: Timestamp,
+    pub epoch: Timestamp,
+}
+
 /// [`Timestamp::MIN`], [`Timestamp::MAX`] and [`Timestamp::UNIX_EPOCH`].
-pub fn timestamps() -> (Timestamp, Timestamp, Timestamp)
-    ensures first { result.0 ≡ first_wall_clock }
-    ensures last { result.1 ≡ last_wall_clock }
-    ensures epoch { result.2 ≡ pos 0 }
+pub fn timestamps() -> TimestampConstants
+    ensures first { result.first ≡ first_wall_clock }
+    ensures last { result.last ≡ last_wall_clock }
+    ensures epoch { result.epoch ≡ pos 0 }
 {
-    (Timestamp::MIN, Timestamp::MAX, Timestamp::UNIX_EPOCH)
+    TimestampConstants {
+        first: Timestamp::MIN,
+        last: Timestamp::MAX,
+        epoch: Timestamp::UNIX_EPOCH,
+    }
 }

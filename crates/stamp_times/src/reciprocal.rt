@@ -37,7 +37,7 @@ pub fn century(day: u32) -> (u32, u32)
     ensures above { 146_097 * day * 3_853_261_555 < 4 * day * 2 ^ 47 }
     ensures below { 4 * day * 2 ^ 47 < 146_097 * day * 3_853_261_555 + 2 ^ 47 }
 {
-    words(u64::from(day) * CENTURY_MULTIPLIER >> 15)
+    whole_and_fraction(u64::from(day) * CENTURY_MULTIPLIER >> 15)
 }
 
 /// The whole years up to a day of a calendar without the rule on centuries, and the fraction of a year,
@@ -50,11 +50,11 @@ pub fn julian_year(julian_day: u32) -> (u32, u32)
     ensures above { 4 * julian_day * 2 ^ 40 < 1_461 * julian_day * 3_010_298_776 }
     ensures below { 1_461 * julian_day * 3_010_298_776 < 4 * julian_day * 2 ^ 40 + 2 ^ 40 }
 {
-    words(u64::from(julian_day) * YEAR_MULTIPLIER >> 8)
+    whole_and_fraction(u64::from(julian_day) * YEAR_MULTIPLIER >> 8)
 }
 
 // The high and the low 32 bits.
-fn words(scaled: u64) -> (u32, u32)
+fn whole_and_fraction(scaled: u64) -> (u32, u32)
     ensures high { result.0 ≡ scaled / 2 ^ 32 }
     ensures low { result.1 ≡ scaled % 2 ^ 32 }
 {
@@ -76,8 +76,8 @@ pub fn year_leap_ordinal(day: i32) -> (i32, bool, u16)
     ensures leap_by_steps { result.1 ≡ step_leap (shifted_day day) }
     ensures ordinal_by_steps { result.2 ≡ step_ordinal (shifted_day day) }
 {
-    let (years, is_leap, ordinal) = years_leap_ordinal(shifted(day));
-    (unshifted(years), is_leap, ordinal)
+    let (years, is_leap, ordinal) = years_leap_ordinal(shifted_day(day));
+    (year_of_shift(years), is_leap, ordinal)
 }
 
 // The same for a day counted from the year -2379600, and the year counted from there.
@@ -95,7 +95,7 @@ fn years_leap_ordinal(day: u32) -> (u32, bool, u16)
 }
 
 // The day, counted from the year -2379600.
-fn shifted(day: i32) -> u32
+fn shifted_day(day: i32) -> u32
     requires { IsDay day }
     ensures { result ≡ shifted_day day }
 {
@@ -103,7 +103,7 @@ fn shifted(day: i32) -> u32
 }
 
 // The year that comes so many years after the year -2379600.
-fn unshifted(years: u32) -> i32
+fn year_of_shift(years: u32) -> i32
     requires { years < 2 ^ 31 }
     ensures { result ≡ pos years -ℤ pos 2_379_600 }
 {

@@ -1,11 +1,14 @@
 //! Runs of calls.
 ghost use Rattle.std.specs.Prelude.{◌≡◌, ℤ, Some, IfOk, IsOk, length, vec_len, vec_capacity, ◌++◌, ◌∷◌, [], ◌<◌, ◌≤◌, ◌+◌};
-ghost use Rattle.stamp_times.specs.Counter.{reply, next, replies, last, now, local_reply};
+ghost use Rattle.stamp_times.specs.Counter.{reply, instant_after, replies, last_instant, reply_of_instant, local_reply};
 
-use crate::calls::{Call, Reply};
+use crate::runs::calls::{Call, Reply};
 use crate::{Moment, Timestamp};
 use offset_times::OffsetDateTime;
 use std::alloc::{AllocError, Global};
+
+pub mod calls;
+pub mod moment;
 
 /// The replies to the calls in their order, one a call, and the value after the last: those of a counter of
 /// nanoseconds that starts at the instant. A read leaves the value as it is and replies the part. A sum or a
@@ -20,7 +23,8 @@ pub fn run<M: Moment>(
 ) -> Result<(Vec<Reply>, M), AllocError>
     ensures replies { IfOk result (λ ended. ended.0.items ≡ replies (M.instant start) calls.now) }
     ensures count { IfOk result (λ ended. vec_len ended.0 ≡ length calls.now) }
-    ensures last { IfOk result (λ ended. M.instant ended.1 ≡ last (M.instant start) calls.now) }
+    ensures last { IfOk result (λ ended.
+        M.instant ended.1 ≡ last_instant (M.instant start) calls.now) }
     ensures no_call { calls.now ≡ [] → IsOk result }
 {
     let mut replies = Vec::with_capacity(alloc, calls.len())?;
@@ -54,36 +58,36 @@ pub fn run_both(
 // What a call replies, and the value after it.
 fn step<M: Moment>(held: M, call: Call) -> (Reply, M)
     ensures reply { result.0 ≡ reply (M.instant held) call }
-    ensures next { M.instant result.1 ≡ next (M.instant held) call }
+    ensures next { M.instant result.1 ≡ instant_after (M.instant held) call }
 {
     match call {
         Call::ReadDate(read) => (Reply::DatePart(held.date_part(read)), held),
         Call::ReadClock(read) => (Reply::ClockPart(held.clock_part(read)), held),
         Call::Shift(shift) => match held.shift(shift) {
-            Some(next) => (now(next), next),
+            Some(next) => (reply_of(next), next),
             None => (Reply::Refused, held),
         },
         Call::Replace(replace) => match held.replace(replace) {
-            Ok(next) => (now(next), next),
+            Ok(next) => (reply_of(next), next),
             Err(refusal) => (Reply::RefusedPart(refusal), held),
         },
         Call::Local(offset) => match held.at_offset(offset) {
-            Some(at) => (local(at), held),
+            Some(at) => (local_reply(at), held),
             None => (Reply::Refused, held),
         },
     }
 }
 
 // The reply that says where the value is.
-fn now<M: Moment>(held: M) -> Reply
-    ensures { result ≡ now (M.instant held) }
+fn reply_of<M: Moment>(held: M) -> Reply
+    ensures { result ≡ reply_of_instant (M.instant held) }
 {
     let (date, time) = held.parts();
     Reply::Now(date, time)
 }
 
 // The reply that says what clocks at an offset show.
-fn local(at: OffsetDateTime) -> Reply
+fn local_reply(at: OffsetDateTime) -> Reply
     ensures { result ≡ local_reply at.offset (Some at.wall) }
 {
     let (date, time, offset) = at.parts();

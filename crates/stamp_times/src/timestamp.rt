@@ -1,23 +1,23 @@
 //! An instant by its Unix seconds.
-ghost use Rattle.std.specs.Prelude.{◌≡◌, ◌<◌, codes, OkIff, IfErr};
-ghost use Rattle.calendar_values.specs.Clock.{nanos_per_second};
-ghost use Rattle.calendar_values.specs.Refusals.{outright_refusal};
+ghost use Rattle.std.specs.Prelude.{◌≡◌, codes};
+ghost use Rattle.calendar_values.specs.Outcomes.{Gives};
 ghost use Rattle.calendar_values.specs.WallClock.{IsWallClock, unix_seconds_of};
-ghost use Rattle.utc_times.specs.UnixTime.{instant_of_second};
-ghost use Rattle.stamp_times.specs.Refusals.{parts_refusal, timestamp_of_parts};
-ghost use Rattle.stamp_times.specs.Instants.{instant_of_parts, instant_of_milliseconds, instant_of_microseconds, unix_milliseconds_of, unix_microseconds_of};
+ghost use Rattle.utc_times.specs.UnixTime.{instant_of_second, instant_outcome};
+ghost use Rattle.stamp_times.specs.Refusals.{timestamp_outcome};
+ghost use Rattle.stamp_times.specs.Instants.{instant_of_milliseconds, instant_of_microseconds, unix_milliseconds_of, unix_microseconds_of};
 
 use calendar_values::ComponentRange;
+use calendar_values::units::NANOS_PER_SECOND;
 use std::marker::Model;
 
 mod comparisons;
-mod conversions;
-mod offsets;
 mod operators;
 mod reads;
 mod replacements;
 mod sums;
-mod text;
+mod texts;
+mod with_offset;
+mod with_utc;
 
 // The seconds of the first instant of the range and of the last.
 const FIRST_SECOND: i64 = -31_619_087_596_800;
@@ -46,7 +46,7 @@ impl Model for Timestamp {
     ghost use Rattle.calendar_values.specs.Clock.{nanos_per_second};
     ghost use Rattle.calendar_values.specs.WallClock.{IsWallClock, unix_seconds_of};
     ghost use Rattle.stamp_times.specs.Instants.{instant_of_parts, unix_nanosecond_of};
-    ghost use Rattle.stamp_times.specs.InstantLaws.{unix_seconds_of-parts, unix_nanosecond_of-parts};
+    ghost use Rattle.stamp_times.specs.TimestampLemmas.{unix_seconds_of-parts, unix_nanosecond_of-parts};
 
     ghost Value = { ℤ };
 
@@ -89,11 +89,7 @@ impl Timestamp {
     /// [`Timestamp::MIN`] or after that of [`Timestamp::MAX`], then `nanoseconds` above 999,999,999.
     #[tactic(auto, unfolding(crate::specs::Refusals::timestamp_of_parts))]
     pub fn new(seconds: i64, nanoseconds: u32) -> Result<Timestamp, ComponentRange>
-        ensures value { OkIff result (IsWallClock (instant_of_second seconds) ×
-            (nanoseconds < nanos_per_second))
-            (instant_of_parts seconds nanoseconds) }
-        ensures refused { IfErr result (λ refusal. refusal ≡ parts_refusal seconds) }
-        ensures equation { result ≡ timestamp_of_parts seconds nanoseconds }
+        ensures { Gives result (timestamp_outcome seconds nanoseconds) }
     {
         if seconds < FIRST_SECOND || seconds > LAST_SECOND {
             return Err(ComponentRange::new("seconds", false));
@@ -109,9 +105,9 @@ impl Timestamp {
 
     /// The beginning of a Unix second. Refused `seconds` before that of [`Timestamp::MIN`] or after that of
     /// [`Timestamp::MAX`].
+    #[tactic(auto, unfolding(utc_times::specs::UnixTime::instant_or_refusal))]
     pub fn from_seconds(seconds: i64) -> Result<Timestamp, ComponentRange>
-        ensures value { let i = instant_of_second seconds in OkIff result (IsWallClock i) i }
-        ensures refused { IfErr result (λ refusal. refusal ≡ outright_refusal (codes "seconds")) }
+        ensures { Gives result (instant_outcome (codes "seconds") (instant_of_second seconds)) }
     {
         if seconds < FIRST_SECOND || seconds > LAST_SECOND {
             return Err(ComponentRange::new("seconds", false));
@@ -124,11 +120,10 @@ impl Timestamp {
 
     /// The instant so many milliseconds from 1970-01-01 0:00 UTC. Refused `milliseconds` before
     /// [`Timestamp::MIN`] or after [`Timestamp::MAX`].
+    #[tactic(auto, unfolding(utc_times::specs::UnixTime::instant_or_refusal))]
     pub fn from_milliseconds(milliseconds: i64) -> Result<Timestamp, ComponentRange>
-        ensures value { let i = instant_of_milliseconds milliseconds in
-            OkIff result (IsWallClock i) i }
-        ensures refused { IfErr result (λ refusal.
-            refusal ≡ outright_refusal (codes "milliseconds")) }
+        ensures { let i = instant_of_milliseconds milliseconds in
+            Gives result (instant_outcome (codes "milliseconds") i) }
     {
         if milliseconds < FIRST_SECOND * 1_000 || milliseconds > LAST_SECOND * 1_000 + 999 {
             return Err(ComponentRange::new("milliseconds", false));
@@ -141,11 +136,10 @@ impl Timestamp {
 
     /// The instant so many microseconds from 1970-01-01 0:00 UTC. Refused `microseconds` before
     /// [`Timestamp::MIN`] or after [`Timestamp::MAX`].
+    #[tactic(auto, unfolding(utc_times::specs::UnixTime::instant_or_refusal))]
     pub fn from_microseconds(microseconds: i128) -> Result<Timestamp, ComponentRange>
-        ensures value { let i = instant_of_microseconds microseconds in
-            OkIff result (IsWallClock i) i }
-        ensures refused { IfErr result (λ refusal.
-            refusal ≡ outright_refusal (codes "microseconds")) }
+        ensures { let i = instant_of_microseconds microseconds in
+            Gives result (instant_outcome (codes "microseconds") i) }
     {
         if microseconds < FIRST_SECOND as i128 * 1_000_000
             || microseconds > LAST_SECOND as i128 * 1_000_000 + 999_999
@@ -160,24 +154,24 @@ impl Timestamp {
 
     /// The instant so many nanoseconds from 1970-01-01 0:00 UTC. Refused `nanoseconds` before
     /// [`Timestamp::MIN`] or after [`Timestamp::MAX`].
+    #[tactic(auto, unfolding(utc_times::specs::UnixTime::instant_or_refusal))]
     pub fn from_nanoseconds(nanoseconds: i128) -> Result<Timestamp, ComponentRange>
-        ensures value { OkIff result (IsWallClock nanoseconds) nanoseconds }
-        ensures refused { IfErr result (λ refusal.
-            refusal ≡ outright_refusal (codes "nanoseconds")) }
+        ensures { Gives result (instant_outcome (codes "nanoseconds") nanoseconds) }
     {
-        if nanoseconds < FIRST_SECOND as i128 * 1_000_000_000
-            || nanoseconds > LAST_SECOND as i128 * 1_000_000_000 + 999_999_999
+        if nanoseconds < FIRST_SECOND as i128 * NANOS_PER_SECOND as i128
+            || nanoseconds
+                > LAST_SECOND as i128 * NANOS_PER_SECOND as i128 + MAX_NANOSECOND as i128
         {
             return Err(ComponentRange::new("nanoseconds", false));
         }
         Ok(Timestamp {
-            seconds: nanoseconds.div_euclid(1_000_000_000) as i64,
-            nanosecond: nanoseconds.rem_euclid(1_000_000_000) as u32,
+            seconds: nanoseconds.div_euclid(NANOS_PER_SECOND as i128) as i64,
+            nanosecond: nanoseconds.rem_euclid(NANOS_PER_SECOND as i128) as u32,
         })
     }
 
     /// The Unix second: the whole seconds from 1970-01-01 0:00 UTC, rounded down.
-    #[tactic(auto, using(crate::proofs::InstantLemmas::fields))]
+    #[tactic(auto, using(crate::proofs::HeldInstantLemmas::fields))]
     pub fn as_seconds(self) -> i64
         ensures value { result ≡ unix_seconds_of self }
         ensures self_in_range { IsWallClock self }
@@ -186,7 +180,7 @@ impl Timestamp {
     }
 
     /// The whole milliseconds from 1970-01-01 0:00 UTC, rounded down.
-    #[tactic(auto, using(crate::proofs::InstantLemmas::counts))]
+    #[tactic(auto, using(crate::proofs::HeldInstantLemmas::counts))]
     pub fn as_milliseconds(self) -> i64
         ensures value { result ≡ unix_milliseconds_of self }
         ensures self_in_range { IsWallClock self }
@@ -195,7 +189,7 @@ impl Timestamp {
     }
 
     /// The whole microseconds from 1970-01-01 0:00 UTC, rounded down.
-    #[tactic(auto, using(crate::proofs::InstantLemmas::counts))]
+    #[tactic(auto, using(crate::proofs::HeldInstantLemmas::counts))]
     pub fn as_microseconds(self) -> i128
         ensures value { result ≡ unix_microseconds_of self }
         ensures self_in_range { IsWallClock self }
@@ -204,11 +198,11 @@ impl Timestamp {
     }
 
     /// The nanoseconds from 1970-01-01 0:00 UTC.
-    #[tactic(auto, using(crate::proofs::InstantLemmas::counts))]
+    #[tactic(auto, using(crate::proofs::HeldInstantLemmas::counts))]
     pub fn as_nanoseconds(self) -> i128
         ensures value { result ≡ self }
         ensures self_in_range { IsWallClock self }
     {
-        self.seconds as i128 * 1_000_000_000 + self.nanosecond as i128
+        self.seconds as i128 * NANOS_PER_SECOND as i128 + self.nanosecond as i128
     }
 }

@@ -3,53 +3,37 @@ use Rattle.std.proofs.Common.{◌≡◌, ℕ, ℤ, List, [], ◌∷◌, ◌++◌
 use Rattle.std.proofs.Common.{get_or, append_assoc, append-nil}
 use Rattle.std.proofs.lemmas.Grind.{flat_map-append}
 use Rattle.std.proofs.lemmas.List.{take_more}
-use Rattle.calendar_values.specs.Weekday.{weekday_number, weekday_name}
-use Rattle.calendar_values.specs.declared.weekday.Weekday.{Weekday}
-use Rattle.calendar_values.specs.declared.weekday.Weekday.TheVariants.{Monday, Tuesday, Wednesday, Thursday, Friday, Saturday, Sunday}
-use Rattle.stamp_times.specs.Counter.{replies, last}
+use Rattle.stamp_times.specs.Counter.{replies, last_instant}
 use Rattle.stamp_times.specs.Texts.{timestamp_text}
-use Rattle.stamp_times.specs.declared.calls.Call.{Call}
-use Rattle.stamp_times.specs.declared.calls.Reply.{Reply}
-use Rattle.stamp_times.specs.Travel.{held_instant, travel, held_after}
-use Rattle.stamp_times.specs.declared.steps.Held.{Held}
-use Rattle.stamp_times.specs.declared.steps.Step.{Step}
-use Rattle.times_bench.specs.Answers.{weekday_from_monday, held_start, arrival_text, chain_text, run_text}
+use Rattle.stamp_times.specs.declared.runs.calls.Call.{Call}
+use Rattle.stamp_times.specs.declared.runs.calls.Reply.{Reply}
+use Rattle.stamp_times.specs.Travel.{held_instant, stop_index, held_after}
+use Rattle.stamp_times.specs.declared.chains.steps.Held.{Held}
+use Rattle.stamp_times.specs.declared.chains.steps.Step.{Step}
+use Rattle.times_bench.specs.Answers.{held_start, arrival_text, chain_text, run_text}
 use Rattle.times_bench.specs.ReplyTexts.{reply_text, held_text}
-
-weekday_from_monday-number : (weekday : Weekday) → weekday_from_monday (weekday_number weekday) ≡ weekday
-weekday_from_monday-number Monday = refl
-weekday_from_monday-number Tuesday = refl
-weekday_from_monday-number Wednesday = refl
-weekday_from_monday-number Thursday = refl
-weekday_from_monday-number Friday = refl
-weekday_from_monday-number Saturday = refl
-weekday_from_monday-number Sunday = refl
-
-pub weekday_name-from_monday : (weekday : Weekday) (n : ℕ) → weekday_number weekday ≡ n → weekday_name weekday ≡ weekday_name (weekday_from_monday n)
-weekday_name-from_monday weekday n e =
-    ap weekday_name (sym (weekday_from_monday-number weekday) ∙ ap weekday_from_monday e)
 
 -- the text of a chain, from where it leads
 chain_text-arrival : (start : Step) (steps : List Step) (i : ℤ) (from : Held) (stop : Option ℕ) → from ≡ held_start start i
-    → travel (held_instant from) steps ≡ stop → arrival_text from steps stop ≡ chain_text start steps i
+    → stop_index (held_instant from) steps ≡ stop → arrival_text from steps stop ≡ chain_text start steps i
 unfolding chain_text
 chain_text-arrival start steps i from stop e t =
-    ap (arrival_text from steps) (sym t) ∙ ap (λ (z : Held). arrival_text z steps (travel (held_instant z) steps)) e
+    ap (arrival_text from steps) (sym t) ∙ ap (λ (z : Held). arrival_text z steps (stop_index (held_instant z) steps)) e
 
 -- a chain that arrives
 pub chain_text-arrived : (start : Step) (steps : List Step) (i : ℤ) (from held : Held) → from ≡ held_start start i
-    → travel (held_instant from) steps ≡ None → held ≡ held_after from (held_instant from) steps → held_text held ≡ chain_text start steps i
+    → stop_index (held_instant from) steps ≡ None → held ≡ held_after from (held_instant from) steps → held_text held ≡ chain_text start steps i
 chain_text-arrived start steps i from held e t h = ap held_text h ∙ chain_text-arrival start steps i from None e t
 
 -- a chain that stops
 pub chain_text-stopped : (start : Step) (steps : List Step) (i : ℤ) (from held : Held) (index : ℕ) → from ≡ held_start start i
-    → travel (held_instant from) steps ≡ Some index → held ≡ held_after from (held_instant from) (take index steps)
+    → stop_index (held_instant from) steps ≡ Some index → held ≡ held_after from (held_instant from) (take index steps)
     → codes "stopped " ++ decimal index ++ codes " " ++ held_text held ≡ chain_text start steps i
 chain_text-stopped start steps i from held index e t h =
     ap (λ (z : Held). codes "stopped " ++ decimal index ++ codes " " ++ held_text z) h ∙ chain_text-arrival start steps i from (Some index) e t
 
 -- the text of a run, from its replies and where it ends
-pub run_text-replies : (calls : List Call) (start end : ℤ) (rs : List Reply) → rs ≡ replies start calls → end ≡ last start calls
+pub run_text-replies : (calls : List Call) (start end : ℤ) (rs : List Reply) → rs ≡ replies start calls → end ≡ last_instant start calls
     → flat_map (λ (reply : Reply). reply_text reply ++ codes "; ") rs ++ codes "end " ++ timestamp_text end ≡ run_text calls start
 unfolding run_text
 run_text-replies calls start end rs e l =

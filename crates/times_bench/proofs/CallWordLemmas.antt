@@ -14,27 +14,26 @@ use Rattle.std.proofs.lemmas.Str.Ascii.{IsAscii-nil, IsAscii-cons}
 use Rattle.calendar_values.specs.Month.{month_number}
 use Rattle.calendar_values.specs.Range.{is_outside}
 use Rattle.calendar_values.specs.declared.month.Month.{Month}
-use Rattle.calendar_values.specs.declared.month.Month.TheVariants.{January, February, March, April, May, June, July, August, September, October, November}
-use Rattle.calendar_values.specs.declared.month.Month.TheVariants.{December}
 use Rattle.stamp_times.specs.Numbered.{month_numbered}
-use Rattle.stamp_times.specs.declared.calls.Call.{Call}
+use Rattle.stamp_times.specs.NumberedLemmas.{month_numbered-number}
+use Rattle.stamp_times.specs.declared.runs.calls.Call.{Call}
 use Rattle.times_bench.proofs.NumberLemmas.{both_true}
-use Rattle.times_bench.specs.CallWords.{named, reads, call_names, call_with, call_of_parts, call_of}
+use Rattle.times_bench.specs.CallWords.{entry_of, reads, call_names, call_with, call_of_parts, call_of}
 use Rattle.times_bench.specs.Words.{cut_at, arguments_of}
 
 -- a name in a table passes the test that all names of the table pass
 passes_first : {A : Type 0} (test : List ℕ → Bool) (table : List (List ℕ × A)) (name first : List ℕ) (value found : A) (is_first : Bool)
-    → bytes_eq name first ≡ is_first → test first ≡ true → (named table name ≡ Some found → test name ≡ true)
-    → cond is_first (Some value) (named table name) ≡ Some found → test name ≡ true
+    → bytes_eq name first ≡ is_first → test first ≡ true → (entry_of table name ≡ Some found → test name ≡ true)
+    → cond is_first (Some value) (entry_of table name) ≡ Some found → test name ≡ true
 passes_first test table name first value found true is e others h = ap test ((bytes_eq-Decides name first).0 is) ∙ e
 passes_first test table name first value found false is e others h = others h
 
-named-passes : {A : Type 0} (test : List ℕ → Bool) (table : List (List ℕ × A)) (name : List ℕ) (found : A)
-    → list_all (λ (row : List ℕ × A). test row.0) table ≡ true → named table name ≡ Some found → test name ≡ true
-named-passes test [] name found e h = absurd cc
-named-passes {A} test (first ∷ others) name found e h =
+entry_of-passes : {A : Type 0} (test : List ℕ → Bool) (table : List (List ℕ × A)) (name : List ℕ) (found : A)
+    → list_all (λ (row : List ℕ × A). test row.0) table ≡ true → entry_of table name ≡ Some found → test name ≡ true
+entry_of-passes test [] name found e h = absurd cc
+entry_of-passes {A} test (first ∷ others) name found e h =
     let both = both_true (test first.0) (list_all (λ (row : List ℕ × A). test row.0) others) e in
-    passes_first test others name first.0 first.1 found (bytes_eq name first.0) refl both.0 (named-passes test others name found both.1) h
+    passes_first test others name first.0 first.1 found (bytes_eq name first.0) refl both.0 (entry_of-passes test others name found both.1) h
 
 -- at least three bytes, all of them ASCII
 abbrev is_name : List ℕ → Bool
@@ -55,17 +54,17 @@ IsName-is_name text e =
     let both = both_true (list_all (λ byte. nat_lt byte 128) text) (nat_lt 2 (length text)) e in
     record { is_text = IsUtf8-from_ascii text (IsAscii-list_all text both.0); long = grind (arith, nat_tests) }
 
-IsName-read : (name : List ℕ) (call : Call) → named reads name ≡ Some call → IsName name
+IsName-read : (name : List ℕ) (call : Call) → entry_of reads name ≡ Some call → IsName name
 unfolding reads
-IsName-read name call e = IsName-is_name name (named-passes is_name reads name call refl e)
+IsName-read name call e = IsName-is_name name (entry_of-passes is_name reads name call refl e)
 
 IsName-call : (name arguments : List ℕ) (call : Call)
-    → option_and_then (λ call. call_with call (arguments_of arguments)) (named call_names name) ≡ Some call → IsName name
+    → option_and_then (λ call. call_with call (arguments_of arguments)) (entry_of call_names name) ≡ Some call → IsName name
 unfolding call_names
-IsName-call name arguments call e = elim (named call_names name) as (λ found. named call_names name ≡ found
+IsName-call name arguments call e = elim (entry_of call_names name) as (λ found. entry_of call_names name ≡ found
     → option_and_then (λ call. call_with call (arguments_of arguments)) found ≡ Some call → IsName name) [
       | None ↦ λ is h. absurd cc
-      | Some read ↦ λ is h. IsName-is_name name (named-passes is_name call_names name read refl is)
+      | Some read ↦ λ is h. IsName-is_name name (entry_of-passes is_name call_names name read refl is)
     ] refl e
 
 IsName-parts : (name : List ℕ) (rest : List (List ℕ)) (call : Call) → call_of_parts (name ∷ rest) ≡ Some call → IsName name
@@ -116,21 +115,6 @@ call_of_parts-more name arguments [] some = absurd (omega arith)
 call_of_parts-more name arguments (next ∷ rest) some = refl
 
 -- the month of a number
-month_numbered-number : (month : Month) → month_numbered (month_number month) ≡ month
-unfolding month_numbered
-month_numbered-number January = refl
-month_numbered-number February = refl
-month_numbered-number March = refl
-month_numbered-number April = refl
-month_numbered-number May = refl
-month_numbered-number June = refl
-month_numbered-number July = refl
-month_numbered-number August = refl
-month_numbered-number September = refl
-month_numbered-number October = refl
-month_numbered-number November = refl
-month_numbered-number December = refl
-
 pub month_tried : {E : Type 0} (number : ℕ) (tried : Result Month E) → (IsOk tried ↔ ((1 ≤ number) × (number ≤ 12)))
     → IfOk tried (λ month. month_number month ≡ number)
     → result_ok tried ≡ cond (is_outside (pos 1) (pos 12) (pos number)) None (Some (month_numbered number))

@@ -10,10 +10,10 @@ use Rattle.std.proofs.lemmas.Bool.Decides.{nat_tests}
 use Rattle.std.proofs.lemmas.List.Splits.{join_with_byte-slice_split}
 use Rattle.std.proofs.lemmas.Slice.Eq.{bytes_eq-Decides}
 use Rattle.std.proofs.lemmas.List.{length-append}
-use Rattle.times_bench.specs.declared.requests.Kind.{Kind}
-use Rattle.times_bench.specs.declared.requests.Kind.TheVariants as kind
-use Rattle.times_bench.specs.Numbers.{number_digits, is_numeral, number_of, within, i64_of}
-use Rattle.times_bench.specs.Requests.{Unix, unix_request, stamp_request, instant_of, run_request, chain_request, request_of_kind, kind_of_word}
+use Rattle.times_bench.specs.declared.requests.Command.{Command}
+use Rattle.times_bench.specs.declared.requests.Command.TheVariants as command
+use Rattle.times_bench.specs.Numbers.{number_digits, is_numeral, number_of, number_in, i64_of}
+use Rattle.times_bench.specs.Requests.{Unix, unix_request, stamp_request, parse_instant, run_request, chain_request, request_of_command, command_of_word}
 use Rattle.times_bench.specs.Requests.{request_of_words, request_of}
 use Rattle.times_bench.specs.Words.{words_of, words_left, bytes_left, exactly_one, exactly_two, all_of}
 use Rattle.times_bench.proofs.WordLemmas.{length-cut_at-some}
@@ -44,7 +44,7 @@ number_of-space front back = not_number _ _ (number_digits-space front back)
 
 i64_of-space : (front back : List ℕ) → i64_of (front ++ 32 ∷ back) ≡ None
 unfolding i64_of
-i64_of-space front back = ap (λ (z : Option ℤ). within (neg_ℤ (pos (2 ^ 63))) (pos (2 ^ 63 - 1)) z) (number_of-space front back)
+i64_of-space front back = ap (λ (z : Option ℤ). number_in (neg_ℤ (pos (2 ^ 63))) (pos (2 ^ 63 - 1)) z) (number_of-space front back)
 
 -- what follows `unix` is a number, or it is more words than one
 unix_request-joined : (words : List (List ℕ)) (text : List ℕ) → 0 < length words → join_with_byte 32 words ≡ text
@@ -177,9 +177,9 @@ if_is false x y z h e = e
 abbrev pub BeginsOtherwise : List ℕ → List ℕ → Type 0
 BeginsOtherwise line front = (rest : List ℕ) → line ≢ front ++ rest
 
-kind_of_word-other : (word rest line : List ℕ) → word ++ 32 ∷ rest ≡ line → BeginsOtherwise line (codes "unix ") → BeginsOtherwise line (codes "stamp ")
-    → BeginsOtherwise line (codes "run ") → BeginsOtherwise line (codes "chain ") → kind_of_word word ≡ None
-kind_of_word-other word rest line e unix stamp run chain =
+command_of_word-other : (word rest line : List ℕ) → word ++ 32 ∷ rest ≡ line → BeginsOtherwise line (codes "unix ") → BeginsOtherwise line (codes "stamp ")
+    → BeginsOtherwise line (codes "run ") → BeginsOtherwise line (codes "chain ") → command_of_word word ≡ None
+command_of_word-other word rest line e unix stamp run chain =
     let begins : (front : List ℕ) → bytes_eq word front ≡ true → line ≡ front ++ 32 ∷ rest =
     (λ front is. sym e ∙ ap (λ (z : List ℕ). z ++ 32 ∷ rest) ((bytes_eq-Decides word front).0 is)) in
     if_is (bytes_eq word (codes "unix")) _ _ None (λ is. absurd (unix rest (begins (codes "unix") is)))
@@ -188,21 +188,21 @@ kind_of_word-other word rest line e unix stamp run chain =
     (if_is (bytes_eq word (codes "chain")) _ _ None (λ is. absurd (chain rest (begins (codes "chain") is))) refl)))
 
 -- a first word alone asks for nothing
-request_of_kind-alone : (asked : Option Kind) → option_and_then (λ k. request_of_kind k []) asked ≡ None
-unfolding unix_request stamp_request instant_of run_request chain_request exactly_one exactly_two
-request_of_kind-alone None = refl
-request_of_kind-alone (Some kind.Unix) = refl
-request_of_kind-alone (Some kind.Stamp) = refl
-request_of_kind-alone (Some kind.Run) = refl
-request_of_kind-alone (Some kind.Chain) = refl
+request_of_command-alone : (asked : Option Command) → option_and_then (λ k. request_of_command k []) asked ≡ None
+unfolding unix_request stamp_request parse_instant run_request chain_request exactly_one exactly_two
+request_of_command-alone None = refl
+request_of_command-alone (Some command.Unix) = refl
+request_of_command-alone (Some command.Stamp) = refl
+request_of_command-alone (Some command.Run) = refl
+request_of_command-alone (Some command.Chain) = refl
 
 request_of_words-other : (words : List (List ℕ)) (line : List ℕ) → join_with_byte 32 words ≡ line → BeginsOtherwise line (codes "unix ")
     → BeginsOtherwise line (codes "stamp ")
     → BeginsOtherwise line (codes "run ") → BeginsOtherwise line (codes "chain ") → request_of_words words ≡ None
 request_of_words-other [] line e unix stamp run chain = refl
-request_of_words-other (first ∷ []) line e unix stamp run chain = request_of_kind-alone (kind_of_word first)
+request_of_words-other (first ∷ []) line e unix stamp run chain = request_of_command-alone (command_of_word first)
 request_of_words-other (first ∷ next ∷ words) line e unix stamp run chain =
-    ap (option_and_then (λ k. request_of_kind k (next ∷ words))) (kind_of_word-other first (join_with_byte 32 (next ∷ words)) line e unix stamp run chain)
+    ap (option_and_then (λ k. request_of_command k (next ∷ words))) (command_of_word-other first (join_with_byte 32 (next ∷ words)) line e unix stamp run chain)
 
 pub request_of-other : (line : List ℕ) → length line ≤ 1024 → BeginsOtherwise line (codes "unix ") → BeginsOtherwise line (codes "stamp ")
     → BeginsOtherwise line (codes "run ")

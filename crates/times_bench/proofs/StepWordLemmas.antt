@@ -9,8 +9,8 @@ use Rattle.std.specs.Result.{result_ok}
 use Rattle.std.specs.Str.{bytes_eq}
 use Rattle.std.proofs.lemmas.Result.{Ok-from_Ok_iff}
 use Rattle.calendar_values.specs.Offsets.{IsOffset}
-use Rattle.stamp_times.specs.declared.steps.Step.TheVariants.{ToStamp, ToUtc, ToOffset}
-use Rattle.times_bench.specs.StepWords.{two_digits, seconds_of_words, offset_of, step_of}
+use Rattle.stamp_times.specs.declared.chains.steps.Step.TheVariants.{ToStamp, ToUtc, ToOffset}
+use Rattle.times_bench.specs.StepWords.{two_digits, seconds_of_words, parse_offset, step_of}
 use Rattle.times_bench.specs.Words.{cut_at, exactly_one, exactly_two, exactly_three}
 use Rattle.times_bench.proofs.WordLemmas.{length-cut_at}
 
@@ -44,25 +44,26 @@ seconds_of_words-length (hours ∷ minutes ∷ last ∷ []) seconds e = omega ar
 seconds_of_words-length (hours ∷ minutes ∷ last ∷ next ∷ words) seconds e = absurd cc
 
 -- an offset by its sign
-pub offset_of-plus : (word text : List ℕ) (sign : ℕ) → word ≡ sign ∷ text → sign ≡ 43 → offset_of word ≡ seconds_of_words (cut_at 58 text)
-unfolding offset_of
-offset_of-plus word text sign e is = ap offset_of (e ∙ ap (λ (byte : ℕ). byte ∷ text) is)
+pub parse_offset-plus : (word text : List ℕ) (sign : ℕ) → word ≡ sign ∷ text → sign ≡ 43 → parse_offset word ≡ seconds_of_words (cut_at 58 text)
+unfolding parse_offset
+parse_offset-plus word text sign e is = ap parse_offset (e ∙ ap (λ (byte : ℕ). byte ∷ text) is)
 
-pub offset_of-minus : (word text : List ℕ) (sign : ℕ) → word ≡ sign ∷ text → sign ≡ 45 → offset_of word ≡ option_map neg_ℤ (seconds_of_words (cut_at 58 text))
-unfolding offset_of
-offset_of-minus word text sign e is = ap offset_of (e ∙ ap (λ (byte : ℕ). byte ∷ text) is)
+pub parse_offset-minus : (word text : List ℕ) (sign : ℕ) → word ≡ sign ∷ text → sign ≡ 45
+    → parse_offset word ≡ option_map neg_ℤ (seconds_of_words (cut_at 58 text))
+unfolding parse_offset
+parse_offset-minus word text sign e is = ap parse_offset (e ∙ ap (λ (byte : ℕ). byte ∷ text) is)
 
-pub offset_of-other : (word text : List ℕ) (sign : ℕ) → word ≡ sign ∷ text → sign ≢ 43 → sign ≢ 45 → offset_of word ≡ None
-unfolding offset_of
-offset_of-other word text sign e plus minus =
+pub parse_offset-other : (word text : List ℕ) (sign : ℕ) → word ≡ sign ∷ text → sign ≢ 43 → sign ≢ 45 → parse_offset word ≡ None
+unfolding parse_offset
+parse_offset-other word text sign e plus minus =
     let p : nat_eq sign 43 ≡ false = grind (arith, nat_tests) in
     let m : nat_eq sign 45 ≡ false = grind (arith, nat_tests) in
-    ap offset_of e ∙ rw (p, m) refl
+    ap parse_offset e ∙ rw (p, m) refl
 
-pub offset_of-nil : (word : List ℕ) → length word ≡ 0 → offset_of word ≡ None
-unfolding offset_of
-offset_of-nil [] e = refl
-offset_of-nil (sign ∷ text) e = absurd (omega (arith, e))
+pub parse_offset-nil : (word : List ℕ) → length word ≡ 0 → parse_offset word ≡ None
+unfolding parse_offset
+parse_offset-nil [] e = refl
+parse_offset-nil (sign ∷ text) e = absurd (omega (arith, e))
 
 -- an offset has at least three bytes
 signed_length : (plus minus : Bool) (text : List ℕ) (seconds : ℤ)
@@ -79,10 +80,10 @@ signed_length plus minus text seconds e =
     cases false true None r e h = absurd cc
     cases false false None r e h = absurd cc
 
-pub offset_of-length : (word : List ℕ) (offset : ℤ) → offset_of word ≡ Some offset → 3 ≤ length word
-unfolding offset_of
-offset_of-length [] offset e = absurd cc
-offset_of-length (sign ∷ text) offset e = omega (arith, signed_length (nat_eq sign 43) (nat_eq sign 45) text offset e)
+pub parse_offset-length : (word : List ℕ) (offset : ℤ) → parse_offset word ≡ Some offset → 3 ≤ length word
+unfolding parse_offset
+parse_offset-length [] offset e = absurd cc
+parse_offset-length (sign ∷ text) offset e = omega (arith, signed_length (nat_eq sign 43) (nat_eq sign 45) text offset e)
 
 -- the offset of seconds that lie in its range
 pub offset_made : {E : Type 0} (made : Result ℤ E) (z seconds : ℤ) → OkIff made (IsOffset z) z → z ≡ seconds → IsOffset seconds → result_ok made ≡ Some seconds
@@ -98,6 +99,6 @@ unfolding step_of
 step_of-utc word e e' = rw (e, e') refl
 
 pub step_of-offset : (word : List ℕ) → bytes_eq word (codes "stamp") ≡ false → bytes_eq word (codes "utc") ≡ false
-    → step_of word ≡ option_map ToOffset (offset_of word)
+    → step_of word ≡ option_map ToOffset (parse_offset word)
 unfolding step_of
 step_of-offset word e e' = rw (e, e') refl

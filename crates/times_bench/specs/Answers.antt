@@ -1,44 +1,32 @@
 -- What lines are answered with.
-use Rattle.std.specs.Prelude.{ℕ, zero, suc, Bool, false, List, [], ◌∷◌, ◌++◌, take, codes, decimal, flat_map, ℤ, Option, Some, None, Result, Ok, Err, is_ok}
+use Rattle.std.specs.Prelude.{ℕ, Bool, false, List, [], ◌∷◌, ◌++◌, take, codes, decimal, flat_map, ℤ, Option, Some, None, Result, Ok, Err, is_ok}
 use Rattle.std.specs.Fmt.{signed_decimal}
 use Rattle.calendar_values.specs.Calendar.{ordinal_of, julian_day_of}
 use Rattle.calendar_values.specs.Refusals.{Refusal}
-use Rattle.calendar_values.specs.Replacements.{with_nanosecond}
-use Rattle.calendar_values.specs.WallClock.{wall_day, wall_time}
+use Rattle.calendar_values.specs.WallClock.{wall_day}
 use Rattle.calendar_values.specs.Weekday.{weekday_name}
 use Rattle.calendar_values.specs.Weeks.{weekday_of}
-use Rattle.calendar_values.specs.declared.weekday.Weekday.{Weekday}
-use Rattle.calendar_values.specs.declared.weekday.Weekday.TheVariants.{Monday, Tuesday, Wednesday, Thursday, Friday, Saturday, Sunday}
-use Rattle.plain_times.specs.Replacements.{keeping_day}
+use Rattle.plain_times.specs.Replacements.{wall_nanosecond_outcome}
 use Rattle.utc_times.specs.Texts.{utc_text}
 use Rattle.utc_times.specs.UnixTime.{unix_instant}
-use Rattle.offset_times.specs.Local.{local}
-use Rattle.stamp_times.specs.Counter.{replies, last}
+use Rattle.offset_times.specs.Local.{wall_at}
+use Rattle.stamp_times.specs.Counter.{replies, last_instant}
+use Rattle.stamp_times.specs.Numbered.{weekday_numbered}
 use Rattle.stamp_times.specs.Refusals.{timestamp_of_parts}
 use Rattle.stamp_times.specs.Texts.{timestamp_text}
-use Rattle.stamp_times.specs.Travel.{held_instant, travel, held_after}
-use Rattle.stamp_times.specs.declared.calls.Call.{Call}
-use Rattle.stamp_times.specs.declared.steps.Held.{Held}
-use Rattle.stamp_times.specs.declared.steps.Held.TheVariants as held
-use Rattle.stamp_times.specs.declared.steps.Step.{Step}
-use Rattle.stamp_times.specs.declared.steps.Step.TheVariants.{ToStamp, ToUtc, ToOffset}
+use Rattle.stamp_times.specs.Travel.{held_instant, stop_index, held_after}
+use Rattle.stamp_times.specs.declared.runs.calls.Call.{Call}
+use Rattle.stamp_times.specs.declared.chains.steps.Held.{Held}
+use Rattle.stamp_times.specs.declared.chains.steps.Held.TheVariants as held
+use Rattle.stamp_times.specs.declared.chains.steps.Step.{Step}
+use Rattle.stamp_times.specs.declared.chains.steps.Step.TheVariants.{ToStamp, ToUtc, ToOffset}
 use Rattle.times_bench.specs.ReplyTexts.{refused_text, reply_text, held_text}
 use Rattle.times_bench.specs.Requests.{Request, Unix, Stamp, Run, Chain, request_of}
-
--- the day of the week with so many days from Monday
-abbrev pub weekday_from_monday : ℕ → Weekday
-weekday_from_monday zero = Monday
-weekday_from_monday (suc zero) = Tuesday
-weekday_from_monday (suc (suc zero)) = Wednesday
-weekday_from_monday (suc (suc (suc zero))) = Thursday
-weekday_from_monday (suc (suc (suc (suc zero)))) = Friday
-weekday_from_monday (suc (suc (suc (suc (suc zero))))) = Saturday
-weekday_from_monday (suc (suc (suc (suc (suc (suc n)))))) = Sunday
 
 -- the day of the year, the day of the week and the Julian day of a day
 unfoldable pub day_text : ℤ → List ℕ
 day_text day =
-    decimal (ordinal_of day) ++ codes " " ++ weekday_name (weekday_from_monday (weekday_of day)) ++ codes " " ++ signed_decimal (julian_day_of day)
+    decimal (ordinal_of day) ++ codes " " ++ weekday_name (weekday_numbered (weekday_of day)) ++ codes " " ++ signed_decimal (julian_day_of day)
 
 -- the text of an instant in UTC, and what its day shows
 abbrev pub stamp_text : ℤ → List ℕ
@@ -46,7 +34,7 @@ stamp_text instant = utc_text instant ++ codes " " ++ day_text (wall_day instant
 
 -- an instant with its nanosecond replaced, unless one of the two is refused
 abbrev pub with_instant_nanosecond : Result ℤ Refusal → ℕ → Result ℤ Refusal
-with_instant_nanosecond (Ok instant) nanosecond = keeping_day instant (with_nanosecond (wall_time instant) nanosecond)
+with_instant_nanosecond (Ok instant) nanosecond = (wall_nanosecond_outcome instant nanosecond).answer
 with_instant_nanosecond (Err refusal) nanosecond = Err refusal
 
 -- the text of an instant, or the refusal: `refused` and the name of the part
@@ -65,7 +53,7 @@ stamp_answer second nanosecond = text_or_refusal stamp_text (with_instant_nanose
 -- the replies to the calls of a run, each with `; ` after it, then `end ` and the last instant
 unfoldable pub run_text : List Call → ℤ → List ℕ
 run_text calls start =
-    flat_map (λ reply. reply_text reply ++ codes "; ") (replies start calls) ++ codes "end " ++ timestamp_text (last start calls)
+    flat_map (λ reply. reply_text reply ++ codes "; ") (replies start calls) ++ codes "end " ++ timestamp_text (last_instant start calls)
 
 -- the answer to `run S N CALL..`: the run from the instant of S and N
 unfoldable pub run_answer : ℤ → ℕ → List Call → List ℕ
@@ -75,7 +63,7 @@ run_answer second nanosecond calls = text_or_refusal (run_text calls) (timestamp
 abbrev pub held_start : Step → ℤ → Held
 held_start ToStamp i = held.Stamp i
 held_start ToUtc i = held.Utc i
-held_start (ToOffset o) i = held.Offset (local i o)
+held_start (ToOffset o) i = held.Offset (wall_at i o)
 
 -- what is held at the end, or where the chain stopped and what is held there
 abbrev pub arrival_text : Held → List Step → Option ℕ → List ℕ
@@ -85,7 +73,7 @@ arrival_text start steps (Some index) =
 
 -- the chain of conversions
 unfoldable pub chain_text : Step → List Step → ℤ → List ℕ
-chain_text start steps i = let from = held_start start i in arrival_text from steps (travel (held_instant from) steps)
+chain_text start steps i = let from = held_start start i in arrival_text from steps (stop_index (held_instant from) steps)
 
 -- the answer to `chain S N START STEP..`: the chain from the instant of S and N
 unfoldable pub chain_answer : ℤ → ℕ → Step → List Step → List ℕ

@@ -6,28 +6,28 @@ use Rattle.std.specs.Str.{bytes_eq}
 use Rattle.calendar_values.specs.Durations.{duration_of_parts}
 use Rattle.calendar_values.specs.Month.{month_number}
 use Rattle.calendar_values.specs.Range.{is_outside}
-use Rattle.calendar_values.specs.Refusals.{calendar_date, clock_time_nano}
+use Rattle.calendar_values.specs.Constructors.{calendar_date, clock_time_nano}
 use Rattle.stamp_times.specs.Numbered.{month_numbered}
 use Rattle.calendar_values.specs.declared.month.Month.{Month}
-use Rattle.stamp_times.specs.declared.calls.DateRead.TheVariants as date_read
-use Rattle.stamp_times.specs.declared.calls.ClockRead.TheVariants as clock_read
-use Rattle.stamp_times.specs.declared.calls.Shift.TheVariants as shift
-use Rattle.stamp_times.specs.declared.calls.Replace.{Replace}
-use Rattle.stamp_times.specs.declared.calls.Replace.TheVariants as replacing
-use Rattle.stamp_times.specs.declared.calls.Call.{Call}
-use Rattle.stamp_times.specs.declared.calls.Call.TheVariants as call
+use Rattle.stamp_times.specs.declared.runs.calls.DateRead.TheVariants as date_read
+use Rattle.stamp_times.specs.declared.runs.calls.ClockRead.TheVariants as clock_read
+use Rattle.stamp_times.specs.declared.runs.calls.Shift.TheVariants as shift
+use Rattle.stamp_times.specs.declared.runs.calls.Replace.{Replace}
+use Rattle.stamp_times.specs.declared.runs.calls.Replace.TheVariants as replacing
+use Rattle.stamp_times.specs.declared.runs.calls.Call.{Call}
+use Rattle.stamp_times.specs.declared.runs.calls.Call.TheVariants as call
 use Rattle.times_bench.specs.declared.call_words.CallName.{CallName}
 use Rattle.times_bench.specs.declared.call_words.CallName.TheVariants as name
 use Rattle.times_bench.specs.declared.call_words.PartName.{PartName}
 use Rattle.times_bench.specs.declared.call_words.PartName.TheVariants as part
 use Rattle.times_bench.specs.Numbers.{i64_of, i32_of, u32_of, u16_of, u8_of}
-use Rattle.times_bench.specs.StepWords.{offset_of}
+use Rattle.times_bench.specs.StepWords.{parse_offset}
 use Rattle.times_bench.specs.Words.{cut_at, arguments_of, exactly_one, exactly_two, exactly_three, exactly_four}
 
 -- what stands beside a name
-abbrev pub named : {A : Type 0} → List (List ℕ × A) → List ℕ → Option A
-named [] name = None
-named (first ∷ others) name = if bytes_eq name first.0 then Some first.1 else named others name
+abbrev pub entry_of : {A : Type 0} → List (List ℕ × A) → List ℕ → Option A
+entry_of [] name = None
+entry_of (first ∷ others) name = if bytes_eq name first.0 then Some first.1 else entry_of others name
 
 -- the reads, by their names
 unfoldable pub reads : List (List ℕ × Call)
@@ -64,27 +64,27 @@ duration_of_numbers s f =
     else Some (duration_of_parts s f)
 
 -- a duration: seconds and nanoseconds
-unfoldable pub duration_of : List (List ℕ) → Option ℤ
-duration_of arguments =
+unfoldable pub parse_duration : List (List ℕ) → Option ℤ
+parse_duration arguments =
     option_and_then (λ parts. option_and_then (λ s.
     option_and_then (λ f. duration_of_numbers s f) (i32_of parts.1)) (i64_of parts.0)) (exactly_two arguments)
 
 -- a time of day: hour, minute, second and nanosecond
-unfoldable pub time_of : List (List ℕ) → Option ℕ
-time_of arguments =
+unfoldable pub parse_time : List (List ℕ) → Option ℕ
+parse_time arguments =
     option_and_then (λ parts. option_and_then (λ h. option_and_then (λ m. option_and_then (λ s.
     option_and_then (λ n. result_ok (clock_time_nano h m s n)) (u32_of parts.3)) (u8_of parts.2)) (u8_of parts.1)) (u8_of parts.0))
     (exactly_four arguments)
 
 -- the month of a number, 1 to 12
-unfoldable pub month_of : List ℕ → Option Month
-month_of number = option_and_then (λ m. if is_outside (pos 1) (pos 12) (pos m) then None else Some (month_numbered m)) (u8_of number)
+unfoldable pub parse_month : List ℕ → Option Month
+parse_month number = option_and_then (λ m. if is_outside (pos 1) (pos 12) (pos m) then None else Some (month_numbered m)) (u8_of number)
 
 -- a date: year, number of the month and day of the month
-unfoldable pub date_of : List (List ℕ) → Option ℤ
-date_of arguments =
+unfoldable pub parse_date : List (List ℕ) → Option ℤ
+parse_date arguments =
     option_and_then (λ parts. option_and_then (λ y. option_and_then (λ m.
-    option_and_then (λ d. result_ok (calendar_date y (month_number m) d)) (u8_of parts.2)) (month_of parts.1)) (i32_of parts.0))
+    option_and_then (λ d. result_ok (calendar_date y (month_number m) d)) (u8_of parts.2)) (parse_month parts.1)) (i32_of parts.0))
     (exactly_three arguments)
 
 -- the calls with arguments, by their names
@@ -110,7 +110,7 @@ call_names =
 
 -- a part replaced by a number
 unfoldable pub part_with : PartName → List ℕ → Option Replace
-part_with part.Month number = option_map replacing.Month (month_of number)
+part_with part.Month number = option_map replacing.Month (parse_month number)
 part_with part.Year number = option_map replacing.Year (i32_of number)
 part_with part.Day number = option_map replacing.Day (u8_of number)
 part_with part.Ordinal number = option_map replacing.Ordinal (u16_of number)
@@ -123,20 +123,20 @@ part_with part.Nanosecond number = option_map replacing.Nanosecond (u32_of numbe
 
 -- how the arguments of each call read
 unfoldable pub call_with : CallName → List (List ℕ) → Option Call
-call_with name.CheckedAdd arguments = option_map (λ d. call.Shift (shift.CheckedAdd d)) (duration_of arguments)
-call_with name.CheckedSub arguments = option_map (λ d. call.Shift (shift.CheckedSub d)) (duration_of arguments)
-call_with name.SaturatingAdd arguments = option_map (λ d. call.Shift (shift.SaturatingAdd d)) (duration_of arguments)
-call_with name.SaturatingSub arguments = option_map (λ d. call.Shift (shift.SaturatingSub d)) (duration_of arguments)
-call_with name.ReplaceTime arguments = option_map (λ c. call.Replace (replacing.Time c)) (time_of arguments)
-call_with name.ReplaceDate arguments = option_map (λ n. call.Replace (replacing.Date n)) (date_of arguments)
+call_with name.CheckedAdd arguments = option_map (λ d. call.Shift (shift.CheckedAdd d)) (parse_duration arguments)
+call_with name.CheckedSub arguments = option_map (λ d. call.Shift (shift.CheckedSub d)) (parse_duration arguments)
+call_with name.SaturatingAdd arguments = option_map (λ d. call.Shift (shift.SaturatingAdd d)) (parse_duration arguments)
+call_with name.SaturatingSub arguments = option_map (λ d. call.Shift (shift.SaturatingSub d)) (parse_duration arguments)
+call_with name.ReplaceTime arguments = option_map (λ c. call.Replace (replacing.Time c)) (parse_time arguments)
+call_with name.ReplaceDate arguments = option_map (λ n. call.Replace (replacing.Date n)) (parse_date arguments)
 call_with (name.Replace part) arguments = option_map call.Replace (option_and_then (part_with part) (exactly_one arguments))
-call_with name.CheckedToOffset arguments = option_map call.Local (option_and_then offset_of (exactly_one arguments))
+call_with name.CheckedToOffset arguments = option_map call.Local (option_and_then parse_offset (exactly_one arguments))
 
 -- a call, by what stands before its `=` and after it
 unfoldable pub call_of_parts : List (List ℕ) → Option Call
 call_of_parts [] = None
-call_of_parts (name ∷ []) = named reads name
-call_of_parts (name ∷ arguments ∷ []) = option_and_then (λ call. call_with call (arguments_of arguments)) (named call_names name)
+call_of_parts (name ∷ []) = entry_of reads name
+call_of_parts (name ∷ arguments ∷ []) = option_and_then (λ call. call_with call (arguments_of arguments)) (entry_of call_names name)
 call_of_parts (name ∷ arguments ∷ next ∷ parts) = None
 
 -- a call

@@ -26,21 +26,21 @@ unfoldable pub number_of : List ℕ → Option ℤ
 number_of text = if is_numeral (number_digits text) then Some (number_value text) else None
 
 -- the number, if it is one from the first to the last
-abbrev pub within : ℤ → ℤ → Option ℤ → Option ℤ
-within first last None = None
-within first last (Some n) = if is_outside first last n then None else Some n
+abbrev pub number_in : ℤ → ℤ → Option ℤ → Option ℤ
+number_in first last None = None
+number_in first last (Some n) = if is_outside first last n then None else Some n
 
 -- a number of 64 bits, one of them for the sign
 unfoldable pub i64_of : List ℕ → Option ℤ
-i64_of text = within (neg_ℤ (pos (2 ^ 63))) (pos (2 ^ 63 - 1)) (number_of text)
+i64_of text = number_in (neg_ℤ (pos (2 ^ 63))) (pos (2 ^ 63 - 1)) (number_of text)
 
 -- a number of 32 bits, one of them for the sign
 unfoldable pub i32_of : List ℕ → Option ℤ
-i32_of text = within (neg_ℤ (pos (2 ^ 31))) (pos (2 ^ 31 - 1)) (number_of text)
+i32_of text = number_in (neg_ℤ (pos (2 ^ 31))) (pos (2 ^ 31 - 1)) (number_of text)
 
 -- a number not below 0, and at most this
 unfoldable pub up_to : ℕ → List ℕ → Option ℕ
-up_to most text = option_map unsigned_abs (within (pos 0) (pos most) (number_of text))
+up_to most text = option_map unsigned_abs (number_in (pos 0) (pos most) (number_of text))
 
 -- a number of 32 bits, not below 0
 abbrev pub u32_of : List ℕ → Option ℕ

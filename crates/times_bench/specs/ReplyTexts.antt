@@ -8,14 +8,14 @@ use Rattle.calendar_values.specs.Weekday.{weekday_name}
 use Rattle.offset_times.specs.Texts.{offset_date_time_text}
 use Rattle.stamp_times.specs.Texts.{timestamp_text}
 use Rattle.utc_times.specs.Texts.{utc_text}
-use Rattle.stamp_times.specs.declared.calls.DatePart.{DatePart}
-use Rattle.stamp_times.specs.declared.calls.DatePart.TheVariants as date_part
-use Rattle.stamp_times.specs.declared.calls.ClockPart.{ClockPart}
-use Rattle.stamp_times.specs.declared.calls.ClockPart.TheVariants as clock_part
-use Rattle.stamp_times.specs.declared.calls.Reply.{Reply}
-use Rattle.stamp_times.specs.declared.calls.Reply.TheVariants as replied
-use Rattle.stamp_times.specs.declared.steps.Held.{Held}
-use Rattle.stamp_times.specs.declared.steps.Held.TheVariants as held
+use Rattle.stamp_times.specs.declared.runs.calls.DatePart.{DatePart}
+use Rattle.stamp_times.specs.declared.runs.calls.DatePart.TheVariants as date_part
+use Rattle.stamp_times.specs.declared.runs.calls.ClockPart.{ClockPart}
+use Rattle.stamp_times.specs.declared.runs.calls.ClockPart.TheVariants as clock_part
+use Rattle.stamp_times.specs.declared.runs.calls.Reply.{Reply}
+use Rattle.stamp_times.specs.declared.runs.calls.Reply.TheVariants as replied
+use Rattle.stamp_times.specs.declared.chains.steps.Held.{Held}
+use Rattle.stamp_times.specs.declared.chains.steps.Held.TheVariants as held
 
 -- `refused`, and the name of the part
 abbrev pub refused_text : Refusal → List ℕ

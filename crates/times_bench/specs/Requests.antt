@@ -2,10 +2,10 @@
 use Rattle.std.specs.Prelude.{ℕ, nat_lt, List, [], ◌∷◌, length, codes, if◌then◌else◌, ℤ, Option, Some, None}
 use Rattle.std.specs.Option.{option_map, option_and_then}
 use Rattle.std.specs.Str.{bytes_eq}
-use Rattle.stamp_times.specs.declared.calls.Call.{Call}
-use Rattle.stamp_times.specs.declared.steps.Step.{Step}
-use Rattle.times_bench.specs.declared.requests.Kind.{Kind}
-use Rattle.times_bench.specs.declared.requests.Kind.TheVariants as kind
+use Rattle.stamp_times.specs.declared.runs.calls.Call.{Call}
+use Rattle.stamp_times.specs.declared.chains.steps.Step.{Step}
+use Rattle.times_bench.specs.declared.requests.Command.{Command}
+use Rattle.times_bench.specs.declared.requests.Command.TheVariants as command
 use Rattle.times_bench.specs.CallWords.{call_of}
 use Rattle.times_bench.specs.Numbers.{i64_of, u32_of}
 use Rattle.times_bench.specs.StepWords.{step_of}
@@ -28,15 +28,15 @@ stamp_request words =
     option_and_then (λ parts. option_and_then (λ s. option_map (Stamp s) (u32_of parts.1)) (i64_of parts.0)) (exactly_two words)
 
 -- S and N, and the words after them
-unfoldable pub instant_of : List (List ℕ) → Option (ℤ × ℕ × List (List ℕ))
-instant_of [] = None
-instant_of (second ∷ []) = None
-instant_of (second ∷ nanosecond ∷ words) =
+unfoldable pub parse_instant : List (List ℕ) → Option (ℤ × ℕ × List (List ℕ))
+parse_instant [] = None
+parse_instant (second ∷ []) = None
+parse_instant (second ∷ nanosecond ∷ words) =
     option_and_then (λ s. option_map (λ n. (s, n, words)) (u32_of nanosecond)) (i64_of second)
 
 -- `run S N CALL..`
 unfoldable pub run_request : List (List ℕ) → Option Request
-run_request words = option_and_then (λ from. option_map (Run from.0 from.1) (all_of call_of from.2)) (instant_of words)
+run_request words = option_and_then (λ from. option_map (Run from.0 from.1) (all_of call_of from.2)) (parse_instant words)
 
 -- `START STEP..`: START says what holds the start, as a step says what holds the instant after it
 unfoldable pub chain_from : ℤ → ℕ → List (List ℕ) → Option Request
@@ -45,28 +45,28 @@ chain_from s n (start ∷ steps) = option_and_then (λ at. option_map (Chain s n
 
 -- `chain S N START STEP..`
 unfoldable pub chain_request : List (List ℕ) → Option Request
-chain_request words = option_and_then (λ from. chain_from from.0 from.1 from.2) (instant_of words)
+chain_request words = option_and_then (λ from. chain_from from.0 from.1 from.2) (parse_instant words)
 
 -- what the words after the first one ask for, by its kind
-abbrev pub request_of_kind : Kind → List (List ℕ) → Option Request
-request_of_kind kind.Unix words = unix_request words
-request_of_kind kind.Stamp words = stamp_request words
-request_of_kind kind.Run words = run_request words
-request_of_kind kind.Chain words = chain_request words
+abbrev pub request_of_command : Command → List (List ℕ) → Option Request
+request_of_command command.Unix words = unix_request words
+request_of_command command.Stamp words = stamp_request words
+request_of_command command.Run words = run_request words
+request_of_command command.Chain words = chain_request words
 
 -- the kind of a line, by its first word
-abbrev pub kind_of_word : List ℕ → Option Kind
-kind_of_word word =
-    if bytes_eq word (codes "unix") then Some kind.Unix
-    else (if bytes_eq word (codes "stamp") then Some kind.Stamp
-    else (if bytes_eq word (codes "run") then Some kind.Run
-    else (if bytes_eq word (codes "chain") then Some kind.Chain
+abbrev pub command_of_word : List ℕ → Option Command
+command_of_word word =
+    if bytes_eq word (codes "unix") then Some command.Unix
+    else (if bytes_eq word (codes "stamp") then Some command.Stamp
+    else (if bytes_eq word (codes "run") then Some command.Run
+    else (if bytes_eq word (codes "chain") then Some command.Chain
     else None)))
 
 -- what the words of a line ask for
 abbrev pub request_of_words : List (List ℕ) → Option Request
 request_of_words [] = None
-request_of_words (first ∷ words) = option_and_then (λ k. request_of_kind k words) (kind_of_word first)
+request_of_words (first ∷ words) = option_and_then (λ k. request_of_command k words) (command_of_word first)
 
 -- the most bytes of a line that asks for something
 abbrev pub longest_line : ℕ

@@ -3,8 +3,8 @@ use Rattle.std.specs.Prelude.{ℕ, ◌+◌, ◌*◌, ◌-◌, ◌==◌, ◌&&◌
 use Rattle.std.specs.Char.{is_ascii_digit}
 use Rattle.std.specs.Option.{option_map, option_and_then}
 use Rattle.std.specs.Str.{bytes_eq}
-use Rattle.stamp_times.specs.declared.steps.Step.{Step}
-use Rattle.stamp_times.specs.declared.steps.Step.TheVariants.{ToStamp, ToUtc, ToOffset}
+use Rattle.stamp_times.specs.declared.chains.steps.Step.{Step}
+use Rattle.stamp_times.specs.declared.chains.steps.Step.TheVariants.{ToStamp, ToUtc, ToOffset}
 use Rattle.times_bench.specs.Words.{cut_at, exactly_three}
 
 -- two decimal digits, of a number that is at most the first
@@ -23,9 +23,9 @@ seconds_of_words words =
     (exactly_three words)
 
 -- an offset: `+` or `-`, then hours, minutes and seconds with `:` between
-unfoldable pub offset_of : List ℕ → Option ℤ
-offset_of [] = None
-offset_of (sign ∷ text) =
+unfoldable pub parse_offset : List ℕ → Option ℤ
+parse_offset [] = None
+parse_offset (sign ∷ text) =
     if sign == 43 then seconds_of_words (cut_at 58 text)
     else (if sign == 45 then option_map neg_ℤ (seconds_of_words (cut_at 58 text))
     else None)
@@ -35,4 +35,4 @@ unfoldable pub step_of : List ℕ → Option Step
 step_of word =
     if bytes_eq word (codes "stamp") then Some ToStamp
     else (if bytes_eq word (codes "utc") then Some ToUtc
-    else option_map ToOffset (offset_of word))
+    else option_map ToOffset (parse_offset word))

@@ -13,8 +13,8 @@ ghost use Rattle.utc_times.specs.UnixTime.{unix_instant};
 
 use super::reply_texts::{held_text, push_signed, refused_text, reply_text};
 use super::requests::{
-    ChainRequest, Kind, RunRequest, chain_request_of, kind_of, run_request_of, stamp_request_of,
-    unix_request_of,
+    ChainRequest, Command, RunRequest, chain_request_of, command_of, run_request_of,
+    stamp_request_of, unix_request_of,
 };
 use super::sending::Pending;
 use calendar_values::{ComponentRange, Text};
@@ -30,11 +30,11 @@ pub fn put_answer(alloc: Global, pending: &mut Pending, line: &[u8]) -> Result<(
     ensures { MatchResult result (λ _. pending.new ≡ pending.old ++ answer_of line.now)
         (λ _. (pending.new ≡ pending.old) × IsTrue (takes_memory line.now)) }
 {
-    match kind_of(line) {
-        Some((Kind::Unix, words)) => answer_unix(pending, words),
-        Some((Kind::Stamp, words)) => answer_stamp(pending, words),
-        Some((Kind::Run, words)) => answer_run(alloc, pending, words)?,
-        Some((Kind::Chain, words)) => answer_chain(pending, words),
+    match command_of(line) {
+        Some((Command::Unix, words)) => answer_unix(pending, words),
+        Some((Command::Stamp, words)) => answer_stamp(pending, words),
+        Some((Command::Run, words)) => answer_run(alloc, pending, words)?,
+        Some((Command::Chain, words)) => answer_chain(pending, words),
         None => pending.push_all(b"bad line"),
     }
     pending.push(b'\n');
@@ -118,7 +118,7 @@ fn unix_text(text: &mut Text, second: i64)
     ensures { text.new ≡ unix_answer second }
 {
     match UtcDateTime::from_unix_timestamp(second) {
-        Ok(moment) => moment.append_to(text),
+        Ok(at) => at.append_to(text),
         Err(_) => text.push_bytes(b"refused timestamp"),
     }
 }
@@ -130,41 +130,41 @@ fn put_stamp_answer(pending: &mut Pending, second: i64, nanosecond: u32)
     ensures answer { pending.new ≡ pending.old ++ stamp_answer second nanosecond }
     ensures room { length pending.new < 65_536 }
 {
-    match moment_of(second, nanosecond) {
-        Ok(moment) => {
-            put_text(pending, &moment_text(moment));
-            put_text(pending, &day_text_of(moment));
+    match instant_at(second, nanosecond) {
+        Ok(at) => {
+            put_text(pending, &instant_text(at));
+            put_text(pending, &day_text_of(at));
         }
         Err(refusal) => put_text(pending, &refused_text(refusal)),
     }
 }
 
 // A Unix second with its nanosecond replaced.
-fn moment_of(second: i64, nanosecond: u32) -> Result<UtcDateTime, ComponentRange>
+fn instant_at(second: i64, nanosecond: u32) -> Result<UtcDateTime, ComponentRange>
     ensures { result ≡ with_instant_nanosecond (unix_instant second) nanosecond }
 {
     UtcDateTime::from_unix_timestamp(second)?.replace_nanosecond(nanosecond)
 }
 
 // The text in UTC, and a space.
-fn moment_text(moment: UtcDateTime) -> Text
-    ensures { result ≡ utc_text moment ++ codes " " }
+fn instant_text(at: UtcDateTime) -> Text
+    ensures { result ≡ utc_text at ++ codes " " }
 {
-    let mut text = moment.text();
+    let mut text = at.text();
     text.push(b' ');
     text
 }
 
 // The day of the year, the day of the week and the Julian day.
-fn day_text_of(moment: UtcDateTime) -> Text
-    ensures { result ≡ day_text (wall_day moment) }
+fn day_text_of(at: UtcDateTime) -> Text
+    ensures { result ≡ day_text (wall_day at) }
 {
     let mut text = Text::new();
-    text.push_decimal(u64::from(moment.ordinal()));
+    text.push_decimal(u64::from(at.ordinal()));
     text.push(b' ');
-    text.push_bytes(moment.weekday().text().as_bytes());
+    text.push_bytes(at.weekday().text().as_bytes());
     text.push(b' ');
-    push_signed(&mut text, moment.to_julian_day());
+    push_signed(&mut text, at.to_julian_day());
     text
 }
 

@@ -1,10 +1,10 @@
 //! The words of a run.
 ghost use Rattle.std.specs.Prelude.{◌≡◌, ◌≤◌, length, OnSome};
-ghost use Rattle.times_bench.specs.CallWords.{named, reads, call_names, call_with, part_with, duration_of, time_of, month_of, date_of, call_of};
+ghost use Rattle.times_bench.specs.CallWords.{entry_of, reads, call_names, call_with, part_with, parse_duration, parse_time, parse_month, parse_date, call_of};
 ghost use Rattle.times_bench.specs.Words.{arguments_of};
 
 use super::numbers::{parse_i32, parse_i64, parse_u8, parse_u16, parse_u32};
-use super::step_words::offset_of;
+use super::step_words::parse_offset;
 use super::words::{cut_at, four_fields, one_field, three_fields, two_fields};
 use calendar_values::{Date, Month, SignedDuration, Time};
 use stamp_times::{Call, ClockRead, DateRead, Replace, Shift};
@@ -41,7 +41,7 @@ pub enum PartName {
 #[tactic(auto, unfolding(crate::specs::CallWords::call_of_parts, crate::specs::CallWords::call_of))]
 pub fn call_of(word: &[u8]) -> Option<Call>
     ensures value { result ≡ call_of word.now }
-    ensures long { OnSome result (3 ≤ length word.now) }
+    ensures three_bytes { OnSome result (3 ≤ length word.now) }
 {
     let (name, arguments) = cut_at(b'=', word);
     let name = str::from_utf8(name).ok()?;
@@ -58,7 +58,7 @@ pub fn call_of(word: &[u8]) -> Option<Call>
 // The read of this name.
 #[tactic(auto, unfolding(crate::specs::CallWords::reads))]
 fn read_named(name: &str) -> Option<Call>
-    ensures { result ≡ named reads name.now }
+    ensures { result ≡ entry_of reads name.now }
 {
     match name {
         "date" => Some(Call::ReadDate(DateRead::Date)),
@@ -92,7 +92,7 @@ fn read_named(name: &str) -> Option<Call>
 // The call of this name that takes arguments.
 #[tactic(auto, unfolding(crate::specs::CallWords::call_names))]
 fn call_name(name: &str) -> Option<CallName>
-    ensures { result ≡ named call_names name.now }
+    ensures { result ≡ entry_of call_names name.now }
 {
     match name {
         "checked_add" => Some(CallName::CheckedAdd),
@@ -122,17 +122,21 @@ fn call_with(name: CallName, arguments: &[u8]) -> Option<Call>
     ensures { result ≡ call_with name (arguments_of arguments.now) }
 {
     match name {
-        CallName::CheckedAdd => Some(Call::Shift(Shift::CheckedAdd(duration_of(arguments)?))),
-        CallName::CheckedSub => Some(Call::Shift(Shift::CheckedSub(duration_of(arguments)?))),
-        CallName::SaturatingAdd => Some(Call::Shift(Shift::SaturatingAdd(duration_of(arguments)?))),
-        CallName::SaturatingSub => Some(Call::Shift(Shift::SaturatingSub(duration_of(arguments)?))),
-        CallName::ReplaceTime => Some(Call::Replace(Replace::Time(time_of(arguments)?))),
-        CallName::ReplaceDate => Some(Call::Replace(Replace::Date(date_of(arguments)?))),
+        CallName::CheckedAdd => Some(Call::Shift(Shift::CheckedAdd(parse_duration(arguments)?))),
+        CallName::CheckedSub => Some(Call::Shift(Shift::CheckedSub(parse_duration(arguments)?))),
+        CallName::SaturatingAdd => Some(Call::Shift(Shift::SaturatingAdd(parse_duration(
+            arguments,
+        )?))),
+        CallName::SaturatingSub => Some(Call::Shift(Shift::SaturatingSub(parse_duration(
+            arguments,
+        )?))),
+        CallName::ReplaceTime => Some(Call::Replace(Replace::Time(parse_time(arguments)?))),
+        CallName::ReplaceDate => Some(Call::Replace(Replace::Date(parse_date(arguments)?))),
         CallName::Replace(part) => Some(Call::Replace(part_with(
             part,
             one_field(b',', arguments)?,
         )?)),
-        CallName::CheckedToOffset => Some(Call::Local(offset_of(one_field(b',', arguments)?)?)),
+        CallName::CheckedToOffset => Some(Call::Local(parse_offset(one_field(b',', arguments)?)?)),
     }
 }
 
@@ -142,7 +146,7 @@ fn part_with(part: PartName, number: &[u8]) -> Option<Replace>
     ensures { result ≡ part_with part number.now }
 {
     match part {
-        PartName::Month => Some(Replace::Month(month_of(number)?)),
+        PartName::Month => Some(Replace::Month(parse_month(number)?)),
         PartName::Year => Some(Replace::Year(parse_i32(number)?)),
         PartName::Day => Some(Replace::Day(parse_u8(number)?)),
         PartName::Ordinal => Some(Replace::Ordinal(parse_u16(number)?)),
@@ -156,9 +160,9 @@ fn part_with(part: PartName, number: &[u8]) -> Option<Replace>
 }
 
 // The duration of seconds and nanoseconds: less than a second, of the same sign.
-#[tactic(auto, unfolding(crate::specs::CallWords::duration_of))]
-fn duration_of(arguments: &[u8]) -> Option<SignedDuration>
-    ensures { result ≡ duration_of (arguments_of arguments.now) }
+#[tactic(auto, unfolding(crate::specs::CallWords::parse_duration))]
+fn parse_duration(arguments: &[u8]) -> Option<SignedDuration>
+    ensures { result ≡ parse_duration (arguments_of arguments.now) }
 {
     let (seconds, nanoseconds) = two_fields(b',', arguments)?;
     let seconds = parse_i64(seconds)?;
@@ -171,9 +175,9 @@ fn duration_of(arguments: &[u8]) -> Option<SignedDuration>
 }
 
 // The time of day of an hour, a minute, a second and a nanosecond.
-#[tactic(auto, unfolding(crate::specs::CallWords::time_of))]
-fn time_of(arguments: &[u8]) -> Option<Time>
-    ensures { result ≡ time_of (arguments_of arguments.now) }
+#[tactic(auto, unfolding(crate::specs::CallWords::parse_time))]
+fn parse_time(arguments: &[u8]) -> Option<Time>
+    ensures { result ≡ parse_time (arguments_of arguments.now) }
 {
     let (hour, minute, second, nanosecond) = four_fields(b',', arguments)?;
     Time::from_hms_nano(
@@ -186,18 +190,18 @@ fn time_of(arguments: &[u8]) -> Option<Time>
 }
 
 // The date of a year, the number of a month and a day of the month.
-#[tactic(auto, unfolding(crate::specs::CallWords::date_of))]
-fn date_of(arguments: &[u8]) -> Option<Date>
-    ensures { result ≡ date_of (arguments_of arguments.now) }
+#[tactic(auto, unfolding(crate::specs::CallWords::parse_date))]
+fn parse_date(arguments: &[u8]) -> Option<Date>
+    ensures { result ≡ parse_date (arguments_of arguments.now) }
 {
     let (year, month, day) = three_fields(b',', arguments)?;
-    Date::from_calendar_date(parse_i32(year)?, month_of(month)?, parse_u8(day)?).ok()
+    Date::from_calendar_date(parse_i32(year)?, parse_month(month)?, parse_u8(day)?).ok()
 }
 
 // The month of a number, 1 for January.
-#[tactic(auto, unfolding(crate::specs::CallWords::month_of))]
-fn month_of(number: &[u8]) -> Option<Month>
-    ensures { result ≡ month_of number.now }
+#[tactic(auto, unfolding(crate::specs::CallWords::parse_month))]
+fn parse_month(number: &[u8]) -> Option<Month>
+    ensures { result ≡ parse_month number.now }
 {
     Month::from_number(parse_u8(number)?).ok()
 }

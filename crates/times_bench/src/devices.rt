@@ -23,7 +23,7 @@ pub trait Source {
     /// call changes the mark.
     fn read_some(&mut self, buffer: &mut [u8]) -> Result<usize, DeviceFault>
         ensures bound { ReadsAtMost result buffer.new }
-        ensures bytes { ReadConsumes (left self.old) (left self.new) result buffer.new }
+        ensures consumed { ReadConsumes (left self.old) (left self.new) result buffer.new }
         ensures mark { MarksFailure result (is_marked self.old) (is_marked self.new) };
 
     /// Whether the mark is set.
@@ -43,8 +43,8 @@ pub trait Sink {
     /// empty. A failed call writes no byte and sets the mark; no other call changes the mark.
     fn write_some(&mut self, text: &[u8]) -> Result<usize, DeviceFault>
         ensures bound { WritesAtMost result text.now }
-        ensures some { IfOk result (λ count. 0 < length text.now → 0 < count) }
-        ensures bytes { WriteAppends (written self.old) (written self.new) result text.now }
+        ensures progress { IfOk result (λ count. 0 < length text.now → 0 < count) }
+        ensures appended { WriteAppends (written self.old) (written self.new) result text.now }
         ensures mark { MarksFailure result (is_marked self.old) (is_marked self.new) };
 
     /// Whether the mark is set.

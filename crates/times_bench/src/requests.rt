@@ -3,7 +3,7 @@ ghost use Rattle.std.specs.Prelude.{◌≡◌, ◌<◌, ◌≤◌, ℕ, List, le
 ghost use Rattle.std.specs.Option.{option_map, option_and_then};
 ghost use Rattle.times_bench.specs.CallWords.{call_of};
 ghost use Rattle.times_bench.specs.StepWords.{step_of};
-ghost use Rattle.times_bench.specs.Requests.{Unix, Stamp, Run, Chain, unix_request, stamp_request, instant_of, run_request, chain_request, request_of_kind, request_of};
+ghost use Rattle.times_bench.specs.Requests.{Unix, Stamp, Run, Chain, unix_request, stamp_request, parse_instant, run_request, chain_request, request_of_command, request_of};
 ghost use Rattle.times_bench.specs.Words.{words_of, words_left, bytes_left, all_of};
 
 use super::call_words::call_of;
@@ -25,7 +25,7 @@ pub type Steps = Table<Step, MOST_WORDS>;
 
 /// The kinds of lines that ask for something.
 #[derive(Clone, Copy)]
-pub enum Kind {
+pub enum Command {
     /// `unix S`: the text of the Unix second S.
     Unix,
     /// `stamp S N`: the text of the Unix second S with its nanosecond replaced by N, and its day.
@@ -55,9 +55,9 @@ pub struct ChainRequest {
 
 /// The kind of a line, and what stands after its first word. None for a line of no kind, and for one of
 /// more than 1,024 bytes.
-pub fn kind_of(line: &[u8]) -> Option<(Kind, &[u8])>
+pub fn command_of(line: &[u8]) -> Option<(Command, &[u8])>
     ensures request { option_and_then
-        (λ asked. request_of_kind asked.0 (words_of asked.1.now)) result
+        (λ asked. request_of_command asked.0 (words_of asked.1.now)) result
         ≡ request_of line.now }
     ensures length { IfSome result (λ asked. length asked.1.now < 1024) }
 {
@@ -65,16 +65,16 @@ pub fn kind_of(line: &[u8]) -> Option<(Kind, &[u8])>
         return None;
     }
     if let Some(words) = line.strip_prefix(b"unix ".as_slice()) {
-        return Some((Kind::Unix, words));
+        return Some((Command::Unix, words));
     }
     if let Some(words) = line.strip_prefix(b"stamp ".as_slice()) {
-        return Some((Kind::Stamp, words));
+        return Some((Command::Stamp, words));
     }
     if let Some(words) = line.strip_prefix(b"run ".as_slice()) {
-        return Some((Kind::Run, words));
+        return Some((Command::Run, words));
     }
     if let Some(words) = line.strip_prefix(b"chain ".as_slice()) {
-        return Some((Kind::Chain, words));
+        return Some((Command::Chain, words));
     }
     None
 }
@@ -103,7 +103,7 @@ pub fn run_request_of(words: &[u8]) -> Option<RunRequest>
     ensures { option_map (λ asked. Run asked.second asked.nanosecond asked.calls) result
         ≡ run_request (words_of words.now) }
 {
-    let (second, nanosecond, calls) = instant_of(words)?;
+    let (second, nanosecond, calls) = parse_instant(words)?;
     let calls = items_of(Call::ReadDate(DateRead::Date), calls)?;
     Some(RunRequest {
         second,
@@ -120,7 +120,7 @@ pub fn chain_request_of(words: &[u8]) -> Option<ChainRequest>
         (λ asked. Chain asked.second asked.nanosecond asked.start asked.steps) result
         ≡ chain_request (words_of words.now) }
 {
-    let (second, nanosecond, words) = instant_of(words)?;
+    let (second, nanosecond, words) = parse_instant(words)?;
     let (start, steps) = cut_at(b' ', words?);
     let start = step_of(start)?;
     let steps = items_of(Step::ToStamp, steps)?;
@@ -133,10 +133,10 @@ pub fn chain_request_of(words: &[u8]) -> Option<ChainRequest>
 }
 
 // The second and the nanosecond that words begin with, and what is left of them.
-#[tactic(auto, unfolding(crate::specs::Requests::instant_of))]
-fn instant_of(words: &[u8]) -> Option<(i64, u32, Option<&[u8]>)>
+#[tactic(auto, unfolding(crate::specs::Requests::parse_instant))]
+fn parse_instant(words: &[u8]) -> Option<(i64, u32, Option<&[u8]>)>
     ensures value { option_map (λ read. (read.0, read.1, words_left read.2)) result
-        ≡ instant_of (words_of words.now) }
+        ≡ parse_instant (words_of words.now) }
     ensures shorter { IfSome result (λ read. bytes_left read.2 ≤ length words.now) }
 {
     let (second, words) = cut_at(b' ', words);
@@ -150,7 +150,7 @@ trait Item: Copy {
 
     fn read(word: &[u8]) -> Option<Self>
         ensures value { result ≡ reading word.now }
-        ensures long { OnSome result (3 ≤ length word.now) };
+        ensures three_bytes { OnSome result (3 ≤ length word.now) };
 }
 
 impl Item for Call {

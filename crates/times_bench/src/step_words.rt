@@ -1,6 +1,6 @@
 //! The words of a chain.
 ghost use Rattle.std.specs.Prelude.{◌≡◌, ◌≤◌, ◌≤ℤ◌, length, pos, IfSome, OnSome};
-ghost use Rattle.times_bench.specs.StepWords.{two_digits, seconds_of_words, offset_of, step_of};
+ghost use Rattle.times_bench.specs.StepWords.{two_digits, seconds_of_words, parse_offset, step_of};
 ghost use Rattle.times_bench.specs.Words.{cut_at};
 
 use super::words::three_fields;
@@ -10,20 +10,20 @@ use stamp_times::Step;
 /// The step of a word: `stamp`, `utc` or an offset.
 pub fn step_of(word: &[u8]) -> Option<Step>
     ensures value { result ≡ step_of word.now }
-    ensures long { OnSome result (3 ≤ length word.now) }
+    ensures three_bytes { OnSome result (3 ≤ length word.now) }
 {
     if word == b"stamp".as_slice() {
         Some(Step::ToStamp)
     } else if word == b"utc".as_slice() {
         Some(Step::ToUtc)
     } else {
-        Some(Step::ToOffset(offset_of(word)?))
+        Some(Step::ToOffset(parse_offset(word)?))
     }
 }
 
 /// The offset of a word: `+` or `-`, then `HH:MM:SS`, at most 25, 59 and 59.
-pub fn offset_of(word: &[u8]) -> Option<UtcOffset>
-    ensures { result ≡ offset_of word.now }
+pub fn parse_offset(word: &[u8]) -> Option<UtcOffset>
+    ensures { result ≡ parse_offset word.now }
 {
     let (sign, text) = word.split_first()?;
     match *sign {

@@ -2,7 +2,7 @@
 ghost use Rattle.std.specs.Prelude.{◌≡◌, ◌↔◌, ◌<ℤ◌, pos, IsTrue, IfNone, IfSome};
 ghost use Rattle.calendar_values.specs.Range.{first_day};
 ghost use Rattle.calendar_values.specs.WallClock.{first_wall_clock, last_wall_clock};
-ghost use Rattle.offset_times.specs.Local.{local};
+ghost use Rattle.offset_times.specs.Local.{wall_at};
 
 use calendar_values::Date;
 use offset_times::OffsetDateTime;
@@ -59,7 +59,7 @@ pub fn first_plain() -> PlainDateTime
 
 /// When something was seen at an offset, or the epoch in UTC where it was not.
 pub fn seen_or_epoch(seen: Option<OffsetDateTime>) -> OffsetDateTime
-    ensures none { IfNone seen (result ≡ local (pos 0) (pos 0)) }
+    ensures none { IfNone seen (result ≡ wall_at (pos 0) (pos 0)) }
 {
     seen.unwrap_or(OffsetDateTime::UNIX_EPOCH)
 }

@@ -1,5 +1,5 @@
 //! Work that is done each day at 9:00.
-#![tactic(auto, using(calendar_values::specs::Constants::constants, plain_times::specs::MidnightLemmas::days_later))]
+#![tactic(auto, using(calendar_values::specs::Constants::constants, plain_times::specs::DaysLaterLemmas::days_later))]
 
 ghost use Rattle.std.specs.Prelude.{◌≡◌, ◌*◌, ◌+ℤ◌, ◌≤ℤ◌, ◌<ℤ◌, pos, IfSome};
 ghost use Rattle.calendar_values.specs.Clock.{nanos_per_day, nanos_per_hour};

@@ -1,5 +1,5 @@
 //! Days on which invoices are due.
-#![tactic(auto, using(calendar_values::specs::MonthNumbers::months))]
+#![tactic(auto, using(calendar_values::specs::MonthNumberLemmas::months))]
 
 ghost use Rattle.std.specs.Prelude.{◌≡◌, ◌≤◌, if◌then◌else◌, nat_lt, ◌==◌, ◌||◌, SomeIff, OkIff, IfErr, codes};
 ghost use Rattle.calendar_values.specs.Calendar.{day_of_calendar_date, year_of, month_of, day_of_month_of};
@@ -12,7 +12,7 @@ ghost use Rattle.uses.specs.Months as months;
 use calendar_values::{ComponentRange, Date, Month, days_in_month};
 
 /// The last day of the date's month.
-#[tactic(auto, using(calendar_values::specs::MonthNumbers::months), unfolding(plain_times::specs::Months::last_of_month))]
+#[tactic(auto, using(calendar_values::specs::MonthNumberLemmas::months), unfolding(plain_times::specs::Months::last_of_month))]
 pub fn last_day_of_month(date: Date) -> Date
     ensures { result ≡ last_of_month date }
 {

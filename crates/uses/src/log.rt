@@ -1,5 +1,5 @@
 //! A log in the order of instants.
-#![tactic(auto, using(calendar_values::specs::Constants::constants, stamp_times::specs::LogLaws::without_repeats))]
+#![tactic(auto, using(calendar_values::specs::Constants::constants, stamp_times::specs::LogLemmas::without_repeats))]
 
 ghost use Rattle.std.specs.Prelude.{◌≡◌, ◌↔◌, ℤ, ◌++◌, [], ◌∷◌, Contains, IfOk, IfSome, IsPermutation, IsSorted, IsTrue, OnOk, if◌then◌else◌};
 ghost use Rattle.std.specs.List.{HoldsAt};

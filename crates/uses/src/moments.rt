@@ -5,7 +5,7 @@ ghost use Rattle.calendar_values.specs.Clock.{nanos_per_day};
 ghost use Rattle.offset_times.specs.Local.{instant_of, shown_at, local_at};
 ghost use Rattle.offset_times.specs.Texts.{offset_date_time_text};
 ghost use Rattle.plain_times.specs.Replacements.{with_time};
-ghost use Rattle.plain_times.specs.Truncations.{rounded_down};
+ghost use Rattle.plain_times.specs.Truncations.{wall_multiple_below};
 
 use calendar_values::{SignedDuration, Text, Time, UtcOffset};
 use offset_times::{OffsetDateTime, ToOffset};
@@ -34,7 +34,7 @@ pub fn tomorrow<M: Moment>(at: M) -> Option<M>
 pub fn next_midnight_at(at: UtcDateTime, offset: UtcOffset) -> Option<OffsetDateTime>
     ensures at_offset { IfSome result (λ next. next.offset ≡ offset) }
     ensures a_day_after_the_last { IfSome result (λ next.
-        next.wall ≡ rounded_down nanos_per_day (shown_at at offset) +ℤ pos nanos_per_day) }
+        next.wall ≡ wall_multiple_below nanos_per_day (shown_at at offset) +ℤ pos nanos_per_day) }
 {
     let here = at.checked_to_offset(offset)?;
     here.truncate_to_day().checked_add(SignedDuration::days(1))

@@ -1,6 +1,6 @@
 //! Values of the definitions, from Python's `datetime`, ISO 8601 and RFC 3339: a wrong definition would not have them. The
 //! functions are there for their contracts.
-#![tactic(auto, using(std::proofs::lemmas::Fmt::decimal_digit), unfolding(calendar_values::specs::Calendar::days_from_1970, calendar_values::specs::Calendar::days_until_1970, calendar_values::specs::Calendar::days_of_years, calendar_values::specs::Calendar::year_start, calendar_values::specs::Calendar::days_in_months, calendar_values::specs::Calendar::last_month_begun, calendar_values::specs::Calendar::month_of_ordinal, calendar_values::specs::Calendar::day_of_ordinal, calendar_values::specs::Calendar::year_after_1970, calendar_values::specs::Calendar::year_before_1970, calendar_values::specs::Calendar::year_of, calendar_values::specs::Calendar::ordinal_of, stamp_times::specs::Numbered::month_numbered, stamp_times::specs::Numbered::weekday_numbered, calendar_values::specs::Weeks::weekday_of, calendar_values::specs::Weeks::count_weekday, calendar_values::specs::Refusals::calendar_date, calendar_values::specs::Refusals::ordinal_date, calendar_values::specs::Refusals::clock_with, calendar_values::specs::WallClock::wall_day, calendar_values::specs::WallClock::wall_time, plain_times::specs::Replacements::with_date, plain_times::specs::Replacements::with_time, utc_times::specs::UnixTime::unix_instant_of_nanos, plain_times::specs::Sums::checked, plain_times::specs::Sums::clamped, offset_times::specs::Local::instant_of, stamp_times::specs::Refusals::timestamp_of_parts, calendar_values::specs::Digits::last_digits, calendar_values::specs::Digits::fraction_digits, rfc3339::specs::Form::fraction_value, calendar_values::specs::Texts::year_digits, calendar_values::specs::Texts::date_text, calendar_values::specs::Texts::offset_text, calendar_values::specs::Texts::time_text, stamp_times::specs::Texts::fraction_text, stamp_times::specs::Texts::seconds_text, stamp_times::specs::Texts::timestamp_text, rfc3339::specs::Texts::fraction_text, rfc3339::specs::Texts::offset_text, rfc3339::specs::Texts::rfc3339_text, rfc3339::specs::Texts::fixed_text, rfc3339::specs::Meaning::meaning))]
+#![tactic(auto, using(std::proofs::lemmas::Fmt::decimal_digit), unfolding(calendar_values::specs::Calendar::days_from_1970, calendar_values::specs::Calendar::days_until_1970, calendar_values::specs::Calendar::days_of_years, calendar_values::specs::Calendar::year_start, calendar_values::specs::Calendar::days_in_months, calendar_values::specs::Calendar::last_month_begun, calendar_values::specs::Calendar::month_of_ordinal, calendar_values::specs::Calendar::day_of_ordinal, calendar_values::specs::Calendar::year_after_1970, calendar_values::specs::Calendar::year_before_1970, calendar_values::specs::Calendar::year_of, calendar_values::specs::Calendar::ordinal_of, stamp_times::specs::Numbered::month_numbered, stamp_times::specs::Numbered::weekday_numbered, calendar_values::specs::Weeks::weekday_of, calendar_values::specs::Weeks::count_weekday, calendar_values::specs::Constructors::calendar_date, calendar_values::specs::Constructors::ordinal_date, calendar_values::specs::Constructors::clock_with, calendar_values::specs::WallClock::wall_day, calendar_values::specs::WallClock::wall_time, plain_times::specs::Replacements::with_date, plain_times::specs::Replacements::with_time, utc_times::specs::UnixTime::instant_or_refusal, plain_times::specs::Sums::wall_clock_if_any, plain_times::specs::Sums::nearest_wall_clock, offset_times::specs::Local::instant_of, stamp_times::specs::Refusals::timestamp_of_parts, calendar_values::specs::Digits::last_digits, calendar_values::specs::Digits::fraction_digits, rfc3339::specs::Form::fraction_value, calendar_values::specs::Texts::year_digits, calendar_values::specs::Texts::date_text, calendar_values::specs::Texts::offset_text, calendar_values::specs::Texts::time_text, stamp_times::specs::Texts::fraction_text, stamp_times::specs::Texts::seconds_text, stamp_times::specs::Texts::timestamp_text, rfc3339::specs::Texts::fraction_text, rfc3339::specs::Texts::offset_text, rfc3339::specs::Texts::rfc3339_text, rfc3339::specs::Texts::fixed_text, rfc3339::specs::Meaning::meaning))]
 
 ghost use Rattle.std.specs.Prelude.{◌≡◌, pos, neg_ℤ, true, false, codes, Some, None, Ok, Err, [], ◌∷◌};
 ghost use Rattle.calendar_values.specs.Calendar.{divides, is_leap_year, year_length, days_in_year, days_from_1970, days_until_1970, year_start, days_in_month, days_in_months, days_before_month, day_of_calendar_date, day_of_ordinal_date, year_of, ordinal_of, month_of, day_of_month_of, month_of_ordinal, day_of_ordinal, julian_day_of};
@@ -9,7 +9,8 @@ ghost use Rattle.calendar_values.specs.Digits.{last_digits, fraction_digits};
 ghost use Rattle.calendar_values.specs.Durations.{duration_of_parts};
 ghost use Rattle.calendar_values.specs.Month.{month_number};
 ghost use Rattle.calendar_values.specs.Offsets.{seconds_of_parts};
-ghost use Rattle.calendar_values.specs.Refusals.{calendar_date, ordinal_date, clock_time_nano, conditional_refusal, outright_refusal};
+ghost use Rattle.calendar_values.specs.Constructors.{calendar_date, ordinal_date, clock_time_nano};
+ghost use Rattle.calendar_values.specs.Refusals.{conditional_refusal, outright_refusal};
 ghost use Rattle.calendar_values.specs.Replacements.{with_year, with_month, with_day, with_ordinal, with_hour, with_minute, with_second, with_millisecond, with_microsecond, with_nanosecond};
 ghost use Rattle.calendar_values.specs.Texts.{year_text, date_text, time_text, offset_text};
 ghost use Rattle.calendar_values.specs.WallClock.{wall_clock, wall_day, wall_time, last_wall_clock, first_wall_clock};
@@ -17,17 +18,17 @@ ghost use Rattle.calendar_values.specs.Weeks.{weekday_of, thursday_of, iso_year_
 ghost use Rattle.calendar_values.specs.declared.month.Month.TheVariants.{February, June};
 ghost use Rattle.calendar_values.specs.declared.weekday.Weekday.TheVariants.{Sunday};
 ghost use Rattle.plain_times.specs.Replacements.{with_date, with_time};
-ghost use Rattle.plain_times.specs.Sums.{checked, clamped};
+ghost use Rattle.plain_times.specs.Sums.{wall_clock_if_any, nearest_wall_clock};
 ghost use Rattle.utc_times.specs.UnixTime.{unix_instant};
-ghost use Rattle.offset_times.specs.Local.{local, local_at, instant_of, shown_at};
+ghost use Rattle.offset_times.specs.Local.{wall_at, local_at, instant_of, shown_at};
 ghost use Rattle.stamp_times.specs.Numbered.{month_numbered, weekday_numbered};
 ghost use Rattle.stamp_times.specs.Refusals.{timestamp_of_parts};
 ghost use Rattle.stamp_times.specs.Texts.{timestamp_text};
-ghost use Rattle.stamp_times.specs.Counter.{next, last};
-ghost use Rattle.stamp_times.specs.Travel.{travel};
-ghost use Rattle.stamp_times.specs.declared.calls.Call.TheVariants.{Shift};
-ghost use Rattle.stamp_times.specs.declared.calls.Shift.TheVariants.{CheckedAdd, CheckedSub};
-ghost use Rattle.stamp_times.specs.declared.steps.Step.TheVariants.{ToStamp, ToUtc, ToOffset};
+ghost use Rattle.stamp_times.specs.Counter.{instant_after, last_instant};
+ghost use Rattle.stamp_times.specs.Travel.{stop_index};
+ghost use Rattle.stamp_times.specs.declared.runs.calls.Call.TheVariants.{Shift};
+ghost use Rattle.stamp_times.specs.declared.runs.calls.Shift.TheVariants.{CheckedAdd, CheckedSub};
+ghost use Rattle.stamp_times.specs.declared.chains.steps.Step.TheVariants.{ToStamp, ToUtc, ToOffset};
 ghost use Rattle.rfc3339.specs.Form.{fraction_value};
 ghost use Rattle.rfc3339.specs.Meaning.{offset_of, value_of, meaning};
 ghost use Rattle.rfc3339.specs.declared.refusal.Component.TheVariants.{Month};
@@ -137,9 +138,9 @@ pub fn wall_clocks()
 
 /// Sums past the last wall clock.
 pub fn sums()
-    ensures checked_here { checked (pos 0) ≡ Some (pos 0) }
-    ensures checked_past { checked (pos 31_494_784_780_800_000_000_000) ≡ None }
-    ensures clamped_past { clamped (pos 31_494_784_780_800_000_000_000)
+    ensures checked_here { wall_clock_if_any (pos 0) ≡ Some (pos 0) }
+    ensures checked_past { wall_clock_if_any (pos 31_494_784_780_800_000_000_000) ≡ None }
+    ensures clamped_past { nearest_wall_clock (pos 31_494_784_780_800_000_000_000)
         ≡ pos 31_494_784_780_799_999_999_999 }
     ensures first { first_wall_clock ≡ neg_ℤ (pos 31_619_087_596_800_000_000_000) }
     ensures last { last_wall_clock ≡ pos 31_494_784_780_799_999_999_999 }
@@ -147,9 +148,9 @@ pub fn sums()
 
 /// Clocks an hour ahead of UTC.
 pub fn offsets()
-    ensures instant { instant_of (local (pos 0) (pos 3_600)) ≡ neg_ℤ (pos 3_600_000_000_000) }
+    ensures instant { instant_of (wall_at (pos 0) (pos 3_600)) ≡ neg_ℤ (pos 3_600_000_000_000) }
     ensures shown { shown_at (pos 0) (pos 3_600) ≡ pos 3_600_000_000_000 }
-    ensures local { local_at (pos 0) (pos 3_600) ≡ local (pos 3_600_000_000_000) (pos 3_600) }
+    ensures local { local_at (pos 0) (pos 3_600) ≡ wall_at (pos 3_600_000_000_000) (pos 3_600) }
     ensures timestamp { timestamp_of_parts (neg_ℤ (pos 1)) 500_000_000
         ≡ Ok (neg_ℤ (pos 500_000_000)) }
     ensures west { offset_of true 8 0 ≡ neg_ℤ (pos 28_800) }
@@ -182,7 +183,7 @@ pub fn text_before_1970()
 
 /// Texts of RFC 3339.
 pub fn texts_of_exchange()
-    ensures shortest { rfc3339_text (local (pos 0) (pos 0)) ≡ codes "1970-01-01T00:00:00Z" }
+    ensures shortest { rfc3339_text (wall_at (pos 0) (pos 0)) ≡ codes "1970-01-01T00:00:00Z" }
     ensures fixed { fixed_text (neg_ℤ (pos 1)) ≡ codes "1969-12-31T23:59:59.999999999Z" }
 {}
 
@@ -200,7 +201,7 @@ pub fn meanings()
       offset_hour = 0;
       offset_minute = 0;
     })
-        ≡ local (pos 482_196_050_520_000_000) (pos 0) }
+        ≡ wall_at (pos 482_196_050_520_000_000) (pos 0) }
     ensures month { meaning (record {
       year = 1985;
       month = 13;
@@ -218,14 +219,14 @@ pub fn meanings()
 
 /// A run of sums, and one past the last instant.
 pub fn runs()
-    ensures next { next (pos 0) (Shift (CheckedAdd (pos 5))) ≡ pos 5 }
-    ensures refused { next last_wall_clock (Shift (CheckedAdd (pos 1))) ≡ last_wall_clock }
-    ensures last { last (pos 0) (Shift (CheckedAdd (pos 5)) ∷ Shift (CheckedSub (pos 7)) ∷ [])
-        ≡ neg_ℤ (pos 2) }
+    ensures next { instant_after (pos 0) (Shift (CheckedAdd (pos 5))) ≡ pos 5 }
+    ensures refused { let i = last_wall_clock in instant_after i (Shift (CheckedAdd (pos 1))) ≡ i }
+    ensures last { let calls = Shift (CheckedAdd (pos 5)) ∷ Shift (CheckedSub (pos 7)) ∷ [] in
+        last_instant (pos 0) calls ≡ neg_ℤ (pos 2) }
 {}
 
 /// Chains of conversions: at the last instant, clocks ahead of UTC show no date of the range.
 pub fn chains()
-    ensures arrives { travel (pos 0) (ToStamp ∷ ToOffset (neg_ℤ (pos 1)) ∷ []) ≡ None }
-    ensures stops { travel last_wall_clock (ToUtc ∷ ToOffset (pos 1) ∷ []) ≡ Some 1 }
+    ensures arrives { stop_index (pos 0) (ToStamp ∷ ToOffset (neg_ℤ (pos 1)) ∷ []) ≡ None }
+    ensures stops { stop_index last_wall_clock (ToUtc ∷ ToOffset (pos 1) ∷ []) ≡ Some 1 }
 {}

@@ -1,16 +1,16 @@
 //! Windows of five minutes, counted from midnight in UTC.
 ghost use Rattle.std.specs.Prelude.{◌≡◌, ◌*◌, ◌+ℤ◌, ◌≤ℤ◌, ◌<ℤ◌, pos};
 ghost use Rattle.calendar_values.specs.Clock.{nanos_per_minute};
-ghost use Rattle.plain_times.specs.Truncations.{rounded_down};
+ghost use Rattle.plain_times.specs.Truncations.{wall_multiple_below};
 
 use stamp_times::Timestamp;
 
 const SECONDS: i64 = 300;
 
 /// The beginning of the window that holds the instant.
-#[tactic(auto, unfolding(plain_times::specs::Truncations::rounded_down))]
+#[tactic(auto, unfolding(plain_times::specs::Truncations::wall_multiple_below))]
 pub fn window_of(at: Timestamp) -> Timestamp
-    ensures value { result ≡ rounded_down (5 * nanos_per_minute) at }
+    ensures value { result ≡ wall_multiple_below (5 * nanos_per_minute) at }
     ensures not_after { result ≤ℤ at }
     ensures holds { at <ℤ (result +ℤ pos (5 * nanos_per_minute)) }
 {

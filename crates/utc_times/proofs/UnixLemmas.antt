@@ -1,13 +1,11 @@
 -- Unix seconds as days and times of day.
-use Rattle.std.proofs.Common.{◌≡◌, ℕ, ◌/◌, ◌<◌, Option, SomeIff, Result, Ok, Err, OkIff, ◌∙◌, arith, ℤ, pos, negsuc, neg_ℤ, ◌+ℤ◌, ◌-ℤ◌, ◌*ℤ◌, ◌≤ℤ◌, FitsSigned}
+use Rattle.std.proofs.Common.{◌≡◌, ℕ, ◌/◌, ◌<◌, ◌∙◌, arith, ℤ, pos, negsuc, neg_ℤ, ◌+ℤ◌, ◌-ℤ◌, ◌*ℤ◌, ◌≤ℤ◌, FitsSigned}
 use Rattle.std.specs.Int.{w64, w128, int_div_euclid, int_rem_euclid}
-use Rattle.std.specs.Result.{result_ok}
 use Rattle.std.proofs.lemmas.Int.{ints}
 use Rattle.calendar_values.specs.Clock.{nanos_per_day, nanos_per_second, nanosecond_of}
 use Rattle.calendar_values.specs.Range.{IsDay}
-use Rattle.calendar_values.specs.Refusals.{Refusal}
 use Rattle.calendar_values.specs.SignedArith.{signed_casts}
-use Rattle.calendar_values.specs.WallClockLaws.{IsDay-wall_day, IsWallClock-wall_clock}
+use Rattle.calendar_values.specs.WallClockLemmas.{IsDay-wall_day, IsWallClock-wall_clock}
 use Rattle.calendar_values.specs.WallClock.{wall_clock, wall_day, wall_time, unix_seconds_of, IsWallClock}
 use Rattle.utc_times.specs.UnixTime.{instant_of_second}
 
@@ -48,11 +46,6 @@ IsDay-near (negsuc a) day = (omega (arith, ints), omega (arith, ints))
 pub day_of_second : (second : ℤ) (n : ℕ) → pos n ≡ second +ℤ pos 34_560_000_000_000 → pos (n / 86_400) -ℤ pos 400_000_000 ≡ int_div_euclid second (pos 86_400)
 day_of_second (pos a) n e = omega (arith, ints)
 day_of_second (negsuc a) n e = omega (arith, ints)
-
--- the date of a Julian day, if it has one
-pub SomeIff-result_ok : (r : Result ℤ Refusal) (o : Option ℤ) (m n : ℤ) → o ≡ result_ok r → OkIff r (IsDay m) m → m ≡ n → SomeIff o (IsDay n) n
-SomeIff-result_ok (Ok x) o m n e h same = rw (e, ← same) h
-SomeIff-result_ok (Err refusal) o m n e h same = rw (e, ← same) h
 
 -- each instant of the range has a second of 64 bits
 pub FitsSigned-second : (w : ℤ) → IsWallClock w → FitsSigned w64 (int_div_euclid w (pos nanos_per_second))

@@ -4,11 +4,23 @@ ghost use Rattle.calendar_values.specs.WallClock.{first_wall_clock, last_wall_cl
 
 use crate::UtcDateTime;
 
+/// The constants of [`UtcDateTime`].
+#[derive(Clone, Copy)]
+pub struct UtcDateTimeConstants {
+    pub first: UtcDateTime,
+    pub last: UtcDateTime,
+    pub epoch: UtcDateTime,
+}
+
 /// [`UtcDateTime::MIN`], [`UtcDateTime::MAX`] and [`UtcDateTime::UNIX_EPOCH`].
-pub fn utc_date_times() -> (UtcDateTime, UtcDateTime, UtcDateTime)
-    ensures first { result.0 ≡ first_wall_clock }
-    ensures last { result.1 ≡ last_wall_clock }
-    ensures epoch { result.2 ≡ pos 0 }
+pub fn utc_date_times() -> UtcDateTimeConstants
+    ensures first { result.first ≡ first_wall_clock }
+    ensures last { result.last ≡ last_wall_clock }
+    ensures epoch { result.epoch ≡ pos 0 }
 {
-    (UtcDateTime::MIN, UtcDateTime::MAX, UtcDateTime::UNIX_EPOCH)
+    UtcDateTimeConstants {
+        first: UtcDateTime::MIN,
+        last: UtcDateTime::MAX,
+        epoch: UtcDateTime::UNIX_EPOCH,
+    }
 }

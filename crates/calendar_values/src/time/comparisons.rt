@@ -16,7 +16,7 @@ impl PartialEq for Time {
     ghost laws = { Prim.search (comparing, rules) };
 
     fn eq(&self, other: &Time) -> bool {
-        self.nanoseconds() == other.nanoseconds()
+        self.nanosecond_of_day() == other.nanosecond_of_day()
     }
 }
 
@@ -34,7 +34,7 @@ impl Ord for Time {
     ghost matches_eq = { Prim.search (comparing, rules) };
 
     fn cmp(&self, other: &Time) -> Ordering {
-        self.nanoseconds().cmp(&other.nanoseconds())
+        self.nanosecond_of_day().cmp(&other.nanosecond_of_day())
     }
 }
 
@@ -55,6 +55,6 @@ impl Hash for Time {
     ghost respects_eq = { Prim.search (hashing, rules) };
 
     fn hash<H: Hasher>(&self, state: &mut H) {
-        self.nanoseconds().hash(state);
+        self.nanosecond_of_day().hash(state);
     }
 }

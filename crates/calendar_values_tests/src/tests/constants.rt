@@ -5,11 +5,20 @@ use calendar_values::{Date, SignedDuration, Time, UtcOffset};
 
 #[test]
 fn functions_give_the_constants(rt: HostRuntime) {
-    is(&rt, dates(), (Date::MIN, Date::MAX, Date::UNIX_EPOCH));
-    is(&rt, times(), (Time::MIDNIGHT, Time::MAX));
+    let (days, clocks) = (dates(), times());
     is(
         &rt,
-        (offsets(), durations().0),
+        (days.first, days.last, days.epoch),
+        (Date::MIN, Date::MAX, Date::UNIX_EPOCH),
+    );
+    is(
+        &rt,
+        (clocks.midnight, clocks.last),
+        (Time::MIDNIGHT, Time::MAX),
+    );
+    is(
+        &rt,
+        (offsets(), durations().zero),
         (UtcOffset::UTC, SignedDuration::ZERO),
     );
 }

@@ -75,6 +75,30 @@ fn days_have_the_numbers_of_another_calendar(rt: HostRuntime) -> Result<(), Fail
 }
 
 #[test]
+fn days_are_counted_from_1970(rt: HostRuntime) {
+    for (days, wanted) in [
+        (0, date(1970, 1, 1).ok()),
+        (-1, date(1969, 12, 31).ok()),
+        (19_782, date(2024, 2, 29).ok()),
+        (-365_961_662, Some(Date::MIN)),
+        (364_522_971, Some(Date::MAX)),
+        (-365_961_663, None),
+        (364_522_972, None),
+        (i32::MIN, None),
+        (i32::MAX, None),
+    ] {
+        is(&rt, Date::from_days_since_epoch(days), wanted);
+    }
+    for (date, days) in [
+        (Date::UNIX_EPOCH, 0),
+        (Date::MIN, -365_961_662),
+        (Date::MAX, 364_522_971),
+    ] {
+        is(&rt, date.days_since_epoch(), days);
+    }
+}
+
+#[test]
 fn parts_are_those_of_another_calendar(rt: HostRuntime) -> Result<(), Fail> {
     for (year, month, day, julian_day, ordinal, ..) in DAYS {
         let date = Date::from_julian_day(julian_day)?;

@@ -110,6 +110,20 @@ fn parts_are_those_given(rt: HostRuntime) -> Result<(), Fail> {
 }
 
 #[test]
+fn seconds_and_nanoseconds_are_counted_from_midnight(rt: HostRuntime) -> Result<(), Fail> {
+    for (hour, minute, second, nanosecond, second_of_day, nanosecond_of_day) in [
+        (0, 0, 0, 0, 0, 0),
+        (1, 2, 3, 4, 3_723, 3_723_000_000_004),
+        (23, 59, 59, 999_999_999, 86_399, 86_399_999_999_999),
+    ] {
+        let time = time(hour, minute, second, nanosecond)?;
+        is(&rt, time.second_of_day(), second_of_day);
+        is(&rt, time.nanosecond_of_day(), nanosecond_of_day);
+    }
+    Ok(())
+}
+
+#[test]
 fn times_have_the_given_parts_and_no_finer_ones(rt: HostRuntime) -> Result<(), Fail> {
     let shown = time(1, 2, 3, 4_005_006)?;
     for (given, parts) in [

@@ -1,5 +1,5 @@
 //! Date-times with an offset compare, and feed a hasher, by their instants.
-ghost use Rattle.std.specs.Prelude.{◌≡◌, ◌<◌, ◌≤◌, ◌/◌, pos, neg_ℤ, unsigned_abs, ◌+ℤ◌, ◌-ℤ◌, ◌*ℤ◌, ◌<ℤ◌, ◌≤ℤ◌};
+ghost use Rattle.std.specs.Prelude.{◌≡◌, ◌≤◌, ◌/◌, pos, neg_ℤ, unsigned_abs, ◌+ℤ◌, ◌-ℤ◌, ◌*ℤ◌, ◌<ℤ◌, ◌≤ℤ◌};
 ghost use Rattle.std.proofs.Common.{rules};
 ghost use Rattle.std.specs.Cmp.{partial_order_from_own_ties};
 ghost use Rattle.std.specs.Cmp.Rules.{comparing, hashing};
@@ -12,29 +12,12 @@ ghost use Rattle.plain_times.specs.Packed.{packed_wall_clock};
 
 use crate::OffsetDateTime;
 use crate::carries::to_utc_raw;
-use calendar_values::Time;
+use calendar_values::units::SECONDS_PER_DAY;
 use plain_times::{PlainDateTime, packed};
 use std::cmp::Ordering;
 use std::hash::{Hash, Hasher};
-use utc_times::UtcDateTime;
 
 impl OffsetDateTime {
-    /// Whether the instant is that of a date-time in UTC, also where its date in UTC does not exist.
-    #[tactic(auto, using(crate::specs::InstantLemmas::instants))]
-    pub fn eq_utc(self, other: UtcDateTime) -> bool
-        ensures { result ≡ int_eq (instant_of self) other }
-    {
-        self == OffsetDateTime::from(other)
-    }
-
-    /// The order of the instant and that of a date-time in UTC.
-    #[tactic(auto, using(crate::specs::InstantLemmas::instants))]
-    pub fn cmp_utc(self, other: UtcDateTime) -> Ordering
-        ensures { result ≡ int_cmp (instant_of self) other }
-    {
-        self.cmp(&OffsetDateTime::from(other))
-    }
-
     #[inline(always)]
     fn by_instant(self, other: OffsetDateTime) -> Ordering
         ensures { result ≡ int_cmp (instant_of self) (instant_of other) }
@@ -101,7 +84,7 @@ impl OffsetDateTime {
         ensures low { neg_ℤ (pos 93_599) ≤ℤ result }
         ensures high { result ≤ℤ pos 179_998 }
     {
-        second_of_day(self.time()) as i32 - self.offset().whole_seconds()
+        self.time().second_of_day() as i32 - self.offset().whole_seconds()
     }
 
     // What clocks in UTC show then, in one number, which is told of an instant outside the range too.
@@ -139,17 +122,7 @@ fn days_between(at: PlainDateTime, other: PlainDateTime) -> i32
 fn seconds_of(days: i32, seconds: i32) -> i64
     ensures { result ≡ days *ℤ pos 86_400 +ℤ seconds }
 {
-    days as i64 * 86_400 + seconds as i64
-}
-
-// The second of the day that a time of day belongs to.
-#[inline(always)]
-fn second_of_day(time: Time) -> u32
-    ensures value { result ≡ time / nanos_per_second }
-    ensures in_range { result < 86_400 }
-{
-    let (hour, minute, second) = time.as_hms();
-    u32::from(hour) * 3_600 + u32::from(minute) * 60 + u32::from(second)
+    days as i64 * SECONDS_PER_DAY + seconds as i64
 }
 
 // The days from one day of a year to another, so many years of 366 days later.

@@ -8,7 +8,6 @@ use crate::OffsetDateTime;
 use calendar_values::{SignedDuration, UtcOffset};
 use std::ops::{Add, AddAssign, Sub, SubAssign};
 use std::time::Duration;
-use utc_times::UtcDateTime;
 
 impl Add<SignedDuration> for OffsetDateTime {
     type Output = OffsetDateTime;
@@ -110,35 +109,13 @@ impl Sub for OffsetDateTime {
     ghost sub_gives = { λ at other difference. difference ≡ instant_of at -ℤ instant_of other };
 
     fn sub(self, other: OffsetDateTime) -> SignedDuration {
-        let offsets = apart(self.offset(), other.offset());
+        let offsets = between_offsets(self.offset(), other.offset());
         self.date_time() - other.date_time() + offsets
     }
 }
 
-impl Sub<UtcDateTime> for OffsetDateTime {
-    type Output = SignedDuration;
-
-    ghost sub_gives = { λ at other difference. difference ≡ instant_of at -ℤ other };
-
-    #[tactic(auto, using(crate::specs::InstantLemmas::instants))]
-    fn sub(self, other: UtcDateTime) -> SignedDuration {
-        self - OffsetDateTime::from(other)
-    }
-}
-
-impl Sub<OffsetDateTime> for UtcDateTime {
-    type Output = SignedDuration;
-
-    ghost sub_gives = { λ at other difference. difference ≡ at -ℤ instant_of other };
-
-    #[tactic(auto, using(crate::specs::InstantLemmas::instants))]
-    fn sub(self, other: OffsetDateTime) -> SignedDuration {
-        OffsetDateTime::from(self) - other
-    }
-}
-
 // How far clocks at the second offset are ahead of clocks at the first.
-fn apart(from: UtcOffset, to: UtcOffset) -> SignedDuration
+fn between_offsets(from: UtcOffset, to: UtcOffset) -> SignedDuration
     ensures { result ≡ offset_nanos (to -ℤ from) }
 {
     SignedDuration::seconds((to.whole_seconds() - from.whole_seconds()) as i64)

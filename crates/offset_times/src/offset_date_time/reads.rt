@@ -18,7 +18,7 @@ impl OffsetDateTime {
     /// The date.
     pub fn date(self) -> Date
         ensures value { result ≡ wall_day self.wall }
-        ensures in_range { IsLocal self }
+        ensures self_in_range { IsLocal self }
     {
         self.date_time().date()
     }
@@ -26,7 +26,7 @@ impl OffsetDateTime {
     /// The time of day.
     pub fn time(self) -> Time
         ensures value { result ≡ wall_time self.wall }
-        ensures in_range { IsLocal self }
+        ensures self_in_range { IsLocal self }
     {
         self.date_time().time()
     }
@@ -128,7 +128,7 @@ impl OffsetDateTime {
     /// As [`Date::to_julian_day`], of the day of the wall clock.
     pub fn to_julian_day(self) -> i32
         ensures value { result ≡ julian_day_of (wall_day self.wall) }
-        ensures in_range { IsLocal self }
+        ensures self_in_range { IsLocal self }
     {
         self.date_time().to_julian_day()
     }

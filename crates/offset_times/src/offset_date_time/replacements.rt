@@ -1,13 +1,12 @@
 //! Date-times with a part replaced, or truncated to a unit of time: the wall clock is, and the offset stays.
-ghost use Rattle.std.specs.Prelude.{◌≡◌, ◌≤◌, ◌*◌, OkIff, IfOk, IfErr, codes, pos, ◌+ℤ◌, ◌≤ℤ◌, ◌<ℤ◌};
-ghost use Rattle.calendar_values.specs.Calendar.{year_of, month_of, day_of_month_of, is_leap_year, days_in_year, days_in_month, day_of_calendar_date, day_of_ordinal_date};
-ghost use Rattle.calendar_values.specs.Clock.{nanos_per_day, nanos_per_hour, nanos_per_minute, nanos_per_second, nanos_per_millisecond, nanos_per_microsecond, clock_of_parts, hour_of, minute_of, second_of, nanosecond_of};
+ghost use Rattle.std.specs.Prelude.{IfOk, ◌≡◌, ◌*◌, pos, ◌+ℤ◌, ◌<ℤ◌};
+ghost use Rattle.calendar_values.specs.Clock.{nanos_per_day, nanos_per_hour, nanos_per_minute, nanos_per_second, nanos_per_millisecond, nanos_per_microsecond};
 ghost use Rattle.calendar_values.specs.Month.{month_number};
-ghost use Rattle.calendar_values.specs.Refusals.{IsDateOfRange, date_refusal, ordinal_refusal, outright_refusal, conditional_refusal};
+ghost use Rattle.calendar_values.specs.Outcomes.{Gives, within};
 ghost use Rattle.calendar_values.specs.WallClock.{wall_clock, wall_day, wall_time};
-ghost use Rattle.plain_times.specs.Replacements.{with_date, with_time, OnDate, OnOrdinalDate, AtTime};
-ghost use Rattle.plain_times.specs.Truncations.{rounded_down};
-ghost use Rattle.offset_times.specs.Local.{local, instant_of, SameOffset};
+ghost use Rattle.plain_times.specs.Replacements.{with_date, with_time, ReplacesDate, ReplacesTime, wall_year_outcome, wall_month_outcome, wall_day_outcome, wall_ordinal_outcome, wall_hour_outcome, wall_minute_outcome, wall_second_outcome, wall_millisecond_outcome, wall_microsecond_outcome, wall_nanosecond_outcome, ShowsYear, ShowsMonth, ShowsDay, ShowsOrdinal, ShowsHour, ShowsMinute, ShowsSecond, ShowsMillisecond, ShowsMicrosecond, ShowsNanosecond};
+ghost use Rattle.plain_times.specs.Truncations.{TruncatesTo};
+ghost use Rattle.offset_times.specs.Local.{wall_at, at_offset_of, local_multiple_below, instant_of, SameOffset};
 
 use crate::{Assume, OffsetDateTime};
 use calendar_values::{ComponentRange, Date, Month, Time, UtcOffset};
@@ -17,7 +16,7 @@ impl OffsetDateTime {
     /// The same offset with another date and time of day.
     #[tactic(auto, using(crate::specs::InstantLemmas::same_offset))]
     pub fn replace_date_time(self, date_time: PlainDateTime) -> OffsetDateTime
-        ensures value { result ≡ local date_time self.offset }
+        ensures value { result ≡ at_offset_of self date_time }
         ensures instant { SameOffset self result }
     {
         date_time.assume_offset(self.offset())
@@ -25,7 +24,7 @@ impl OffsetDateTime {
 
     /// The same date and time of day at another offset, so at another instant.
     pub fn replace_offset(self, offset: UtcOffset) -> OffsetDateTime
-        ensures { result ≡ local self.wall offset }
+        ensures { result ≡ wall_at self.wall offset }
     {
         self.date_time().assume_offset(offset)
     }
@@ -33,9 +32,8 @@ impl OffsetDateTime {
     /// The same date at another time of day, at the same offset.
     #[tactic(auto, using(crate::specs::InstantLemmas::same_day))]
     pub fn replace_time(self, time: Time) -> OffsetDateTime
-        ensures value { result ≡ local (with_time self.wall time) self.offset }
-        ensures date { wall_day result.wall ≡ wall_day self.wall }
-        ensures time { wall_time result.wall ≡ time }
+        ensures value { result ≡ at_offset_of self (with_time self.wall time) }
+        ensures wall { ReplacesTime self.wall time result.wall }
         ensures instant { SameOffset self result }
         ensures not_a_day_later { instant_of result <ℤ (instant_of self +ℤ pos nanos_per_day) }
         ensures not_a_day_earlier { instant_of self <ℤ (instant_of result +ℤ pos nanos_per_day) }
@@ -45,68 +43,52 @@ impl OffsetDateTime {
 
     /// The same time of day on another date, at the same offset.
     pub fn replace_date(self, date: Date) -> OffsetDateTime
-        ensures value { result ≡ local (with_date self.wall date) self.offset }
-        ensures date { wall_day result.wall ≡ date }
-        ensures time { wall_time result.wall ≡ wall_time self.wall }
+        ensures value { result ≡ at_offset_of self (with_date self.wall date) }
+        ensures wall { ReplacesDate self.wall date result.wall }
         ensures instant { SameOffset self result }
     {
         self.replace_date_time(self.date_time().replace_date(date))
     }
 
     /// As [`Date::replace_year`], of the day of the wall clock, with the time of day and the offset kept.
+    #[tactic(auto, unfolding(calendar_values::specs::Outcomes::answer_within))]
     pub fn replace_year(self, year: i32) -> Result<OffsetDateTime, ComponentRange>
-        ensures value { let n = wall_day self.wall in OkIff result
-            (IsDateOfRange year (month_of n) (day_of_month_of n))
-            (local (with_date self.wall (day_of_calendar_date year (month_of n)
-            (day_of_month_of n))) self.offset) }
-        ensures refused { IfErr result (λ refusal.
-            refusal ≡ date_refusal year (day_of_month_of (wall_day self.wall))) }
-        ensures shown { let n = wall_day self.wall in
-            IfOk result (λ at. OnDate self.wall year (month_of n) (day_of_month_of n) at.wall) }
+        ensures value { let w = self.wall in
+            Gives result (within (at_offset_of self) (wall_year_outcome w year)) }
+        ensures shown { IfOk result (λ at. ShowsYear self.wall year at.wall) }
         ensures instant { IfOk result (λ at. SameOffset self at) }
     {
         Ok(self.replace_date_time(self.date_time().replace_year(year)?))
     }
 
     /// As [`Date::replace_month`], of the day of the wall clock, with the time of day and the offset kept.
+    #[tactic(auto, unfolding(calendar_values::specs::Outcomes::answer_within))]
     pub fn replace_month(self, month: Month) -> Result<OffsetDateTime, ComponentRange>
-        ensures value { let n = wall_day self.wall in OkIff result
-            (day_of_month_of n ≤ days_in_month (is_leap_year (year_of n)) (month_number month))
-            (local (with_date self.wall (day_of_calendar_date (year_of n) (month_number month)
-            (day_of_month_of n))) self.offset) }
-        ensures refused { IfErr result (λ refusal. refusal ≡ conditional_refusal (codes "day")) }
-        ensures shown { let n = wall_day self.wall in
-            IfOk result (λ at. OnDate self.wall (year_of n) (month_number month)
-            (day_of_month_of n) at.wall) }
+        ensures value { let w = self.wall in
+            Gives result (within (at_offset_of self) (wall_month_outcome w (month_number month))) }
+        ensures shown { IfOk result (λ at. ShowsMonth self.wall (month_number month) at.wall) }
         ensures instant { IfOk result (λ at. SameOffset self at) }
     {
         Ok(self.replace_date_time(self.date_time().replace_month(month)?))
     }
 
     /// As [`Date::replace_day`], of the day of the wall clock, with the time of day and the offset kept.
+    #[tactic(auto, unfolding(calendar_values::specs::Outcomes::answer_within))]
     pub fn replace_day(self, day: u8) -> Result<OffsetDateTime, ComponentRange>
-        ensures value { let n = wall_day self.wall in OkIff result
-            ((1 ≤ day) × (day ≤ days_in_month (is_leap_year (year_of n)) (month_of n)))
-            (local (with_date self.wall (day_of_calendar_date (year_of n) (month_of n) day))
-            self.offset) }
-        ensures refused { IfErr result (λ refusal.
-            refusal ≡ date_refusal (year_of (wall_day self.wall)) day) }
-        ensures shown { let n = wall_day self.wall in
-            IfOk result (λ at. OnDate self.wall (year_of n) (month_of n) day at.wall) }
+        ensures value { let w = self.wall in
+            Gives result (within (at_offset_of self) (wall_day_outcome w day)) }
+        ensures shown { IfOk result (λ at. ShowsDay self.wall day at.wall) }
         ensures instant { IfOk result (λ at. SameOffset self at) }
     {
         Ok(self.replace_date_time(self.date_time().replace_day(day)?))
     }
 
     /// As [`Date::replace_ordinal`], of the day of the wall clock, with the time of day and the offset kept.
+    #[tactic(auto, unfolding(calendar_values::specs::Outcomes::answer_within))]
     pub fn replace_ordinal(self, ordinal: u16) -> Result<OffsetDateTime, ComponentRange>
-        ensures value { let n = wall_day self.wall in OkIff result
-            ((1 ≤ ordinal) × (ordinal ≤ days_in_year (year_of n)))
-            (local (with_date self.wall (day_of_ordinal_date (year_of n) ordinal)) self.offset) }
-        ensures refused { IfErr result (λ refusal.
-            refusal ≡ ordinal_refusal (year_of (wall_day self.wall)) ordinal) }
-        ensures shown { let n = wall_day self.wall in
-            IfOk result (λ at. OnOrdinalDate self.wall (year_of n) ordinal at.wall) }
+        ensures value { let w = self.wall in
+            Gives result (within (at_offset_of self) (wall_ordinal_outcome w ordinal)) }
+        ensures shown { IfOk result (λ at. ShowsOrdinal self.wall ordinal at.wall) }
         ensures instant { IfOk result (λ at. SameOffset self at) }
     {
         Ok(self.replace_date_time(self.date_time().replace_ordinal(ordinal)?))
@@ -114,26 +96,22 @@ impl OffsetDateTime {
 
     /// The first nanosecond of the day that it is in, by the wall clock, at the same offset.
     pub fn truncate_to_day(self) -> OffsetDateTime
-        ensures value { result ≡ local (rounded_down nanos_per_day self.wall) self.offset }
-        ensures midnight { result ≡ local (wall_clock (wall_day self.wall) 0) self.offset }
+        ensures value { result ≡ local_multiple_below nanos_per_day self }
+        ensures midnight { result ≡ at_offset_of self (wall_clock (wall_day self.wall) 0) }
         ensures date { wall_day result.wall ≡ wall_day self.wall }
         ensures time { wall_time result.wall ≡ 0 }
-        ensures not_above { result.wall ≤ℤ self.wall }
-        ensures within { self.wall <ℤ (result.wall +ℤ pos nanos_per_day) }
+        ensures wall { TruncatesTo nanos_per_day self.wall result.wall }
         ensures instant { SameOffset self result }
     {
         self.replace_date_time(self.date_time().truncate_to_day())
     }
 
     /// As [`Time::replace_hour`], of the time of day of the wall clock, with the date and the offset kept.
+    #[tactic(auto, unfolding(calendar_values::specs::Outcomes::answer_within))]
     pub fn replace_hour(self, hour: u8) -> Result<OffsetDateTime, ComponentRange>
-        ensures value { let c = wall_time self.wall in OkIff result (hour ≤ 23)
-            (local (with_time self.wall (clock_of_parts hour (minute_of c) (second_of c)
-            (nanosecond_of c))) self.offset) }
-        ensures refused { IfErr result (λ refusal. refusal ≡ outright_refusal (codes "hour")) }
-        ensures shown { let c = wall_time self.wall in
-            IfOk result (λ at. AtTime self.wall hour (minute_of c) (second_of c)
-            (nanosecond_of c) at.wall) }
+        ensures value { let w = self.wall in
+            Gives result (within (at_offset_of self) (wall_hour_outcome w hour)) }
+        ensures shown { IfOk result (λ at. ShowsHour self.wall hour at.wall) }
         ensures instant { IfOk result (λ at. SameOffset self at) }
     {
         Ok(self.replace_date_time(self.date_time().replace_hour(hour)?))
@@ -141,23 +119,19 @@ impl OffsetDateTime {
 
     /// The first nanosecond of the hour that it is in, by the wall clock, at the same offset.
     pub fn truncate_to_hour(self) -> OffsetDateTime
-        ensures value { result ≡ local (rounded_down nanos_per_hour self.wall) self.offset }
-        ensures not_above { result.wall ≤ℤ self.wall }
-        ensures within { self.wall <ℤ (result.wall +ℤ pos nanos_per_hour) }
+        ensures value { result ≡ local_multiple_below nanos_per_hour self }
+        ensures wall { TruncatesTo nanos_per_hour self.wall result.wall }
         ensures instant { SameOffset self result }
     {
         self.replace_date_time(self.date_time().truncate_to_hour())
     }
 
     /// As [`Time::replace_minute`], of the time of day of the wall clock, with the date and the offset kept.
+    #[tactic(auto, unfolding(calendar_values::specs::Outcomes::answer_within))]
     pub fn replace_minute(self, minute: u8) -> Result<OffsetDateTime, ComponentRange>
-        ensures value { let c = wall_time self.wall in OkIff result (minute ≤ 59)
-            (local (with_time self.wall (clock_of_parts (hour_of c) minute (second_of c)
-            (nanosecond_of c))) self.offset) }
-        ensures refused { IfErr result (λ refusal. refusal ≡ outright_refusal (codes "minute")) }
-        ensures shown { let c = wall_time self.wall in
-            IfOk result (λ at. AtTime self.wall (hour_of c) minute (second_of c)
-            (nanosecond_of c) at.wall) }
+        ensures value { let w = self.wall in
+            Gives result (within (at_offset_of self) (wall_minute_outcome w minute)) }
+        ensures shown { IfOk result (λ at. ShowsMinute self.wall minute at.wall) }
         ensures instant { IfOk result (λ at. SameOffset self at) }
     {
         Ok(self.replace_date_time(self.date_time().replace_minute(minute)?))
@@ -165,23 +139,19 @@ impl OffsetDateTime {
 
     /// The first nanosecond of the minute that it is in, by the wall clock, at the same offset.
     pub fn truncate_to_minute(self) -> OffsetDateTime
-        ensures value { result ≡ local (rounded_down nanos_per_minute self.wall) self.offset }
-        ensures not_above { result.wall ≤ℤ self.wall }
-        ensures within { self.wall <ℤ (result.wall +ℤ pos nanos_per_minute) }
+        ensures value { result ≡ local_multiple_below nanos_per_minute self }
+        ensures wall { TruncatesTo nanos_per_minute self.wall result.wall }
         ensures instant { SameOffset self result }
     {
         self.replace_date_time(self.date_time().truncate_to_minute())
     }
 
     /// As [`Time::replace_second`], of the time of day of the wall clock, with the date and the offset kept.
+    #[tactic(auto, unfolding(calendar_values::specs::Outcomes::answer_within))]
     pub fn replace_second(self, second: u8) -> Result<OffsetDateTime, ComponentRange>
-        ensures value { let c = wall_time self.wall in OkIff result (second ≤ 59)
-            (local (with_time self.wall (clock_of_parts (hour_of c) (minute_of c) second
-            (nanosecond_of c))) self.offset) }
-        ensures refused { IfErr result (λ refusal. refusal ≡ outright_refusal (codes "second")) }
-        ensures shown { let c = wall_time self.wall in
-            IfOk result (λ at. AtTime self.wall (hour_of c) (minute_of c) second
-            (nanosecond_of c) at.wall) }
+        ensures value { let w = self.wall in
+            Gives result (within (at_offset_of self) (wall_second_outcome w second)) }
+        ensures shown { IfOk result (λ at. ShowsSecond self.wall second at.wall) }
         ensures instant { IfOk result (λ at. SameOffset self at) }
     {
         Ok(self.replace_date_time(self.date_time().replace_second(second)?))
@@ -189,9 +159,8 @@ impl OffsetDateTime {
 
     /// The first nanosecond of the second that it is in, by the wall clock, at the same offset.
     pub fn truncate_to_second(self) -> OffsetDateTime
-        ensures value { result ≡ local (rounded_down nanos_per_second self.wall) self.offset }
-        ensures not_above { result.wall ≤ℤ self.wall }
-        ensures within { self.wall <ℤ (result.wall +ℤ pos nanos_per_second) }
+        ensures value { result ≡ local_multiple_below nanos_per_second self }
+        ensures wall { TruncatesTo nanos_per_second self.wall result.wall }
         ensures instant { SameOffset self result }
     {
         self.replace_date_time(self.date_time().truncate_to_second())
@@ -199,15 +168,11 @@ impl OffsetDateTime {
 
     /// As [`Time::replace_millisecond`], of the time of day of the wall clock, with the date and the offset
     /// kept.
+    #[tactic(auto, unfolding(calendar_values::specs::Outcomes::answer_within))]
     pub fn replace_millisecond(self, millisecond: u16) -> Result<OffsetDateTime, ComponentRange>
-        ensures value { let c = wall_time self.wall in OkIff result (millisecond ≤ 999)
-            (local (with_time self.wall (clock_of_parts (hour_of c) (minute_of c) (second_of c)
-            (millisecond * nanos_per_millisecond))) self.offset) }
-        ensures refused { IfErr result (λ refusal.
-            refusal ≡ outright_refusal (codes "millisecond")) }
-        ensures shown { let c = wall_time self.wall in
-            let n = millisecond * nanos_per_millisecond in
-            IfOk result (λ at. AtTime self.wall (hour_of c) (minute_of c) (second_of c) n at.wall) }
+        ensures value { let w = self.wall in
+            Gives result (within (at_offset_of self) (wall_millisecond_outcome w millisecond)) }
+        ensures shown { IfOk result (λ at. ShowsMillisecond self.wall millisecond at.wall) }
         ensures instant { IfOk result (λ at. SameOffset self at) }
     {
         Ok(self.replace_date_time(self.date_time().replace_millisecond(millisecond)?))
@@ -215,9 +180,8 @@ impl OffsetDateTime {
 
     /// The first nanosecond of the millisecond that it is in, by the wall clock, at the same offset.
     pub fn truncate_to_millisecond(self) -> OffsetDateTime
-        ensures value { result ≡ local (rounded_down nanos_per_millisecond self.wall) self.offset }
-        ensures not_above { result.wall ≤ℤ self.wall }
-        ensures within { self.wall <ℤ (result.wall +ℤ pos nanos_per_millisecond) }
+        ensures value { result ≡ local_multiple_below nanos_per_millisecond self }
+        ensures wall { TruncatesTo nanos_per_millisecond self.wall result.wall }
         ensures instant { SameOffset self result }
     {
         self.replace_date_time(self.date_time().truncate_to_millisecond())
@@ -225,15 +189,11 @@ impl OffsetDateTime {
 
     /// As [`Time::replace_microsecond`], of the time of day of the wall clock, with the date and the offset
     /// kept.
+    #[tactic(auto, unfolding(calendar_values::specs::Outcomes::answer_within))]
     pub fn replace_microsecond(self, microsecond: u32) -> Result<OffsetDateTime, ComponentRange>
-        ensures value { let c = wall_time self.wall in OkIff result (microsecond ≤ 999_999)
-            (local (with_time self.wall (clock_of_parts (hour_of c) (minute_of c) (second_of c)
-            (microsecond * nanos_per_microsecond))) self.offset) }
-        ensures refused { IfErr result (λ refusal.
-            refusal ≡ outright_refusal (codes "microsecond")) }
-        ensures shown { let c = wall_time self.wall in
-            let n = microsecond * nanos_per_microsecond in
-            IfOk result (λ at. AtTime self.wall (hour_of c) (minute_of c) (second_of c) n at.wall) }
+        ensures value { let w = self.wall in
+            Gives result (within (at_offset_of self) (wall_microsecond_outcome w microsecond)) }
+        ensures shown { IfOk result (λ at. ShowsMicrosecond self.wall microsecond at.wall) }
         ensures instant { IfOk result (λ at. SameOffset self at) }
     {
         Ok(self.replace_date_time(self.date_time().replace_microsecond(microsecond)?))
@@ -241,9 +201,8 @@ impl OffsetDateTime {
 
     /// The first nanosecond of the microsecond that it is in, by the wall clock, at the same offset.
     pub fn truncate_to_microsecond(self) -> OffsetDateTime
-        ensures value { result ≡ local (rounded_down nanos_per_microsecond self.wall) self.offset }
-        ensures not_above { result.wall ≤ℤ self.wall }
-        ensures within { self.wall <ℤ (result.wall +ℤ pos nanos_per_microsecond) }
+        ensures value { result ≡ local_multiple_below nanos_per_microsecond self }
+        ensures wall { TruncatesTo nanos_per_microsecond self.wall result.wall }
         ensures instant { SameOffset self result }
     {
         self.replace_date_time(self.date_time().truncate_to_microsecond())
@@ -251,15 +210,11 @@ impl OffsetDateTime {
 
     /// As [`Time::replace_nanosecond`], of the time of day of the wall clock, with the date and the offset
     /// kept.
+    #[tactic(auto, unfolding(calendar_values::specs::Outcomes::answer_within))]
     pub fn replace_nanosecond(self, nanosecond: u32) -> Result<OffsetDateTime, ComponentRange>
-        ensures value { let c = wall_time self.wall in OkIff result (nanosecond ≤ 999_999_999)
-            (local (with_time self.wall (clock_of_parts (hour_of c) (minute_of c)
-            (second_of c) nanosecond)) self.offset) }
-        ensures refused { IfErr result (λ refusal.
-            refusal ≡ outright_refusal (codes "nanosecond")) }
-        ensures shown { let c = wall_time self.wall in
-            IfOk result (λ at. AtTime self.wall (hour_of c) (minute_of c)
-            (second_of c) nanosecond at.wall) }
+        ensures value { let w = self.wall in
+            Gives result (within (at_offset_of self) (wall_nanosecond_outcome w nanosecond)) }
+        ensures shown { IfOk result (λ at. ShowsNanosecond self.wall nanosecond at.wall) }
         ensures instant { IfOk result (λ at. SameOffset self at) }
     {
         Ok(self.replace_date_time(self.date_time().replace_nanosecond(nanosecond)?))

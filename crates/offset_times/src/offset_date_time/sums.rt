@@ -2,8 +2,8 @@
 ghost use Rattle.std.specs.Prelude.{◌≡◌, pos, ◌+ℤ◌, ◌-ℤ◌, ◌≤ℤ◌, IfSome, SomeIff};
 ghost use Rattle.std.specs.Duration.{as_nanos};
 ghost use Rattle.calendar_values.specs.WallClock.{IsWallClock};
-ghost use Rattle.offset_times.specs.Local.{instant_of, local, SameOffset};
-ghost use Rattle.plain_times.specs.Sums.{clamped};
+ghost use Rattle.offset_times.specs.Local.{instant_of, wall_at, SameOffset};
+ghost use Rattle.plain_times.specs.Sums.{nearest_wall_clock};
 
 use crate::OffsetDateTime;
 use calendar_values::SignedDuration;
@@ -15,7 +15,7 @@ impl OffsetDateTime {
     #[tactic(auto, using(crate::specs::InstantLemmas::instants))]
     pub fn checked_add(self, duration: SignedDuration) -> Option<OffsetDateTime>
         ensures value { let wall = self.wall +ℤ duration in
-            SomeIff result (IsWallClock wall) (local wall self.offset) }
+            SomeIff result (IsWallClock wall) (wall_at wall self.offset) }
         ensures instant { IfSome result (λ at. instant_of at ≡ instant_of self +ℤ duration) }
     {
         Some(self.replace_date_time(self.date_time().checked_add(duration)?))
@@ -26,7 +26,7 @@ impl OffsetDateTime {
     #[tactic(auto, using(crate::specs::InstantLemmas::instants))]
     pub fn checked_sub(self, duration: SignedDuration) -> Option<OffsetDateTime>
         ensures value { let wall = self.wall -ℤ duration in
-            SomeIff result (IsWallClock wall) (local wall self.offset) }
+            SomeIff result (IsWallClock wall) (wall_at wall self.offset) }
         ensures instant { IfSome result (λ at. instant_of at ≡ instant_of self -ℤ duration) }
     {
         Some(self.replace_date_time(self.date_time().checked_sub(duration)?))
@@ -37,7 +37,7 @@ impl OffsetDateTime {
     #[tactic(auto, using(crate::specs::InstantLemmas::instants))]
     pub fn checked_add_std(self, duration: Duration) -> Option<OffsetDateTime>
         ensures value { let wall = self.wall +ℤ pos (as_nanos duration) in
-            SomeIff result (IsWallClock wall) (local wall self.offset) }
+            SomeIff result (IsWallClock wall) (wall_at wall self.offset) }
         ensures instant { IfSome result (λ at.
             instant_of at ≡ instant_of self +ℤ pos (as_nanos duration)) }
     {
@@ -49,7 +49,7 @@ impl OffsetDateTime {
     #[tactic(auto, using(crate::specs::InstantLemmas::instants))]
     pub fn checked_sub_std(self, duration: Duration) -> Option<OffsetDateTime>
         ensures value { let wall = self.wall -ℤ pos (as_nanos duration) in
-            SomeIff result (IsWallClock wall) (local wall self.offset) }
+            SomeIff result (IsWallClock wall) (wall_at wall self.offset) }
         ensures instant { IfSome result (λ at.
             instant_of at ≡ instant_of self -ℤ pos (as_nanos duration)) }
     {
@@ -59,7 +59,7 @@ impl OffsetDateTime {
     /// The wall clock so much later at the same offset, or earlier for a negative duration; outside the range
     /// the end of it that lies in this direction.
     pub fn saturating_add(self, duration: SignedDuration) -> OffsetDateTime
-        ensures value { result ≡ local (clamped (self.wall +ℤ duration)) self.offset }
+        ensures value { result ≡ wall_at (nearest_wall_clock (self.wall +ℤ duration)) self.offset }
         ensures not_before { pos 0 ≤ℤ duration → self.wall ≤ℤ result.wall }
         ensures not_after { duration ≤ℤ pos 0 → result.wall ≤ℤ self.wall }
         ensures not_above { pos 0 ≤ℤ duration → result.wall ≤ℤ (self.wall +ℤ duration) }
@@ -72,7 +72,7 @@ impl OffsetDateTime {
     /// The wall clock so much earlier at the same offset, or later for a negative duration; outside the range
     /// the end of it that lies in this direction.
     pub fn saturating_sub(self, duration: SignedDuration) -> OffsetDateTime
-        ensures value { result ≡ local (clamped (self.wall -ℤ duration)) self.offset }
+        ensures value { result ≡ wall_at (nearest_wall_clock (self.wall -ℤ duration)) self.offset }
         ensures not_before { duration ≤ℤ pos 0 → self.wall ≤ℤ result.wall }
         ensures not_after { pos 0 ≤ℤ duration → result.wall ≤ℤ self.wall }
         ensures not_above { duration ≤ℤ pos 0 → result.wall ≤ℤ (self.wall -ℤ duration) }

@@ -1,32 +1,34 @@
 //! Unix time: instants counted from 1970-01-01 0:00 UTC, with no leap seconds.
-ghost use Rattle.std.specs.Prelude.{◌≡◌, OkIff, IfOk, IfErr, codes, pos};
-ghost use Rattle.calendar_values.specs.Refusals.{outright_refusal};
-ghost use Rattle.calendar_values.specs.WallClock.{unix_seconds_of, IsWallClock};
-ghost use Rattle.offset_times.specs.Local.{instant_of, local};
-ghost use Rattle.utc_times.specs.UnixTime.{instant_of_second};
+ghost use Rattle.std.specs.Prelude.{◌≡◌, IfOk, codes};
+ghost use Rattle.calendar_values.specs.Outcomes.{Gives, within};
+ghost use Rattle.calendar_values.specs.WallClock.{unix_seconds_of};
+ghost use Rattle.offset_times.specs.Local.{instant_of, local_in_utc};
+ghost use Rattle.utc_times.specs.UnixTime.{instant_of_second, instant_outcome};
 
 use crate::OffsetDateTime;
 use calendar_values::ComponentRange;
+use calendar_values::units::NANOS_PER_SECOND;
 use utc_times::{AsUtc, UtcDateTime};
 
 impl OffsetDateTime {
     /// The instant of a Unix second, in UTC. Refused `timestamp` before that of [`UtcDateTime::MIN`] or after
     /// that of [`UtcDateTime::MAX`].
+    #[tactic(auto, unfolding(calendar_values::specs::Outcomes::answer_within))]
     pub fn from_unix_timestamp(timestamp: i64) -> Result<OffsetDateTime, ComponentRange>
         ensures value { let i = instant_of_second timestamp in
-            OkIff result (IsWallClock i) (local i (pos 0)) }
+            Gives result (within local_in_utc (instant_outcome (codes "timestamp") i)) }
         ensures instant { IfOk result (λ at. instant_of at ≡ instant_of_second timestamp) }
-        ensures refused { IfErr result (λ refusal. refusal ≡ outright_refusal (codes "timestamp")) }
     {
         Ok(OffsetDateTime::from(UtcDateTime::from_unix_timestamp(timestamp)?))
     }
 
     /// The instant so many nanoseconds from 1970-01-01 0:00 UTC, in UTC. Refused `timestamp` before
     /// [`UtcDateTime::MIN`] or after [`UtcDateTime::MAX`].
+    #[tactic(auto, unfolding(calendar_values::specs::Outcomes::answer_within))]
     pub fn from_unix_timestamp_nanos(timestamp: i128) -> Result<OffsetDateTime, ComponentRange>
-        ensures value { OkIff result (IsWallClock timestamp) (local timestamp (pos 0)) }
+        ensures value { Gives result
+            (within local_in_utc (instant_outcome (codes "timestamp") timestamp)) }
         ensures instant { IfOk result (λ at. instant_of at ≡ timestamp) }
-        ensures refused { IfErr result (λ refusal. refusal ≡ outright_refusal (codes "timestamp")) }
     {
         Ok(OffsetDateTime::from(UtcDateTime::from_unix_timestamp_nanos(timestamp)?))
     }
@@ -44,6 +46,6 @@ impl OffsetDateTime {
         ensures { result ≡ instant_of self }
     {
         let offset = self.offset().whole_seconds() as i128;
-        self.date_time().as_utc().unix_timestamp_nanos() - offset * 1_000_000_000
+        self.date_time().as_utc().unix_timestamp_nanos() - offset * NANOS_PER_SECOND as i128
     }
 }

@@ -34,18 +34,8 @@ impl PlainDateTime {
 pub fn packed(year: i32, ordinal: u16, time: Time) -> i128
     ensures { result ≡ packed_parts year ordinal time }
 {
-    let nanosecond = nanosecond_of_day(time);
+    let nanosecond = time.nanosecond_of_day();
     year as i128 * YEAR_PLACE + ordinal as i128 * ORDINAL_PLACE + nanosecond as i128
-}
-
-// The nanosecond of the day that a time of day is.
-fn nanosecond_of_day(time: Time) -> u64
-    ensures value { result ≡ time }
-    ensures in_range { IsClock result }
-{
-    let (hour, minute, second, nanosecond) = time.as_hms_nano();
-    let second = (hour as u32 * 60 + minute as u32) * 60 + second as u32;
-    second as u64 * 1_000_000_000 + nanosecond as u64
 }
 
 impl PartialEq for PlainDateTime {

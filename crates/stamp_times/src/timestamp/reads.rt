@@ -11,28 +11,15 @@ ghost use Rattle.calendar_values.specs.Weeks.{iso_year_of, iso_week_of, sunday_w
 
 use crate::Timestamp;
 use crate::reciprocal::year_leap_ordinal;
+use calendar_values::units::{EPOCH_JULIAN_DAY, SECONDS_PER_DAY};
 use calendar_values::{Date, Month, Time, Weekday, leap_ordinal_to_month_day};
-use utc_times::UtcDateTime;
-
-const SECONDS_PER_DAY: i64 = 86_400;
-
-// The Julian day of 1970-01-01.
-const EPOCH_JULIAN_DAY: i32 = 2_440_588;
 
 // The days from a Monday before the range to 1970-01-01.
 const DAYS_FROM_MONDAY: i32 = 365_961_669;
 
 impl Timestamp {
-    /// The same instant as a date with a time of day in UTC.
-    #[tactic(auto, using(calendar_values::specs::WallClockLaws::parts))]
-    pub fn to_utc(self) -> UtcDateTime
-        ensures { result ≡ self }
-    {
-        UtcDateTime::new(self.date(), self.time())
-    }
-
     // The day number of the date.
-    #[tactic(auto, using(crate::proofs::InstantLemmas::days))]
+    #[tactic(auto, using(crate::proofs::HeldInstantLemmas::days))]
     pub(crate) fn day_number(self) -> i32
         ensures value { result ≡ wall_day self }
         ensures in_range { IsDay result }
@@ -41,7 +28,7 @@ impl Timestamp {
     }
 
     // The second of the day.
-    #[tactic(auto, using(crate::proofs::InstantLemmas::days))]
+    #[tactic(auto, using(crate::proofs::HeldInstantLemmas::days))]
     pub(crate) fn second_of_day(self) -> u32
         ensures value { result ≡ wall_time self / nanos_per_second }
         ensures in_range { result < 86_400 }
@@ -160,7 +147,7 @@ impl Timestamp {
     }
 
     /// As [`Date::weekday`], of the day in UTC.
-    #[tactic(auto, using(crate::proofs::InstantLemmas::weekdays))]
+    #[tactic(auto, using(crate::proofs::HeldInstantLemmas::weekdays))]
     pub fn weekday(self) -> Weekday
         ensures { weekday_number result ≡ weekday_of (wall_day self) }
     {
@@ -269,7 +256,7 @@ impl Timestamp {
     }
 
     /// As [`Time::nanosecond`], of the time of day in UTC.
-    #[tactic(auto, using(crate::proofs::InstantLemmas::fields))]
+    #[tactic(auto, using(crate::proofs::HeldInstantLemmas::fields))]
     pub fn nanosecond(self) -> u32
         ensures value { result ≡ nanosecond_of (wall_time self) }
         ensures in_range { result ≤ 999_999_999 }

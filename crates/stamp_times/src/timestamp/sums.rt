@@ -3,15 +3,14 @@ ghost use Rattle.std.specs.Prelude.{◌≡◌, ◌<◌, pos, ◌+ℤ◌, ◌-ℤ
 ghost use Rattle.std.specs.Duration.{as_nanos};
 ghost use Rattle.calendar_values.specs.Clock.{nanos_per_second};
 ghost use Rattle.calendar_values.specs.WallClock.{IsWallClock};
-ghost use Rattle.plain_times.specs.Sums.{clamped};
+ghost use Rattle.plain_times.specs.Sums.{nearest_wall_clock};
 ghost use Rattle.stamp_times.specs.Instants.{instant_of_parts};
 
 use super::{FIRST_SECOND, LAST_SECOND};
 use crate::Timestamp;
 use calendar_values::SignedDuration;
+use calendar_values::units::NANOS_PER_SECOND;
 use std::time::Duration;
-
-const NANOS_PER_SECOND: i32 = 1_000_000_000;
 
 impl Timestamp {
     /// The instant so much later, or earlier for a negative duration. None outside the range.
@@ -19,7 +18,7 @@ impl Timestamp {
         ensures { SomeIff result (IsWallClock (self +ℤ duration)) (self +ℤ duration) }
     {
         let seconds = self.as_seconds().checked_add(duration.whole_seconds())?;
-        carried(seconds, self.nanosecond(), duration.subsec_nanoseconds())
+        from_sum(seconds, self.nanosecond(), duration.subsec_nanoseconds())
     }
 
     /// The instant so much earlier, or later for a negative duration. None outside the range.
@@ -27,7 +26,7 @@ impl Timestamp {
         ensures { SomeIff result (IsWallClock (self -ℤ duration)) (self -ℤ duration) }
     {
         let seconds = self.as_seconds().checked_sub(duration.whole_seconds())?;
-        carried(seconds, self.nanosecond(), -duration.subsec_nanoseconds())
+        from_sum(seconds, self.nanosecond(), -duration.subsec_nanoseconds())
     }
 
     /// The instant so much later. None outside the range.
@@ -36,7 +35,7 @@ impl Timestamp {
             (self +ℤ pos (as_nanos duration)) }
     {
         let seconds = self.as_seconds().checked_add_unsigned(duration.as_secs())?;
-        carried(seconds, self.nanosecond(), duration.subsec_nanos() as i32)
+        from_sum(seconds, self.nanosecond(), duration.subsec_nanos() as i32)
     }
 
     /// The instant so much earlier. None outside the range.
@@ -45,7 +44,7 @@ impl Timestamp {
             (self -ℤ pos (as_nanos duration)) }
     {
         let seconds = self.as_seconds().checked_sub_unsigned(duration.as_secs())?;
-        carried(
+        from_sum(
             seconds,
             self.nanosecond(),
             -(duration.subsec_nanos() as i32),
@@ -54,14 +53,15 @@ impl Timestamp {
 
     /// The instant so much later, or earlier for a negative duration; outside the range the end of it that lies
     /// in this direction.
-    #[tactic(auto, using(std::proofs::lemmas::Int::ints), unfolding(plain_times::specs::Sums::clamped))]
+    #[tactic(auto, using(std::proofs::lemmas::Int::ints), unfolding(plain_times::specs::Sums::nearest_wall_clock))]
     pub fn saturating_add(self, duration: SignedDuration) -> Timestamp
-        ensures value { result ≡ clamped (self +ℤ duration) }
+        ensures value { result ≡ nearest_wall_clock (self +ℤ duration) }
         ensures not_before { pos 0 ≤ℤ duration → self ≤ℤ result }
         ensures not_after { duration ≤ℤ pos 0 → result ≤ℤ self }
         ensures not_above { pos 0 ≤ℤ duration → result ≤ℤ (self +ℤ duration) }
         ensures not_below { duration ≤ℤ pos 0 → (self +ℤ duration) ≤ℤ result }
     {
+        // For the proof alone: what is read lies in its range.
         let _in_range = self.as_seconds();
         match self.checked_add(duration) {
             Some(sum) => sum,
@@ -77,14 +77,15 @@ impl Timestamp {
 
     /// The instant so much earlier, or later for a negative duration; outside the range the end of it that lies
     /// in this direction.
-    #[tactic(auto, using(std::proofs::lemmas::Int::ints), unfolding(plain_times::specs::Sums::clamped))]
+    #[tactic(auto, using(std::proofs::lemmas::Int::ints), unfolding(plain_times::specs::Sums::nearest_wall_clock))]
     pub fn saturating_sub(self, duration: SignedDuration) -> Timestamp
-        ensures value { result ≡ clamped (self -ℤ duration) }
+        ensures value { result ≡ nearest_wall_clock (self -ℤ duration) }
         ensures not_before { duration ≤ℤ pos 0 → self ≤ℤ result }
         ensures not_after { pos 0 ≤ℤ duration → result ≤ℤ self }
         ensures not_above { duration ≤ℤ pos 0 → result ≤ℤ (self -ℤ duration) }
         ensures not_below { pos 0 ≤ℤ duration → (self -ℤ duration) ≤ℤ result }
     {
+        // For the proof alone: what is read lies in its range.
         let _in_range = self.as_seconds();
         match self.checked_sub(duration) {
             Some(difference) => difference,
@@ -101,8 +102,8 @@ impl Timestamp {
 
 // The instant of a second and a nanosecond of that second, less than a second later or earlier, if the
 // range has it.
-#[tactic(auto, using(crate::proofs::SumLemmas::carries))]
-fn carried(seconds: i64, nanosecond: u32, change: i32) -> Option<Timestamp>
+#[tactic(auto, using(crate::proofs::TimestampSumLemmas::carries))]
+fn from_sum(seconds: i64, nanosecond: u32, change: i32) -> Option<Timestamp>
     requires nanosecond { nanosecond < nanos_per_second }
     requires change { unsigned_abs change < nanos_per_second }
     ensures { let sum = instant_of_parts seconds nanosecond +ℤ change in
@@ -110,14 +111,14 @@ fn carried(seconds: i64, nanosecond: u32, change: i32) -> Option<Timestamp>
 {
     let nanoseconds = nanosecond as i32 + change;
     if nanoseconds < 0 {
-        at(
+        from_parts(
             seconds.checked_sub(1)?,
             (nanoseconds + NANOS_PER_SECOND) as u32,
         )
     } else if nanoseconds < NANOS_PER_SECOND {
-        at(seconds, nanoseconds as u32)
+        from_parts(seconds, nanoseconds as u32)
     } else {
-        at(
+        from_parts(
             seconds.checked_add(1)?,
             (nanoseconds - NANOS_PER_SECOND) as u32,
         )
@@ -125,7 +126,7 @@ fn carried(seconds: i64, nanosecond: u32, change: i32) -> Option<Timestamp>
 }
 
 // The instant of a second and a nanosecond of that second, if the range has it.
-fn at(seconds: i64, nanosecond: u32) -> Option<Timestamp>
+fn from_parts(seconds: i64, nanosecond: u32) -> Option<Timestamp>
     requires { nanosecond < nanos_per_second }
     ensures { SomeIff result (IsWallClock (instant_of_parts seconds nanosecond))
         (instant_of_parts seconds nanosecond) }

@@ -1,8 +1,10 @@
 //! Runs of calls.
 use calendar_values::{ComponentRange, Date, Month, SignedDuration, Time, UtcOffset, Weekday};
 use offset_times::OffsetDateTime;
-use stamp_times::calls::{ClockPart, ClockRead, DatePart, DateRead, Replace, Shift};
-use stamp_times::{Call, Moment, Reply, Timestamp, run, run_both};
+use stamp_times::{
+    Call, ClockPart, ClockRead, DatePart, DateRead, Moment, Replace, Reply, Shift, Timestamp, run,
+    run_both,
+};
 use std::alloc::{AllocError, Global};
 use std::test::Fail;
 

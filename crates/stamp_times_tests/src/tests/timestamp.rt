@@ -37,7 +37,8 @@ fn texts(rt: HostRuntime) -> Result<(), Fail> {
 
 #[test]
 fn constructors(rt: HostRuntime) -> Result<(), Fail> {
-    let (first, last, epoch) = stamp_times::constants::timestamps();
+    let known = stamp_times::constants::timestamps();
+    let (first, last, epoch) = (known.first, known.last, known.epoch);
     let half = Timestamp::from_milliseconds(-500);
     for (at, second, nanosecond) in [
         (Ok(epoch), 0, 0),
@@ -302,7 +303,8 @@ fn refused_clocks(rt: HostRuntime) -> Result<(), Fail> {
 
 #[test]
 fn sums(rt: HostRuntime) -> Result<(), Fail> {
-    let (first, last, epoch) = stamp_times::constants::timestamps();
+    let known = stamp_times::constants::timestamps();
+    let (first, last, epoch) = (known.first, known.last, known.epoch);
     let at = Timestamp::from_seconds(1_546_398_245)?;
     let half = Timestamp::new(-1, 500_000_000)?;
     let nanosecond = SignedDuration::nanoseconds(1);
@@ -385,7 +387,8 @@ fn by_operators(start: Timestamp, duration: SignedDuration, same: Duration) -> O
 
 #[test]
 fn ends_of_the_range(rt: HostRuntime) -> Result<(), Fail> {
-    let (first, last, epoch) = stamp_times::constants::timestamps();
+    let known = stamp_times::constants::timestamps();
+    let (first, last, epoch) = (known.first, known.last, known.epoch);
     let nanosecond = SignedDuration::nanoseconds(1);
     let longer = SignedDuration::seconds(63_113_872_377_600);
     let whole_std = Duration::new(63_113_872_377_599, 999_999_999);
@@ -461,7 +464,8 @@ fn to_timestamp<T: ToTimestamp + Copy>(at: T) -> Option<Timestamp> {
 
 #[test]
 fn offsets(rt: HostRuntime) -> Result<(), Fail> {
-    let (first, last, _) = stamp_times::constants::timestamps();
+    let known = stamp_times::constants::timestamps();
+    let (first, last) = (known.first, known.last);
     let at = Timestamp::from_seconds(1_546_398_245)?;
     let plus_one = UtcOffset::from_hms(1, 0, 0)?;
     let minus_one = UtcOffset::from_hms(-1, 0, 0)?;
@@ -497,7 +501,8 @@ fn offsets(rt: HostRuntime) -> Result<(), Fail> {
 
 #[test]
 fn offsets_at_the_ends(rt: HostRuntime) -> Result<(), Fail> {
-    let (first, last, _) = stamp_times::constants::timestamps();
+    let known = stamp_times::constants::timestamps();
+    let (first, last) = (known.first, known.last);
     for seconds in [-93_599, -1, 0, 1, 93_599] {
         let stored = UtcOffset::from_whole_seconds(seconds)?;
         let earliest = first.to_utc().as_plain().assume_offset(stored);
@@ -510,7 +515,8 @@ fn offsets_at_the_ends(rt: HostRuntime) -> Result<(), Fail> {
 
 #[test]
 fn conversions_and_laws(rt: HostRuntime) {
-    let (first, last, _) = stamp_times::constants::timestamps();
+    let known = stamp_times::constants::timestamps();
+    let (first, last) = (known.first, known.last);
     is(&rt, Timestamp::from(UtcDateTime::from(first)), first);
     is(
         &rt,

@@ -95,11 +95,15 @@ fn unix_time_out_of_range(rt: HostRuntime) -> Result<(), Fail> {
 
 #[test]
 fn constants_and_laws(rt: HostRuntime) -> Result<(), Fail> {
-    let (first, last, epoch) = utc_times::constants::utc_date_times();
+    let known = utc_times::constants::utc_date_times();
     for (constant, same, nanosecond) in [
-        (UtcDateTime::UNIX_EPOCH, epoch, 0),
-        (UtcDateTime::MIN, first, -31_619_087_596_800_000_000_000),
-        (UtcDateTime::MAX, last, 31_494_784_780_799_999_999_999),
+        (UtcDateTime::UNIX_EPOCH, known.epoch, 0),
+        (
+            UtcDateTime::MIN,
+            known.first,
+            -31_619_087_596_800_000_000_000,
+        ),
+        (UtcDateTime::MAX, known.last, 31_494_784_780_799_999_999_999),
     ] {
         is(&rt, constant, same);
         is(&rt, constant.unix_timestamp_nanos(), nanosecond);

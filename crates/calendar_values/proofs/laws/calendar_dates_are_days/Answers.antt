@@ -1,5 +1,5 @@
-use Rattle.calendar_values.specs.MonthLaws.{IsCalendarDate-of, day_of_calendar_date-of, year_of-calendar_date, month_of-calendar_date}
-use Rattle.calendar_values.specs.MonthLaws.{day_of_month_of-calendar_date}
+use Rattle.calendar_values.specs.CalendarDateLemmas.{IsCalendarDate-of, day_of_calendar_date-of, year_of-calendar_date, month_of-calendar_date}
+use Rattle.calendar_values.specs.CalendarDateLemmas.{day_of_month_of-calendar_date}
 use Rattle.calendar_values.proofs.laws.calendar_dates_are_days.Goals as goal
 
 pub returns : goal.returns

@@ -1,5 +1,5 @@
-use Rattle.calendar_values.specs.ReplacementLaws.{with_hour-shows, with_minute-shows, with_second-shows, with_millisecond-shows, with_microsecond-shows}
-use Rattle.calendar_values.specs.ReplacementLaws.{with_nanosecond-shows, Shows-unique}
+use Rattle.calendar_values.specs.ClockReplacementLemmas.{with_hour-shows, with_minute-shows, with_second-shows, with_millisecond-shows, with_microsecond-shows}
+use Rattle.calendar_values.specs.ClockReplacementLemmas.{with_nanosecond-shows, Shows-unique}
 use Rattle.calendar_values.proofs.laws.clock_replacements_keep_the_rest.Goals as goal
 
 pub returns : goal.returns

@@ -1,7 +1,7 @@
 use Rattle.std.proofs.Common.{refl}
 use Rattle.calendar_values.specs.Calendar.{days_in_months}
 use Rattle.calendar_values.specs.Weeks.{weekday_of}
-use Rattle.calendar_values.specs.DayLaws.{day_of_ordinal_date-first, day_of_ordinal_date-last}
+use Rattle.calendar_values.specs.DayLemmas.{day_of_ordinal_date-first, day_of_ordinal_date-last}
 use Rattle.calendar_values.proofs.laws.range_is_whole_years.Goals as goal
 
 pub returns : goal.returns

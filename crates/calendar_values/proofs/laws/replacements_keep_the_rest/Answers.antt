@@ -1,6 +1,6 @@
 use Rattle.calendar_values.specs.Calendar.{year_of, month_of, day_of_month_of}
-use Rattle.calendar_values.specs.DayLaws.{year_of-is, ordinal_of-is}
-use Rattle.calendar_values.specs.MonthLaws.{IsCalendarDate-of}
+use Rattle.calendar_values.specs.DayLemmas.{year_of-is, ordinal_of-is}
+use Rattle.calendar_values.specs.CalendarDateLemmas.{IsCalendarDate-of}
 use Rattle.calendar_values.proofs.AcceptedLemmas.{IsOnlyDay-accepted, ordinal_date-accepted}
 use Rattle.calendar_values.proofs.laws.replacements_keep_the_rest.Goals as goal
 

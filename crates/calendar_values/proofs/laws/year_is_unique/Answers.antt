@@ -1,4 +1,4 @@
-use Rattle.calendar_values.specs.DayLaws.{IsInYear-year_of, year_of-unique}
+use Rattle.calendar_values.specs.DayLemmas.{IsInYear-year_of, year_of-unique}
 use Rattle.calendar_values.proofs.laws.year_is_unique.Goals as goal
 
 pub returns : goal.returns

@@ -7,5 +7,5 @@ pub returns : goal.returns
 unfolding instant_of
 returns c =
     let moved : c.from.result +ℤ c.seconds_of.result ≡ shown_at (instant_of c.args.at) c.args.to =
-    omega (arith, signed_arith, c.date_time.ensures.value, c.date_time.ensures.in_range, c.requires.from, c.requires.to) in
+    omega (arith, signed_arith, c.date_time.ensures.value, c.date_time.ensures.self_in_range, c.requires.from, c.requires.to) in
     rw (← moved) c.sum.ensures

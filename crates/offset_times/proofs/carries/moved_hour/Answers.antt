@@ -11,7 +11,7 @@ moved c =
     let to : to_z w8 (of_z w8 c.whole_hours-2.result) ≡ c.whole_hours-2.result = search rules in
     let hours : to_z w8 (of_z w8 c.args.hours) ≡ c.args.hours = search rules in
     carried_by_24 _ _ _ _ _ _ _ _ _ _ c.hour.ensures.value (from ∙ c.whole_hours.ensures.value)
-    (to ∙ c.whole_hours-2.ensures.value) (hours ∙ c.requires.hours) c.carry_day.ensures.sum c.carry_day.ensures.rest
+    (to ∙ c.whole_hours-2.ensures.value) (hours ∙ c.requires.hours) c.carry_day.ensures.sum c.carry_day.ensures.below_limit
 
 pub returns-clause-hour : goal.returns-clause-hour
 returns-clause-hour c = (moved c).1

@@ -11,7 +11,7 @@ moved c =
     let to : to_z w8 (of_z w8 c.minutes_past_hour-2.result) ≡ c.minutes_past_hour-2.result = search rules in
     let minutes : to_z w8 (of_z w8 c.args.minutes) ≡ c.args.minutes = search rules in
     carried_by_60 _ _ _ _ _ _ _ _ _ _ c.minute.ensures.value (from ∙ c.minutes_past_hour.ensures.value)
-    (to ∙ c.minutes_past_hour-2.ensures.value) (minutes ∙ c.requires.minutes) c.carry_sixty.ensures.sum c.carry_sixty.ensures.rest
+    (to ∙ c.minutes_past_hour-2.ensures.value) (minutes ∙ c.requires.minutes) c.carry_sixty.ensures.sum c.carry_sixty.ensures.below_limit
 
 pub returns-clause-minute : goal.returns-clause-minute
 returns-clause-minute c = (moved c).1

@@ -10,7 +10,7 @@ moved c =
     let from : to_z w8 (of_z w8 c.seconds_past_minute.result) ≡ c.seconds_past_minute.result = search rules in
     let to : to_z w8 (of_z w8 c.seconds_past_minute-2.result) ≡ c.seconds_past_minute-2.result = search rules in
     carried_at_first _ _ _ _ _ _ _ _ c.second.ensures.value (from ∙ c.seconds_past_minute.ensures.value)
-    (to ∙ c.seconds_past_minute-2.ensures.value) c.carry_sixty.ensures.sum c.carry_sixty.ensures.rest
+    (to ∙ c.seconds_past_minute-2.ensures.value) c.carry_sixty.ensures.sum c.carry_sixty.ensures.below_limit
 
 pub returns-clause-second : goal.returns-clause-second
 returns-clause-second c = (moved c).1

@@ -2,15 +2,16 @@ use Rattle.std.proofs.Common.{arith, pos}
 use Rattle.std.proofs.lemmas.Int.{ints}
 use Rattle.calendar_values.specs.Calendar.{day_of_ordinal_date}
 use Rattle.calendar_values.specs.WallClock.{wall_time}
-use Rattle.calendar_values.specs.WallClockLaws.{IsClock-wall_time}
+use Rattle.calendar_values.specs.WallClockLemmas.{IsClock-wall_time}
 use Rattle.offset_times.proofs.CarryLemmas.{wall_clock-shown, CarriesWithin-from_utc}
 use Rattle.offset_times.proofs.carries.utc_to_offset_raw.Goals as goal
 
 pub returns-clause-shown : goal.returns-clause-shown
 returns-clause-shown c =
-    let moved = wall_clock-shown c.as_plain.result (day_of_ordinal_date c.moved.result.0 c.moved.result.1) c.moved.result.2
-    (pos 0) c.args.offset c.moved.ensures.day_step c.moved.ensures.carried in
+    let moved = wall_clock-shown c.as_plain.result (day_of_ordinal_date c.parts_at.result.0 c.parts_at.result.1) c.parts_at.result.2
+    (pos 0) c.args.offset c.parts_at.ensures.day_step c.parts_at.ensures.carried in
     omega (arith, ints)
 
 pub returns-clause-within : goal.returns-clause-within
-returns-clause-within c = CarriesWithin-from_utc (wall_time c.args.at) c.args.offset (IsClock-wall_time c.args.at) c.whole_seconds-in_range.ensures.in_range
+returns-clause-within c = CarriesWithin-from_utc (wall_time c.args.at) c.args.offset (IsClock-wall_time c.args.at)
+    c.whole_seconds-in_range.ensures.self_in_range

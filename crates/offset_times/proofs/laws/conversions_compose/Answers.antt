@@ -1,4 +1,4 @@
-use Rattle.offset_times.proofs.LawLemmas.{conversion-again}
+use Rattle.offset_times.proofs.ConversionLawLemmas.{conversion-again}
 use Rattle.offset_times.proofs.laws.conversions_compose.Goals as goal
 
 pub returns : goal.returns

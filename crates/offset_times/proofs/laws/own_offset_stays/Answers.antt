@@ -1,4 +1,4 @@
-use Rattle.offset_times.proofs.LawLemmas.{conversion-own}
+use Rattle.offset_times.proofs.ConversionLawLemmas.{conversion-own}
 use Rattle.offset_times.proofs.laws.own_offset_stays.Goals as goal
 
 pub returns : goal.returns

@@ -1,4 +1,4 @@
-use Rattle.plain_times.proofs.LawLemmas.{difference-leads_back}
+use Rattle.plain_times.proofs.WallClockLawLemmas.{difference-leads_back}
 use Rattle.plain_times.proofs.laws.differences_lead_back.Goals as goal
 
 pub returns : goal.returns

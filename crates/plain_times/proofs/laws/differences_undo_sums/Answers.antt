@@ -1,4 +1,4 @@
-use Rattle.plain_times.proofs.LawLemmas.{difference-undoes_sum}
+use Rattle.plain_times.proofs.WallClockLawLemmas.{difference-undoes_sum}
 use Rattle.plain_times.proofs.laws.differences_undo_sums.Goals as goal
 
 pub returns : goal.returns

@@ -1,5 +1,5 @@
-use Rattle.plain_times.specs.TruncationLemmas.{IsRoundedDown-rounded_down}
+use Rattle.plain_times.specs.TruncationLemmas.{IsGreatestWallMultiple-wall_multiple_below}
 use Rattle.plain_times.proofs.laws.truncations_round_down.Goals as goal
 
 pub returns : goal.returns
-returns c = IsRoundedDown-rounded_down
+returns c = IsGreatestWallMultiple-wall_multiple_below

@@ -1,5 +1,5 @@
 use Rattle.std.proofs.Common.{◌≡◌, drop, take}
-use Rattle.stamp_times.specs.Travel.{held_instant, held_after, travel}
+use Rattle.stamp_times.specs.Travel.{held_instant, held_after, stop_index}
 use Rattle.stamp_times.proofs.TravelLemmas.{later}
 use Rattle.stamp_times.proofs.chains.chain.Given as goal
 
@@ -10,5 +10,5 @@ invariant-loop-index l =
     record {
       instant : held_instant l.held ≡ i;
       here : l.held ≡ held_after l.fn.start i (take l.index l.steps);
-      stops : travel i l.steps ≡ later l.index (travel i (drop l.index l.steps));
+      stops : stop_index i l.steps ≡ later l.index (stop_index i (drop l.index l.steps));
     }

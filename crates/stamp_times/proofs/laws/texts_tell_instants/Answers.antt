@@ -1,4 +1,4 @@
-use Rattle.stamp_times.proofs.TextLemmas.{timestamp_text-injective, timestamp_text-fraction_end, timestamp_text-not_zero}
+use Rattle.stamp_times.proofs.TimestampTextLemmas.{timestamp_text-injective, timestamp_text-fraction_end, timestamp_text-not_zero}
 use Rattle.stamp_times.proofs.laws.texts_tell_instants.Goals as goal
 
 pub returns : goal.returns

@@ -1,4 +1,4 @@
-use Rattle.stamp_times.specs.LogLaws.{strictly-inserted, Contains-inserted}
+use Rattle.stamp_times.specs.LogLemmas.{strictly-inserted, Contains-inserted}
 use Rattle.stamp_times.proofs.logs.enter.Goals as goal
 
 pub returns-in_ok-insert-in-Err-clause-in_order : goal.returns-in_ok-insert-in-Err-clause-in_order

@@ -1,4 +1,4 @@
-use Rattle.stamp_times.proofs.LogLemmas.{equal-int_cmp, not_Contains-searched}
+use Rattle.stamp_times.proofs.LogSearchLemmas.{equal-int_cmp, not_Contains-searched}
 use Rattle.stamp_times.proofs.logs.find.Goals as goal
 
 pub returns-in-Ok-clause-found : goal.returns-in-Ok-clause-found

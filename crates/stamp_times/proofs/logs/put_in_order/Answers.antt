@@ -1,5 +1,5 @@
 use Rattle.std.proofs.lemmas.List.Sorted.{Contains-permutation, IsPermutation-sym}
-use Rattle.stamp_times.specs.LogLaws.{strictly-deduped, Contains-deduped, Contains-before_dedup}
+use Rattle.stamp_times.specs.LogLemmas.{strictly-deduped, Contains-deduped, Contains-before_dedup}
 use Rattle.stamp_times.proofs.logs.put_in_order.Goals as goal
 
 pub returns-clause-in_order : goal.returns-clause-in_order

@@ -6,7 +6,7 @@ use Rattle.stamp_times.proofs.reciprocal.year_leap_ordinal.Goals as goal
 
 pub returns-clause-year : goal.returns-clause-year
 returns-clause-year c =
-    let year : to_z w32 (of_z w32 c.unshifted.result) ≡ step_year (shifted_day c.args.day) = search rules in
+    let year : to_z w32 (of_z w32 c.year_of_shift.result) ≡ step_year (shifted_day c.args.day) = search rules in
     year ∙ sym (year_of-step c.args.day c.requires)
 
 pub returns-clause-leap : goal.returns-clause-leap
@@ -21,13 +21,13 @@ returns-clause-ordinal c =
 
 pub returns-clause-date : goal.returns-clause-date
 returns-clause-date c =
-    let year : to_z w32 (of_z w32 c.unshifted.result) ≡ step_year (shifted_day c.args.day) = search rules in
+    let year : to_z w32 (of_z w32 c.year_of_shift.result) ≡ step_year (shifted_day c.args.day) = search rules in
     let ordinal : c.years_leap_ordinal-years.result.2 ≡ step_ordinal (shifted_day c.args.day) = search rules in
     IsOrdinalDateOfRange-found c.args.day _ _ c.requires year ordinal
 
 pub returns-clause-day : goal.returns-clause-day
 returns-clause-day c =
-    let year : to_z w32 (of_z w32 c.unshifted.result) ≡ step_year (shifted_day c.args.day) = search rules in
+    let year : to_z w32 (of_z w32 c.year_of_shift.result) ≡ step_year (shifted_day c.args.day) = search rules in
     let ordinal : c.years_leap_ordinal-years.result.2 ≡ step_ordinal (shifted_day c.args.day) = search rules in
     day_of_ordinal_date-found c.args.day _ _ c.requires year ordinal
 

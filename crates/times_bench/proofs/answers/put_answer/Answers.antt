@@ -1,9 +1,9 @@
 use Rattle.std.proofs.Common.{◌≡◌, ◌∙◌, ℕ, IsTrue, List, [], ◌∷◌, ◌++◌, Option, ap, append_assoc, subst}
 use Rattle.std.proofs.lemmas.Result.{err_from_is_err_and}
 use Rattle.times_bench.specs.Answers.{answer_to, answer_of, request_takes_memory, takes_memory}
-use Rattle.times_bench.specs.Requests.{Request, request_of_kind, request_of}
+use Rattle.times_bench.specs.Requests.{Request, request_of_command, request_of}
 use Rattle.times_bench.specs.Words.{words_of}
-use Rattle.times_bench.specs.declared.requests.Kind.TheVariants as kind
+use Rattle.times_bench.specs.declared.requests.Command.TheVariants as command
 use Rattle.times_bench.proofs.answers.put_answer.Goals as goal
 use Rattle.times_bench.proofs.answers.put_answer.Goals.{in-Some-Unix-default, in-Some-Stamp-default, in-Some-Run-default+in_ok-answer_run-in-Some-Run-default}
 use Rattle.times_bench.proofs.answers.put_answer.Goals.{in-Some-Chain-default, in-None}
@@ -13,7 +13,7 @@ unfolding takes_memory
 returns-in_err-answer_run-in-Some-Run-default c =
     let p = err_from_is_err_and c.from_residual.result c.from_residual.ensures.1 in
     let arm = c.in-Some-Run-default in
-    let request : request_of_kind kind.Run (words_of arm.words.now) ≡ request_of c.args.line.now = rw arm.field-0-0-is at arm.ensures.request in
+    let request : request_of_command command.Run (words_of arm.words.now) ≡ request_of c.args.line.now = rw arm.field-0-0-is at arm.ensures.request in
     let short = c.in_err-answer_run-in-Some-Run-default.ensures.answer in
     rw p.1 (short.0, subst (λ (z : Option Request). IsTrue (request_takes_memory z)) request short.1)
 
@@ -24,7 +24,7 @@ returns c =
     let request = request_of c.args.line.now in
     let said : (asked : Option Request) → asked ≡ request → old ++ answer_to asked ≡ old ++ answer_to request
     = λ asked e. ap (λ (z : Option Request). old ++ answer_to z) e in
-    let answered : c.match-kind_of.pending ≡ old ++ answer_to request = elim c.match-kind_of.branch [
+    let answered : c.match-command_of.pending ≡ old ++ answer_to request = elim c.match-command_of.branch [
       | in-Some-Unix-default w ↦ let arm = w.in-Some-Unix-default in
           w.pending-is ∙ w.answer_unix.ensures.answer ∙ said _ (rw arm.field-0-0-is at arm.ensures.request)
       | in-Some-Stamp-default w ↦ let arm = w.in-Some-Stamp-default in
@@ -33,6 +33,6 @@ returns c =
           w.pending-is ∙ w.in_ok-answer_run-in-Some-Run-default.ensures.answer ∙ said _ (rw arm.field-0-0-is at arm.ensures.request)
       | in-Some-Chain-default w ↦ let arm = w.in-Some-Chain-default in
           w.pending-is ∙ w.answer_chain.ensures.answer ∙ said _ (rw arm.field-0-0-is at arm.ensures.request)
-      | in-None w ↦ w.pending-is ∙ w.push_all.ensures ∙ said _ (rw w.in-None.is at c.kind_of.ensures.request)
+      | in-None w ↦ w.pending-is ∙ w.push_all.ensures ∙ said _ (rw w.in-None.is at c.command_of.ensures.request)
     ] in
     c.push.ensures ∙ ap (λ (z : List ℕ). z ++ 10 ∷ []) answered ∙ append_assoc old (answer_to request) (10 ∷ [])

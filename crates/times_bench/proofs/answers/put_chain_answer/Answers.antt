@@ -1,7 +1,7 @@
 use Rattle.std.proofs.Common.{rules, ◌∙◌, ℤ, ℕ, List, ◌++◌, ap, codes, decimal, sym, w64, FitsSigned}
 use Rattle.std.proofs.lemmas.Int.{to_z-of_z}
 use Rattle.stamp_times.specs.Refusals.{timestamp_of_parts}
-use Rattle.stamp_times.specs.declared.steps.Step.{Step}
+use Rattle.stamp_times.specs.declared.chains.steps.Step.{Step}
 use Rattle.times_bench.specs.Answers.{text_or_refusal, chain_text, chain_answer}
 use Rattle.times_bench.proofs.AnswerLemmas.{both_put, chain_text-arrived, chain_text-stopped}
 use Rattle.times_bench.proofs.answers.put_chain_answer.Goals as goal

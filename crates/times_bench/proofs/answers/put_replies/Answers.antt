@@ -1,6 +1,6 @@
 use Rattle.std.proofs.Common.{◌∙◌, ◌++◌, List, ℕ, ap, sym, arith, codes, flat_map, append-nil}
 use Rattle.std.proofs.lemmas.List.{take_all}
-use Rattle.stamp_times.specs.declared.calls.Reply.{Reply}
+use Rattle.stamp_times.specs.declared.runs.calls.Reply.{Reply}
 use Rattle.times_bench.specs.ReplyTexts.{reply_text}
 use Rattle.times_bench.proofs.AnswerLemmas.{flat_map-next}
 use Rattle.times_bench.proofs.answers.put_replies.Goals as goal

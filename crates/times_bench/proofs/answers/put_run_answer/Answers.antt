@@ -2,8 +2,8 @@ use Rattle.std.proofs.Common.{rules, ◌∙◌, ℤ, ℕ, List, ◌++◌, ap, ap
 use Rattle.std.proofs.lemmas.Int.{to_z-of_z}
 use Rattle.stamp_times.specs.Refusals.{timestamp_of_parts}
 use Rattle.stamp_times.specs.Texts.{timestamp_text}
-use Rattle.stamp_times.specs.declared.calls.Call.{Call}
-use Rattle.stamp_times.specs.declared.calls.Reply.{Reply}
+use Rattle.stamp_times.specs.declared.runs.calls.Call.{Call}
+use Rattle.stamp_times.specs.declared.runs.calls.Reply.{Reply}
 use Rattle.times_bench.specs.Answers.{text_or_refusal, run_text, run_answer}
 use Rattle.times_bench.specs.ReplyTexts.{reply_text}
 use Rattle.times_bench.proofs.AnswerLemmas.{both_put, run_text-replies}

@@ -11,17 +11,17 @@ use Rattle.times_bench.proofs.answers.put_stamp_answer.Goals as goal
 pub returns-in-Ok-clause-answer : goal.returns-in-Ok-clause-answer
 unfolding stamp_answer
 returns-in-Ok-clause-answer c =
-    let known = c.moment_of.ensures
+    let known = c.instant_at.ensures
     ∙ ap (λ (z : ℤ). with_instant_nanosecond (unix_instant z) c.args.nanosecond) (to_z-of_z w64 c.args.second c.ranges.second) in
-    both_put c.args.pending.now _ _ c.moment_text.result c.day_text_of.result _ c.put_text.ensures.text c.put_text-in-Ok.ensures.text
-    (ap (λ (z : List ℕ). z ++ c.day_text_of.result) c.moment_text.ensures
-    ∙ ap (λ (z : List ℕ). utc_text c.in-Ok.moment ++ codes " " ++ z) c.day_text_of.ensures
+    both_put c.args.pending.now _ _ c.instant_text.result c.day_text_of.result _ c.put_text.ensures.text c.put_text-in-Ok.ensures.text
+    (ap (λ (z : List ℕ). z ++ c.day_text_of.result) c.instant_text.ensures
+    ∙ ap (λ (z : List ℕ). utc_text c.in-Ok.at ++ codes " " ++ z) c.day_text_of.ensures
     ∙ ap (text_or_refusal stamp_text) (sym c.in-Ok.is ∙ known))
 
 pub returns-in-Err-clause-answer : goal.returns-in-Err-clause-answer
 unfolding stamp_answer
 returns-in-Err-clause-answer c =
-    let known = c.moment_of.ensures
+    let known = c.instant_at.ensures
     ∙ ap (λ (z : ℤ). with_instant_nanosecond (unix_instant z) c.args.nanosecond) (to_z-of_z w64 c.args.second c.ranges.second) in
     c.put_text-in-Err.ensures.text
     ∙ ap (λ (z : List ℕ). c.args.pending.now ++ z) (c.refused_text.ensures.text ∙ ap (text_or_refusal stamp_text) (sym c.in-Err.is ∙ known))

@@ -12,7 +12,7 @@ pub returns-in-Ok : goal.returns-in-Ok
 unfolding unix_answer
 returns-in-Ok c =
     let known = c.from_unix_timestamp.ensures.equation ∙ ap unix_instant (to_z-of_z w64 c.args.second c.ranges.second) in
-    c.append_to.ensures.text ∙ ap (λ (z : List ℕ). z ++ utc_text c.in-Ok.moment) c.requires
+    c.append_to.ensures.text ∙ ap (λ (z : List ℕ). z ++ utc_text c.in-Ok.at) c.requires
     ∙ ap (text_or_refusal utc_text) (sym c.in-Ok.is ∙ known)
 
 pub returns-in-Err : goal.returns-in-Err

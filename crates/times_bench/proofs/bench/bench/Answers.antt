@@ -32,8 +32,8 @@ returns-in-Ok-finish-clause-answers g c =
     let so_far = c.reads.invariant in
     let written = g.W.Sink.written in
     input-end _ _ so_far.0 (λ input. Appends (written c.args.writer.now) (written c.finish.new.writer) (answers_of (lines_of input)))
-    (Consumes-none _ _ _ so_far.0 c.read_some.new.buffer c.in-Ok.count so_far.1.consumed c.in-Ok.ensures.bytes.0 c.if-count-eq0.true)
-    (c.in-Ok.ensures.bytes.1 c.if-count-eq0.true (omega arith))
+    (Consumes-none _ _ _ so_far.0 c.read_some.new.buffer c.in-Ok.count so_far.1.consumed c.in-Ok.ensures.consumed.0 c.if-count-eq0.true)
+    (c.in-Ok.ensures.consumed.1 c.if-count-eq0.true (omega arith))
     (Appends-last _ (written c.reads.writer) _ so_far.0 so_far.1.sent (c.in-Ok-finish.ensures.written (rest_from [] so_far.0) so_far.1.line))
 
 pub returns-in-Err-Write-clause-beginning : goal.returns-in-Err-Write-clause-beginning
@@ -41,8 +41,8 @@ returns-in-Err-Write-clause-beginning g c _ =
     let so_far = c.reads.invariant in
     let written = g.W.Sink.written in
     input-end _ _ so_far.0 (λ input. AppendsBeginning (written c.args.writer.now) (written c.finish.new.writer) (answers_of (lines_of input)))
-    (Consumes-none _ _ _ so_far.0 c.read_some.new.buffer c.in-Ok.count so_far.1.consumed c.in-Ok.ensures.bytes.0 c.if-count-eq0.true)
-    (c.in-Ok.ensures.bytes.1 c.if-count-eq0.true (omega arith))
+    (Consumes-none _ _ _ so_far.0 c.read_some.new.buffer c.in-Ok.count so_far.1.consumed c.in-Ok.ensures.consumed.0 c.if-count-eq0.true)
+    (c.in-Ok.ensures.consumed.1 c.if-count-eq0.true (omega arith))
     (AppendsBeginning-last _ (written c.reads.writer) _ so_far.0 so_far.1.sent (rw c.in-Err-Write.field-0-is at
     (c.in-Err-Write.ensures.written (rest_from [] so_far.0) so_far.1.line)))
 
@@ -52,7 +52,7 @@ returns-in-Err-Write-feed-clause-beginning g c _ =
     let written = g.W.Sink.written in
     let block = take c.in-Ok.count c.read_some.new.buffer in
     input-begin _ _ (so_far.0 ++ block) (λ input. AppendsBeginning (written c.args.writer.now) (written c.feed.new.writer) (answers_of (lines_of input)))
-    (Consumes-append _ _ _ so_far.0 block so_far.1.consumed c.in-Ok.ensures.bytes.0)
+    (Consumes-append _ _ _ so_far.0 block so_far.1.consumed c.in-Ok.ensures.consumed.0)
     (λ rest. AppendsBeginning-block _ (written c.reads.writer) _ so_far.0 block rest so_far.1.sent (rw c.in-Err-Write-feed.field-0-is at
     (c.in-Err-Write-feed.ensures.written (rest_from [] so_far.0) so_far.1.line)))
 
@@ -61,8 +61,8 @@ returns-in-Err-Memory-clause-memory g c _ =
     let so_far = c.reads.invariant in
     let written = g.W.Sink.written in
     input-end _ _ so_far.0 (λ input. AnswersBeforeMemory (written c.args.writer.now) (written c.finish.new.writer) (lines_of input))
-    (Consumes-none _ _ _ so_far.0 c.read_some.new.buffer c.in-Ok.count so_far.1.consumed c.in-Ok.ensures.bytes.0 c.if-count-eq0.true)
-    (c.in-Ok.ensures.bytes.1 c.if-count-eq0.true (omega arith))
+    (Consumes-none _ _ _ so_far.0 c.read_some.new.buffer c.in-Ok.count so_far.1.consumed c.in-Ok.ensures.consumed.0 c.if-count-eq0.true)
+    (c.in-Ok.ensures.consumed.1 c.if-count-eq0.true (omega arith))
     (AnswersBeforeMemory-last _ (written c.reads.writer) _ so_far.0 so_far.1.sent (rw c.in-Err-Memory.field-0-is at
     (c.in-Err-Memory.ensures.written (rest_from [] so_far.0) so_far.1.line)))
 
@@ -73,7 +73,7 @@ returns-in-Err-Memory-feed-clause-memory g c _ =
     let block = take c.in-Ok.count c.read_some.new.buffer in
     let stopped = rw c.in-Err-Memory-feed.field-0-is at (c.in-Err-Memory-feed.ensures.written (rest_from [] so_far.0) so_far.1.line) in
     input-begin _ _ (so_far.0 ++ block) (λ input. AnswersBeforeMemory (written c.args.writer.now) (written c.feed.new.writer) (lines_of input))
-    (Consumes-append _ _ _ so_far.0 block so_far.1.consumed c.in-Ok.ensures.bytes.0)
+    (Consumes-append _ _ _ so_far.0 block so_far.1.consumed c.in-Ok.ensures.consumed.0)
     (λ rest. AnswersBeforeMemory-block _ (written c.reads.writer) _ so_far.0 block rest so_far.1.sent stopped)
 
 pub reads-preserved : goal.reads-preserved
@@ -83,7 +83,7 @@ reads-preserved g c =
     let answered = c.in-Ok-feed.ensures.written (rest_from [] so_far.0) so_far.1.line in (
       so_far.0 ++ block,
       record {
-        consumed = Consumes-append _ _ _ so_far.0 block so_far.1.consumed c.in-Ok.ensures.bytes.0;
+        consumed = Consumes-append _ _ _ so_far.0 block so_far.1.consumed c.in-Ok.ensures.consumed.0;
         turns =
             let most : c.reads._turn ≤ length so_far.0 = so_far.1.turns in
             let some : c.in-Ok.count ≡ length block = c.in-Ok.ensures.bound.1 in
@@ -99,7 +99,7 @@ reads-preserved g c =
 pub returns-in_default-clause-whole_lines : goal.returns-in_default-clause-whole_lines
 returns-in_default-clause-whole_lines g c _ =
     let so_far = c.reads.invariant in
-    (so_far.0, Consumes-keep _ _ _ so_far.0 so_far.1.consumed c.in_default.ensures.bytes, answers_of-whole_lines_of _ _ so_far.0 so_far.1.sent)
+    (so_far.0, Consumes-keep _ _ _ so_far.0 so_far.1.consumed c.in_default.ensures.consumed, answers_of-whole_lines_of _ _ so_far.0 so_far.1.sent)
 
 pub returns-clause-whole_lines : goal.returns-clause-whole_lines
 returns-clause-whole_lines g c _ =

@@ -9,9 +9,9 @@ returns-in_err-name-clause-value c =
     let name = c.cut_at.result.0.now in
     refused ∙ sym (call_of-not_text c.args.word.now name _ c.cut_at.ensures (not_text name c.from_utf8.result _ _ c.from_utf8.ensures.cases (search rules)))
 
-pub returns-in_default-clause-long : goal.returns-in_default-clause-long
+pub returns-in_default-clause-three_bytes : goal.returns-in_default-clause-three_bytes
 unfolding call_of_parts call_of
-returns-in_default-clause-long c = call_of-long c.args.word.now c.read_named.result (search rules)
+returns-in_default-clause-three_bytes c = call_of-long c.args.word.now c.read_named.result (search rules)
 
 pub returns-then-is_some-clause-value : goal.returns-then-is_some-clause-value
 unfolding call_of
@@ -20,6 +20,6 @@ returns-then-is_some-clause-value c =
     sym (ap call_of_parts (c.cut_at.ensures ∙ rw c.in-Some.is (ap (λ (z : List (List ℕ)). name ∷ z) c.cut_at-2.ensures))
     ∙ call_of_parts-more name c.cut_at-2.result.0.now _ (some_parts 61 c.cut_at-2.result.1 (search rules)))
 
-pub returns-clause-long : goal.returns-clause-long
+pub returns-clause-three_bytes : goal.returns-clause-three_bytes
 unfolding call_of_parts call_of
-returns-clause-long c = call_of-long c.args.word.now c.call_with.result (search rules)
+returns-clause-three_bytes c = call_of-long c.args.word.now c.call_with.result (search rules)

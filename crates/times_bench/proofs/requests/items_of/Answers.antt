@@ -22,7 +22,7 @@ words-preserved g c = record {
   room =
       room-next c.words.items c.push.new.self c.in_ok-read.field-0 c.words.left c.cut_at.result.1 c.in-Some.text c.cut_at.result.0.now c.words.invariant.room
       c.in-Some.is
-      c.cut_at.ensures c.in_ok-read.ensures.long c.push.ensures;
+      c.cut_at.ensures c.in_ok-read.ensures.three_bytes c.push.ensures;
 }
 
 pub returns : goal.returns

@@ -1,5 +1,5 @@
 use Rattle.std.proofs.Common.{◌≡◌, rules}
-use Rattle.calendar_values.specs.DurationLaws.{whole_seconds_of-parts}
+use Rattle.calendar_values.specs.DurationPartLemmas.{whole_seconds_of-parts}
 use Rattle.calendar_values.specs.Durations.{whole_seconds_of}
 use Rattle.calendar_values.proofs.DurationLemmas.{whole_days_of-whole_seconds_of}
 use Rattle.calendar_values.proofs.signed_duration.SignedDuration.whole_days.Goals as goal

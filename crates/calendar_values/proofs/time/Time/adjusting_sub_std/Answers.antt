@@ -19,4 +19,4 @@ earlier Next changes c d t is sum clock = absurd (omega (arith, ints))
 
 pub returns-clause-difference : goal.returns-clause-difference
 returns-clause-difference c =
-    earlier _ _ c.args.self (as_nanos c.args.duration % nanos_per_day) _ c.eq.ensures (search rules) c.moved_by-adjustment.ensures.from
+    earlier _ _ c.args.self (as_nanos c.args.duration % nanos_per_day) _ c.eq.ensures (search rules) c.moved_by-adjustment.ensures.self_in_range

@@ -1,5 +1,5 @@
 use Rattle.std.proofs.Common.{FitsSigned, w8, to_z-of_z, sym, rules}
-use Rattle.calendar_values.specs.OffsetLaws.{offset_hours_of-parts, offset_minutes_of-parts, offset_seconds_of-parts}
+use Rattle.calendar_values.specs.OffsetPartLemmas.{offset_hours_of-parts, offset_minutes_of-parts, offset_seconds_of-parts}
 use Rattle.calendar_values.proofs.utc_offset.UtcOffset.as_hms.Goals as goal
 
 pub returns-clause-hours : goal.returns-clause-hours

@@ -1,4 +1,5 @@
 use Rattle.std.proofs.Common.{FitsSigned, w8, to_z-of_z, arith, rules}
+use Rattle.calendar_values.specs.Offsets.{offset_of_parts}
 use Rattle.calendar_values.specs.SignedArith.{signed_arith, one_part}
 use Rattle.calendar_values.proofs.OffsetLemmas.{IsOffsetParts-with_sign_of}
 use Rattle.calendar_values.proofs.utc_offset.UtcOffset.from_hms.Goals as goal
@@ -17,3 +18,7 @@ invariant_of-result c =
     simp to_z-of_z (rw (minutes, seconds', seconds) (IsOffsetParts-with_sign_of c.args.hours c.args.minutes c.args.seconds
     (omega (arith, signed_arith, one_part c.args.hours)) (omega (arith, signed_arith, one_part c.args.minutes))
     (omega (arith, signed_arith, one_part c.args.seconds))))
+
+pub returns : goal.returns
+unfolding offset_of_parts
+returns c = record { value = search rules; refused = search rules; equation = search rules }

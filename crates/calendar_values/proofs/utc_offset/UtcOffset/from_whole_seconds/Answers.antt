@@ -2,7 +2,7 @@ use Rattle.std.proofs.Common.{◌∙◌, sym, ap, arith}
 use Rattle.std.specs.Prelude.{Ok}
 use Rattle.calendar_values.specs.SignedArith.{signed_arith}
 use Rattle.calendar_values.specs.Offsets.{IsOffset}
-use Rattle.calendar_values.specs.OffsetLaws.{IsOffsetParts-of, seconds_of_parts-of}
+use Rattle.calendar_values.specs.OffsetPartLemmas.{IsOffsetParts-of, seconds_of_parts-of}
 use Rattle.calendar_values.proofs.OffsetLemmas.{computed_hours, computed_minutes, computed_seconds, offset_of_seconds-in}
 use Rattle.calendar_values.proofs.utc_offset.UtcOffset.from_whole_seconds.Goals as goal
 
@@ -12,15 +12,12 @@ invariant_of-result c =
     let in_range : IsOffset o = (omega (arith, signed_arith), omega (arith, signed_arith)) in
     rw (computed_hours o in_range, computed_minutes o in_range, computed_seconds o in_range) (IsOffsetParts-of o in_range)
 
-pub returns-clause-value : goal.returns-clause-value
-returns-clause-value c =
+pub returns : goal.returns
+returns c =
     let o = c.args.seconds in
     let in_range : IsOffset o = (omega (arith, signed_arith), omega (arith, signed_arith)) in
-    (in_range, rw (computed_hours o in_range, computed_minutes o in_range, computed_seconds o in_range) (seconds_of_parts-of o))
-
-pub returns-clause-equation : goal.returns-clause-equation
-returns-clause-equation c =
-    let o = c.args.seconds in
-    let in_range : IsOffset o = (omega (arith, signed_arith), omega (arith, signed_arith)) in
-    rw (computed_hours o in_range, computed_minutes o in_range, computed_seconds o in_range)
-    (ap Ok (seconds_of_parts-of o) ∙ sym (offset_of_seconds-in o in_range))
+    rw (computed_hours o in_range, computed_minutes o in_range, computed_seconds o in_range) (record {
+      value = (in_range, seconds_of_parts-of o);
+      refused = tt;
+      equation = ap Ok (seconds_of_parts-of o) ∙ sym (offset_of_seconds-in o in_range);
+    })

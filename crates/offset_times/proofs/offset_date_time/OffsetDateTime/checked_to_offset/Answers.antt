@@ -11,7 +11,7 @@ pub returns-then-eq-clause-value : goal.returns-then-eq-clause-value
 returns-then-eq-clause-value c =
     let same = (signed_Decides c.offset.result c.args.offset).0 (sym c.if-eq.ensures) in
     let own : c.args.self.offset ≡ c.args.offset = sym c.offset.ensures.value ∙ same in (
-      subst (λ (w : ℤ). IsWallClock w) (sym (shown_at-own c.args.self c.args.offset own)) c.offset.ensures.in_range.0,
+      subst (λ (w : ℤ). IsWallClock w) (sym (shown_at-own c.args.self c.args.offset own)) c.offset.ensures.self_in_range.0,
       sym (local_at-own c.args.self c.args.offset own),
     )
 

@@ -2,7 +2,7 @@ use Rattle.std.proofs.Common.{◌≡◌, ◌∙◌, sym, ap, rules, arith, to_z,
 use Rattle.calendar_values.specs.Calendar.{year_of}
 use Rattle.calendar_values.specs.SignedArith.{signed_casts}
 use Rattle.calendar_values.specs.WallClock.{wall_day}
-use Rattle.offset_times.proofs.OrderLemmas.{days_in_one_year}
+use Rattle.offset_times.proofs.InstantOrderLemmas.{days_in_one_year}
 use Rattle.offset_times.proofs.offset_date_time.OffsetDateTime.date_after.Goals as goal
 
 pub returns-then-year-other_year : goal.returns-then-year-other_year

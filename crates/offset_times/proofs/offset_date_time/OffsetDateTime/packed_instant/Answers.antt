@@ -1,7 +1,7 @@
 use Rattle.std.proofs.Common.{◌≡◌, ◌∙◌, rules, ap, ℤ, to_z, of_z, w32}
 use Rattle.std.specs.Int.{w128}
 use Rattle.offset_times.specs.Local.{instant_of}
-use Rattle.offset_times.proofs.OrderLemmas.{packed_parts-is}
+use Rattle.offset_times.proofs.InstantOrderLemmas.{packed_parts-is}
 use Rattle.plain_times.specs.Packed.{packed_parts}
 use Rattle.offset_times.proofs.offset_date_time.OffsetDateTime.packed_instant.Goals as goal
 

@@ -2,7 +2,7 @@ use Rattle.std.proofs.Common.{◌≡◌, ◌∙◌, ◌/◌, rules, arith, pos, 
 use Rattle.calendar_values.specs.Clock.{nanos_per_second}
 use Rattle.calendar_values.specs.SignedArith.{signed_casts}
 use Rattle.calendar_values.specs.WallClock.{wall_day, wall_time}
-use Rattle.offset_times.proofs.OrderLemmas.{seconds_between}
+use Rattle.offset_times.proofs.InstantOrderLemmas.{seconds_between}
 use Rattle.offset_times.proofs.offset_date_time.OffsetDateTime.seconds_after.Goals as goal
 
 pub overflow_sub-seconds : goal.overflow_sub-seconds

@@ -1,7 +1,7 @@
 use Rattle.std.proofs.Common.{◌≡◌, ◌∙◌, rules, ap, arith, ℤ, pos, neg_ℤ, ◌<ℤ◌, int_cmp, to_z, of_z, w32, w64}
 use Rattle.calendar_values.specs.SignedArith.{signed_casts}
 use Rattle.offset_times.specs.Local.{instant_of}
-use Rattle.offset_times.proofs.OrderLemmas.{int_cmp-later, int_cmp-earlier}
+use Rattle.offset_times.proofs.InstantOrderLemmas.{int_cmp-later, int_cmp-earlier}
 use Rattle.offset_times.proofs.offset_date_time.OffsetDateTime.sign_after.Goals.{then-days-ltminus4-via-then-days-ltminus4}
 use Rattle.offset_times.proofs.offset_date_time.OffsetDateTime.sign_after.Goals.{then-days-ltminus4-via-else-days-ltminus4+then-days-gt4}
 use Rattle.offset_times.proofs.offset_date_time.OffsetDateTime.sign_after.Goals as goal

@@ -3,7 +3,7 @@ use Rattle.calendar_values.specs.Clock.{nanosecond_of}
 use Rattle.calendar_values.specs.SignedArith.{signed_casts}
 use Rattle.calendar_values.specs.WallClock.{wall_time}
 use Rattle.offset_times.specs.Local.{instant_of}
-use Rattle.offset_times.proofs.OrderLemmas.{instants_between, int_cmp-seconds, int_cmp-nanoseconds}
+use Rattle.offset_times.proofs.InstantOrderLemmas.{instants_between, int_cmp-seconds, int_cmp-nanoseconds}
 use Rattle.offset_times.proofs.offset_date_time.OffsetDateTime.sign_of_time_after.Goals as goal
 
 pub returns-then-seconds-eq0 : goal.returns-then-seconds-eq0

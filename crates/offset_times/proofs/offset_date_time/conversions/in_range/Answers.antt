@@ -1,8 +1,8 @@
 use Rattle.std.proofs.Common.{◌∙◌, ap, to_z-of_z, ℤ}
 use Rattle.calendar_values.specs.Calendar.{day_of_ordinal_date}
-use Rattle.calendar_values.specs.DayLaws.{IsDay-ordinal_date}
+use Rattle.calendar_values.specs.DayLemmas.{IsDay-ordinal_date}
 use Rattle.calendar_values.specs.WallClock.{wall_clock}
-use Rattle.calendar_values.specs.WallClockLaws.{IsWallClock-wall_clock}
+use Rattle.calendar_values.specs.WallClockLemmas.{IsWallClock-wall_clock}
 use Rattle.offset_times.proofs.LocalLemmas.{IsYear-wall_clock}
 use Rattle.offset_times.proofs.offset_date_time.conversions.in_range.Goals as goal
 

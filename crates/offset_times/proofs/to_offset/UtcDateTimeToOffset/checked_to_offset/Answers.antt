@@ -2,7 +2,7 @@ use Rattle.std.proofs.Common.{◌≡◌, rules, arith, sym, subst, ℤ, pos, to_
 use Rattle.std.proofs.lemmas.Int.{ints}
 use Rattle.calendar_values.specs.Calendar.{day_of_ordinal_date}
 use Rattle.calendar_values.specs.WallClock.{wall_clock, IsWallClock}
-use Rattle.offset_times.specs.Local.{instant_of, shown_at, local, local_at}
+use Rattle.offset_times.specs.Local.{instant_of, shown_at, wall_at, local_in_utc, local_at}
 use Rattle.offset_times.specs.InstantLemmas.{instant_of-local_at}
 use Rattle.offset_times.proofs.to_offset.UtcDateTimeToOffset.checked_to_offset.Goals as goal
 
@@ -16,9 +16,9 @@ returns-then-is_utc-clause-value c =
     let utc : c.args.offset ≡ pos 0 = search rules in
     let in_range : IsWallClock instant = search rules in
     let shown = shown_at-utc instant c.args.offset utc in
-    let made : c.from.result ≡ local instant (pos 0) = c.from.ensures.0 in (
+    let made : c.from.result ≡ local_in_utc instant = c.from.ensures.0 in (
       subst (λ (w : ℤ). IsWallClock w) (sym shown) in_range,
-      made ∙ ap (λ (w : ℤ). local w (pos 0)) (sym shown) ∙ ap (λ (o : ℤ). local (shown_at instant c.args.offset) o) (sym utc),
+      made ∙ ap (λ (w : ℤ). local_in_utc w) (sym shown) ∙ ap (λ (o : ℤ). wall_at (shown_at instant c.args.offset) o) (sym utc),
     )
 
 pub returns-in_err-in_range-clause-value : goal.returns-in_err-in_range-clause-value

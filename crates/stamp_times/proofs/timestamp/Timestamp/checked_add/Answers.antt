@@ -1,7 +1,7 @@
 use Rattle.std.proofs.Common.{◌≡◌, rules, to_z, of_z, w32, w64, ◌+ℤ◌}
 use Rattle.calendar_values.specs.Durations.{whole_seconds_of, subsec_nanoseconds_of}
 use Rattle.calendar_values.specs.WallClock.{unix_seconds_of}
-use Rattle.stamp_times.proofs.SumLemmas.{IsSplit-of, not_IsWallClock-large, SomeIff-parts}
+use Rattle.stamp_times.proofs.TimestampSumLemmas.{IsSplit-of, not_IsWallClock-large, SomeIff-parts}
 use Rattle.stamp_times.proofs.timestamp.Timestamp.checked_add.Goals as goal
 
 pub returns-in_err-seconds : goal.returns-in_err-seconds
@@ -15,4 +15,4 @@ pub returns : goal.returns
 returns c =
     let seconds : to_z w64 (of_z w64 c.in_ok-seconds.seconds) ≡ unix_seconds_of c.args.self +ℤ whole_seconds_of c.args.duration = search rules in
     let rest : to_z w32 (of_z w32 c.subsec_nanoseconds.result) ≡ subsec_nanoseconds_of c.args.duration = search rules in
-    SomeIff-parts _ _ _ _ _ _ _ _ (IsSplit-of c.args.duration) seconds c.nanosecond.ensures.value rest c.carried.ensures
+    SomeIff-parts _ _ _ _ _ _ _ _ (IsSplit-of c.args.duration) seconds c.nanosecond.ensures.value rest c.from_sum.ensures

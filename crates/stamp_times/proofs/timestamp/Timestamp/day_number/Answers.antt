@@ -1,8 +1,8 @@
 use Rattle.std.proofs.Common.{◌≡◌, ◌∙◌, rules, arith, to_z, of_z, w64}
 use Rattle.calendar_values.specs.SignedArith.{signed_casts}
 use Rattle.calendar_values.specs.WallClock.{wall_day, unix_seconds_of}
-use Rattle.calendar_values.specs.WallClockLaws.{IsDay-wall_day}
-use Rattle.stamp_times.proofs.InstantLemmas.{wall_day-second}
+use Rattle.calendar_values.specs.WallClockLemmas.{IsDay-wall_day}
+use Rattle.stamp_times.proofs.HeldInstantLemmas.{wall_day-second}
 use Rattle.stamp_times.proofs.timestamp.Timestamp.day_number.Goals as goal
 
 pub returns-clause-value : goal.returns-clause-value

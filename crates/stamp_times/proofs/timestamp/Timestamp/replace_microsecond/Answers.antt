@@ -5,4 +5,4 @@ use Rattle.stamp_times.proofs.timestamp.Timestamp.replace_microsecond.Goals as g
 
 pub returns-clause-shown : goal.returns-clause-shown
 returns-clause-shown c =
-    AtTime-nanosecond c.args.self c.at_nanosecond.result _ (c.args.microsecond * nanos_per_microsecond) (omega arith) refl c.at_nanosecond.ensures
+    AtTime-nanosecond c.args.self c.with_nanosecond.result _ (c.args.microsecond * nanos_per_microsecond) (omega arith) refl c.with_nanosecond.ensures

@@ -4,4 +4,4 @@ use Rattle.stamp_times.proofs.timestamp.Timestamp.replace_nanosecond.Goals as go
 
 pub returns-clause-shown : goal.returns-clause-shown
 returns-clause-shown c =
-    AtTime-nanosecond c.args.self c.at_nanosecond.result _ c.args.nanosecond (omega arith) refl c.at_nanosecond.ensures
+    AtTime-nanosecond c.args.self c.with_nanosecond.result _ c.args.nanosecond (omega arith) refl c.with_nanosecond.ensures

@@ -1,4 +1,5 @@
-use Rattle.std.proofs.Common.{to_z-of_z}
+use Rattle.std.proofs.Common.{rules, to_z-of_z}
+use Rattle.calendar_values.specs.Outcomes.{answer_within}
 use Rattle.plain_times.specs.ReplacementLemmas.{OnDate-year}
 use Rattle.stamp_times.proofs.timestamp.Timestamp.replace_year.Goals as goal
 
@@ -7,3 +8,7 @@ returns-clause-shown c =
     let accepted = rw (to_z-of_z c.ranges.year) at c.in_ok-replace_year.ensures.value in
     OnDate-year c.args.self c.replace_date.result c.date.result c.in_ok-replace_year.field-0 c.args.year c.date.ensures.value accepted.0 accepted.1
     c.replace_date.ensures.value
+
+pub returns-in_err-replace_year-clause-value : goal.returns-in_err-replace_year-clause-value
+unfolding answer_within
+returns-in_err-replace_year-clause-value c = record { value = search rules; refused = search rules; equation = search rules }

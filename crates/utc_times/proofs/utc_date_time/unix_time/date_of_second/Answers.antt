@@ -1,8 +1,8 @@
 use Rattle.std.proofs.Common.{◌≡◌, ◌/◌, arith, pos, ◌-ℤ◌, to_z, of_z}
-use Rattle.std.proofs.lemmas.Int.{ints, to_z-of_z, to_z_pos}
-use Rattle.std.specs.Int.{w32, w64}
+use Rattle.std.proofs.lemmas.Int.{to_z-of_z, to_z_pos}
+use Rattle.std.specs.Int.{w32, w64, int_div_euclid}
 use Rattle.calendar_values.specs.SignedArith.{signed_arith, signed_casts}
-use Rattle.utc_times.proofs.UnixLemmas.{IsDay-near, day_of_second, SomeIff-result_ok}
+use Rattle.utc_times.proofs.UnixLemmas.{IsDay-near, day_of_second}
 use Rattle.utc_times.proofs.utc_date_time.unix_time.date_of_second.Goals.{then-second-via-then-second}
 use Rattle.utc_times.proofs.utc_date_time.unix_time.date_of_second.Goals.{then-second-via-else-second+then-second-gt-SECONDS_BEFORE_1970}
 use Rattle.utc_times.proofs.utc_date_time.unix_time.date_of_second.Goals as goal
@@ -22,6 +22,6 @@ returns c =
     let second = to_z-of_z w64 c.args.second c.ranges.second in
     let day = day_of_second c.args.second n (rw second at c.seconds_from_start.ensures.value) in
     let cast : to_z w32 (n / 86_400) ≡ pos (n / 86_400) = to_z_pos w32 (n / 86_400) (omega arith) in
-    let julian_day : to_z w32 (of_z w32 (to_z w32 (n / 86_400) -ℤ pos 397_559_412)) ≡ pos (n / 86_400) -ℤ pos 397_559_412 =
-    omega (arith, signed_arith, cast) in
-    SomeIff-result_ok _ _ _ _ c.ok.ensures.value c.from_julian_day.ensures.value (omega (arith, ints, julian_day, day))
+    let days : to_z w32 (of_z w32 (to_z w32 (n / 86_400) -ℤ pos 400_000_000)) ≡ int_div_euclid c.args.second (pos 86_400) =
+    omega (arith, signed_arith, cast, day) in
+    rw days at c.from_days_since_epoch.ensures

@@ -1,4 +1,4 @@
-use Rattle.calendar_values.proofs.OrderLemmas.{cmp-ordinal_dates}
+use Rattle.calendar_values.proofs.DayOrderLemmas.{cmp-ordinal_dates}
 use Rattle.calendar_values.proofs.date.comparisons.DateOrd.cmp.Goals as goal
 
 pub returns : goal.returns

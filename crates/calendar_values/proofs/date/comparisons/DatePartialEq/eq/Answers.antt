@@ -1,6 +1,6 @@
 use Rattle.std.proofs.Common.{ap, arith, of_z, w32}
 use Rattle.std.proofs.lemmas.Bool.Decides.{nat_tests}
-use Rattle.calendar_values.proofs.OrderLemmas.{eq-ordinal_dates}
+use Rattle.calendar_values.proofs.DayOrderLemmas.{eq-ordinal_dates}
 use Rattle.calendar_values.proofs.date.comparisons.DatePartialEq.eq.Goals as goal
 
 pub returns-else-self-other : goal.returns-else-self-other

@@ -1,4 +1,4 @@
-use Rattle.stamp_times.proofs.OrderLemmas.{int_cmp-instant_of_parts}
+use Rattle.stamp_times.proofs.TimestampOrderLemmas.{int_cmp-instant_of_parts}
 use Rattle.stamp_times.proofs.timestamp.comparisons.TimestampOrd.cmp.Goals as goal
 
 pub returns : goal.returns

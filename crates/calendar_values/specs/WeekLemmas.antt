@@ -1,0 +1,58 @@
+-- The day of the week and the ISO week in closed form.
+use Rattle.std.proofs.Common.{◌≡◌, ℕ, zero, suc, ◌+◌, ◌-◌, ◌*◌, ◌/◌, ◌%◌, ◌<◌, refl, arith, ℤ, ◌+ℤ◌, pos}
+use Rattle.std.proofs.lemmas.Bool.Decides.{nat_tests}
+use borrow.Author.Differences.{up, down}
+use Rattle.calendar_values.specs.Calendar.{year_start, year_of, ordinal_of}
+use Rattle.calendar_values.specs.DayLemmas.{ordinal_of-start, IsOrdinalDate-of}
+use Rattle.calendar_values.specs.Range.{IsDay}
+use Rattle.calendar_values.specs.SignedArith.{signed_arith}
+use Rattle.calendar_values.specs.Weeks.{weekday_of, thursday_of, iso_week_of, count_weekday}
+
+-- the weekday of a day, in terms that `omega` reads
+pub weekday_of-parts : (n : ℤ) → weekday_of n ≡ (up n + 6 * down n + 3) % 7
+unfolding weekday_of
+weekday_of-parts n = omega (arith, signed_arith)
+
+pub weekday_of-bound : (n : ℤ) → weekday_of n < 7
+weekday_of-bound n = omega (arith, weekday_of-parts n)
+
+-- k days later the weekday has moved on by k
+pub weekday_of-add : (a b : ℤ) (k : ℕ) → b ≡ a +ℤ pos k → weekday_of b ≡ (weekday_of a + k) % 7
+weekday_of-add a b k e = omega (arith, signed_arith, weekday_of-parts a, weekday_of-parts b)
+
+-- of k days in a row each seventh falls on a day of the week
+pub count_weekday-closed : (w : ℕ) (first : ℤ) (k : ℕ) → w < 7 → count_weekday w first k ≡ (k + (weekday_of first + 13 - w) % 7) / 7
+unfolding count_weekday
+count_weekday-closed w first zero h = omega (arith, weekday_of-bound first)
+count_weekday-closed w first (suc k) h =
+    let here = weekday_of-add first (first +ℤ pos k) k refl in
+    let low = weekday_of-bound first in
+    let earlier = count_weekday-closed w first k h in
+    grind (arith, nat_tests)
+
+-- the weekday of a day, from that of 1 January
+pub weekday_of-ordinal : (n : ℤ) → weekday_of n ≡ (weekday_of (year_start (year_of n)) + (ordinal_of n - 1)) % 7
+weekday_of-ordinal n =
+    let place = IsOrdinalDate-of n in
+    weekday_of-add (year_start (year_of n)) n (ordinal_of n - 1) (omega (arith, signed_arith, ordinal_of-start n, place.first))
+
+-- the Thursday of a week is a Thursday
+pub weekday_of-thursday_of : (n : ℤ) → weekday_of (thursday_of n) ≡ 3
+weekday_of-thursday_of n = omega (arith, signed_arith, weekday_of-parts n, weekday_of-parts (thursday_of n))
+
+pub iso_week_of-closed : (n : ℤ) → iso_week_of n ≡ (ordinal_of (thursday_of n) + 6) / 7
+iso_week_of-closed n =
+    let t = thursday_of n in
+    let place = IsOrdinalDate-of t in
+    let moved = weekday_of-ordinal t in
+    omega (
+      arith,
+      place.first,
+      weekday_of-thursday_of n,
+      count_weekday-closed 3 (year_start (year_of t)) (ordinal_of t) (omega arith),
+      weekday_of-bound (year_start (year_of t)),
+    )
+
+-- the Thursday of the week of a day of the range lies in the range, which begins on a Monday and ends on a Friday
+pub IsDay-thursday_of : (n : ℤ) → IsDay n → IsDay (thursday_of n)
+IsDay-thursday_of n h = (omega (arith, signed_arith, weekday_of-parts n, h.0), omega (arith, signed_arith, weekday_of-parts n, h.1))

@@ -1,0 +1,43 @@
+//! Dates with a part replaced.
+ghost use Rattle.std.specs.Prelude.{◌<◌, ◌/◌};
+
+use crate::{ComponentRange, Date, Month};
+
+impl Date {
+    ghost use Rattle.calendar_values.specs.Month.{month_number};
+    ghost use Rattle.calendar_values.specs.Outcomes.{Gives};
+    ghost use Rattle.calendar_values.specs.Replacements.{year_outcome, month_outcome, day_outcome, ordinal_outcome};
+
+    /// The date with another year, and the month and the day of the month kept. Refused `year` before the
+    /// first year or after the last, and, conditionally, `day` for 29 February in a common year.
+    pub fn replace_year(self, year: i32) -> Result<Date, ComponentRange>
+        ensures { Gives result (year_outcome self year) }
+    {
+        let (month, day) = self.month_day();
+        Date::from_calendar_date(year, month, day)
+    }
+
+    /// The date with another month, and the year and the day of the month kept. Refused, conditionally,
+    /// `day` if the month is too short.
+    pub fn replace_month(self, month: Month) -> Result<Date, ComponentRange>
+        ensures { Gives result (month_outcome self (month_number month)) }
+    {
+        Date::from_calendar_date(self.year(), month, self.day())
+    }
+
+    /// The date with another day of the month. Refused `day` at 0 or above 31, or, conditionally, past
+    /// the end of the month.
+    pub fn replace_day(self, day: u8) -> Result<Date, ComponentRange>
+        ensures { Gives result (day_outcome self day) }
+    {
+        Date::from_calendar_date(self.year(), self.month(), day)
+    }
+
+    /// The date with another day of the year. Refused `ordinal` at 0 or above 366, or, conditionally,
+    /// at 366 in a common year.
+    pub fn replace_ordinal(self, ordinal: u16) -> Result<Date, ComponentRange>
+        ensures { Gives result (ordinal_outcome self ordinal) }
+    {
+        Date::from_ordinal_date(self.year(), ordinal)
+    }
+}

@@ -1,0 +1,17 @@
+//! The difference of two times of day.
+ghost use Rattle.std.specs.Prelude.{◌≡◌, ◌-◌, pos, ◌-ℤ◌};
+
+use crate::{SignedDuration, Time};
+use std::ops::Sub;
+
+impl Sub for Time {
+    type Output = SignedDuration;
+
+    ghost sub_gives = { λ a b difference. difference ≡ pos a -ℤ pos b };
+
+    fn sub(self, other: Time) -> SignedDuration {
+        SignedDuration::nanoseconds(
+            self.nanosecond_of_day() as i64 - other.nanosecond_of_day() as i64,
+        )
+    }
+}

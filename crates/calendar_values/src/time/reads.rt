@@ -1,0 +1,123 @@
+//! What a time of day shows.
+ghost use Rattle.std.specs.Prelude.{◌≡◌, ◌+◌, ◌-◌, ◌*◌, ◌/◌, ◌<◌, ◌≤◌};
+ghost use Rattle.calendar_values.specs.Clock.{IsClock, IsTimeOfDay, nanos_per_second, nanos_per_millisecond, nanos_per_microsecond, hour_of, minute_of, second_of, millisecond_of, microsecond_of, nanosecond_of};
+
+use crate::Time;
+use crate::units::NANOS_PER_SECOND;
+
+impl Time {
+    /// The hour, the minute and the second.
+    pub fn as_hms(self) -> (u8, u8, u8)
+        ensures value { result ≡ (hour_of self, minute_of self, second_of self) }
+        ensures in_range { IsTimeOfDay result.0 result.1 result.2 0 }
+    {
+        (self.hour, self.minute, self.second)
+    }
+
+    /// The hour, the minute, the second and the millisecond of the second.
+    pub fn as_hms_milli(self) -> (u8, u8, u8, u16)
+        ensures value { result ≡ (
+          hour_of self,
+          minute_of self,
+          second_of self,
+          millisecond_of self,
+        ) }
+        ensures in_range { IsTimeOfDay result.0 result.1 result.2
+            (result.3 * nanos_per_millisecond) }
+    {
+        (self.hour, self.minute, self.second, self.millisecond())
+    }
+
+    /// The hour, the minute, the second and the microsecond of the second.
+    pub fn as_hms_micro(self) -> (u8, u8, u8, u32)
+        ensures value { result ≡ (
+          hour_of self,
+          minute_of self,
+          second_of self,
+          microsecond_of self,
+        ) }
+        ensures in_range { IsTimeOfDay result.0 result.1 result.2
+            (result.3 * nanos_per_microsecond) }
+    {
+        (self.hour, self.minute, self.second, self.microsecond())
+    }
+
+    /// The hour, the minute, the second and the nanosecond of the second.
+    pub fn as_hms_nano(self) -> (u8, u8, u8, u32)
+        ensures value { result ≡ (
+          hour_of self,
+          minute_of self,
+          second_of self,
+          nanosecond_of self,
+        ) }
+        ensures in_range { IsTimeOfDay result.0 result.1 result.2 result.3 }
+    {
+        (self.hour, self.minute, self.second, self.nanosecond)
+    }
+
+    /// The hour, 0 to 23.
+    pub fn hour(self) -> u8
+        ensures value { result ≡ hour_of self }
+        ensures in_range { result ≤ 23 }
+    {
+        self.hour
+    }
+
+    /// The minute of the hour, 0 to 59.
+    pub fn minute(self) -> u8
+        ensures value { result ≡ minute_of self }
+        ensures in_range { result ≤ 59 }
+    {
+        self.minute
+    }
+
+    /// The second of the minute, 0 to 59.
+    pub fn second(self) -> u8
+        ensures value { result ≡ second_of self }
+        ensures in_range { result ≤ 59 }
+    {
+        self.second
+    }
+
+    /// The millisecond of the second, 0 to 999.
+    pub fn millisecond(self) -> u16
+        ensures value { result ≡ millisecond_of self }
+        ensures in_range { result ≤ 999 }
+    {
+        (self.nanosecond / 1_000_000) as u16
+    }
+
+    /// The microsecond of the second, 0 to 999,999.
+    pub fn microsecond(self) -> u32
+        ensures value { result ≡ microsecond_of self }
+        ensures in_range { result ≤ 999_999 }
+    {
+        self.nanosecond / 1_000
+    }
+
+    /// The nanosecond of the second, 0 to 999,999,999.
+    pub fn nanosecond(self) -> u32
+        ensures value { result ≡ nanosecond_of self }
+        ensures in_range { result ≤ 999_999_999 }
+    {
+        self.nanosecond
+    }
+
+    /// The second of the day, 0 to 86,399.
+    #[inline(always)]
+    pub fn second_of_day(self) -> u32
+        ensures value { result ≡ self / nanos_per_second }
+        ensures in_range { result < 86_400 }
+    {
+        (self.hour as u32 * 60 + self.minute as u32) * 60 + self.second as u32
+    }
+
+    /// The nanosecond of the day, 0 to 86,399,999,999,999.
+    #[inline(always)]
+    pub fn nanosecond_of_day(self) -> u64
+        ensures value { result ≡ self }
+        ensures self_in_range { IsClock self }
+    {
+        self.second_of_day() as u64 * NANOS_PER_SECOND as u64 + self.nanosecond as u64
+    }
+}

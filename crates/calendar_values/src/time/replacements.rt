@@ -1,0 +1,147 @@
+//! Times of day with a part replaced, or truncated to a unit of time.
+ghost use Rattle.std.specs.Prelude.{◌≡◌, ◌+◌, ◌-◌, ◌*◌, ◌/◌, ◌%◌, ◌<◌, ◌≤◌};
+ghost use Rattle.calendar_values.specs.Clock.{nanos_per_hour, nanos_per_minute, nanos_per_second, nanos_per_millisecond, nanos_per_microsecond};
+ghost use Rattle.calendar_values.specs.Outcomes.{Gives};
+ghost use Rattle.calendar_values.specs.Replacements.{hour_outcome, minute_outcome, second_outcome, millisecond_outcome, microsecond_outcome, nanosecond_outcome};
+ghost use Rattle.calendar_values.specs.Truncations.{multiple_below};
+
+use crate::{ComponentRange, Time};
+
+impl Time {
+    /// The same time with another hour. Refused `hour` above 23.
+    pub fn replace_hour(self, hour: u8) -> Result<Time, ComponentRange>
+        ensures { Gives result (hour_outcome self hour) }
+    {
+        if hour <= 23 {
+            Ok(Time { hour, ..self })
+        } else {
+            Err(ComponentRange::new("hour", false))
+        }
+    }
+
+    /// The first nanosecond of the hour that the time is in.
+    pub fn truncate_to_hour(self) -> Time
+        ensures value { result ≡ multiple_below nanos_per_hour self }
+        ensures not_above { result ≤ self }
+        ensures within { self < result + nanos_per_hour }
+    {
+        Time {
+            minute: 0,
+            second: 0,
+            nanosecond: 0,
+            ..self
+        }
+    }
+
+    /// The same time with another minute. Refused `minute` above 59.
+    pub fn replace_minute(self, minute: u8) -> Result<Time, ComponentRange>
+        ensures { Gives result (minute_outcome self minute) }
+    {
+        if minute <= 59 {
+            Ok(Time { minute, ..self })
+        } else {
+            Err(ComponentRange::new("minute", false))
+        }
+    }
+
+    /// The first nanosecond of the minute that the time is in.
+    pub fn truncate_to_minute(self) -> Time
+        ensures value { result ≡ multiple_below nanos_per_minute self }
+        ensures not_above { result ≤ self }
+        ensures within { self < result + nanos_per_minute }
+    {
+        Time {
+            second: 0,
+            nanosecond: 0,
+            ..self
+        }
+    }
+
+    /// The same time with another second. Refused `second` above 59.
+    pub fn replace_second(self, second: u8) -> Result<Time, ComponentRange>
+        ensures { Gives result (second_outcome self second) }
+    {
+        if second <= 59 {
+            Ok(Time { second, ..self })
+        } else {
+            Err(ComponentRange::new("second", false))
+        }
+    }
+
+    /// The first nanosecond of the second that the time is in.
+    pub fn truncate_to_second(self) -> Time
+        ensures value { result ≡ multiple_below nanos_per_second self }
+        ensures not_above { result ≤ self }
+        ensures within { self < result + nanos_per_second }
+    {
+        Time {
+            nanosecond: 0,
+            ..self
+        }
+    }
+
+    /// The same time with another millisecond of the second, and nothing finer. Refused `millisecond`
+    /// above 999.
+    pub fn replace_millisecond(self, millisecond: u16) -> Result<Time, ComponentRange>
+        ensures { Gives result (millisecond_outcome self millisecond) }
+    {
+        if millisecond <= 999 {
+            Ok(Time {
+                nanosecond: millisecond as u32 * 1_000_000,
+                ..self
+            })
+        } else {
+            Err(ComponentRange::new("millisecond", false))
+        }
+    }
+
+    /// The first nanosecond of the millisecond that the time is in.
+    pub fn truncate_to_millisecond(self) -> Time
+        ensures value { result ≡ multiple_below nanos_per_millisecond self }
+        ensures not_above { result ≤ self }
+        ensures within { self < result + nanos_per_millisecond }
+    {
+        Time {
+            nanosecond: self.nanosecond - self.nanosecond % 1_000_000,
+            ..self
+        }
+    }
+
+    /// The same time with another microsecond of the second, and nothing finer. Refused `microsecond`
+    /// above 999,999.
+    pub fn replace_microsecond(self, microsecond: u32) -> Result<Time, ComponentRange>
+        ensures { Gives result (microsecond_outcome self microsecond) }
+    {
+        if microsecond <= 999_999 {
+            Ok(Time {
+                nanosecond: microsecond * 1_000,
+                ..self
+            })
+        } else {
+            Err(ComponentRange::new("microsecond", false))
+        }
+    }
+
+    /// The first nanosecond of the microsecond that the time is in.
+    pub fn truncate_to_microsecond(self) -> Time
+        ensures value { result ≡ multiple_below nanos_per_microsecond self }
+        ensures not_above { result ≤ self }
+        ensures within { self < result + nanos_per_microsecond }
+    {
+        Time {
+            nanosecond: self.nanosecond - self.nanosecond % 1_000,
+            ..self
+        }
+    }
+
+    /// The same time with another nanosecond of the second. Refused `nanosecond` above 999,999,999.
+    pub fn replace_nanosecond(self, nanosecond: u32) -> Result<Time, ComponentRange>
+        ensures { Gives result (nanosecond_outcome self nanosecond) }
+    {
+        if nanosecond <= 999_999_999 {
+            Ok(Time { nanosecond, ..self })
+        } else {
+            Err(ComponentRange::new("nanosecond", false))
+        }
+    }
+}

@@ -1,0 +1,129 @@
+//! Sums of a time of day and a duration.
+ghost use Rattle.std.specs.Prelude.{◌≡◌, ◌+◌, ◌-◌, ◌*◌, ◌/◌, ◌%◌, ◌<◌, ◌==◌, ℤ, pos, neg_ℤ, ◌+ℤ◌, ◌-ℤ◌, ◌<ℤ◌};
+ghost use Rattle.std.specs.Duration.{as_nanos};
+ghost use Rattle.calendar_values.specs.Adjustments.{adjustment_days, days_later, days_earlier, subday_nanoseconds_of};
+ghost use Rattle.calendar_values.specs.Clock.{IsClock, nanos_per_day};
+ghost use Rattle.calendar_values.specs.Durations.{duration_of_parts};
+ghost use Rattle.calendar_values.specs.WallClock.{wall_clock};
+
+use crate::units::{NANOS_PER_DAY, NANOS_PER_SECOND, SECONDS_PER_DAY};
+use crate::{DateAdjustment, SignedDuration, Time};
+use std::time::Duration;
+
+impl Time {
+    /// The time after a duration whose whole days, rounded towards zero, are left out, and the day
+    /// that this time is on.
+    pub fn adjusting_add(self, duration: SignedDuration) -> (DateAdjustment, Time)
+        ensures sum { wall_clock (adjustment_days result.0) result.1 ≡ pos self +ℤ
+            subday_nanoseconds_of duration }
+        ensures in_range { IsClock result.1 }
+    {
+        self.moved_by(subday_nanoseconds(duration))
+    }
+
+    /// The time before a duration whose whole days, rounded towards zero, are left out, and the day
+    /// that this time is on.
+    pub fn adjusting_sub(self, duration: SignedDuration) -> (DateAdjustment, Time)
+        ensures difference { wall_clock (adjustment_days result.0) result.1 ≡ pos self -ℤ
+            subday_nanoseconds_of duration }
+        ensures in_range { IsClock result.1 }
+    {
+        self.moved_by(-subday_nanoseconds(duration))
+    }
+
+    /// The time after a duration whose whole days are left out, and whether it is on the next day.
+    pub fn adjusting_add_std(self, duration: Duration) -> (bool, Time)
+        ensures sum { wall_clock (days_later result.0) result.1 ≡ pos self +ℤ
+            pos (as_nanos duration % nanos_per_day) }
+        ensures in_range { IsClock result.1 }
+    {
+        let (adjustment, time) = self.moved_by(subday_nanoseconds_std(duration));
+        (adjustment == DateAdjustment::Next, time)
+    }
+
+    /// The time before a duration whose whole days are left out, and whether it is on the day before.
+    pub fn adjusting_sub_std(self, duration: Duration) -> (bool, Time)
+        ensures difference { wall_clock (days_earlier result.0) result.1 ≡ pos self -ℤ
+            pos (as_nanos duration % nanos_per_day) }
+        ensures in_range { IsClock result.1 }
+    {
+        let (adjustment, time) = self.moved_by(-subday_nanoseconds_std(duration));
+        (adjustment == DateAdjustment::Previous, time)
+    }
+
+    // The time at so many nanoseconds since midnight.
+    fn from_nanosecond_of_day(nanoseconds: u64) -> Time
+        requires { IsClock nanoseconds }
+        ensures { result ≡ nanoseconds }
+    {
+        let seconds = (nanoseconds / NANOS_PER_SECOND as u64) as u32;
+        Time {
+            hour: (seconds / 3_600) as u8,
+            minute: (seconds / 60 % 60) as u8,
+            second: (seconds % 60) as u8,
+            nanosecond: (nanoseconds % NANOS_PER_SECOND as u64) as u32,
+        }
+    }
+
+    // The time so many nanoseconds later, or earlier where they are negative, and the day it is on.
+    #[tactic(auto, using(crate::specs::SignedArith::signed_casts))]
+    fn moved_by(self, nanoseconds: i64) -> (DateAdjustment, Time)
+        requires low { neg_ℤ (pos nanos_per_day) <ℤ nanoseconds }
+        requires high { nanoseconds <ℤ pos nanos_per_day }
+        ensures sum { wall_clock (adjustment_days result.0) result.1 ≡ pos self +ℤ nanoseconds }
+        ensures in_range { IsClock result.1 }
+        ensures self_in_range { IsClock self }
+    {
+        let (adjustment, nanosecond) = within_day(self.nanosecond_of_day() as i64 + nanoseconds);
+        (adjustment, Time::from_nanosecond_of_day(nanosecond))
+    }
+}
+
+// The nanosecond of the day that so many nanoseconds from midnight lie at, and the day that it is on.
+#[inline(always)]
+#[tactic(auto, using(crate::specs::SignedArith::signed_casts))]
+fn within_day(nanoseconds: i64) -> (DateAdjustment, u64)
+    requires low { neg_ℤ (pos nanos_per_day) <ℤ nanoseconds }
+    requires high { nanoseconds <ℤ pos (2 * nanos_per_day) }
+    ensures sum { wall_clock (adjustment_days result.0) result.1 ≡ nanoseconds }
+    ensures in_range { IsClock result.1 }
+{
+    let from_previous = (nanoseconds + NANOS_PER_DAY) as u64;
+    let adjustment = match from_previous / NANOS_PER_DAY as u64 {
+        0 => DateAdjustment::Previous,
+        1 => DateAdjustment::Same,
+        _ => DateAdjustment::Next,
+    };
+    (adjustment, from_previous % NANOS_PER_DAY as u64)
+}
+
+// The nanoseconds that the whole days of a duration leave, of its sign.
+fn subday_nanoseconds(duration: SignedDuration) -> i64
+    ensures value { result ≡ subday_nanoseconds_of duration }
+    ensures low { neg_ℤ (pos nanos_per_day) <ℤ result }
+    ensures high { result <ℤ pos nanos_per_day }
+{
+    nanoseconds_of(
+        duration.whole_seconds() % SECONDS_PER_DAY,
+        duration.subsec_nanoseconds(),
+    )
+}
+
+// The nanoseconds of seconds that are less than a day, and of nanoseconds of a second.
+#[tactic(auto, using(crate::specs::SignedArith::signed_casts))]
+fn nanoseconds_of(seconds: i64, nanoseconds: i32) -> i64
+    requires low { neg_ℤ (pos 86_400) <ℤ seconds }
+    requires high { seconds <ℤ pos 86_400 }
+    ensures { result ≡ duration_of_parts seconds nanoseconds }
+{
+    seconds * NANOS_PER_SECOND as i64 + nanoseconds as i64
+}
+
+// The nanoseconds that the whole days of a duration leave.
+fn subday_nanoseconds_std(duration: Duration) -> i64
+    ensures value { result ≡ pos (as_nanos duration % nanos_per_day) }
+    ensures high { result <ℤ pos nanos_per_day }
+{
+    let seconds = duration.as_secs() % SECONDS_PER_DAY as u64;
+    (seconds * NANOS_PER_SECOND as u64 + duration.subsec_nanos() as u64) as i64
+}

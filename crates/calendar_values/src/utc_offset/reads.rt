@@ -1,0 +1,65 @@
+//! What an offset shows.
+ghost use Rattle.std.specs.Prelude.{◌≡◌, ℤ, pos, unsigned_abs, ◌+◌, ◌<◌, ◌≤◌, ◌↔◌, IsTrue, ◌<ℤ◌};
+ghost use Rattle.calendar_values.specs.Offsets.{IsOffset, IsOffsetParts, seconds_of_parts, offset_hours_of, offset_minutes_of, offset_seconds_of};
+
+use crate::UtcOffset;
+use crate::units::SECONDS_PER_HOUR;
+
+impl UtcOffset {
+    /// The hours, -25 to 25, and the minutes and the seconds, -59 to 59, all of one sign.
+    pub fn as_hms(self) -> (i8, i8, i8)
+        ensures hours { result.0 ≡ offset_hours_of self }
+        ensures minutes { result.1 ≡ offset_minutes_of self }
+        ensures seconds { result.2 ≡ offset_seconds_of self }
+        ensures in_range { IsOffsetParts result.0 result.1 result.2 }
+        ensures parts { seconds_of_parts result.0 result.1 result.2 ≡ self }
+    {
+        (self.hours, self.minutes, self.seconds)
+    }
+
+    /// The whole hours, rounded towards zero: -25 to 25.
+    pub fn whole_hours(self) -> i8
+        ensures value { result ≡ offset_hours_of self }
+        ensures in_range { unsigned_abs result ≤ 25 }
+    {
+        self.hours
+    }
+
+    /// The minutes past the hour, of the sign of the offset: -59 to 59.
+    pub fn minutes_past_hour(self) -> i8
+        ensures value { result ≡ offset_minutes_of self }
+        ensures in_range { unsigned_abs result ≤ 59 }
+    {
+        self.minutes
+    }
+
+    /// The seconds past the minute, of the sign of the offset: -59 to 59.
+    pub fn seconds_past_minute(self) -> i8
+        ensures value { result ≡ offset_seconds_of self }
+        ensures in_range { unsigned_abs result ≤ 59 }
+    {
+        self.seconds
+    }
+
+    /// The offset in seconds, -93,599 to 93,599.
+    pub fn whole_seconds(self) -> i32
+        ensures value { result ≡ self }
+        ensures self_in_range { IsOffset self }
+    {
+        self.hours as i32 * SECONDS_PER_HOUR + self.minutes as i32 * 60 + self.seconds as i32
+    }
+
+    /// Whether the offset is 0.
+    pub fn is_utc(self) -> bool
+        ensures { IsTrue result ↔ (self ≡ pos 0) }
+    {
+        self.whole_seconds() == 0
+    }
+
+    /// Whether the offset is below 0.
+    pub fn is_negative(self) -> bool
+        ensures { IsTrue result ↔ (self <ℤ pos 0) }
+    {
+        self.whole_seconds() < 0
+    }
+}

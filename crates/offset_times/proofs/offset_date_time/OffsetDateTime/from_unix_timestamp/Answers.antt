@@ -1,0 +1,11 @@
+use Rattle.std.proofs.Common.{rules}
+use Rattle.calendar_values.specs.Outcomes.{answer_within}
+use Rattle.offset_times.proofs.offset_date_time.OffsetDateTime.from_unix_timestamp.Goals as goal
+
+pub returns-in_err-from_unix_timestamp-clause-value : goal.returns-in_err-from_unix_timestamp-clause-value
+unfolding answer_within
+returns-in_err-from_unix_timestamp-clause-value c = record { value = search rules; refused = search rules; equation = search rules }
+
+pub returns-clause-value : goal.returns-clause-value
+unfolding answer_within
+returns-clause-value c = record { value = search rules; refused = search rules; equation = search rules }

@@ -1,0 +1,59 @@
+//! Date-times with an offset beside those in UTC.
+ghost use Rattle.std.specs.Prelude.{◌≡◌, pos, ◌-ℤ◌};
+ghost use Rattle.std.specs.Ordering.{int_eq, int_cmp};
+ghost use Rattle.offset_times.specs.Local.{instant_of, local_in_utc};
+
+use crate::OffsetDateTime;
+use calendar_values::SignedDuration;
+use std::cmp::Ordering;
+use std::ops::Sub;
+use utc_times::UtcDateTime;
+
+impl OffsetDateTime {
+    /// Whether the instant is that of a date-time in UTC, also where its date in UTC does not exist.
+    #[tactic(auto, using(crate::specs::InstantLemmas::instants))]
+    pub fn eq_utc(self, other: UtcDateTime) -> bool
+        ensures { result ≡ int_eq (instant_of self) other }
+    {
+        self == OffsetDateTime::from(other)
+    }
+
+    /// The order of the instant and that of a date-time in UTC.
+    #[tactic(auto, using(crate::specs::InstantLemmas::instants))]
+    pub fn cmp_utc(self, other: UtcDateTime) -> Ordering
+        ensures { result ≡ int_cmp (instant_of self) other }
+    {
+        self.cmp(&OffsetDateTime::from(other))
+    }
+}
+
+impl From<UtcDateTime> for OffsetDateTime {
+    ghost from_gives = { λ instant at. (at ≡ local_in_utc instant) × (instant_of at ≡ instant) };
+
+    #[tactic(auto, using(crate::specs::InstantLemmas::instants))]
+    fn from(at: UtcDateTime) -> OffsetDateTime {
+        OffsetDateTime::new_utc(at.date(), at.time())
+    }
+}
+
+impl Sub<UtcDateTime> for OffsetDateTime {
+    type Output = SignedDuration;
+
+    ghost sub_gives = { λ at other difference. difference ≡ instant_of at -ℤ other };
+
+    #[tactic(auto, using(crate::specs::InstantLemmas::instants))]
+    fn sub(self, other: UtcDateTime) -> SignedDuration {
+        self - OffsetDateTime::from(other)
+    }
+}
+
+impl Sub<OffsetDateTime> for UtcDateTime {
+    type Output = SignedDuration;
+
+    ghost sub_gives = { λ at other difference. difference ≡ at -ℤ instant_of other };
+
+    #[tactic(auto, using(crate::specs::InstantLemmas::instants))]
+    fn sub(self, other: OffsetDateTime) -> SignedDuration {
+        OffsetDateTime::from(self) - other
+    }
+}

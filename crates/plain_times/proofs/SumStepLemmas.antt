@@ -1,0 +1,134 @@
+-- A wall clock moves by the whole days of a duration and by what they leave.
+use Rattle.std.proofs.Common.{◌≡◌, ◌↔◌, refl, sym, Bool, true, false, cond, not, IsTrue, ℕ, ◌/◌, ◌%◌, arith, ℤ, pos, negsuc, neg_ℤ, ◌+ℤ◌, ◌-ℤ◌, ◌*ℤ◌, ◌≤ℤ◌}
+use Rattle.std.proofs.Common.{◌<ℤ◌, Option, None, SomeIff}
+use Rattle.std.proofs.lemmas.Int.{ints, by_lt_z}
+use Rattle.calendar_values.specs.Adjustments.{subday_nanoseconds_of}
+use Rattle.calendar_values.specs.Clock.{IsClock, nanos_per_day}
+use Rattle.calendar_values.specs.Durations.{whole_days_of, IsDuration}
+use Rattle.calendar_values.specs.Range.{IsDay}
+use Rattle.calendar_values.specs.WallClock.{wall_clock, wall_day, wall_time, first_wall_clock, last_wall_clock, IsWallClock}
+use Rattle.calendar_values.specs.WallClockLemmas.{wall_clock-parts, IsClock-wall_time}
+use Rattle.plain_times.specs.Sums.{nearest_wall_clock}
+use Rattle.plain_times.specs.SumLemmas.{nearest_wall_clock-is, nearest_wall_clock-before, nearest_wall_clock-after}
+
+-- whole days, and nanoseconds of no opposite sign, that together are the duration
+pub record Splits (d days rest : ℤ) : Type 0 where
+  pub sum : (days *ℤ pos nanos_per_day) +ℤ rest ≡ d
+  pub later : pos 0 <ℤ days → pos 0 ≤ℤ rest
+  pub earlier : days <ℤ pos 0 → rest ≤ℤ pos 0
+
+pub Splits-of : (d : ℤ) → Splits d (whole_days_of d) (subday_nanoseconds_of d)
+unfolding whole_days_of subday_nanoseconds_of
+Splits-of (pos n) = record { sum = omega (arith, ints); later = λ h. omega (arith, ints); earlier = λ h. omega (arith, ints) }
+Splits-of (negsuc n) = record { sum = omega (arith, ints); later = λ h. omega (arith, ints); earlier = λ h. omega (arith, ints) }
+
+pub Splits-neg : (d days rest : ℤ) → Splits d days rest → Splits (neg_ℤ d) (neg_ℤ days) (neg_ℤ rest)
+Splits-neg d days rest s = record { sum = omega (arith, ints); later = λ h. omega (arith, ints); earlier = λ h. omega (arith, ints) }
+
+pub Splits-std : (n : ℕ) → Splits (pos n) (pos (n / nanos_per_day)) (pos (n % nanos_per_day))
+Splits-std n = record { sum = omega (arith, ints); later = λ h. omega (arith, ints); earlier = λ h. omega (arith, ints) }
+
+-- so many days have so many whole days
+pub whole_days_of-days : (d k : ℤ) → d ≡ k *ℤ pos nanos_per_day → whole_days_of d ≡ k
+unfolding whole_days_of
+whole_days_of-days (pos n) k e = omega (arith, ints)
+whole_days_of-days (negsuc n) k e = omega (arith, ints)
+
+-- where the whole days alone leave the range, so does the sum
+pub not_IsDay-days : (w d n days rest : ℤ) (c : ℕ) (r : Option ℤ) → n ≡ wall_day w → IsWallClock w → Splits d days rest
+    → (IsDay (n +ℤ days) → ⊥) → r ≡ None → SomeIff r (IsWallClock (w +ℤ d)) (w +ℤ d)
+not_IsDay-days w d n days rest c r day range splits not e =
+    let parts = wall_clock-parts w in
+    let clock = IsClock-wall_time w in
+    let sum = splits.sum in
+    rw e (λ h. not (
+    by_lt_z days (pos 0)
+    (λ negative. let rest_is = splits.earlier negative in (omega (arith, ints), omega (arith, ints)))
+    (λ from_zero. by_lt_z (pos 0) days
+    (λ positive. let rest_is = splits.later positive in (omega (arith, ints), omega (arith, ints)))
+    (λ to_zero. (omega (arith, ints), omega (arith, ints))))))
+
+-- a duration that is added to a wall clock w of the day n: its whole days lead to the day `moved` of the range, and
+-- what they leave leads to the clock t, k days further
+pub record Leads (w d n days moved k : ℤ) (t : ℕ) : Type 0 where
+  pub day : n ≡ wall_day w
+  pub moves : moved ≡ n +ℤ days
+  pub sum : wall_clock k t +ℤ (days *ℤ pos nanos_per_day) ≡ pos (wall_time w) +ℤ d
+  pub clock : IsClock t
+
+pub Leads-of : (w d n days moved rest k : ℤ) (c t : ℕ) → n ≡ wall_day w → c ≡ wall_time w → Splits d days rest
+    → IsDay (n +ℤ days) × (moved ≡ n +ℤ days) → wall_clock k t ≡ pos c +ℤ rest → IsClock t → Leads w d n days moved k t
+Leads-of w d n days moved rest k c t day time splits is led clock =
+    let sum = splits.sum in record { day = day; moves = is.1; sum = omega (arith, ints); clock = clock }
+
+-- the sum is refused where the day that it falls on is out of the range
+pub not_IsDay-step : (w d n days moved k : ℤ) (t : ℕ) (r : Option ℤ) → Leads w d n days moved k t
+    → (IsDay (moved +ℤ k) → ⊥) → r ≡ None → SomeIff r (IsWallClock (w +ℤ d)) (w +ℤ d)
+not_IsDay-step w d n days moved k t r leads not e =
+    let parts = wall_clock-parts w in
+    let day = leads.day in
+    let moves = leads.moves in
+    let sum = leads.sum in
+    let clock = leads.clock in
+    rw e (λ h. not (omega (arith, ints), omega (arith, ints)))
+
+-- otherwise it is the wall clock of that day and the clock
+pub IsWallClock-sum : (w d n days moved k date v : ℤ) (t : ℕ) → Leads w d n days moved k t
+    → IsDay (moved +ℤ k) × (date ≡ moved +ℤ k) → v ≡ wall_clock date t → IsWallClock (w +ℤ d) × (v ≡ w +ℤ d)
+IsWallClock-sum w d n days moved k date v t leads stepped e =
+    let parts = wall_clock-parts w in
+    let day = leads.day in
+    let moves = leads.moves in
+    let sum = leads.sum in
+    let clock = leads.clock in
+    let inside = stepped.0 in
+    let result = stepped.1 in
+    ((omega (arith, ints), omega (arith, ints)), omega (arith, ints))
+
+-- a sum that is refused lies in the direction of the duration
+nearest_wall_clock-earlier : (w d : ℤ) → IsWallClock w → (IsWallClock (w +ℤ d) → ⊥) → d ≤ℤ pos 0 → nearest_wall_clock (w +ℤ d) ≡ first_wall_clock
+nearest_wall_clock-earlier w d h not negative =
+    by_lt_z
+    (w +ℤ d)
+    first_wall_clock
+    (λ before. nearest_wall_clock-before (w +ℤ d) before)
+    (λ from_first. absurd (not (from_first, omega (arith, ints))))
+
+nearest_wall_clock-later : (w d : ℤ) → IsWallClock w → (IsWallClock (w +ℤ d) → ⊥) → pos 0 ≤ℤ d → nearest_wall_clock (w +ℤ d) ≡ last_wall_clock
+nearest_wall_clock-later w d h not positive =
+    by_lt_z
+    last_wall_clock
+    (w +ℤ d)
+    (λ after. nearest_wall_clock-after (w +ℤ d) after)
+    (λ to_last. absurd (not (omega (arith, ints), to_last)))
+
+-- the end of the range that a sum is brought to, by the sign of the duration
+pub nearest_wall_clock-sum : (w d : ℤ) (is_negative : Bool) → IsWallClock w → (IsWallClock (w +ℤ d) → ⊥) → (IsTrue is_negative ↔ (d <ℤ pos 0)) →
+    cond is_negative first_wall_clock last_wall_clock ≡ nearest_wall_clock (w +ℤ d)
+nearest_wall_clock-sum w d true h not sign = let lt : d <ℤ pos 0 = sign.0 refl in sym (nearest_wall_clock-earlier w d h not (omega (arith, ints)))
+nearest_wall_clock-sum w d false h not sign =
+    sym (nearest_wall_clock-later w d h not (by_lt_z d (pos 0) (λ lt. let no : false ≡ true = sign.1 lt in cc) (λ ge. ge)))
+
+-- and a difference
+pub nearest_wall_clock-difference : (w d : ℤ) (is_negative : Bool) → IsWallClock w → (IsWallClock (w -ℤ d) → ⊥) → (IsTrue is_negative ↔ (d <ℤ pos 0)) →
+    cond (not is_negative) first_wall_clock last_wall_clock ≡ nearest_wall_clock (w -ℤ d)
+nearest_wall_clock-difference w d true h not sign =
+    let lt : d <ℤ pos 0 = sign.0 refl in sym (nearest_wall_clock-later w (neg_ℤ d) h not (omega (arith, ints)))
+nearest_wall_clock-difference w d false h not sign =
+    let ge : pos 0 ≤ℤ d = by_lt_z d (pos 0) (λ lt. let no : false ≡ true = sign.1 lt in cc) (λ ge. ge) in
+    sym (nearest_wall_clock-earlier w (neg_ℤ d) h not (omega (arith, ints)))
+
+-- a sum that is accepted stays as it is
+pub nearest_wall_clock-accepted : (w v : ℤ) → IsWallClock w → v ≡ w → v ≡ nearest_wall_clock w
+nearest_wall_clock-accepted w v h e = nearest_wall_clock-is w v (h, e)
+
+pub ruleset saturations = (ints, nearest_wall_clock-accepted)
+
+-- the difference of two wall clocks is that of their days and of their times
+pub wall_clock-difference : (v w m n days rest : ℤ) (c t : ℕ) → m ≡ wall_day v → n ≡ wall_day w → c ≡ wall_time v → t ≡ wall_time w →
+    days ≡ (m -ℤ n) *ℤ pos nanos_per_day → rest ≡ pos c -ℤ pos t → days +ℤ rest ≡ v -ℤ w
+wall_clock-difference v w m n days rest c t first second clock other date time = let left = wall_clock-parts v in let right = wall_clock-parts w in
+    omega (arith, ints)
+
+pub IsDuration-difference : (v w : ℤ) → IsWallClock v → IsWallClock w → IsDuration (v -ℤ w)
+IsDuration-difference v w h k = (omega (arith, ints), omega (arith, ints))

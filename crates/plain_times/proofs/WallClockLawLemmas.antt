@@ -1,0 +1,44 @@
+-- Sums and differences undo one another, and a replacement keeps the rest.
+use Rattle.std.proofs.Common.{◌≡◌, ℕ, refl, sym, ◌∙◌, ap, arith, ℤ, ◌+ℤ◌, ◌-ℤ◌, Option, Some, SomeIff}
+use Rattle.std.proofs.lemmas.Int.{ints}
+use Rattle.calendar_values.specs.Clock.{IsClock}
+use Rattle.calendar_values.specs.WallClock.{wall_clock, wall_day, wall_time, IsWallClock}
+use Rattle.calendar_values.specs.WallClockLemmas.{wall_clock-parts, IsClock-wall_time, wall_day-wall_clock, wall_time-wall_clock}
+use Rattle.plain_times.specs.Laws.{IsOnlyWallClock, ReplacementsKeepTheRest}
+use Rattle.plain_times.specs.Replacements.{with_date, with_time}
+use Rattle.plain_times.specs.Sums.{wall_clock_if_any}
+use Rattle.plain_times.specs.SumLemmas.{wall_clock_if_any-in, wall_clock_if_any-SomeIff}
+
+pub difference-undoes_sum : (w d sum : ℤ) (back : Option ℤ) → IsWallClock w → SomeIff (Some sum) (IsWallClock (w +ℤ d)) (w +ℤ d)
+    → SomeIff back (IsWallClock (sum -ℤ d)) (sum -ℤ d) → back ≡ Some w
+difference-undoes_sum w d sum back h accepted answer =
+    let sum_is : sum ≡ w +ℤ d = accepted.1 in
+    let undone : sum -ℤ d ≡ w = omega (arith, ints) in
+    wall_clock_if_any-SomeIff back (sum -ℤ d) answer ∙ ap wall_clock_if_any undone ∙ wall_clock_if_any-in w h
+
+pub difference-leads_back : (a b : ℤ) (sum : Option ℤ) → IsWallClock a → IsWallClock b
+    → SomeIff sum (IsWallClock (b +ℤ (a -ℤ b))) (b +ℤ (a -ℤ b)) → sum ≡ Some a
+difference-leads_back a b sum h k answer =
+    let there : b +ℤ (a -ℤ b) ≡ a = omega (arith, ints) in
+    wall_clock_if_any-SomeIff sum (b +ℤ (a -ℤ b)) answer ∙ ap wall_clock_if_any there ∙ wall_clock_if_any-in a h
+
+same_wall_clock : (m n : ℤ) (c d : ℕ) → m ≡ n → c ≡ d → wall_clock m c ≡ wall_clock n d
+same_wall_clock m n c d e f = rw (e, f) refl
+
+IsOnlyWallClock-wall_clock : (n : ℤ) (c : ℕ) → IsClock c → IsOnlyWallClock (wall_clock n c) n c
+IsOnlyWallClock-wall_clock n c clock = record {
+  day = wall_day-wall_clock n c clock;
+  time = wall_time-wall_clock n c clock;
+  only = λ v day time. sym (wall_clock-parts v) ∙ same_wall_clock (wall_day v) n (wall_time v) c day time;
+}
+
+IsOnlyWallClock-with_date : (w n : ℤ) → IsOnlyWallClock (with_date w n) n (wall_time w)
+unfolding with_date
+IsOnlyWallClock-with_date w n = IsOnlyWallClock-wall_clock n (wall_time w) (IsClock-wall_time w)
+
+IsOnlyWallClock-with_time : (w : ℤ) (c : ℕ) → IsClock c → IsOnlyWallClock (with_time w c) (wall_day w) c
+unfolding with_time
+IsOnlyWallClock-with_time w c clock = IsOnlyWallClock-wall_clock (wall_day w) c clock
+
+pub replacements_keep_the_rest : ReplacementsKeepTheRest
+replacements_keep_the_rest = record { date = IsOnlyWallClock-with_date; time = IsOnlyWallClock-with_time }
