@@ -1,5 +1,5 @@
 -- What an accepted date says of its parts.
-use Rattle.std.proofs.Common.{◌≡◌, ℕ, ◌≤◌, Bool, true, false, ◌||◌, ◌==◌, cond, refl, arith, sym, ◌∙◌, ℤ, Result, Ok, Err, nat_lt}
+use Rattle.std.proofs.Common.{◌≡◌, ℕ, ◌≤◌, Bool, true, false, ◌||◌, ◌==◌, cond, refl, arith, sym, ◌∙◌, ℤ, Ok, Err, nat_lt}
 use Rattle.std.proofs.lemmas.Bool.Decides.{nat_tests}
 use Rattle.calendar_values.specs.Calendar.{is_leap_year, days_in_year, days_in_month, year_of, month_of, day_of_month_of, day_of_calendar_date}
 use Rattle.calendar_values.specs.Calendar.{day_of_ordinal_date, IsCalendarDate, IsOrdinalDate}

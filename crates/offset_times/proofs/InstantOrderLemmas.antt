@@ -11,6 +11,7 @@ use Rattle.calendar_values.specs.WallClockLemmas.{wall_clock-parts, IsClock-wall
 use Rattle.calendar_values.specs.YearLemmas.{year_start-later, year_start-next, days_in_year_bounds}
 use Rattle.offset_times.specs.Local.{Local, IsLocal, instant_of, offset_nanos}
 use Rattle.plain_times.specs.Packed.{packed_parts, packed_wall_clock}
+use Rattle.plain_times.specs.PackedLemmas.{int_cmp_agrees}
 
 -- dates that lie more than four days apart, were each year of 366, lie more than three apart
 later_date : (y z : ℤ) (o p : ℕ) → IsOrdinalDate y o → IsOrdinalDate z p → pos 4 <ℤ ((y -ℤ z) *ℤ pos 366 +ℤ pos o -ℤ pos p) →
@@ -39,9 +40,6 @@ later_by_dates a b h k far =
     (later_date _ _ _ _ (IsOrdinalDate-of (wall_day a.wall)) (IsOrdinalDate-of (wall_day b.wall)) far) in
     rw (wall_clock-parts a.wall, wall_clock-parts b.wall) at (later_instant (wall_day b.wall) (wall_day a.wall) a.offset b.offset (wall_time a.wall)
     (wall_time b.wall) days (IsClock-wall_time b.wall) h.1 k.1)
-
-int_cmp_agrees : (a b x y : ℤ) → (a <ℤ b → x <ℤ y) → (b <ℤ a → y <ℤ x) → (a ≡ b → x ≡ y) → int_cmp a b ≡ int_cmp x y
-int_cmp_agrees a b x y l g s = grind (arith, ints)
 
 -- a number of the sign that tells the earlier from the later compares with 0 as they do
 pub int_cmp-later : (d i j : ℤ) → pos 0 <ℤ d → j <ℤ i → int_cmp d (pos 0) ≡ int_cmp i j

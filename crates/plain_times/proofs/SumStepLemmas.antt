@@ -4,7 +4,7 @@ use Rattle.std.proofs.Common.{◌<ℤ◌, Option, None, SomeIff}
 use Rattle.std.proofs.lemmas.Int.{ints, by_lt_z}
 use Rattle.calendar_values.specs.Adjustments.{subday_nanoseconds_of}
 use Rattle.calendar_values.specs.Clock.{IsClock, nanos_per_day}
-use Rattle.calendar_values.specs.Durations.{whole_days_of, IsDuration}
+use Rattle.calendar_values.specs.Durations.{whole_days_of}
 use Rattle.calendar_values.specs.Range.{IsDay}
 use Rattle.calendar_values.specs.WallClock.{wall_clock, wall_day, wall_time, first_wall_clock, last_wall_clock, IsWallClock}
 use Rattle.calendar_values.specs.WallClockLemmas.{wall_clock-parts, IsClock-wall_time}
@@ -129,6 +129,3 @@ pub wall_clock-difference : (v w m n days rest : ℤ) (c t : ℕ) → m ≡ wall
     days ≡ (m -ℤ n) *ℤ pos nanos_per_day → rest ≡ pos c -ℤ pos t → days +ℤ rest ≡ v -ℤ w
 wall_clock-difference v w m n days rest c t first second clock other date time = let left = wall_clock-parts v in let right = wall_clock-parts w in
     omega (arith, ints)
-
-pub IsDuration-difference : (v w : ℤ) → IsWallClock v → IsWallClock w → IsDuration (v -ℤ w)
-IsDuration-difference v w h k = (omega (arith, ints), omega (arith, ints))

@@ -51,7 +51,8 @@ packed_parts-same y z o p c d h k same =
     (λ gt. absurd (omega (arith, ints, later_year_packed z y p o d c k h gt)))
     (λ le. let e : z ≡ y = omega (arith, ints) in rw e (same_parts y o p c d h (rw e at k) (rw e at same))))
 
-int_cmp_agrees : (a b x y : ℤ) → (a <ℤ b → x <ℤ y) → (b <ℤ a → y <ℤ x) → (a ≡ b → x ≡ y) → int_cmp a b ≡ int_cmp x y
+-- two comparisons that agree wherever they come out
+pub int_cmp_agrees : (a b x y : ℤ) → (a <ℤ b → x <ℤ y) → (b <ℤ a → y <ℤ x) → (a ≡ b → x ≡ y) → int_cmp a b ≡ int_cmp x y
 int_cmp_agrees a b x y l g s = grind (arith, ints)
 
 -- so parts compare as their wall clocks do

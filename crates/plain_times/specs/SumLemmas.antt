@@ -1,7 +1,8 @@
 -- Where sums are accepted.
-use Rattle.std.proofs.Common.{◌≡◌, sym, ap, ◌∙◌, arith, ℤ, pos, ◌+ℤ◌, ◌≤ℤ◌, ◌<ℤ◌, Option, Some, None, SomeIff}
+use Rattle.std.proofs.Common.{◌≡◌, sym, ap, ◌∙◌, arith, ℤ, pos, ◌+ℤ◌, ◌-ℤ◌, ◌≤ℤ◌, ◌<ℤ◌, Option, Some, None, SomeIff}
 use Rattle.std.proofs.lemmas.Int.{ints, by_lt_z}
-use Rattle.calendar_values.specs.WallClock.{wall_clock, first_wall_clock, last_wall_clock, IsWallClock}
+use Rattle.calendar_values.specs.Durations.{IsDuration}
+use Rattle.calendar_values.specs.WallClock.{first_wall_clock, last_wall_clock, IsWallClock}
 use Rattle.plain_times.specs.Sums.{wall_clock_if_any, nearest_wall_clock}
 
 pub wall_clock_if_any-in : (w : ℤ) → IsWallClock w → wall_clock_if_any w ≡ Some w
@@ -52,3 +53,7 @@ nearest_wall_clock-not_below w d v h e earlier =
     by_lt_z (w +ℤ d) first_wall_clock
     (λ before. let first = e ∙ nearest_wall_clock-before (w +ℤ d) before in omega (arith, ints))
     (λ from_first. let inside = e ∙ nearest_wall_clock-in (w +ℤ d) (from_first, omega (arith, ints)) in omega (arith, ints))
+
+-- the time between two wall clocks of the range is a duration
+pub IsDuration-difference : (v w : ℤ) → IsWallClock v → IsWallClock w → IsDuration (v -ℤ w)
+IsDuration-difference v w h k = (omega (arith, ints), omega (arith, ints))

@@ -17,7 +17,8 @@ use Rattle.calendar_values.specs.DigitCountLemmas.{length-last_digits}
 use Rattle.rfc3339.specs.declared.parts.Parts.{Parts}
 use Rattle.rfc3339.specs.Form.{IsFraction, IsOffsetText, IsDateTime}
 use Rattle.rfc3339.specs.Meaning.{AreInRange, offset_of, value_of, meaning}
-use Rattle.rfc3339.specs.Texts.{HasText, HasFixedText, parts_of, fraction_text, offset_text, rfc3339_text, fixed_text}
+use Rattle.stamp_times.specs.Texts.{fraction_text}
+use Rattle.rfc3339.specs.Texts.{HasText, HasFixedText, parts_of, time_offset_text, rfc3339_text, fixed_text}
 use Rattle.rfc3339.proofs.MeaningLemmas.{meaning-in_range, ok_is}
 use Rattle.rfc3339.proofs.TextLemmas.{one_reading}
 use Rattle.rfc3339.proofs.WrittenDigits.{last_digits-are, fraction_digits-are, fraction_digits-some, fraction_value-nine, fraction_value-nanosecond}
@@ -48,8 +49,8 @@ offset_of_zero o true t =
     inl (inl refl, ap (λ (z : ℤ). int_lt z (pos 0)) (zero_offset o none), omega arith, omega arith)
 offset_of_zero o false t = inr refl
 
-pub IsOffsetText-text : (o : ℤ) → IsOffsetText (offset_text o) (int_lt o (pos 0)) (unsigned_abs o / 3_600) (unsigned_abs o / 60 % 60)
-unfolding offset_text
+pub IsOffsetText-text : (o : ℤ) → IsOffsetText (time_offset_text o) (int_lt o (pos 0)) (unsigned_abs o / 3_600) (unsigned_abs o / 60 % 60)
+unfolding time_offset_text
 IsOffsetText-text o = offset_of_zero o (nat_eq (unsigned_abs o) 0) refl
 
 offset_of-parts : (o : ℤ) → unsigned_abs o % 60 ≡ 0 → offset_of (int_lt o (pos 0)) (unsigned_abs o / 3_600) (unsigned_abs o / 60 % 60) ≡ o
@@ -113,7 +114,7 @@ IsDateTime-text at h =
     record {
       separator = 84;
       fraction = fraction_text (nanosecond_of clock);
-      offset = offset_text at.offset;
+      offset = time_offset_text at.offset;
       spelled = refl;
       is_separator = refl;
       is_fraction = IsFraction-text (nanosecond_of clock) (omega arith);

@@ -2,7 +2,8 @@
 ghost use Rattle.std.specs.Prelude.{◌≡◌, ◌≤◌, ◌<◌, ◌+◌, ◌++◌, codes, length, SomeIff, IfSome, pos};
 ghost use Rattle.calendar_values.specs.Digits.{last_digits, text_capacity};
 ghost use Rattle.calendar_values.specs.Offsets.{IsOffsetParts, seconds_of_parts};
-ghost use Rattle.rfc3339.specs.Texts.{HasText, fraction_text, offset_text, rfc3339_text};
+ghost use Rattle.stamp_times.specs.Texts.{fraction_text};
+ghost use Rattle.rfc3339.specs.Texts.{HasText, time_offset_text, rfc3339_text};
 
 use calendar_values::Text;
 use offset_times::OffsetDateTime;
@@ -56,7 +57,7 @@ pub(crate) fn push_clock(text: &mut Text, hour: u8, minute: u8, second: u8)
 }
 
 // Adds the fraction, if there is one.
-#[tactic(auto, unfolding(crate::specs::Texts::fraction_text))]
+#[tactic(auto, unfolding(stamp_times::specs::Texts::fraction_text))]
 fn push_fraction(text: &mut Text, nanosecond: u32)
     requires { length text.old + 10 ≤ text_capacity }
     ensures value { text.new ≡ text.old ++ fraction_text nanosecond }
@@ -72,7 +73,8 @@ fn push_fraction(text: &mut Text, nanosecond: u32)
 fn push_offset(text: &mut Text, hours: i8, minutes: i8)
     requires room { length text.old + 6 ≤ text_capacity }
     requires parts { IsOffsetParts hours minutes (pos 0) }
-    ensures value { text.new ≡ text.old ++ offset_text (seconds_of_parts hours minutes (pos 0)) }
+    ensures value { let o = seconds_of_parts hours minutes (pos 0) in
+        text.new ≡ text.old ++ time_offset_text o }
     ensures length { length text.new ≤ length text.old + 6 }
 {
     if hours == 0 && minutes == 0 {

@@ -1,5 +1,5 @@
 -- What a search of a log in the order of its instants finds.
-use Rattle.std.proofs.Common.{◌≡◌, ◌<◌, ℕ, inl, inr, ap, ◌∙◌, arith, ℤ, int_cmp, List, slice_index_or}
+use Rattle.std.proofs.Common.{◌≡◌, ℕ, inl, inr, ap, ◌∙◌, arith, ℤ, int_cmp, List, slice_index_or}
 use Rattle.std.proofs.lemmas.Bool.{cases_order}
 use Rattle.std.proofs.lemmas.Cmp.{int_cmp_total}
 use Rattle.std.proofs.lemmas.Int.{ints}

@@ -2,7 +2,7 @@
 use Rattle.std.proofs.Common.{◌≡◌, ℕ, ◌/◌, ◌%◌, ◌<◌, arith, ℤ, pos, neg_ℤ, ◌+ℤ◌, ◌-ℤ◌, unsigned_abs, FitsSigned, Option, None, SomeIff, subst}
 use Rattle.std.specs.Int.{w64}
 use Rattle.calendar_values.specs.Clock.{nanos_per_second}
-use Rattle.calendar_values.specs.Durations.{duration_of_parts, whole_seconds_of, subsec_nanoseconds_of, IsDuration}
+use Rattle.calendar_values.specs.Durations.{duration_of_parts, whole_seconds_of, subsec_nanoseconds_of}
 use Rattle.calendar_values.specs.DurationPartLemmas.{duration_of_parts-of, IsDurationParts-of}
 use Rattle.calendar_values.specs.SignedArith.{signed_arith, signed_casts}
 use Rattle.calendar_values.specs.WallClock.{IsWallClock, unix_seconds_of}
@@ -53,8 +53,5 @@ pub difference-parts : (i j s m : ℤ) → s ≡ unix_seconds_of i -ℤ unix_sec
     duration_of_parts s m ≡ i -ℤ j
 difference-parts i j s m seconds nanoseconds =
     let left = instant_of_parts-of i in let right = instant_of_parts-of j in omega (arith, signed_arith)
-
-pub IsDuration-difference : (i j : ℤ) → IsWallClock i → IsWallClock j → IsDuration (i -ℤ j)
-IsDuration-difference i j h k = (omega (arith, signed_arith), omega (arith, signed_arith))
 
 pub ruleset carries = signed_casts

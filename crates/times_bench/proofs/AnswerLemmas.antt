@@ -1,5 +1,5 @@
 -- What a line is answered with.
-use Rattle.std.proofs.Common.{◌≡◌, ℕ, ℤ, List, [], ◌∷◌, ◌++◌, take, codes, decimal, flat_map, Option, Some, None, refl, sym, ◌∙◌, ap, ◌+◌, ◌<◌, length}
+use Rattle.std.proofs.Common.{◌≡◌, ℕ, ℤ, List, [], ◌∷◌, ◌++◌, take, codes, decimal, flat_map, Option, Some, None, sym, ◌∙◌, ap, ◌+◌, ◌<◌, length}
 use Rattle.std.proofs.Common.{get_or, append_assoc, append-nil}
 use Rattle.std.proofs.lemmas.Grind.{flat_map-append}
 use Rattle.std.proofs.lemmas.List.{take_more}

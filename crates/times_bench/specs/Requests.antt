@@ -47,14 +47,14 @@ chain_from s n (start ∷ steps) = option_and_then (λ at. option_map (Chain s n
 unfoldable pub chain_request : List (List ℕ) → Option Request
 chain_request words = option_and_then (λ from. chain_from from.0 from.1 from.2) (parse_instant words)
 
--- what the words after the first one ask for, by its kind
+-- what the words after the first one ask for, by its command
 abbrev pub request_of_command : Command → List (List ℕ) → Option Request
 request_of_command command.Unix words = unix_request words
 request_of_command command.Stamp words = stamp_request words
 request_of_command command.Run words = run_request words
 request_of_command command.Chain words = chain_request words
 
--- the kind of a line, by its first word
+-- the command of a line, by its first word
 abbrev pub command_of_word : List ℕ → Option Command
 command_of_word word =
     if bytes_eq word (codes "unix") then Some command.Unix

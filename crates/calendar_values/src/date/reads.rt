@@ -1,6 +1,7 @@
 //! What a date shows.
 ghost use Rattle.std.specs.Prelude.{◌≡◌, ◌+◌, ◌≤◌, ◌<◌, ◌-ℤ◌, ◌/◌, length};
 ghost use Rattle.calendar_values.specs.Calendar.{epoch_julian_day};
+ghost use Rattle.calendar_values.specs.Dates.{IsCalendarDateOf, IsOrdinalDateOf, IsIsoWeekDateOf};
 ghost use Rattle.std.specs.Int.{IsInRange};
 ghost use Rattle.calendar_values.specs.Range.{IsYear};
 ghost use Rattle.calendar_values.specs.Weeks.{weekday_of};
@@ -14,7 +15,7 @@ impl Date {
     ghost use Rattle.calendar_values.specs.Month.{month_number};
     ghost use Rattle.calendar_values.specs.Range.{IsDay};
     ghost use Rattle.calendar_values.specs.Weekday.{weekday_number};
-    ghost use Rattle.calendar_values.specs.Weeks.{thursday_of, iso_year_of, iso_week_of, sunday_week_of, monday_week_of};
+    ghost use Rattle.calendar_values.specs.Weeks.{thursday_of, iso_week_of, sunday_week_of, monday_week_of};
 
     /// The year, from that of [`Date::MIN`] to that of [`Date::MAX`].
     #[tactic(auto, using(crate::proofs::DateLemmas::fields))]
@@ -81,11 +82,7 @@ impl Date {
 
     /// The year, the month and the day of the month.
     pub fn to_calendar_date(self) -> (i32, Month, u8)
-        ensures year { result.0 ≡ year_of self }
-        ensures month { month_number result.1 ≡ month_of self }
-        ensures day { result.2 ≡ day_of_month_of self }
-        ensures year_in_range { IsYear result.0 }
-        ensures day_in_range { IsInRange 1 31 result.2 }
+        ensures { IsCalendarDateOf self result }
     {
         let (month, day) = self.month_day();
         (self.year(), month, day)
@@ -93,10 +90,7 @@ impl Date {
 
     /// The year and the day of the year.
     pub fn to_ordinal_date(self) -> (i32, u16)
-        ensures year { result.0 ≡ year_of self }
-        ensures ordinal { result.1 ≡ ordinal_of self }
-        ensures year_in_range { IsYear result.0 }
-        ensures ordinal_in_range { IsInRange 1 366 result.1 }
+        ensures { IsOrdinalDateOf self result }
     {
         (self.year(), self.ordinal())
     }
@@ -104,11 +98,7 @@ impl Date {
     /// The ISO year, the ISO week and the day of the week (ISO 8601).
     #[tactic(auto, using(crate::proofs::WeekNumberLemmas::week_numbers))]
     pub fn to_iso_week_date(self) -> (i32, u8, Weekday)
-        ensures year { result.0 ≡ iso_year_of self }
-        ensures week { result.1 ≡ iso_week_of self }
-        ensures weekday { weekday_number result.2 ≡ weekday_of self }
-        ensures year_in_range { IsYear result.0 }
-        ensures week_in_range { IsInRange 1 53 result.1 }
+        ensures { IsIsoWeekDateOf self result }
     {
         let (year, ordinal) = self.thursday().to_ordinal_date();
         (year, ((ordinal + 6) / 7) as u8, self.weekday())

@@ -3,11 +3,12 @@ ghost use Rattle.std.specs.Prelude.{◌≡◌, ◌≤◌, ◌*◌};
 ghost use Rattle.std.specs.Int.{IsInRange};
 ghost use Rattle.calendar_values.specs.Calendar.{year_of, month_of, day_of_month_of, ordinal_of, julian_day_of};
 ghost use Rattle.calendar_values.specs.Clock.{IsTimeOfDay, nanos_per_millisecond, nanos_per_microsecond, hour_of, minute_of, second_of, millisecond_of, microsecond_of, nanosecond_of};
+ghost use Rattle.calendar_values.specs.Dates.{IsCalendarDateOf, IsOrdinalDateOf, IsIsoWeekDateOf};
 ghost use Rattle.calendar_values.specs.Month.{month_number};
 ghost use Rattle.calendar_values.specs.Range.{IsYear};
 ghost use Rattle.calendar_values.specs.WallClock.{wall_day, wall_time};
 ghost use Rattle.calendar_values.specs.Weekday.{weekday_number};
-ghost use Rattle.calendar_values.specs.Weeks.{iso_year_of, iso_week_of, sunday_week_of, monday_week_of, weekday_of};
+ghost use Rattle.calendar_values.specs.Weeks.{iso_week_of, sunday_week_of, monday_week_of, weekday_of};
 ghost use Rattle.offset_times.specs.Local.{IsLocal};
 
 use crate::OffsetDateTime;
@@ -88,32 +89,21 @@ impl OffsetDateTime {
 
     /// As [`Date::to_calendar_date`], of the day of the wall clock.
     pub fn to_calendar_date(self) -> (i32, Month, u8)
-        ensures year { result.0 ≡ year_of (wall_day self.wall) }
-        ensures month { month_number result.1 ≡ month_of (wall_day self.wall) }
-        ensures day { result.2 ≡ day_of_month_of (wall_day self.wall) }
-        ensures year_in_range { IsYear result.0 }
-        ensures day_in_range { IsInRange 1 31 result.2 }
+        ensures { IsCalendarDateOf (wall_day self.wall) result }
     {
         self.date_time().to_calendar_date()
     }
 
     /// As [`Date::to_ordinal_date`], of the day of the wall clock.
     pub fn to_ordinal_date(self) -> (i32, u16)
-        ensures year { result.0 ≡ year_of (wall_day self.wall) }
-        ensures ordinal { result.1 ≡ ordinal_of (wall_day self.wall) }
-        ensures year_in_range { IsYear result.0 }
-        ensures ordinal_in_range { IsInRange 1 366 result.1 }
+        ensures { IsOrdinalDateOf (wall_day self.wall) result }
     {
         self.date_time().to_ordinal_date()
     }
 
     /// As [`Date::to_iso_week_date`], of the day of the wall clock.
     pub fn to_iso_week_date(self) -> (i32, u8, Weekday)
-        ensures year { result.0 ≡ iso_year_of (wall_day self.wall) }
-        ensures week { result.1 ≡ iso_week_of (wall_day self.wall) }
-        ensures weekday { weekday_number result.2 ≡ weekday_of (wall_day self.wall) }
-        ensures year_in_range { IsYear result.0 }
-        ensures week_in_range { IsInRange 1 53 result.1 }
+        ensures { IsIsoWeekDateOf (wall_day self.wall) result }
     {
         self.date_time().to_iso_week_date()
     }

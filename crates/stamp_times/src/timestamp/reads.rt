@@ -1,13 +1,14 @@
 //! The date and the time of day of a timestamp, in UTC.
-ghost use Rattle.std.specs.Prelude.{◌≡◌, ◌<◌, ◌≤◌, ◌/◌, ◌*◌, pos, ◌+ℤ◌};
-ghost use Rattle.std.specs.Int.{IsInRange, int_rem_euclid};
+ghost use Rattle.std.specs.Prelude.{◌≡◌, ◌<◌, ◌≤◌, ◌/◌, ◌*◌, ◌+ℤ◌};
+ghost use Rattle.std.specs.Int.{IsInRange};
 ghost use Rattle.calendar_values.specs.Calendar.{year_of, month_of, day_of_month_of, ordinal_of, julian_day_of};
 ghost use Rattle.calendar_values.specs.Clock.{IsTimeOfDay, nanos_per_second, nanos_per_millisecond, nanos_per_microsecond, hour_of, minute_of, second_of, millisecond_of, microsecond_of, nanosecond_of};
+ghost use Rattle.calendar_values.specs.Dates.{IsCalendarDateOf, IsOrdinalDateOf, IsIsoWeekDateOf};
 ghost use Rattle.calendar_values.specs.Month.{month_number};
 ghost use Rattle.calendar_values.specs.Range.{IsDay, IsYear};
 ghost use Rattle.calendar_values.specs.WallClock.{wall_day, wall_time, IsWallClock};
 ghost use Rattle.calendar_values.specs.Weekday.{weekday_number};
-ghost use Rattle.calendar_values.specs.Weeks.{iso_year_of, iso_week_of, sunday_week_of, monday_week_of, weekday_of};
+ghost use Rattle.calendar_values.specs.Weeks.{iso_week_of, sunday_week_of, monday_week_of, weekday_of};
 
 use crate::Timestamp;
 use crate::reciprocal::year_leap_ordinal;
@@ -113,11 +114,7 @@ impl Timestamp {
 
     /// As [`Date::to_calendar_date`], of the day in UTC.
     pub fn to_calendar_date(self) -> (i32, Month, u8)
-        ensures year { result.0 ≡ year_of (wall_day self) }
-        ensures month { month_number result.1 ≡ month_of (wall_day self) }
-        ensures day { result.2 ≡ day_of_month_of (wall_day self) }
-        ensures year_in_range { IsYear result.0 }
-        ensures day_in_range { IsInRange 1 31 result.2 }
+        ensures { IsCalendarDateOf (wall_day self) result }
     {
         let (year, is_leap, ordinal) = year_leap_ordinal(self.day_number());
         let (month, day) = leap_ordinal_to_month_day(is_leap, ordinal);
@@ -126,10 +123,7 @@ impl Timestamp {
 
     /// As [`Date::to_ordinal_date`], of the day in UTC.
     pub fn to_ordinal_date(self) -> (i32, u16)
-        ensures year { result.0 ≡ year_of (wall_day self) }
-        ensures ordinal { result.1 ≡ ordinal_of (wall_day self) }
-        ensures year_in_range { IsYear result.0 }
-        ensures ordinal_in_range { IsInRange 1 366 result.1 }
+        ensures { IsOrdinalDateOf (wall_day self) result }
     {
         let (year, _, ordinal) = year_leap_ordinal(self.day_number());
         (year, ordinal)
@@ -137,11 +131,7 @@ impl Timestamp {
 
     /// As [`Date::to_iso_week_date`], of the day in UTC.
     pub fn to_iso_week_date(self) -> (i32, u8, Weekday)
-        ensures year { result.0 ≡ iso_year_of (wall_day self) }
-        ensures week { result.1 ≡ iso_week_of (wall_day self) }
-        ensures weekday { weekday_number result.2 ≡ weekday_of (wall_day self) }
-        ensures year_in_range { IsYear result.0 }
-        ensures week_in_range { IsInRange 1 53 result.1 }
+        ensures { IsIsoWeekDateOf (wall_day self) result }
     {
         self.date().to_iso_week_date()
     }

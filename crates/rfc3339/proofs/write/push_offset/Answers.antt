@@ -2,14 +2,14 @@ use Rattle.std.proofs.Common.{arith, ◌≡◌, ◌∙◌, refl, sym, ap, append
 use Rattle.std.specs.Prelude.{int_lt}
 use Rattle.calendar_values.specs.Offsets.{seconds_of_parts}
 use Rattle.calendar_values.specs.SignedArith.{signed_casts}
-use Rattle.rfc3339.proofs.WriteLemmas.{some_size, offset_text_of, sign_of_parts}
-use Rattle.rfc3339.specs.Texts.{offset_text}
+use Rattle.rfc3339.proofs.WriteLemmas.{some_size, time_offset_text_of, sign_of_parts}
+use Rattle.rfc3339.specs.Texts.{time_offset_text}
 use Rattle.rfc3339.proofs.write.push_offset.Goals as goal
 use Rattle.rfc3339.proofs.write.push_offset.Goals.{else-hours-eq0-via-then-hours-eq0+else-minutes-eq0, else-hours-eq0-via-else-hours-eq0}
 use Rattle.rfc3339.proofs.write.push_offset.Goals.{then-is_west, else-is_west}
 
 pub returns-then-minutes-eq0-clause-value : goal.returns-then-minutes-eq0-clause-value
-unfolding offset_text
+unfolding time_offset_text
 returns-then-minutes-eq0-clause-value c =
     let h : to_z w8 (of_z w8 c.args.hours) ≡ c.args.hours = omega (arith, signed_casts, c.ranges.hours) in
     let m : to_z w8 (of_z w8 c.args.minutes) ≡ c.args.minutes = omega (arith, signed_casts, c.ranges.minutes) in
@@ -31,10 +31,26 @@ returns-clause-value c =
     elim c.if-is_west.branch [
       | then-is_west w ↦
           let west : int_lt (seconds_of_parts c.args.hours c.args.minutes (pos 0)) (pos 0) ≡ true = sign_of_parts _ _ p ∙ rw (h, m) at w.if-is_west.true in
-          rw (c.push_part-2.ensures.value, c.push_part.ensures.value, hours, minutes, offset_text_of c.args.hours c.args.minutes true p some west, w.sign-is)
+          rw (
+            c.push_part-2.ensures.value,
+            c.push_part.ensures.value,
+            hours,
+            minutes,
+            time_offset_text_of c.args.hours c.args.minutes true p some
+                west,
+            w.sign-is,
+          )
           (simp append_assoc refl)
       | else-is_west w ↦
           let east : int_lt (seconds_of_parts c.args.hours c.args.minutes (pos 0)) (pos 0) ≡ false = sign_of_parts _ _ p ∙ rw (h, m) at w.if-is_west.false in
-          rw (c.push_part-2.ensures.value, c.push_part.ensures.value, hours, minutes, offset_text_of c.args.hours c.args.minutes false p some east, w.sign-is)
+          rw (
+            c.push_part-2.ensures.value,
+            c.push_part.ensures.value,
+            hours,
+            minutes,
+            time_offset_text_of c.args.hours c.args.minutes false p some
+                east,
+            w.sign-is,
+          )
           (simp append_assoc refl)
     ]

@@ -1,4 +1,4 @@
-use Rattle.std.proofs.Common.{◌≡◌, ◌∙◌, ℕ, List, [], ◌∷◌, ◌++◌, unsigned_abs, ap, sym, refl, append_assoc, FitsSigned, w8, to_z-of_z, rules}
+use Rattle.std.proofs.Common.{◌≡◌, ◌∙◌, [], ◌∷◌, ◌++◌, unsigned_abs, ap, refl, append_assoc, FitsSigned, w8, to_z-of_z, rules}
 use Rattle.std.specs.Prelude.{codes}
 use Rattle.calendar_values.specs.Digits.{last_digits}
 use Rattle.calendar_values.specs.Texts.{offset_text}

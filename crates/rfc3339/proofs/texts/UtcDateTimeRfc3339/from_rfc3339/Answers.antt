@@ -1,4 +1,4 @@
-use Rattle.std.proofs.Common.{ap, ◌∙◌, pos, Ok}
+use Rattle.std.proofs.Common.{ap, ◌∙◌, Ok}
 use Rattle.offset_times.specs.Local.{instant_of, local_in_utc}
 use Rattle.rfc3339.proofs.ReadInstantLemmas.{instant_of-read}
 use Rattle.rfc3339.proofs.texts.UtcDateTimeRfc3339.from_rfc3339.Goals as goal

@@ -3,7 +3,8 @@ use Rattle.calendar_values.specs.SignedArith.{signed_casts}
 use Rattle.calendar_values.specs.WallClock.{unix_seconds_of}
 use Rattle.stamp_times.specs.Instants.{unix_nanosecond_of}
 use Rattle.stamp_times.specs.TimestampLemmas.{instant_of_parts-of}
-use Rattle.stamp_times.proofs.TimestampSumLemmas.{difference-parts, IsDuration-difference}
+use Rattle.plain_times.specs.SumLemmas.{IsDuration-difference}
+use Rattle.stamp_times.proofs.TimestampSumLemmas.{difference-parts}
 use Rattle.stamp_times.proofs.timestamp.operators.TimestampSub.sub.Goals as goal
 
 pub new-requires : goal.new-requires
