@@ -1,15 +1,13 @@
 -- A wall clock moves by the whole days of a duration and by what they leave.
-use Rattle.std.proofs.Common.{◌≡◌, ◌↔◌, refl, sym, Bool, true, false, cond, not, IsTrue, ℕ, ◌/◌, ◌%◌, arith, ℤ, pos, negsuc, neg_ℤ, ◌+ℤ◌, ◌-ℤ◌, ◌*ℤ◌, ◌≤ℤ◌}
+use Rattle.std.proofs.Common.{◌≡◌, not, ℕ, ◌/◌, ◌%◌, arith, ℤ, pos, negsuc, neg_ℤ, ◌+ℤ◌, ◌-ℤ◌, ◌*ℤ◌, ◌≤ℤ◌}
 use Rattle.std.proofs.Common.{◌<ℤ◌, Option, None, SomeIff}
 use Rattle.std.proofs.lemmas.Int.{ints, by_lt_z}
 use Rattle.calendar_values.specs.Adjustments.{subday_nanoseconds_of}
 use Rattle.calendar_values.specs.Clock.{IsClock, nanos_per_day}
 use Rattle.calendar_values.specs.Durations.{whole_days_of}
 use Rattle.calendar_values.specs.Range.{IsDay}
-use Rattle.calendar_values.specs.WallClock.{wall_clock, wall_day, wall_time, first_wall_clock, last_wall_clock, IsWallClock}
+use Rattle.calendar_values.specs.WallClock.{wall_clock, wall_day, wall_time, IsWallClock}
 use Rattle.calendar_values.specs.WallClockLemmas.{wall_clock-parts, IsClock-wall_time}
-use Rattle.plain_times.specs.Sums.{nearest_wall_clock}
-use Rattle.plain_times.specs.SumLemmas.{nearest_wall_clock-is, nearest_wall_clock-before, nearest_wall_clock-after}
 
 -- whole days, and nanoseconds of no opposite sign, that together are the duration
 pub record Splits (d days rest : ℤ) : Type 0 where
@@ -84,45 +82,6 @@ IsWallClock-sum w d n days moved k date v t leads stepped e =
     let inside = stepped.0 in
     let result = stepped.1 in
     ((omega (arith, ints), omega (arith, ints)), omega (arith, ints))
-
--- a sum that is refused lies in the direction of the duration
-nearest_wall_clock-earlier : (w d : ℤ) → IsWallClock w → (IsWallClock (w +ℤ d) → ⊥) → d ≤ℤ pos 0 → nearest_wall_clock (w +ℤ d) ≡ first_wall_clock
-nearest_wall_clock-earlier w d h not negative =
-    by_lt_z
-    (w +ℤ d)
-    first_wall_clock
-    (λ before. nearest_wall_clock-before (w +ℤ d) before)
-    (λ from_first. absurd (not (from_first, omega (arith, ints))))
-
-nearest_wall_clock-later : (w d : ℤ) → IsWallClock w → (IsWallClock (w +ℤ d) → ⊥) → pos 0 ≤ℤ d → nearest_wall_clock (w +ℤ d) ≡ last_wall_clock
-nearest_wall_clock-later w d h not positive =
-    by_lt_z
-    last_wall_clock
-    (w +ℤ d)
-    (λ after. nearest_wall_clock-after (w +ℤ d) after)
-    (λ to_last. absurd (not (omega (arith, ints), to_last)))
-
--- the end of the range that a sum is brought to, by the sign of the duration
-pub nearest_wall_clock-sum : (w d : ℤ) (is_negative : Bool) → IsWallClock w → (IsWallClock (w +ℤ d) → ⊥) → (IsTrue is_negative ↔ (d <ℤ pos 0)) →
-    cond is_negative first_wall_clock last_wall_clock ≡ nearest_wall_clock (w +ℤ d)
-nearest_wall_clock-sum w d true h not sign = let lt : d <ℤ pos 0 = sign.0 refl in sym (nearest_wall_clock-earlier w d h not (omega (arith, ints)))
-nearest_wall_clock-sum w d false h not sign =
-    sym (nearest_wall_clock-later w d h not (by_lt_z d (pos 0) (λ lt. let no : false ≡ true = sign.1 lt in cc) (λ ge. ge)))
-
--- and a difference
-pub nearest_wall_clock-difference : (w d : ℤ) (is_negative : Bool) → IsWallClock w → (IsWallClock (w -ℤ d) → ⊥) → (IsTrue is_negative ↔ (d <ℤ pos 0)) →
-    cond (not is_negative) first_wall_clock last_wall_clock ≡ nearest_wall_clock (w -ℤ d)
-nearest_wall_clock-difference w d true h not sign =
-    let lt : d <ℤ pos 0 = sign.0 refl in sym (nearest_wall_clock-later w (neg_ℤ d) h not (omega (arith, ints)))
-nearest_wall_clock-difference w d false h not sign =
-    let ge : pos 0 ≤ℤ d = by_lt_z d (pos 0) (λ lt. let no : false ≡ true = sign.1 lt in cc) (λ ge. ge) in
-    sym (nearest_wall_clock-earlier w (neg_ℤ d) h not (omega (arith, ints)))
-
--- a sum that is accepted stays as it is
-pub nearest_wall_clock-accepted : (w v : ℤ) → IsWallClock w → v ≡ w → v ≡ nearest_wall_clock w
-nearest_wall_clock-accepted w v h e = nearest_wall_clock-is w v (h, e)
-
-pub ruleset saturations = (ints, nearest_wall_clock-accepted)
 
 -- the difference of two wall clocks is that of their days and of their times
 pub wall_clock-difference : (v w m n days rest : ℤ) (c t : ℕ) → m ≡ wall_day v → n ≡ wall_day w → c ≡ wall_time v → t ≡ wall_time w →

@@ -1,9 +1,10 @@
 -- Where sums are accepted.
-use Rattle.std.proofs.Common.{◌≡◌, sym, ap, ◌∙◌, arith, ℤ, pos, ◌+ℤ◌, ◌-ℤ◌, ◌≤ℤ◌, ◌<ℤ◌, Option, Some, None, SomeIff}
+use Rattle.std.proofs.Common.{◌≡◌, ◌↔◌, refl, sym, ap, ◌∙◌, Bool, true, false, cond, not, IsTrue, arith, ℤ, pos, neg_ℤ}
+use Rattle.std.proofs.Common.{◌+ℤ◌, ◌-ℤ◌, ◌≤ℤ◌, ◌<ℤ◌, Option, Some, None, SomeIff}
 use Rattle.std.proofs.lemmas.Int.{ints, by_lt_z}
 use Rattle.calendar_values.specs.Durations.{IsDuration}
 use Rattle.calendar_values.specs.WallClock.{first_wall_clock, last_wall_clock, IsWallClock}
-use Rattle.plain_times.specs.Sums.{wall_clock_if_any, nearest_wall_clock}
+use Rattle.plain_times.specs.Sums.{wall_clock_if_any, nearest_wall_clock, IsSaturatingSum, IsSaturatingDifference}
 
 pub wall_clock_if_any-in : (w : ℤ) → IsWallClock w → wall_clock_if_any w ≡ Some w
 unfolding wall_clock_if_any
@@ -25,34 +26,78 @@ wall_clock_if_any-SomeIff None w h =
     (λ low. by_lt_z last_wall_clock w (λ gt. sym (wall_clock_if_any-after w gt)) (λ high. absurd (h (low, high))))
 wall_clock_if_any-SomeIff (Some x) w h = ap Some h.1 ∙ sym (wall_clock_if_any-in w h.0)
 
-pub nearest_wall_clock-in : (w : ℤ) → IsWallClock w → nearest_wall_clock w ≡ w
+nearest_wall_clock-in : (w : ℤ) → IsWallClock w → nearest_wall_clock w ≡ w
 unfolding nearest_wall_clock
 nearest_wall_clock-in w h = grind (arith, ints)
 
-pub nearest_wall_clock-is : (w v : ℤ) → IsWallClock w × (v ≡ w) → v ≡ nearest_wall_clock w
-nearest_wall_clock-is w v h = h.1 ∙ sym (nearest_wall_clock-in w h.0)
-
-pub nearest_wall_clock-before : (w : ℤ) → w <ℤ first_wall_clock → nearest_wall_clock w ≡ first_wall_clock
+nearest_wall_clock-before : (w : ℤ) → w <ℤ first_wall_clock → nearest_wall_clock w ≡ first_wall_clock
 unfolding nearest_wall_clock
 nearest_wall_clock-before w h = grind (arith, ints)
 
-pub nearest_wall_clock-after : (w : ℤ) → last_wall_clock <ℤ w → nearest_wall_clock w ≡ last_wall_clock
+nearest_wall_clock-after : (w : ℤ) → last_wall_clock <ℤ w → nearest_wall_clock w ≡ last_wall_clock
 unfolding nearest_wall_clock
 nearest_wall_clock-after w h = grind (arith, ints)
 
--- a later time does not come after the sum, however it is brought into the range
-pub nearest_wall_clock-not_above : (w d v : ℤ) → IsWallClock w → v ≡ nearest_wall_clock (w +ℤ d) → pos 0 ≤ℤ d → v ≤ℤ (w +ℤ d)
-nearest_wall_clock-not_above w d v h e later =
-    by_lt_z last_wall_clock (w +ℤ d)
-    (λ after. let last = e ∙ nearest_wall_clock-after (w +ℤ d) after in omega (arith, ints))
-    (λ to_last. let inside = e ∙ nearest_wall_clock-in (w +ℤ d) (omega (arith, ints), to_last) in omega (arith, ints))
+-- a sum of the range is the saturating one
+pub IsSaturatingSum-in : (w d v : ℤ) → IsWallClock w → IsWallClock (w +ℤ d) → v ≡ w +ℤ d → IsSaturatingSum w d v
+IsSaturatingSum-in w d v h sum e = record {
+  value = e ∙ sym (nearest_wall_clock-in (w +ℤ d) sum);
+  not_before = λ later. omega (arith, ints);
+  not_after = λ earlier. omega (arith, ints);
+  not_above = λ later. omega (arith, ints);
+  not_below = λ earlier. omega (arith, ints);
+}
 
--- nor an earlier one before
-pub nearest_wall_clock-not_below : (w d v : ℤ) → IsWallClock w → v ≡ nearest_wall_clock (w +ℤ d) → d ≤ℤ pos 0 → (w +ℤ d) ≤ℤ v
-nearest_wall_clock-not_below w d v h e earlier =
-    by_lt_z (w +ℤ d) first_wall_clock
-    (λ before. let first = e ∙ nearest_wall_clock-before (w +ℤ d) before in omega (arith, ints))
-    (λ from_first. let inside = e ∙ nearest_wall_clock-in (w +ℤ d) (from_first, omega (arith, ints)) in omega (arith, ints))
+-- a sum outside the range is the first wall clock where the duration is negative, else the last
+pub IsSaturatingSum-end : (w d v : ℤ) (is_negative : Bool) → IsWallClock w → (IsWallClock (w +ℤ d) → ⊥)
+    → (IsTrue is_negative ↔ (d <ℤ pos 0)) → v ≡ cond is_negative first_wall_clock last_wall_clock → IsSaturatingSum w d v
+IsSaturatingSum-end w d v true h not sign e =
+    let negative : d <ℤ pos 0 = sign.0 refl in
+    let before : (w +ℤ d) <ℤ first_wall_clock =
+    by_lt_z (w +ℤ d) first_wall_clock (λ lt. lt) (λ from_first. absurd (not (from_first, omega (arith, ints)))) in
+    record {
+      value = e ∙ sym (nearest_wall_clock-before (w +ℤ d) before);
+      not_before = λ later. omega (arith, ints);
+      not_after = λ earlier. omega (arith, ints);
+      not_above = λ later. omega (arith, ints);
+      not_below = λ earlier. omega (arith, ints);
+    }
+IsSaturatingSum-end w d v false h not sign e =
+    let positive : pos 0 ≤ℤ d = by_lt_z d (pos 0) (λ lt. let no : false ≡ true = sign.1 lt in cc) (λ ge. ge) in
+    let after : last_wall_clock <ℤ (w +ℤ d) =
+    by_lt_z last_wall_clock (w +ℤ d) (λ lt. lt) (λ to_last. absurd (not (omega (arith, ints), to_last))) in
+    record {
+      value = e ∙ sym (nearest_wall_clock-after (w +ℤ d) after);
+      not_before = λ later. omega (arith, ints);
+      not_after = λ earlier. omega (arith, ints);
+      not_above = λ later. omega (arith, ints);
+      not_below = λ earlier. omega (arith, ints);
+    }
+
+-- a saturating difference is the saturating sum with the duration reversed
+IsSaturatingDifference-sum : (w d v : ℤ) → IsSaturatingSum w (neg_ℤ d) v → IsSaturatingDifference w d v
+IsSaturatingDifference-sum w d v sum = record {
+  value = sum.value;
+  not_before = λ earlier. sum.not_before (omega (arith, ints));
+  not_after = λ later. sum.not_after (omega (arith, ints));
+  not_above = λ earlier. sum.not_above (omega (arith, ints));
+  not_below = λ later. sum.not_below (omega (arith, ints));
+}
+
+pub IsSaturatingDifference-in : (w d v : ℤ) → IsWallClock w → IsWallClock (w -ℤ d) → v ≡ w -ℤ d → IsSaturatingDifference w d v
+IsSaturatingDifference-in w d v h difference e = IsSaturatingDifference-sum w d v (IsSaturatingSum-in w (neg_ℤ d) v h difference e)
+
+pub IsSaturatingDifference-end : (w d v : ℤ) (is_negative : Bool) → IsWallClock w → (IsWallClock (w -ℤ d) → ⊥)
+    → (IsTrue is_negative ↔ (d <ℤ pos 0)) → v ≡ cond (not is_negative) first_wall_clock last_wall_clock → IsSaturatingDifference w d v
+IsSaturatingDifference-end w d v true h outside sign e =
+    let negative : d <ℤ pos 0 = sign.0 refl in
+    IsSaturatingDifference-sum w d v (IsSaturatingSum-end w (neg_ℤ d) v false h outside
+    ((λ no. cc), (λ lt. let none : ⊥ = omega (arith, ints) in absurd none)) e)
+IsSaturatingDifference-end w d v false h outside sign e =
+    let positive : pos 0 <ℤ d = by_lt_z (pos 0) d (λ lt. lt) (λ zero. absurd (outside (
+    by_lt_z d (pos 0) (λ lt. let no : false ≡ true = sign.1 lt in cc) (λ ge. (omega (arith, ints), omega (arith, ints)))))) in
+    IsSaturatingDifference-sum w d v (IsSaturatingSum-end w (neg_ℤ d) v true h outside
+    ((λ yes. omega (arith, ints)), (λ lt. refl)) e)
 
 -- the time between two wall clocks of the range is a duration
 pub IsDuration-difference : (v w : ℤ) → IsWallClock v → IsWallClock w → IsDuration (v -ℤ w)

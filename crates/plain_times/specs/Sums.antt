@@ -1,5 +1,5 @@
 -- Sums of a wall clock and a duration: refused outside the range, or brought to the nearest wall clock of the range.
-use Rattle.std.specs.Prelude.{ℤ, Option, Some, None, if◌then◌else◌, int_lt}
+use Rattle.std.specs.Prelude.{◌≡◌, ℤ, pos, ◌+ℤ◌, ◌-ℤ◌, ◌≤ℤ◌, Option, Some, None, if◌then◌else◌, int_lt}
 use Rattle.calendar_values.specs.Range.{is_outside}
 use Rattle.calendar_values.specs.WallClock.{first_wall_clock, last_wall_clock}
 
@@ -12,3 +12,19 @@ unfoldable pub nearest_wall_clock : ℤ → ℤ
 nearest_wall_clock w =
     if int_lt w first_wall_clock then first_wall_clock
     else (if int_lt last_wall_clock w then last_wall_clock else w)
+
+-- v is the wall clock nearest to the sum of w and a duration: the sum leads no way but that of the duration, and no further
+pub record IsSaturatingSum (w duration v : ℤ) : Type 0 where
+  pub value : v ≡ nearest_wall_clock (w +ℤ duration)
+  pub not_before : pos 0 ≤ℤ duration → w ≤ℤ v
+  pub not_after : duration ≤ℤ pos 0 → v ≤ℤ w
+  pub not_above : pos 0 ≤ℤ duration → v ≤ℤ (w +ℤ duration)
+  pub not_below : duration ≤ℤ pos 0 → (w +ℤ duration) ≤ℤ v
+
+-- v is the wall clock nearest to the difference of w and a duration, which leads the other way, and no further
+pub record IsSaturatingDifference (w duration v : ℤ) : Type 0 where
+  pub value : v ≡ nearest_wall_clock (w -ℤ duration)
+  pub not_before : duration ≤ℤ pos 0 → w ≤ℤ v
+  pub not_after : pos 0 ≤ℤ duration → v ≤ℤ w
+  pub not_above : duration ≤ℤ pos 0 → v ≤ℤ (w -ℤ duration)
+  pub not_below : pos 0 ≤ℤ duration → (w -ℤ duration) ≤ℤ v

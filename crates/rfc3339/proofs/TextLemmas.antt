@@ -6,7 +6,7 @@ use Rattle.calendar_values.specs.Digits.{last_digits}
 use Rattle.calendar_values.specs.DigitCountLemmas.{length-last_digits}
 use Rattle.rfc3339.specs.declared.parts.Parts.{Parts}
 use Rattle.rfc3339.specs.Form.{IsFraction, spelling, IsDateTime}
-use Rattle.rfc3339.specs.Reading.{◌>>=◌, two_digits_at, part_at, year_at, separator_at, fraction_at, zone_at, fraction_on, time_on, parts_at}
+use Rattle.rfc3339.specs.Reading.{◌>>=◌, two_digits_at, part_at, year_at, separator_at, fraction_at, zone_at, parts_read, fraction_on, time_on, parts_at}
 use Rattle.rfc3339.proofs.FormLemmas.{Takes, TakesSeparator, bind_some, two_takes, two_again, part_takes, part_again, year_takes, year_again, separator_takes}
 use Rattle.rfc3339.proofs.FormLemmas.{separator_again}
 use Rattle.rfc3339.proofs.FractionLemmas.{TakesOffset, fraction_takes, fraction_again, zone_takes, zone_again, offset_ends, offset_some}
@@ -30,49 +30,14 @@ record TakesFractionOn (year month day hour minute second : ℕ) (text : List �
   pub spelled : text ≡ fraction ++ offset
   pub is_fraction : IsFraction fraction nanosecond
   pub is_offset : TakesOffset offset is_west offset_hour offset_minute
-  pub same : record {
-    year = year;
-    month = month;
-    day = day;
-    hour = hour;
-    minute = minute;
-    second = second;
-    nanosecond = nanosecond;
-    is_west = is_west;
-    offset_hour = offset_hour;
-    offset_minute = offset_minute;
-  } ≡ p
+  pub same : parts_read year month day hour minute second nanosecond (is_west, offset_hour, offset_minute) ≡ p
 
 fraction_on_takes : (year month day hour minute second : ℕ) (text : List ℕ) (p : Parts) → fraction_on year month day hour minute second text ≡ Some p
     → TakesFractionOn year month day hour minute second text p
 fraction_on_takes year month day hour minute second text p e =
     let a = bind_some (fraction_at text)
-    (λ fraction. zone_at fraction.1 >>= λ zone. Some
-    (record {
-      year = year;
-      month = month;
-      day = day;
-      hour = hour;
-      minute = minute;
-      second = second;
-      nanosecond = fraction.0;
-      is_west = zone.0;
-      offset_hour = zone.1;
-      offset_minute = zone.2;
-    })) p e in
-    let b = bind_some (zone_at a.0.1)
-    (λ zone. Some (record {
-      year = year;
-      month = month;
-      day = day;
-      hour = hour;
-      minute = minute;
-      second = second;
-      nanosecond = a.0.0;
-      is_west = zone.0;
-      offset_hour = zone.1;
-      offset_minute = zone.2;
-    })) p a.2 in
+    (λ fraction. zone_at fraction.1 >>= λ zone. Some (parts_read year month day hour minute second fraction.0 zone)) p e in
+    let b = bind_some (zone_at a.0.1) (λ zone. Some (parts_read year month day hour minute second a.0.0 zone)) p a.2 in
     let f = fraction_takes text a.0.0 a.0.1 a.1 in
     let z = zone_takes a.0.1 b.0.0 b.0.1 b.0.2 b.1 in
     record {
@@ -85,18 +50,7 @@ fraction_on_takes year month day hour minute second text p e =
       spelled = f.1.parts;
       is_fraction = f.1.is;
       is_offset = z;
-      same = same_Some (record {
-        year = year;
-        month = month;
-        day = day;
-        hour = hour;
-        minute = minute;
-        second = second;
-        nanosecond = a.0.0;
-        is_west = b.0.0;
-        offset_hour = b.0.1;
-        offset_minute = b.0.2;
-      }) p b.2;
+      same = same_Some (parts_read year month day hour minute second a.0.0 (b.0.0, b.0.1, b.0.2)) p b.2;
     }
 
 -- a separator and a time of day were read, and what follows
@@ -146,18 +100,7 @@ date_time_of : (year month day : ℕ) (text t1 t2 t3 : List ℕ) (p : Parts) →
     → IsDateTime text p
 date_time_of year month day text t1 t2 t3 p y mo d h =
     let f = h.then in
-    let made : Parts = record {
-      year = year;
-      month = month;
-      day = day;
-      hour = h.hour;
-      minute = h.minute;
-      second = h.second;
-      nanosecond = f.nanosecond;
-      is_west = f.is_west;
-      offset_hour = f.offset_hour;
-      offset_minute = f.offset_minute;
-    } in
+    let made = parts_read year month day h.hour h.minute h.second f.nanosecond (f.is_west, f.offset_hour, f.offset_minute) in
     let found : IsDateTime text made = record {
       separator = h.separator;
       fraction = f.fraction;

@@ -1,5 +1,5 @@
 //! The examples that stand at the heads of the types, and values of callers.
-use crate::{days, shown, windows};
+use crate::{columns, days, shown, windows};
 use calendar_values::{ComponentRange, Date, Month, SignedDuration, Time, UtcOffset, Weekday};
 use offset_times::OffsetDateTime;
 use plain_times::PlainDateTime;
@@ -93,6 +93,21 @@ fn of_days(rt: HostRuntime) -> Result<(), Fail> {
     assert_eq!(rt; days::days_between(before, after), 2);
     assert!(rt; !days::is_weekend(after));
     assert!(rt; days::is_weekend(Date::from_calendar_date(2024, Month::March, 2)?));
+    Ok(())
+}
+
+#[test]
+fn of_columns(rt: HostRuntime) -> Result<(), Fail> {
+    let leap_day = Date::from_calendar_date(2024, Month::February, 29)?;
+    let time = Time::from_hms_nano(1, 2, 3, 4)?;
+    let at = PlainDateTime::new(leap_day, time);
+    assert_eq!(rt; columns::stored_wall_clock(at), (19_782, 3_723_000_000_004));
+    assert_eq!(rt; columns::stored_second(time), 3_723);
+    assert_eq!(rt; columns::date_of(19_782), Some(leap_day));
+    assert_eq!(rt; columns::date_of(i32::MAX), None);
+    assert_eq!(rt; columns::read_again(Date::MIN), Date::MIN);
+    assert!(rt; columns::in_order(Date::MIN, leap_day));
+    assert!(rt; !columns::in_order(leap_day, Date::MIN));
     Ok(())
 }
 

@@ -5,6 +5,7 @@
 pub mod audit;
 pub mod batches;
 pub mod billing;
+pub mod columns;
 pub mod constants;
 pub mod daily;
 pub mod days;

@@ -31,6 +31,7 @@ ghost use Rattle.stamp_times.specs.declared.runs.calls.Shift.TheVariants.{Checke
 ghost use Rattle.stamp_times.specs.declared.chains.steps.Step.TheVariants.{ToStamp, ToUtc, ToOffset};
 ghost use Rattle.rfc3339.specs.Form.{fraction_value};
 ghost use Rattle.rfc3339.specs.Meaning.{offset_of, value_of, meaning};
+ghost use Rattle.rfc3339.specs.Reading.{parts_read};
 ghost use Rattle.rfc3339.specs.declared.refusal.Component.TheVariants.{Month};
 ghost use Rattle.rfc3339.specs.declared.refusal.TextRefusal.TheVariants.{OutOfRange};
 ghost use Rattle.rfc3339.specs.Texts.{rfc3339_text, fixed_text};
@@ -189,31 +190,9 @@ pub fn texts_of_exchange()
 
 /// What the numbers of RFC 3339's first example mean; month 13 is refused.
 pub fn meanings()
-    ensures value { value_of (record {
-      year = 1985;
-      month = 4;
-      day = 12;
-      hour = 23;
-      minute = 20;
-      second = 50;
-      nanosecond = 520_000_000;
-      is_west = false;
-      offset_hour = 0;
-      offset_minute = 0;
-    })
+    ensures value { value_of (parts_read 1985 4 12 23 20 50 520_000_000 (false, 0, 0))
         ≡ wall_at (pos 482_196_050_520_000_000) (pos 0) }
-    ensures month { meaning (record {
-      year = 1985;
-      month = 13;
-      day = 12;
-      hour = 23;
-      minute = 20;
-      second = 50;
-      nanosecond = 520_000_000;
-      is_west = false;
-      offset_hour = 0;
-      offset_minute = 0;
-    })
+    ensures month { meaning (parts_read 1985 13 12 23 20 50 520_000_000 (false, 0, 0))
         ≡ Err (OutOfRange Month) }
 {}
 

@@ -1,9 +1,8 @@
 //! What an offset shows.
-ghost use Rattle.std.specs.Prelude.{◌≡◌, ℤ, pos, unsigned_abs, ◌+◌, ◌<◌, ◌≤◌, ◌↔◌, IsTrue, ◌<ℤ◌};
+ghost use Rattle.std.specs.Prelude.{◌≡◌, ℤ, pos, unsigned_abs, ◌+◌, ◌<◌, ◌≤◌, ◌↔◌, IsTrue, ◌+ℤ◌, ◌*ℤ◌, ◌<ℤ◌};
 ghost use Rattle.calendar_values.specs.Offsets.{IsOffset, IsOffsetParts, seconds_of_parts, offset_hours_of, offset_minutes_of, offset_seconds_of};
 
 use crate::UtcOffset;
-use crate::units::SECONDS_PER_HOUR;
 
 impl UtcOffset {
     /// The hours, -25 to 25, and the minutes and the seconds, -59 to 59, all of one sign.
@@ -46,7 +45,8 @@ impl UtcOffset {
         ensures value { result ≡ self }
         ensures self_in_range { IsOffset self }
     {
-        self.hours as i32 * SECONDS_PER_HOUR + self.minutes as i32 * 60 + self.seconds as i32
+        let minutes = in_sixtieths(i32::from(self.hours), i32::from(self.minutes));
+        in_sixtieths(minutes, i32::from(self.seconds))
     }
 
     /// Whether the offset is 0.
@@ -62,4 +62,15 @@ impl UtcOffset {
     {
         self.whole_seconds() < 0
     }
+}
+
+// Units and sixtieths of a unit, in sixtieths.
+#[inline(always)]
+#[tactic(auto, using(crate::specs::SignedArith::signed_arith))]
+fn in_sixtieths(units: i32, sixtieths: i32) -> i32
+    requires units { unsigned_abs units ≤ 1_559 }
+    requires sixtieths { unsigned_abs sixtieths ≤ 59 }
+    ensures { result ≡ units *ℤ pos 60 +ℤ sixtieths }
+{
+    units * 60 + sixtieths
 }

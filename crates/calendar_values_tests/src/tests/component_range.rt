@@ -9,11 +9,8 @@ fn refusals_are_shown_by_their_names(rt: HostRuntime) -> Result<(), Fail> {
         ComponentRange::new("day", false),
         ComponentRange::new("ordinal", true),
     );
-    is(
-        &rt,
-        (ordinal.name(), ordinal.is_conditional()),
-        ("ordinal", true),
-    );
+    is(&rt, ordinal.name(), "ordinal");
+    is(&rt, ordinal.is_conditional(), true);
     assert_ne!(rt; ordinal, ComponentRange::new("ordinal", false));
     is(
         &rt,

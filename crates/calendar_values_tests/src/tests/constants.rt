@@ -6,19 +6,11 @@ use calendar_values::{Date, SignedDuration, Time, UtcOffset};
 #[test]
 fn functions_give_the_constants(rt: HostRuntime) {
     let (days, clocks) = (dates(), times());
-    is(
-        &rt,
-        (days.first, days.last, days.epoch),
-        (Date::MIN, Date::MAX, Date::UNIX_EPOCH),
-    );
-    is(
-        &rt,
-        (clocks.midnight, clocks.last),
-        (Time::MIDNIGHT, Time::MAX),
-    );
-    is(
-        &rt,
-        (offsets(), durations().zero),
-        (UtcOffset::UTC, SignedDuration::ZERO),
-    );
+    is(&rt, days.first, Date::MIN);
+    is(&rt, days.last, Date::MAX);
+    is(&rt, days.epoch, Date::UNIX_EPOCH);
+    is(&rt, clocks.midnight, Time::MIDNIGHT);
+    is(&rt, clocks.last, Time::MAX);
+    is(&rt, offsets(), UtcOffset::UTC);
+    is(&rt, durations().zero, SignedDuration::ZERO);
 }

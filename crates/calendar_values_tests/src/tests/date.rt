@@ -103,21 +103,14 @@ fn parts_are_those_of_another_calendar(rt: HostRuntime) -> Result<(), Fail> {
     for (year, month, day, julian_day, ordinal, ..) in DAYS {
         let date = Date::from_julian_day(julian_day)?;
         let (shown_year, shown_month, shown_day) = date.to_calendar_date();
-        is(
-            &rt,
-            (shown_year, u8::from(shown_month), shown_day),
-            (year, month, day),
-        );
-        is(
-            &rt,
-            (date.year(), date.month(), date.day()),
-            (year, shown_month, day),
-        );
-        is(
-            &rt,
-            (date.to_ordinal_date(), date.ordinal()),
-            ((year, ordinal), ordinal),
-        );
+        is(&rt, shown_year, year);
+        is(&rt, u8::from(shown_month), month);
+        is(&rt, shown_day, day);
+        is(&rt, date.year(), year);
+        is(&rt, date.month(), shown_month);
+        is(&rt, date.day(), day);
+        is(&rt, date.to_ordinal_date(), (year, ordinal));
+        is(&rt, date.ordinal(), ordinal);
     }
     Ok(())
 }
@@ -128,11 +121,8 @@ fn weeks_are_those_of_another_calendar(rt: HostRuntime) -> Result<(), Fail> {
         let date = Date::from_julian_day(julian_day)?;
         let shown = date.weekday();
         is(&rt, date.to_iso_week_date(), (year, week, shown));
-        is(
-            &rt,
-            (date.iso_week(), shown.number_days_from_monday()),
-            (week, weekday),
-        );
+        is(&rt, date.iso_week(), week);
+        is(&rt, shown.number_days_from_monday(), weekday);
         let weeks = (date.sunday_based_week(), date.monday_based_week());
         is(&rt, weeks, (by_sundays, by_mondays));
     }
@@ -179,11 +169,8 @@ fn days_out_of_the_range_are_refused(rt: HostRuntime) {
         (Date::from_julian_day(366_963_560), "julian_day", false),
     ] {
         let refusal = refused.expect_err(&rt, "a date");
-        is(
-            &rt,
-            (refusal.name(), refusal.is_conditional()),
-            (name, conditional),
-        );
+        is(&rt, refusal.name(), name);
+        is(&rt, refusal.is_conditional(), conditional);
     }
 }
 
@@ -203,11 +190,8 @@ fn replacements_by_days_out_of_the_range_are_refused(rt: HostRuntime) -> Result<
         (january.replace_month(Month::February), "day", true),
     ] {
         let refusal = refused.expect_err(&rt, "a date");
-        is(
-            &rt,
-            (refusal.name(), refusal.is_conditional()),
-            (name, conditional),
-        );
+        is(&rt, refusal.name(), name);
+        is(&rt, refusal.is_conditional(), conditional);
     }
     Ok(())
 }

@@ -30,11 +30,8 @@ fn parts_have_one_sign(rt: HostRuntime) {
         (SignedDuration::MAX, i64::MAX, 999_999_999, most_days),
     ] {
         let parts = (duration.whole_seconds(), duration.subsec_nanoseconds());
-        is(
-            &rt,
-            (parts, duration.whole_days()),
-            ((seconds, nanoseconds), days),
-        );
+        is(&rt, parts, (seconds, nanoseconds));
+        is(&rt, duration.whole_days(), days);
         is(&rt, duration.is_negative(), seconds < 0 || nanoseconds < 0);
     }
 }

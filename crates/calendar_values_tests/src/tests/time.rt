@@ -52,11 +52,8 @@ fn times_out_of_range_are_refused_by_their_first_part(rt: HostRuntime) {
         (Time::from_hms_nano(23, 59, 59, 1_000_000_000), "nanosecond"),
     ] {
         let refusal = refused.expect_err(&rt, "a time");
-        is(
-            &rt,
-            (refusal.name(), refusal.is_conditional()),
-            (name, false),
-        );
+        is(&rt, refusal.name(), name);
+        is(&rt, refusal.is_conditional(), false);
     }
 }
 
@@ -76,11 +73,8 @@ fn replacements_out_of_range_are_refused(rt: HostRuntime) -> Result<(), Fail> {
         (time.replace_nanosecond(1_000_000_000), "nanosecond"),
     ] {
         let refusal = refused.expect_err(&rt, "a time");
-        is(
-            &rt,
-            (refusal.name(), refusal.is_conditional()),
-            (name, false),
-        );
+        is(&rt, refusal.name(), name);
+        is(&rt, refusal.is_conditional(), false);
     }
     Ok(())
 }
@@ -88,24 +82,16 @@ fn replacements_out_of_range_are_refused(rt: HostRuntime) -> Result<(), Fail> {
 #[test]
 fn parts_are_those_given(rt: HostRuntime) -> Result<(), Fail> {
     let time = time(1, 2, 3, 4_005_006)?;
-    is(
-        &rt,
-        (time.as_hms(), time.as_hms_milli()),
-        ((1, 2, 3), (1, 2, 3, 4)),
-    );
-    is(
-        &rt,
-        (time.as_hms_micro(), time.as_hms_nano()),
-        ((1, 2, 3, 4_005), (1, 2, 3, 4_005_006)),
-    );
-    is(
-        &rt,
-        (
-            (time.hour(), time.minute(), time.second()),
-            (time.millisecond(), time.microsecond(), time.nanosecond()),
-        ),
-        ((1, 2, 3), (4, 4_005, 4_005_006)),
-    );
+    is(&rt, time.as_hms(), (1, 2, 3));
+    is(&rt, time.as_hms_milli(), (1, 2, 3, 4));
+    is(&rt, time.as_hms_micro(), (1, 2, 3, 4_005));
+    is(&rt, time.as_hms_nano(), (1, 2, 3, 4_005_006));
+    is(&rt, time.hour(), 1);
+    is(&rt, time.minute(), 2);
+    is(&rt, time.second(), 3);
+    is(&rt, time.millisecond(), 4);
+    is(&rt, time.microsecond(), 4_005);
+    is(&rt, time.nanosecond(), 4_005_006);
     Ok(())
 }
 

@@ -21,11 +21,8 @@ const OFFSETS: [(i8, i8, i8, (i8, i8, i8), i32, &str); 10] = [
 fn parts_have_one_sign(rt: HostRuntime) -> Result<(), Fail> {
     for (hours, minutes, seconds, parts, whole_seconds, _) in OFFSETS {
         let offset = UtcOffset::from_hms(hours, minutes, seconds)?;
-        is(
-            &rt,
-            (offset.as_hms(), offset.whole_seconds()),
-            (parts, whole_seconds),
-        );
+        is(&rt, offset.as_hms(), parts);
+        is(&rt, offset.whole_seconds(), whole_seconds);
         is(
             &rt,
             UtcOffset::from_whole_seconds(whole_seconds),
@@ -62,11 +59,8 @@ fn offsets_of_26_hours_are_refused(rt: HostRuntime) {
         (UtcOffset::from_whole_seconds(-93_600), "offset_seconds"),
     ] {
         let refusal = refused.expect_err(&rt, "an offset");
-        is(
-            &rt,
-            (refusal.name(), refusal.is_conditional()),
-            (name, false),
-        );
+        is(&rt, refusal.name(), name);
+        is(&rt, refusal.is_conditional(), false);
     }
 }
 

@@ -1,9 +1,9 @@
 //! Sums of a date-time and a duration: the wall clock moves, and the offset stays.
-ghost use Rattle.std.specs.Prelude.{◌≡◌, pos, ◌+ℤ◌, ◌-ℤ◌, ◌≤ℤ◌, IfSome, SomeIff};
+ghost use Rattle.std.specs.Prelude.{◌≡◌, pos, ◌+ℤ◌, ◌-ℤ◌, IfSome, SomeIff};
 ghost use Rattle.std.specs.Duration.{as_nanos};
 ghost use Rattle.calendar_values.specs.WallClock.{IsWallClock};
 ghost use Rattle.offset_times.specs.Local.{instant_of, wall_at, SameOffset};
-ghost use Rattle.plain_times.specs.Sums.{nearest_wall_clock};
+ghost use Rattle.plain_times.specs.Sums.{nearest_wall_clock, IsSaturatingSum, IsSaturatingDifference};
 
 use crate::OffsetDateTime;
 use calendar_values::SignedDuration;
@@ -60,10 +60,7 @@ impl OffsetDateTime {
     /// the end of it that lies in this direction.
     pub fn saturating_add(self, duration: SignedDuration) -> OffsetDateTime
         ensures value { result ≡ wall_at (nearest_wall_clock (self.wall +ℤ duration)) self.offset }
-        ensures not_before { pos 0 ≤ℤ duration → self.wall ≤ℤ result.wall }
-        ensures not_after { duration ≤ℤ pos 0 → result.wall ≤ℤ self.wall }
-        ensures not_above { pos 0 ≤ℤ duration → result.wall ≤ℤ (self.wall +ℤ duration) }
-        ensures not_below { duration ≤ℤ pos 0 → (self.wall +ℤ duration) ≤ℤ result.wall }
+        ensures wall { IsSaturatingSum self.wall duration result.wall }
         ensures instant { SameOffset self result }
     {
         self.replace_date_time(self.date_time().saturating_add(duration))
@@ -73,10 +70,7 @@ impl OffsetDateTime {
     /// the end of it that lies in this direction.
     pub fn saturating_sub(self, duration: SignedDuration) -> OffsetDateTime
         ensures value { result ≡ wall_at (nearest_wall_clock (self.wall -ℤ duration)) self.offset }
-        ensures not_before { duration ≤ℤ pos 0 → self.wall ≤ℤ result.wall }
-        ensures not_after { pos 0 ≤ℤ duration → result.wall ≤ℤ self.wall }
-        ensures not_above { duration ≤ℤ pos 0 → result.wall ≤ℤ (self.wall -ℤ duration) }
-        ensures not_below { pos 0 ≤ℤ duration → (self.wall -ℤ duration) ≤ℤ result.wall }
+        ensures wall { IsSaturatingDifference self.wall duration result.wall }
         ensures instant { SameOffset self result }
     {
         self.replace_date_time(self.date_time().saturating_sub(duration))

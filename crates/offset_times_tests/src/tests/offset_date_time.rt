@@ -49,39 +49,24 @@ fn at_offset<T: ToOffset + Copy>(at: T, offset: UtcOffset) -> Option<OffsetDateT
 fn raw_conversions(rt: HostRuntime) -> Result<(), Fail> {
     let late = offset(25, 59, 59)?;
     let early = offset(-25, -59, -59)?;
-    let last_second = plain((2000, Month::January, 1), (23, 59, 59))?;
-    is(
-        &rt,
-        to_offset_raw(last_second.assume_offset(early), late),
-        (2000, 4, Time::from_hms(3, 59, 57)?),
-    );
-    let midnight = plain((2000, Month::January, 1), (0, 0, 0))?;
-    is(
-        &rt,
-        to_offset_raw(midnight.assume_offset(late), early),
-        (1999, 363, Time::from_hms(20, 0, 2)?),
-    );
-    let first = PlainDateTime::MIN;
-    is(
-        &rt,
-        to_utc_raw(first.assume_offset(late)),
-        (-1_000_000, 365, Time::from_hms(22, 0, 1)?),
-    );
-    is(
-        &rt,
-        to_utc_raw(PlainDateTime::MAX.assume_offset(early)),
-        (1_000_000, 2, Time::from_hms_nano(1, 59, 58, 999_999_999)?),
-    );
-    is(
-        &rt,
-        to_offset_raw(first.assume_offset(late), early),
-        (-1_000_000, 364, Time::from_hms(20, 0, 2)?),
-    );
-    is(
-        &rt,
-        utc_to_offset_raw(UtcDateTime::MIN, early),
-        (-1_000_000, 365, Time::from_hms(22, 0, 1)?),
-    );
+    let january = (2000, Month::January, 1);
+    let evening = plain(january, (23, 59, 59))?.assume_offset(early);
+    let midnight = plain(january, (0, 0, 0))?.assume_offset(late);
+    let first = PlainDateTime::MIN.assume_offset(late);
+    let last = PlainDateTime::MAX.assume_offset(early);
+    let first_utc = utc_to_offset_raw(UtcDateTime::MIN, early);
+    for (shown, year, ordinal, clock) in [
+        (to_offset_raw(evening, late), 2000, 4, (3, 59, 57, 0)),
+        (to_offset_raw(midnight, early), 1999, 363, (20, 0, 2, 0)),
+        (to_utc_raw(first), -1_000_000, 365, (22, 0, 1, 0)),
+        (to_utc_raw(last), 1_000_000, 2, (1, 59, 58, 999_999_999)),
+        (to_offset_raw(first, early), -1_000_000, 364, (20, 0, 2, 0)),
+        (first_utc, -1_000_000, 365, (22, 0, 1, 0)),
+    ] {
+        let (hour, minute, second, nanosecond) = clock;
+        let time = Time::from_hms_nano(hour, minute, second, nanosecond)?;
+        is(&rt, shown, (year, ordinal, time));
+    }
     Ok(())
 }
 
@@ -315,16 +300,12 @@ fn with_utc(rt: HostRuntime) -> Result<(), Fail> {
     let first = PlainDateTime::MIN.assume_offset(offset(25, 59, 59)?);
     is(&rt, first.cmp_utc(UtcDateTime::MIN), Ordering::Less);
     assert!(rt; !first.eq_utc(UtcDateTime::MIN));
-    is(
-        &rt,
-        first - UtcDateTime::MIN,
-        SignedDuration::seconds(-93_599),
-    );
-    is(
-        &rt,
-        UtcDateTime::MIN - first,
-        SignedDuration::seconds(93_599),
-    );
+    for (shown, seconds) in [
+        (first - UtcDateTime::MIN, -93_599),
+        (UtcDateTime::MIN - first, 93_599),
+    ] {
+        is(&rt, shown, SignedDuration::seconds(seconds));
+    }
     let epoch = OffsetDateTime::from(UtcDateTime::UNIX_EPOCH);
     assert!(rt; epoch.eq_utc(UtcDateTime::UNIX_EPOCH));
     is(&rt, epoch.offset(), UtcOffset::UTC);
@@ -515,19 +496,14 @@ fn reads(rt: HostRuntime) -> Result<(), Fail> {
         let at = OffsetDateTime::new_in_offset(date, time, stored);
         is(&rt, (at.date(), at.time()), (date, time));
         is(&rt, at.to_calendar_date(), (2022, Month::February, 18));
-        is(
-            &rt,
-            (at.year(), at.month(), at.day()),
-            (2022, Month::February, 18),
-        );
+        is(&rt, at.year(), 2022);
+        is(&rt, at.month(), Month::February);
+        is(&rt, at.day(), 18);
         is(&rt, at.to_ordinal_date(), (2022, 49));
         is(&rt, at.to_iso_week_date(), (2022, 7, Weekday::Friday));
         is(&rt, at.iso_week(), 7);
-        is(
-            &rt,
-            (at.sunday_based_week(), at.monday_based_week()),
-            (7, 7),
-        );
+        is(&rt, at.sunday_based_week(), 7);
+        is(&rt, at.monday_based_week(), 7);
         is(&rt, at.to_julian_day(), 2_459_629);
         is(&rt, at.to_hms(), (15, 30, 45));
         is(&rt, at.to_hms_micro(), (15, 30, 45, 123_456));

@@ -28,21 +28,13 @@ fn reads(rt: HostRuntime) -> Result<(), Fail> {
         shown.time(),
         Time::from_hms_nano(15, 30, 45, 123_456_789)?,
     );
-    is(
-        &rt,
-        (shown.year(), shown.day(), shown.ordinal()),
-        (2022, 18, 49),
-    );
+    is(&rt, shown.year(), 2022);
+    is(&rt, shown.day(), 18);
+    is(&rt, shown.ordinal(), 49);
     is(&rt, shown.month(), Month::February);
-    is(
-        &rt,
-        (
-            shown.iso_week(),
-            shown.sunday_based_week(),
-            shown.monday_based_week(),
-        ),
-        (7, 7, 7),
-    );
+    is(&rt, shown.iso_week(), 7);
+    is(&rt, shown.sunday_based_week(), 7);
+    is(&rt, shown.monday_based_week(), 7);
     is(&rt, shown.to_calendar_date(), (2022, Month::February, 18));
     is(&rt, shown.to_ordinal_date(), (2022, 49));
     is(&rt, shown.to_iso_week_date(), (2022, 7, Weekday::Friday));
@@ -53,11 +45,9 @@ fn reads(rt: HostRuntime) -> Result<(), Fail> {
     is(&rt, shown.as_hms_milli(), (15, 30, 45, 123));
     is(&rt, shown.as_hms_micro(), (15, 30, 45, 123_456));
     is(&rt, shown.as_hms_nano(), (15, 30, 45, 123_456_789));
-    is(
-        &rt,
-        (shown.hour(), shown.minute(), shown.second()),
-        (15, 30, 45),
-    );
+    is(&rt, shown.hour(), 15);
+    is(&rt, shown.minute(), 30);
+    is(&rt, shown.second(), 45);
     is(&rt, shown.millisecond(), 123);
     is(&rt, shown.microsecond(), 123_456);
     is(&rt, shown.nanosecond(), 123_456_789);
@@ -269,15 +259,9 @@ fn packed_numbers(rt: HostRuntime) -> Result<(), Fail> {
 #[test]
 fn constants_and_laws(rt: HostRuntime) {
     let known = constants::plain_date_times();
-    is(
-        &rt,
-        (known.first, known.last, known.epoch),
-        (
-            PlainDateTime::MIN,
-            PlainDateTime::MAX,
-            PlainDateTime::UNIX_EPOCH,
-        ),
-    );
+    is(&rt, known.first, PlainDateTime::MIN);
+    is(&rt, known.last, PlainDateTime::MAX);
+    is(&rt, known.epoch, PlainDateTime::UNIX_EPOCH);
     laws::differences_undo_sums();
     laws::differences_lead_back();
     laws::replacements_keep_the_rest();

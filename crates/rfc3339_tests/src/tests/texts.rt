@@ -81,11 +81,8 @@ fn texts_that_are_read(rt: HostRuntime) -> Result<(), Fail> {
         is(&rt, numbers, expected);
         assert!(rt; is_text(at.to_rfc3339(), rewritten), "{text}");
         let in_utc = UtcDateTime::from_rfc3339(text.as_bytes())?;
-        is(
-            &rt,
-            (in_utc.unix_timestamp(), in_utc.nanosecond()),
-            (second, expected.1),
-        );
+        is(&rt, in_utc.unix_timestamp(), second);
+        is(&rt, in_utc.nanosecond(), expected.1);
         let stamp = Timestamp::from_rfc3339(text.as_bytes())?;
         is(&rt, stamp, Timestamp::new(expected.0, expected.1)?);
         is(&rt, OffsetDateTime::from_rfc3339(text.as_bytes()), Ok(at));

@@ -1,9 +1,9 @@
 //! Sums of a timestamp and a duration, in seconds and nanoseconds.
-ghost use Rattle.std.specs.Prelude.{◌≡◌, ◌<◌, pos, ◌+ℤ◌, ◌-ℤ◌, ◌≤ℤ◌, unsigned_abs, SomeIff};
+ghost use Rattle.std.specs.Prelude.{◌<◌, pos, ◌+ℤ◌, ◌-ℤ◌, unsigned_abs, SomeIff};
 ghost use Rattle.std.specs.Duration.{as_nanos};
 ghost use Rattle.calendar_values.specs.Clock.{nanos_per_second};
 ghost use Rattle.calendar_values.specs.WallClock.{IsWallClock};
-ghost use Rattle.plain_times.specs.Sums.{nearest_wall_clock};
+ghost use Rattle.plain_times.specs.Sums.{IsSaturatingSum, IsSaturatingDifference};
 ghost use Rattle.stamp_times.specs.Instants.{instant_of_parts};
 
 use super::{FIRST_SECOND, LAST_SECOND};
@@ -55,23 +55,14 @@ impl Timestamp {
     /// in this direction.
     #[tactic(auto, using(std::proofs::lemmas::Int::ints), unfolding(plain_times::specs::Sums::nearest_wall_clock))]
     pub fn saturating_add(self, duration: SignedDuration) -> Timestamp
-        ensures value { result ≡ nearest_wall_clock (self +ℤ duration) }
-        ensures not_before { pos 0 ≤ℤ duration → self ≤ℤ result }
-        ensures not_after { duration ≤ℤ pos 0 → result ≤ℤ self }
-        ensures not_above { pos 0 ≤ℤ duration → result ≤ℤ (self +ℤ duration) }
-        ensures not_below { duration ≤ℤ pos 0 → (self +ℤ duration) ≤ℤ result }
+        ensures { IsSaturatingSum self duration result }
     {
         // For the proof alone: what is read lies in its range.
         let _in_range = self.as_seconds();
         match self.checked_add(duration) {
             Some(sum) => sum,
-            None => {
-                if duration.is_negative() {
-                    Timestamp::MIN
-                } else {
-                    Timestamp::MAX
-                }
-            }
+            None if duration.is_negative() => Timestamp::MIN,
+            None => Timestamp::MAX,
         }
     }
 
@@ -79,23 +70,14 @@ impl Timestamp {
     /// in this direction.
     #[tactic(auto, using(std::proofs::lemmas::Int::ints), unfolding(plain_times::specs::Sums::nearest_wall_clock))]
     pub fn saturating_sub(self, duration: SignedDuration) -> Timestamp
-        ensures value { result ≡ nearest_wall_clock (self -ℤ duration) }
-        ensures not_before { duration ≤ℤ pos 0 → self ≤ℤ result }
-        ensures not_after { pos 0 ≤ℤ duration → result ≤ℤ self }
-        ensures not_above { duration ≤ℤ pos 0 → result ≤ℤ (self -ℤ duration) }
-        ensures not_below { pos 0 ≤ℤ duration → (self -ℤ duration) ≤ℤ result }
+        ensures { IsSaturatingDifference self duration result }
     {
         // For the proof alone: what is read lies in its range.
         let _in_range = self.as_seconds();
         match self.checked_sub(duration) {
             Some(difference) => difference,
-            None => {
-                if duration.is_negative() {
-                    Timestamp::MAX
-                } else {
-                    Timestamp::MIN
-                }
-            }
+            None if duration.is_negative() => Timestamp::MAX,
+            None => Timestamp::MIN,
         }
     }
 }

@@ -26,11 +26,8 @@ fn texts(rt: HostRuntime) -> Result<(), Fail> {
     ] {
         let at = Timestamp::new(second, nanosecond)?;
         is(&rt, at.text().as_str(), text);
-        is(
-            &rt,
-            (at.as_seconds(), at.nanosecond()),
-            (second, nanosecond),
-        );
+        is(&rt, at.as_seconds(), second);
+        is(&rt, at.nanosecond(), nanosecond);
     }
     Ok(())
 }
@@ -66,11 +63,8 @@ fn constructors(rt: HostRuntime) -> Result<(), Fail> {
         ),
     ] {
         let at = at?;
-        is(
-            &rt,
-            (at.as_seconds(), at.nanosecond()),
-            (second, nanosecond),
-        );
+        is(&rt, at.as_seconds(), second);
+        is(&rt, at.nanosecond(), nanosecond);
     }
     Ok(())
 }
@@ -84,11 +78,8 @@ fn counts_are_rounded_down(rt: HostRuntime) -> Result<(), Fail> {
     ] {
         let at = Timestamp::new(-1, nanosecond)?;
         is(&rt, at.as_milliseconds(), milliseconds);
-        is(
-            &rt,
-            (at.as_microseconds(), at.as_nanoseconds()),
-            (microseconds, nanoseconds),
-        );
+        is(&rt, at.as_microseconds(), microseconds);
+        is(&rt, at.as_nanoseconds(), nanoseconds);
     }
     Ok(())
 }
@@ -154,11 +145,9 @@ fn days_by_products(rt: HostRuntime) -> Result<(), Fail> {
     ] {
         let at = Timestamp::from_seconds(second)?;
         is(&rt, at.to_ordinal_date(), (year, ordinal));
-        is(
-            &rt,
-            (at.year(), at.ordinal(), at.weekday()),
-            (year, ordinal, weekday),
-        );
+        is(&rt, at.year(), year);
+        is(&rt, at.ordinal(), ordinal);
+        is(&rt, at.weekday(), weekday);
         is(&rt, at.date(), Date::from_ordinal_date(year, ordinal)?);
     }
     Ok(())
@@ -179,15 +168,9 @@ fn reads_of_the_date(rt: HostRuntime) -> Result<(), Fail> {
     is(&rt, at.weekday(), Weekday::Wednesday);
     is(&rt, at.to_julian_day(), 2_458_486);
     is(&rt, at.to_iso_week_date(), (2019, 1, Weekday::Wednesday));
-    is(
-        &rt,
-        (
-            at.iso_week(),
-            at.sunday_based_week(),
-            at.monday_based_week(),
-        ),
-        (1, 0, 0),
-    );
+    is(&rt, at.iso_week(), 1);
+    is(&rt, at.sunday_based_week(), 0);
+    is(&rt, at.monday_based_week(), 0);
     Ok(())
 }
 
@@ -200,11 +183,9 @@ fn reads_of_the_time(rt: HostRuntime) -> Result<(), Fail> {
     is(&rt, at.as_hms_micro(), (3, 4, 5, 4_005));
     is(&rt, at.as_hms_nano(), (3, 4, 5, 4_005_006));
     is(&rt, (at.hour(), at.minute(), at.second()), (3, 4, 5));
-    is(
-        &rt,
-        (at.millisecond(), at.microsecond(), at.nanosecond()),
-        (4, 4_005, 4_005_006),
-    );
+    is(&rt, at.millisecond(), 4);
+    is(&rt, at.microsecond(), 4_005);
+    is(&rt, at.nanosecond(), 4_005_006);
     let half = Timestamp::new(-1, 500_000_000)?;
     is(&rt, half.as_hms(), (23, 59, 59));
     is(
@@ -250,11 +231,8 @@ fn replacements(rt: HostRuntime) -> Result<(), Fail> {
         (half.replace_microsecond(7_008), -1, 7_008_000),
     ] {
         let replaced = replaced?;
-        is(
-            &rt,
-            (replaced.as_seconds(), replaced.nanosecond()),
-            (seconds, nanosecond),
-        );
+        is(&rt, replaced.as_seconds(), seconds);
+        is(&rt, replaced.nanosecond(), nanosecond);
     }
     Ok(())
 }

@@ -67,11 +67,8 @@ fn unix_nanoseconds(rt: HostRuntime) -> Result<(), Fail> {
     ] {
         let at = UtcDateTime::from_unix_timestamp_nanos(nanosecond)?;
         is(&rt, at.text().as_str(), text);
-        is(
-            &rt,
-            (at.unix_timestamp(), at.unix_timestamp_nanos()),
-            (second, nanosecond),
-        );
+        is(&rt, at.unix_timestamp(), second);
+        is(&rt, at.unix_timestamp_nanos(), nanosecond);
     }
     Ok(())
 }
@@ -126,21 +123,16 @@ fn reads(rt: HostRuntime) -> Result<(), Fail> {
         at.date(),
         Date::from_calendar_date(2022, Month::February, 18)?,
     );
-    is(
-        &rt,
-        (at.year(), at.month(), at.day()),
-        (2022, Month::February, 18),
-    );
+    is(&rt, at.year(), 2022);
+    is(&rt, at.month(), Month::February);
+    is(&rt, at.day(), 18);
     is(&rt, at.to_calendar_date(), (2022, Month::February, 18));
     is(&rt, at.ordinal(), 49);
     is(&rt, at.to_ordinal_date(), (2022, 49));
     is(&rt, at.iso_week(), 7);
     is(&rt, at.to_iso_week_date(), (2022, 7, Weekday::Friday));
-    is(
-        &rt,
-        (at.sunday_based_week(), at.monday_based_week()),
-        (7, 7),
-    );
+    is(&rt, at.sunday_based_week(), 7);
+    is(&rt, at.monday_based_week(), 7);
     is(&rt, at.weekday(), Weekday::Friday);
     is(&rt, at.to_julian_day(), 2_459_629);
     is(&rt, at.time(), Time::from_hms_nano(1, 2, 3, 4_005_006)?);
@@ -149,11 +141,9 @@ fn reads(rt: HostRuntime) -> Result<(), Fail> {
     is(&rt, at.as_hms_micro(), (1, 2, 3, 4_005));
     is(&rt, at.as_hms_nano(), (1, 2, 3, 4_005_006));
     is(&rt, (at.hour(), at.minute(), at.second()), (1, 2, 3));
-    is(
-        &rt,
-        (at.millisecond(), at.microsecond(), at.nanosecond()),
-        (4, 4_005, 4_005_006),
-    );
+    is(&rt, at.millisecond(), 4);
+    is(&rt, at.microsecond(), 4_005);
+    is(&rt, at.nanosecond(), 4_005_006);
     let epoch = UtcDateTime::UNIX_EPOCH;
     is(&rt, epoch.to_iso_week_date(), (1970, 1, Weekday::Thursday));
     is(&rt, epoch.to_julian_day(), 2_440_588);
@@ -365,11 +355,8 @@ fn differences(rt: HostRuntime) -> Result<(), Fail> {
     is(&rt, epoch - half, SignedDuration::nanoseconds(500_000_000));
     is(&rt, half - epoch, SignedDuration::nanoseconds(-500_000_000));
     let whole = last - first;
-    is(
-        &rt,
-        (whole.whole_seconds(), whole.subsec_nanoseconds()),
-        (63_113_872_377_599, 999_999_999),
-    );
+    is(&rt, whole.whole_seconds(), 63_113_872_377_599);
+    is(&rt, whole.subsec_nanoseconds(), 999_999_999);
     Ok(())
 }
 
