@@ -8,7 +8,7 @@ use Rattle.calendar_values.specs.Clock.{nanosecond_of, nanos_per_millisecond, na
 use Rattle.calendar_values.specs.ClockLemmas.{IsClock-clock_of_parts, IsTimeOfDay-of, clock_of_parts-of, hour_of-clock_of_parts, minute_of-clock_of_parts}
 use Rattle.calendar_values.specs.ClockLemmas.{second_of-clock_of_parts, nanosecond_of-clock_of_parts}
 use Rattle.calendar_values.specs.Refusals.{outright_refusal}
-use Rattle.calendar_values.specs.Replacements.{with_hour, with_minute, with_second, with_millisecond, with_microsecond, with_nanosecond}
+use Rattle.calendar_values.specs.Replacements.{hour_outcome, minute_outcome, second_outcome, millisecond_outcome, microsecond_outcome, nanosecond_outcome}
 
 pub Shows-clock_of_parts : (h m s n : ℕ) → IsTimeOfDay h m s n → Shows (clock_of_parts h m s n) h m s n
 Shows-clock_of_parts h m s n p = record {
@@ -49,40 +49,40 @@ replaced limit part h m s n d name within back = (
   λ p. accepted limit part (clock_of_parts h m s n) d name (back (parts_of_shown d h m s n p)) (clock_of_parts-shown d h m s n p),
 )
 
-pub with_hour-shows : (c h d : ℕ) → IsClock c → (with_hour c h ≡ Ok d) ↔ Shows d h (minute_of c) (second_of c) (nanosecond_of c)
-with_hour-shows c h d clock =
+pub hour_outcome-shows : (c h d : ℕ) → IsClock c → ((hour_outcome c h).answer ≡ Ok d) ↔ Shows d h (minute_of c) (second_of c) (nanosecond_of c)
+hour_outcome-shows c h d clock =
     let parts = IsTimeOfDay-of c clock in
     replaced 23 h h (minute_of c) (second_of c) (nanosecond_of c) d (codes "hour") (λ low.
     record { hour = omega arith; minute = omega arith; second = omega arith; nanosecond = omega arith }) (λ q. omega arith)
 
-pub with_minute-shows : (c m d : ℕ) → IsClock c → (with_minute c m ≡ Ok d) ↔ Shows d (hour_of c) m (second_of c) (nanosecond_of c)
-with_minute-shows c m d clock =
+pub minute_outcome-shows : (c m d : ℕ) → IsClock c → ((minute_outcome c m).answer ≡ Ok d) ↔ Shows d (hour_of c) m (second_of c) (nanosecond_of c)
+minute_outcome-shows c m d clock =
     let parts = IsTimeOfDay-of c clock in
     replaced 59 m (hour_of c) m (second_of c) (nanosecond_of c) d (codes "minute") (λ low.
     record { hour = omega arith; minute = omega arith; second = omega arith; nanosecond = omega arith }) (λ q. omega arith)
 
-pub with_second-shows : (c s d : ℕ) → IsClock c → (with_second c s ≡ Ok d) ↔ Shows d (hour_of c) (minute_of c) s (nanosecond_of c)
-with_second-shows c s d clock =
+pub second_outcome-shows : (c s d : ℕ) → IsClock c → ((second_outcome c s).answer ≡ Ok d) ↔ Shows d (hour_of c) (minute_of c) s (nanosecond_of c)
+second_outcome-shows c s d clock =
     let parts = IsTimeOfDay-of c clock in
     replaced 59 s (hour_of c) (minute_of c) s (nanosecond_of c) d (codes "second") (λ low.
     record { hour = omega arith; minute = omega arith; second = omega arith; nanosecond = omega arith }) (λ q. omega arith)
 
-pub with_millisecond-shows : (c milli d : ℕ) → IsClock c → (with_millisecond c milli ≡ Ok d) ↔ Shows d (hour_of c) (minute_of c) (second_of c)
+pub millisecond_outcome-shows : (c milli d : ℕ) → IsClock c → ((millisecond_outcome c milli).answer ≡ Ok d) ↔ Shows d (hour_of c) (minute_of c) (second_of c)
     (milli * nanos_per_millisecond)
-with_millisecond-shows c milli d clock =
+millisecond_outcome-shows c milli d clock =
     let parts = IsTimeOfDay-of c clock in
     replaced 999 milli (hour_of c) (minute_of c) (second_of c) (milli * nanos_per_millisecond) d (codes "millisecond") (λ low.
     record { hour = omega arith; minute = omega arith; second = omega arith; nanosecond = omega arith }) (λ q. omega arith)
 
-pub with_microsecond-shows : (c micro d : ℕ) → IsClock c → (with_microsecond c micro ≡ Ok d) ↔ Shows d (hour_of c) (minute_of c) (second_of c)
+pub microsecond_outcome-shows : (c micro d : ℕ) → IsClock c → ((microsecond_outcome c micro).answer ≡ Ok d) ↔ Shows d (hour_of c) (minute_of c) (second_of c)
     (micro * nanos_per_microsecond)
-with_microsecond-shows c micro d clock =
+microsecond_outcome-shows c micro d clock =
     let parts = IsTimeOfDay-of c clock in
     replaced 999_999 micro (hour_of c) (minute_of c) (second_of c) (micro * nanos_per_microsecond) d (codes "microsecond") (λ low.
     record { hour = omega arith; minute = omega arith; second = omega arith; nanosecond = omega arith }) (λ q. omega arith)
 
-pub with_nanosecond-shows : (c n d : ℕ) → IsClock c → (with_nanosecond c n ≡ Ok d) ↔ Shows d (hour_of c) (minute_of c) (second_of c) n
-with_nanosecond-shows c n d clock =
+pub nanosecond_outcome-shows : (c n d : ℕ) → IsClock c → ((nanosecond_outcome c n).answer ≡ Ok d) ↔ Shows d (hour_of c) (minute_of c) (second_of c) n
+nanosecond_outcome-shows c n d clock =
     let parts = IsTimeOfDay-of c clock in
     replaced 999_999_999 n (hour_of c) (minute_of c) (second_of c) n d (codes "nanosecond") (λ low.
     record { hour = omega arith; minute = omega arith; second = omega arith; nanosecond = omega arith }) (λ q. omega arith)

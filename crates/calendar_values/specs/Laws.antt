@@ -4,8 +4,8 @@ use Rattle.calendar_values.specs.Calendar.{days_in_year, year_start, year_of, or
 use Rattle.calendar_values.specs.Calendar.{IsInYear, IsCalendarDate, IsOrdinalDate}
 use Rattle.calendar_values.specs.Clock.{IsClock, Shows, hour_of, minute_of, second_of, nanosecond_of, nanos_per_millisecond, nanos_per_microsecond}
 use Rattle.calendar_values.specs.Range.{first_year, last_year, first_day, last_day}
-use Rattle.calendar_values.specs.Replacements.{with_year, with_month, with_day, with_ordinal, with_hour, with_minute, with_second, with_millisecond}
-use Rattle.calendar_values.specs.Replacements.{with_microsecond, with_nanosecond}
+use Rattle.calendar_values.specs.Replacements.{year_outcome, month_outcome, day_outcome, ordinal_outcome, hour_outcome, minute_outcome}
+use Rattle.calendar_values.specs.Replacements.{second_outcome, millisecond_outcome, microsecond_outcome, nanosecond_outcome}
 use Rattle.calendar_values.specs.Truncations.{multiple_below, IsGreatestMultiple}
 use Rattle.calendar_values.specs.Weeks.{weekday_of}
 
@@ -50,20 +50,22 @@ pub record IsOnlyDay (n y : ℤ) (m d : ℕ) : Type 0 where
 
 -- an accepted replacement gives the only day whose named part is as given and whose other parts are as before
 pub record ReplacementsKeepTheRest : Type 0 where
-  pub year : (n y k : ℤ) → with_year n y ≡ Ok k → IsOnlyDay k y (month_of n) (day_of_month_of n)
-  pub month : (n k : ℤ) (m : ℕ) → 1 ≤ m → m ≤ 12 → with_month n m ≡ Ok k → IsOnlyDay k (year_of n) m (day_of_month_of n)
-  pub day : (n k : ℤ) (d : ℕ) → with_day n d ≡ Ok k → IsOnlyDay k (year_of n) (month_of n) d
-  pub ordinal : (n k : ℤ) (o : ℕ) → with_ordinal n o ≡ Ok k → (year_of k ≡ year_of n) × (ordinal_of k ≡ o)
+  pub year : (n y k : ℤ) → (year_outcome n y).answer ≡ Ok k → IsOnlyDay k y (month_of n) (day_of_month_of n)
+  pub month : (n k : ℤ) (m : ℕ) → 1 ≤ m → m ≤ 12 → (month_outcome n m).answer ≡ Ok k → IsOnlyDay k (year_of n) m (day_of_month_of n)
+  pub day : (n k : ℤ) (d : ℕ) → (day_outcome n d).answer ≡ Ok k → IsOnlyDay k (year_of n) (month_of n) d
+  pub ordinal : (n k : ℤ) (o : ℕ) → (ordinal_outcome n o).answer ≡ Ok k → (year_of k ≡ year_of n) × (ordinal_of k ≡ o)
 
 -- a replacement of a part of a clock is accepted exactly where a clock shows the part as given, the other parts as
 -- before and 0 for what is finer than a millisecond or a microsecond; it gives that clock
 pub record ClockReplacementsKeepTheRest : Type 0 where
-  pub hour : (c h d : ℕ) → IsClock c → (with_hour c h ≡ Ok d) ↔ Shows d h (minute_of c) (second_of c) (nanosecond_of c)
-  pub minute : (c m d : ℕ) → IsClock c → (with_minute c m ≡ Ok d) ↔ Shows d (hour_of c) m (second_of c) (nanosecond_of c)
-  pub second : (c s d : ℕ) → IsClock c → (with_second c s ≡ Ok d) ↔ Shows d (hour_of c) (minute_of c) s (nanosecond_of c)
-  pub millisecond : (c n d : ℕ) → IsClock c → (with_millisecond c n ≡ Ok d) ↔ Shows d (hour_of c) (minute_of c) (second_of c) (n * nanos_per_millisecond)
-  pub microsecond : (c n d : ℕ) → IsClock c → (with_microsecond c n ≡ Ok d) ↔ Shows d (hour_of c) (minute_of c) (second_of c) (n * nanos_per_microsecond)
-  pub nanosecond : (c n d : ℕ) → IsClock c → (with_nanosecond c n ≡ Ok d) ↔ Shows d (hour_of c) (minute_of c) (second_of c) n
+  pub hour : (c h d : ℕ) → IsClock c → ((hour_outcome c h).answer ≡ Ok d) ↔ Shows d h (minute_of c) (second_of c) (nanosecond_of c)
+  pub minute : (c m d : ℕ) → IsClock c → ((minute_outcome c m).answer ≡ Ok d) ↔ Shows d (hour_of c) m (second_of c) (nanosecond_of c)
+  pub second : (c s d : ℕ) → IsClock c → ((second_outcome c s).answer ≡ Ok d) ↔ Shows d (hour_of c) (minute_of c) s (nanosecond_of c)
+  pub millisecond : (c n d : ℕ) → IsClock c → ((millisecond_outcome c n).answer ≡ Ok d)
+      ↔ Shows d (hour_of c) (minute_of c) (second_of c) (n * nanos_per_millisecond)
+  pub microsecond : (c n d : ℕ) → IsClock c → ((microsecond_outcome c n).answer ≡ Ok d)
+      ↔ Shows d (hour_of c) (minute_of c) (second_of c) (n * nanos_per_microsecond)
+  pub nanosecond : (c n d : ℕ) → IsClock c → ((nanosecond_outcome c n).answer ≡ Ok d) ↔ Shows d (hour_of c) (minute_of c) (second_of c) n
   pub only : (c d h m s n : ℕ) → Shows c h m s n → Shows d h m s n → c ≡ d
 
 -- a truncation gives the greatest multiple of the unit that is not above the clock

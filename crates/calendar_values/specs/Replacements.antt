@@ -1,11 +1,11 @@
 -- What a date or a clock comes to with one part replaced: the one whose other parts are as before, or the refusal of a part.
-use Rattle.std.specs.Prelude.{ℕ, ◌≤◌, ◌*◌, ℤ, Result, codes}
+use Rattle.std.specs.Prelude.{ℕ, ◌≤◌, ◌*◌, ℤ, codes}
 use Rattle.calendar_values.specs.Calendar.{year_of, month_of, day_of_month_of, is_leap_year, days_in_month, days_in_year, day_of_calendar_date}
 use Rattle.calendar_values.specs.Calendar.{day_of_ordinal_date}
 use Rattle.calendar_values.specs.Clock.{nanos_per_microsecond, nanos_per_millisecond, clock_of_parts, hour_of, minute_of, second_of, nanosecond_of}
 use Rattle.calendar_values.specs.Constructors.{calendar_date, ordinal_date, calendar_date_outcome}
 use Rattle.calendar_values.specs.Outcomes.{Outcome, at_most}
-use Rattle.calendar_values.specs.Refusals.{Refusal, date_refusal, ordinal_refusal, conditional_refusal}
+use Rattle.calendar_values.specs.Refusals.{date_refusal, ordinal_refusal, conditional_refusal}
 
 -- another year, with the month and the day of the month kept
 abbrev pub year_outcome : ℤ → ℤ → Outcome ℤ
@@ -64,34 +64,3 @@ microsecond_outcome c micro =
 abbrev pub nanosecond_outcome : ℕ → ℕ → Outcome ℕ
 nanosecond_outcome c n =
     at_most 999_999_999 (codes "nanosecond") n (clock_of_parts (hour_of c) (minute_of c) (second_of c) n)
-
--- what each of them answers
-abbrev pub with_year : ℤ → ℤ → Result ℤ Refusal
-with_year n y = (year_outcome n y).answer
-
-abbrev pub with_month : ℤ → ℕ → Result ℤ Refusal
-with_month n m = (month_outcome n m).answer
-
-abbrev pub with_day : ℤ → ℕ → Result ℤ Refusal
-with_day n d = (day_outcome n d).answer
-
-abbrev pub with_ordinal : ℤ → ℕ → Result ℤ Refusal
-with_ordinal n ordinal = (ordinal_outcome n ordinal).answer
-
-abbrev pub with_hour : ℕ → ℕ → Result ℕ Refusal
-with_hour c h = (hour_outcome c h).answer
-
-abbrev pub with_minute : ℕ → ℕ → Result ℕ Refusal
-with_minute c m = (minute_outcome c m).answer
-
-abbrev pub with_second : ℕ → ℕ → Result ℕ Refusal
-with_second c s = (second_outcome c s).answer
-
-abbrev pub with_millisecond : ℕ → ℕ → Result ℕ Refusal
-with_millisecond c milli = (millisecond_outcome c milli).answer
-
-abbrev pub with_microsecond : ℕ → ℕ → Result ℕ Refusal
-with_microsecond c micro = (microsecond_outcome c micro).answer
-
-abbrev pub with_nanosecond : ℕ → ℕ → Result ℕ Refusal
-with_nanosecond c n = (nanosecond_outcome c n).answer

@@ -11,7 +11,7 @@ ghost use Rattle.calendar_values.specs.Month.{month_number};
 ghost use Rattle.calendar_values.specs.Offsets.{seconds_of_parts};
 ghost use Rattle.calendar_values.specs.Constructors.{calendar_date, ordinal_date, clock_time_nano};
 ghost use Rattle.calendar_values.specs.Refusals.{conditional_refusal, outright_refusal};
-ghost use Rattle.calendar_values.specs.Replacements.{with_year, with_month, with_day, with_ordinal, with_hour, with_minute, with_second, with_millisecond, with_microsecond, with_nanosecond};
+ghost use Rattle.calendar_values.specs.Replacements.{year_outcome, month_outcome, day_outcome, ordinal_outcome, hour_outcome, minute_outcome, second_outcome, millisecond_outcome, microsecond_outcome, nanosecond_outcome};
 ghost use Rattle.calendar_values.specs.Texts.{year_text, date_text, time_text, offset_text};
 ghost use Rattle.calendar_values.specs.WallClock.{wall_clock, wall_day, wall_time, last_wall_clock, first_wall_clock};
 ghost use Rattle.calendar_values.specs.Weeks.{weekday_of, thursday_of, iso_year_of, iso_week_of, count_weekday, sunday_week_of, monday_week_of};
@@ -111,20 +111,20 @@ pub fn refused_dates()
 
 /// Replacements of 1970-03-01, and of 31 January.
 pub fn replaced_dates()
-    ensures year { with_year (pos 59) (pos 1971) ≡ Ok (pos 424) }
-    ensures day { with_day (pos 59) 31 ≡ Ok (pos 89) }
-    ensures ordinal { with_ordinal (pos 59) 1 ≡ Ok (pos 0) }
-    ensures month { with_month (pos 30) 2 ≡ Err (conditional_refusal (codes "day")) }
+    ensures year { (year_outcome (pos 59) (pos 1971)).answer ≡ Ok (pos 424) }
+    ensures day { (day_outcome (pos 59) 31).answer ≡ Ok (pos 89) }
+    ensures ordinal { (ordinal_outcome (pos 59) 1).answer ≡ Ok (pos 0) }
+    ensures month { (month_outcome (pos 30) 2).answer ≡ Err (conditional_refusal (codes "day")) }
 {}
 
 /// Replacements of parts of 0:00:01.000000001.
 pub fn replaced_clocks()
-    ensures hour { with_hour 1_000_000_001 1 ≡ Ok 3_601_000_000_001 }
-    ensures minute { with_minute 1_000_000_001 1 ≡ Ok 61_000_000_001 }
-    ensures second { with_second 1_000_000_001 0 ≡ Ok 1 }
-    ensures millisecond { with_millisecond 1_000_000_001 7 ≡ Ok 1_007_000_000 }
-    ensures microsecond { with_microsecond 1_000_000_001 7 ≡ Ok 1_000_007_000 }
-    ensures nanosecond { with_nanosecond 1_000_000_001 7 ≡ Ok 1_000_000_007 }
+    ensures hour { (hour_outcome 1_000_000_001 1).answer ≡ Ok 3_601_000_000_001 }
+    ensures minute { (minute_outcome 1_000_000_001 1).answer ≡ Ok 61_000_000_001 }
+    ensures second { (second_outcome 1_000_000_001 0).answer ≡ Ok 1 }
+    ensures millisecond { (millisecond_outcome 1_000_000_001 7).answer ≡ Ok 1_007_000_000 }
+    ensures microsecond { (microsecond_outcome 1_000_000_001 7).answer ≡ Ok 1_000_007_000 }
+    ensures nanosecond { (nanosecond_outcome 1_000_000_001 7).answer ≡ Ok 1_000_000_007 }
 {}
 
 /// The nanosecond before 1970.

@@ -1,14 +1,15 @@
-use Rattle.calendar_values.specs.ClockReplacementLemmas.{with_hour-shows, with_minute-shows, with_second-shows, with_millisecond-shows, with_microsecond-shows}
-use Rattle.calendar_values.specs.ClockReplacementLemmas.{with_nanosecond-shows, Shows-unique}
+use Rattle.calendar_values.specs.ClockReplacementLemmas.{hour_outcome-shows, minute_outcome-shows, second_outcome-shows, millisecond_outcome-shows}
+use Rattle.calendar_values.specs.ClockReplacementLemmas.{microsecond_outcome-shows}
+use Rattle.calendar_values.specs.ClockReplacementLemmas.{nanosecond_outcome-shows, Shows-unique}
 use Rattle.calendar_values.proofs.laws.clock_replacements_keep_the_rest.Goals as goal
 
 pub returns : goal.returns
 returns c = record {
-  hour = with_hour-shows;
-  minute = with_minute-shows;
-  second = with_second-shows;
-  millisecond = with_millisecond-shows;
-  microsecond = with_microsecond-shows;
-  nanosecond = with_nanosecond-shows;
+  hour = hour_outcome-shows;
+  minute = minute_outcome-shows;
+  second = second_outcome-shows;
+  millisecond = millisecond_outcome-shows;
+  microsecond = microsecond_outcome-shows;
+  nanosecond = nanosecond_outcome-shows;
   only = Shows-unique;
 }
