@@ -1,5 +1,5 @@
 -- The signs, the parts and the texts of offsets.
-use Rattle.std.proofs.Common.{lit≤, ◌≡◌, ℕ, ℤ, FitsSigned, w8, w32, to_z, of_z, to_z-of_z, int_div, int_rem, pos, negsuc, ◌/◌, ◌%◌, ◌<ℤ◌, neg_ℤ, unsigned_abs}
+use Rattle.std.proofs.Common.{lit≤, ◌≡◌, ℕ, ℤ, w8, w32, to_z, of_z, int_div, int_rem, pos, ◌/◌, ◌%◌, ◌<ℤ◌, ◌≤ℤ◌, neg_ℤ, unsigned_abs}
 use Rattle.std.proofs.Common.{inl, inr, List, ◌++◌, refl, arith, IsTrue, false, ◌≤◌}
 use Rattle.std.proofs.lemmas.Int.{by_lt_z, ints}
 use Rattle.std.specs.Prelude.{Ok, codes, int_lt, if◌then◌else◌}
@@ -18,29 +18,16 @@ offset_of_seconds-in o p = grind (arith, ints)
 -- the parts of an offset, as the code computes them
 pub computed_hours : (o : ℤ) → IsOffset o → to_z w8 (of_z w8 (to_z w32 (of_z w32 (int_div (to_z w32 (of_z w32 o)) (pos 3_600))))) ≡ offset_hours_of o
 unfolding offset_hours_of
-computed_hours o p =
-    let fits : FitsSigned w32 o = omega (arith, signed_arith) in
-    let hours : FitsSigned w32 (int_div o (pos 3_600)) = omega (arith, signed_arith, one_part o) in
-    let hours' : FitsSigned w8 (int_div o (pos 3_600)) = omega (arith, signed_arith, one_part o) in
-    simp to_z-of_z
+computed_hours o p = omega (arith, signed_arith, one_part o)
 
 pub computed_minutes : (o : ℤ) → IsOffset o → to_z w8 (of_z w8 (to_z w32
     (of_z w32 (int_rem (to_z w32 (of_z w32 (int_div (to_z w32 (of_z w32 o)) (pos 60)))) (pos 60))))) ≡ offset_minutes_of o
 unfolding offset_minutes_of
-computed_minutes o p =
-    let fits : FitsSigned w32 o = omega (arith, signed_arith) in
-    let quotient : FitsSigned w32 (int_div o (pos 60)) = omega (arith, signed_arith, one_part o) in
-    let minutes : FitsSigned w32 (int_rem (int_div o (pos 60)) (pos 60)) = omega (arith, signed_arith) in
-    let minutes' : FitsSigned w8 (int_rem (int_div o (pos 60)) (pos 60)) = omega (arith, signed_arith) in
-    simp to_z-of_z
+computed_minutes o p = omega (arith, signed_arith, one_part o)
 
 pub computed_seconds : (o : ℤ) → IsOffset o → to_z w8 (of_z w8 (to_z w32 (of_z w32 (int_rem (to_z w32 (of_z w32 o)) (pos 60))))) ≡ offset_seconds_of o
 unfolding offset_seconds_of
-computed_seconds o p =
-    let fits : FitsSigned w32 o = omega (arith, signed_arith) in
-    let seconds : FitsSigned w32 (int_rem o (pos 60)) = omega (arith, signed_arith) in
-    let seconds' : FitsSigned w8 (int_rem o (pos 60)) = omega (arith, signed_arith) in
-    simp to_z-of_z
+computed_seconds o p = omega (arith, signed_arith, one_part o)
 
 pub with_sign_of-positive : (greater part : ℤ) → pos 0 <ℤ greater → with_sign_of greater part ≡ pos (unsigned_abs part)
 with_sign_of-positive greater part h = grind (arith, ints)
@@ -51,71 +38,35 @@ with_sign_of-negative greater part h = grind (arith, ints)
 pub unsigned_abs-with_sign_of : (greater part : ℤ) → unsigned_abs (with_sign_of greater part) ≡ unsigned_abs part
 unsigned_abs-with_sign_of greater part = grind (arith, signed_arith)
 
--- seconds alone
-IsOffsetParts-seconds : (s : ℤ) → unsigned_abs s ≤ 59 → IsOffsetParts (pos 0) (pos 0) s
-IsOffsetParts-seconds (pos s) b = record {
-  hours_in_range = lit≤ tt;
-  minutes_in_range = lit≤ tt;
-  seconds_in_range = b;
-  one_sign = inl (omega (arith, ints), omega (arith, ints), omega (arith, ints));
-}
-IsOffsetParts-seconds (negsuc s) b = record {
-  hours_in_range = lit≤ tt;
-  minutes_in_range = lit≤ tt;
-  seconds_in_range = b;
-  one_sign = inr (omega (arith, ints), omega (arith, ints), omega (arith, ints));
-}
+-- parts of which none is negative, and parts of which none is positive
+positive : (h m s : ℤ) → unsigned_abs h ≤ 25 → unsigned_abs m ≤ 59 → unsigned_abs s ≤ 59 → (pos 0 ≤ℤ h) × (pos 0 ≤ℤ m) × (pos 0 ≤ℤ s) → IsOffsetParts h m s
+positive h m s a b d signs = record { hours_in_range = a; minutes_in_range = b; seconds_in_range = d; one_sign = inl signs }
 
--- parts with the sign of hours that are not 0
-IsOffsetParts-positive : (h m s : ℤ) → pos 0 <ℤ h → unsigned_abs h ≤ 25 → unsigned_abs m ≤ 59 → unsigned_abs s ≤ 59 →
-    IsOffsetParts h (with_sign_of h m) (with_sign_of h s)
-IsOffsetParts-positive h m s p a b d =
-    rw (with_sign_of-positive h m p, with_sign_of-positive h s p) (record {
-      hours_in_range = a;
-      minutes_in_range = b;
-      seconds_in_range = d;
-      one_sign = inl (omega (arith, signed_arith), omega (arith, signed_arith), omega (arith, signed_arith));
-    })
-
-IsOffsetParts-negative : (h m s : ℤ) → h <ℤ pos 0 → unsigned_abs h ≤ 25 → unsigned_abs m ≤ 59 → unsigned_abs s ≤ 59 →
-    IsOffsetParts h (with_sign_of h m) (with_sign_of h s)
-IsOffsetParts-negative h m s p a b d =
-    rw (with_sign_of-negative h m p, with_sign_of-negative h s p) (record {
-      hours_in_range = a;
-      minutes_in_range = omega (arith, signed_arith);
-      seconds_in_range = omega (arith, signed_arith);
-      one_sign = inr (omega (arith, signed_arith), omega (arith, signed_arith), omega (arith, signed_arith));
-    })
-
--- parts of less than an hour
-IsOffsetParts-minutes : (m s : ℤ) → unsigned_abs m ≤ 59 → unsigned_abs s ≤ 59 → IsOffsetParts (pos 0) m (with_sign_of m s)
-IsOffsetParts-minutes m s a b =
-    by_lt_z (pos 0) m
-    (λ more. rw (with_sign_of-positive m s more) (record {
-      hours_in_range = lit≤ tt;
-      minutes_in_range = a;
-      seconds_in_range = b;
-      one_sign = inl (omega (arith, signed_arith), omega (arith, signed_arith), omega (arith, signed_arith));
-    }))
-    (λ at_most. by_lt_z m (pos 0)
-    (λ less. rw (with_sign_of-negative m s less) (record {
-      hours_in_range = lit≤ tt;
-      minutes_in_range = a;
-      seconds_in_range = omega (arith, signed_arith);
-      one_sign = inr (omega (arith, signed_arith), omega (arith, signed_arith), omega (arith, signed_arith));
-    }))
-    (λ at_least. let none : m ≡ pos 0 = omega (arith, signed_arith) in rw none (IsOffsetParts-seconds s b)))
+negative : (h m s : ℤ) → unsigned_abs h ≤ 25 → unsigned_abs m ≤ 59 → unsigned_abs s ≤ 59 → (h ≤ℤ pos 0) × (m ≤ℤ pos 0) × (s ≤ℤ pos 0) → IsOffsetParts h m s
+negative h m s a b d signs = record { hours_in_range = a; minutes_in_range = b; seconds_in_range = d; one_sign = inr signs }
 
 -- parts that have been given their signs are parts of an offset
 pub IsOffsetParts-with_sign_of : (h m s : ℤ) → unsigned_abs h ≤ 25 → unsigned_abs m ≤ 59 → unsigned_abs s ≤ 59 →
     IsOffsetParts h (with_sign_of h m) (with_sign_of h (with_sign_of m s))
 IsOffsetParts-with_sign_of h m s a b d =
-    let bound : unsigned_abs (with_sign_of m s) ≤ 59 = rw (unsigned_abs-with_sign_of m s) d in
+    let n = with_sign_of m s in
+    let size : unsigned_abs n ≡ unsigned_abs s = unsigned_abs-with_sign_of m s in
+    let below : unsigned_abs n ≤ 59 = rw size d in
     by_lt_z (pos 0) h
-    (λ more. IsOffsetParts-positive h m (with_sign_of m s) more a b bound)
+    (λ more. rw (with_sign_of-positive h m more, with_sign_of-positive h n more) (positive h (pos (unsigned_abs m)) (pos (unsigned_abs n)) a b below
+    (omega (arith, signed_arith), omega (arith, signed_arith), omega (arith, signed_arith))))
     (λ at_most. by_lt_z h (pos 0)
-    (λ less. IsOffsetParts-negative h m (with_sign_of m s) less a b bound)
-    (λ at_least. let none : h ≡ pos 0 = omega (arith, signed_arith) in rw none (IsOffsetParts-minutes m s b d)))
+    (λ less. rw (with_sign_of-negative h m less, with_sign_of-negative h n less) (negative h (neg_ℤ (pos (unsigned_abs m))) (neg_ℤ (pos (unsigned_abs n))) a
+    (omega (arith, signed_arith)) (omega (arith, signed_arith)) (omega (arith, signed_arith), omega (arith, signed_arith), omega (arith, signed_arith))))
+    (λ at_least. let none : h ≡ pos 0 = omega (arith, signed_arith) in rw none (by_lt_z (pos 0) m
+    (λ more. rw (with_sign_of-positive m s more) (positive (pos 0) m (pos (unsigned_abs s)) (lit≤ tt) b d
+    (omega (arith, signed_arith), omega (arith, signed_arith), omega (arith, signed_arith))))
+    (λ not_more. by_lt_z m (pos 0)
+    (λ less. rw (with_sign_of-negative m s less) (negative (pos 0) m (neg_ℤ (pos (unsigned_abs s))) (lit≤ tt) b (omega (arith, signed_arith))
+    (omega (arith, signed_arith), omega (arith, signed_arith), omega (arith, signed_arith))))
+    (λ not_less. let no_minutes : m ≡ pos 0 = omega (arith, signed_arith) in rw no_minutes (by_lt_z s (pos 0)
+    (λ less. negative (pos 0) (pos 0) s (lit≤ tt) (lit≤ tt) d (omega (arith, signed_arith), omega (arith, signed_arith), omega (arith, signed_arith)))
+    (λ at_least. positive (pos 0) (pos 0) s (lit≤ tt) (lit≤ tt) d (omega (arith, signed_arith), omega (arith, signed_arith), omega (arith, signed_arith)))))))))
 
 -- the absolute parts of an offset
 pub unsigned_abs-hours : (h m s : ℤ) → IsOffsetParts h m s → unsigned_abs (seconds_of_parts h m s) / 3_600 ≡ unsigned_abs h
@@ -135,8 +86,7 @@ abbrev pub sign_text : ℤ → List ℕ
 sign_text o = if int_lt o (pos 0) then codes "-" else codes "+"
 
 pub sign_text-negative : (o : ℤ) → o <ℤ pos 0 → codes "-" ≡ sign_text o
-sign_text-negative (pos n) h = absurd (omega (arith, ints))
-sign_text-negative (negsuc n) h = refl
+sign_text-negative o h = grind (arith, ints)
 
 pub sign_text-not_negative : (o : ℤ) → (o <ℤ pos 0 → IsTrue false) → codes "+" ≡ sign_text o
 sign_text-not_negative o h = grind (arith, ints)

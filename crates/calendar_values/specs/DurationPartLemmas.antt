@@ -8,8 +8,7 @@ use Rattle.calendar_values.specs.SignedArith.{signed_arith, one_part}
 
 pub duration_of_parts-of : (d : ℤ) → duration_of_parts (whole_seconds_of d) (subsec_nanoseconds_of d) ≡ d
 unfolding whole_seconds_of subsec_nanoseconds_of
-duration_of_parts-of (pos n) = omega (arith, ints)
-duration_of_parts-of (negsuc n) = omega (arith, ints)
+duration_of_parts-of d = omega (arith, signed_arith, one_part d)
 
 pub IsDurationParts-of : (d : ℤ) → IsDurationParts (whole_seconds_of d) (subsec_nanoseconds_of d)
 unfolding whole_seconds_of subsec_nanoseconds_of

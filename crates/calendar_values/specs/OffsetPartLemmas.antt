@@ -8,8 +8,7 @@ use Rattle.calendar_values.specs.SignedArith.{signed_arith, one_part}
 
 pub seconds_of_parts-of : (o : ℤ) → seconds_of_parts (offset_hours_of o) (offset_minutes_of o) (offset_seconds_of o) ≡ o
 unfolding offset_hours_of offset_minutes_of offset_seconds_of
-seconds_of_parts-of (pos n) = omega (arith, ints)
-seconds_of_parts-of (negsuc n) = omega (arith, ints)
+seconds_of_parts-of o = omega (arith, signed_arith, one_part o)
 
 pub IsOffsetParts-of : (o : ℤ) → IsOffset o → IsOffsetParts (offset_hours_of o) (offset_minutes_of o) (offset_seconds_of o)
 unfolding offset_hours_of offset_minutes_of offset_seconds_of

@@ -1,6 +1,5 @@
 -- A clock that is moved from one offset to another by carries is the clock that its nanoseconds give.
-use Rattle.std.proofs.Common.{◌≡◌, ℕ, ◌<◌, ◌≤◌, arith, ◌∙◌, ap, ℤ, pos, negsuc, ◌+ℤ◌, ◌-ℤ◌, ◌*ℤ◌, unsigned_abs}
-use Rattle.std.specs.Int.{int_div_euclid, int_rem_euclid}
+use Rattle.std.proofs.Common.{◌≡◌, ℕ, ◌<◌, ◌≤◌, arith, ◌∙◌, ap, ℤ, pos, ◌+ℤ◌, ◌-ℤ◌, ◌*ℤ◌, unsigned_abs}
 use Rattle.std.proofs.lemmas.Int.{ints}
 use Rattle.calendar_values.specs.Clock.{IsClock, clock_of_parts, hour_of, minute_of, second_of, nanosecond_of}
 use Rattle.calendar_values.specs.ClockLemmas.{clock_of_parts-of, IsTimeOfDay-of}
@@ -9,18 +8,9 @@ use Rattle.calendar_values.specs.OffsetPartLemmas.{seconds_of_parts-of, IsOffset
 use Rattle.calendar_values.specs.SignedArith.{signed_arith}
 use Rattle.calendar_values.specs.WallClock.{wall_clock, wall_day, wall_time}
 use Rattle.calendar_values.specs.WallClockLemmas.{wall_clock-parts}
-use Rattle.offset_times.specs.Carries.{moved_second, moved_minute, moved_hour, minutes_carried, hours_carried, days_carried, carried_second, carried_minute}
+use Rattle.offset_times.specs.Carries.{minutes_carried, hours_carried, days_carried, carried_second, carried_minute}
 use Rattle.offset_times.specs.Carries.{carried_hour, carried_clock, IsWithin, CarriesWithin}
 use Rattle.offset_times.specs.Local.{offset_nanos}
-
--- quotient and remainder by 60 and by 24, where the quotient rounds down
-pub quotient_by_60 : (z q : ℤ) (r : ℕ) → z ≡ q *ℤ pos 60 +ℤ pos r → r < 60 → (int_div_euclid z (pos 60) ≡ q) × (unsigned_abs (int_rem_euclid z (pos 60)) ≡ r)
-quotient_by_60 (pos a) q r e h = (omega (arith, ints), omega (arith, ints))
-quotient_by_60 (negsuc a) q r e h = (omega (arith, ints), omega (arith, ints))
-
-pub quotient_by_24 : (z q : ℤ) (r : ℕ) → z ≡ q *ℤ pos 24 +ℤ pos r → r < 24 → (int_div_euclid z (pos 24) ≡ q) × (unsigned_abs (int_rem_euclid z (pos 24)) ≡ r)
-quotient_by_24 (pos a) q r e h = (omega (arith, ints), omega (arith, ints))
-quotient_by_24 (negsuc a) q r e h = (omega (arith, ints), omega (arith, ints))
 
 -- the second, the minute and the hour after the carries, and what each carries
 pub record Carried (c : ℕ) (from to : ℤ) (hour minute second : ℕ) (days hours minutes : ℤ) : Type 0 where
@@ -32,52 +22,17 @@ pub record Carried (c : ℕ) (from to : ℤ) (hour minute second : ℕ) (days ho
   pub hour_in : hour < 24
 
 -- the carries of the definitions are of this kind
-euclid_60 : (z : ℤ) → (z ≡ int_div_euclid z (pos 60) *ℤ pos 60 +ℤ pos (unsigned_abs (int_rem_euclid z (pos 60)))) ×
-    (unsigned_abs (int_rem_euclid z (pos 60)) < 60)
-euclid_60 (pos a) = (omega (arith, ints), omega (arith, ints))
-euclid_60 (negsuc a) = (omega (arith, ints), omega (arith, ints))
-
-euclid_24 : (z : ℤ) → (z ≡ int_div_euclid z (pos 24) *ℤ pos 24 +ℤ pos (unsigned_abs (int_rem_euclid z (pos 24)))) ×
-    (unsigned_abs (int_rem_euclid z (pos 24)) < 24)
-euclid_24 (pos a) = (omega (arith, ints), omega (arith, ints))
-euclid_24 (negsuc a) = (omega (arith, ints), omega (arith, ints))
-
 pub Carried-of : (c : ℕ) (from to : ℤ) → Carried c from to (carried_hour c from to) (carried_minute c from to)
     (carried_second c from to) (days_carried c from to) (hours_carried c from to) (minutes_carried c from to)
 unfolding minutes_carried hours_carried days_carried carried_second carried_minute carried_hour
-Carried-of c from to =
-    let seconds = euclid_60 (moved_second c from to) in
-    let minutes = euclid_60 (moved_minute c from to) in
-    let hours = euclid_24 (moved_hour c from to) in record {
-      second_sum = seconds.0;
-      minute_sum = minutes.0;
-      hour_sum = hours.0;
-      second_in = seconds.1;
-      minute_in = minutes.1;
-      hour_in = hours.1;
-    }
-
--- and what the code carries, of the parts that it reads, is what the definitions carry
-no_carry_in : (z : ℤ) → z ≡ z +ℤ pos 0
-no_carry_in z = omega (arith, ints)
-
-pub carried_at_first : (part r p : ℕ) (from to q f t : ℤ) → part ≡ p → from ≡ f → to ≡ t
-    → pos part +ℤ to -ℤ from +ℤ pos 0 ≡ q *ℤ pos 60 +ℤ pos r → r < 60
-    → (q ≡ int_div_euclid (pos p +ℤ t -ℤ f) (pos 60)) × (r ≡ unsigned_abs (int_rem_euclid (pos p +ℤ t -ℤ f) (pos 60)))
-carried_at_first part r p from to q f t of_part of_from of_to sum below =
-    let parts = quotient_by_60 (pos part +ℤ to -ℤ from) q r (no_carry_in (pos part +ℤ to -ℤ from) ∙ sum) below in (cc, cc)
-
-pub carried_by_60 : (part r p : ℕ) (from to into q f t i : ℤ) → part ≡ p → from ≡ f → to ≡ t → into ≡ i
-    → pos part +ℤ to -ℤ from +ℤ into ≡ q *ℤ pos 60 +ℤ pos r → r < 60
-    → (q ≡ int_div_euclid (pos p +ℤ t -ℤ f +ℤ i) (pos 60)) × (r ≡ unsigned_abs (int_rem_euclid (pos p +ℤ t -ℤ f +ℤ i) (pos 60)))
-carried_by_60 part r p from to into q f t i of_part of_from of_to of_into sum below =
-    let parts = quotient_by_60 (pos part +ℤ to -ℤ from +ℤ into) q r sum below in (cc, cc)
-
-pub carried_by_24 : (part r p : ℕ) (from to into q f t i : ℤ) → part ≡ p → from ≡ f → to ≡ t → into ≡ i
-    → pos part +ℤ to -ℤ from +ℤ into ≡ q *ℤ pos 24 +ℤ pos r → r < 24
-    → (q ≡ int_div_euclid (pos p +ℤ t -ℤ f +ℤ i) (pos 24)) × (r ≡ unsigned_abs (int_rem_euclid (pos p +ℤ t -ℤ f +ℤ i) (pos 24)))
-carried_by_24 part r p from to into q f t i of_part of_from of_to of_into sum below =
-    let parts = quotient_by_24 (pos part +ℤ to -ℤ from +ℤ into) q r sum below in (cc, cc)
+Carried-of c from to = record {
+  second_sum = omega (arith, signed_arith);
+  minute_sum = omega (arith, signed_arith);
+  hour_sum = omega (arith, signed_arith);
+  second_in = omega (arith, signed_arith);
+  minute_in = omega (arith, signed_arith);
+  hour_in = omega (arith, signed_arith);
+}
 
 -- the carries keep the moment: the day and the clock, moved by the difference of the offsets
 carried_moment : (n days hours minutes from_h from_m from_s to_h to_m to_s : ℤ) (h m s k hour minute second : ℕ)
@@ -108,45 +63,28 @@ pub wall_clock-shown : (w n : ℤ) (c : ℕ) (from to : ℤ) → n ≡ wall_day 
 wall_clock-shown w n c from to e f =
     rw (e, f) (wall_clock-carried (wall_day w) (wall_time w) from to ∙ ap (λ (v : ℤ). v +ℤ offset_nanos (to -ℤ from)) (wall_clock-parts w))
 
--- how much each part carries: between two offsets, and from or to UTC
-carries_60_once : (v r : ℕ) (from to into q : ℤ) → v ≤ 59 → IsWithin 59 (to -ℤ from) → IsWithin 1 into → pos v +ℤ to -ℤ from +ℤ into ≡ q *ℤ pos 60 +ℤ pos r →
-    r < 60 → IsWithin 1 q
-carries_60_once v r from to into q a b d e f = (omega (arith, signed_arith), omega (arith, signed_arith))
-
-carries_24_twice : (v r : ℕ) (from to into q : ℤ) → v ≤ 23 → IsWithin 25 (to -ℤ from) → IsWithin 1 into → pos v +ℤ to -ℤ from +ℤ into ≡ q *ℤ pos 24 +ℤ pos r →
-    r < 24 → IsWithin 2 q
-carries_24_twice v r from to into q a b d e f = (omega (arith, signed_arith), omega (arith, signed_arith))
-
 -- how far the hours, the minutes and the seconds of two offsets lie apart
 record Apart (h m s : ℕ) (from to : ℤ) : Type 0 where
   hours : IsWithin h (offset_hours_of to -ℤ offset_hours_of from)
   minutes : IsWithin m (offset_minutes_of to -ℤ offset_minutes_of from)
   seconds : IsWithin s (offset_seconds_of to -ℤ offset_seconds_of from)
 
-within_once : (c : ℕ) (from to : ℤ) → IsClock c → Apart 25 59 59 from to → CarriesWithin 1 1 2 c from to
-within_once c from to clock apart =
+within : (c : ℕ) (from to : ℤ) → IsClock c → Apart 25 59 59 from to → CarriesWithin 1 1 2 c from to
+within c from to clock apart =
     let k = Carried-of c from to in
     let t = IsTimeOfDay-of c clock in
-    let second = carried_second c from to in
-    let minute = carried_minute c from to in
-    let hour = carried_hour c from to in
-    let a = minutes_carried c from to in
-    let b = hours_carried c from to in
-    let minutes = carries_60_once (second_of c) second (offset_seconds_of from) (offset_seconds_of to) (pos 0) a t.second apart.seconds (
-      omega (arith, ints),
-      omega (arith, ints),
-    ) (omega (arith, ints, k.second_sum)) k.second_in in
-    let hours = carries_60_once (minute_of c) minute (offset_minutes_of from)
-    (offset_minutes_of to) a b t.minute apart.minutes minutes k.minute_sum k.minute_in in
-    let days = carries_24_twice (hour_of c) hour (offset_hours_of from) (offset_hours_of to) b
-    (days_carried c from to) t.hour apart.hours hours k.hour_sum k.hour_in in
-    record { minutes = minutes; hours = hours; days = days }
+    let minutes : IsWithin 1 (minutes_carried c from to) =
+    (omega (arith, signed_arith, k.second_sum, k.second_in, t.second, apart.seconds), omega (arith, signed_arith, k.second_sum, k.second_in, t.second, apart.seconds)) in
+    let hours : IsWithin 1 (hours_carried c from to) =
+    (omega (arith, signed_arith, k.minute_sum, k.minute_in, t.minute, apart.minutes, minutes), omega (arith, signed_arith, k.minute_sum, k.minute_in, t.minute, apart.minutes, minutes)) in
+    record { minutes = minutes; hours = hours; days =
+    (omega (arith, signed_arith, k.hour_sum, k.hour_in, t.hour, apart.hours, hours), omega (arith, signed_arith, k.hour_sum, k.hour_in, t.hour, apart.hours, hours)) }
 
 pub CarriesWithin-to_utc : (c : ℕ) (from : ℤ) → IsClock c → IsOffset from → CarriesWithin 1 1 2 c from (pos 0)
 unfolding offset_hours_of offset_minutes_of offset_seconds_of
 CarriesWithin-to_utc c from clock p =
     let f = IsOffsetParts-of from p in
-    within_once c from (pos 0) clock (record {
+    within c from (pos 0) clock (record {
       hours = (omega (arith, signed_arith, f.hours_in_range), omega (arith, signed_arith, f.hours_in_range));
       minutes = (omega (arith, signed_arith, f.minutes_in_range), omega (arith, signed_arith, f.minutes_in_range));
       seconds = (omega (arith, signed_arith, f.seconds_in_range), omega (arith, signed_arith, f.seconds_in_range));
@@ -156,7 +94,7 @@ pub CarriesWithin-from_utc : (c : ℕ) (to : ℤ) → IsClock c → IsOffset to 
 unfolding offset_hours_of offset_minutes_of offset_seconds_of
 CarriesWithin-from_utc c to clock q =
     let t = IsOffsetParts-of to q in
-    within_once c (pos 0) to clock (record {
+    within c (pos 0) to clock (record {
       hours = (omega (arith, signed_arith, t.hours_in_range), omega (arith, signed_arith, t.hours_in_range));
       minutes = (omega (arith, signed_arith, t.minutes_in_range), omega (arith, signed_arith, t.minutes_in_range));
       seconds = (omega (arith, signed_arith, t.seconds_in_range), omega (arith, signed_arith, t.seconds_in_range));

@@ -1,19 +1,14 @@
-use Rattle.std.proofs.Common.{◌≡◌, ◌∙◌, rules, w8, to_z, of_z}
+use Rattle.std.proofs.Common.{arith}
+use Rattle.calendar_values.specs.SignedArith.{signed_arith}
 use Rattle.offset_times.specs.Carries.{carried_second, minutes_carried}
-use Rattle.offset_times.proofs.CarryLemmas.{carried_at_first}
 use Rattle.offset_times.proofs.carries.moved_second.Goals as goal
 
-moved : (c : goal.After-carry_sixty) → (c.carry_sixty.result.1 ≡ minutes_carried c.args.time c.args.from c.args.to)
-    × (c.carry_sixty.result.0 ≡ carried_second c.args.time c.args.from c.args.to)
-unfolding carried_second minutes_carried
-moved c =
-    let from : to_z w8 (of_z w8 c.seconds_past_minute.result) ≡ c.seconds_past_minute.result = search rules in
-    let to : to_z w8 (of_z w8 c.seconds_past_minute-2.result) ≡ c.seconds_past_minute-2.result = search rules in
-    carried_at_first _ _ _ _ _ _ _ _ c.second.ensures.value (from ∙ c.seconds_past_minute.ensures.value)
-    (to ∙ c.seconds_past_minute-2.ensures.value) c.carry_sixty.ensures.sum c.carry_sixty.ensures.below_limit
-
 pub returns-clause-second : goal.returns-clause-second
-returns-clause-second c = (moved c).1
+unfolding carried_second
+returns-clause-second c =
+    omega (arith, signed_arith, c.second.ensures.value, c.seconds_past_minute.ensures.value, c.seconds_past_minute-2.ensures.value, c.carry_sixty.ensures.sum, c.carry_sixty.ensures.below_limit)
 
 pub returns-clause-minutes : goal.returns-clause-minutes
-returns-clause-minutes c = (moved c).0
+unfolding minutes_carried
+returns-clause-minutes c =
+    omega (arith, signed_arith, c.second.ensures.value, c.seconds_past_minute.ensures.value, c.seconds_past_minute-2.ensures.value, c.carry_sixty.ensures.sum, c.carry_sixty.ensures.below_limit)
