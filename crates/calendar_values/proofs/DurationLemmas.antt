@@ -41,4 +41,4 @@ pub seconds_excess : (s t m n : ℤ) → FitsSigned w64 s → FitsSigned w64 t �
 seconds_excess s t m n f g p q r unfit =
     by_lt_z (s -ℤ t) (pos 9_223_372_036_854_775_808)
     (λ lt. absurd (unfit (simp to_z-of_z (omega (arith, signed_arith, duration_signs s m p, duration_signs t n q)))))
-    (λ ge. (omega (arith, signed_arith, duration_signs s m p, duration_signs t n q), omega (arith, signed_arith, duration_signs s m p, duration_signs t n q)))
+    (λ ge. omega (arith, signed_arith, duration_signs s m p, duration_signs t n q))

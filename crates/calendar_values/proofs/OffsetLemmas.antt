@@ -54,19 +54,19 @@ IsOffsetParts-with_sign_of h m s a b d =
     let below : unsigned_abs n ≤ 59 = rw size d in
     by_lt_z (pos 0) h
     (λ more. rw (with_sign_of-positive h m more, with_sign_of-positive h n more) (positive h (pos (unsigned_abs m)) (pos (unsigned_abs n)) a b below
-    (omega (arith, signed_arith), omega (arith, signed_arith), omega (arith, signed_arith))))
+    omega (arith, signed_arith)))
     (λ at_most. by_lt_z h (pos 0)
     (λ less. rw (with_sign_of-negative h m less, with_sign_of-negative h n less) (negative h (neg_ℤ (pos (unsigned_abs m))) (neg_ℤ (pos (unsigned_abs n))) a
-    (omega (arith, signed_arith)) (omega (arith, signed_arith)) (omega (arith, signed_arith), omega (arith, signed_arith), omega (arith, signed_arith))))
+    (omega (arith, signed_arith)) (omega (arith, signed_arith)) omega (arith, signed_arith)))
     (λ at_least. let none : h ≡ pos 0 = omega (arith, signed_arith) in rw none (by_lt_z (pos 0) m
     (λ more. rw (with_sign_of-positive m s more) (positive (pos 0) m (pos (unsigned_abs s)) (lit≤ tt) b d
-    (omega (arith, signed_arith), omega (arith, signed_arith), omega (arith, signed_arith))))
+    omega (arith, signed_arith)))
     (λ not_more. by_lt_z m (pos 0)
     (λ less. rw (with_sign_of-negative m s less) (negative (pos 0) m (neg_ℤ (pos (unsigned_abs s))) (lit≤ tt) b (omega (arith, signed_arith))
-    (omega (arith, signed_arith), omega (arith, signed_arith), omega (arith, signed_arith))))
+    omega (arith, signed_arith)))
     (λ not_less. let no_minutes : m ≡ pos 0 = omega (arith, signed_arith) in rw no_minutes (by_lt_z s (pos 0)
-    (λ less. negative (pos 0) (pos 0) s (lit≤ tt) (lit≤ tt) d (omega (arith, signed_arith), omega (arith, signed_arith), omega (arith, signed_arith)))
-    (λ at_least. positive (pos 0) (pos 0) s (lit≤ tt) (lit≤ tt) d (omega (arith, signed_arith), omega (arith, signed_arith), omega (arith, signed_arith)))))))))
+    (λ less. negative (pos 0) (pos 0) s (lit≤ tt) (lit≤ tt) d omega (arith, signed_arith))
+    (λ at_least. positive (pos 0) (pos 0) s (lit≤ tt) (lit≤ tt) d omega (arith, signed_arith))))))))
 
 -- the absolute parts of an offset
 pub unsigned_abs-hours : (h m s : ℤ) → IsOffsetParts h m s → unsigned_abs (seconds_of_parts h m s) / 3_600 ≡ unsigned_abs h

@@ -44,7 +44,7 @@ IsThursdayOf-previous n y previous ordinal days thursday day_in date day before 
     let bound = weekday_of-bound n in
     let length = days_in_year_bounds previous in
     let start = rw before at (year_start-next previous) in
-    thursday_at n previous thursday day_in (record { first = omega (arith, length); last = omega (arith, date.first, length) })
+    thursday_at n previous thursday day_in (omega (arith, length, date.first))
     (omega (arith, signed_arith, date.first, length))
 
 pub IsThursdayOf-next : (n y next : ℤ) (ordinal days thursday : ℕ) → IsDay n → IsOrdinalDate y ordinal → day_of_ordinal_date y ordinal ≡ n → next ≡ y +ℤ pos 1 →
@@ -53,7 +53,7 @@ pub IsThursdayOf-next : (n y next : ℤ) (ordinal days thursday : ℕ) → IsDay
 IsThursdayOf-next n y next ordinal days thursday day_in date day after weekday late past is =
     let length = days_in_year_bounds next in
     let start = rw (← after) at (year_start-next y) in
-    thursday_at n next thursday day_in (record { first = omega arith; last = omega (arith, date.last, length) }) (omega (arith, signed_arith, date.last))
+    thursday_at n next thursday day_in (omega (arith, date.last, length)) (omega (arith, signed_arith, date.last))
 
 pub ruleset weekdays = (signed_arith, weekday_of-parts)
 

@@ -115,13 +115,7 @@ pub IsMonthDay-date : (y : ℤ) (m d : ℕ) → IsCalendarDate y m d → IsMonth
 IsMonthDay-date y m d h = record { month_first = h.month_first; month_last = h.month_last; day_first = h.day_first; day_last = h.day_last; sum = refl }
 
 pub IsOrdinalDate-date : (y : ℤ) (m d : ℕ) → IsCalendarDate y m d → IsOrdinalDate y (days_before_month (is_leap_year y) m + d)
-IsOrdinalDate-date y m d h = record {
-  first = omega arith;
-  last = omega (
-    arith,
-    days_before_month-end (is_leap_year y) m d h.month_first h.month_last h.day_last,
-  );
-}
+IsOrdinalDate-date y m d h = omega (arith, days_before_month-end (is_leap_year y) m d h.month_first h.month_last h.day_last)
 
 -- a day shows a date of the calendar
 pub IsCalendarDate-of : (n : ℤ) → IsCalendarDate (year_of n) (month_of n) (day_of_month_of n)

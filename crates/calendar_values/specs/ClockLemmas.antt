@@ -21,4 +21,4 @@ pub clock_of_parts-of : (c : ℕ) → clock_of_parts (hour_of c) (minute_of c) (
 clock_of_parts-of c = omega arith
 
 pub IsTimeOfDay-of : (c : ℕ) → IsClock c → IsTimeOfDay (hour_of c) (minute_of c) (second_of c) (nanosecond_of c)
-IsTimeOfDay-of c p = record { hour = omega arith; minute = omega arith; second = omega arith; nanosecond = omega arith }
+IsTimeOfDay-of c p = omega arith

@@ -28,7 +28,7 @@ Shows-unique c d h m s n p q = sym (clock_of_parts-shown c h m s n p) ∙ clock_
 
 parts_of_shown : (c h m s n : ℕ) → Shows c h m s n → IsTimeOfDay h m s n
 parts_of_shown c h m s n p =
-    let parts = IsTimeOfDay-of c p.clock in record { hour = omega arith; minute = omega arith; second = omega arith; nanosecond = omega arith }
+    let parts = IsTimeOfDay-of c p.clock in omega arith
 
 -- the part is at most the limit, and x is given
 accepted : (limit part x d : ℕ) (name : List ℕ) → part ≤ limit → x ≡ d → (if nat_lt limit part then Err (outright_refusal name) else Ok x) ≡ Ok d
@@ -53,39 +53,39 @@ pub hour_outcome-shows : (c h d : ℕ) → IsClock c → ((hour_outcome c h).ans
 hour_outcome-shows c h d clock =
     let parts = IsTimeOfDay-of c clock in
     replaced 23 h h (minute_of c) (second_of c) (nanosecond_of c) d (codes "hour") (λ low.
-    record { hour = omega arith; minute = omega arith; second = omega arith; nanosecond = omega arith }) (λ q. omega arith)
+    omega arith) (λ q. omega arith)
 
 pub minute_outcome-shows : (c m d : ℕ) → IsClock c → ((minute_outcome c m).answer ≡ Ok d) ↔ Shows d (hour_of c) m (second_of c) (nanosecond_of c)
 minute_outcome-shows c m d clock =
     let parts = IsTimeOfDay-of c clock in
     replaced 59 m (hour_of c) m (second_of c) (nanosecond_of c) d (codes "minute") (λ low.
-    record { hour = omega arith; minute = omega arith; second = omega arith; nanosecond = omega arith }) (λ q. omega arith)
+    omega arith) (λ q. omega arith)
 
 pub second_outcome-shows : (c s d : ℕ) → IsClock c → ((second_outcome c s).answer ≡ Ok d) ↔ Shows d (hour_of c) (minute_of c) s (nanosecond_of c)
 second_outcome-shows c s d clock =
     let parts = IsTimeOfDay-of c clock in
     replaced 59 s (hour_of c) (minute_of c) s (nanosecond_of c) d (codes "second") (λ low.
-    record { hour = omega arith; minute = omega arith; second = omega arith; nanosecond = omega arith }) (λ q. omega arith)
+    omega arith) (λ q. omega arith)
 
 pub millisecond_outcome-shows : (c milli d : ℕ) → IsClock c → ((millisecond_outcome c milli).answer ≡ Ok d) ↔ Shows d (hour_of c) (minute_of c) (second_of c)
     (milli * nanos_per_millisecond)
 millisecond_outcome-shows c milli d clock =
     let parts = IsTimeOfDay-of c clock in
     replaced 999 milli (hour_of c) (minute_of c) (second_of c) (milli * nanos_per_millisecond) d (codes "millisecond") (λ low.
-    record { hour = omega arith; minute = omega arith; second = omega arith; nanosecond = omega arith }) (λ q. omega arith)
+    omega arith) (λ q. omega arith)
 
 pub microsecond_outcome-shows : (c micro d : ℕ) → IsClock c → ((microsecond_outcome c micro).answer ≡ Ok d) ↔ Shows d (hour_of c) (minute_of c) (second_of c)
     (micro * nanos_per_microsecond)
 microsecond_outcome-shows c micro d clock =
     let parts = IsTimeOfDay-of c clock in
     replaced 999_999 micro (hour_of c) (minute_of c) (second_of c) (micro * nanos_per_microsecond) d (codes "microsecond") (λ low.
-    record { hour = omega arith; minute = omega arith; second = omega arith; nanosecond = omega arith }) (λ q. omega arith)
+    omega arith) (λ q. omega arith)
 
 pub nanosecond_outcome-shows : (c n d : ℕ) → IsClock c → ((nanosecond_outcome c n).answer ≡ Ok d) ↔ Shows d (hour_of c) (minute_of c) (second_of c) n
 nanosecond_outcome-shows c n d clock =
     let parts = IsTimeOfDay-of c clock in
     replaced 999_999_999 n (hour_of c) (minute_of c) (second_of c) n d (codes "nanosecond") (λ low.
-    record { hour = omega arith; minute = omega arith; second = omega arith; nanosecond = omega arith }) (λ q. omega arith)
+    omega arith) (λ q. omega arith)
 
 -- a millisecond reads as given where nothing is finer
 pub millisecond_of-exact : (c milli : ℕ) → nanosecond_of c ≡ milli * nanos_per_millisecond → millisecond_of c ≡ milli

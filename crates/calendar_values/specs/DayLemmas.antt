@@ -8,31 +8,14 @@ use Rattle.calendar_values.specs.YearLemmas.{year_start-1970, year_start-next, y
 use Rattle.calendar_values.specs.YearLemmas.{days_in_year_bounds}
 
 in_1970 : IsInYear (pos 0) (pos 1970)
-in_1970 = record {
-  low = omega (arith, signed_arith, year_start-1970);
-  high = omega (
-    arith,
-    signed_arith,
-    year_start-1970,
-    year_start-next (pos 1970),
-    days_in_year_bounds (pos 1970),
-  );
-}
+in_1970 = omega (arith, signed_arith, year_start-1970, year_start-next (pos 1970), days_in_year_bounds (pos 1970))
 
 -- the next day lies in the same year, or begins the next
 IsInYear-next : (n next y : ℤ) → next ≡ n +ℤ pos 1 → IsInYear n y → IsInYear next (cond (int_lt next (year_start (y +ℤ pos 1))) y (y +ℤ pos 1))
 IsInYear-next n next y e h = choose (int_lt next (year_start (y +ℤ pos 1))) refl where
   choose : (b : Bool) → int_lt next (year_start (y +ℤ pos 1)) ≡ b → IsInYear next (cond b y (y +ℤ pos 1))
-  choose true t = record { low = omega (arith, signed_arith); high = omega (arith, signed_arith) }
-  choose false t = record {
-    low = omega (arith, signed_arith);
-    high = omega (
-      arith,
-      signed_arith,
-      year_start-next (y +ℤ pos 1),
-      days_in_year_bounds (y +ℤ pos 1),
-    );
-  }
+  choose true t = omega (arith, signed_arith)
+  choose false t = omega (arith, signed_arith, year_start-next (y +ℤ pos 1), days_in_year_bounds (y +ℤ pos 1))
 
 -- the day before lies in the same year, or ends the year before
 IsInYear-previous : (n previous y : ℤ) → n ≡ previous +ℤ pos 1 → IsInYear n y → IsInYear previous (cond (int_lt previous (year_start y)) (y -ℤ pos 1) y)
@@ -44,7 +27,7 @@ IsInYear-previous n previous y e h = choose (int_lt previous (year_start y)) ref
         low = omega (arith, signed_arith, rw back at (year_start-next (y -ℤ pos 1)), days_in_year_bounds (y -ℤ pos 1));
         high = rw back (omega (arith, signed_arith));
       }
-  choose false t = record { low = omega (arith, signed_arith); high = omega (arith, signed_arith) }
+  choose false t = omega (arith, signed_arith)
 
 in_year_after : (n : ℕ) → IsInYear (pos n) (year_after_1970 n)
 unfolding year_after_1970
@@ -75,10 +58,7 @@ ordinal_of-start n = let h = IsInYear-year_of n in omega (arith, signed_arith, o
 pub IsOrdinalDate-of : (n : ℤ) → IsOrdinalDate (year_of n) (ordinal_of n)
 IsOrdinalDate-of n =
     let h = IsInYear-year_of n in
-    record {
-      first = omega (arith, signed_arith, ordinal_of-start n);
-      last = omega (arith, signed_arith, ordinal_of-start n, year_start-next (year_of n));
-    }
+    omega (arith, signed_arith, ordinal_of-start n, year_start-next (year_of n))
 
 -- whose day number it is
 pub day_of_ordinal_date-of : (n : ℤ) → day_of_ordinal_date (year_of n) (ordinal_of n) ≡ n
@@ -87,7 +67,7 @@ day_of_ordinal_date-of n = omega (arith, signed_arith, ordinal_of-start n)
 -- the day number of a year and a day of the year shows both
 pub year_of-ordinal_date : (y : ℤ) (ordinal : ℕ) → IsOrdinalDate y ordinal → year_of (day_of_ordinal_date y ordinal) ≡ y
 year_of-ordinal_date y ordinal h =
-    year_of-unique _ y (record { low = omega (arith, signed_arith); high = omega (arith, signed_arith, year_start-next y) })
+    year_of-unique _ y (omega (arith, signed_arith, year_start-next y))
 
 pub ordinal_of-ordinal_date : (y : ℤ) (ordinal : ℕ) → IsOrdinalDate y ordinal → ordinal_of (day_of_ordinal_date y ordinal) ≡ ordinal
 ordinal_of-ordinal_date y ordinal h =

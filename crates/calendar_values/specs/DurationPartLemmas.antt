@@ -14,11 +14,11 @@ pub IsDurationParts-of : (d : ℤ) → IsDurationParts (whole_seconds_of d) (sub
 unfolding whole_seconds_of subsec_nanoseconds_of
 IsDurationParts-of (pos n) = record {
   in_range = omega (arith, signed_arith);
-  one_sign = inl (omega (arith, ints), omega (arith, ints));
+  one_sign = inl omega (arith, ints);
 }
 IsDurationParts-of (negsuc n) = record {
   in_range = omega (arith, signed_arith);
-  one_sign = inr (omega (arith, ints), omega (arith, ints));
+  one_sign = inr omega (arith, ints);
 }
 
 -- no part is negative, or none is positive

@@ -16,13 +16,13 @@ IsOffsetParts-of (pos n) p = record {
   hours_in_range = omega (arith, signed_arith);
   minutes_in_range = omega (arith, signed_arith);
   seconds_in_range = omega (arith, signed_arith);
-  one_sign = inl (omega (arith, ints), omega (arith, ints), omega (arith, ints));
+  one_sign = inl omega (arith, ints);
 }
 IsOffsetParts-of (negsuc n) p = record {
   hours_in_range = omega (arith, signed_arith);
   minutes_in_range = omega (arith, signed_arith);
   seconds_in_range = omega (arith, signed_arith);
-  one_sign = inr (omega (arith, ints), omega (arith, ints), omega (arith, ints));
+  one_sign = inr omega (arith, ints);
 }
 
 -- no part is negative, or none is positive

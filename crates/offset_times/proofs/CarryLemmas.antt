@@ -25,14 +25,7 @@ pub record Carried (c : ℕ) (from to : ℤ) (hour minute second : ℕ) (days ho
 pub Carried-of : (c : ℕ) (from to : ℤ) → Carried c from to (carried_hour c from to) (carried_minute c from to)
     (carried_second c from to) (days_carried c from to) (hours_carried c from to) (minutes_carried c from to)
 unfolding minutes_carried hours_carried days_carried carried_second carried_minute carried_hour
-Carried-of c from to = record {
-  second_sum = omega (arith, signed_arith);
-  minute_sum = omega (arith, signed_arith);
-  hour_sum = omega (arith, signed_arith);
-  second_in = omega (arith, signed_arith);
-  minute_in = omega (arith, signed_arith);
-  hour_in = omega (arith, signed_arith);
-}
+Carried-of c from to = omega (arith, signed_arith)
 
 -- the carries keep the moment: the day and the clock, moved by the difference of the offsets
 carried_moment : (n days hours minutes from_h from_m from_s to_h to_m to_s : ℤ) (h m s k hour minute second : ℕ)
@@ -73,32 +66,57 @@ within : (c : ℕ) (from to : ℤ) → IsClock c → Apart 25 59 59 from to → 
 within c from to clock apart =
     let k = Carried-of c from to in
     let t = IsTimeOfDay-of c clock in
-    let minutes : IsWithin 1 (minutes_carried c from to) =
-    (omega (arith, signed_arith, k.second_sum, k.second_in, t.second, apart.seconds), omega (arith, signed_arith, k.second_sum, k.second_in, t.second, apart.seconds)) in
-    let hours : IsWithin 1 (hours_carried c from to) =
-    (omega (arith, signed_arith, k.minute_sum, k.minute_in, t.minute, apart.minutes, minutes), omega (arith, signed_arith, k.minute_sum, k.minute_in, t.minute, apart.minutes, minutes)) in
-    record { minutes = minutes; hours = hours; days =
-    (omega (arith, signed_arith, k.hour_sum, k.hour_in, t.hour, apart.hours, hours), omega (arith, signed_arith, k.hour_sum, k.hour_in, t.hour, apart.hours, hours)) }
+    let minutes : IsWithin 1 (minutes_carried c from to) = (
+      omega (arith, signed_arith, k.second_sum, k.second_in, t.second, apart.seconds),
+      omega (
+        arith,
+        signed_arith,
+        k.second_sum,
+        k.second_in,
+        t.second,
+        apart.seconds,
+      ),
+    ) in
+    let hours : IsWithin 1 (hours_carried c from to) = (
+      omega (arith, signed_arith, k.minute_sum, k.minute_in, t.minute, apart.minutes, minutes),
+      omega (
+        arith,
+        signed_arith,
+        k.minute_sum,
+        k.minute_in,
+        t.minute,
+        apart.minutes,
+        minutes,
+      ),
+    ) in
+    record {
+      minutes = minutes;
+      hours = hours;
+      days = (
+        omega (arith, signed_arith, k.hour_sum, k.hour_in, t.hour, apart.hours, hours),
+        omega (
+          arith,
+          signed_arith,
+          k.hour_sum,
+          k.hour_in,
+          t.hour,
+          apart.hours,
+          hours,
+        ),
+      );
+    }
 
 pub CarriesWithin-to_utc : (c : ℕ) (from : ℤ) → IsClock c → IsOffset from → CarriesWithin 1 1 2 c from (pos 0)
 unfolding offset_hours_of offset_minutes_of offset_seconds_of
 CarriesWithin-to_utc c from clock p =
     let f = IsOffsetParts-of from p in
-    within c from (pos 0) clock (record {
-      hours = (omega (arith, signed_arith, f.hours_in_range), omega (arith, signed_arith, f.hours_in_range));
-      minutes = (omega (arith, signed_arith, f.minutes_in_range), omega (arith, signed_arith, f.minutes_in_range));
-      seconds = (omega (arith, signed_arith, f.seconds_in_range), omega (arith, signed_arith, f.seconds_in_range));
-    })
+    within c from (pos 0) clock (omega (arith, signed_arith, f.hours_in_range, f.minutes_in_range, f.seconds_in_range))
 
 pub CarriesWithin-from_utc : (c : ℕ) (to : ℤ) → IsClock c → IsOffset to → CarriesWithin 1 1 2 c (pos 0) to
 unfolding offset_hours_of offset_minutes_of offset_seconds_of
 CarriesWithin-from_utc c to clock q =
     let t = IsOffsetParts-of to q in
-    within c (pos 0) to clock (record {
-      hours = (omega (arith, signed_arith, t.hours_in_range), omega (arith, signed_arith, t.hours_in_range));
-      minutes = (omega (arith, signed_arith, t.minutes_in_range), omega (arith, signed_arith, t.minutes_in_range));
-      seconds = (omega (arith, signed_arith, t.seconds_in_range), omega (arith, signed_arith, t.seconds_in_range));
-    })
+    within c (pos 0) to clock (omega (arith, signed_arith, t.hours_in_range, t.minutes_in_range, t.seconds_in_range))
 
 pub IsWithin_abs : (n : ℕ) (z : ℤ) → unsigned_abs z ≤ n → IsWithin n z
-IsWithin_abs n z h = (omega (arith, signed_arith), omega (arith, signed_arith))
+IsWithin_abs n z h = omega (arith, signed_arith)

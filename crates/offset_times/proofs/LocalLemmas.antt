@@ -45,4 +45,4 @@ instants_apart a b walls offsets e f = omega (arith, ints)
 -- no further than durations reach
 pub IsDuration-apart : (a b : Local) (walls offsets : ℤ) → IsLocal a → IsLocal b → walls ≡ a.wall -ℤ b.wall → offsets ≡ offset_nanos (b.offset -ℤ a.offset) →
     IsDuration (walls +ℤ offsets)
-IsDuration-apart a b walls offsets h k e f = (omega (arith, ints), omega (arith, ints))
+IsDuration-apart a b walls offsets h k e f = omega (arith, ints)

@@ -1,3 +1,2 @@
 pub mod DateAndTimeLemmas
-pub mod SumStepLemmas
 pub mod WallClockLawLemmas

@@ -40,13 +40,7 @@ nearest_wall_clock-after w h = grind (arith, ints)
 
 -- a sum of the range is the saturating one
 pub IsSaturatingSum-in : (w d v : ℤ) → IsWallClock w → IsWallClock (w +ℤ d) → v ≡ w +ℤ d → IsSaturatingSum w d v
-IsSaturatingSum-in w d v h sum e = record {
-  value = e ∙ sym (nearest_wall_clock-in (w +ℤ d) sum);
-  not_before = λ later. omega (arith, ints);
-  not_after = λ earlier. omega (arith, ints);
-  not_above = λ later. omega (arith, ints);
-  not_below = λ earlier. omega (arith, ints);
-}
+IsSaturatingSum-in w d v h sum e = omega (arith, ints, nearest_wall_clock-in (w +ℤ d) sum)
 
 -- a sum outside the range is the first wall clock where the duration is negative, else the last
 pub IsSaturatingSum-end : (w d v : ℤ) (is_negative : Bool) → IsWallClock w → (IsWallClock (w +ℤ d) → ⊥)
@@ -55,24 +49,12 @@ IsSaturatingSum-end w d v true h not sign e =
     let negative : d <ℤ pos 0 = sign.0 refl in
     let before : (w +ℤ d) <ℤ first_wall_clock =
     by_lt_z (w +ℤ d) first_wall_clock (λ lt. lt) (λ from_first. absurd (not (from_first, omega (arith, ints)))) in
-    record {
-      value = e ∙ sym (nearest_wall_clock-before (w +ℤ d) before);
-      not_before = λ later. omega (arith, ints);
-      not_after = λ earlier. omega (arith, ints);
-      not_above = λ later. omega (arith, ints);
-      not_below = λ earlier. omega (arith, ints);
-    }
+    omega (arith, ints, nearest_wall_clock-before (w +ℤ d) before)
 IsSaturatingSum-end w d v false h not sign e =
     let positive : pos 0 ≤ℤ d = by_lt_z d (pos 0) (λ lt. let no : false ≡ true = sign.1 lt in cc) (λ ge. ge) in
     let after : last_wall_clock <ℤ (w +ℤ d) =
     by_lt_z last_wall_clock (w +ℤ d) (λ lt. lt) (λ to_last. absurd (not (omega (arith, ints), to_last))) in
-    record {
-      value = e ∙ sym (nearest_wall_clock-after (w +ℤ d) after);
-      not_before = λ later. omega (arith, ints);
-      not_after = λ earlier. omega (arith, ints);
-      not_above = λ later. omega (arith, ints);
-      not_below = λ earlier. omega (arith, ints);
-    }
+    omega (arith, ints, nearest_wall_clock-after (w +ℤ d) after)
 
 -- a saturating difference is the saturating sum with the duration reversed
 IsSaturatingDifference-sum : (w d v : ℤ) → IsSaturatingSum w (neg_ℤ d) v → IsSaturatingDifference w d v
@@ -95,10 +77,10 @@ IsSaturatingDifference-end w d v true h outside sign e =
     ((λ no. cc), (λ lt. let none : ⊥ = omega (arith, ints) in absurd none)) e)
 IsSaturatingDifference-end w d v false h outside sign e =
     let positive : pos 0 <ℤ d = by_lt_z (pos 0) d (λ lt. lt) (λ zero. absurd (outside (
-    by_lt_z d (pos 0) (λ lt. let no : false ≡ true = sign.1 lt in cc) (λ ge. (omega (arith, ints), omega (arith, ints)))))) in
+    by_lt_z d (pos 0) (λ lt. let no : false ≡ true = sign.1 lt in cc) (λ ge. omega (arith, ints))))) in
     IsSaturatingDifference-sum w d v (IsSaturatingSum-end w (neg_ℤ d) v true h outside
     ((λ yes. omega (arith, ints)), (λ lt. refl)) e)
 
 -- the time between two wall clocks of the range is a duration
 pub IsDuration-difference : (v w : ℤ) → IsWallClock v → IsWallClock w → IsDuration (v -ℤ w)
-IsDuration-difference v w h k = (omega (arith, ints), omega (arith, ints))
+IsDuration-difference v w h k = omega (arith, ints)

@@ -1,7 +1,6 @@
 -- What the second and the nanosecond of a timestamp say of its instant.
-use Rattle.std.proofs.Common.{◌≡◌, ℕ, ◌/◌, ◌%◌, ◌<◌, arith, ℤ, pos, negsuc, ◌+ℤ◌, ◌*ℤ◌, unsigned_abs, ap, ◌∙◌}
+use Rattle.std.proofs.Common.{◌≡◌, ℕ, ◌/◌, ◌%◌, ◌<◌, arith, ℤ, pos, ◌+ℤ◌, ◌*ℤ◌, unsigned_abs, ap, ◌∙◌}
 use Rattle.std.specs.Int.{int_div_euclid, int_rem_euclid}
-use Rattle.std.proofs.lemmas.Int.{ints}
 use Rattle.calendar_values.specs.Clock.{nanos_per_second, clock_of_parts, hour_of, minute_of, second_of}
 use Rattle.calendar_values.specs.Range.{IsDay}
 use Rattle.calendar_values.specs.SignedArith.{signed_arith, signed_casts}
@@ -22,13 +21,11 @@ unix_nanosecond_of-is i s n p e = rw (← e) (unix_nanosecond_of-parts s n p)
 
 pub unix_milliseconds_of-is : (i s : ℤ) (n : ℕ) → n < nanos_per_second → instant_of_parts s n ≡ i →
     unix_milliseconds_of i ≡ s *ℤ pos 1_000 +ℤ pos (n / 1_000_000)
-unix_milliseconds_of-is (pos a) s n p e = omega (arith, ints)
-unix_milliseconds_of-is (negsuc a) s n p e = omega (arith, ints)
+unix_milliseconds_of-is i s n p e = omega (arith, signed_arith)
 
 pub unix_microseconds_of-is : (i s : ℤ) (n : ℕ) → n < nanos_per_second → instant_of_parts s n ≡ i →
     unix_microseconds_of i ≡ s *ℤ pos 1_000_000 +ℤ pos (n / 1_000)
-unix_microseconds_of-is (pos a) s n p e = omega (arith, ints)
-unix_microseconds_of-is (negsuc a) s n p e = omega (arith, ints)
+unix_microseconds_of-is i s n p e = omega (arith, signed_arith)
 
 -- the instant of a count has this count
 pub unix_seconds_of-instant_of_second : (count : ℤ) → unix_seconds_of (instant_of_second count) ≡ count
@@ -43,13 +40,11 @@ unix_microseconds_of-instant_of_microseconds count = omega (arith, signed_arith)
 -- the day of an instant and the second of the day, by its Unix second
 pub wall_day-second : (i : ℤ) → int_div_euclid (unix_seconds_of i) (pos 86_400) ≡ wall_day i
 unfolding wall_day
-wall_day-second (pos a) = omega (arith, ints)
-wall_day-second (negsuc a) = omega (arith, ints)
+wall_day-second i = omega (arith, signed_arith)
 
 pub wall_time-second : (i : ℤ) → int_rem_euclid (unix_seconds_of i) (pos 86_400) ≡ pos (wall_time i / nanos_per_second)
 unfolding wall_time
-wall_time-second (pos a) = omega (arith, ints)
-wall_time-second (negsuc a) = omega (arith, ints)
+wall_time-second i = omega (arith, signed_arith)
 
 -- the days of the week, of a day of the range counted from a Monday
 pub weekday_of-Monday : (n : ℤ) → IsDay n → weekday_of n ≡ unsigned_abs (n +ℤ pos 365_961_669) % 7
@@ -60,8 +55,7 @@ weekday_of-Monday n h = omega (arith, signed_arith)
 pub with_time-second : (i : ℤ) (n : ℕ) → with_time i (clock_of_parts (hour_of (wall_time i)) (minute_of (wall_time i)) (second_of (wall_time i)) n) ≡
     instant_of_parts (unix_seconds_of i) n
 unfolding with_time wall_day wall_time
-with_time-second (pos a) n = omega (arith, ints)
-with_time-second (negsuc a) n = omega (arith, ints)
+with_time-second i n = omega (arith, signed_arith)
 
 pub with_time-nanosecond : (i s : ℤ) (n m : ℕ) → n < nanos_per_second → instant_of_parts s n ≡ i →
     with_time i (clock_of_parts (hour_of (wall_time i)) (minute_of (wall_time i)) (second_of (wall_time i)) m) ≡ instant_of_parts s m

@@ -53,7 +53,7 @@ IsOrdinalDate-step n h =
     let next = days_from_0-suc (years_of day) in
     let length = days_in_year-leap_day (step_year day) in
     let shift = leap_day-shift 5_949 (years_of day) (step_year day) (step_year-is day) in
-    record { first = omega arith; last = omega arith }
+    omega arith
 
 -- and its day number is that of the day
 day_of_ordinal_date-step : (n : ℤ) → IsDay n → day_of_ordinal_date (step_year (shifted_day n)) (step_ordinal (shifted_day n)) ≡ n

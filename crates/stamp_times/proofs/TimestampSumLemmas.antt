@@ -26,10 +26,10 @@ IsSplit-neg d =
     let parts = IsSplit-of d in
     let sum = parts.sum in
     let rest = parts.rest in
-    record { sum = omega (arith, signed_arith); rest = omega (arith, signed_arith) }
+    omega (arith, signed_arith)
 
 pub IsSplit-neg_std : (n : ℕ) → IsSplit (neg_ℤ (pos n)) (neg_ℤ (pos (n / nanos_per_second))) (neg_ℤ (pos (n % nanos_per_second)))
-IsSplit-neg_std n = record { sum = omega (arith, signed_arith); rest = omega (arith, signed_arith) }
+IsSplit-neg_std n = omega (arith, signed_arith)
 
 -- where the seconds of a sum are not a number of 64 bits, the range does not have the sum
 pub not_IsWallClock-large : (i d s m : ℤ) (r : Option ℤ) → IsWallClock i → IsSplit d s m → (FitsSigned w64 (unix_seconds_of i +ℤ s) → ⊥) → r ≡ None →

@@ -14,7 +14,7 @@ instant_of_parts-of (negsuc a) = omega (arith, ints)
 -- no two seconds and nanoseconds make one instant
 pub instant_of_parts-injective : (s t : ℤ) (n m : ℕ) → n < nanos_per_second → m < nanos_per_second → instant_of_parts s n ≡ instant_of_parts t m → (s ≡ t) ×
     (n ≡ m)
-instant_of_parts-injective s t n m p q e = (omega (arith, ints), omega (arith, ints))
+instant_of_parts-injective s t n m p q e = omega (arith, ints)
 
 pub unix_seconds_of-parts : (s : ℤ) (n : ℕ) → n < nanos_per_second → unix_seconds_of (instant_of_parts s n) ≡ s
 unix_seconds_of-parts s n p =

@@ -1,10 +1,9 @@
 -- Unix seconds as days and times of day.
-use Rattle.std.proofs.Common.{◌≡◌, ℕ, ◌/◌, ◌<◌, ◌∙◌, arith, ℤ, pos, negsuc, neg_ℤ, ◌+ℤ◌, ◌-ℤ◌, ◌*ℤ◌, ◌≤ℤ◌, FitsSigned}
+use Rattle.std.proofs.Common.{◌≡◌, ℕ, ◌/◌, ◌<◌, ◌∙◌, arith, ℤ, pos, neg_ℤ, ◌+ℤ◌, ◌-ℤ◌, ◌*ℤ◌, ◌≤ℤ◌, FitsSigned}
 use Rattle.std.specs.Int.{w64, w128, int_div_euclid, int_rem_euclid}
-use Rattle.std.proofs.lemmas.Int.{ints}
 use Rattle.calendar_values.specs.Clock.{nanos_per_day, nanos_per_second, nanosecond_of}
 use Rattle.calendar_values.specs.Range.{IsDay}
-use Rattle.calendar_values.specs.SignedArith.{signed_casts}
+use Rattle.calendar_values.specs.SignedArith.{signed_arith, signed_casts}
 use Rattle.calendar_values.specs.WallClockLemmas.{IsDay-wall_day, IsWallClock-wall_clock}
 use Rattle.calendar_values.specs.WallClock.{wall_clock, wall_day, wall_time, unix_seconds_of, IsWallClock}
 use Rattle.utc_times.specs.UnixTime.{instant_of_second}
@@ -12,13 +11,11 @@ use Rattle.utc_times.specs.UnixTime.{instant_of_second}
 -- the wall clock of the day of a second, and of the clock so many nanoseconds after its beginning
 pub wall_clock-second : (second : ℤ) (n c : ℕ) → pos c ≡ int_rem_euclid second (pos 86_400) *ℤ pos nanos_per_second +ℤ pos n
     → wall_clock (int_div_euclid second (pos 86_400)) c ≡ instant_of_second second +ℤ pos n
-wall_clock-second (pos a) n c e = omega (arith, ints)
-wall_clock-second (negsuc a) n c e = omega (arith, ints)
+wall_clock-second second n c e = omega (arith, signed_arith)
 
 clock_of_second : (second : ℤ) (n c : ℕ) → n < nanos_per_second → pos c ≡ int_rem_euclid second (pos 86_400) *ℤ pos nanos_per_second +ℤ pos n →
     c < nanos_per_day
-clock_of_second (pos a) n c below e = omega (arith, ints)
-clock_of_second (negsuc a) n c below e = omega (arith, ints)
+clock_of_second second n c below e = omega (arith, signed_arith)
 
 -- the range has an instant of a second if it has the day
 pub IsWallClock-second : (second d v : ℤ) (n c : ℕ) → IsDay (int_div_euclid second (pos 86_400)) × (d ≡ int_div_euclid second (pos 86_400)) →
@@ -33,40 +30,33 @@ IsWallClock-second second d v n c day below clock e =
 
 -- and only then
 pub IsDay-second : (second : ℤ) (n : ℕ) → n < nanos_per_second → IsWallClock (instant_of_second second +ℤ pos n) → IsDay (int_div_euclid second (pos 86_400))
-IsDay-second (pos a) n below h = (omega (arith, ints), omega (arith, ints))
-IsDay-second (negsuc a) n below h = (omega (arith, ints), omega (arith, ints))
+IsDay-second second n below h = omega (arith, signed_arith)
 
 -- a second of the range lies less than 400,000,000 days from 1970
 pub IsDay-near : (second : ℤ) → IsDay (int_div_euclid second (pos 86_400))
     → (neg_ℤ (pos 34_560_000_000_000) ≤ℤ second) × (second ≤ℤ pos 34_560_000_000_000)
-IsDay-near (pos a) day = (omega (arith, ints), omega (arith, ints))
-IsDay-near (negsuc a) day = (omega (arith, ints), omega (arith, ints))
+IsDay-near second day = omega (arith, signed_arith)
 
 -- and its day is found by whole days from there
 pub day_of_second : (second : ℤ) (n : ℕ) → pos n ≡ second +ℤ pos 34_560_000_000_000 → pos (n / 86_400) -ℤ pos 400_000_000 ≡ int_div_euclid second (pos 86_400)
-day_of_second (pos a) n e = omega (arith, ints)
-day_of_second (negsuc a) n e = omega (arith, ints)
+day_of_second second n e = omega (arith, signed_arith)
 
 -- each instant of the range has a second of 64 bits
 pub FitsSigned-second : (w : ℤ) → IsWallClock w → FitsSigned w64 (int_div_euclid w (pos nanos_per_second))
-FitsSigned-second (pos a) h = omega (arith, ints)
-FitsSigned-second (negsuc a) h = omega (arith, ints)
+FitsSigned-second w h = omega (arith, signed_arith)
 
 pub FitsSigned-second-128 : (w : ℤ) → FitsSigned w128 w → FitsSigned w128 (int_div_euclid w (pos nanos_per_second))
-FitsSigned-second-128 (pos a) h = omega (arith, ints)
-FitsSigned-second-128 (negsuc a) h = omega (arith, ints)
+FitsSigned-second-128 w h = omega (arith, signed_arith)
 
 -- the Unix second of a day and a clock
 pub unix_seconds_of-parts : (w : ℤ) → wall_day w *ℤ pos 86_400 +ℤ pos (wall_time w / nanos_per_second) ≡ unix_seconds_of w
 unfolding wall_day wall_time
-unix_seconds_of-parts (pos a) = omega (arith, ints)
-unix_seconds_of-parts (negsuc a) = omega (arith, ints)
+unix_seconds_of-parts w = omega (arith, signed_arith)
 
 -- an instant is its Unix second and the nanosecond of that second
 pub unix_seconds_of-nanosecond : (w : ℤ) → unix_seconds_of w *ℤ pos nanos_per_second +ℤ pos (nanosecond_of (wall_time w)) ≡ w
 unfolding wall_time
-unix_seconds_of-nanosecond (pos a) = omega (arith, ints)
-unix_seconds_of-nanosecond (negsuc a) = omega (arith, ints)
+unix_seconds_of-nanosecond w = omega (arith, signed_arith)
 
 pub ruleset days = (signed_casts, IsDay-wall_day)
 

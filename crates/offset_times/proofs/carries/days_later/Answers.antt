@@ -18,10 +18,7 @@ returns-then-moved-lt1-clause-day c =
 pub returns-clause-date : goal.returns-clause-date
 returns-clause-date c =
     let length = rw (to_z-of_z c.ranges.year) at c.length_of_year-length.ensures.value in
-    rw (year_after c.args.year c.requires.year) (record {
-      first = omega (arith, signed_casts);
-      last = omega (arith, signed_casts, days_in_year_bounds c.args.year, days_in_year_bounds (c.args.year +ℤ pos 1));
-    })
+    rw (year_after c.args.year c.requires.year) (omega (arith, signed_casts, days_in_year_bounds c.args.year, days_in_year_bounds (c.args.year +ℤ pos 1)))
 
 pub returns-clause-day : goal.returns-clause-day
 returns-clause-day c =

@@ -9,13 +9,13 @@ use Rattle.calendar_values.proofs.utc_offset.UtcOffset.from_whole_seconds.Goals 
 pub invariant_of-result : goal.invariant_of-result
 invariant_of-result c =
     let o = c.args.seconds in
-    let in_range : IsOffset o = (omega (arith, signed_arith), omega (arith, signed_arith)) in
+    let in_range : IsOffset o = omega (arith, signed_arith) in
     rw (computed_hours o in_range, computed_minutes o in_range, computed_seconds o in_range) (IsOffsetParts-of o in_range)
 
 pub returns : goal.returns
 returns c =
     let o = c.args.seconds in
-    let in_range : IsOffset o = (omega (arith, signed_arith), omega (arith, signed_arith)) in
+    let in_range : IsOffset o = omega (arith, signed_arith) in
     rw (computed_hours o in_range, computed_minutes o in_range, computed_seconds o in_range) (record {
       value = (in_range, seconds_of_parts-of o);
       refused = tt;

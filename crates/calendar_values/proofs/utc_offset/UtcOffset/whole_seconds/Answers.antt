@@ -10,4 +10,4 @@ returns-clause-value c =
     omega (arith, signed_arith, view c, c.in_sixtieths-minutes.ensures, c.in_sixtieths.ensures, c.from.ensures, c.from-2.ensures, c.from-3.ensures)
 
 pub returns-clause-self_in_range : goal.returns-clause-self_in_range
-returns-clause-self_in_range c = (omega (arith, signed_arith, view c), omega (arith, signed_arith, view c))
+returns-clause-self_in_range c = omega (arith, signed_arith, view c)
