@@ -66,45 +66,9 @@ within : (c : ℕ) (from to : ℤ) → IsClock c → Apart 25 59 59 from to → 
 within c from to clock apart =
     let k = Carried-of c from to in
     let t = IsTimeOfDay-of c clock in
-    let minutes : IsWithin 1 (minutes_carried c from to) = (
-      omega (arith, signed_arith, k.second_sum, k.second_in, t.second, apart.seconds),
-      omega (
-        arith,
-        signed_arith,
-        k.second_sum,
-        k.second_in,
-        t.second,
-        apart.seconds,
-      ),
-    ) in
-    let hours : IsWithin 1 (hours_carried c from to) = (
-      omega (arith, signed_arith, k.minute_sum, k.minute_in, t.minute, apart.minutes, minutes),
-      omega (
-        arith,
-        signed_arith,
-        k.minute_sum,
-        k.minute_in,
-        t.minute,
-        apart.minutes,
-        minutes,
-      ),
-    ) in
-    record {
-      minutes = minutes;
-      hours = hours;
-      days = (
-        omega (arith, signed_arith, k.hour_sum, k.hour_in, t.hour, apart.hours, hours),
-        omega (
-          arith,
-          signed_arith,
-          k.hour_sum,
-          k.hour_in,
-          t.hour,
-          apart.hours,
-          hours,
-        ),
-      );
-    }
+    let minutes : IsWithin 1 (minutes_carried c from to) = omega (arith, signed_arith) in
+    let hours : IsWithin 1 (hours_carried c from to) = omega (arith, signed_arith) in
+    record { minutes = minutes; hours = hours; days = omega (arith, signed_arith) }
 
 pub CarriesWithin-to_utc : (c : ℕ) (from : ℤ) → IsClock c → IsOffset from → CarriesWithin 1 1 2 c from (pos 0)
 unfolding offset_hours_of offset_minutes_of offset_seconds_of

@@ -5,28 +5,8 @@ use Rattle.offset_times.proofs.carries.moved_minute.Goals as goal
 
 pub returns-clause-minute : goal.returns-clause-minute
 unfolding carried_minute
-returns-clause-minute c =
-    omega (
-      arith,
-      signed_arith,
-      c.minute.ensures.value,
-      c.minutes_past_hour.ensures.value,
-      c.minutes_past_hour-2.ensures.value,
-      c.requires.minutes,
-      c.carry_sixty.ensures.sum,
-      c.carry_sixty.ensures.below_limit,
-    )
+returns-clause-minute c = omega (arith, signed_arith)
 
 pub returns-clause-hours : goal.returns-clause-hours
 unfolding hours_carried
-returns-clause-hours c =
-    omega (
-      arith,
-      signed_arith,
-      c.minute.ensures.value,
-      c.minutes_past_hour.ensures.value,
-      c.minutes_past_hour-2.ensures.value,
-      c.requires.minutes,
-      c.carry_sixty.ensures.sum,
-      c.carry_sixty.ensures.below_limit,
-    )
+returns-clause-hours c = omega (arith, signed_arith)

@@ -5,26 +5,8 @@ use Rattle.offset_times.proofs.carries.moved_second.Goals as goal
 
 pub returns-clause-second : goal.returns-clause-second
 unfolding carried_second
-returns-clause-second c =
-    omega (
-      arith,
-      signed_arith,
-      c.second.ensures.value,
-      c.seconds_past_minute.ensures.value,
-      c.seconds_past_minute-2.ensures.value,
-      c.carry_sixty.ensures.sum,
-      c.carry_sixty.ensures.below_limit,
-    )
+returns-clause-second c = omega (arith, signed_arith)
 
 pub returns-clause-minutes : goal.returns-clause-minutes
 unfolding minutes_carried
-returns-clause-minutes c =
-    omega (
-      arith,
-      signed_arith,
-      c.second.ensures.value,
-      c.seconds_past_minute.ensures.value,
-      c.seconds_past_minute-2.ensures.value,
-      c.carry_sixty.ensures.sum,
-      c.carry_sixty.ensures.below_limit,
-    )
+returns-clause-minutes c = omega (arith, signed_arith)
