@@ -1,9 +1,8 @@
 -- A clock that is moved from one offset to another by carries is the clock that its nanoseconds give.
 use Rattle.std.proofs.Common.{◌≡◌, ℕ, ◌<◌, ◌≤◌, arith, ◌∙◌, ap, ℤ, pos, ◌+ℤ◌, ◌-ℤ◌, ◌*ℤ◌, unsigned_abs}
-use Rattle.std.proofs.lemmas.Int.{ints}
-use Rattle.calendar_values.specs.Clock.{IsClock, clock_of_parts, hour_of, minute_of, second_of, nanosecond_of}
+use Rattle.calendar_values.specs.Clock.{IsClock, hour_of, minute_of, second_of}
 use Rattle.calendar_values.specs.ClockLemmas.{clock_of_parts-of, IsTimeOfDay-of}
-use Rattle.calendar_values.specs.Offsets.{IsOffset, seconds_of_parts, offset_hours_of, offset_minutes_of, offset_seconds_of}
+use Rattle.calendar_values.specs.Offsets.{IsOffset, offset_hours_of, offset_minutes_of, offset_seconds_of}
 use Rattle.calendar_values.specs.OffsetPartLemmas.{seconds_of_parts-of, IsOffsetParts-of}
 use Rattle.calendar_values.specs.SignedArith.{signed_arith}
 use Rattle.calendar_values.specs.WallClock.{wall_clock, wall_day, wall_time}
@@ -28,27 +27,12 @@ unfolding minutes_carried hours_carried days_carried carried_second carried_minu
 Carried-of c from to = omega (arith, signed_arith)
 
 -- the carries keep the moment: the day and the clock, moved by the difference of the offsets
-carried_moment : (n days hours minutes from_h from_m from_s to_h to_m to_s : ℤ) (h m s k hour minute second : ℕ)
-    → pos s +ℤ to_s -ℤ from_s ≡ minutes *ℤ pos 60 +ℤ pos second
-    → pos m +ℤ to_m -ℤ from_m +ℤ minutes ≡ hours *ℤ pos 60 +ℤ pos minute
-    → pos h +ℤ to_h -ℤ from_h +ℤ hours ≡ days *ℤ pos 24 +ℤ pos hour
-    → wall_clock (n +ℤ days) (clock_of_parts hour minute second k) ≡ wall_clock n (clock_of_parts h m s k) +ℤ
-    offset_nanos (seconds_of_parts to_h to_m to_s -ℤ seconds_of_parts from_h from_m from_s)
-carried_moment n days hours minutes from_h from_m from_s to_h to_m to_s h m s k hour minute second p q r =
-    omega (arith, ints, p, q, r)
-
-pub wall_clock-carried : (n : ℤ) (c : ℕ) (from to : ℤ) → wall_clock (n +ℤ days_carried c from to) (carried_clock c from to) ≡ wall_clock n c +ℤ
+wall_clock-carried : (n : ℤ) (c : ℕ) (from to : ℤ) → wall_clock (n +ℤ days_carried c from to) (carried_clock c from to) ≡ wall_clock n c +ℤ
     offset_nanos (to -ℤ from)
 unfolding carried_clock
 wall_clock-carried n c from to =
     let k = Carried-of c from to in
-    let moment = carried_moment n (days_carried c from to) (hours_carried c from to) (minutes_carried c from to) (offset_hours_of from) (offset_minutes_of from)
-    (offset_seconds_of from) (offset_hours_of to) (offset_minutes_of to) (offset_seconds_of to) (hour_of c) (minute_of c) (second_of c)
-    (nanosecond_of c) _ _ _ k.second_sum k.minute_sum k.hour_sum in
-    moment ∙ ap (λ (d : ℕ). wall_clock n d +ℤ offset_nanos (seconds_of_parts (offset_hours_of to) (offset_minutes_of to) (offset_seconds_of to) -ℤ
-    seconds_of_parts (offset_hours_of from) (offset_minutes_of from) (offset_seconds_of from))) (clock_of_parts-of c) ∙
-    ap (λ (o : ℤ). wall_clock n c +ℤ offset_nanos (o -ℤ seconds_of_parts (offset_hours_of from) (offset_minutes_of from) (offset_seconds_of from)))
-    (seconds_of_parts-of to) ∙ ap (λ (o : ℤ). wall_clock n c +ℤ offset_nanos (to -ℤ o)) (seconds_of_parts-of from)
+    omega (arith, signed_arith, clock_of_parts-of c, seconds_of_parts-of to, seconds_of_parts-of from)
 
 -- so the day and the clock that the carries give are what clocks at the other offset show
 pub wall_clock-shown : (w n : ℤ) (c : ℕ) (from to : ℤ) → n ≡ wall_day w +ℤ days_carried (wall_time w) from to → c ≡ carried_clock (wall_time w) from to →

@@ -1,5 +1,5 @@
 -- The order of instants, by dates that lie far apart, by the time between them, and by packed parts.
-use Rattle.std.proofs.Common.{◌≡◌, ℕ, ◌/◌, ◌<◌, ap, ◌∙◌, arith, ℤ, pos, ◌+ℤ◌, ◌-ℤ◌, ◌*ℤ◌, ◌<ℤ◌, int_cmp}
+use Rattle.std.proofs.Common.{◌≡◌, ℕ, ◌/◌, ◌<◌, ap, arith, ℤ, pos, ◌+ℤ◌, ◌-ℤ◌, ◌*ℤ◌, ◌<ℤ◌, int_cmp}
 use Rattle.std.proofs.lemmas.Int.{ints, by_lt_z}
 use Rattle.calendar_values.specs.Calendar.{year_start, year_of, ordinal_of, day_of_ordinal_date, IsOrdinalDate}
 use Rattle.calendar_values.specs.Clock.{IsClock, nanos_per_second, nanosecond_of}
@@ -70,14 +70,6 @@ days_in_one_year m n e =
     let second = day_of_ordinal_date-of n in
     let same : year_start (year_of m) ≡ year_start (year_of n) = ap year_start e in
     omega (arith, signed_arith)
-
-seconds_between_parts : (d u v o p : ℤ) → d *ℤ pos 86_400 +ℤ ((u -ℤ o) -ℤ (v -ℤ p)) ≡ d *ℤ pos 86_400 +ℤ u -ℤ o -ℤ (v -ℤ p)
-seconds_between_parts d u v o p = omega (arith, ints)
-
-pub seconds_between : (s d a b m n u v o p : ℤ) → s ≡ d *ℤ pos 86_400 +ℤ (a -ℤ b) → d ≡ m -ℤ n → a ≡ u -ℤ o → b ≡ v -ℤ p
-    → s ≡ (m -ℤ n) *ℤ pos 86_400 +ℤ u -ℤ o -ℤ (v -ℤ p)
-seconds_between s d a b m n u v o p whole days first second =
-    rw (days, first, second) at whole ∙ seconds_between_parts (m -ℤ n) u v o p
 
 -- instants lie apart by the days, the seconds of the days, the offsets and the nanoseconds
 pub instants_between : (a b : Local) (s : ℤ) (n m : ℕ)

@@ -7,8 +7,7 @@ use Rattle.calendar_values.specs.DayLemmas.{IsYear-year_of, year_of-ordinal_date
 use Rattle.calendar_values.specs.Durations.{IsDuration}
 use Rattle.calendar_values.specs.Offsets.{IsOffset}
 use Rattle.calendar_values.specs.Range.{IsYear}
-use Rattle.calendar_values.specs.SignedArith.{signed_arith}
-use Rattle.calendar_values.specs.WallClock.{wall_clock, IsWallClock, unix_seconds_of}
+use Rattle.calendar_values.specs.WallClock.{wall_clock, IsWallClock}
 use Rattle.calendar_values.specs.WallClockLemmas.{IsDay-wall_day, wall_day-wall_clock}
 use Rattle.offset_times.specs.InstantLemmas.{shown_at-instant_of, local_at-instant_of}
 use Rattle.offset_times.specs.Local.{Local, IsLocal, instant_of, wall_at, local_at, shown_at, offset_nanos}
@@ -19,10 +18,6 @@ shown_at-own at o e = ap (λ (p : ℤ). shown_at (instant_of at) p) (sym e) ∙ 
 
 pub local_at-own : (at : Local) (o : ℤ) → at.offset ≡ o → local_at (instant_of at) o ≡ at
 local_at-own at o e = ap (λ (p : ℤ). local_at (instant_of at) p) (sym e) ∙ local_at-instant_of at
-
--- whole seconds taken away
-pub unix_seconds_of_instant : (w o : ℤ) → unix_seconds_of (w -ℤ offset_nanos o) ≡ unix_seconds_of w -ℤ o
-unix_seconds_of_instant w o = omega (arith, signed_arith)
 
 -- a wall clock of the range is one of a year of the range
 pub IsYear-wall_clock : (y : ℤ) (ordinal c : ℕ) → IsOrdinalDate y ordinal → IsClock c → IsWallClock (wall_clock (day_of_ordinal_date y ordinal) c) → IsYear y

@@ -1,6 +1,5 @@
 use Rattle.std.proofs.Common.{arith}
 use Rattle.calendar_values.specs.SignedArith.{signed_arith}
-use Rattle.offset_times.proofs.LocalLemmas.{unix_seconds_of_instant}
 use Rattle.offset_times.specs.Local.{instant_of}
 use Rattle.offset_times.proofs.offset_date_time.OffsetDateTime.unix_timestamp.Goals as goal
 
@@ -9,4 +8,4 @@ overflow_sub-result c = omega (arith, signed_arith)
 
 pub returns : goal.returns
 unfolding instant_of
-returns c = rw (unix_seconds_of_instant c.args.self.wall c.args.self.offset) (omega (arith, signed_arith))
+returns c = omega (arith, signed_arith)
