@@ -5,13 +5,13 @@ use Rattle.calendar_values.specs.Calendar.{year_start, year_of, ordinal_of, day_
 use Rattle.calendar_values.specs.Clock.{IsClock, nanos_per_second, nanosecond_of}
 use Rattle.calendar_values.specs.DayLemmas.{IsOrdinalDate-of, day_of_ordinal_date-of, year_of-ordinal_date, ordinal_of-ordinal_date}
 use Rattle.calendar_values.specs.Offsets.{IsOffset}
+use Rattle.calendar_values.specs.OrderLemmas.{int_cmp_agrees}
 use Rattle.calendar_values.specs.SignedArith.{signed_arith}
 use Rattle.calendar_values.specs.WallClock.{wall_clock, wall_day, wall_time}
 use Rattle.calendar_values.specs.WallClockLemmas.{wall_clock-parts, IsClock-wall_time, wall_day-wall_clock, wall_time-wall_clock}
 use Rattle.calendar_values.specs.YearLemmas.{year_start-later, year_start-next, days_in_year_bounds}
 use Rattle.offset_times.specs.Local.{Local, IsLocal, instant_of, offset_nanos}
 use Rattle.plain_times.specs.Packed.{packed_parts, packed_wall_clock}
-use Rattle.plain_times.specs.PackedLemmas.{int_cmp_agrees}
 
 -- dates that lie more than four days apart, were each year of 366, lie more than three apart
 later_date : (y z : ℤ) (o p : ℕ) → IsOrdinalDate y o → IsOrdinalDate z p → pos 4 <ℤ ((y -ℤ z) *ℤ pos 366 +ℤ pos o -ℤ pos p) →

@@ -4,56 +4,34 @@ use Rattle.std.proofs.lemmas.Int.{ints, by_lt_z}
 use Rattle.std.specs.Bool.{one_answer}
 use Rattle.std.specs.Cmp.{signed_Decides}
 use Rattle.std.specs.Ordering.{int_eq}
-use Rattle.calendar_values.specs.Calendar.{year_of, ordinal_of}
+use Rattle.calendar_values.specs.Calendar.{year_start, year_of, ordinal_of}
 use Rattle.calendar_values.specs.DayLemmas.{IsOrdinalDate-of, day_of_ordinal_date-of}
+use Rattle.calendar_values.specs.OrderLemmas.{int_cmp_agrees}
 use Rattle.calendar_values.specs.SignedArith.{signed_arith}
 use Rattle.calendar_values.specs.WallClock.{wall_day, wall_time}
 use Rattle.calendar_values.specs.WallClockLemmas.{wall_clock-parts, IsClock-wall_time}
 use Rattle.calendar_values.specs.YearLemmas.{year_start-mono, year_start-next, days_in_year_bounds}
 use Rattle.plain_times.specs.Packed.{IsParts, wall_clock_of_parts, packed_parts, packed_wall_clock}
 
-later_year : (y z : ℤ) (o p c d : ℕ) → IsParts y o c → IsParts z p d → y <ℤ z → wall_clock_of_parts y o c <ℤ wall_clock_of_parts z p d
-later_year y z o p c d h k lt =
-    let in_year = h.date in
-    let in_day = h.clock in
-    let in_other_year = k.date in
-    omega (arith, signed_arith, year_start-mono (y +ℤ pos 1) z (omega (arith, signed_arith)), year_start-next y)
-
-later_year_packed : (y z : ℤ) (o p c d : ℕ) → IsParts y o c → IsParts z p d → y <ℤ z → packed_parts y o c <ℤ packed_parts z p d
-later_year_packed y z o p c d h k lt =
-    let in_year = h.date in
-    let in_day = h.clock in
-    omega (arith, ints, days_in_year_bounds y)
-
-same_year : (y : ℤ) (o p c d : ℕ) → IsParts y o c → IsParts y p d → packed_parts y o c <ℤ packed_parts y p d →
-    wall_clock_of_parts y o c <ℤ wall_clock_of_parts y p d
-same_year y o p c d h k lt = let in_day = h.clock in let in_other_day = k.clock in omega (arith, ints)
-
-same_parts : (y : ℤ) (o p c d : ℕ) → IsParts y o c → IsParts y p d → packed_parts y o c ≡ packed_parts y p d →
-    wall_clock_of_parts y o c ≡ wall_clock_of_parts y p d
-same_parts y o p c d h k e = let in_day = h.clock in let in_other_day = k.clock in omega (arith, ints)
-
 -- a smaller packed number is that of an earlier wall clock
 pub packed_parts-lt : (y z : ℤ) (o p c d : ℕ) → IsParts y o c → IsParts z p d → packed_parts y o c <ℤ packed_parts z p d →
     wall_clock_of_parts y o c <ℤ wall_clock_of_parts z p d
 packed_parts-lt y z o p c d h k lt =
-    by_lt_z y z (later_year y z o p c d h k) (λ ge. by_lt_z z y
-    (λ gt. absurd (omega (arith, ints, later_year_packed z y p o d c k h gt)))
-    (λ le. let e : z ≡ y = omega (arith, ints) in rw e (same_year y o p c d h (rw e at k) (rw e at lt))))
+    by_lt_z y z
+    (λ less. omega (arith, signed_arith, year_start-mono (y +ℤ pos 1) z (omega (arith, signed_arith)), year_start-next y))
+    (λ ge. by_lt_z z y
+    (λ more. absurd (omega (arith, signed_arith, days_in_year_bounds z)))
+    (λ le. let e : z ≡ y = omega (arith, signed_arith) in let start = ap year_start e in omega (arith, signed_arith)))
 
 -- equal packed numbers are those of one wall clock
 pub packed_parts-same : (y z : ℤ) (o p c d : ℕ) → IsParts y o c → IsParts z p d → packed_parts y o c ≡ packed_parts z p d →
     wall_clock_of_parts y o c ≡ wall_clock_of_parts z p d
 packed_parts-same y z o p c d h k same =
     by_lt_z y z
-    (λ lt. absurd (omega (arith, ints, later_year_packed y z o p c d h k lt)))
+    (λ less. absurd (omega (arith, signed_arith, days_in_year_bounds y)))
     (λ ge. by_lt_z z y
-    (λ gt. absurd (omega (arith, ints, later_year_packed z y p o d c k h gt)))
-    (λ le. let e : z ≡ y = omega (arith, ints) in rw e (same_parts y o p c d h (rw e at k) (rw e at same))))
-
--- two comparisons that agree wherever they come out
-pub int_cmp_agrees : (a b x y : ℤ) → (a <ℤ b → x <ℤ y) → (b <ℤ a → y <ℤ x) → (a ≡ b → x ≡ y) → int_cmp a b ≡ int_cmp x y
-int_cmp_agrees a b x y l g s = grind (arith, ints)
+    (λ more. absurd (omega (arith, signed_arith, days_in_year_bounds z)))
+    (λ le. let e : z ≡ y = omega (arith, signed_arith) in let start = ap year_start e in omega (arith, signed_arith)))
 
 -- so parts compare as their wall clocks do
 pub int_cmp-packed_parts : (y z : ℤ) (o p c d : ℕ) → IsParts y o c → IsParts z p d →

@@ -1,16 +1,15 @@
 -- What a replaced wall clock shows.
-use Rattle.std.proofs.Common.{◌≡◌, ℕ, ◌≤◌, refl, sym, ap, ◌∙◌, ℤ, Result, Ok, Err}
+use Rattle.std.proofs.Common.{◌≡◌, ℕ, ◌≤◌, refl, sym, ap, ◌∙◌, arith, ℤ, Result, Ok, Err}
 use Rattle.calendar_values.specs.Calendar.{IsCalendarDate, IsOrdinalDate, day_of_calendar_date, day_of_ordinal_date, days_in_month, days_in_year, is_leap_year}
 use Rattle.calendar_values.specs.Calendar.{year_of, month_of, day_of_month_of}
-use Rattle.calendar_values.specs.Clock.{IsClock, IsTimeOfDay, clock_of_parts, hour_of, minute_of, second_of, nanosecond_of}
-use Rattle.calendar_values.specs.ClockLemmas.{IsTimeOfDay-of}
+use Rattle.calendar_values.specs.Clock.{IsClock, clock_of_parts, hour_of, minute_of, second_of, nanosecond_of}
 use Rattle.calendar_values.specs.DayLemmas.{year_of-ordinal_date, ordinal_of-ordinal_date}
 use Rattle.calendar_values.specs.Month.{month_number}
 use Rattle.calendar_values.specs.CalendarDateLemmas.{IsCalendarDate-of, year_of-calendar_date, month_of-calendar_date, day_of_month_of-calendar_date}
 use Rattle.calendar_values.specs.MonthNumberLemmas.{month_number_bounds}
 use Rattle.calendar_values.specs.Outcomes.{answer_within}
 use Rattle.calendar_values.specs.Refusals.{IsDateOfRange, Refusal}
-use Rattle.calendar_values.specs.ClockReplacementLemmas.{Shows-clock_of_parts}
+use Rattle.calendar_values.specs.SignedArith.{signed_arith}
 use Rattle.calendar_values.specs.WallClock.{wall_day, wall_time}
 use Rattle.calendar_values.specs.declared.month.Month.{Month}
 use Rattle.calendar_values.specs.WallClockLemmas.{IsClock-wall_time, wall_day-wall_clock, wall_time-wall_clock}
@@ -97,45 +96,28 @@ OnOrdinalDate-is old new day n ordinal here h is e =
     })
 
 -- a time of day reads as given, and the date as before
-AtTime-is : (old new : ℤ) (c h m s n : ℕ) → IsTimeOfDay h m s n → c ≡ clock_of_parts h m s n → new ≡ with_time old c → AtTime old h m s n new
-AtTime-is old new c h m s n parts is e =
-    let shows = Shows-clock_of_parts h m s n parts in
-    let clock : IsClock c = rw is shows.clock in
-    let time : wall_time new ≡ clock_of_parts h m s n = ap wall_time e ∙ wall_time-with_time old c clock ∙ is in
-    record {
-      day = ap wall_day e ∙ wall_day-with_time old c clock;
-      hour = rw time shows.hour;
-      minute = rw time shows.minute;
-      second = rw time shows.second;
-      nanosecond = rw time shows.nanosecond;
-    }
-
 pub AtTime-hour : (old new : ℤ) (c h : ℕ) → h ≤ 23
     → c ≡ clock_of_parts h (minute_of (wall_time old)) (second_of (wall_time old)) (nanosecond_of (wall_time old)) → new ≡ with_time old c
     → AtTime old h (minute_of (wall_time old)) (second_of (wall_time old)) (nanosecond_of (wall_time old)) new
-AtTime-hour old new c h low is e =
-    let here = IsTimeOfDay-of (wall_time old) (IsClock-wall_time old) in
-    AtTime-is old new c _ _ _ _ (record { hour = low; minute = here.minute; second = here.second; nanosecond = here.nanosecond }) is e
+unfolding with_time wall_day wall_time
+AtTime-hour old new c h low is e = omega (arith, signed_arith)
 
 pub AtTime-minute : (old new : ℤ) (c m : ℕ) → m ≤ 59
     → c ≡ clock_of_parts (hour_of (wall_time old)) m (second_of (wall_time old)) (nanosecond_of (wall_time old)) → new ≡ with_time old c
     → AtTime old (hour_of (wall_time old)) m (second_of (wall_time old)) (nanosecond_of (wall_time old)) new
-AtTime-minute old new c m low is e =
-    let here = IsTimeOfDay-of (wall_time old) (IsClock-wall_time old) in
-    AtTime-is old new c _ _ _ _ (record { hour = here.hour; minute = low; second = here.second; nanosecond = here.nanosecond }) is e
+unfolding with_time wall_day wall_time
+AtTime-minute old new c m low is e = omega (arith, signed_arith)
 
 pub AtTime-second : (old new : ℤ) (c s : ℕ) → s ≤ 59
     → c ≡ clock_of_parts (hour_of (wall_time old)) (minute_of (wall_time old)) s (nanosecond_of (wall_time old)) → new ≡ with_time old c
     → AtTime old (hour_of (wall_time old)) (minute_of (wall_time old)) s (nanosecond_of (wall_time old)) new
-AtTime-second old new c s low is e =
-    let here = IsTimeOfDay-of (wall_time old) (IsClock-wall_time old) in
-    AtTime-is old new c _ _ _ _ (record { hour = here.hour; minute = here.minute; second = low; nanosecond = here.nanosecond }) is e
+unfolding with_time wall_day wall_time
+AtTime-second old new c s low is e = omega (arith, signed_arith)
 
 pub AtTime-nanosecond : (old new : ℤ) (c n : ℕ) → n ≤ 999_999_999
     → c ≡ clock_of_parts (hour_of (wall_time old)) (minute_of (wall_time old)) (second_of (wall_time old)) n → new ≡ with_time old c
     → AtTime old (hour_of (wall_time old)) (minute_of (wall_time old)) (second_of (wall_time old)) n new
-AtTime-nanosecond old new c n low is e =
-    let here = IsTimeOfDay-of (wall_time old) (IsClock-wall_time old) in
-    AtTime-is old new c _ _ _ _ (record { hour = here.hour; minute = here.minute; second = here.second; nanosecond = low }) is e
+unfolding with_time wall_day wall_time
+AtTime-nanosecond old new c n low is e = omega (arith, signed_arith)
 
 pub ruleset times = (AtTime-hour, AtTime-minute, AtTime-second, AtTime-nanosecond)

@@ -19,5 +19,13 @@ pub returns : goal.returns
 returns c =
     let s : FitsSigned w64 c.self.inside.seconds = search rules in
     let t : FitsSigned w64 c.other.inside.seconds = search rules in
-    omega (arith, signed_arith, duration_signs _ _ c.self.invariant, duration_signs _ _ c.other.invariant, c.self.view_is, c.other.view_is,
-    c.requires, c.new.ensures)
+    omega (
+      arith,
+      signed_arith,
+      duration_signs _ _ c.self.invariant,
+      duration_signs _ _ c.other.invariant,
+      c.self.view_is,
+      c.other.view_is,
+      c.requires,
+      c.new.ensures,
+    )

@@ -12,15 +12,32 @@ pub new-requires : goal.new-requires
 new-requires c =
     let s : FitsSigned w64 c.self.inside.seconds = search rules in
     let t : FitsSigned w64 c.other.inside.seconds = search rules in
-    omega (arith, signed_arith, duration_signs _ _ c.self.invariant, duration_signs _ _ c.other.invariant, c.self.view_is, c.other.view_is,
-    c.requires, c.in-Some.ensures)
+    omega (
+      arith,
+      signed_arith,
+      duration_signs _ _ c.self.invariant,
+      duration_signs _ _ c.other.invariant,
+      c.self.view_is,
+      c.other.view_is,
+      c.requires,
+      c.in-Some.ensures,
+    )
 
 pub returns-in-Some : goal.returns-in-Some
 returns-in-Some c =
     let s : FitsSigned w64 c.self.inside.seconds = search rules in
     let t : FitsSigned w64 c.other.inside.seconds = search rules in
-    omega (arith, signed_arith, duration_signs _ _ c.self.invariant, duration_signs _ _ c.other.invariant, c.self.view_is, c.other.view_is,
-    c.requires, c.in-Some.ensures, c.new.ensures)
+    omega (
+      arith,
+      signed_arith,
+      duration_signs _ _ c.self.invariant,
+      duration_signs _ _ c.other.invariant,
+      c.self.view_is,
+      c.other.view_is,
+      c.requires,
+      c.in-Some.ensures,
+      c.new.ensures,
+    )
 
 excess : (c : goal.In-None) → (c.self.inside.seconds -ℤ c.other.inside.seconds ≡ pos 9_223_372_036_854_775_808)
     × ((c.self.inside.nanoseconds -ℤ c.other.inside.nanoseconds) <ℤ pos 0)
@@ -33,8 +50,16 @@ overflow_add-nanoseconds c =
 
 pub new-requires-in-None : goal.new-requires-in-None
 new-requires-in-None c =
-    omega (arith, signed_arith, duration_signs _ _ c.self.invariant, duration_signs _ _ c.other.invariant, c.self.view_is, c.other.view_is,
-    c.requires, excess c)
+    omega (
+      arith,
+      signed_arith,
+      duration_signs _ _ c.self.invariant,
+      duration_signs _ _ c.other.invariant,
+      c.self.view_is,
+      c.other.view_is,
+      c.requires,
+      excess c,
+    )
 
 pub returns-in-None : goal.returns-in-None
 returns-in-None c =
