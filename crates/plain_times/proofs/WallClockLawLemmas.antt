@@ -1,9 +1,9 @@
 -- Sums and differences undo one another, and a replacement keeps the rest.
-use Rattle.std.proofs.Common.{◌≡◌, ℕ, refl, sym, ◌∙◌, ap, arith, ℤ, ◌+ℤ◌, ◌-ℤ◌, Option, Some, SomeIff}
+use Rattle.std.proofs.Common.{◌≡◌, ℕ, ◌∙◌, ap, arith, ℤ, ◌+ℤ◌, ◌-ℤ◌, Option, Some, SomeIff}
 use Rattle.std.proofs.lemmas.Int.{ints}
 use Rattle.calendar_values.specs.Clock.{IsClock}
-use Rattle.calendar_values.specs.WallClock.{wall_clock, wall_day, wall_time, IsWallClock}
-use Rattle.calendar_values.specs.WallClockLemmas.{wall_clock-parts, IsClock-wall_time, wall_day-wall_clock, wall_time-wall_clock}
+use Rattle.calendar_values.specs.SignedArith.{signed_arith}
+use Rattle.calendar_values.specs.WallClock.{wall_day, wall_time, IsWallClock}
 use Rattle.plain_times.specs.Laws.{IsOnlyWallClock, ReplacementsKeepTheRest}
 use Rattle.plain_times.specs.Replacements.{with_date, with_time}
 use Rattle.plain_times.specs.Sums.{wall_clock_if_any}
@@ -22,23 +22,13 @@ difference-leads_back a b sum h k answer =
     let there : b +ℤ (a -ℤ b) ≡ a = omega (arith, ints) in
     wall_clock_if_any-SomeIff sum (b +ℤ (a -ℤ b)) answer ∙ ap wall_clock_if_any there ∙ wall_clock_if_any-in a h
 
-same_wall_clock : (m n : ℤ) (c d : ℕ) → m ≡ n → c ≡ d → wall_clock m c ≡ wall_clock n d
-same_wall_clock m n c d e f = rw (e, f) refl
-
-IsOnlyWallClock-wall_clock : (n : ℤ) (c : ℕ) → IsClock c → IsOnlyWallClock (wall_clock n c) n c
-IsOnlyWallClock-wall_clock n c clock = record {
-  day = wall_day-wall_clock n c clock;
-  time = wall_time-wall_clock n c clock;
-  only = λ v day time. sym (wall_clock-parts v) ∙ same_wall_clock (wall_day v) n (wall_time v) c day time;
-}
-
 IsOnlyWallClock-with_date : (w n : ℤ) → IsOnlyWallClock (with_date w n) n (wall_time w)
-unfolding with_date
-IsOnlyWallClock-with_date w n = IsOnlyWallClock-wall_clock n (wall_time w) (IsClock-wall_time w)
+unfolding with_date wall_day wall_time
+IsOnlyWallClock-with_date w n = omega (arith, signed_arith)
 
 IsOnlyWallClock-with_time : (w : ℤ) (c : ℕ) → IsClock c → IsOnlyWallClock (with_time w c) (wall_day w) c
-unfolding with_time
-IsOnlyWallClock-with_time w c clock = IsOnlyWallClock-wall_clock (wall_day w) c clock
+unfolding with_time wall_day wall_time
+IsOnlyWallClock-with_time w c clock = omega (arith, signed_arith)
 
 pub replacements_keep_the_rest : ReplacementsKeepTheRest
 replacements_keep_the_rest = record { date = IsOnlyWallClock-with_date; time = IsOnlyWallClock-with_time }

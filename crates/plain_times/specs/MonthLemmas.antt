@@ -13,9 +13,7 @@ use Rattle.plain_times.specs.Months.{last_of_month}
 
 -- the first day of a month is of that year and month
 IsCalendarDate-first : (y : ℤ) (m : ℕ) → 1 ≤ m → m ≤ 12 → IsCalendarDate y m 1
-IsCalendarDate-first y m first last =
-    let days = days_in_month_bounds (is_leap_year y) m in
-    record { month_first = first; month_last = last; day_first = omega arith; day_last = omega arith }
+IsCalendarDate-first y m first last = omega (arith, days_in_month_bounds (is_leap_year y) m)
 
 pub year_of-first : (n y : ℤ) (m : ℕ) → 1 ≤ m → m ≤ 12 → n ≡ day_of_calendar_date y m 1 → year_of n ≡ y
 year_of-first n y m first last e = rw e (year_of-calendar_date y m 1 (IsCalendarDate-first y m first last))
@@ -28,9 +26,7 @@ day_of_month_of-first n y m first last e = rw e (day_of_month_of-calendar_date y
 
 -- a day of a month, or the month's last day where it is shorter, is a day of that month
 IsCalendarDate-clamped : (y : ℤ) (m d : ℕ) → 1 ≤ m → m ≤ 12 → 1 ≤ d → IsCalendarDate y m (min d (days_in_month (is_leap_year y) m))
-IsCalendarDate-clamped y m d first last some =
-    let days = days_in_month_bounds (is_leap_year y) m in
-    record { month_first = first; month_last = last; day_first = omega arith; day_last = omega arith }
+IsCalendarDate-clamped y m d first last some = omega (arith, days_in_month_bounds (is_leap_year y) m)
 
 pub year_of-clamped : (n y : ℤ) (m d : ℕ) → 1 ≤ m → m ≤ 12 → 1 ≤ d
     → n ≡ day_of_calendar_date y m (min d (days_in_month (is_leap_year y) m)) → year_of n ≡ y
