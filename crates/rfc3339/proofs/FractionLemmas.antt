@@ -1,18 +1,17 @@
 -- Fractions and offsets: what is read has the form, and what has the form is read.
 use Rattle.std.proofs.Common.{◌≡◌, ◌≢◌, ◌⊎◌, inl, inr, ℕ, ◌+◌, ◌-◌, ◌*◌, ◌/◌, ◌<◌, ◌≤◌, Bool, true, false, cond, nat_eq, List, [], ◌∷◌, ◌++◌, length}
-use Rattle.std.proofs.Common.{length-append, append_assoc, Option, Some, None, refl, sym, ap, subst, ◌∙◌, arith}
+use Rattle.std.proofs.Common.{length-append, Option, Some, None, refl, sym, ap, ◌∙◌, arith}
 use Rattle.std.specs.Prelude.{codes, ◌||◌}
 use Rattle.std.specs.Char.{is_ascii_digit}
 use Rattle.std.specs.List.{list_all}
 use Rattle.std.proofs.lemmas.Bool.Decides.{nat_tests}
-use Rattle.std.proofs.lemmas.Bool.{and_parts, or_cases, eqb-true, eqb-false, ne_eqb, true≢false}
-use Rattle.std.proofs.lemmas.List.{append-nil}
+use Rattle.std.proofs.lemmas.Bool.{and_parts}
 use Rattle.std.proofs.lemmas.Option.{some_pair_parts, same_Some}
 use Rattle.calendar_values.specs.Digits.{last_digits}
 use Rattle.rfc3339.specs.Form.{fraction_value, IsFraction, IsOffsetText}
 use Rattle.rfc3339.specs.Reading.{◌>>=◌, two_digits_at, mark_at, part_at, digits_at, fraction_of, fraction_at, ended, zone_at}
 use Rattle.rfc3339.proofs.FieldDigitLemmas.{digit_again}
-use Rattle.rfc3339.proofs.FormLemmas.{bind_some, mark_takes, mark_again, two_takes, two_again, part_takes, part_again}
+use Rattle.rfc3339.proofs.FormLemmas.{bind_some, mark_takes, mark_again, two_takes, part_takes}
 
 -- the digits in front of a text
 pub record AreDigits (unit : ℕ) (bytes digits : List ℕ) (value : ℕ) (rest : List ℕ) : Type 0 where

@@ -1,12 +1,12 @@
 -- Whole texts: what is read has the form, and what has the form is read.
-use Rattle.std.proofs.Common.{◌≡◌, ℕ, Bool, List, ◌∷◌, ◌++◌, append_assoc, Option, Some, None, refl, sym, ap, subst, ◌∙◌, ◌+◌, ◌<◌, ◌≤◌, length, length-append}
+use Rattle.std.proofs.Common.{◌≡◌, ℕ, List, ◌∷◌, ◌++◌, append_assoc, Option, Some, None, refl, sym, ap, subst, ◌∙◌, ◌+◌, ◌<◌, ◌≤◌, length, length-append}
 use Rattle.std.proofs.Common.{arith}
 use Rattle.std.proofs.lemmas.Option.{same_Some}
 use Rattle.calendar_values.specs.Digits.{last_digits}
 use Rattle.calendar_values.specs.DigitCountLemmas.{length-last_digits}
 use Rattle.rfc3339.specs.declared.parts.Parts.{Parts}
-use Rattle.rfc3339.specs.Form.{IsFraction, spelling, IsDateTime}
-use Rattle.rfc3339.specs.Reading.{◌>>=◌, two_digits_at, part_at, year_at, separator_at, fraction_at, zone_at, parts_read, fraction_on, time_on, parts_at}
+use Rattle.rfc3339.specs.Form.{spelling, IsDateTime}
+use Rattle.rfc3339.specs.Reading.{parts_at}
 use Rattle.rfc3339.proofs.FormLemmas.{Takes, TakesSeparator, bind_some, two_takes, two_again, part_takes, part_again, year_takes, year_again, separator_takes}
 use Rattle.rfc3339.proofs.FormLemmas.{separator_again}
 use Rattle.rfc3339.proofs.FractionLemmas.{TakesFraction, TakesOffset, fraction_takes, fraction_again, zone_takes, zone_again, offset_ends}
