@@ -4,7 +4,7 @@ use Rattle.std.proofs.Common.{length-append, refl, sym, ap, subst, ◌∙◌, ar
 use Rattle.std.specs.Prelude.{codes, int_lt}
 use Rattle.std.proofs.lemmas.Bool.{eqb-true}
 use Rattle.std.proofs.lemmas.Bool.Decides.{nat_tests}
-use Rattle.std.proofs.lemmas.Int.{ints}
+use Rattle.calendar_values.specs.SignedArith.{signed_arith, one_part}
 use Rattle.calendar_values.specs.Calendar.{is_leap_year, days_in_month, year_of, month_of, day_of_month_of}
 use Rattle.calendar_values.specs.ClockLemmas.{clock_of_parts-of, IsTimeOfDay-of}
 use Rattle.calendar_values.specs.CalendarDateLemmas.{IsCalendarDate-of, day_of_calendar_date-of, days_in_month_bounds}
@@ -36,39 +36,28 @@ IsFraction-text n low = fraction_of_some n (nat_eq n 0) low refl
 
 -- ---- an offset
 
-zero_offset : (o : ℤ) → unsigned_abs o ≡ 0 → o ≡ pos 0
-zero_offset (pos n) e = ap pos e
-zero_offset (negsuc n) e = absurd (omega (arith, e))
-
 offset_of_zero : (o : ℤ) (b : Bool) → nat_eq (unsigned_abs o) 0 ≡ b
     → IsOffsetText (cond b (codes "Z")
     (cond (int_lt o (pos 0)) (codes "-") (codes "+") ++ last_digits 2 (unsigned_abs o / 3_600) ++ codes ":" ++ last_digits 2
     (unsigned_abs o / 60 % 60))) (int_lt o (pos 0)) (unsigned_abs o / 3_600) (unsigned_abs o / 60 % 60)
 offset_of_zero o true t =
-    let none : unsigned_abs o ≡ 0 = eqb-true (unsigned_abs o) 0 t in
-    inl (inl refl, ap (λ (z : ℤ). int_lt z (pos 0)) (zero_offset o none), omega arith, omega arith)
+    let none = eqb-true (unsigned_abs o) 0 t in
+    let zero : o ≡ pos 0 = omega (arith, signed_arith) in inl (inl refl, rw zero refl, omega arith, omega arith)
 offset_of_zero o false t = inr refl
 
 pub IsOffsetText-text : (o : ℤ) → IsOffsetText (time_offset_text o) (int_lt o (pos 0)) (unsigned_abs o / 3_600) (unsigned_abs o / 60 % 60)
 unfolding time_offset_text
 IsOffsetText-text o = offset_of_zero o (nat_eq (unsigned_abs o) 0) refl
 
-offset_of-parts : (o : ℤ) → unsigned_abs o % 60 ≡ 0 → offset_of (int_lt o (pos 0)) (unsigned_abs o / 3_600) (unsigned_abs o / 60 % 60) ≡ o
-offset_of-parts (pos n) e =
-    let east : int_lt (pos n) (pos 0) ≡ false = grind (arith, nat_tests) in
-    rw east (ap pos (omega (arith, e)))
-offset_of-parts (negsuc n) e =
-    let whole : suc n / 3_600 * 3_600 + suc n / 60 % 60 * 60 ≡ suc n = omega (arith, e) in ap (λ k. neg_ℤ (pos k)) whole
+offset_of-parts : (o : ℤ) (b : Bool) → int_lt o (pos 0) ≡ b → unsigned_abs o % 60 ≡ 0
+    → offset_of b (unsigned_abs o / 3_600) (unsigned_abs o / 60 % 60) ≡ o
+offset_of-parts o true t e = omega (arith, signed_arith, one_part o)
+offset_of-parts o false t e = omega (arith, signed_arith, one_part o)
 
 -- ---- a whole text
 
 pub year_is : (y : ℤ) → pos 0 ≤ℤ y → pos (unsigned_abs y) ≡ y
-year_is (pos n) h = refl
-year_is (negsuc n) h = absurd (omega (arith, ints, h))
-
-year_below : (y : ℤ) → pos 0 ≤ℤ y → y ≤ℤ pos 9_999 → unsigned_abs y < 10_000
-year_below (pos n) h low = omega (arith, ints, low)
-year_below (negsuc n) h low = absurd (omega (arith, ints, h))
+year_is y h = omega (arith, signed_arith, one_part y)
 
 value_of-parts : (at : Local) → HasText at → value_of (parts_of at) ≡ at
 value_of-parts at h =
@@ -76,7 +65,7 @@ value_of-parts at h =
     let clock = wall_time at.wall in
     let date = day_of_calendar_date-of day in
     let time = clock_of_parts-of clock in
-    let offset = offset_of-parts at.offset h.whole_minutes in
+    let offset = offset_of-parts at.offset _ refl h.whole_minutes in
     let year = year_is (year_of day) h.year_first in
     rw (year, date, time, offset) (ap (λ w. wall_at w at.offset) (wall_clock-parts at.wall))
 
@@ -86,18 +75,8 @@ parts-in_range at h =
     let date = IsCalendarDate-of day in
     let time = IsTimeOfDay-of (wall_time at.wall) (IsClock-wall_time at.wall) in
     let year = year_is (year_of day) h.year_first in
-    let low = h.below_a_day in
-    record {
-      month_first = date.month_first;
-      month_last = date.month_last;
-      day_first = date.day_first;
-      day_last = subst (λ (y : ℤ). day_of_month_of day ≤ days_in_month (is_leap_year y) (month_of day)) (sym year) date.day_last;
-      hour = time.hour;
-      minute = time.minute;
-      second = time.second;
-      offset_hour = omega (arith, low);
-      offset_minute = omega arith;
-    }
+    let last = subst (λ (y : ℤ). day_of_month_of day ≤ days_in_month (is_leap_year y) (month_of day)) (sym year) date.day_last in
+    omega arith
 
 -- what was written means what was written
 pub meaning-text : (at : Local) → HasText at → meaning (parts_of at) ≡ Ok at
@@ -110,6 +89,7 @@ IsDateTime-text at h =
     let day = wall_day at.wall in
     let clock = wall_time at.wall in
     let r = parts-in_range at h in
+    let year = year_is (year_of day) h.year_first in
     let month_days = days_in_month_bounds (is_leap_year (pos (unsigned_abs (year_of day)))) (month_of day) in
     record {
       separator = 84;
@@ -119,16 +99,7 @@ IsDateTime-text at h =
       is_separator = refl;
       is_fraction = IsFraction-text (nanosecond_of clock) (omega arith);
       is_offset = IsOffsetText-text at.offset;
-      fits = record {
-        year = year_below (year_of day) h.year_first h.year_last;
-        month = omega (arith, r.month_last);
-        day = omega (arith, r.day_last, month_days.1);
-        hour = omega (arith, r.hour);
-        minute = omega (arith, r.minute);
-        second = omega (arith, r.second);
-        offset_hour = omega (arith, r.offset_hour);
-        offset_minute = omega (arith, r.offset_minute);
-      };
+      fits = omega (arith, signed_arith);
     }
 
 -- a text of fixed width has the form, too
