@@ -1,21 +1,17 @@
 -- The tests of the ranges.
-use Rattle.std.proofs.Common.{◌≡◌, ℕ, zero, suc, ◌+◌, ◌*◌, ◌≤◌, Bool, true, false, cond, nat_eq, nat_lt, List, refl, sym, ap, subst, ◌∙◌, arith, Result, Ok}
-use Rattle.std.proofs.Common.{Err, neg_ℤ, unsigned_abs}
+use Rattle.std.proofs.Common.{◌≡◌, ℕ, ◌+◌, ◌*◌, ◌≤◌, Bool, true, false, cond, nat_eq, nat_lt, List, refl, sym, ap, subst, ◌∙◌, arith, Result, Ok}
+use Rattle.std.proofs.Common.{Err, unsigned_abs}
 use Rattle.std.specs.Prelude.{◌||◌, pos, IfOk, OkIff}
 use Rattle.std.proofs.lemmas.Bool.{ltb-false}
 use Rattle.std.proofs.lemmas.Bool.Decides.{nat_tests}
 use Rattle.calendar_values.specs.SignedArith.{signed_arith}
 use Rattle.calendar_values.specs.Calendar.{is_leap_year, days_in_month, year_of, day_of_calendar_date}
-use Rattle.calendar_values.specs.Clock.{clock_of_parts}
 use Rattle.calendar_values.specs.ClockLemmas.{IsClock-clock_of_parts}
 use Rattle.calendar_values.specs.CalendarDateLemmas.{year_of-calendar_date}
-use Rattle.calendar_values.specs.WallClock.{wall_day}
 use Rattle.calendar_values.specs.WallClockLemmas.{wall_day-wall_clock}
 use Rattle.offset_times.specs.Local.{Local}
 use Rattle.rfc3339.specs.declared.parts.Parts.{Parts}
 use Rattle.rfc3339.specs.declared.refusal.TextRefusal.{TextRefusal}
-use Rattle.rfc3339.specs.declared.refusal.TextRefusal.TheVariants.{OutOfRange}
-use Rattle.rfc3339.specs.declared.refusal.Component.TheVariants.{Month, Day, Hour, Minute, Second, OffsetHour, OffsetMinute}
 use Rattle.rfc3339.specs.Form.{IsDateTime}
 use Rattle.rfc3339.specs.Meaning.{AreInRange, offset_of, value_of, meaning}
 use Rattle.rfc3339.specs.Texts.{HasText}

@@ -1,5 +1,5 @@
 -- The instants of texts.
-use Rattle.std.proofs.Common.{◌≡◌, ℤ, pos, ◌+ℤ◌, ◌-ℤ◌, ◌<◌, ◌≤ℤ◌, unsigned_abs, negsuc, refl, ap, ◌∙◌, arith, Result, Ok, Err, IfOk}
+use Rattle.std.proofs.Common.{◌≡◌, ℤ, pos, ◌+ℤ◌, ◌-ℤ◌, refl, ap, ◌∙◌, arith, Result, Ok, Err, IfOk}
 use Rattle.calendar_values.specs.Calendar.{year_of}
 use Rattle.calendar_values.specs.DayLemmas.{IsInYear-year_of}
 use Rattle.calendar_values.specs.Range.{first_year, last_year}
@@ -22,11 +22,6 @@ pub instant_of-read : (at : Local) (i : ℤ) → ◌≡◌ {A = Result Local Tex
 instant_of-read at i e =
     let same : at ≡ local_in_utc i = cc in ap instant_of same ∙ instant_of-utc i
 
--- an offset below a day
-signed_below : (o : ℤ) → unsigned_abs o < 86_400 → (negsuc 86_398 ≤ℤ o) × (o ≤ℤ pos 86_399)
-signed_below (pos n) h = (omega (arith, signed_arith, h), omega (arith, signed_arith, h))
-signed_below (negsuc n) h = (omega (arith, signed_arith, h), omega (arith, signed_arith, h))
-
 -- a year of four digits lies a year or more from the ends of the range
 pub instant_of-in_range : (at : Local) → HasText at → IsWallClock (instant_of at)
 instant_of-in_range at h =
@@ -35,14 +30,9 @@ instant_of-in_range at h =
     let year = IsInYear-year_of day in
     let shown : wall_clock day (wall_time at.wall) ≡ at.wall = wall_clock-parts at.wall in
     let clock = IsClock-wall_time at.wall in
-    let offset = signed_below at.offset h.below_a_day in
-    let first = h.year_first in
-    let last = h.year_last in
-    let after_first = year_start-later first_year (year_of day) (omega (arith, signed_arith, first)) in
-    let before_last = year_start-later (year_of day +ℤ pos 1) (last_year +ℤ pos 1) (omega (arith, signed_arith, last)) in (
-      omega (arith, signed_arith, instant, year, shown, clock, offset, after_first, year_start-first),
-      omega (arith, signed_arith, instant, year, shown, clock, offset, before_last, year_start-after_last),
-    )
+    let after_first = year_start-later first_year (year_of day) (omega (arith, signed_arith)) in
+    let before_last = year_start-later (year_of day +ℤ pos 1) (last_year +ℤ pos 1) (omega (arith, signed_arith)) in
+    omega (arith, signed_arith, year_start-first, year_start-after_last)
 
 pub instant_of_read : {E : Type 0} (r : Result Local E) → IfOk r HasText → IfOk r (λ at. IsWallClock (instant_of at))
 instant_of_read (Ok at) h = instant_of-in_range at h

@@ -1,9 +1,8 @@
 -- What was written has the form, and means what was written.
-use Rattle.std.proofs.Common.{◌≡◌, inl, inr, ℕ, suc, ◌+◌, ◌*◌, ◌/◌, ◌%◌, ◌≤◌, ◌<◌, Bool, true, false, cond, nat_eq, List, [], ◌++◌, length}
-use Rattle.std.proofs.Common.{length-append, refl, sym, ap, subst, ◌∙◌, arith, ℤ, pos, negsuc, neg_ℤ, unsigned_abs, ◌≤ℤ◌, Ok}
+use Rattle.std.proofs.Common.{◌≡◌, inl, inr, ℕ, ◌/◌, ◌%◌, ◌≤◌, ◌<◌, Bool, true, false, cond, nat_eq, List, [], ◌++◌, length}
+use Rattle.std.proofs.Common.{length-append, refl, sym, ap, subst, ◌∙◌, arith, ℤ, pos, unsigned_abs, ◌≤ℤ◌, Ok}
 use Rattle.std.specs.Prelude.{codes, int_lt}
 use Rattle.std.proofs.lemmas.Bool.{eqb-true}
-use Rattle.std.proofs.lemmas.Bool.Decides.{nat_tests}
 use Rattle.calendar_values.specs.SignedArith.{signed_arith, one_part}
 use Rattle.calendar_values.specs.Calendar.{is_leap_year, days_in_month, year_of, month_of, day_of_month_of}
 use Rattle.calendar_values.specs.ClockLemmas.{clock_of_parts-of, IsTimeOfDay-of}
