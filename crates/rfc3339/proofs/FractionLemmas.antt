@@ -1,12 +1,12 @@
 -- Fractions and offsets: what is read has the form, and what has the form is read.
-use Rattle.std.proofs.Common.{◌≡◌, ◌≢◌, ◌⊎◌, inl, inr, ℕ, ◌+◌, ◌-◌, ◌*◌, ◌/◌, ◌<◌, ◌≤◌, Bool, true, false, cond, nat_eq, List, [], ◌∷◌, ◌++◌, length}
-use Rattle.std.proofs.Common.{length-append, Option, Some, None, refl, sym, ap, ◌∙◌, arith}
+use Rattle.std.proofs.Common.{◌≡◌, ◌≢◌, ◌⊎◌, inl, inr, ℕ, ◌/◌, ◌<◌, ◌≤◌, Bool, true, false, cond, nat_eq, List, [], ◌∷◌, ◌++◌, length}
+use Rattle.std.proofs.Common.{length-append, Option, Some, None, refl, ap, arith}
 use Rattle.std.specs.Prelude.{codes, ◌||◌}
 use Rattle.std.specs.Char.{is_ascii_digit}
 use Rattle.std.specs.List.{list_all}
 use Rattle.std.proofs.lemmas.Bool.Decides.{nat_tests}
-use Rattle.std.proofs.lemmas.Bool.{and_parts}
-use Rattle.std.proofs.lemmas.Option.{some_pair_parts, same_Some}
+use Rattle.std.proofs.lemmas.Bool.{and_parts, cases_Bool}
+use Rattle.std.proofs.lemmas.Option.{same_Some}
 use Rattle.calendar_values.specs.Digits.{last_digits}
 use Rattle.rfc3339.specs.Form.{fraction_value, IsFraction, IsOffsetText}
 use Rattle.rfc3339.specs.Reading.{◌>>=◌, two_digits_at, mark_at, part_at, digits_at, fraction_of, fraction_at, ended, zone_at}
@@ -19,19 +19,15 @@ pub record AreDigits (unit : ℕ) (bytes digits : List ℕ) (value : ℕ) (rest 
   pub are : list_all is_ascii_digit digits ≡ true
   pub counts : fraction_value unit digits ≡ value
 
-digits_more : (unit first : ℕ) (text : List ℕ) (b : Bool) → is_ascii_digit first ≡ b
-    → ((digits : List ℕ) × AreDigits (unit / 10) text digits (digits_at (unit / 10) text).0 (digits_at (unit / 10) text).1)
-    → let read : ℕ × List ℕ = cond b ((first - 48) * unit + (digits_at (unit / 10) text).0, (digits_at (unit / 10) text).1) (0, first ∷ text) in
-    (digits : List ℕ) × AreDigits unit (first ∷ text) digits read.0 read.1
-unfolding fraction_value
-digits_more unit first text true t h =
-    (first ∷ h.0, record { parts = ap (λ (z : List ℕ). first ∷ z) h.1.parts; are = rw t h.1.are; counts = ap (λ (k : ℕ). (first - 48) * unit + k) h.1.counts })
-digits_more unit first text false t h = ([], record { parts = refl; are = refl; counts = refl })
-
 pub digits_take : (unit : ℕ) (text : List ℕ) → (digits : List ℕ) × AreDigits unit text digits (digits_at unit text).0 (digits_at unit text).1
 unfolding digits_at fraction_value
 digits_take unit [] = ([], record { parts = refl; are = refl; counts = refl })
-digits_take unit (first ∷ text) = digits_more unit first text (is_ascii_digit first) refl (digits_take (unit / 10) text)
+digits_take unit (first ∷ text) =
+    let more = digits_take (unit / 10) text in
+    elim (cases_Bool (is_ascii_digit first)) [
+      | inl t ↦ rw t (first ∷ more.0, record { parts = grind (arith, more.1.parts); are = rw t more.1.are; counts = grind (arith, more.1.counts) })
+      | inr t ↦ rw t ([], record { parts = refl; are = refl; counts = refl })
+    ]
 
 -- what ends a fraction, or stands where there is none
 pub record EndsFraction (bytes : List ℕ) : Type 0 where
@@ -54,16 +50,15 @@ pub record TakesFraction (bytes text : List ℕ) (nanosecond : ℕ) (rest : List
 
 fraction_of_mark : (bytes : List ℕ) (o : Option (List ℕ)) (n : ℕ) (rest : List ℕ) → mark_at 46 bytes ≡ o → fraction_of bytes o ≡ Some (n, rest)
     → (text : List ℕ) × TakesFraction bytes text n rest
-fraction_of_mark bytes None n rest m e =
-    let s = some_pair_parts 0 n bytes rest e in ([], record { parts = s.1; is = inl (refl, sym s.0) })
+fraction_of_mark bytes None n rest m e = ([], record { parts = grind arith; is = inl (refl, grind arith) })
 fraction_of_mark bytes (Some digits) n rest m e =
     let read = digits_at 100_000_000 digits in
     let h = digits_take 100_000_000 digits in
     let other : length read.1 ≢ length digits = grind (arith, nat_tests) in
     let r : read.1 ≡ rest = grind (arith, nat_tests) in
-    let v : n ≡ read.0 = grind (arith, nat_tests) in
     let some : 0 < length h.0 = omega (arith, ap (length {A = ℕ}) h.1.parts, length-append h.0 read.1) in
-    (46 ∷ h.0, record { parts = grind (arith, mark_takes 46 bytes digits m, h.1.parts, r); is = inr (h.0, refl, some, h.1.are, v ∙ sym h.1.counts) })
+    let counts : n ≡ fraction_value 100_000_000 h.0 = grind (arith, nat_tests, h.1.counts) in
+    (46 ∷ h.0, record { parts = grind (arith, mark_takes 46 bytes digits m, h.1.parts, r); is = inr (h.0, refl, some, h.1.are, counts) })
 
 pub fraction_takes : (bytes : List ℕ) (n : ℕ) (rest : List ℕ) → fraction_at bytes ≡ Some (n, rest) → (text : List ℕ) × TakesFraction bytes text n rest
 unfolding fraction_at
@@ -87,42 +82,31 @@ ended_some : {A : Type 0} (x y : A) (bytes : List ℕ) → ended x bytes ≡ Som
 ended_some x y [] e = (refl, same_Some x y e)
 ended_some x y (first ∷ bytes) e = absurd cc
 
-sign_is : (first : ℕ) (is_west : Bool) → (nat_eq first 43 || nat_eq first 45) ≡ true → nat_eq first 45 ≡ is_west
-    → first ∷ [] ≡ cond is_west (codes "-") (codes "+")
-sign_is first true t e = grind (arith, nat_tests)
-sign_is first false t e = grind (arith, nat_tests)
-
-letter_is : (first : ℕ) (text : List ℕ) → (nat_eq first 90 || nat_eq first 122) ≡ true → text ≡ [] → (first ∷ text ≡ codes "Z") ⊎ (first ∷ text ≡ codes "z")
-letter_is first text t e = grind (arith, nat_tests)
-
-signed_text : (first : ℕ) (text r s : List ℕ) (is_west : Bool) (hour minute : ℕ) → first ∷ [] ≡ cond is_west (codes "-") (codes "+")
-    → text ≡ last_digits 2 hour ++ r → r ≡ (58 ∷ last_digits 2 minute) ++ s → s ≡ []
-    → first ∷ text ≡ cond is_west (codes "-") (codes "+") ++ last_digits 2 hour ++ codes ":" ++ last_digits 2 minute
-unfolding last_digits
-signed_text first text r s is_west hour minute sign h m none = rw (h, m, none, ← sign) refl
-
 zone_of_tests : (first : ℕ) (text : List ℕ) (is_west : Bool) (hour minute : ℕ) (b d : Bool) → (nat_eq first 90 || nat_eq first 122) ≡ b
     → (nat_eq first 43 || nat_eq first 45) ≡ d
     → cond b (ended {A = Bool × ℕ × ℕ} (false, 0, 0) text)
     (cond d (two_digits_at text >>= λ h. part_at 58 h.1 >>= λ m. ended {A = Bool × ℕ × ℕ} (nat_eq first 45, h.0, m.0) m.1) None) ≡ Some
     (is_west, hour, minute)
     → TakesOffset (first ∷ text) is_west hour minute
+unfolding last_digits
 zone_of_tests first text is_west hour minute true d t s e =
     let g = ended_some _ _ text e in
-    record { is = inl (letter_is first text t g.0, grind (arith, g.1), grind (arith, g.1), grind (arith, g.1)); hour_fits = grind (arith, g.1); minute_fits = grind (arith, g.1) }
+    let letter : (first ∷ text ≡ codes "Z") ⊎ (first ∷ text ≡ codes "z") = grind (arith, nat_tests, g.0) in
+    record {
+      is = inl (letter, grind (arith, g.1), grind (arith, g.1), grind (arith, g.1));
+      hour_fits = grind (arith, g.1);
+      minute_fits = grind (arith, g.1);
+    }
 zone_of_tests first text is_west hour minute false true t s e =
     let a = bind_some (two_digits_at text) (λ h. part_at 58 h.1 >>= λ m. ended {A = Bool × ℕ × ℕ} (nat_eq first 45, h.0, m.0) m.1) _ e in
     let b = bind_some (part_at 58 a.0.1) (λ m. ended {A = Bool × ℕ × ℕ} (nat_eq first 45, a.0.0, m.0) m.1) _ a.2 in
     let g = ended_some {A = Bool × ℕ × ℕ} (nat_eq first 45, a.0.0, b.0.0) _ b.0.1 b.2 in
-    let w : nat_eq first 45 ≡ is_west = ap (λ (x : Bool × ℕ × ℕ). x.0) g.1 in
-    let h : a.0.0 ≡ hour = ap (λ (x : Bool × ℕ × ℕ). x.1) g.1 in
-    let m : b.0.0 ≡ minute = ap (λ (x : Bool × ℕ × ℕ). x.2) g.1 in
-    let th = rw h at (two_takes text a.0.0 a.0.1 a.1) in
-    let tm = rw m at (part_takes 58 a.0.1 b.0.0 b.0.1 b.1) in
+    let th = two_takes text a.0.0 a.0.1 a.1 in
+    let tm = part_takes 58 a.0.1 b.0.0 b.0.1 b.1 in
     record {
-      is = inr (signed_text first text a.0.1 b.0.1 is_west hour minute (sign_is first is_west s w) th.parts tm.parts g.0);
-      hour_fits = th.fits;
-      minute_fits = tm.fits;
+      is = inr (grind (arith, nat_tests, th.parts, tm.parts, g.0, g.1));
+      hour_fits = grind (arith, th.fits, g.1);
+      minute_fits = grind (arith, tm.fits, g.1);
     }
 zone_of_tests first text is_west hour minute false false t s e = absurd cc
 

@@ -7,7 +7,7 @@ use Rattle.std.specs.declared.cmp.Ordering.{Ordering}
 use Rattle.std.specs.declared.cmp.Ordering.TheVariants.{Less, Equal, Greater}
 use Rattle.std.proofs.lemmas.Bool.{cases_order}
 use Rattle.std.proofs.lemmas.Bool.Decides.{nat_tests}
-use Rattle.std.proofs.lemmas.Cmp.{nat_list_cmp_total, tied_itself, int_ranked, by_ranked}
+use Rattle.std.proofs.lemmas.Cmp.{nat_list_cmp_total, tied_itself, int_ranked}
 use Rattle.calendar_values.specs.Calendar.{is_leap_year, year_of, month_of, day_of_month_of, days_in_month, days_in_months, days_before_month}
 use Rattle.calendar_values.specs.Calendar.{day_of_calendar_date}
 use Rattle.calendar_values.specs.Clock.{hour_of, minute_of, second_of, nanosecond_of}
@@ -40,9 +40,7 @@ digits_order (suc k) m n xs ys a b =
 -- ---- dates
 
 int_cases : (a b : ℤ) → (a <ℤ b) ⊎ ((a ≡ b) ⊎ (b <ℤ a))
-int_cases a b =
-    by_ranked (a <ℤ b) (a ≡ b) (b <ℤ a) {G = (a <ℤ b) ⊎ ((a ≡ b) ⊎ (b <ℤ a))} (int_cmp a b) (int_ranked a b (int_cmp a b) refl) (λ _ h. inl h)
-    (λ _ h. inr (inl h)) (λ _ h. inr (inr h))
+int_cases a b = grind (arith, signed_arith)
 
 months-add : (b : Bool) (m k : ℕ) → days_in_months b m ≤ days_in_months b (k + m)
 unfolding days_in_months

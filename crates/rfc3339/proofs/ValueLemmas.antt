@@ -1,8 +1,8 @@
 -- What was written has the form, and means what was written.
-use Rattle.std.proofs.Common.{◌≡◌, inl, inr, ℕ, ◌/◌, ◌%◌, ◌≤◌, ◌<◌, Bool, true, false, cond, nat_eq, List, [], ◌++◌, length}
+use Rattle.std.proofs.Common.{◌≡◌, inl, inr, ℕ, ◌/◌, ◌%◌, ◌≤◌, ◌<◌, Bool, true, false, nat_eq, List, ◌++◌, length}
 use Rattle.std.proofs.Common.{length-append, refl, sym, ap, subst, ◌∙◌, arith, ℤ, pos, unsigned_abs, ◌≤ℤ◌, Ok}
 use Rattle.std.specs.Prelude.{codes, int_lt}
-use Rattle.std.proofs.lemmas.Bool.{eqb-true}
+use Rattle.std.proofs.lemmas.Bool.{eqb-true, cases_Bool}
 use Rattle.calendar_values.specs.SignedArith.{signed_arith, one_part}
 use Rattle.calendar_values.specs.Calendar.{is_leap_year, days_in_month, year_of, month_of, day_of_month_of}
 use Rattle.calendar_values.specs.ClockLemmas.{clock_of_parts-of, IsTimeOfDay-of}
@@ -24,29 +24,25 @@ use Rattle.rfc3339.proofs.WrittenDigits.{last_digits-are, fraction_digits-are, f
 
 -- ---- a fraction
 
-fraction_of_some : (n : ℕ) (b : Bool) → n < 1_000_000_000 → nat_eq n 0 ≡ b → IsFraction (cond b [] (codes "." ++ fraction_digits 9 n)) n
-fraction_of_some n true low t = inl (refl, eqb-true n 0 t)
-fraction_of_some n false low t =
-    inr (fraction_digits 9 n, refl, fraction_digits-some 8 n, fraction_digits-are 9 n, sym (fraction_value-nanosecond n low))
-
 pub IsFraction-text : (n : ℕ) → n < 1_000_000_000 → IsFraction (fraction_text n) n
 unfolding fraction_text
-IsFraction-text n low = fraction_of_some n (nat_eq n 0) low refl
+IsFraction-text n low =
+    elim (cases_Bool (nat_eq n 0)) [
+      | inl t ↦ inl (rw t refl, eqb-true n 0 t)
+      | inr t ↦ inr (fraction_digits 9 n, rw t refl, fraction_digits-some 8 n, fraction_digits-are 9 n, sym (fraction_value-nanosecond n low))
+    ]
 
 -- ---- an offset
 
-offset_of_zero : (o : ℤ) (b : Bool) → nat_eq (unsigned_abs o) 0 ≡ b
-    → IsOffsetText (cond b (codes "Z")
-    (cond (int_lt o (pos 0)) (codes "-") (codes "+") ++ last_digits 2 (unsigned_abs o / 3_600) ++ codes ":" ++ last_digits 2
-    (unsigned_abs o / 60 % 60))) (int_lt o (pos 0)) (unsigned_abs o / 3_600) (unsigned_abs o / 60 % 60)
-offset_of_zero o true t =
-    let none = eqb-true (unsigned_abs o) 0 t in
-    let zero : o ≡ pos 0 = omega (arith, signed_arith) in inl (inl refl, rw zero refl, omega arith, omega arith)
-offset_of_zero o false t = inr refl
-
 pub IsOffsetText-text : (o : ℤ) → IsOffsetText (time_offset_text o) (int_lt o (pos 0)) (unsigned_abs o / 3_600) (unsigned_abs o / 60 % 60)
 unfolding time_offset_text
-IsOffsetText-text o = offset_of_zero o (nat_eq (unsigned_abs o) 0) refl
+IsOffsetText-text o =
+    elim (cases_Bool (nat_eq (unsigned_abs o) 0)) [
+      | inl t ↦
+          let none = eqb-true (unsigned_abs o) 0 t in
+          let zero : o ≡ pos 0 = omega (arith, signed_arith) in rw zero (inl (inl refl, refl, refl, refl))
+      | inr t ↦ inr (rw t refl)
+    ]
 
 offset_of-parts : (o : ℤ) (b : Bool) → int_lt o (pos 0) ≡ b → unsigned_abs o % 60 ≡ 0
     → offset_of b (unsigned_abs o / 3_600) (unsigned_abs o / 60 % 60) ≡ o
