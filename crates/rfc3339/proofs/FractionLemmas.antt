@@ -92,22 +92,15 @@ unfolding last_digits
 zone_of_tests first text is_west hour minute true d t s e =
     let g = ended_some _ _ text e in
     let letter : (first ∷ text ≡ codes "Z") ⊎ (first ∷ text ≡ codes "z") = grind (arith, nat_tests, g.0) in
-    record {
-      is = inl (letter, grind (arith, g.1), grind (arith, g.1), grind (arith, g.1));
-      hour_fits = grind (arith, g.1);
-      minute_fits = grind (arith, g.1);
-    }
+    let zeros : (is_west ≡ false) × (hour ≡ 0) × (minute ≡ 0) = grind (arith, g.1) in
+    record { is = inl (letter, zeros.0, zeros.1, zeros.2); hour_fits = omega arith; minute_fits = omega arith }
 zone_of_tests first text is_west hour minute false true t s e =
     let a = bind_some (two_digits_at text) (λ h. part_at 58 h.1 >>= λ m. ended {A = Bool × ℕ × ℕ} (nat_eq first 45, h.0, m.0) m.1) _ e in
     let b = bind_some (part_at 58 a.0.1) (λ m. ended {A = Bool × ℕ × ℕ} (nat_eq first 45, a.0.0, m.0) m.1) _ a.2 in
     let g = ended_some {A = Bool × ℕ × ℕ} (nat_eq first 45, a.0.0, b.0.0) _ b.0.1 b.2 in
-    let th = two_takes text a.0.0 a.0.1 a.1 in
-    let tm = part_takes 58 a.0.1 b.0.0 b.0.1 b.1 in
-    record {
-      is = inr (grind (arith, nat_tests, th.parts, tm.parts, g.0, g.1));
-      hour_fits = grind (arith, th.fits, g.1);
-      minute_fits = grind (arith, tm.fits, g.1);
-    }
+    let h = two_takes text a.0.0 a.0.1 a.1 in
+    let m = part_takes 58 a.0.1 b.0.0 b.0.1 b.1 in
+    record { is = inr (grind (arith, nat_tests, h.parts, m.parts, g.0, g.1)); hour_fits = grind (arith, h.fits, g.1); minute_fits = grind (arith, m.fits, g.1) }
 zone_of_tests first text is_west hour minute false false t s e = absurd cc
 
 pub zone_takes : (bytes : List ℕ) (is_west : Bool) (hour minute : ℕ) → zone_at bytes ≡ Some (is_west, hour, minute) → TakesOffset bytes is_west hour minute

@@ -1,5 +1,5 @@
 -- Whole texts: what is read has the form, and what has the form is read.
-use Rattle.std.proofs.Common.{◌≡◌, ℕ, List, ◌∷◌, ◌++◌, append_assoc, Option, Some, None, refl, sym, ap, subst, ◌∙◌, ◌+◌, ◌<◌, ◌≤◌, length, length-append}
+use Rattle.std.proofs.Common.{◌≡◌, ℕ, List, ◌∷◌, append_assoc, Option, Some, None, refl, sym, ap, subst, ◌∙◌, ◌+◌, ◌<◌, ◌≤◌, length, length-append}
 use Rattle.std.proofs.Common.{arith}
 use Rattle.std.proofs.lemmas.Option.{same_Some}
 use Rattle.calendar_values.specs.Digits.{last_digits}
@@ -54,27 +54,13 @@ parts_takes text p e =
 pub parts_again : (text : List ℕ) (p : Parts) → IsDateTime text p → parts_at text ≡ Some p
 unfolding parts_at
 parts_again text p h =
-    let t6 = h.fraction ++ h.offset in
-    let t5 = 58 ∷ last_digits 2 p.second ++ t6 in
-    let t4 = 58 ∷ last_digits 2 p.minute ++ t5 in
-    let t3 = last_digits 2 p.hour ++ t4 in
-    let t2 = h.separator ∷ t3 in
-    let t1 = 45 ∷ last_digits 2 p.day ++ t2 in
-    let t0 = 45 ∷ last_digits 2 p.month ++ t1 in
-    let regrouped : spelling p h.separator h.fraction h.offset ≡ last_digits 4 p.year ++ t0 = simp append_assoc refl in
-    ap parts_at (h.spelled ∙ regrouped)
-    ∙ rw (
-      year_again p.year t0 h.fits.year,
-      part_again 45 p.month t1 h.fits.month,
-      part_again 45 p.day t2 h.fits.day,
-      separator_again h.separator t3 h.is_separator,
-      two_again p.hour t4 h.fits.hour,
-      part_again 58 p.minute t5 h.fits.minute,
-      part_again 58 p.second t6 h.fits.second,
-      fraction_again h.fraction p.nanosecond h.offset h.is_fraction
-          (offset_ends h.offset p.is_west p.offset_hour p.offset_minute h.is_offset),
-      zone_again h.offset p.is_west p.offset_hour p.offset_minute h.is_offset h.fits.offset_hour h.fits.offset_minute,
-    ) refl
+    let f = h.fits in
+    let ends = offset_ends h.offset p.is_west p.offset_hour p.offset_minute h.is_offset in
+    let zone = zone_again h.offset p.is_west p.offset_hour p.offset_minute h.is_offset f.offset_hour f.offset_minute in
+    rw h.spelled (simp append_assoc
+    (rw (year_again p.year _ f.year, part_again 45 p.month _ f.month, part_again 45 p.day _ f.day, separator_again h.separator _ h.is_separator)
+    (rw (two_again p.hour _ f.hour, part_again 58 p.minute _ f.minute, part_again 58 p.second _ f.second)
+    (rw (fraction_again h.fraction p.nanosecond h.offset h.is_fraction ends, zone) refl))))
 
 -- a text spells one list of parts at most
 pub one_reading : (text : List ℕ) (p q : Parts) → IsDateTime text p → IsDateTime text q → p ≡ q

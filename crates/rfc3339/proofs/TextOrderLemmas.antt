@@ -5,7 +5,6 @@ use Rattle.std.specs.Cmp.Lexicographic.{slice_cmp}
 use Rattle.std.specs.Ordering.{nat_cmp, int_cmp, ordering_then, ordering_reverse, MatchOrdering}
 use Rattle.std.specs.declared.cmp.Ordering.{Ordering}
 use Rattle.std.specs.declared.cmp.Ordering.TheVariants.{Less, Equal, Greater}
-use Rattle.std.proofs.lemmas.Bool.{cases_order}
 use Rattle.std.proofs.lemmas.Bool.Decides.{nat_tests}
 use Rattle.std.proofs.lemmas.Cmp.{nat_list_cmp_total, tied_itself, int_ranked}
 use Rattle.calendar_values.specs.Calendar.{is_leap_year, year_of, month_of, day_of_month_of, days_in_month, days_in_months, days_before_month}
@@ -75,14 +74,11 @@ date_order m n rest p q less =
       | inr (inl same) ↦
           let years : unsigned_abs (year_of m) ≡ unsigned_abs (year_of n) = ap unsigned_abs same in
           let start = ap (λ (t : ℤ). day_of_calendar_date t (month_of n) (day_of_month_of n)) same in
-          let days = ap (λ (t : ℤ). days_in_month (is_leap_year t) (month_of n)) same in
-          elim (cases_order (month_of m) (month_of n)) [
-            | inl month ↦
-                let before = ap (days_before_month (is_leap_year (year_of m))) month in
-                let day : day_of_month_of m < day_of_month_of n = omega (arith, signed_arith) in grind (arith, nat_tests)
-            | inr (inl month) ↦ grind (arith, nat_tests)
-            | inr (inr month) ↦ absurd (omega (arith, signed_arith, month-later (is_leap_year (year_of m)) (month_of n) (month_of m) k.month_first month))
-          ]
+          let last = ap (λ (t : ℤ). days_in_month (is_leap_year t) (month_of n)) same in
+          let before = days_before_month (is_leap_year (year_of m)) in
+          let after = month-later (is_leap_year (year_of m)) (month_of n) (month_of m) k.month_first in
+          let days : before (month_of m) + day_of_month_of m < before (month_of n) + day_of_month_of n = omega (arith, signed_arith) in
+          let first = h.day_first in grind (arith, nat_tests)
       | inr (inr later) ↦
           let in_m = IsInYear-year_of m in
           let in_n = IsInYear-year_of n in

@@ -1,5 +1,5 @@
 -- What was written has the form, and means what was written.
-use Rattle.std.proofs.Common.{◌≡◌, inl, inr, ℕ, ◌/◌, ◌%◌, ◌≤◌, ◌<◌, Bool, true, false, nat_eq, List, ◌++◌, length}
+use Rattle.std.proofs.Common.{◌≡◌, inl, inr, ℕ, ◌/◌, ◌%◌, ◌≤◌, ◌<◌, Bool, true, false, nat_eq, ◌++◌, length}
 use Rattle.std.proofs.Common.{length-append, refl, sym, ap, subst, ◌∙◌, arith, ℤ, pos, unsigned_abs, ◌≤ℤ◌, Ok}
 use Rattle.std.specs.Prelude.{codes, int_lt}
 use Rattle.std.proofs.lemmas.Bool.{eqb-true, cases_Bool}
@@ -56,13 +56,9 @@ year_is y h = omega (arith, signed_arith, one_part y)
 
 value_of-parts : (at : Local) → HasText at → value_of (parts_of at) ≡ at
 value_of-parts at h =
-    let day = wall_day at.wall in
-    let clock = wall_time at.wall in
-    let date = day_of_calendar_date-of day in
-    let time = clock_of_parts-of clock in
+    let year = year_is (year_of (wall_day at.wall)) h.year_first in
     let offset = offset_of-parts at.offset _ refl h.whole_minutes in
-    let year = year_is (year_of day) h.year_first in
-    rw (year, date, time, offset) (ap (λ w. wall_at w at.offset) (wall_clock-parts at.wall))
+    rw (year, day_of_calendar_date-of (wall_day at.wall), clock_of_parts-of (wall_time at.wall), offset) (ap (λ w. wall_at w at.offset) (wall_clock-parts at.wall))
 
 parts-in_range : (at : Local) → HasText at → AreInRange (parts_of at)
 parts-in_range at h =
@@ -101,24 +97,19 @@ IsDateTime-text at h =
 HasText-fixed : (i : ℤ) → HasFixedText i → HasText (local_in_utc i)
 HasText-fixed i h = record { year_first = h.year_first; year_last = h.year_last; whole_minutes = refl; below_a_day = omega arith }
 
-IsFraction-nine : (n : ℕ) → n < 1_000_000_000 → IsFraction (codes "." ++ last_digits 9 n) n
-IsFraction-nine n low =
-    inr (last_digits 9 n, refl, omega (arith, length-last_digits 9 n), last_digits-are 9 n, sym (fraction_value-nine n low))
-
 pub IsDateTime-fixed : (i : ℤ) → HasFixedText i → IsDateTime (fixed_text i) (parts_of (local_in_utc i))
 unfolding fixed_text
 IsDateTime-fixed i h =
-    let p = parts_of (local_in_utc i) in
-    let d = IsDateTime-text (local_in_utc i) (HasText-fixed i h) in
+    let n = nanosecond_of (wall_time i) in
     record {
       separator = 84;
-      fraction = codes "." ++ last_digits 9 (nanosecond_of (wall_time i));
+      fraction = codes "." ++ last_digits 9 n;
       offset = codes "Z";
       spelled = refl;
       is_separator = refl;
-      is_fraction = IsFraction-nine (nanosecond_of (wall_time i)) (omega arith);
+      is_fraction = inr (last_digits 9 n, refl, omega (arith, length-last_digits 9 n), last_digits-are 9 n, sym (fraction_value-nine n (omega arith)));
       is_offset = inl (inl refl, refl, refl, refl);
-      fits = d.fits;
+      fits = (IsDateTime-text (local_in_utc i) (HasText-fixed i h)).fits;
     }
 
 pub meaning-fixed : (i : ℤ) → HasFixedText i → meaning (parts_of (local_in_utc i)) ≡ Ok (local_in_utc i)
@@ -131,8 +122,7 @@ read_back at h = (parts_of at, IsDateTime-text at h, meaning-text at h)
 
 pub one_value : (a b : Local) → HasText a → HasText b → rfc3339_text a ≡ rfc3339_text b → a ≡ b
 one_value a b h k e =
-    let of_b : IsDateTime (rfc3339_text a) (parts_of b) = subst (λ (t : List ℕ). IsDateTime t (parts_of b)) (sym e) (IsDateTime-text b k) in
-    let same : parts_of a ≡ parts_of b = one_reading (rfc3339_text a) (parts_of a) (parts_of b) (IsDateTime-text a h) of_b in
+    let same = one_reading (rfc3339_text a) (parts_of a) (parts_of b) (IsDateTime-text a h) (rw e (IsDateTime-text b k)) in
     sym (ok_is a b (sym (meaning-text a h) ∙ ap meaning same ∙ meaning-text b k))
 
 pub length-fixed_text : (i : ℤ) → HasFixedText i → length (fixed_text i) ≡ 30
