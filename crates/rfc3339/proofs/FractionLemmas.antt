@@ -1,5 +1,5 @@
 -- Fractions and offsets: what is read has the form, and what has the form is read.
-use Rattle.std.proofs.Common.{◌≡◌, ◌≢◌, ◌⊎◌, inl, inr, ℕ, ◌/◌, ◌<◌, ◌≤◌, Bool, true, false, cond, nat_eq, List, [], ◌∷◌, ◌++◌, length}
+use Rattle.std.proofs.Common.{◌≡◌, ◌≢◌, ◌⊎◌, inl, inr, ℕ, ◌/◌, ◌<◌, ◌≤◌, Bool, true, false, nat_eq, List, [], ◌∷◌, ◌++◌, length}
 use Rattle.std.proofs.Common.{length-append, Option, Some, None, refl, ap, arith}
 use Rattle.std.specs.Prelude.{codes, ◌||◌}
 use Rattle.std.specs.Char.{is_ascii_digit}
@@ -82,32 +82,28 @@ ended_some : {A : Type 0} (x y : A) (bytes : List ℕ) → ended x bytes ≡ Som
 ended_some x y [] e = (refl, same_Some x y e)
 ended_some x y (first ∷ bytes) e = absurd cc
 
-zone_of_tests : (first : ℕ) (text : List ℕ) (is_west : Bool) (hour minute : ℕ) (b d : Bool) → (nat_eq first 90 || nat_eq first 122) ≡ b
-    → (nat_eq first 43 || nat_eq first 45) ≡ d
-    → cond b (ended {A = Bool × ℕ × ℕ} (false, 0, 0) text)
-    (cond d (two_digits_at text >>= λ h. part_at 58 h.1 >>= λ m. ended {A = Bool × ℕ × ℕ} (nat_eq first 45, h.0, m.0) m.1) None) ≡ Some
-    (is_west, hour, minute)
-    → TakesOffset (first ∷ text) is_west hour minute
-unfolding last_digits
-zone_of_tests first text is_west hour minute true d t s e =
-    let g = ended_some _ _ text e in
-    let letter : (first ∷ text ≡ codes "Z") ⊎ (first ∷ text ≡ codes "z") = grind (arith, nat_tests, g.0) in
-    let zeros : (is_west ≡ false) × (hour ≡ 0) × (minute ≡ 0) = grind (arith, g.1) in
-    record { is = inl (letter, zeros.0, zeros.1, zeros.2); hour_fits = omega arith; minute_fits = omega arith }
-zone_of_tests first text is_west hour minute false true t s e =
-    let a = bind_some (two_digits_at text) (λ h. part_at 58 h.1 >>= λ m. ended {A = Bool × ℕ × ℕ} (nat_eq first 45, h.0, m.0) m.1) _ e in
-    let b = bind_some (part_at 58 a.0.1) (λ m. ended {A = Bool × ℕ × ℕ} (nat_eq first 45, a.0.0, m.0) m.1) _ a.2 in
-    let g = ended_some {A = Bool × ℕ × ℕ} (nat_eq first 45, a.0.0, b.0.0) _ b.0.1 b.2 in
-    let h = two_takes text a.0.0 a.0.1 a.1 in
-    let m = part_takes 58 a.0.1 b.0.0 b.0.1 b.1 in
-    record { is = inr (grind (arith, nat_tests, h.parts, m.parts, g.0, g.1)); hour_fits = grind (arith, h.fits, g.1); minute_fits = grind (arith, m.fits, g.1) }
-zone_of_tests first text is_west hour minute false false t s e = absurd cc
-
 pub zone_takes : (bytes : List ℕ) (is_west : Bool) (hour minute : ℕ) → zone_at bytes ≡ Some (is_west, hour, minute) → TakesOffset bytes is_west hour minute
-unfolding zone_at
+unfolding zone_at last_digits
 zone_takes [] is_west hour minute e = absurd cc
-zone_takes (first ∷ text) is_west hour minute e = zone_of_tests first text is_west hour minute (nat_eq first 90 || nat_eq first 122)
-    (nat_eq first 43 || nat_eq first 45) refl refl e
+zone_takes (first ∷ text) is_west hour minute e =
+    elim (cases_Bool (nat_eq first 90 || nat_eq first 122)) [
+      | inl t ↦
+          let g = ended_some {A = Bool × ℕ × ℕ} (false, 0, 0) (is_west, hour, minute) text (rw t at e) in
+          let letter : (first ∷ text ≡ codes "Z") ⊎ (first ∷ text ≡ codes "z") = grind (arith, nat_tests, g.0) in
+          let zeros : (is_west ≡ false) × (hour ≡ 0) × (minute ≡ 0) = grind (arith, g.1) in
+          record { is = inl (letter, zeros.0, zeros.1, zeros.2); hour_fits = omega arith; minute_fits = omega arith }
+      | inr t ↦ elim (cases_Bool (nat_eq first 43 || nat_eq first 45)) [
+        | inl s ↦
+            let a = bind_some (two_digits_at text) (λ h. part_at 58 h.1 >>= λ m. ended {A = Bool × ℕ × ℕ} (nat_eq first 45, h.0, m.0) m.1) _ (rw (t, s) at e) in
+            let b = bind_some (part_at 58 a.0.1) (λ m. ended {A = Bool × ℕ × ℕ} (nat_eq first 45, a.0.0, m.0) m.1) _ a.2 in
+            let g = ended_some {A = Bool × ℕ × ℕ} (nat_eq first 45, a.0.0, b.0.0) _ b.0.1 b.2 in
+            let h = two_takes text a.0.0 a.0.1 a.1 in
+            let m = part_takes 58 a.0.1 b.0.0 b.0.1 b.1 in
+            let fits : (hour < 100) × (minute < 100) = grind (arith, h.fits, m.fits, g.1) in
+            record { is = inr (grind (arith, nat_tests, h.parts, m.parts, g.0, g.1)); hour_fits = fits.0; minute_fits = fits.1 }
+        | inr s ↦ let none = rw (t, s) at e in absurd cc
+      ]
+    ]
 
 pub zone_again : (bytes : List ℕ) (is_west : Bool) (hour minute : ℕ) → IsOffsetText bytes is_west hour minute → hour < 100 → minute < 100
     → zone_at bytes ≡ Some (is_west, hour, minute)

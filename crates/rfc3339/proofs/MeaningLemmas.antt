@@ -66,6 +66,5 @@ HasText-value p r n y =
     omega (arith, signed_arith)
 
 pub has_text_of : (p : Parts) (r : Result Local TextRefusal) → r ≡ meaning p → p.nanosecond ≤ 999_999_999 → p.year ≤ 9_999 → IfOk r HasText
-has_text_of p (Ok at) e n y =
-    let ok = meaning-ok p at (sym e) in subst HasText (sym ok.1) (HasText-value p ok.0 n y)
+has_text_of p (Ok at) e n y = let ok = meaning-ok p at (sym e) in subst HasText (sym ok.1) (HasText-value p ok.0 n y)
 has_text_of p (Err d) e n y = tt

@@ -1,12 +1,13 @@
 -- Texts of fixed width compare as their instants do.
 use Rattle.std.proofs.Common.{◌≡◌, ◌⊎◌, inl, inr, ℕ, zero, suc, ◌+◌, ◌-◌, ◌/◌, ◌%◌, ◌≤◌, ◌<◌, Bool, List, ◌∷◌, ◌++◌, append_assoc, refl, sym, ap}
 use Rattle.std.proofs.Common.{◌∙◌, arith, ℤ, pos, ◌+ℤ◌, ◌≤ℤ◌, ◌<ℤ◌, unsigned_abs}
+use Rattle.std.specs.Cmp.{int_cmp_is}
 use Rattle.std.specs.Cmp.Lexicographic.{slice_cmp}
-use Rattle.std.specs.Ordering.{nat_cmp, int_cmp, ordering_then, ordering_reverse, MatchOrdering}
+use Rattle.std.specs.Ordering.{nat_cmp, int_cmp, ordering_then, ordering_reverse}
 use Rattle.std.specs.declared.cmp.Ordering.{Ordering}
 use Rattle.std.specs.declared.cmp.Ordering.TheVariants.{Less, Equal, Greater}
 use Rattle.std.proofs.lemmas.Bool.Decides.{nat_tests}
-use Rattle.std.proofs.lemmas.Cmp.{nat_list_cmp_total, tied_itself, int_ranked}
+use Rattle.std.proofs.lemmas.Cmp.{nat_list_cmp_total, tied_itself}
 use Rattle.calendar_values.specs.Calendar.{is_leap_year, year_of, month_of, day_of_month_of, days_in_month, days_in_months, days_before_month}
 use Rattle.calendar_values.specs.Calendar.{day_of_calendar_date}
 use Rattle.calendar_values.specs.Clock.{hour_of, minute_of, second_of, nanosecond_of}
@@ -25,16 +26,12 @@ use Rattle.rfc3339.proofs.WrittenDigits.{HasDigits}
 -- ---- digits
 
 -- the last digits are compared where the numbers before them are the same
-digit_cmp : (m n : ℕ) (o : Ordering)
-    → ordering_then (nat_cmp (m / 10) (n / 10)) (ordering_then (nat_cmp (48 + m % 10) (48 + n % 10)) o) ≡ ordering_then (nat_cmp m n) o
-digit_cmp m n o = grind (arith, nat_tests)
-
 digits_order : (k m n : ℕ) (xs ys : List ℕ) → HasDigits k m → HasDigits k n
     → slice_cmp nat_cmp (last_digits k m ++ xs) (last_digits k n ++ ys) ≡ ordering_then (nat_cmp m n) (slice_cmp nat_cmp xs ys)
 unfolding last_digits
 digits_order zero m n xs ys a b = rw (a, b) refl
 digits_order (suc k) m n xs ys a b =
-    simp append_assoc (digits_order k (m / 10) (n / 10) ((48 + m % 10) ∷ xs) ((48 + n % 10) ∷ ys) a b ∙ digit_cmp m n (slice_cmp nat_cmp xs ys))
+    simp append_assoc (digits_order k (m / 10) (n / 10) ((48 + m % 10) ∷ xs) ((48 + n % 10) ∷ ys) a b ∙ grind (arith, nat_tests))
 
 -- ---- dates
 
@@ -130,14 +127,13 @@ earlier_text i j h k less =
       | inr (inr later) ↦ absurd (omega (arith, signed_arith))
     ]
 
-order_of : (i j : ℤ) (o : Ordering) → HasFixedText i → HasFixedText j → MatchOrdering o (i <ℤ j) (i ≡ j) (j <ℤ i)
-    → slice_cmp nat_cmp (fixed_text i) (fixed_text j) ≡ o
-order_of i j Less h k r = earlier_text i j h k r
-order_of i j Equal h k r =
-    ap (λ (t : ℤ). slice_cmp nat_cmp (fixed_text i) (fixed_text t)) (sym r) ∙ tied_itself nat_list_cmp_total (fixed_text i)
-order_of i j Greater h k r =
-    nat_list_cmp_total.antisymm (fixed_text i) (fixed_text j) ∙ ap ordering_reverse (earlier_text j i k h r)
-
 pub fixed_text-order : (i j : ℤ) (first second : List ℕ) → HasFixedText i → HasFixedText j → first ≡ fixed_text i → second ≡ fixed_text j
     → slice_cmp nat_cmp first second ≡ int_cmp i j
-fixed_text-order i j first second h k a b = rw (a, b) (order_of i j (int_cmp i j) h k (int_ranked i j (int_cmp i j) refl))
+fixed_text-order i j first second h k a b =
+    rw (a, b) (elim (int_cases i j) [
+      | inl less ↦ earlier_text i j h k less ∙ int_cmp_is i j Less less
+      | inr (inl same) ↦
+          ap (λ (t : ℤ). slice_cmp nat_cmp (fixed_text i) (fixed_text t)) (sym same) ∙ tied_itself nat_list_cmp_total (fixed_text i) ∙ int_cmp_is i j Equal same
+      | inr (inr less) ↦
+          nat_list_cmp_total.antisymm (fixed_text i) (fixed_text j) ∙ ap ordering_reverse (earlier_text j i k h less) ∙ int_cmp_is i j Greater less
+    ])

@@ -9,7 +9,7 @@ use Rattle.calendar_values.specs.ClockLemmas.{clock_of_parts-of, IsTimeOfDay-of}
 use Rattle.calendar_values.specs.CalendarDateLemmas.{IsCalendarDate-of, day_of_calendar_date-of, days_in_month_bounds}
 use Rattle.calendar_values.specs.WallClock.{wall_day, wall_time}
 use Rattle.calendar_values.specs.WallClockLemmas.{wall_clock-parts, IsClock-wall_time}
-use Rattle.offset_times.specs.Local.{Local, wall_at, local_in_utc}
+use Rattle.offset_times.specs.Local.{Local, local_in_utc}
 use Rattle.calendar_values.specs.Clock.{nanosecond_of}
 use Rattle.calendar_values.specs.Digits.{last_digits, fraction_digits}
 use Rattle.calendar_values.specs.DigitCountLemmas.{length-last_digits}
@@ -58,7 +58,7 @@ value_of-parts : (at : Local) → HasText at → value_of (parts_of at) ≡ at
 value_of-parts at h =
     let year = year_is (year_of (wall_day at.wall)) h.year_first in
     let offset = offset_of-parts at.offset _ refl h.whole_minutes in
-    rw (year, day_of_calendar_date-of (wall_day at.wall), clock_of_parts-of (wall_time at.wall), offset) (ap (λ w. wall_at w at.offset) (wall_clock-parts at.wall))
+    rw (year, day_of_calendar_date-of (wall_day at.wall), clock_of_parts-of (wall_time at.wall), offset, wall_clock-parts at.wall) refl
 
 parts-in_range : (at : Local) → HasText at → AreInRange (parts_of at)
 parts-in_range at h =
