@@ -40,16 +40,12 @@ parts_takes text p e =
     let second = bind_some _ _ _ minute.2 in
     let fraction = bind_some _ _ _ second.2 in
     let zone = bind_some _ _ _ fraction.2 in
-    let y = year_takes text year.0.0 year.0.1 year.1 in
-    let mo = part_takes 45 year.0.1 month.0.0 month.0.1 month.1 in
-    let d = part_takes 45 month.0.1 day.0.0 day.0.1 day.1 in
-    let s = separator_takes day.0.1 clock.0 clock.1 in
-    let h = two_takes clock.0 hour.0.0 hour.0.1 hour.1 in
-    let mi = part_takes 58 hour.0.1 minute.0.0 minute.0.1 minute.1 in
-    let sec = part_takes 58 minute.0.1 second.0.0 second.0.1 second.1 in
-    let f = fraction_takes second.0.1 fraction.0.0 fraction.0.1 fraction.1 in
-    let z = zone_takes fraction.0.1 zone.0.0 zone.0.1 zone.0.2 zone.1 in
-    subst (λ (q : Parts). IsDateTime text q) (same_Some _ p zone.2) (date_time_of _ y mo d s.1 h mi sec f.1 z)
+    let s = separator_takes _ _ clock.1 in
+    let f = fraction_takes _ _ _ fraction.1 in
+    let z = zone_takes _ zone.0.0 zone.0.1 zone.0.2 zone.1 in
+    subst (λ (q : Parts). IsDateTime text q) (same_Some _ p zone.2)
+    (date_time_of _ (year_takes _ _ _ year.1) (part_takes 45 _ _ _ month.1) (part_takes 45 _ _ _ day.1) s.1 (two_takes _ _ _ hour.1)
+    (part_takes 58 _ _ _ minute.1) (part_takes 58 _ _ _ second.1) f.1 z)
 
 pub parts_again : (text : List ℕ) (p : Parts) → IsDateTime text p → parts_at text ≡ Some p
 unfolding parts_at
