@@ -1,16 +1,17 @@
 -- Fractions and offsets: what is read has the form, and what has the form is read.
-use Rattle.std.proofs.Common.{◌≡◌, ◌≢◌, ◌⊎◌, inl, inr, ℕ, ◌+◌, ◌-◌, ◌*◌, ◌/◌, ◌<◌, ◌≤◌, Bool, true, false, cond, nat_eq, List, [], ◌∷◌, ◌++◌, length}
-use Rattle.std.proofs.Common.{length-append, append_assoc, Option, Some, None, refl, sym, ap, subst, ◌∙◌, arith}
+use Rattle.std.proofs.Common.{◌≡◌, ◌≢◌, ◌⊎◌, inl, inr, ℕ, ◌/◌, ◌<◌, ◌≤◌, Bool, true, false, nat_eq, List, [], ◌∷◌, ◌++◌, length}
+use Rattle.std.proofs.Common.{length-append, Option, Some, None, refl, ap, arith}
 use Rattle.std.specs.Prelude.{codes, ◌||◌}
 use Rattle.std.specs.Char.{is_ascii_digit}
 use Rattle.std.specs.List.{list_all}
-use Rattle.std.proofs.lemmas.Bool.{and_parts, or_cases, eqb-true, eqb-false, ne_eqb, true≢false}
-use Rattle.std.proofs.lemmas.List.{append-nil}
-use Rattle.std.proofs.lemmas.Option.{some_pair_parts, same_Some}
+use Rattle.std.proofs.lemmas.Bool.Decides.{nat_tests}
+use Rattle.std.proofs.lemmas.Bool.{and_parts, cases_Bool}
+use Rattle.std.proofs.lemmas.Option.{same_Some}
 use Rattle.calendar_values.specs.Digits.{last_digits}
 use Rattle.rfc3339.specs.Form.{fraction_value, IsFraction, IsOffsetText}
 use Rattle.rfc3339.specs.Reading.{◌>>=◌, two_digits_at, mark_at, part_at, digits_at, fraction_of, fraction_at, ended, zone_at}
-use Rattle.rfc3339.proofs.FormLemmas.{bind_some, mark_takes, mark_again, two_takes, two_again, part_takes, part_again}
+use Rattle.rfc3339.proofs.FieldDigitLemmas.{digit_again}
+use Rattle.rfc3339.proofs.FormLemmas.{bind_some, mark_takes, mark_again, two_takes, part_takes}
 
 -- the digits in front of a text
 pub record AreDigits (unit : ℕ) (bytes digits : List ℕ) (value : ℕ) (rest : List ℕ) : Type 0 where
@@ -18,32 +19,28 @@ pub record AreDigits (unit : ℕ) (bytes digits : List ℕ) (value : ℕ) (rest 
   pub are : list_all is_ascii_digit digits ≡ true
   pub counts : fraction_value unit digits ≡ value
 
-digits_more : (unit first : ℕ) (text : List ℕ) (b : Bool) → is_ascii_digit first ≡ b
-    → ((digits : List ℕ) × AreDigits (unit / 10) text digits (digits_at (unit / 10) text).0 (digits_at (unit / 10) text).1)
-    → let read : ℕ × List ℕ = cond b ((first - 48) * unit + (digits_at (unit / 10) text).0, (digits_at (unit / 10) text).1) (0, first ∷ text) in
-    (digits : List ℕ) × AreDigits unit (first ∷ text) digits read.0 read.1
-unfolding fraction_value
-digits_more unit first text true t h =
-    (first ∷ h.0, record { parts = ap (λ (z : List ℕ). first ∷ z) h.1.parts; are = rw t h.1.are; counts = ap (λ (k : ℕ). (first - 48) * unit + k) h.1.counts })
-digits_more unit first text false t h = ([], record { parts = refl; are = refl; counts = refl })
-
 pub digits_take : (unit : ℕ) (text : List ℕ) → (digits : List ℕ) × AreDigits unit text digits (digits_at unit text).0 (digits_at unit text).1
 unfolding digits_at fraction_value
 digits_take unit [] = ([], record { parts = refl; are = refl; counts = refl })
-digits_take unit (first ∷ text) = digits_more unit first text (is_ascii_digit first) refl (digits_take (unit / 10) text)
+digits_take unit (first ∷ text) =
+    let more = digits_take (unit / 10) text in
+    elim (cases_Bool (is_ascii_digit first)) [
+      | inl t ↦ rw t (first ∷ more.0, record { parts = grind (arith, more.1.parts); are = rw t more.1.are; counts = grind (arith, more.1.counts) })
+      | inr t ↦ rw t ([], record { parts = refl; are = refl; counts = refl })
+    ]
 
 -- what ends a fraction, or stands where there is none
 pub record EndsFraction (bytes : List ℕ) : Type 0 where
   pub no_digit : (unit : ℕ) → digits_at unit bytes ≡ (0, bytes)
   pub no_point : mark_at 46 bytes ≡ None
+  pub some : 1 ≤ length bytes
 
 pub digits_again : (unit : ℕ) (digits rest : List ℕ) → list_all is_ascii_digit digits ≡ true → EndsFraction rest
     → digits_at unit (digits ++ rest) ≡ (fraction_value unit digits, rest)
 unfolding digits_at fraction_value
 digits_again unit [] rest all h = h.no_digit unit
 digits_again unit (first ∷ digits) rest all h =
-    let both = and_parts (is_ascii_digit first) (list_all is_ascii_digit digits) all in
-    rw (both.0, digits_again (unit / 10) digits rest both.1 h) refl
+    let both = and_parts (is_ascii_digit first) (list_all is_ascii_digit digits) all in rw (both.0, digits_again (unit / 10) digits rest both.1 h) refl
 
 -- ---- a fraction
 
@@ -51,41 +48,28 @@ pub record TakesFraction (bytes text : List ℕ) (nanosecond : ℕ) (rest : List
   pub parts : bytes ≡ text ++ rest
   pub is : IsFraction text nanosecond
 
-guard_none : {A : Type 0} (b : Bool) (x y : A) → cond b None (Some x) ≡ Some y → (b ≡ false) × (x ≡ y)
-guard_none true x y e = absurd cc
-guard_none false x y e = (refl, same_Some x y e)
-
 fraction_of_mark : (bytes : List ℕ) (o : Option (List ℕ)) (n : ℕ) (rest : List ℕ) → mark_at 46 bytes ≡ o → fraction_of bytes o ≡ Some (n, rest)
     → (text : List ℕ) × TakesFraction bytes text n rest
-fraction_of_mark bytes None n rest m e =
-    let s = some_pair_parts 0 n bytes rest e in ([], record { parts = s.1; is = inl (refl, sym s.0) })
+fraction_of_mark bytes None n rest m e = ([], record { parts = grind arith; is = inl (refl, grind arith) })
 fraction_of_mark bytes (Some digits) n rest m e =
     let read = digits_at 100_000_000 digits in
-    let g = guard_none (nat_eq (length read.1) (length digits)) read (n, rest) e in
     let h = digits_take 100_000_000 digits in
-    let r : read.1 ≡ rest = ap (λ (x : ℕ × List ℕ). x.1) g.1 in
-    let v : read.0 ≡ n = ap (λ (x : ℕ × List ℕ). x.0) g.1 in
-    let other : length read.1 ≢ length digits = eqb-false _ _ g.0 in
-    let some : 0 < length h.0 = omega (arith, ap (length {A = ℕ}) h.1.parts, length-append h.0 read.1, other) in
-    let whole : bytes ≡ (46 ∷ h.0) ++ rest = mark_takes 46 bytes digits m ∙ ap (λ (z : List ℕ). 46 ∷ z) h.1.parts ∙ ap (λ (z : List ℕ). (46 ∷ h.0) ++ z) r in
-    (46 ∷ h.0, record { parts = whole; is = inr (h.0, refl, some, h.1.are, sym v ∙ sym h.1.counts) })
+    let other : length read.1 ≢ length digits = grind (arith, nat_tests) in
+    let r : read.1 ≡ rest = grind (arith, nat_tests) in
+    let some : 0 < length h.0 = omega (arith, ap (length {A = ℕ}) h.1.parts, length-append h.0 read.1) in
+    let counts : n ≡ fraction_value 100_000_000 h.0 = grind (arith, nat_tests, h.1.counts) in
+    (46 ∷ h.0, record { parts = grind (arith, mark_takes 46 bytes digits m, h.1.parts, r); is = inr (h.0, refl, some, h.1.are, counts) })
 
 pub fraction_takes : (bytes : List ℕ) (n : ℕ) (rest : List ℕ) → fraction_at bytes ≡ Some (n, rest) → (text : List ℕ) × TakesFraction bytes text n rest
 unfolding fraction_at
 fraction_takes bytes n rest e = fraction_of_mark bytes (mark_at 46 bytes) n rest refl e
 
-fraction_of_digits : (digits rest : List ℕ) → 0 < length digits → list_all is_ascii_digit digits ≡ true → EndsFraction rest
-    → fraction_at (46 ∷ digits ++ rest) ≡ Some (fraction_value 100_000_000 digits, rest)
-unfolding fraction_at
-fraction_of_digits digits rest some all h =
-    let shorter : nat_eq (length rest) (length (digits ++ rest)) ≡ false = ne_eqb _ _ (λ same. omega (arith, same, some, length-append digits rest)) in
-    rw (mark_again 46 (digits ++ rest), digits_again 100_000_000 digits rest all h, shorter) refl
-
 pub fraction_again : (text : List ℕ) (n : ℕ) (rest : List ℕ) → IsFraction text n → EndsFraction rest → fraction_at (text ++ rest) ≡ Some (n, rest)
 unfolding fraction_at
 fraction_again text n rest (inl none) h = rw (none.0, none.1, h.no_point) refl
 fraction_again text n rest (inr some) h =
-    ap (λ (z : List ℕ). fraction_at (z ++ rest)) some.1 ∙ fraction_of_digits some.0 rest some.2 some.3 h ∙ ap (λ (k : ℕ). Some (k, rest)) (sym some.4)
+    let shorter : nat_eq (length rest) (length (some.0 ++ rest)) ≡ false = grind (arith, nat_tests, some.2, length-append some.0 rest) in
+    rw (some.1, some.4, mark_again 46 (some.0 ++ rest), digits_again 100_000_000 some.0 rest some.3 h, shorter) refl
 
 -- ---- an offset
 
@@ -98,114 +82,43 @@ ended_some : {A : Type 0} (x y : A) (bytes : List ℕ) → ended x bytes ≡ Som
 ended_some x y [] e = (refl, same_Some x y e)
 ended_some x y (first ∷ bytes) e = absurd cc
 
-sign_is : (first : ℕ) (is_west : Bool) → (nat_eq first 43 || nat_eq first 45) ≡ true → nat_eq first 45 ≡ is_west
-    → first ∷ [] ≡ cond is_west (codes "-") (codes "+")
-sign_is first true t e = ap (λ (z : ℕ). z ∷ []) (eqb-true first 45 e)
-sign_is first false t e =
-    elim (or_cases (nat_eq first 43) (nat_eq first 45) t) [
-      | inl plus ↦ ap (λ (z : ℕ). z ∷ []) (eqb-true first 43 plus)
-      | inr minus ↦ absurd (true≢false (sym minus ∙ e))
-    ]
-
-letter_is : (first : ℕ) (text : List ℕ) → (nat_eq first 90 || nat_eq first 122) ≡ true → text ≡ [] → (first ∷ text ≡ codes "Z") ⊎ (first ∷ text ≡ codes "z")
-letter_is first text t e =
-    elim (or_cases (nat_eq first 90) (nat_eq first 122) t) [
-      | inl upper ↦ inl (rw (e, eqb-true first 90 upper) refl)
-      | inr lower ↦ inr (rw (e, eqb-true first 122 lower) refl)
-    ]
-
-signed_text : (first : ℕ) (text r s : List ℕ) (is_west : Bool) (hour minute : ℕ) → first ∷ [] ≡ cond is_west (codes "-") (codes "+")
-    → text ≡ last_digits 2 hour ++ r → r ≡ (58 ∷ last_digits 2 minute) ++ s → s ≡ []
-    → first ∷ text ≡ cond is_west (codes "-") (codes "+") ++ last_digits 2 hour ++ codes ":" ++ last_digits 2 minute
-signed_text first text r s is_west hour minute sign h m none =
-    let tail : text ≡ last_digits 2 hour ++ (58 ∷ last_digits 2 minute) =
-    h
-    ∙ ap (λ (z : List ℕ). last_digits 2 hour ++ z) (m ∙ ap (λ (z : List ℕ). (58 ∷ last_digits 2 minute) ++ z) none ∙ append-nil (58 ∷ last_digits 2 minute)) in
-    ap (λ (z : List ℕ). first ∷ z) tail ∙ ap (λ (z : List ℕ). z ++ (last_digits 2 hour ++ (58 ∷ last_digits 2 minute))) sign ∙ (simp append_assoc refl)
-
-zone_of_tests : (first : ℕ) (text : List ℕ) (is_west : Bool) (hour minute : ℕ) (b d : Bool) → (nat_eq first 90 || nat_eq first 122) ≡ b
-    → (nat_eq first 43 || nat_eq first 45) ≡ d
-    → cond b (ended {A = Bool × ℕ × ℕ} (false, 0, 0) text)
-    (cond d (two_digits_at text >>= λ h. part_at 58 h.1 >>= λ m. ended {A = Bool × ℕ × ℕ} (nat_eq first 45, h.0, m.0) m.1) None) ≡ Some
-    (is_west, hour, minute)
-    → TakesOffset (first ∷ text) is_west hour minute
-zone_of_tests first text is_west hour minute true d t s e =
-    let g = ended_some {A = Bool × ℕ × ℕ} (false, 0, 0) (is_west, hour, minute) text e in
-    let w : is_west ≡ false = ap (λ (x : Bool × ℕ × ℕ). x.0) (sym g.1) in
-    let h : hour ≡ 0 = ap (λ (x : Bool × ℕ × ℕ). x.1) (sym g.1) in
-    let m : minute ≡ 0 = ap (λ (x : Bool × ℕ × ℕ). x.2) (sym g.1) in
-    record { is = inl (letter_is first text t g.0, w, h, m); hour_fits = omega arith; minute_fits = omega arith }
-zone_of_tests first text is_west hour minute false true t s e =
-    let a = bind_some (two_digits_at text) (λ h. part_at 58 h.1 >>= λ m. ended {A = Bool × ℕ × ℕ} (nat_eq first 45, h.0, m.0) m.1) (is_west, hour, minute) e in
-    let b = bind_some (part_at 58 a.0.1) (λ m. ended {A = Bool × ℕ × ℕ} (nat_eq first 45, a.0.0, m.0) m.1) (is_west, hour, minute) a.2 in
-    let g = ended_some {A = Bool × ℕ × ℕ} (nat_eq first 45, a.0.0, b.0.0) (is_west, hour, minute) b.0.1 b.2 in
-    let w : nat_eq first 45 ≡ is_west = ap (λ (x : Bool × ℕ × ℕ). x.0) g.1 in
-    let h : a.0.0 ≡ hour = ap (λ (x : Bool × ℕ × ℕ). x.1) g.1 in
-    let m : b.0.0 ≡ minute = ap (λ (x : Bool × ℕ × ℕ). x.2) g.1 in
-    let th = two_takes text a.0.0 a.0.1 a.1 in
-    let tm = part_takes 58 a.0.1 b.0.0 b.0.1 b.1 in
-    let h_parts : text ≡ last_digits 2 hour ++ a.0.1 = th.parts ∙ ap (λ (k : ℕ). last_digits 2 k ++ a.0.1) h in
-    let m_parts : a.0.1 ≡ (58 ∷ last_digits 2 minute) ++ b.0.1 = tm.parts ∙ ap (λ (k : ℕ). (58 ∷ last_digits 2 k) ++ b.0.1) m in
-    let h_fits = th.fits in
-    let m_fits = tm.fits in
-    record {
-      is = inr (signed_text first text a.0.1 b.0.1 is_west hour minute (sign_is first is_west s w) h_parts m_parts g.0);
-      hour_fits = omega arith;
-      minute_fits = omega arith;
-    }
-zone_of_tests first text is_west hour minute false false t s e = absurd cc
-
 pub zone_takes : (bytes : List ℕ) (is_west : Bool) (hour minute : ℕ) → zone_at bytes ≡ Some (is_west, hour, minute) → TakesOffset bytes is_west hour minute
-unfolding zone_at
+unfolding zone_at last_digits
 zone_takes [] is_west hour minute e = absurd cc
-zone_takes (first ∷ text) is_west hour minute e = zone_of_tests first text is_west hour minute (nat_eq first 90 || nat_eq first 122)
-    (nat_eq first 43 || nat_eq first 45) refl refl e
-
-zone_of_letter : (bytes : List ℕ) → ((bytes ≡ codes "Z") ⊎ (bytes ≡ codes "z")) → zone_at bytes ≡ Some (false, 0, 0)
-unfolding zone_at
-zone_of_letter bytes (inl e) = rw e refl
-zone_of_letter bytes (inr e) = rw e refl
-
-zone_of_sign : (is_west : Bool) (hour minute : ℕ) → hour < 100 → minute < 100
-    → zone_at (cond is_west 45 43 ∷ (last_digits 2 hour ++ (58 ∷ last_digits 2 minute ++ []))) ≡ Some (is_west, hour, minute)
-unfolding zone_at
-zone_of_sign true hour minute h m = rw (two_again hour (58 ∷ last_digits 2 minute ++ []) h, part_again 58 minute [] m) refl
-zone_of_sign false hour minute h m = rw (two_again hour (58 ∷ last_digits 2 minute ++ []) h, part_again 58 minute [] m) refl
-
-regrouped : (is_west : Bool) (hour minute : ℕ)
-    → cond is_west (codes "-") (codes "+") ++ last_digits 2 hour ++ codes ":" ++ last_digits 2 minute ≡ cond is_west 45 43 ∷
-    (last_digits 2 hour ++ (58 ∷ last_digits 2 minute ++ []))
-regrouped true hour minute = simp (append_assoc, append-nil) refl
-regrouped false hour minute = simp (append_assoc, append-nil) refl
+zone_takes (first ∷ text) is_west hour minute e =
+    elim (cases_Bool (nat_eq first 90 || nat_eq first 122)) [
+      | inl t ↦
+          let g = ended_some {A = Bool × ℕ × ℕ} (false, 0, 0) (is_west, hour, minute) text (rw t at e) in
+          let letter : (first ∷ text ≡ codes "Z") ⊎ (first ∷ text ≡ codes "z") = grind (arith, nat_tests, g.0) in
+          let zeros : (is_west ≡ false) × (hour ≡ 0) × (minute ≡ 0) = grind (arith, g.1) in
+          record { is = inl (letter, zeros.0, zeros.1, zeros.2); hour_fits = omega arith; minute_fits = omega arith }
+      | inr t ↦ elim (cases_Bool (nat_eq first 43 || nat_eq first 45)) [
+        | inl s ↦
+            let a = bind_some (two_digits_at text) (λ h. part_at 58 h.1 >>= λ m. ended {A = Bool × ℕ × ℕ} (nat_eq first 45, h.0, m.0) m.1) _ (rw (t, s) at e) in
+            let b = bind_some (part_at 58 a.0.1) (λ m. ended {A = Bool × ℕ × ℕ} (nat_eq first 45, a.0.0, m.0) m.1) _ a.2 in
+            let g = ended_some {A = Bool × ℕ × ℕ} (nat_eq first 45, a.0.0, b.0.0) _ b.0.1 b.2 in
+            let h = two_takes text a.0.0 a.0.1 a.1 in
+            let m = part_takes 58 a.0.1 b.0.0 b.0.1 b.1 in
+            let fits : (hour < 100) × (minute < 100) = grind (arith, h.fits, m.fits, g.1) in
+            record { is = inr (grind (arith, nat_tests, h.parts, m.parts, g.0, g.1)); hour_fits = fits.0; minute_fits = fits.1 }
+        | inr s ↦ let none = rw (t, s) at e in absurd cc
+      ]
+    ]
 
 pub zone_again : (bytes : List ℕ) (is_west : Bool) (hour minute : ℕ) → IsOffsetText bytes is_west hour minute → hour < 100 → minute < 100
     → zone_at bytes ≡ Some (is_west, hour, minute)
-zone_again bytes is_west hour minute (inl utc) h m = zone_of_letter bytes utc.0 ∙ rw (utc.1, utc.2, utc.3) refl
-zone_again bytes is_west hour minute (inr e) h m = ap zone_at (e ∙ regrouped is_west hour minute) ∙ zone_of_sign is_west hour minute h m
+unfolding zone_at two_digits_at part_at mark_at last_digits
+zone_again bytes is_west hour minute (inl (inl upper, east, hours, minutes)) h m = rw (upper, east, hours, minutes) refl
+zone_again bytes is_west hour minute (inl (inr lower, east, hours, minutes)) h m = rw (lower, east, hours, minutes) refl
+zone_again bytes true hour minute (inr e) h m = rw e (grind (arith, nat_tests, digit_again))
+zone_again bytes false hour minute (inr e) h m = rw e (grind (arith, nat_tests, digit_again))
 
 ends_at : (first : ℕ) (rest : List ℕ) → is_ascii_digit first ≡ false → nat_eq first 46 ≡ false → EndsFraction (first ∷ rest)
 unfolding digits_at mark_at
-ends_at first rest d p = record { no_digit = λ unit. rw d refl; no_point = rw p refl }
-
-ends_sign : (is_west : Bool) (rest : List ℕ) → EndsFraction (cond is_west 45 43 ∷ rest)
-ends_sign true rest = ends_at 45 rest refl refl
-ends_sign false rest = ends_at 43 rest refl refl
+ends_at first rest d p = record { no_digit = λ unit. rw d refl; no_point = rw p refl; some = omega arith }
 
 pub offset_ends : (bytes : List ℕ) (is_west : Bool) (hour minute : ℕ) → IsOffsetText bytes is_west hour minute → EndsFraction bytes
-offset_ends bytes is_west hour minute (inl utc) =
-    elim utc.0 [
-      | inl upper ↦ subst EndsFraction (sym upper) (ends_at 90 [] refl refl)
-      | inr lower ↦ subst EndsFraction (sym lower) (ends_at 122 [] refl refl)
-    ]
-offset_ends bytes is_west hour minute (inr e) =
-    subst EndsFraction (sym (e ∙ regrouped is_west hour minute)) (ends_sign is_west (last_digits 2 hour ++ (58 ∷ last_digits 2 minute ++ [])))
-
--- an offset has a letter at least
-pub offset_some : (bytes : List ℕ) (is_west : Bool) (hour minute : ℕ) → IsOffsetText bytes is_west hour minute → 1 ≤ length bytes
-offset_some bytes is_west hour minute (inl utc) =
-    elim utc.0 [
-      | inl upper ↦ omega (arith, ap (length {A = ℕ}) upper)
-      | inr lower ↦ omega (arith, ap (length {A = ℕ}) lower)
-    ]
-offset_some bytes is_west hour minute (inr e) =
-    omega (arith, ap (length {A = ℕ}) (e ∙ regrouped is_west hour minute))
+offset_ends bytes is_west hour minute (inl (inl upper, _, _, _)) = rw upper (ends_at 90 [] refl refl)
+offset_ends bytes is_west hour minute (inl (inr lower, _, _, _)) = rw lower (ends_at 122 [] refl refl)
+offset_ends bytes true hour minute (inr e) = rw e (ends_at 45 _ refl refl)
+offset_ends bytes false hour minute (inr e) = rw e (ends_at 43 _ refl refl)

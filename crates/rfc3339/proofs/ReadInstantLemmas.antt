@@ -1,5 +1,5 @@
 -- The instants of texts.
-use Rattle.std.proofs.Common.{◌≡◌, ℤ, pos, ◌+ℤ◌, ◌-ℤ◌, ◌<◌, ◌≤ℤ◌, unsigned_abs, negsuc, refl, ap, ◌∙◌, arith, Result, Ok, Err, IfOk}
+use Rattle.std.proofs.Common.{◌≡◌, ℤ, pos, ◌+ℤ◌, ap, ◌∙◌, arith, Result, Ok, Err, IfOk}
 use Rattle.calendar_values.specs.Calendar.{year_of}
 use Rattle.calendar_values.specs.DayLemmas.{IsInYear-year_of}
 use Rattle.calendar_values.specs.Range.{first_year, last_year}
@@ -8,41 +8,26 @@ use Rattle.calendar_values.specs.WallClock.{wall_clock, wall_day, wall_time, IsW
 use Rattle.calendar_values.specs.WallClockLemmas.{wall_clock-parts, IsClock-wall_time}
 use Rattle.calendar_values.specs.YearLemmas.{year_start-first, year_start-after_last, year_start-later}
 use Rattle.offset_times.specs.InstantLemmas.{instant_of-utc}
-use Rattle.offset_times.specs.Local.{Local, local_in_utc, instant_of, offset_nanos}
+use Rattle.offset_times.specs.Local.{Local, local_in_utc, instant_of}
 use Rattle.rfc3339.specs.Texts.{HasText}
 use Rattle.rfc3339.specs.declared.refusal.TextRefusal.{TextRefusal}
-
--- the one lemma that opens the definition
-instant_of-is : (at : Local) → instant_of at ≡ at.wall -ℤ offset_nanos at.offset
-unfolding instant_of
-instant_of-is at = refl
 
 -- what was read in UTC has the instant that clocks there show
 pub instant_of-read : (at : Local) (i : ℤ) → ◌≡◌ {A = Result Local TextRefusal} (Ok at) (Ok (local_in_utc i)) → instant_of at ≡ i
 instant_of-read at i e =
     let same : at ≡ local_in_utc i = cc in ap instant_of same ∙ instant_of-utc i
 
--- an offset below a day
-signed_below : (o : ℤ) → unsigned_abs o < 86_400 → (negsuc 86_398 ≤ℤ o) × (o ≤ℤ pos 86_399)
-signed_below (pos n) h = (omega (arith, signed_arith, h), omega (arith, signed_arith, h))
-signed_below (negsuc n) h = (omega (arith, signed_arith, h), omega (arith, signed_arith, h))
-
 -- a year of four digits lies a year or more from the ends of the range
 pub instant_of-in_range : (at : Local) → HasText at → IsWallClock (instant_of at)
+unfolding instant_of
 instant_of-in_range at h =
     let day = wall_day at.wall in
-    let instant = instant_of-is at in
     let year = IsInYear-year_of day in
     let shown : wall_clock day (wall_time at.wall) ≡ at.wall = wall_clock-parts at.wall in
     let clock = IsClock-wall_time at.wall in
-    let offset = signed_below at.offset h.below_a_day in
-    let first = h.year_first in
-    let last = h.year_last in
-    let after_first = year_start-later first_year (year_of day) (omega (arith, signed_arith, first)) in
-    let before_last = year_start-later (year_of day +ℤ pos 1) (last_year +ℤ pos 1) (omega (arith, signed_arith, last)) in (
-      omega (arith, signed_arith, instant, year, shown, clock, offset, after_first, year_start-first),
-      omega (arith, signed_arith, instant, year, shown, clock, offset, before_last, year_start-after_last),
-    )
+    let after_first = year_start-later first_year (year_of day) (omega (arith, signed_arith)) in
+    let before_last = year_start-later (year_of day +ℤ pos 1) (last_year +ℤ pos 1) (omega (arith, signed_arith)) in
+    omega (arith, signed_arith, year_start-first, year_start-after_last)
 
 pub instant_of_read : {E : Type 0} (r : Result Local E) → IfOk r HasText → IfOk r (λ at. IsWallClock (instant_of at))
 instant_of_read (Ok at) h = instant_of-in_range at h

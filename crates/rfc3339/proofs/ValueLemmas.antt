@@ -1,16 +1,15 @@
 -- What was written has the form, and means what was written.
-use Rattle.std.proofs.Common.{◌≡◌, inl, inr, ℕ, suc, ◌+◌, ◌*◌, ◌/◌, ◌%◌, ◌≤◌, ◌<◌, Bool, true, false, cond, nat_eq, List, [], ◌++◌, length}
-use Rattle.std.proofs.Common.{length-append, refl, sym, ap, subst, ◌∙◌, arith, ℤ, pos, negsuc, neg_ℤ, unsigned_abs, ◌≤ℤ◌, Ok}
+use Rattle.std.proofs.Common.{◌≡◌, inl, inr, ℕ, ◌/◌, ◌%◌, ◌≤◌, ◌<◌, Bool, true, false, nat_eq, ◌++◌, length}
+use Rattle.std.proofs.Common.{length-append, refl, sym, ap, subst, ◌∙◌, arith, ℤ, pos, unsigned_abs, ◌≤ℤ◌, Ok}
 use Rattle.std.specs.Prelude.{codes, int_lt}
-use Rattle.std.proofs.lemmas.Bool.{eqb-true}
-use Rattle.std.proofs.lemmas.Bool.Decides.{nat_tests}
-use Rattle.std.proofs.lemmas.Int.{ints}
+use Rattle.std.proofs.lemmas.Bool.{eqb-true, cases_Bool}
+use Rattle.calendar_values.specs.SignedArith.{signed_arith, one_part}
 use Rattle.calendar_values.specs.Calendar.{is_leap_year, days_in_month, year_of, month_of, day_of_month_of}
 use Rattle.calendar_values.specs.ClockLemmas.{clock_of_parts-of, IsTimeOfDay-of}
 use Rattle.calendar_values.specs.CalendarDateLemmas.{IsCalendarDate-of, day_of_calendar_date-of, days_in_month_bounds}
 use Rattle.calendar_values.specs.WallClock.{wall_day, wall_time}
 use Rattle.calendar_values.specs.WallClockLemmas.{wall_clock-parts, IsClock-wall_time}
-use Rattle.offset_times.specs.Local.{Local, wall_at, local_in_utc}
+use Rattle.offset_times.specs.Local.{Local, local_in_utc}
 use Rattle.calendar_values.specs.Clock.{nanosecond_of}
 use Rattle.calendar_values.specs.Digits.{last_digits, fraction_digits}
 use Rattle.calendar_values.specs.DigitCountLemmas.{length-last_digits}
@@ -25,60 +24,41 @@ use Rattle.rfc3339.proofs.WrittenDigits.{last_digits-are, fraction_digits-are, f
 
 -- ---- a fraction
 
-fraction_of_some : (n : ℕ) (b : Bool) → n < 1_000_000_000 → nat_eq n 0 ≡ b → IsFraction (cond b [] (codes "." ++ fraction_digits 9 n)) n
-fraction_of_some n true low t = inl (refl, eqb-true n 0 t)
-fraction_of_some n false low t =
-    inr (fraction_digits 9 n, refl, fraction_digits-some 8 n, fraction_digits-are 9 n, sym (fraction_value-nanosecond n low))
-
 pub IsFraction-text : (n : ℕ) → n < 1_000_000_000 → IsFraction (fraction_text n) n
 unfolding fraction_text
-IsFraction-text n low = fraction_of_some n (nat_eq n 0) low refl
+IsFraction-text n low =
+    elim (cases_Bool (nat_eq n 0)) [
+      | inl t ↦ inl (rw t refl, eqb-true n 0 t)
+      | inr t ↦ inr (fraction_digits 9 n, rw t refl, fraction_digits-some 8 n, fraction_digits-are 9 n, sym (fraction_value-nanosecond n low))
+    ]
 
 -- ---- an offset
 
-zero_offset : (o : ℤ) → unsigned_abs o ≡ 0 → o ≡ pos 0
-zero_offset (pos n) e = ap pos e
-zero_offset (negsuc n) e = absurd (omega (arith, e))
-
-offset_of_zero : (o : ℤ) (b : Bool) → nat_eq (unsigned_abs o) 0 ≡ b
-    → IsOffsetText (cond b (codes "Z")
-    (cond (int_lt o (pos 0)) (codes "-") (codes "+") ++ last_digits 2 (unsigned_abs o / 3_600) ++ codes ":" ++ last_digits 2
-    (unsigned_abs o / 60 % 60))) (int_lt o (pos 0)) (unsigned_abs o / 3_600) (unsigned_abs o / 60 % 60)
-offset_of_zero o true t =
-    let none : unsigned_abs o ≡ 0 = eqb-true (unsigned_abs o) 0 t in
-    inl (inl refl, ap (λ (z : ℤ). int_lt z (pos 0)) (zero_offset o none), omega arith, omega arith)
-offset_of_zero o false t = inr refl
-
 pub IsOffsetText-text : (o : ℤ) → IsOffsetText (time_offset_text o) (int_lt o (pos 0)) (unsigned_abs o / 3_600) (unsigned_abs o / 60 % 60)
 unfolding time_offset_text
-IsOffsetText-text o = offset_of_zero o (nat_eq (unsigned_abs o) 0) refl
+IsOffsetText-text o =
+    elim (cases_Bool (nat_eq (unsigned_abs o) 0)) [
+      | inl t ↦
+          let none = eqb-true (unsigned_abs o) 0 t in
+          let zero : o ≡ pos 0 = omega (arith, signed_arith) in rw zero (inl (inl refl, refl, refl, refl))
+      | inr t ↦ inr (rw t refl)
+    ]
 
-offset_of-parts : (o : ℤ) → unsigned_abs o % 60 ≡ 0 → offset_of (int_lt o (pos 0)) (unsigned_abs o / 3_600) (unsigned_abs o / 60 % 60) ≡ o
-offset_of-parts (pos n) e =
-    let east : int_lt (pos n) (pos 0) ≡ false = grind (arith, nat_tests) in
-    rw east (ap pos (omega (arith, e)))
-offset_of-parts (negsuc n) e =
-    let whole : suc n / 3_600 * 3_600 + suc n / 60 % 60 * 60 ≡ suc n = omega (arith, e) in ap (λ k. neg_ℤ (pos k)) whole
+offset_of-parts : (o : ℤ) (b : Bool) → int_lt o (pos 0) ≡ b → unsigned_abs o % 60 ≡ 0
+    → offset_of b (unsigned_abs o / 3_600) (unsigned_abs o / 60 % 60) ≡ o
+offset_of-parts o true t e = omega (arith, signed_arith, one_part o)
+offset_of-parts o false t e = omega (arith, signed_arith, one_part o)
 
 -- ---- a whole text
 
 pub year_is : (y : ℤ) → pos 0 ≤ℤ y → pos (unsigned_abs y) ≡ y
-year_is (pos n) h = refl
-year_is (negsuc n) h = absurd (omega (arith, ints, h))
-
-year_below : (y : ℤ) → pos 0 ≤ℤ y → y ≤ℤ pos 9_999 → unsigned_abs y < 10_000
-year_below (pos n) h low = omega (arith, ints, low)
-year_below (negsuc n) h low = absurd (omega (arith, ints, h))
+year_is y h = omega (arith, signed_arith, one_part y)
 
 value_of-parts : (at : Local) → HasText at → value_of (parts_of at) ≡ at
 value_of-parts at h =
-    let day = wall_day at.wall in
-    let clock = wall_time at.wall in
-    let date = day_of_calendar_date-of day in
-    let time = clock_of_parts-of clock in
-    let offset = offset_of-parts at.offset h.whole_minutes in
-    let year = year_is (year_of day) h.year_first in
-    rw (year, date, time, offset) (ap (λ w. wall_at w at.offset) (wall_clock-parts at.wall))
+    let year = year_is (year_of (wall_day at.wall)) h.year_first in
+    let offset = offset_of-parts at.offset _ refl h.whole_minutes in
+    rw (year, day_of_calendar_date-of (wall_day at.wall), clock_of_parts-of (wall_time at.wall), offset, wall_clock-parts at.wall) refl
 
 parts-in_range : (at : Local) → HasText at → AreInRange (parts_of at)
 parts-in_range at h =
@@ -86,18 +66,8 @@ parts-in_range at h =
     let date = IsCalendarDate-of day in
     let time = IsTimeOfDay-of (wall_time at.wall) (IsClock-wall_time at.wall) in
     let year = year_is (year_of day) h.year_first in
-    let low = h.below_a_day in
-    record {
-      month_first = date.month_first;
-      month_last = date.month_last;
-      day_first = date.day_first;
-      day_last = subst (λ (y : ℤ). day_of_month_of day ≤ days_in_month (is_leap_year y) (month_of day)) (sym year) date.day_last;
-      hour = time.hour;
-      minute = time.minute;
-      second = time.second;
-      offset_hour = omega (arith, low);
-      offset_minute = omega arith;
-    }
+    let last = subst (λ (y : ℤ). day_of_month_of day ≤ days_in_month (is_leap_year y) (month_of day)) (sym year) date.day_last in
+    omega arith
 
 -- what was written means what was written
 pub meaning-text : (at : Local) → HasText at → meaning (parts_of at) ≡ Ok at
@@ -110,6 +80,7 @@ IsDateTime-text at h =
     let day = wall_day at.wall in
     let clock = wall_time at.wall in
     let r = parts-in_range at h in
+    let year = year_is (year_of day) h.year_first in
     let month_days = days_in_month_bounds (is_leap_year (pos (unsigned_abs (year_of day)))) (month_of day) in
     record {
       separator = 84;
@@ -119,40 +90,26 @@ IsDateTime-text at h =
       is_separator = refl;
       is_fraction = IsFraction-text (nanosecond_of clock) (omega arith);
       is_offset = IsOffsetText-text at.offset;
-      fits = record {
-        year = year_below (year_of day) h.year_first h.year_last;
-        month = omega (arith, r.month_last);
-        day = omega (arith, r.day_last, month_days.1);
-        hour = omega (arith, r.hour);
-        minute = omega (arith, r.minute);
-        second = omega (arith, r.second);
-        offset_hour = omega (arith, r.offset_hour);
-        offset_minute = omega (arith, r.offset_minute);
-      };
+      fits = omega (arith, signed_arith);
     }
 
 -- a text of fixed width has the form, too
 HasText-fixed : (i : ℤ) → HasFixedText i → HasText (local_in_utc i)
 HasText-fixed i h = record { year_first = h.year_first; year_last = h.year_last; whole_minutes = refl; below_a_day = omega arith }
 
-IsFraction-nine : (n : ℕ) → n < 1_000_000_000 → IsFraction (codes "." ++ last_digits 9 n) n
-IsFraction-nine n low =
-    inr (last_digits 9 n, refl, omega (arith, length-last_digits 9 n), last_digits-are 9 n, sym (fraction_value-nine n low))
-
 pub IsDateTime-fixed : (i : ℤ) → HasFixedText i → IsDateTime (fixed_text i) (parts_of (local_in_utc i))
 unfolding fixed_text
 IsDateTime-fixed i h =
-    let p = parts_of (local_in_utc i) in
-    let d = IsDateTime-text (local_in_utc i) (HasText-fixed i h) in
+    let n = nanosecond_of (wall_time i) in
     record {
       separator = 84;
-      fraction = codes "." ++ last_digits 9 (nanosecond_of (wall_time i));
+      fraction = codes "." ++ last_digits 9 n;
       offset = codes "Z";
       spelled = refl;
       is_separator = refl;
-      is_fraction = IsFraction-nine (nanosecond_of (wall_time i)) (omega arith);
+      is_fraction = inr (last_digits 9 n, refl, omega (arith, length-last_digits 9 n), last_digits-are 9 n, sym (fraction_value-nine n (omega arith)));
       is_offset = inl (inl refl, refl, refl, refl);
-      fits = d.fits;
+      fits = (IsDateTime-text (local_in_utc i) (HasText-fixed i h)).fits;
     }
 
 pub meaning-fixed : (i : ℤ) → HasFixedText i → meaning (parts_of (local_in_utc i)) ≡ Ok (local_in_utc i)
@@ -165,8 +122,7 @@ read_back at h = (parts_of at, IsDateTime-text at h, meaning-text at h)
 
 pub one_value : (a b : Local) → HasText a → HasText b → rfc3339_text a ≡ rfc3339_text b → a ≡ b
 one_value a b h k e =
-    let of_b : IsDateTime (rfc3339_text a) (parts_of b) = subst (λ (t : List ℕ). IsDateTime t (parts_of b)) (sym e) (IsDateTime-text b k) in
-    let same : parts_of a ≡ parts_of b = one_reading (rfc3339_text a) (parts_of a) (parts_of b) (IsDateTime-text a h) of_b in
+    let same = one_reading (rfc3339_text a) (parts_of a) (parts_of b) (IsDateTime-text a h) (rw e (IsDateTime-text b k)) in
     sym (ok_is a b (sym (meaning-text a h) ∙ ap meaning same ∙ meaning-text b k))
 
 pub length-fixed_text : (i : ℤ) → HasFixedText i → length (fixed_text i) ≡ 30
