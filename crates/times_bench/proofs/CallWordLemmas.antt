@@ -17,7 +17,7 @@ use Rattle.calendar_values.specs.declared.month.Month.{Month}
 use Rattle.stamp_times.specs.Numbered.{month_numbered}
 use Rattle.stamp_times.specs.NumberedLemmas.{month_numbered-number}
 use Rattle.stamp_times.specs.declared.runs.calls.Call.{Call}
-use Rattle.times_bench.proofs.NumberLemmas.{both_true}
+use Rattle.std.proofs.lemmas.Bool.{and_parts}
 use Rattle.times_bench.specs.CallWords.{entry_of, reads, call_names, call_with, call_of_parts, call_of}
 use Rattle.times_bench.specs.Words.{cut_at, arguments_of}
 
@@ -32,7 +32,7 @@ entry_of-passes : {A : Type 0} (test : List ℕ → Bool) (table : List (List �
     → list_all (λ (row : List ℕ × A). test row.0) table ≡ true → entry_of table name ≡ Some found → test name ≡ true
 entry_of-passes test [] name found e h = absurd cc
 entry_of-passes {A} test (first ∷ others) name found e h =
-    let both = both_true (test first.0) (list_all (λ (row : List ℕ × A). test row.0) others) e in
+    let both = and_parts _ _ e in
     passes_first test others name first.0 first.1 found (bytes_eq name first.0) refl both.0 (entry_of-passes test others name found both.1) h
 
 -- at least three bytes, all of them ASCII
@@ -46,12 +46,12 @@ record IsName (text : List ℕ) : Type 0 where
 IsAscii-list_all : (text : List ℕ) → list_all (λ byte. nat_lt byte 128) text ≡ true → IsAscii text
 IsAscii-list_all [] e = IsAscii-nil
 IsAscii-list_all (byte ∷ text) e =
-    let both = both_true (nat_lt byte 128) (list_all (λ byte. nat_lt byte 128) text) e in
+    let both = and_parts _ _ e in
     IsAscii-cons byte text (grind (arith, nat_tests)) (IsAscii-list_all text both.1)
 
 IsName-is_name : (text : List ℕ) → is_name text ≡ true → IsName text
 IsName-is_name text e =
-    let both = both_true (list_all (λ byte. nat_lt byte 128) text) (nat_lt 2 (length text)) e in
+    let both = and_parts _ _ e in
     record { is_text = IsUtf8-from_ascii text (IsAscii-list_all text both.0); long = grind (arith, nat_tests) }
 
 IsName-read : (name : List ℕ) (call : Call) → entry_of reads name ≡ Some call → IsName name
