@@ -22,18 +22,15 @@ use Rattle.times_bench.specs.CallWords.{entry_of, reads, call_names, call_with, 
 use Rattle.times_bench.specs.Words.{cut_at, arguments_of}
 
 -- a name in a table passes the test that all names of the table pass
-passes_first : {A : Type 0} (test : List ℕ → Bool) (table : List (List ℕ × A)) (name first : List ℕ) (value found : A) (is_first : Bool)
-    → bytes_eq name first ≡ is_first → test first ≡ true → (entry_of table name ≡ Some found → test name ≡ true)
-    → cond is_first (Some value) (entry_of table name) ≡ Some found → test name ≡ true
-passes_first test table name first value found true is e others h = ap test ((bytes_eq-Decides name first).0 is) ∙ e
-passes_first test table name first value found false is e others h = others h
-
 entry_of-passes : {A : Type 0} (test : List ℕ → Bool) (table : List (List ℕ × A)) (name : List ℕ) (found : A)
     → list_all (λ (row : List ℕ × A). test row.0) table ≡ true → entry_of table name ≡ Some found → test name ≡ true
 entry_of-passes test [] name found e h = absurd cc
 entry_of-passes {A} test (first ∷ others) name found e h =
     let both = and_parts _ _ e in
-    passes_first test others name first.0 first.1 found (bytes_eq name first.0) refl both.0 (entry_of-passes test others name found both.1) h
+    elim (bytes_eq name first.0) as (λ t. bytes_eq name first.0 ≡ t → cond t (Some first.1) (entry_of others name) ≡ Some found → test name ≡ true) [
+      | true ↦ λ is _. rw ((bytes_eq-Decides name first.0).0 is) both.0
+      | false ↦ λ _ more. entry_of-passes test others name found both.1 more
+    ] refl h
 
 -- at least three bytes, all of them ASCII
 abbrev is_name : List ℕ → Bool

@@ -6,7 +6,7 @@ use Rattle.times_bench.specs.Lines.{lines_of}
 use Rattle.times_bench.specs.LineParts.{ended_from, rest_from}
 use Rattle.times_bench.specs.Answers.{answers_of}
 use Rattle.times_bench.proofs.CutLemmas.{rest_from-append}
-use Rattle.times_bench.proofs.ReadLemmas.{Consumes-nil, Consumes-append, Consumes-keep, Consumes-none, input-end, input-begin}
+use Rattle.times_bench.proofs.ReadLemmas.{Consumes-nil, Consumes-append, Consumes-keep, input-end, input-begin}
 use Rattle.times_bench.proofs.ReadLemmas.{AnswersWritten-append, answers_of-whole_lines_of, Appends-last, AppendsBeginning-last, AppendsBeginning-block}
 use Rattle.times_bench.proofs.ReadLemmas.{AnswersBeforeMemory-last, AnswersBeforeMemory-block}
 use Rattle.times_bench.proofs.SendingLemmas.{Appends-nil}
@@ -31,18 +31,16 @@ pub returns-in-Ok-finish-clause-answers : goal.returns-in-Ok-finish-clause-answe
 returns-in-Ok-finish-clause-answers g c =
     let so_far = c.reads.invariant in
     let written = g.W.Sink.written in
-    input-end _ _ so_far.0 (λ input. Appends (written c.args.writer.now) (written c.finish.new.writer) (answers_of (lines_of input)))
-    (Consumes-none _ _ _ so_far.0 c.read_some.new.buffer c.in-Ok.count so_far.1.consumed c.in-Ok.ensures.consumed.0 c.if-count-eq0.true)
-    (c.in-Ok.ensures.consumed.1 c.if-count-eq0.true (omega arith))
+    input-end _ _ _ so_far.0 (λ input. Appends (written c.args.writer.now) (written c.finish.new.writer) (answers_of (lines_of input)))
+    so_far.1.consumed (rw c.if-count-eq0.true at c.in-Ok.ensures.consumed.0) (c.in-Ok.ensures.consumed.1 c.if-count-eq0.true (omega arith))
     (Appends-last _ (written c.reads.writer) _ so_far.0 so_far.1.sent (c.in-Ok-finish.ensures.written (rest_from [] so_far.0) so_far.1.line))
 
 pub returns-in-Err-Write-clause-beginning : goal.returns-in-Err-Write-clause-beginning
 returns-in-Err-Write-clause-beginning g c _ =
     let so_far = c.reads.invariant in
     let written = g.W.Sink.written in
-    input-end _ _ so_far.0 (λ input. AppendsBeginning (written c.args.writer.now) (written c.finish.new.writer) (answers_of (lines_of input)))
-    (Consumes-none _ _ _ so_far.0 c.read_some.new.buffer c.in-Ok.count so_far.1.consumed c.in-Ok.ensures.consumed.0 c.if-count-eq0.true)
-    (c.in-Ok.ensures.consumed.1 c.if-count-eq0.true (omega arith))
+    input-end _ _ _ so_far.0 (λ input. AppendsBeginning (written c.args.writer.now) (written c.finish.new.writer) (answers_of (lines_of input)))
+    so_far.1.consumed (rw c.if-count-eq0.true at c.in-Ok.ensures.consumed.0) (c.in-Ok.ensures.consumed.1 c.if-count-eq0.true (omega arith))
     (AppendsBeginning-last _ (written c.reads.writer) _ so_far.0 so_far.1.sent (rw c.in-Err-Write.field-0-is at
     (c.in-Err-Write.ensures.written (rest_from [] so_far.0) so_far.1.line)))
 
@@ -60,9 +58,8 @@ pub returns-in-Err-Memory-clause-memory : goal.returns-in-Err-Memory-clause-memo
 returns-in-Err-Memory-clause-memory g c _ =
     let so_far = c.reads.invariant in
     let written = g.W.Sink.written in
-    input-end _ _ so_far.0 (λ input. AnswersBeforeMemory (written c.args.writer.now) (written c.finish.new.writer) (lines_of input))
-    (Consumes-none _ _ _ so_far.0 c.read_some.new.buffer c.in-Ok.count so_far.1.consumed c.in-Ok.ensures.consumed.0 c.if-count-eq0.true)
-    (c.in-Ok.ensures.consumed.1 c.if-count-eq0.true (omega arith))
+    input-end _ _ _ so_far.0 (λ input. AnswersBeforeMemory (written c.args.writer.now) (written c.finish.new.writer) (lines_of input))
+    so_far.1.consumed (rw c.if-count-eq0.true at c.in-Ok.ensures.consumed.0) (c.in-Ok.ensures.consumed.1 c.if-count-eq0.true (omega arith))
     (AnswersBeforeMemory-last _ (written c.reads.writer) _ so_far.0 so_far.1.sent (rw c.in-Err-Memory.field-0-is at
     (c.in-Err-Memory.ensures.written (rest_from [] so_far.0) so_far.1.line)))
 

@@ -5,7 +5,7 @@ use Rattle.std.proofs.lemmas.List.{take_all, take-append-drop}
 use Rattle.times_bench.specs.Answers.{answers_of}
 use Rattle.times_bench.specs.LineParts.{HasNone, ended_from, rest_from}
 use Rattle.times_bench.specs.Writing.{Sends}
-use Rattle.times_bench.proofs.CutLemmas.{ended_from-until, rest_from-until, rest_from-line_feed}
+use Rattle.times_bench.proofs.CutLemmas.{ended_until, rest_from-line_feed}
 use Rattle.times_bench.proofs.FeedLemmas.{Sends-line, AtFault-line, WritesAnswers-flushed}
 use Rattle.times_bench.proofs.LineLemmas.{Holds-append, Holds-nil}
 use Rattle.times_bench.proofs.SendingLemmas.{Sends-nothing}
@@ -13,17 +13,11 @@ use Rattle.times_bench.proofs.lines.feed.Goals as goal
 
 line_feed_at : (block : List ℕ) (end : ℕ) → end < length block → get_or block end 0 ≡ 10 → take (end + 1) block ≡ take end block ++ 10 ∷ []
 line_feed_at block end low is =
-    rw add-one (take-suc block end 0 low ∙ ap (λ (byte : ℕ). take end block ++ byte ∷ []) is)
+    rw (add-one, take-suc block end 0 low, is) refl
 
 cut_at : (block : List ℕ) (end : ℕ) → end < length block → get_or block end 0 ≡ 10 → block ≡ (take end block ++ 10 ∷ []) ++ drop (end + 1) block
 cut_at block end low is =
-    sym (take-append-drop (end + 1) block) ∙ ap (λ (z : List ℕ). z ++ drop (end + 1) block) (line_feed_at block end low is)
-
--- up to the next line feed no line ends
-Sends-until : (a b : Option (List ℕ)) (p piece block : List ℕ) (from end : ℕ) → from ≤ end → end ≤ length block → HasNone 10 block from end
-    → Sends a b p (answers_of (ended_from piece (take from block))) → Sends a b p (answers_of (ended_from piece (take end block)))
-Sends-until a b p piece block from end low high none h =
-    subst (λ (z : List (List ℕ)). Sends a b p (answers_of z)) (sym (ended_from-until piece block from end low high none)) h
+    rw (← line_feed_at block end low is) (sym (take-append-drop (end + 1) block))
 
 pub lines-init : goal.lines-init
 unfolding ended_from rest_from
@@ -46,9 +40,9 @@ lines-preserved-then-end-block g c =
     record {
       within = found.bounds.1;
       line = λ piece h.
-          rw (rest_from-until piece block from end found.bounds.0 found.bounds.1 found.before, c.push_front_of.ensures)
+          rw ((ended_until piece block from end found.bounds.0 found.bounds.1 found.before).1, c.push_front_of.ensures)
           (Holds-append (rest_from piece (take from block)) c.lines.line _ (so_far.line piece h));
-      sent = λ piece h. Sends-until _ _ _ piece block from end found.bounds.0 found.bounds.1 found.before (so_far.sent piece h);
+      sent = λ piece h. rw (ended_until piece block from end found.bounds.0 found.bounds.1 found.before).0 (so_far.sent piece h);
       mark = so_far.mark;
     }
 
@@ -62,10 +56,10 @@ returns-in_err-end_line-clause-written g c = λ piece h.
     let found = c.place_of-end.ensures in
     let so_far = c.lines.invariant in
     let low : end < length block = omega (arith, found.bounds) in
-    let before = Sends-until _ _ _ piece block from end found.bounds.0 found.bounds.1 found.before (so_far.sent piece h) in
-    let fault = rw (← rest_from-until piece block from end found.bounds.0 found.bounds.1 found.before) at
+    let until = ended_until piece block from end found.bounds.0 found.bounds.1 found.before in
+    let fault = rw (← until.1) at
     (c.in_err-end_line.ensures.sent (rest_from piece (take from block)) (so_far.line piece h)) in
-    rw (p.1, p.2) (AtFault-line _ _ _ _ c.lines.pending piece (take end block) _ block (cut_at block end low (found.byte_there low)) before fault)
+    rw (p.1, p.2) (AtFault-line _ _ _ _ c.lines.pending piece (take end block) _ block (cut_at block end low (found.byte_there low)) (rw until.0 (so_far.sent piece h)) fault)
 
 pub lines-preserved : goal.lines-preserved
 lines-preserved g c =
@@ -81,10 +75,10 @@ lines-preserved g c =
       within = omega arith;
       line = λ piece h. rw (next, rest_from-line_feed piece read) (Holds-nil _ (c.in_ok-end_line.ensures.line refl));
       sent = λ piece h.
-          let before = Sends-until _ _ _ piece block from end found.bounds.0 found.bounds.1 found.before (so_far.sent piece h) in
-          let sent = rw (← rest_from-until piece block from end found.bounds.0 found.bounds.1 found.before) at
+          let until = ended_until piece block from end found.bounds.0 found.bounds.1 found.before in
+          let sent = rw (← until.1) at
           (c.in_ok-end_line.ensures.sent (rest_from piece (take from block)) (so_far.line piece h)) in
-          rw next (Sends-line _ _ _ c.lines.pending _ piece read before sent);
+          rw next (Sends-line _ _ _ c.lines.pending _ piece read (rw until.0 (so_far.sent piece h)) sent);
       mark = c.in_ok-end_line.ensures.mark ∙ so_far.mark;
     }
 
