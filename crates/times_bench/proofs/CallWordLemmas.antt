@@ -18,6 +18,7 @@ use Rattle.stamp_times.specs.Numbered.{month_numbered}
 use Rattle.stamp_times.specs.NumberedLemmas.{month_numbered-number}
 use Rattle.stamp_times.specs.declared.runs.calls.Call.{Call}
 use Rattle.std.proofs.lemmas.Bool.{and_parts}
+use Rattle.times_bench.specs.declared.call_words.CallName.{CallName}
 use Rattle.times_bench.specs.CallWords.{entry_of, reads, call_names, call_with, call_of_parts, call_of}
 use Rattle.times_bench.specs.Words.{cut_at, arguments_of}
 
@@ -43,31 +44,23 @@ record IsName (text : List ℕ) : Type 0 where
 IsAscii-list_all : (text : List ℕ) → list_all (λ byte. nat_lt byte 128) text ≡ true → IsAscii text
 IsAscii-list_all [] e = IsAscii-nil
 IsAscii-list_all (byte ∷ text) e =
-    let both = and_parts _ _ e in
-    IsAscii-cons byte text (grind (arith, nat_tests)) (IsAscii-list_all text both.1)
+    let both = and_parts _ _ e in IsAscii-cons byte text (grind (arith, nat_tests)) (IsAscii-list_all text both.1)
 
 IsName-is_name : (text : List ℕ) → is_name text ≡ true → IsName text
 IsName-is_name text e =
     let both = and_parts _ _ e in
     record { is_text = IsUtf8-from_ascii text (IsAscii-list_all text both.0); long = grind (arith, nat_tests) }
 
-IsName-read : (name : List ℕ) (call : Call) → entry_of reads name ≡ Some call → IsName name
-unfolding reads
-IsName-read name call e = IsName-is_name name (entry_of-passes is_name reads name call refl e)
-
-IsName-call : (name arguments : List ℕ) (call : Call)
-    → option_and_then (λ call. call_with call (arguments_of arguments)) (entry_of call_names name) ≡ Some call → IsName name
+IsName-call : (name arguments : List ℕ) (found : Option CallName) (call : Call) → entry_of call_names name ≡ found
+    → option_and_then (λ call. call_with call (arguments_of arguments)) found ≡ Some call → IsName name
 unfolding call_names
-IsName-call name arguments call e = elim (entry_of call_names name) as (λ found. entry_of call_names name ≡ found
-    → option_and_then (λ call. call_with call (arguments_of arguments)) found ≡ Some call → IsName name) [
-      | None ↦ λ is h. absurd cc
-      | Some read ↦ λ is h. IsName-is_name name (entry_of-passes is_name call_names name read refl is)
-    ] refl e
+IsName-call name arguments None call is e = absurd cc
+IsName-call name arguments (Some read) call is e = IsName-is_name name (entry_of-passes is_name call_names name read refl is)
 
 IsName-parts : (name : List ℕ) (rest : List (List ℕ)) (call : Call) → call_of_parts (name ∷ rest) ≡ Some call → IsName name
-unfolding call_of_parts
-IsName-parts name [] call e = IsName-read name call e
-IsName-parts name (arguments ∷ []) call e = IsName-call name arguments call e
+unfolding call_of_parts reads
+IsName-parts name [] call e = IsName-is_name name (entry_of-passes is_name reads name call refl e)
+IsName-parts name (arguments ∷ []) call e = IsName-call name arguments (entry_of call_names name) call refl e
 IsName-parts name (arguments ∷ next ∷ parts) call e = absurd cc
 
 -- a word that begins with no text is no call
@@ -97,9 +90,7 @@ long_parts (name ∷ next ∷ parts) call e =
 pub call_of-long : (word : List ℕ) (read : Option Call) → read ≡ call_of word → OnSome read (3 ≤ length word)
 unfolding call_of
 call_of-long word None e = tt
-call_of-long word (Some call) e =
-    let long = long_parts (cut_at 61 word) call (sym e) in
-    rw (join_with_byte-slice_split 61 word) at long
+call_of-long word (Some call) e = rw (join_with_byte-slice_split 61 word) at (long_parts (cut_at 61 word) call (sym e))
 
 -- what is cut off has parts of its own
 pub some_parts : (separator : ℕ) (rest : Option (Bor (List ℕ))) → is_some rest ≡ true → 0 < length (option_map_or (λ text. cut_at separator text.now) rest [])

@@ -1,5 +1,5 @@
 -- The answers to the lines of a block, which a failed write or a lack of memory may end.
-use Rattle.std.proofs.Common.{◌≡◌, ◌≢◌, ℕ, ◌<◌, ◌≤◌, IsTrue, Bool, true, false, cond, nat_lt, take, List, [], ◌∷◌, ◌++◌, length, Option, None, Result, refl}
+use Rattle.std.proofs.Common.{◌≡◌, ◌≢◌, ℕ, ◌≤◌, IsTrue, Bool, true, false, nat_lt, take, List, [], ◌∷◌, ◌++◌, length, Option, Result, refl}
 use Rattle.std.proofs.Common.{sym, ◌∙◌, ap, subst, arith, append_assoc, append-nil}
 use Rattle.std.specs.Prelude.{MatchResult}
 use Rattle.std.specs.Io.KnownBytes.{Appends}
@@ -29,7 +29,7 @@ answers_of-append piece xs ys =
 pub answers_of-line_feed : (piece xs : List ℕ)
     → answers_of (ended_from piece (xs ++ 10 ∷ [])) ≡ answers_of (ended_from piece xs) ++ answer_of (rest_from piece xs)
 answers_of-line_feed piece xs =
-    rw (ended_from-line_feed piece xs, ← append-nil (answer_of (rest_from piece xs))) (flat_map-append answer_of (ended_from piece xs) (rest_from piece xs ∷ []))
+    rw (ended_from-line_feed piece xs, ← append-nil (answer_of (rest_from piece xs))) (flat_map-append answer_of (ended_from piece xs) (_ ∷ []))
 
 -- a line that is too long is not whole in its table, and asks for nothing there either
 request_of-cut : (piece : List ℕ) (is_long : Bool) → nat_lt 1024 (length piece) ≡ is_long → request_of (take 1025 piece) ≡ request_of piece

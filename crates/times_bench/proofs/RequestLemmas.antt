@@ -1,9 +1,9 @@
 -- What the words of a line ask for.
-use Rattle.std.proofs.Common.{◌≡◌, ◌≢◌, ℕ, ◌+◌, ◌*◌, ◌<◌, ◌≤◌, Bool, true, false, cond, ◌&&◌, nat_lt, nat_eq, List, [], ◌∷◌, ◌++◌, length, Option, Some, None}
-use Rattle.std.proofs.Common.{refl, sym, ◌∙◌, ap, arith, ◌-◌, ◌^◌, ℤ, pos, neg_ℤ, append_assoc, append-nil, Bor}
+use Rattle.std.proofs.Common.{◌≡◌, ◌≢◌, ℕ, ◌+◌, ◌<◌, ◌≤◌, true, false, cond, nat_lt, nat_eq, List, [], ◌∷◌, ◌++◌, length, Option, Some, None}
+use Rattle.std.proofs.Common.{refl, sym, ◌∙◌, ap, arith, append_assoc, append-nil, Bor}
 use Rattle.std.specs.Prelude.{codes}
 use Rattle.std.specs.Char.{is_ascii_digit}
-use Rattle.std.specs.List.{join_with_byte, list_all}
+use Rattle.std.specs.List.{join_with_byte}
 use Rattle.std.specs.Option.{option_map, option_map_or, option_and_then}
 use Rattle.std.specs.Str.{bytes_eq}
 use Rattle.std.proofs.lemmas.Bool.{and_right, false_from_ne_true}
@@ -14,7 +14,7 @@ use Rattle.std.proofs.lemmas.Slice.Eq.{bytes_eq-Decides}
 use Rattle.std.proofs.lemmas.List.{length-append}
 use Rattle.times_bench.specs.declared.requests.Command.{Command}
 use Rattle.times_bench.specs.declared.requests.Command.TheVariants as command
-use Rattle.times_bench.specs.Numbers.{number_digits, is_numeral, number_of, number_in, i64_of}
+use Rattle.times_bench.specs.Numbers.{number_digits, is_numeral, number_of, i64_of}
 use Rattle.times_bench.specs.Requests.{Unix, unix_request, stamp_request, parse_instant, run_request, chain_request, request_of_command, command_of_word}
 use Rattle.times_bench.specs.Requests.{request_of_words, request_of}
 use Rattle.times_bench.specs.Words.{words_of, words_left, bytes_left, exactly_one, exactly_two, all_of}

@@ -1,6 +1,6 @@
 -- Writing one text after another.
 use Rattle.std.proofs.Common.{ℕ, ◌+◌, List, [], ◌++◌, length-append, take, drop, Option, Some, None, refl, sym, ◌∙◌, ap}
-use Rattle.std.proofs.Common.{subst, arith, append_assoc, append-nil}
+use Rattle.std.proofs.Common.{arith, append_assoc, append-nil}
 use Rattle.std.specs.Io.KnownBytes.{Appends}
 use Rattle.std.proofs.Math.Seq.{take-add}
 use Rattle.times_bench.specs.Progress.{AtFault}

@@ -3,14 +3,11 @@ use Rattle.std.proofs.Common.{◌≡◌, ◌≢◌, ℕ, ◌+◌, ◌*◌, ◌-�
 use Rattle.std.proofs.Common.{◌∙◌, ap, arith, ℤ, neg_ℤ, Option, Some, None, Result, subst}
 use Rattle.std.specs.Char.{is_ascii_digit}
 use Rattle.std.specs.Option.{option_map}
-use Rattle.std.proofs.lemmas.Bool.Decides.{nat_tests}
-use Rattle.std.specs.Prelude.{codes, OkIff}
+use Rattle.std.specs.Prelude.{OkIff}
 use Rattle.std.specs.Result.{result_ok}
-use Rattle.std.specs.Str.{bytes_eq}
 use Rattle.std.proofs.lemmas.Result.{Ok-from_Ok_iff}
 use Rattle.calendar_values.specs.Offsets.{IsOffset}
-use Rattle.stamp_times.specs.declared.chains.steps.Step.TheVariants.{ToStamp, ToUtc, ToOffset}
-use Rattle.times_bench.specs.StepWords.{two_digits, seconds_of_words, parse_offset, step_of}
+use Rattle.times_bench.specs.StepWords.{two_digits, seconds_of_words, parse_offset}
 use Rattle.times_bench.specs.Words.{cut_at, exactly_one, exactly_two, exactly_three}
 use Rattle.times_bench.proofs.WordLemmas.{length-cut_at}
 
@@ -54,7 +51,8 @@ signed_length false false None text seconds is e = absurd cc
 pub parse_offset-length : (word : List ℕ) (offset : ℤ) → parse_offset word ≡ Some offset → 3 ≤ length word
 unfolding parse_offset
 parse_offset-length [] offset e = absurd cc
-parse_offset-length (sign ∷ text) offset e = omega (arith, signed_length (nat_eq sign 43) (nat_eq sign 45) (seconds_of_words (cut_at 58 text)) text offset refl e)
+parse_offset-length (sign ∷ text) offset e =
+    omega (arith, signed_length (nat_eq sign 43) (nat_eq sign 45) (seconds_of_words (cut_at 58 text)) text offset refl e)
 
 -- the offset of seconds that lie in its range
 pub offset_made : {E : Type 0} (made : Result ℤ E) (z seconds : ℤ) → OkIff made (IsOffset z) z → z ≡ seconds → IsOffset seconds → result_ok made ≡ Some seconds

@@ -1,4 +1,4 @@
-use Rattle.std.proofs.Common.{refl, ◌≡◌, ◌∙◌, ℕ, IsTrue, List, [], ◌∷◌, ◌++◌, Option, ap, append_assoc, subst}
+use Rattle.std.proofs.Common.{refl, ◌≡◌, IsTrue, [], ◌∷◌, ◌++◌, Option, append_assoc, subst}
 use Rattle.std.proofs.lemmas.Result.{err_from_is_err_and}
 use Rattle.times_bench.specs.Answers.{answer_to, answer_of, request_takes_memory, takes_memory}
 use Rattle.times_bench.specs.Requests.{Request, request_of_command, request_of}
@@ -23,14 +23,14 @@ returns c =
     let old = c.args.pending.now in
     let request = request_of c.args.line.now in
     let answered : c.match-command_of.pending ≡ old ++ answer_to request = elim c.match-command_of.branch [
-      | in-Some-Unix-default w ↦ let known = rw w.in-Some-Unix-default.field-0-0-is at w.in-Some-Unix-default.ensures.request in
-          rw (w.pending-is, w.answer_unix.ensures.answer, known) refl
-      | in-Some-Stamp-default w ↦ let known = rw w.in-Some-Stamp-default.field-0-0-is at w.in-Some-Stamp-default.ensures.request in
-          rw (w.pending-is, w.answer_stamp.ensures.answer, known) refl
-      | in-Some-Run-default+in_ok-answer_run-in-Some-Run-default w ↦ let known = rw w.in-Some-Run-default.field-0-0-is at w.in-Some-Run-default.ensures.request in
-          rw (w.pending-is, w.in_ok-answer_run-in-Some-Run-default.ensures.answer, known) refl
-      | in-Some-Chain-default w ↦ let known = rw w.in-Some-Chain-default.field-0-0-is at w.in-Some-Chain-default.ensures.request in
-          rw (w.pending-is, w.answer_chain.ensures.answer, known) refl
+      | in-Some-Unix-default w ↦ let arm = w.in-Some-Unix-default in
+          rw (w.pending-is, w.answer_unix.ensures.answer, rw arm.field-0-0-is at arm.ensures.request) refl
+      | in-Some-Stamp-default w ↦ let arm = w.in-Some-Stamp-default in
+          rw (w.pending-is, w.answer_stamp.ensures.answer, rw arm.field-0-0-is at arm.ensures.request) refl
+      | in-Some-Run-default+in_ok-answer_run-in-Some-Run-default w ↦ let arm = w.in-Some-Run-default in
+          rw (w.pending-is, w.in_ok-answer_run-in-Some-Run-default.ensures.answer, rw arm.field-0-0-is at arm.ensures.request) refl
+      | in-Some-Chain-default w ↦ let arm = w.in-Some-Chain-default in
+          rw (w.pending-is, w.answer_chain.ensures.answer, rw arm.field-0-0-is at arm.ensures.request) refl
       | in-None w ↦ rw (w.pending-is, w.push_all.ensures, ← (rw w.in-None.is at c.command_of.ensures.request)) refl
     ] in
     rw (c.push.ensures, answered) (append_assoc old (answer_to request) (10 ∷ []))

@@ -1,4 +1,4 @@
-use Rattle.std.proofs.Common.{refl, ◌∙◌, ◌++◌, List, ℕ, ap, sym, arith, codes, flat_map, append-nil}
+use Rattle.std.proofs.Common.{refl, ◌++◌, List, ℕ, sym, arith, codes, append-nil}
 use Rattle.std.proofs.lemmas.List.{take_all}
 use Rattle.stamp_times.specs.declared.runs.calls.Reply.{Reply}
 use Rattle.times_bench.specs.ReplyTexts.{reply_text}
@@ -18,8 +18,8 @@ replies-init c = record { put = sym (append-nil c.args.pending.now); room = omeg
 pub replies-preserved : goal.replies-preserved
 replies-preserved c = record {
   put =
-      rw (c.put_text.ensures.text, c.replies.invariant.put) (flat_map-next ended c.args.pending.now c.ended_text.result c.args.replies.now c.replies.reply-index c.reply-item.result (omega arith)
-      c.reply-item.is c.ended_text.ensures);
+      rw (c.put_text.ensures.text, c.replies.invariant.put)
+      (flat_map-next ended _ c.ended_text.result c.args.replies.now c.replies.reply-index _ (omega arith) c.reply-item.is c.ended_text.ensures);
   room = omega arith;
 }
 

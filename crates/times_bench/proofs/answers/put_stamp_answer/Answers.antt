@@ -1,10 +1,7 @@
 use Rattle.std.specs.Int.{w64}
-use Rattle.std.specs.Prelude.{codes}
-use Rattle.std.proofs.Common.{refl, append_assoc, ◌∙◌, ℤ, ℕ, List, ◌++◌, ap, sym}
+use Rattle.std.proofs.Common.{refl, append_assoc}
 use Rattle.std.proofs.lemmas.Int.{to_z-of_z}
-use Rattle.utc_times.specs.Texts.{utc_text}
-use Rattle.utc_times.specs.UnixTime.{unix_instant}
-use Rattle.times_bench.specs.Answers.{with_instant_nanosecond, text_or_refusal, stamp_text, stamp_answer}
+use Rattle.times_bench.specs.Answers.{stamp_answer}
 use Rattle.times_bench.proofs.answers.put_stamp_answer.Goals as goal
 
 pub returns-in-Ok-clause-answer : goal.returns-in-Ok-clause-answer

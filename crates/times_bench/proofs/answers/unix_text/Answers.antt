@@ -1,11 +1,7 @@
 use Rattle.std.specs.Int.{w64}
-use Rattle.std.specs.Prelude.{codes}
-use Rattle.std.proofs.Common.{refl, ◌∙◌, ℕ, List, ◌++◌, ap, sym}
+use Rattle.std.proofs.Common.{refl}
 use Rattle.std.proofs.lemmas.Int.{to_z-of_z}
-use Rattle.calendar_values.specs.Refusals.{Refusal}
-use Rattle.utc_times.specs.Texts.{utc_text}
-use Rattle.utc_times.specs.UnixTime.{unix_instant}
-use Rattle.times_bench.specs.Answers.{text_or_refusal, unix_answer}
+use Rattle.times_bench.specs.Answers.{unix_answer}
 use Rattle.times_bench.proofs.answers.unix_text.Goals as goal
 
 pub returns-in-Ok : goal.returns-in-Ok

@@ -1,15 +1,14 @@
-use Rattle.std.proofs.Common.{arith, ◌<◌, ◌^◌, length, take}
-use Rattle.std.specs.Str.Parse.{digits_value}
+use Rattle.std.proofs.Common.{arith, ◌<◌, length, take}
+use Rattle.std.proofs.lemmas.Str.Parse.{digit_at}
 use Rattle.std.proofs.lemmas.List.{length-take, take_all}
-use Rattle.std.proofs.lemmas.Int.{to_z_pos}
 use Rattle.calendar_values.specs.SignedArith.{signed_arith, signed_casts}
-use Rattle.times_bench.proofs.NumberLemmas.{digits_below, IsValueOf-more, IsNumeral-byte}
+use Rattle.times_bench.proofs.NumberLemmas.{digits_below, IsValueOf-more}
 use Rattle.times_bench.proofs.numbers.parse_digits.Goals as goal
 use Rattle.times_bench.proofs.numbers.parse_digits.Goals.{then-byte-lt48-via-then-byte-lt48, then-byte-lt48-via-else-byte-lt48+then-byte-gt57}
 
 pub returns-then-byte-lt48 : goal.returns-then-byte-lt48
 returns-then-byte-lt48 c = λ n.
-    let h = IsNumeral-byte c.args.text.now c.loop-byte.byte-index (omega arith) n in
+    let h = digit_at c.args.text.now c.loop-byte.byte-index n.1 (omega arith) in
     elim c.then-byte-lt48.branch [
       | then-byte-lt48-via-then-byte-lt48 w ↦ omega (arith, w.if-byte-lt48, h)
       | then-byte-lt48-via-else-byte-lt48+then-byte-gt57 w ↦ omega (arith, w.if-byte-gt57, h)

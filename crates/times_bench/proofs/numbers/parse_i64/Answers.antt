@@ -1,5 +1,4 @@
-use Rattle.std.proofs.Common.{rules, arith, length, ◌≤◌, ◌≡◌, ◌∙◌, ap, sym, List, ℕ, ◌++◌, ◌∷◌, Some, None}
-use Rattle.std.specs.Prelude.{codes}
+use Rattle.std.proofs.Common.{rules, arith, length, ◌≤◌, ◌≡◌, ◌∙◌, ◌∷◌, Some, None}
 use Rattle.calendar_values.specs.SignedArith.{signed_arith}
 use Rattle.std.proofs.lemmas.Bool.Decides.{Decides-eqb}
 use Rattle.std.proofs.lemmas.Slice.Eq.{strip_prefix_is}

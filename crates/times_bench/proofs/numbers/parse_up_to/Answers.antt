@@ -1,4 +1,4 @@
-use Rattle.std.proofs.Common.{rules, arith, refl, true, false, to_z, of_z, ◌≡◌, ◌∙◌, ◌≤ℤ◌, sym, pos, None, Some, w64, FitsSigned}
+use Rattle.std.proofs.Common.{rules, arith, refl, true, false, ◌≡◌, ◌∙◌, sym, pos, None, Some, w64, FitsSigned}
 use Rattle.std.proofs.lemmas.Int.{to_z-of_z}
 use Rattle.calendar_values.specs.Range.{is_outside}
 use Rattle.calendar_values.specs.SignedArith.{signed_casts}

@@ -1,4 +1,4 @@
-use Rattle.std.proofs.Common.{rules, arith, ◌≡◌, ◌≢◌, ◌∙◌, sym, ap, neg_ℤ, pos, ◌≤ℤ◌, ◌-ℤ◌, w32, to_z, of_z}
+use Rattle.std.proofs.Common.{rules, arith, ◌≡◌, ◌≢◌, ◌∙◌, ap, neg_ℤ, pos, ◌-ℤ◌, w32, to_z, of_z}
 use Rattle.std.specs.Option.{option_map}
 use Rattle.calendar_values.specs.SignedArith.{signed_casts}
 use Rattle.std.proofs.lemmas.Bool.Decides.{nat_tests}
