@@ -72,26 +72,10 @@ length-words text word (Some next) e =
 abbrev pub AllSoFar : {A : Type 0} → (List ℕ → Option A) → Option (List A) → List A → List (List ℕ) → Type 0
 AllSoFar read all items words = all ≡ option_map (λ more. items ++ more) (all_of read words)
 
-pub AllSoFar-next : {A : Type 0} (read : List ℕ → Option A) (all : Option (List A)) (items new : List A) (words rest : List (List ℕ)) (word : List ℕ) (item : A)
-    → AllSoFar read all items words → words ≡ word ∷ rest → read word ≡ Some item → new ≡ items ++ item ∷ [] → AllSoFar read all new rest
-unfolding all_of
-AllSoFar-next {A} read all items new words rest word item so_far cut known grown =
-    rw grown ((rw (cut, known) at so_far) ∙ onto (all_of read rest))
-  where
-    onto : (others : Option (List A))
-        → option_map (λ more. items ++ more) (option_map (λ others. item ∷ others) others) ≡ option_map (λ more. (items ++ item ∷ []) ++ more) others
-    onto None = refl
-    onto (Some others) = ap Some (sym (append_assoc items (item ∷ []) others))
-
-pub AllSoFar-none : {A : Type 0} (read : List ℕ → Option A) (all : Option (List A)) (items : List A) (words rest : List (List ℕ)) (word : List ℕ)
-    → AllSoFar read all items words → words ≡ word ∷ rest → read word ≡ None → all ≡ None
-unfolding all_of
-AllSoFar-none read all items words rest word so_far cut unknown = rw (cut, unknown) at so_far
-
-pub AllSoFar-end : {A : Type 0} (read : List ℕ → Option A) (all : Option (List A)) (items : List A) (words : List (List ℕ)) → AllSoFar read all items words
-    → words ≡ [] → all ≡ Some items
-unfolding all_of
-AllSoFar-end {A} read all items words so_far e = (rw e at so_far) ∙ ap Some (append-nil items)
+pub items-next : {A : Type 0} (items : List A) (item : A) (others : Option (List A))
+    → option_map (λ more. items ++ more) (option_map (λ others. item ∷ others) others) ≡ option_map (λ more. (items ++ item ∷ []) ++ more) others
+items-next items item None = refl
+items-next items item (Some others) = ap Some (sym (append_assoc items (item ∷ []) others))
 
 -- a line of at most 1,024 bytes is read by its words
 pub request_of-front : (line text : List ℕ) → length line ≤ 1024 → line ≡ text → request_of line ≡ request_of_words (words_of text)
@@ -103,18 +87,16 @@ unfolding request_of
 request_of-long line long = let over : nat_lt 1024 (length line) ≡ true = grind (arith, nat_tests) in rw over refl
 
 -- a line that begins with no kind of request
-abbrev pub BeginsOtherwise : List ℕ → List ℕ → Type 0
-BeginsOtherwise line front = (rest : List ℕ) → line ≢ front ++ rest
-
 abbrev pub AsksNothing : List ℕ → Type 0
-AsksNothing line = BeginsOtherwise line (codes "unix ") × BeginsOtherwise line (codes "stamp ") × BeginsOtherwise line (codes "run ")
-    × BeginsOtherwise line (codes "chain ")
+AsksNothing line = (rest : List ℕ) → (line ≢ codes "unix " ++ rest) × (line ≢ codes "stamp " ++ rest) × (line ≢ codes "run " ++ rest)
+    × (line ≢ codes "chain " ++ rest)
 
 command_of_word-other : (word rest line : List ℕ) → word ++ 32 ∷ rest ≡ line → AsksNothing line → command_of_word word ≡ None
 command_of_word-other word rest line e none =
     let other : (front : List ℕ) → ¬ (line ≡ front ++ 32 ∷ rest) → bytes_eq word front ≡ false =
     (λ front h. false_from_ne_true _ (λ is. h (sym e ∙ ap (λ (z : List ℕ). z ++ 32 ∷ rest) ((bytes_eq-Decides word front).0 is)))) in
-    rw (other (codes "unix") (none.0 rest), other (codes "stamp") (none.1 rest), other (codes "run") (none.2 rest), other (codes "chain") (none.3 rest)) refl
+    let no = none rest in
+    rw (other (codes "unix") no.0, other (codes "stamp") no.1, other (codes "run") no.2, other (codes "chain") no.3) refl
 
 -- a first word alone asks for nothing
 request_of_command-alone : (asked : Option Command) → option_and_then (λ k. request_of_command k []) asked ≡ None

@@ -13,9 +13,8 @@ unfolding takes_memory
 returns-in_err-answer_run-in-Some-Run-default c =
     let p = err_from_is_err_and c.from_residual.result c.from_residual.ensures.1 in
     let arm = c.in-Some-Run-default in
-    let request : request_of_command command.Run (words_of arm.words.now) ≡ request_of c.args.line.now = rw arm.field-0-0-is at arm.ensures.request in
-    let short = c.in_err-answer_run-in-Some-Run-default.ensures.answer in
-    rw p.1 (short.0, subst (λ (z : Option Request). IsTrue (request_takes_memory z)) request short.1)
+    let request = rw arm.field-0-0-is at arm.ensures.request in
+    rw (p.1, ← request) c.in_err-answer_run-in-Some-Run-default.ensures.answer
 
 pub returns : goal.returns
 unfolding answer_of

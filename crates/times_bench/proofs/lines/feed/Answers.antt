@@ -6,7 +6,7 @@ use Rattle.times_bench.specs.LineParts.{ended_from, rest_from}
 use Rattle.times_bench.specs.Writing.{Sends}
 use Rattle.times_bench.proofs.CutLemmas.{ended_until, rest_from-line_feed}
 use Rattle.times_bench.proofs.FeedLemmas.{Sends-line, AtFault-line, WritesAnswers-flushed}
-use Rattle.times_bench.proofs.LineLemmas.{Holds-append, Holds-nil}
+use Rattle.times_bench.proofs.LineLemmas.{Holds-append}
 use Rattle.times_bench.proofs.SendingLemmas.{Sends-nothing}
 use Rattle.times_bench.proofs.lines.feed.Goals as goal
 
@@ -64,7 +64,7 @@ lines-preserved g c =
     let next = line_feed_at block end low (found.byte_there low) in
     record {
       within = omega arith;
-      line = λ piece h. rw (next, rest_from-line_feed piece (take end block)) (Holds-nil _ (c.in_ok-end_line.ensures.line refl));
+      line = λ piece h. rw (next, rest_from-line_feed piece (take end block)) (c.in_ok-end_line.ensures.line refl);
       sent = λ piece h.
           let until = ended_until piece block c.lines.place end found.bounds.0 found.bounds.1 found.before in
           let sent = rw (← until.1) at (c.in_ok-end_line.ensures.sent (rest_from piece (take c.lines.place block)) (so_far.line piece h)) in

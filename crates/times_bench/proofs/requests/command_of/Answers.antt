@@ -34,4 +34,4 @@ returns-clause-request c =
     let no_stamp = rw c.as_slice-2.ensures at (strip_prefix_is Decides-eqb line _ None c.in_default-strip_prefix.ensures.cases) in
     let no_run = rw c.as_slice-3.ensures at (strip_prefix_is Decides-eqb line _ None c.in_default-strip_prefix-2.ensures.cases) in
     let no_chain = rw c.as_slice-4.ensures at (strip_prefix_is Decides-eqb line _ None c.in_default-strip_prefix-3.ensures.cases) in
-    sym (request_of-other line (omega arith) (no_unix, no_stamp, no_run, no_chain))
+    sym (request_of-other line (omega arith) (λ rest. (no_unix rest, no_stamp rest, no_run rest, no_chain rest)))
