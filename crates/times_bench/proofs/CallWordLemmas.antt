@@ -19,6 +19,7 @@ use Rattle.stamp_times.specs.NumberedLemmas.{month_numbered-number}
 use Rattle.stamp_times.specs.declared.runs.calls.Call.{Call}
 use Rattle.std.proofs.lemmas.Bool.{and_parts}
 use Rattle.times_bench.specs.declared.call_words.CallName.{CallName}
+use Rattle.times_bench.proofs.WordLemmas.{length-cut_at-some}
 use Rattle.times_bench.specs.CallWords.{entry_of, reads, call_names, call_with, call_of_parts, call_of}
 use Rattle.times_bench.specs.Words.{cut_at, arguments_of}
 
@@ -37,9 +38,8 @@ entry_of-passes {A} test (first ∷ others) name found e h =
 abbrev is_name : List ℕ → Bool
 is_name text = list_all (λ byte. nat_lt byte 128) text && nat_lt 2 (length text)
 
-record IsName (text : List ℕ) : Type 0 where
-  is_text : IsUtf8 text
-  long : 3 ≤ length text
+abbrev IsName : List ℕ → Type 0
+IsName text = IsUtf8 text × (3 ≤ length text)
 
 IsAscii-list_all : (text : List ℕ) → list_all (λ byte. nat_lt byte 128) text ≡ true → IsAscii text
 IsAscii-list_all [] e = IsAscii-nil
@@ -49,7 +49,7 @@ IsAscii-list_all (byte ∷ text) e =
 IsName-is_name : (text : List ℕ) → is_name text ≡ true → IsName text
 IsName-is_name text e =
     let both = and_parts _ _ e in
-    record { is_text = IsUtf8-from_ascii text (IsAscii-list_all text both.0); long = grind (arith, nat_tests) }
+    (IsUtf8-from_ascii text (IsAscii-list_all text both.0), grind (arith, nat_tests))
 
 IsName-call : (name arguments : List ℕ) (found : Option CallName) (call : Call) → entry_of call_names name ≡ found
     → option_and_then (λ call. call_with call (arguments_of arguments)) found ≡ Some call → IsName name
@@ -76,31 +76,29 @@ not_text text (Err refusal) IsRead IsRefused h e = h.0
 pub call_of-not_text : (word name : List ℕ) (rest : List (List ℕ)) → cut_at 61 word ≡ name ∷ rest → ¬ (IsUtf8 name) → call_of word ≡ None
 unfolding call_of
 call_of-not_text word name rest e h =
-    ap call_of_parts e ∙ none_unless (call_of_parts (name ∷ rest)) (λ call is. let is_name = IsName-parts name rest call is in h is_name.is_text)
+    ap call_of_parts e ∙ none_unless (call_of_parts (name ∷ rest)) (λ call is. h (IsName-parts name rest call is).0)
 
 -- a call has at least three bytes
 long_parts : (parts : List (List ℕ)) (call : Call) → call_of_parts parts ≡ Some call → 3 ≤ length (join_with_byte 61 parts)
 unfolding call_of_parts
 long_parts [] call e = absurd cc
-long_parts (name ∷ []) call e = let is_name = IsName-parts name [] call e in omega arith
+long_parts (name ∷ []) call e = (IsName-parts name [] call e).1
 long_parts (name ∷ next ∷ parts) call e =
-    let is_name = IsName-parts name (next ∷ parts) call e in
-    omega (arith, length-append name (61 ∷ join_with_byte 61 (next ∷ parts)))
+    omega (arith, (IsName-parts name (next ∷ parts) call e).1, length-append name (61 ∷ join_with_byte 61 (next ∷ parts)))
 
 pub call_of-long : (word : List ℕ) (read : Option Call) → read ≡ call_of word → OnSome read (3 ≤ length word)
 unfolding call_of
 call_of-long word None e = tt
 call_of-long word (Some call) e = rw (join_with_byte-slice_split 61 word) at (long_parts (cut_at 61 word) call (sym e))
 
--- what is cut off has parts of its own
-pub some_parts : (separator : ℕ) (rest : Option (Bor (List ℕ))) → is_some rest ≡ true → 0 < length (option_map_or (λ text. cut_at separator text.now) rest [])
-some_parts separator None e = absurd cc
-some_parts separator (Some text) e = omega (arith, length-slice_split (λ byte. byte == separator) text.now)
-
-pub call_of_parts-more : (name arguments : List ℕ) (rest : List (List ℕ)) → 0 < length rest → call_of_parts (name ∷ arguments ∷ rest) ≡ None
+-- a call has no third part: what is cut off has parts of its own
+pub call_of_parts-more : (name arguments : List ℕ) (rest : Option (Bor (List ℕ))) → is_some rest ≡ true
+    → call_of_parts (name ∷ arguments ∷ option_map_or (λ text. cut_at 61 text.now) rest []) ≡ None
 unfolding call_of_parts
-call_of_parts-more name arguments [] some = absurd (omega arith)
-call_of_parts-more name arguments (next ∷ rest) some = refl
+call_of_parts-more name arguments None e = absurd cc
+call_of_parts-more name arguments (Some text) e =
+    elim (cut_at 61 text.now) as (λ parts. 0 < length parts → call_of_parts (name ∷ arguments ∷ parts) ≡ None)
+    [ [] ↦ λ some. absurd (omega arith) | next ∷ parts ↦ λ some. refl ] (length-cut_at-some 61 text.now)
 
 -- the month of a number
 pub month_tried : {E : Type 0} (number : ℕ) (tried : Result Month E) → (IsOk tried ↔ ((1 ≤ number) × (number ≤ 12)))

@@ -41,10 +41,6 @@ request_of-cut piece true e =
 request_of-cut piece false e =
     let short : length piece ≤ 1024 = grind (arith, nat_tests) in rw (take_all 1025 piece (omega arith)) refl
 
--- what a table holds of a line asks for what the line asks for
-pub request_of-held : (piece line : List ℕ) → Holds piece line → request_of line ≡ request_of piece
-request_of-held piece line h = ap request_of h ∙ request_of-cut piece (nat_lt 1024 (length piece)) refl
-
 -- a line is answered
 pub Sends-line : (a b c : Option (List ℕ)) (p q piece xs : List ℕ) → Sends a b p (answers_of (ended_from piece xs))
     → Sends b c q (p ++ answer_of (rest_from piece xs)) → Sends a c q (answers_of (ended_from piece (xs ++ 10 ∷ [])))
@@ -98,13 +94,7 @@ unless_empty-some (byte ∷ piece) some = refl
 -- a part of a block ends the line whose beginning the table holds
 pub request_of-pushed : (piece line part bytes : List ℕ) → Holds piece line → bytes ≡ take 1025 (line ++ part) → request_of bytes ≡ request_of (piece ++ part)
 request_of-pushed piece line part bytes h e =
-    request_of-held (piece ++ part) bytes (e ∙ Holds-append piece line part h)
-
--- the answers to lines and then to more lines
-pub AppendsBeginning-more : (a b : Option (List ℕ)) (lines more : List (List ℕ)) → AppendsBeginning a b (answers_of lines)
-    → AppendsBeginning a b (answers_of (lines ++ more))
-AppendsBeginning-more a b lines more h =
-    rw (flat_map-append answer_of lines more) (AppendsBeginning-longer a b (answers_of lines) (answers_of more) h)
+    rw (e ∙ Holds-append piece line part h) (request_of-cut (piece ++ part) (nat_lt 1024 (length (piece ++ part))) refl)
 
 -- lines stand before
 pub AnswersBeforeMemory-append : (a b c : Option (List ℕ)) (before lines : List (List ℕ)) → Appends a b (answers_of before)

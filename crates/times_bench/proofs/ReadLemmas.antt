@@ -9,8 +9,8 @@ use Rattle.times_bench.specs.Lines.{lines_of, whole_lines_of, unless_empty}
 use Rattle.times_bench.specs.LineParts.{ended_from, rest_from}
 use Rattle.times_bench.specs.Answers.{answer_of, answers_of}
 use Rattle.times_bench.proofs.CutLemmas.{lines_of-parts, lines_of-append, whole_lines_of-parts}
-use Rattle.times_bench.proofs.FeedLemmas.{answers_of-append, AnswersBeforeMemory-append, AnswersBeforeMemory-longer, AppendsBeginning-more}
-use Rattle.times_bench.proofs.SendingLemmas.{Appends-append, AppendsBeginning-append}
+use Rattle.times_bench.proofs.FeedLemmas.{answers_of-append, AnswersBeforeMemory-append, AnswersBeforeMemory-longer}
+use Rattle.times_bench.proofs.SendingLemmas.{AppendsBeginning-longer, Appends-append, AppendsBeginning-append}
 
 pub Consumes-nil : (a : Option (List ℕ)) → Consumes a a []
 Consumes-nil None = tt
@@ -78,10 +78,9 @@ AnswersBeforeMemory-last a b c taken h k = rw (lines_of-parts taken) (AnswersBef
 pub AppendsBeginning-block : (a b c : Option (List ℕ)) (taken block rest : List ℕ) → AnswersWritten a b taken
     → AppendsBeginning b c (answers_of (ended_from (rest_from [] taken) block)) → AppendsBeginning a c (answers_of (lines_of ((taken ++ block) ++ rest)))
 AppendsBeginning-block a b c taken block rest h k =
-    let before = ended_from [] taken in
     let lines = ended_from (rest_from [] taken) block in
-    rw (lines_of-append taken block rest)
-    (AppendsBeginning-more a c (before ++ lines) _ (rw (flat_map-append answer_of before lines) (AppendsBeginning-append a b c _ _ h k)))
+    rw (lines_of-append taken block rest, flat_map-append answer_of (ended_from [] taken ++ lines) _, flat_map-append answer_of (ended_from [] taken) lines)
+    (AppendsBeginning-longer a c _ _ (AppendsBeginning-append a b c _ _ h k))
 
 -- a line of a block takes memory, and so it stands in the input
 pub AnswersBeforeMemory-block : (a b c : Option (List ℕ)) (taken block rest : List ℕ) → AnswersWritten a b taken
