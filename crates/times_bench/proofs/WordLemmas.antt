@@ -1,5 +1,5 @@
 -- Words, cut at a separator.
-use Rattle.std.proofs.Common.{◌≡◌, ◌≢◌, ℕ, ◌+◌, ◌<◌, ◌≤◌, true, false, ◌==◌, get_or, take, drop, List, [], ◌∷◌, ◌++◌, length, refl, ◌∙◌, ap, subst, arith, None}
+use Rattle.std.proofs.Common.{◌≡◌, ◌≢◌, ℕ, ◌+◌, ◌<◌, ◌≤◌, true, false, ◌==◌, get_or, take, drop, List, [], ◌∷◌, ◌++◌, length, refl, ◌∙◌, ap, arith, None}
 use Rattle.std.specs.Prelude.{All}
 use Rattle.std.proofs.lemmas.Bool.Decides.{nat_tests}
 use Rattle.std.proofs.lemmas.Grind.{common_steps}
@@ -20,7 +20,7 @@ All-none separator text end high h k d low =
 -- a text without a separator is one word
 pub cut_at-none : (separator : ℕ) (text : List ℕ) → HasNone separator text 0 (length text) → cut_at separator text ≡ text ∷ []
 cut_at-none separator text h =
-    slice_split_none (λ byte. byte == separator) text (rw (take_all (length text) text (omega arith)) at (All-none separator text (length text) (omega arith) h))
+    slice_split_none (λ b. b == separator) text (rw (take_all (length text) text (omega arith)) at (All-none separator text (length text) (omega arith) h))
 
 -- the first separator ends the first word
 pub cut_at-first : (separator : ℕ) (text : List ℕ) (end : ℕ) → end < length text → HasNone separator text 0 end → get_or text end 0 ≡ separator

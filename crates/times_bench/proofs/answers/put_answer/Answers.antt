@@ -1,9 +1,7 @@
-use Rattle.std.proofs.Common.{refl, ◌≡◌, IsTrue, [], ◌∷◌, ◌++◌, Option, append_assoc, subst}
+use Rattle.std.proofs.Common.{refl, ◌≡◌, [], ◌∷◌, ◌++◌, append_assoc}
 use Rattle.std.proofs.lemmas.Result.{err_from_is_err_and}
-use Rattle.times_bench.specs.Answers.{answer_to, answer_of, request_takes_memory, takes_memory}
-use Rattle.times_bench.specs.Requests.{Request, request_of_command, request_of}
-use Rattle.times_bench.specs.Words.{words_of}
-use Rattle.times_bench.specs.declared.requests.Command.TheVariants as command
+use Rattle.times_bench.specs.Answers.{answer_to, answer_of, takes_memory}
+use Rattle.times_bench.specs.Requests.{request_of}
 use Rattle.times_bench.proofs.answers.put_answer.Goals as goal
 use Rattle.times_bench.proofs.answers.put_answer.Goals.{in-Some-Unix-default, in-Some-Stamp-default, in-Some-Run-default+in_ok-answer_run-in-Some-Run-default}
 use Rattle.times_bench.proofs.answers.put_answer.Goals.{in-Some-Chain-default, in-None}

@@ -1,4 +1,4 @@
-use Rattle.std.proofs.Common.{rules, refl, append_assoc, w64, FitsSigned}
+use Rattle.std.proofs.Common.{rules, refl, append_assoc, w64}
 use Rattle.std.proofs.lemmas.Int.{to_z-of_z}
 use Rattle.times_bench.specs.Answers.{run_text, run_answer}
 use Rattle.times_bench.proofs.answers.put_run_answer.Goals as goal

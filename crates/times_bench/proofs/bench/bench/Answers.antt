@@ -1,10 +1,5 @@
-use Rattle.std.proofs.Common.{arith, ◌≡◌, ◌∙◌, ◌≤◌, [], ◌++◌, length, take, length-append, refl}
-use Rattle.std.specs.Io.KnownBytes.{Appends}
-use Rattle.times_bench.specs.Progress.{AnswersBeforeMemory}
-use Rattle.times_bench.specs.Writing.{AppendsBeginning}
-use Rattle.times_bench.specs.Lines.{lines_of}
+use Rattle.std.proofs.Common.{arith, ◌∙◌, [], ◌++◌, take, length-append, refl}
 use Rattle.times_bench.specs.LineParts.{ended_from, rest_from}
-use Rattle.times_bench.specs.Answers.{answers_of}
 use Rattle.times_bench.proofs.CutLemmas.{rest_from-append}
 use Rattle.times_bench.proofs.ReadLemmas.{Consumes-nil, Consumes-append, Consumes-keep, input-end, input-begin}
 use Rattle.times_bench.proofs.ReadLemmas.{AnswersWritten-append, answers_of-whole_lines_of, Appends-last, AppendsBeginning-last, AppendsBeginning-block}

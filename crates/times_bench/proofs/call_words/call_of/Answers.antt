@@ -1,4 +1,4 @@
-use Rattle.std.proofs.Common.{rules, ◌≡◌, ◌∙◌, sym, ap, ◌∷◌, List, ℕ, None}
+use Rattle.std.proofs.Common.{rules, ◌≡◌, ◌∙◌, sym, None}
 use Rattle.times_bench.specs.CallWords.{call_of_parts, call_of}
 use Rattle.times_bench.proofs.CallWordLemmas.{not_text, call_of-not_text, call_of-long, call_of_parts-more}
 use Rattle.times_bench.proofs.call_words.call_of.Goals as goal

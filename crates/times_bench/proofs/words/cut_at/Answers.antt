@@ -1,7 +1,5 @@
-use Rattle.std.proofs.Common.{arith, ◌-◌, ◌+◌, ◌<◌, ◌∷◌, length, take, drop, length-drop, sym, ◌∙◌, ap, subst, List, ℕ}
+use Rattle.std.proofs.Common.{arith, ◌-◌, ◌+◌, ◌<◌, length, drop, length-drop}
 use Rattle.std.proofs.lemmas.List.{take_all}
-use Rattle.times_bench.specs.LineParts.{HasNone}
-use Rattle.times_bench.specs.Words.{cut_at}
 use Rattle.times_bench.proofs.WordLemmas.{cut_at-none, cut_at-first}
 use Rattle.times_bench.proofs.words.cut_at.Goals as goal
 
