@@ -72,6 +72,7 @@ length-words text word (Some next) e =
 abbrev pub AllSoFar : {A : Type 0} → (List ℕ → Option A) → Option (List A) → List A → List (List ℕ) → Type 0
 AllSoFar read all items words = all ≡ option_map (λ more. items ++ more) (all_of read words)
 
+-- an item more behind the items is one more before the others
 pub items-next : {A : Type 0} (items : List A) (item : A) (others : Option (List A))
     → option_map (λ more. items ++ more) (option_map (λ others. item ∷ others) others) ≡ option_map (λ more. (items ++ item ∷ []) ++ more) others
 items-next items item None = refl
