@@ -1,5 +1,5 @@
 -- The names of calls, and the month of a number.
-use Rattle.std.proofs.Common.{◌≡◌, ℕ, ◌<◌, ◌≤◌, ◌↔◌, Bool, true, false, cond, ◌&&◌, nat_lt, ◌==◌, List, [], ◌∷◌, length, Option, Some, None, Bor, Result, Ok}
+use Rattle.std.proofs.Common.{◌≡◌, ℕ, ◌<◌, ◌≤◌, ◌↔◌, Bool, true, false, cond, ◌&&◌, nat_lt, List, [], ◌∷◌, length, Option, Some, None, Bor, Result, Ok}
 use Rattle.std.proofs.Common.{Err, refl, sym, ◌∙◌, ap, arith, length-append, pos}
 use Rattle.std.specs.Prelude.{IsAscii, IsUtf8, IsOk, IfOk, MatchResult, OnSome}
 use Rattle.std.specs.List.{join_with_byte, list_all}
@@ -7,7 +7,7 @@ use Rattle.std.specs.Option.{is_some, option_and_then, option_map_or}
 use Rattle.std.specs.Result.{result_ok}
 use Rattle.std.specs.Str.{bytes_eq}
 use Rattle.std.proofs.lemmas.Bool.Decides.{nat_tests}
-use Rattle.std.proofs.lemmas.List.Splits.{length-slice_split, join_with_byte-slice_split}
+use Rattle.std.proofs.lemmas.List.Splits.{join_with_byte-slice_split}
 use Rattle.std.proofs.lemmas.Slice.Eq.{bytes_eq-Decides}
 use Rattle.std.proofs.lemmas.Str.{IsUtf8-from_ascii}
 use Rattle.std.proofs.lemmas.Str.Ascii.{IsAscii-nil, IsAscii-cons}
@@ -17,60 +17,50 @@ use Rattle.calendar_values.specs.declared.month.Month.{Month}
 use Rattle.stamp_times.specs.Numbered.{month_numbered}
 use Rattle.stamp_times.specs.NumberedLemmas.{month_numbered-number}
 use Rattle.stamp_times.specs.declared.runs.calls.Call.{Call}
-use Rattle.times_bench.proofs.NumberLemmas.{both_true}
+use Rattle.std.proofs.lemmas.Bool.{and_parts}
+use Rattle.times_bench.specs.declared.call_words.CallName.{CallName}
+use Rattle.times_bench.proofs.WordLemmas.{length-cut_at-some}
 use Rattle.times_bench.specs.CallWords.{entry_of, reads, call_names, call_with, call_of_parts, call_of}
 use Rattle.times_bench.specs.Words.{cut_at, arguments_of}
 
 -- a name in a table passes the test that all names of the table pass
-passes_first : {A : Type 0} (test : List ℕ → Bool) (table : List (List ℕ × A)) (name first : List ℕ) (value found : A) (is_first : Bool)
-    → bytes_eq name first ≡ is_first → test first ≡ true → (entry_of table name ≡ Some found → test name ≡ true)
-    → cond is_first (Some value) (entry_of table name) ≡ Some found → test name ≡ true
-passes_first test table name first value found true is e others h = ap test ((bytes_eq-Decides name first).0 is) ∙ e
-passes_first test table name first value found false is e others h = others h
-
 entry_of-passes : {A : Type 0} (test : List ℕ → Bool) (table : List (List ℕ × A)) (name : List ℕ) (found : A)
     → list_all (λ (row : List ℕ × A). test row.0) table ≡ true → entry_of table name ≡ Some found → test name ≡ true
 entry_of-passes test [] name found e h = absurd cc
 entry_of-passes {A} test (first ∷ others) name found e h =
-    let both = both_true (test first.0) (list_all (λ (row : List ℕ × A). test row.0) others) e in
-    passes_first test others name first.0 first.1 found (bytes_eq name first.0) refl both.0 (entry_of-passes test others name found both.1) h
+    let both = and_parts _ _ e in
+    elim (bytes_eq name first.0) as (λ t. bytes_eq name first.0 ≡ t → cond t (Some first.1) (entry_of others name) ≡ Some found → test name ≡ true) [
+      | true ↦ λ is _. rw ((bytes_eq-Decides name first.0).0 is) both.0
+      | false ↦ λ _ more. entry_of-passes test others name found both.1 more
+    ] refl h
 
 -- at least three bytes, all of them ASCII
 abbrev is_name : List ℕ → Bool
 is_name text = list_all (λ byte. nat_lt byte 128) text && nat_lt 2 (length text)
 
-record IsName (text : List ℕ) : Type 0 where
-  is_text : IsUtf8 text
-  long : 3 ≤ length text
+abbrev IsName : List ℕ → Type 0
+IsName text = IsUtf8 text × (3 ≤ length text)
 
 IsAscii-list_all : (text : List ℕ) → list_all (λ byte. nat_lt byte 128) text ≡ true → IsAscii text
 IsAscii-list_all [] e = IsAscii-nil
 IsAscii-list_all (byte ∷ text) e =
-    let both = both_true (nat_lt byte 128) (list_all (λ byte. nat_lt byte 128) text) e in
-    IsAscii-cons byte text (grind (arith, nat_tests)) (IsAscii-list_all text both.1)
+    let both = and_parts _ _ e in IsAscii-cons byte text (grind (arith, nat_tests)) (IsAscii-list_all text both.1)
 
 IsName-is_name : (text : List ℕ) → is_name text ≡ true → IsName text
 IsName-is_name text e =
-    let both = both_true (list_all (λ byte. nat_lt byte 128) text) (nat_lt 2 (length text)) e in
-    record { is_text = IsUtf8-from_ascii text (IsAscii-list_all text both.0); long = grind (arith, nat_tests) }
+    let both = and_parts _ _ e in
+    (IsUtf8-from_ascii text (IsAscii-list_all text both.0), grind (arith, nat_tests))
 
-IsName-read : (name : List ℕ) (call : Call) → entry_of reads name ≡ Some call → IsName name
-unfolding reads
-IsName-read name call e = IsName-is_name name (entry_of-passes is_name reads name call refl e)
-
-IsName-call : (name arguments : List ℕ) (call : Call)
-    → option_and_then (λ call. call_with call (arguments_of arguments)) (entry_of call_names name) ≡ Some call → IsName name
+IsName-call : (name arguments : List ℕ) (found : Option CallName) (call : Call) → entry_of call_names name ≡ found
+    → option_and_then (λ call. call_with call (arguments_of arguments)) found ≡ Some call → IsName name
 unfolding call_names
-IsName-call name arguments call e = elim (entry_of call_names name) as (λ found. entry_of call_names name ≡ found
-    → option_and_then (λ call. call_with call (arguments_of arguments)) found ≡ Some call → IsName name) [
-      | None ↦ λ is h. absurd cc
-      | Some read ↦ λ is h. IsName-is_name name (entry_of-passes is_name call_names name read refl is)
-    ] refl e
+IsName-call name arguments None call is e = absurd cc
+IsName-call name arguments (Some read) call is e = IsName-is_name name (entry_of-passes is_name call_names name read refl is)
 
 IsName-parts : (name : List ℕ) (rest : List (List ℕ)) (call : Call) → call_of_parts (name ∷ rest) ≡ Some call → IsName name
-unfolding call_of_parts
-IsName-parts name [] call e = IsName-read name call e
-IsName-parts name (arguments ∷ []) call e = IsName-call name arguments call e
+unfolding call_of_parts reads
+IsName-parts name [] call e = IsName-is_name name (entry_of-passes is_name reads name call refl e)
+IsName-parts name (arguments ∷ []) call e = IsName-call name arguments (entry_of call_names name) call refl e
 IsName-parts name (arguments ∷ next ∷ parts) call e = absurd cc
 
 -- a word that begins with no text is no call
@@ -86,33 +76,29 @@ not_text text (Err refusal) IsRead IsRefused h e = h.0
 pub call_of-not_text : (word name : List ℕ) (rest : List (List ℕ)) → cut_at 61 word ≡ name ∷ rest → ¬ (IsUtf8 name) → call_of word ≡ None
 unfolding call_of
 call_of-not_text word name rest e h =
-    ap call_of_parts e ∙ none_unless (call_of_parts (name ∷ rest)) (λ call is. let is_name = IsName-parts name rest call is in h is_name.is_text)
+    ap call_of_parts e ∙ none_unless (call_of_parts (name ∷ rest)) (λ call is. h (IsName-parts name rest call is).0)
 
 -- a call has at least three bytes
 long_parts : (parts : List (List ℕ)) (call : Call) → call_of_parts parts ≡ Some call → 3 ≤ length (join_with_byte 61 parts)
 unfolding call_of_parts
 long_parts [] call e = absurd cc
-long_parts (name ∷ []) call e = let is_name = IsName-parts name [] call e in omega arith
+long_parts (name ∷ []) call e = (IsName-parts name [] call e).1
 long_parts (name ∷ next ∷ parts) call e =
-    let is_name = IsName-parts name (next ∷ parts) call e in
-    omega (arith, length-append name (61 ∷ join_with_byte 61 (next ∷ parts)))
+    omega (arith, (IsName-parts name (next ∷ parts) call e).1, length-append name (61 ∷ join_with_byte 61 (next ∷ parts)))
 
 pub call_of-long : (word : List ℕ) (read : Option Call) → read ≡ call_of word → OnSome read (3 ≤ length word)
 unfolding call_of
 call_of-long word None e = tt
-call_of-long word (Some call) e =
-    let long = long_parts (cut_at 61 word) call (sym e) in
-    rw (join_with_byte-slice_split 61 word) at long
+call_of-long word (Some call) e = rw (join_with_byte-slice_split 61 word) at (long_parts (cut_at 61 word) call (sym e))
 
--- what is cut off has parts of its own
-pub some_parts : (separator : ℕ) (rest : Option (Bor (List ℕ))) → is_some rest ≡ true → 0 < length (option_map_or (λ text. cut_at separator text.now) rest [])
-some_parts separator None e = absurd cc
-some_parts separator (Some text) e = omega (arith, length-slice_split (λ byte. byte == separator) text.now)
-
-pub call_of_parts-more : (name arguments : List ℕ) (rest : List (List ℕ)) → 0 < length rest → call_of_parts (name ∷ arguments ∷ rest) ≡ None
+-- a call has no third part: what is cut off has parts of its own
+pub call_of_parts-more : (name arguments : List ℕ) (rest : Option (Bor (List ℕ))) → is_some rest ≡ true
+    → call_of_parts (name ∷ arguments ∷ option_map_or (λ text. cut_at 61 text.now) rest []) ≡ None
 unfolding call_of_parts
-call_of_parts-more name arguments [] some = absurd (omega arith)
-call_of_parts-more name arguments (next ∷ rest) some = refl
+call_of_parts-more name arguments None e = absurd cc
+call_of_parts-more name arguments (Some text) e =
+    elim (cut_at 61 text.now) as (λ parts. 0 < length parts → call_of_parts (name ∷ arguments ∷ parts) ≡ None)
+    [ [] ↦ λ some. absurd (omega arith) | next ∷ parts ↦ λ some. refl ] (length-cut_at-some 61 text.now)
 
 -- the month of a number
 pub month_tried : {E : Type 0} (number : ℕ) (tried : Result Month E) → (IsOk tried ↔ ((1 ≤ number) × (number ≤ 12)))

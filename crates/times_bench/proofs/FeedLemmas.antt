@@ -1,6 +1,6 @@
 -- The answers to the lines of a block, which a failed write or a lack of memory may end.
-use Rattle.std.proofs.Common.{◌≡◌, ◌≢◌, ℕ, ◌<◌, ◌≤◌, IsTrue, Bool, true, false, cond, nat_lt, take, List, [], ◌∷◌, ◌++◌, length, Option, None, Result, refl}
-use Rattle.std.proofs.Common.{sym, ◌∙◌, ap, subst, arith, append_assoc, append-nil}
+use Rattle.std.proofs.Common.{◌≡◌, ◌≢◌, ℕ, ◌≤◌, IsTrue, Bool, true, false, nat_lt, take, List, [], ◌∷◌, ◌++◌, length, Option, Result, refl}
+use Rattle.std.proofs.Common.{sym, ◌∙◌, subst, arith, append_assoc, append-nil}
 use Rattle.std.specs.Prelude.{MatchResult}
 use Rattle.std.specs.Io.KnownBytes.{Appends}
 use Rattle.std.proofs.lemmas.Bool.Decides.{nat_tests}
@@ -19,56 +19,38 @@ use Rattle.times_bench.proofs.LineLemmas.{Holds-append}
 use Rattle.times_bench.proofs.SendingLemmas.{Appends-append, Appends-flushed, AppendsBeginning-flushed, AppendsBeginning-longer, AppendsBeginning-pending}
 use Rattle.times_bench.proofs.SendingLemmas.{Sends-append, AtFault-weaker}
 
-is_below : (a b : ℕ) → a < b → nat_lt a b ≡ true
-is_below a b low = grind (arith, nat_tests)
-
-none_both : {A : Type 0} (s t : Bool) (x y : Option A) → s ≡ true → t ≡ true → cond s None x ≡ cond t None y
-none_both true true x y e f = refl
-none_both false t x y e f = cc
-none_both true false x y e f = cc
-
 -- the answers to the lines of one part and then of another
 pub answers_of-append : (piece xs ys : List ℕ)
     → answers_of (ended_from piece (xs ++ ys)) ≡ answers_of (ended_from piece xs) ++ answers_of (ended_from (rest_from piece xs) ys)
 answers_of-append piece xs ys =
-    ap answers_of (ended_from-append piece xs ys) ∙ flat_map-append answer_of (ended_from piece xs) (ended_from (rest_from piece xs) ys)
+    rw (ended_from-append piece xs ys) (flat_map-append answer_of (ended_from piece xs) (ended_from (rest_from piece xs) ys))
 
 -- with a line feed more, there is one answer more
 pub answers_of-line_feed : (piece xs : List ℕ)
     → answers_of (ended_from piece (xs ++ 10 ∷ [])) ≡ answers_of (ended_from piece xs) ++ answer_of (rest_from piece xs)
 answers_of-line_feed piece xs =
-    ap answers_of (ended_from-line_feed piece xs) ∙ flat_map-append answer_of (ended_from piece xs) (rest_from piece xs ∷ [])
-    ∙ ap (λ (z : List ℕ). answers_of (ended_from piece xs) ++ z) (append-nil (answer_of (rest_from piece xs)))
+    rw (ended_from-line_feed piece xs, ← append-nil (answer_of (rest_from piece xs))) (flat_map-append answer_of (ended_from piece xs) (_ ∷ []))
 
 -- a line that is too long is not whole in its table, and asks for nothing there either
 request_of-cut : (piece : List ℕ) (is_long : Bool) → nat_lt 1024 (length piece) ≡ is_long → request_of (take 1025 piece) ≡ request_of piece
 unfolding request_of
 request_of-cut piece true e =
-    let long : 1024 < length piece = grind (arith, nat_tests) in
-    let cut : 1024 < length (take 1025 piece) = omega (arith, long, length-take 1025 piece) in
-    none_both _ _ _ _ (is_below 1024 (length (take 1025 piece)) cut) e
+    let count = length-take 1025 piece in
+    let cut : nat_lt 1024 (length (take 1025 piece)) ≡ true = grind (arith, nat_tests) in
+    rw (cut, e) refl
 request_of-cut piece false e =
-    let short : length piece ≤ 1024 = grind (arith, nat_tests) in
-    ap request_of (take_all 1025 piece (omega (arith, short)))
-
--- what a table holds of a line asks for what the line asks for
-pub request_of-held : (piece line : List ℕ) → Holds piece line → request_of line ≡ request_of piece
-request_of-held piece line h = ap request_of h ∙ request_of-cut piece (nat_lt 1024 (length piece)) refl
+    let short : length piece ≤ 1024 = grind (arith, nat_tests) in rw (take_all 1025 piece (omega arith)) refl
 
 -- a line is answered
 pub Sends-line : (a b c : Option (List ℕ)) (p q piece xs : List ℕ) → Sends a b p (answers_of (ended_from piece xs))
     → Sends b c q (p ++ answer_of (rest_from piece xs)) → Sends a c q (answers_of (ended_from piece (xs ++ 10 ∷ [])))
-Sends-line a b c p q piece xs h k =
-    subst (Sends a c q) (sym (answers_of-line_feed piece xs)) (Sends-append a b c p _ q _ h k)
+Sends-line a b c p q piece xs h k = rw (answers_of-line_feed piece xs) (Sends-append a b c p _ q _ h k)
 
 -- the lines of a block that has a line feed
 ended_from-line : (piece xs more block : List ℕ) → block ≡ (xs ++ 10 ∷ []) ++ more
     → ended_from piece block ≡ ended_from piece xs ++ rest_from piece xs ∷ ended_from (rest_from piece (xs ++ 10 ∷ [])) more
 ended_from-line piece xs more block e =
-    let after = ended_from (rest_from piece (xs ++ 10 ∷ [])) more in
-    ap (ended_from piece) e ∙ ended_from-append piece (xs ++ 10 ∷ []) more
-    ∙ ap (λ (z : List (List ℕ)). z ++ after) (ended_from-line_feed piece xs)
-    ∙ append_assoc (ended_from piece xs) (rest_from piece xs ∷ []) after
+    rw (e, ended_from-append piece (xs ++ 10 ∷ []) more, ended_from-line_feed piece xs) (append_assoc (ended_from piece xs) (rest_from piece xs ∷ []) _)
 
 -- a fault at a line of a block
 pub AtFault-line : (fault : AnswerFault) (a b c : Option (List ℕ)) (p piece xs more block : List ℕ) → block ≡ (xs ++ 10 ∷ []) ++ more
@@ -80,11 +62,8 @@ AtFault-line fault a b c p piece xs more block e h k =
     let line = rest_from piece xs in
     let after = ended_from (rest_from piece (xs ++ 10 ∷ [])) more in
     let lines = ended_from-line piece xs more block e in
-    let whole : (answers_of before ++ answer_of line) ++ answers_of after ≡ answers_of (ended_from piece block)
-    = append_assoc (answers_of before) (answer_of line) (answers_of after)
-    ∙ sym (ap answers_of lines ∙ flat_map-append answer_of before (line ∷ after)) in
     AtFault-weaker fault k
-    (λ cut. subst (AppendsBeginning a c) whole
+    (λ cut. rw (lines, flat_map-append answer_of before (line ∷ after), ← append_assoc (answers_of before) (answer_of line) (answers_of after))
     (AppendsBeginning-longer a c _ (answers_of after) (AppendsBeginning-pending a b c p (answers_of before) (answer_of line) h cut)))
     (λ short. record {
       before = before;
@@ -115,13 +94,7 @@ unless_empty-some (byte ∷ piece) some = refl
 -- a part of a block ends the line whose beginning the table holds
 pub request_of-pushed : (piece line part bytes : List ℕ) → Holds piece line → bytes ≡ take 1025 (line ++ part) → request_of bytes ≡ request_of (piece ++ part)
 request_of-pushed piece line part bytes h e =
-    request_of-held (piece ++ part) bytes (e ∙ Holds-append piece line part h)
-
--- the answers to lines and then to more lines
-pub AppendsBeginning-more : (a b : Option (List ℕ)) (lines more : List (List ℕ)) → AppendsBeginning a b (answers_of lines)
-    → AppendsBeginning a b (answers_of (lines ++ more))
-AppendsBeginning-more a b lines more h =
-    subst (AppendsBeginning a b) (sym (flat_map-append answer_of lines more)) (AppendsBeginning-longer a b (answers_of lines) (answers_of more) h)
+    rw (e ∙ Holds-append piece line part h) (request_of-cut (piece ++ part) (nat_lt 1024 (length (piece ++ part))) refl)
 
 -- lines stand before
 pub AnswersBeforeMemory-append : (a b c : Option (List ℕ)) (before lines : List (List ℕ)) → Appends a b (answers_of before)
@@ -133,12 +106,10 @@ AnswersBeforeMemory-append a b c before lines h k =
       stops = record {
         line = stops.line;
         after = stops.after;
-        whole = ap (λ (z : List (List ℕ)). before ++ z) stops.whole ∙ sym (append_assoc before k.before (stops.line ∷ stops.after));
+        whole = rw stops.whole (sym (append_assoc before k.before (stops.line ∷ stops.after)));
         takes = stops.takes;
       };
-      appended =
-          subst (Appends a c) (sym (flat_map-append answer_of before k.before))
-          (Appends-append a b c (answers_of before) (answers_of k.before) h k.appended);
+      appended = rw (flat_map-append answer_of before k.before) (Appends-append a b c (answers_of before) (answers_of k.before) h k.appended);
     }
 
 -- more lines stand behind
@@ -150,7 +121,7 @@ AnswersBeforeMemory-longer a b lines more h =
       stops = record {
         line = stops.line;
         after = stops.after ++ more;
-        whole = ap (λ (z : List (List ℕ)). z ++ more) stops.whole ∙ append_assoc h.before (stops.line ∷ stops.after) more;
+        whole = rw stops.whole (append_assoc h.before (stops.line ∷ stops.after) more);
         takes = stops.takes;
       };
       appended = h.appended;

@@ -1,5 +1,5 @@
 -- Reading an input to its end, a block at a time.
-use Rattle.std.proofs.Common.{◌≡◌, ℕ, List, [], ◌++◌, Option, Some, None, refl, sym, ◌∙◌, ap, subst, append_assoc, append-nil, take}
+use Rattle.std.proofs.Common.{◌≡◌, ℕ, List, [], ◌++◌, Option, Some, None, refl, sym, ◌∙◌, ap, append_assoc, append-nil}
 use Rattle.std.specs.Prelude.{IfSome}
 use Rattle.std.specs.Io.KnownBytes.{Appends, Consumes, Keeps, IsAtEnd}
 use Rattle.std.proofs.lemmas.Grind.{flat_map-append}
@@ -9,8 +9,8 @@ use Rattle.times_bench.specs.Lines.{lines_of, whole_lines_of, unless_empty}
 use Rattle.times_bench.specs.LineParts.{ended_from, rest_from}
 use Rattle.times_bench.specs.Answers.{answer_of, answers_of}
 use Rattle.times_bench.proofs.CutLemmas.{lines_of-parts, lines_of-append, whole_lines_of-parts}
-use Rattle.times_bench.proofs.FeedLemmas.{answers_of-append, AnswersBeforeMemory-append, AnswersBeforeMemory-longer, AppendsBeginning-more}
-use Rattle.times_bench.proofs.SendingLemmas.{Appends-append, AppendsBeginning-append}
+use Rattle.times_bench.proofs.FeedLemmas.{answers_of-append, AnswersBeforeMemory-append, AnswersBeforeMemory-longer}
+use Rattle.times_bench.proofs.SendingLemmas.{AppendsBeginning-longer, Appends-append, AppendsBeginning-append}
 
 pub Consumes-nil : (a : Option (List ℕ)) → Consumes a a []
 Consumes-nil None = tt
@@ -22,12 +22,6 @@ Consumes-append (Some a) None c xs ys h k = absurd h
 Consumes-append (Some a) (Some b) None xs ys h k = absurd k
 Consumes-append (Some a) (Some b) (Some c) xs ys h k = h ∙ ap (λ (z : List ℕ). xs ++ z) k ∙ sym (append_assoc xs ys c)
 
--- a read of no byte
-pub Consumes-none : (a b c : Option (List ℕ)) (xs buffer : List ℕ) (n : ℕ) → Consumes a b xs → Consumes b c (take n buffer) → n ≡ 0 → Consumes a c xs
-Consumes-none a b c xs buffer n h k e =
-    let none = subst (λ (m : ℕ). Consumes b c (take m buffer)) e k in
-    subst (Consumes a c) (append-nil xs) (Consumes-append a b c xs [] h none)
-
 -- a read that keeps what is left takes nothing
 pub Consumes-keep : (a b c : Option (List ℕ)) (xs : List ℕ) → Consumes a b xs → Keeps b c → Consumes a c xs
 Consumes-keep None b c xs h k = tt
@@ -36,16 +30,17 @@ Consumes-keep (Some a) (Some b) None xs h k = absurd k
 Consumes-keep (Some a) (Some b) (Some c) xs h k = h ∙ ap (λ (z : List ℕ). xs ++ z) (sym k)
 
 -- at the end what was taken is the input
-pub input-end : (a b : Option (List ℕ)) (taken : List ℕ) (P : List ℕ → Type 0) → Consumes a b taken → IsAtEnd b → P taken → IfSome a P
-input-end None b taken P h e p = tt
-input-end (Some xs) None taken P h e p = absurd h
-input-end (Some xs) (Some ys) taken P h e p = subst P (sym (h ∙ ap (λ (z : List ℕ). taken ++ z) e ∙ append-nil taken)) p
+pub input-end : (a b c : Option (List ℕ)) (taken : List ℕ) (P : List ℕ → Type 0) → Consumes a b taken → Consumes b c [] → IsAtEnd c → P taken → IfSome a P
+input-end None b c taken P h k e p = tt
+input-end (Some xs) None c taken P h k e p = absurd h
+input-end (Some xs) (Some ys) None taken P h k e p = absurd k
+input-end (Some xs) (Some ys) (Some zs) taken P h k e p = rw (h, k, e, append-nil taken) p
 
 -- before, what was taken begins the input
 pub input-begin : (a b : Option (List ℕ)) (taken : List ℕ) (P : List ℕ → Type 0) → Consumes a b taken → ((rest : List ℕ) → P (taken ++ rest)) → IfSome a P
 input-begin None b taken P h p = tt
 input-begin (Some xs) None taken P h p = absurd h
-input-begin (Some xs) (Some ys) taken P h p = subst P (sym h) (p ys)
+input-begin (Some xs) (Some ys) taken P h p = rw h (p ys)
 
 -- so many answers were written: those of the lines that were read whole
 abbrev pub AnswersWritten : Option (List ℕ) → Option (List ℕ) → List ℕ → Type 0
@@ -54,50 +49,41 @@ AnswersWritten a b taken = Appends a b (answers_of (ended_from [] taken))
 -- one block more was answered
 pub AnswersWritten-append : (a b c : Option (List ℕ)) (taken block : List ℕ) → AnswersWritten a b taken
     → Appends b c (answers_of (ended_from (rest_from [] taken) block)) → AnswersWritten a c (taken ++ block)
-AnswersWritten-append a b c taken block h k =
-    subst (Appends a c) (sym (answers_of-append [] taken block)) (Appends-append a b c _ _ h k)
+AnswersWritten-append a b c taken block h k = rw (answers_of-append [] taken block) (Appends-append a b c _ _ h k)
 
 pub answers_of-whole_lines_of : (a b : Option (List ℕ)) (taken : List ℕ) → AnswersWritten a b taken → Appends a b (answers_of (whole_lines_of taken))
-answers_of-whole_lines_of a b taken h =
-    subst (λ (z : List (List ℕ)). Appends a b (answers_of z)) (sym (whole_lines_of-parts taken)) h
+answers_of-whole_lines_of a b taken h = rw (whole_lines_of-parts taken) h
 
 -- the answers to all lines are those to the ended ones, and then that to the last one
 answers_of-lines_of : (taken : List ℕ) → answers_of (lines_of taken) ≡ answers_of (ended_from [] taken) ++ answers_of (unless_empty (rest_from [] taken))
 answers_of-lines_of taken =
-    ap answers_of (lines_of-parts taken) ∙ flat_map-append answer_of (ended_from [] taken) (unless_empty (rest_from [] taken))
+    rw (lines_of-parts taken) (flat_map-append answer_of (ended_from [] taken) (unless_empty (rest_from [] taken)))
 
 -- the last line was answered
 pub Appends-last : (a b c : Option (List ℕ)) (taken : List ℕ) → AnswersWritten a b taken
     → Appends b c (answers_of (unless_empty (rest_from [] taken))) → Appends a c (answers_of (lines_of taken))
-Appends-last a b c taken h k =
-    subst (Appends a c) (sym (answers_of-lines_of taken)) (Appends-append a b c _ _ h k)
+Appends-last a b c taken h k = rw (answers_of-lines_of taken) (Appends-append a b c _ _ h k)
 
 -- the answer to the last line was cut short
 pub AppendsBeginning-last : (a b c : Option (List ℕ)) (taken : List ℕ) → AnswersWritten a b taken
     → AppendsBeginning b c (answers_of (unless_empty (rest_from [] taken))) → AppendsBeginning a c (answers_of (lines_of taken))
-AppendsBeginning-last a b c taken h k =
-    subst (AppendsBeginning a c) (sym (answers_of-lines_of taken)) (AppendsBeginning-append a b c _ _ h k)
+AppendsBeginning-last a b c taken h k = rw (answers_of-lines_of taken) (AppendsBeginning-append a b c _ _ h k)
 
 -- the last line takes memory
 pub AnswersBeforeMemory-last : (a b c : Option (List ℕ)) (taken : List ℕ) → AnswersWritten a b taken
     → AnswersBeforeMemory b c (unless_empty (rest_from [] taken)) → AnswersBeforeMemory a c (lines_of taken)
-AnswersBeforeMemory-last a b c taken h k =
-    subst (AnswersBeforeMemory a c) (sym (lines_of-parts taken)) (AnswersBeforeMemory-append a b c _ _ h k)
+AnswersBeforeMemory-last a b c taken h k = rw (lines_of-parts taken) (AnswersBeforeMemory-append a b c _ _ h k)
 
 -- the answers to the lines of a block were cut short, and so are those of the input
 pub AppendsBeginning-block : (a b c : Option (List ℕ)) (taken block rest : List ℕ) → AnswersWritten a b taken
     → AppendsBeginning b c (answers_of (ended_from (rest_from [] taken) block)) → AppendsBeginning a c (answers_of (lines_of ((taken ++ block) ++ rest)))
 AppendsBeginning-block a b c taken block rest h k =
-    let before = ended_from [] taken in
     let lines = ended_from (rest_from [] taken) block in
-    let cut : AppendsBeginning a c (answers_of (before ++ lines))
-    = subst (AppendsBeginning a c) (sym (flat_map-append answer_of before lines)) (AppendsBeginning-append a b c _ _ h k) in
-    subst (λ (z : List (List ℕ)). AppendsBeginning a c (answers_of z)) (sym (lines_of-append taken block rest))
-    (AppendsBeginning-more a c (before ++ lines) _ cut)
+    rw (lines_of-append taken block rest, flat_map-append answer_of (ended_from [] taken ++ lines) _, flat_map-append answer_of (ended_from [] taken) lines)
+    (AppendsBeginning-longer a c _ _ (AppendsBeginning-append a b c _ _ h k))
 
 -- a line of a block takes memory, and so it stands in the input
 pub AnswersBeforeMemory-block : (a b c : Option (List ℕ)) (taken block rest : List ℕ) → AnswersWritten a b taken
     → AnswersBeforeMemory b c (ended_from (rest_from [] taken) block) → AnswersBeforeMemory a c (lines_of ((taken ++ block) ++ rest))
 AnswersBeforeMemory-block a b c taken block rest h k =
-    subst (AnswersBeforeMemory a c) (sym (lines_of-append taken block rest))
-    (AnswersBeforeMemory-longer a c _ _ (AnswersBeforeMemory-append a b c _ _ h k))
+    rw (lines_of-append taken block rest) (AnswersBeforeMemory-longer a c _ _ (AnswersBeforeMemory-append a b c _ _ h k))

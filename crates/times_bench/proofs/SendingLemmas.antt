@@ -1,6 +1,6 @@
 -- Writing one text after another.
 use Rattle.std.proofs.Common.{ℕ, ◌+◌, List, [], ◌++◌, length-append, take, drop, Option, Some, None, refl, sym, ◌∙◌, ap}
-use Rattle.std.proofs.Common.{subst, arith, append_assoc, append-nil}
+use Rattle.std.proofs.Common.{arith, append_assoc, append-nil}
 use Rattle.std.specs.Io.KnownBytes.{Appends}
 use Rattle.std.proofs.Math.Seq.{take-add}
 use Rattle.times_bench.specs.Progress.{AtFault}
@@ -23,8 +23,7 @@ Appends-append (Some a) (Some b) (Some c) xs ys h k = k ∙ ap (λ (z : List ℕ
 -- a write of the next n bytes of a text
 pub Appends-take : (a b c : Option (List ℕ)) (at n : ℕ) (text : List ℕ) → Appends a b (take at text) → Appends b c (take n (drop at text))
     → Appends a c (take (at + n) text)
-Appends-take a b c at n text h k =
-    subst (Appends a c) (sym (take-add at n text)) (Appends-append a b c (take at text) (take n (drop at text)) h k)
+Appends-take a b c at n text h k = rw (take-add at n text) (Appends-append a b c (take at text) (take n (drop at text)) h k)
 
 -- with more bytes behind, a beginning is a beginning still
 pub AppendsBeginning-longer : (a b : Option (List ℕ)) (xs ys : List ℕ) → AppendsBeginning a b xs → AppendsBeginning a b (xs ++ ys)
@@ -32,7 +31,7 @@ AppendsBeginning-longer a b xs ys h = record {
   beginning = h.beginning;
   missing = h.missing ++ ys;
   appended = h.appended;
-  whole = ap (λ (z : List ℕ). z ++ ys) h.whole ∙ append_assoc h.beginning h.missing ys;
+  whole = rw h.whole (append_assoc h.beginning h.missing ys);
   some_missing = omega (arith, h.some_missing, length-append h.missing ys);
 }
 
@@ -42,7 +41,7 @@ AppendsBeginning-append a b c xs ys h k = record {
   beginning = xs ++ k.beginning;
   missing = k.missing;
   appended = Appends-append a b c xs k.beginning h k.appended;
-  whole = ap (λ (z : List ℕ). xs ++ z) k.whole ∙ sym (append_assoc xs k.beginning k.missing);
+  whole = rw k.whole (sym (append_assoc xs k.beginning k.missing));
   some_missing = k.some_missing;
 }
 
@@ -55,24 +54,18 @@ pub Sends-append : (a b c : Option (List ℕ)) (p xs q ys : List ℕ) → Sends 
 Sends-append a b c p xs q ys h k = record {
   sent = h.sent ++ k.sent;
   appended = Appends-append a b c h.sent k.sent h.appended k.appended;
-  whole =
-      ap (λ (z : List ℕ). z ++ ys) h.whole ∙ append_assoc h.sent p ys ∙ ap (λ (z : List ℕ). h.sent ++ z) k.whole
-      ∙ sym (append_assoc h.sent k.sent q);
+  whole = rw (h.whole, append_assoc h.sent p ys, k.whole) (sym (append_assoc h.sent k.sent q));
 }
 
 pub AppendsBeginning-pending : (a b c : Option (List ℕ)) (p xs ys : List ℕ) → Sends a b p xs → AppendsBeginning b c (p ++ ys) → AppendsBeginning a c (xs ++ ys)
-AppendsBeginning-pending a b c p xs ys h k =
-    subst (AppendsBeginning a c) (sym (ap (λ (z : List ℕ). z ++ ys) h.whole ∙ append_assoc h.sent p ys))
-    (AppendsBeginning-append a b c h.sent (p ++ ys) h.appended k)
+AppendsBeginning-pending a b c p xs ys h k = rw (h.whole, append_assoc h.sent p ys) (AppendsBeginning-append a b c h.sent (p ++ ys) h.appended k)
 
 -- what is pending is written behind the bytes that were sent
 pub Appends-flushed : (a b c : Option (List ℕ)) (p bytes : List ℕ) → Sends a b p bytes → Appends b c p → Appends a c bytes
-Appends-flushed a b c p bytes h k = subst (Appends a c) (sym h.whole) (Appends-append a b c h.sent p h.appended k)
+Appends-flushed a b c p bytes h k = rw h.whole (Appends-append a b c h.sent p h.appended k)
 
-pub AppendsBeginning-flushed : (a b c : Option (List ℕ)) (p bytes : List ℕ) → Sends a b p bytes → AppendsBeginning b c p
-    → AppendsBeginning a c bytes
-AppendsBeginning-flushed a b c p bytes h k =
-    subst (AppendsBeginning a c) (sym h.whole) (AppendsBeginning-append a b c h.sent p h.appended k)
+pub AppendsBeginning-flushed : (a b c : Option (List ℕ)) (p bytes : List ℕ) → Sends a b p bytes → AppendsBeginning b c p → AppendsBeginning a c bytes
+AppendsBeginning-flushed a b c p bytes h k = rw h.whole (AppendsBeginning-append a b c h.sent p h.appended k)
 
 -- what holds after a fault, weakened
 pub AtFault-weaker : {Cut Short Cut' Short' : Type 0} (fault : AnswerFault) → AtFault fault Cut Short → (Cut → Cut') → (Short → Short')

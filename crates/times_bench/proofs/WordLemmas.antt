@@ -1,5 +1,5 @@
 -- Words, cut at a separator.
-use Rattle.std.proofs.Common.{◌≡◌, ◌≢◌, ℕ, ◌+◌, ◌<◌, ◌≤◌, true, false, ◌==◌, get_or, take, drop, List, [], ◌∷◌, ◌++◌, length, refl, ◌∙◌, ap, subst, arith, None}
+use Rattle.std.proofs.Common.{◌≡◌, ◌≢◌, ℕ, ◌+◌, ◌<◌, ◌≤◌, true, false, ◌==◌, get_or, take, drop, List, [], ◌∷◌, ◌++◌, length, refl, ◌∙◌, ap, arith, None}
 use Rattle.std.specs.Prelude.{All}
 use Rattle.std.proofs.lemmas.Bool.Decides.{nat_tests}
 use Rattle.std.proofs.lemmas.Grind.{common_steps}
@@ -13,16 +13,14 @@ use Rattle.times_bench.specs.Words.{cut_at, exactly_one}
 All-none : (separator : ℕ) (text : List ℕ) (end : ℕ) → end ≤ length text → HasNone separator text 0 end
     → All (λ byte. (byte == separator) ≡ false) (take end text)
 All-none separator text end high h k d low =
-    let before : k < end = omega (arith, low, length-take end text) in
     let same : get_or (take end text) k d ≡ get_or text k 0 = grind (arith, common_steps) in
-    let other : get_or text k 0 ≢ separator = h k (omega arith) before in
+    let other : get_or text k 0 ≢ separator = h k (omega arith) (omega (arith, low, length-take end text)) in
     rw same (grind (arith, nat_tests))
 
 -- a text without a separator is one word
 pub cut_at-none : (separator : ℕ) (text : List ℕ) → HasNone separator text 0 (length text) → cut_at separator text ≡ text ∷ []
 cut_at-none separator text h =
-    let none = All-none separator text (length text) (omega arith) h in
-    slice_split_none (λ byte. byte == separator) text (subst (All (λ byte. (byte == separator) ≡ false)) (take_all (length text) text (omega arith)) none)
+    slice_split_none (λ b. b == separator) text (rw (take_all (length text) text (omega arith)) at (All-none separator text (length text) (omega arith) h))
 
 -- the first separator ends the first word
 pub cut_at-first : (separator : ℕ) (text : List ℕ) (end : ℕ) → end < length text → HasNone separator text 0 end → get_or text end 0 ≡ separator
@@ -30,8 +28,8 @@ pub cut_at-first : (separator : ℕ) (text : List ℕ) (end : ℕ) → end < len
 cut_at-first separator text end low h is =
     let whole : text ≡ take end text ++ separator ∷ drop (end + 1) text = grind (arith, common_steps) in
     let ends : (separator == separator) ≡ true = grind (arith, nat_tests) in
-    ap (cut_at separator) whole ∙ slice_split_at (λ byte. byte == separator) (take end text) separator (drop (end + 1) text) (All-none separator text end
-    (omega arith) h) ends
+    let none = All-none separator text end (omega arith) h in
+    ap (cut_at separator) whole ∙ slice_split_at (λ byte. byte == separator) (take end text) separator (drop (end + 1) text) none ends
 
 -- a text has at most one word more than bytes
 pub length-cut_at : (separator : ℕ) (text : List ℕ) → length (cut_at separator text) ≤ length text + 1
@@ -44,8 +42,5 @@ length-cut_at-some separator text = omega (arith, length-slice_split (λ byte. b
 -- a separator has a field behind it
 pub no_field_more : (separator : ℕ) (field text : List ℕ) → exactly_one (field ∷ cut_at separator text) ≡ None
 unfolding exactly_one
-no_field_more separator field text = more (cut_at separator text) (length-cut_at-some separator text)
-  where
-    more : (fields : List (List ℕ)) → 0 < length fields → exactly_one (field ∷ fields) ≡ None
-    more [] some = absurd (omega (arith, some))
-    more (next ∷ fields) some = refl
+no_field_more separator field text = elim (cut_at separator text) as (λ fields. 0 < length fields → exactly_one (field ∷ fields) ≡ None)
+    [ [] ↦ λ some. absurd (omega arith) | next ∷ fields ↦ λ some. refl ] (length-cut_at-some separator text)

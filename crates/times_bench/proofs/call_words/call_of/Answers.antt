@@ -1,6 +1,6 @@
-use Rattle.std.proofs.Common.{rules, ◌≡◌, ◌∙◌, sym, ap, ◌∷◌, List, ℕ, None}
+use Rattle.std.proofs.Common.{rules, ◌≡◌, ◌∙◌, sym, None}
 use Rattle.times_bench.specs.CallWords.{call_of_parts, call_of}
-use Rattle.times_bench.proofs.CallWordLemmas.{not_text, call_of-not_text, call_of-long, call_of_parts-more, some_parts}
+use Rattle.times_bench.proofs.CallWordLemmas.{not_text, call_of-not_text, call_of-long, call_of_parts-more}
 use Rattle.times_bench.proofs.call_words.call_of.Goals as goal
 
 pub returns-in_err-name-clause-value : goal.returns-in_err-name-clause-value
@@ -16,9 +16,8 @@ returns-in_default-clause-three_bytes c = call_of-long c.args.word.now c.read_na
 pub returns-then-is_some-clause-value : goal.returns-then-is_some-clause-value
 unfolding call_of
 returns-then-is_some-clause-value c =
-    let name = c.cut_at.result.0.now in
-    sym (ap call_of_parts (c.cut_at.ensures ∙ rw c.in-Some.is (ap (λ (z : List (List ℕ)). name ∷ z) c.cut_at-2.ensures))
-    ∙ call_of_parts-more name c.cut_at-2.result.0.now _ (some_parts 61 c.cut_at-2.result.1 (search rules)))
+    rw (c.cut_at.ensures, c.in-Some.is, c.cut_at-2.ensures)
+    (sym (call_of_parts-more c.cut_at.result.0.now c.cut_at-2.result.0.now c.cut_at-2.result.1 (search rules)))
 
 pub returns-clause-three_bytes : goal.returns-clause-three_bytes
 unfolding call_of_parts call_of

@@ -1,90 +1,73 @@
-use Rattle.std.proofs.Common.{arith, refl, ◌≡◌, ℕ, ◌+◌, ◌≤◌, ◌<◌, List, [], ◌∷◌, ◌++◌, length, take, drop, get_or, add-one, Option, sym, ◌∙◌, ap, subst}
+use Rattle.std.proofs.Common.{arith, refl, ◌≡◌, ℕ, ◌+◌, ◌<◌, List, [], ◌∷◌, ◌++◌, length, take, drop, get_or, add-one, sym, ◌∙◌}
 use Rattle.std.proofs.Math.Seq.{take-suc}
 use Rattle.std.proofs.lemmas.Result.{err_from_is_err_and}
 use Rattle.std.proofs.lemmas.List.{take_all, take-append-drop}
-use Rattle.times_bench.specs.Answers.{answers_of}
-use Rattle.times_bench.specs.LineParts.{HasNone, ended_from, rest_from}
-use Rattle.times_bench.specs.Writing.{Sends}
-use Rattle.times_bench.proofs.CutLemmas.{ended_from-until, rest_from-until, rest_from-line_feed}
+use Rattle.times_bench.specs.LineParts.{ended_from, rest_from}
+use Rattle.times_bench.proofs.CutLemmas.{ended_until, rest_from-line_feed}
 use Rattle.times_bench.proofs.FeedLemmas.{Sends-line, AtFault-line, WritesAnswers-flushed}
-use Rattle.times_bench.proofs.LineLemmas.{Holds-append, Holds-nil}
+use Rattle.times_bench.proofs.LineLemmas.{Holds-append}
 use Rattle.times_bench.proofs.SendingLemmas.{Sends-nothing}
 use Rattle.times_bench.proofs.lines.feed.Goals as goal
 
 line_feed_at : (block : List ℕ) (end : ℕ) → end < length block → get_or block end 0 ≡ 10 → take (end + 1) block ≡ take end block ++ 10 ∷ []
 line_feed_at block end low is =
-    rw add-one (take-suc block end 0 low ∙ ap (λ (byte : ℕ). take end block ++ byte ∷ []) is)
+    rw (add-one, take-suc block end 0 low, is) refl
 
 cut_at : (block : List ℕ) (end : ℕ) → end < length block → get_or block end 0 ≡ 10 → block ≡ (take end block ++ 10 ∷ []) ++ drop (end + 1) block
 cut_at block end low is =
-    sym (take-append-drop (end + 1) block) ∙ ap (λ (z : List ℕ). z ++ drop (end + 1) block) (line_feed_at block end low is)
-
--- up to the next line feed no line ends
-Sends-until : (a b : Option (List ℕ)) (p piece block : List ℕ) (from end : ℕ) → from ≤ end → end ≤ length block → HasNone 10 block from end
-    → Sends a b p (answers_of (ended_from piece (take from block))) → Sends a b p (answers_of (ended_from piece (take end block)))
-Sends-until a b p piece block from end low high none h =
-    subst (λ (z : List (List ℕ)). Sends a b p (answers_of z)) (sym (ended_from-until piece block from end low high none)) h
+    rw (← line_feed_at block end low is) (sym (take-append-drop (end + 1) block))
 
 pub lines-init : goal.lines-init
 unfolding ended_from rest_from
-lines-init g c =
-    let writer = g.W.Sink.written c.args.writer.now in
-    record {
-      within = omega arith;
-      line = λ piece h. h;
-      sent = λ piece h. subst (λ (z : List ℕ). Sends writer writer z []) (sym c.requires) (Sends-nothing writer []);
-      mark = refl;
-    }
+lines-init g c = record {
+  within = omega arith;
+  line = λ piece h. h;
+  sent = λ piece h. rw c.requires (Sends-nothing (g.W.Sink.written c.args.writer.now) []);
+  mark = refl;
+}
 
 pub lines-preserved-then-end-block : goal.lines-preserved-then-end-block
 lines-preserved-then-end-block g c =
     let block = c.args.block.now in
     let from = c.lines.place in
-    let end = c.place_of-end.result in
     let found = c.place_of-end.ensures in
     let so_far = c.lines.invariant in
+    let until = λ (piece : List ℕ). ended_until piece block from c.place_of-end.result found.bounds.0 found.bounds.1 found.before in
     record {
       within = found.bounds.1;
-      line = λ piece h.
-          rw (rest_from-until piece block from end found.bounds.0 found.bounds.1 found.before, c.push_front_of.ensures)
-          (Holds-append (rest_from piece (take from block)) c.lines.line _ (so_far.line piece h));
-      sent = λ piece h. Sends-until _ _ _ piece block from end found.bounds.0 found.bounds.1 found.before (so_far.sent piece h);
+      line = λ piece h. rw ((until piece).1, c.push_front_of.ensures) (Holds-append (rest_from piece (take from block)) c.lines.line _ (so_far.line piece h));
+      sent = λ piece h. rw (until piece).0 (so_far.sent piece h);
       mark = so_far.mark;
     }
 
 pub returns-in_err-end_line-clause-written : goal.returns-in_err-end_line-clause-written
 returns-in_err-end_line-clause-written g c = λ piece h.
     let p = err_from_is_err_and c.from_residual.result c.from_residual.ensures.1 in
-    let written = g.W.Sink.written in
     let block = c.args.block.now in
-    let from = c.lines.place in
     let end = c.place_of-end.result in
     let found = c.place_of-end.ensures in
     let so_far = c.lines.invariant in
     let low : end < length block = omega (arith, found.bounds) in
-    let before = Sends-until _ _ _ piece block from end found.bounds.0 found.bounds.1 found.before (so_far.sent piece h) in
-    let fault = rw (← rest_from-until piece block from end found.bounds.0 found.bounds.1 found.before) at
-    (c.in_err-end_line.ensures.sent (rest_from piece (take from block)) (so_far.line piece h)) in
+    let until = ended_until piece block c.lines.place end found.bounds.0 found.bounds.1 found.before in
+    let fault = rw (← until.1) at (c.in_err-end_line.ensures.sent (rest_from piece (take c.lines.place block)) (so_far.line piece h)) in
+    let before = rw (← until.0) at (so_far.sent piece h) in
     rw (p.1, p.2) (AtFault-line _ _ _ _ c.lines.pending piece (take end block) _ block (cut_at block end low (found.byte_there low)) before fault)
 
 pub lines-preserved : goal.lines-preserved
 lines-preserved g c =
     let block = c.args.block.now in
-    let from = c.lines.place in
     let end = c.place_of-end.result in
     let found = c.place_of-end.ensures in
     let so_far = c.lines.invariant in
-    let read = take end block in
     let low : end < length block = omega (arith, found.bounds) in
     let next = line_feed_at block end low (found.byte_there low) in
     record {
       within = omega arith;
-      line = λ piece h. rw (next, rest_from-line_feed piece read) (Holds-nil _ (c.in_ok-end_line.ensures.line refl));
+      line = λ piece h. rw (next, rest_from-line_feed piece (take end block)) (c.in_ok-end_line.ensures.line refl);
       sent = λ piece h.
-          let before = Sends-until _ _ _ piece block from end found.bounds.0 found.bounds.1 found.before (so_far.sent piece h) in
-          let sent = rw (← rest_from-until piece block from end found.bounds.0 found.bounds.1 found.before) at
-          (c.in_ok-end_line.ensures.sent (rest_from piece (take from block)) (so_far.line piece h)) in
-          rw next (Sends-line _ _ _ c.lines.pending _ piece read before sent);
+          let until = ended_until piece block c.lines.place end found.bounds.0 found.bounds.1 found.before in
+          let sent = rw (← until.1) at (c.in_ok-end_line.ensures.sent (rest_from piece (take c.lines.place block)) (so_far.line piece h)) in
+          rw next (Sends-line _ _ _ c.lines.pending _ piece (take end block) (rw until.0 (so_far.sent piece h)) sent);
       mark = c.in_ok-end_line.ensures.mark ∙ so_far.mark;
     }
 

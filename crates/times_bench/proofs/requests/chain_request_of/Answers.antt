@@ -8,4 +8,4 @@ items_of-requires c =
     let next : c.in_ok-second.words ≡ Some c.in_ok-words.field-0 = search rules in
     let bytes : bytes_left c.in_ok-second.words ≡ length c.in_ok-words.field-0.now = ap bytes_left next in
     let parts = length-words c.in_ok-words.field-0.now c.cut_at.result.0.now c.cut_at.result.1 c.cut_at.ensures in
-    omega (arith, bytes, parts, bytes_left-room c.cut_at.result.1, c.in_ok-second.ensures.shorter, c.requires)
+    omega (arith, bytes, bytes_left-room c.cut_at.result.1, c.in_ok-second.ensures.shorter, c.requires)

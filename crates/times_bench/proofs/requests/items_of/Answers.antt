@@ -1,31 +1,32 @@
-use Rattle.std.proofs.Common.{rules, ◌≡◌, ◌∙◌, sym, ap, None}
-use Rattle.times_bench.specs.Words.{words_left}
-use Rattle.times_bench.proofs.RequestLemmas.{AllSoFar-next, AllSoFar-none, AllSoFar-end, room-next, room-smaller}
+use Rattle.std.proofs.Common.{rules, Some, append-nil, arith, [], ◌∷◌, length, length-append, ◌≡◌, ◌∙◌, sym, ap, None}
+use Rattle.times_bench.specs.Words.{words_left, all_of}
+use Rattle.times_bench.proofs.RequestLemmas.{items-next, length-words}
 use Rattle.times_bench.proofs.requests.items_of.Goals as goal
 
 pub returns-in_err-read : goal.returns-in_err-read
+unfolding all_of
 returns-in_err-read g c =
-    c.from_residual.ensures
-    ∙ sym (AllSoFar-none g.T.Item.reading _ c.words.items c.words.left c.cut_at.result.1 c.in-Some.text c.cut_at.result.0.now c.words.invariant.so_far
-    c.in-Some.is c.cut_at.ensures
-    (sym c.in_err-read.ensures.value))
+    let cut = ap words_left c.in-Some.is ∙ c.cut_at.ensures in
+    c.from_residual.ensures ∙ sym (rw (cut, ← c.in_err-read.ensures.value) at c.words.invariant.so_far)
 
 pub words-smaller : goal.words-smaller
-words-smaller g c = room-smaller c.words.left c.cut_at.result.1 c.in-Some.text c.cut_at.result.0.now c.in-Some.is c.cut_at.ensures
+words-smaller g c = rw c.in-Some.is (omega (arith, length-words c.in-Some.text.now c.cut_at.result.0.now c.cut_at.result.1 c.cut_at.ensures))
 
 pub words-preserved : goal.words-preserved
-words-preserved g c = record {
-  so_far =
-      AllSoFar-next g.T.Item.reading _ c.words.items c.push.new.self c.words.left c.cut_at.result.1 c.in-Some.text c.cut_at.result.0.now c.in_ok-read.field-0
-      c.words.invariant.so_far c.in-Some.is
-      c.cut_at.ensures (sym c.in_ok-read.ensures.value) c.push.ensures;
-  room =
-      room-next c.words.items c.push.new.self c.in_ok-read.field-0 c.words.left c.cut_at.result.1 c.in-Some.text c.cut_at.result.0.now c.words.invariant.room
-      c.in-Some.is
-      c.cut_at.ensures c.in_ok-read.ensures.three_bytes c.push.ensures;
-}
+unfolding all_of
+words-preserved g c =
+    let item = c.in_ok-read.field-0 in
+    let cut = ap words_left c.in-Some.is ∙ c.cut_at.ensures in
+    let room = rw c.in-Some.is at c.words.invariant.room in
+    let parts = length-words c.in-Some.text.now c.cut_at.result.0.now c.cut_at.result.1 c.cut_at.ensures in
+    let long = c.in_ok-read.ensures.three_bytes in
+    record {
+      so_far = rw c.push.ensures ((rw (cut, ← c.in_ok-read.ensures.value) at c.words.invariant.so_far) ∙ items-next c.words.items item _);
+      room = omega (arith, ap length c.push.ensures, length-append c.words.items (item ∷ []));
+    }
 
 pub returns : goal.returns
+unfolding all_of
 returns g c =
     let none : c.words.left ≡ None = search rules in
-    sym (AllSoFar-end g.T.Item.reading _ c.words.items (words_left c.words.left) c.words.invariant.so_far (ap words_left none))
+    sym ((rw none at c.words.invariant.so_far) ∙ ap Some (append-nil c.words.items))

@@ -11,11 +11,9 @@ returns-in_err-make_room-clause-sent g c =
 
 pub returns-in_err-flush-clause-sent : goal.returns-in_err-flush-clause-sent
 returns-in_err-flush-clause-sent g c =
-    let residual = c.from_residual-in_err-flush in
-    let p = err_from_is_err_and residual.result residual.ensures.1 in
+    let p = err_from_is_err_and c.from_residual-in_err-flush.result c.from_residual-in_err-flush.ensures.1 in
     let old = c.args.pending.now in
-    let kept = c.in_default.ensures.0 in
-    let fault = rw kept at c.in_err-flush.ensures.written in
+    let fault = rw c.in_default.ensures.0 at c.in_err-flush.ensures.written in
     rw (p.1, p.2) (AtFault-weaker _ fault
     (λ cut. AppendsBeginning-longer _ _ old (answer_of c.args.line.now)
     (AppendsBeginning-flushed _ _ _ c.make_room.new.pending old c.in_ok-make_room.ensures.sent cut)) (λ none. absurd none))

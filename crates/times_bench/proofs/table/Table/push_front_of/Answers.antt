@@ -1,7 +1,7 @@
-use Rattle.std.proofs.Common.{◌∙◌}
-use Rattle.times_bench.proofs.LineLemmas.{take-append-room}
+use Rattle.std.proofs.Common.{sym}
+use Rattle.std.proofs.Math.Seq.{take-append-add}
 use Rattle.times_bench.proofs.table.Table.push_front_of.Goals as goal
 
 pub returns-else-items-room : goal.returns-else-items-room
 returns-else-items-room g c =
-    c.push_all-else-items-room.ensures ∙ take-append-room g.row.ROOM c.room-room.result c.args.self.now c.args.items.now c.room-room.ensures
+    rw (c.push_all-else-items-room.ensures, ← c.room-room.ensures) (sym (take-append-add c.args.self.now c.args.items.now c.room-room.result))
