@@ -50,7 +50,7 @@ IsOrdinalDate-step n h =
     omega arith
 
 -- and its day number is that of the day
-day_of_ordinal_date-step : (n : ℤ) → IsDay n → day_of_ordinal_date (step_year (shifted_day n)) (step_ordinal (shifted_day n)) ≡ n
+pub day_of_ordinal_date-step : (n : ℤ) → IsDay n → day_of_ordinal_date (step_year (shifted_day n)) (step_ordinal (shifted_day n)) ≡ n
 day_of_ordinal_date-step n h =
     let day = shifted_day n in
     let sum = ordinal_sum day (IsShiftedDay-shifted_day n h) in
@@ -63,23 +63,13 @@ year_of-step n h = year_of-is n (step_year (shifted_day n)) (step_ordinal (shift
 pub ordinal_of-step : (n : ℤ) → IsDay n → ordinal_of n ≡ step_ordinal (shifted_day n)
 ordinal_of-step n h = ordinal_of-is n (step_year (shifted_day n)) (step_ordinal (shifted_day n)) (IsOrdinalDate-step n h) (day_of_ordinal_date-step n h)
 
-pub IsOrdinalDateOfRange-found : (n y : ℤ) (ordinal : ℕ) → IsDay n → y ≡ step_year (shifted_day n) → ordinal ≡ step_ordinal (shifted_day n) →
-    IsOrdinalDateOfRange y ordinal
-IsOrdinalDateOfRange-found n y ordinal h year place =
-    let date = IsOrdinalDate-step n h in
-    rw (year, place) (rw (year_of-step n h) at (IsYear-year_of n h), (date.first, date.last))
+pub IsOrdinalDateOfRange-found : (n : ℤ) → IsDay n → IsOrdinalDateOfRange (step_year (shifted_day n)) (step_ordinal (shifted_day n))
+IsOrdinalDateOfRange-found n h =
+    let date = IsOrdinalDate-step n h in (rw (year_of-step n h) at (IsYear-year_of n h), (date.first, date.last))
 
-pub day_of_ordinal_date-found : (n y : ℤ) (ordinal : ℕ) → IsDay n → y ≡ step_year (shifted_day n) → ordinal ≡ step_ordinal (shifted_day n) →
-    day_of_ordinal_date y ordinal ≡ n
-day_of_ordinal_date-found n y ordinal h year place = rw (year, place) (day_of_ordinal_date-step n h)
-
-pub IsInRange-found : (n : ℤ) (ordinal : ℕ) → IsDay n → ordinal ≡ step_ordinal (shifted_day n) → IsInRange 1 366 ordinal
-IsInRange-found n ordinal h place =
-    let date = IsOrdinalDate-step n h in
-    let first = date.first in
-    let last = date.last in
-    let length = days_in_year_bounds (step_year (shifted_day n)) in
-    rw place (omega arith)
+pub IsInRange-found : (n : ℤ) → IsDay n → IsInRange 1 366 (step_ordinal (shifted_day n))
+IsInRange-found n h =
+    let date = IsOrdinalDate-step n h in let length = days_in_year_bounds (step_year (shifted_day n)) in omega (arith, date.first, date.last)
 
 pub is_leap_year-step : (n : ℤ) → IsDay n → is_leap_year (year_of n) ≡ step_leap (shifted_day n)
 is_leap_year-step n h =
