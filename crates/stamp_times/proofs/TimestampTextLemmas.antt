@@ -118,21 +118,20 @@ fraction_text-zero : fraction_text 0 ≡ []
 unfolding fraction_text
 fraction_text-zero = refl
 
-fraction_text-some : (n : ℕ) → 0 < n → fraction_text n ≡ 46 ∷ fraction_digits 9 n
+fraction_text-some : (n : ℕ) → fraction_text (suc n) ≡ 46 ∷ fraction_digits 9 (suc n)
 unfolding fraction_text
-fraction_text-some zero some = absurd (omega arith)
-fraction_text-some (suc n) some = grind (arith, nat_tests)
+fraction_text-some n = grind (arith, nat_tests)
 
 IsFraction-fraction_text : (n : ℕ) → IsFraction (fraction_text n)
 IsFraction-fraction_text zero = rw fraction_text-zero tt
-IsFraction-fraction_text (suc n) = rw (fraction_text-some (suc n) (omega arith)) refl
+IsFraction-fraction_text (suc n) = rw (fraction_text-some n) refl
 
 fraction_text-injective : (n m : ℕ) → n < nanos_per_second → m < nanos_per_second → fraction_text n ≡ fraction_text m → n ≡ m
 fraction_text-injective zero zero p q e = refl
-fraction_text-injective zero (suc m) p q e = absurd (let apart = rw (fraction_text-zero, fraction_text-some (suc m) (omega arith)) at e in cc)
-fraction_text-injective (suc n) zero p q e = absurd (let apart = rw (fraction_text-zero, fraction_text-some (suc n) (omega arith)) at e in cc)
+fraction_text-injective zero (suc m) p q e = absurd (let apart = rw (fraction_text-zero, fraction_text-some m) at e in cc)
+fraction_text-injective (suc n) zero p q e = absurd (let apart = rw (fraction_text-zero, fraction_text-some n) at e in cc)
 fraction_text-injective (suc n) (suc m) p q e =
-    let both = rw (fraction_text-some (suc n) (omega arith), fraction_text-some (suc m) (omega arith)) at e in
+    let both = rw (fraction_text-some n, fraction_text-some m) at e in
     fraction_digits-injective 9 (suc n) (suc m) (omega arith) (omega arith) cc
 
 -- a text with no sign has no minus first
@@ -201,7 +200,7 @@ unfolding seconds_text
 seconds_text-zero_end s zero before front h e = refl
 seconds_text-zero_end s (suc n) before front h e =
     let ends : last_or 0 (before ++ (decimal s ++ 46 ∷ fraction_digits 9 (suc n))) ≡ last_or 0 (front ++ 48 ∷ []) =
-    ap (last_or 0) (rw (fraction_text-some (suc n) (omega arith)) at e) in
+    ap (last_or 0) (rw (fraction_text-some n) at e) in
     absurd (fraction_digits-end 9 (suc n) 46 (omega arith) (omega arith) (rw (last_or-append, last_or-append, last_or-append) at ends))
 
 timestamp_text-zero_end : (i : ℤ) (front : List ℕ) → timestamp_text i ≡ front ++ 48 ∷ [] → unsigned_abs i % nanos_per_second ≡ 0
