@@ -1,5 +1,5 @@
 -- What the second and the nanosecond of a timestamp say of its instant.
-use Rattle.std.proofs.Common.{◌≡◌, ℕ, ◌/◌, ◌%◌, ◌<◌, arith, ℤ, pos, ◌+ℤ◌, ◌*ℤ◌, unsigned_abs, ap, ◌∙◌}
+use Rattle.std.proofs.Common.{◌≡◌, ℕ, ◌/◌, ◌%◌, ◌<◌, arith, ℤ, pos, ◌+ℤ◌, ◌*ℤ◌, unsigned_abs}
 use Rattle.std.specs.Int.{int_div_euclid, int_rem_euclid}
 use Rattle.calendar_values.specs.Clock.{nanos_per_second, clock_of_parts, hour_of, minute_of, second_of}
 use Rattle.calendar_values.specs.Range.{IsDay}
@@ -11,7 +11,6 @@ use Rattle.plain_times.specs.Replacements.{with_time}
 use Rattle.utc_times.specs.UnixTime.{instant_of_second}
 use Rattle.stamp_times.specs.Instants.{instant_of_parts, instant_of_milliseconds, instant_of_microseconds, unix_nanosecond_of, unix_milliseconds_of}
 use Rattle.stamp_times.specs.Instants.{unix_microseconds_of}
-use Rattle.stamp_times.specs.TimestampLemmas.{unix_seconds_of-parts, unix_nanosecond_of-parts}
 
 pub unix_seconds_of-is : (i s : ℤ) (n : ℕ) → n < nanos_per_second → instant_of_parts s n ≡ i → unix_seconds_of i ≡ s
 unix_seconds_of-is i s n p e = omega (arith, signed_arith)

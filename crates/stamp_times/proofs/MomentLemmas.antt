@@ -1,5 +1,5 @@
 -- What the calls of each type say in the counter's words.
-use Rattle.std.proofs.Common.{◌≡◌, refl, ℤ, Option, Some, None, SomeIff, Result, Ok, Err, ap, ◌∙◌, sym}
+use Rattle.std.proofs.Common.{◌≡◌, refl, ℤ, Option, Some, None, SomeIff, Result, Ok, Err, ap}
 use Rattle.std.specs.Option.{option_map}
 use Rattle.std.specs.Result.{result_map_both}
 use Rattle.calendar_values.specs.Refusals.{Refusal}

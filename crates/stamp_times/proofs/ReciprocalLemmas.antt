@@ -1,10 +1,9 @@
 -- The steps find the year, its kind and the day of the year that counting finds.
-use Rattle.std.proofs.Common.{◌≡◌, ℕ, suc, ◌+◌, ◌^◌, ◌<◌, ◌≤◌, sym, ◌∙◌, arith, ℤ, pos, negsuc, ◌+ℤ◌}
+use Rattle.std.proofs.Common.{◌≡◌, ℕ, suc, ◌+◌, ◌^◌, ◌<◌, ◌≤◌, sym, ◌∙◌, arith, ℤ, pos, ◌+ℤ◌}
 use Rattle.std.proofs.lemmas.Bool.Decides.{nat_tests}
-use Rattle.std.proofs.lemmas.Int.{ints}
 use Rattle.calendar_values.specs.SignedArith.{signed_arith}
 use Rattle.std.specs.Int.{IsInRange}
-use Rattle.calendar_values.specs.Calendar.{is_leap_year, year_start, year_of, ordinal_of, day_of_ordinal_date, IsOrdinalDate}
+use Rattle.calendar_values.specs.Calendar.{is_leap_year, year_of, ordinal_of, day_of_ordinal_date, IsOrdinalDate}
 use Rattle.calendar_values.specs.DayLemmas.{year_of-is, ordinal_of-is, IsYear-year_of}
 use Rattle.calendar_values.specs.Range.{IsDay}
 use Rattle.calendar_values.specs.Refusals.{IsOrdinalDateOfRange}

@@ -51,6 +51,7 @@ fraction_digits-injective (suc (suc k)) n m p q e = choose (nat_eq (n % 10) 0) r
     fraction_digits-injective (suc k) (n / 10) (m / 10) (omega arith) (omega arith) shorter) where
       apart : (x y : ℕ) → fraction_digits (suc k) x ≡ last_digits (suc (suc k)) y → ⊥
       apart x y same = omega (arith, ap (length {A = ℕ}) same, length-fraction_digits (suc k) x, length-last_digits (suc (suc k)) y)
+
       choose : (a : Bool) → nat_eq (n % 10) 0 ≡ a → (b : Bool) → nat_eq (m % 10) 0 ≡ b →
           (fraction_digits (suc k) (n / 10) ≡ fraction_digits (suc k) (m / 10) → n / 10 ≡ m / 10) → n ≡ m
       choose true f true g earlier = let same = earlier (rw (f, g) at e) in grind (arith, nat_tests)

@@ -1,14 +1,12 @@
 -- One more step of a chain of conversions.
-use Rattle.std.proofs.Common.{◌≡◌, ℕ, suc, ◌+◌, ◌<◌, ℤ, List, [], ◌∷◌, ◌++◌, Option, Some, None, SomeIff, Bool, true, false, length, take, drop, get_or, sym}
-use Rattle.std.proofs.Common.{ap, ◌∙◌, refl, arith, add-one, cond, option_map}
+use Rattle.std.proofs.Common.{◌≡◌, ℕ, ◌+◌, ◌<◌, ℤ, List, [], ◌∷◌, ◌++◌, Option, Some, None, SomeIff, length, take, drop, get_or, sym}
+use Rattle.std.proofs.Common.{ap, ◌∙◌, refl, arith, add-one, option_map}
 use Rattle.std.proofs.Math.Seq.{drop-cons}
 use Rattle.std.proofs.lemmas.List.{take_more}
-use Rattle.std.specs.Option.{is_some}
 use Rattle.calendar_values.specs.WallClock.{IsWallClock}
 use Rattle.offset_times.specs.InstantLemmas.{instant_of-local_at}
 use Rattle.plain_times.specs.SumLemmas.{wall_clock_if_any-in, wall_clock_if_any-SomeIff}
-use Rattle.plain_times.specs.Sums.{wall_clock_if_any}
-use Rattle.stamp_times.specs.Travel.{held_instant, shown_by, holds, held_by, stop_index, held_after}
+use Rattle.stamp_times.specs.Travel.{held_instant, shown_by, held_by, stop_index, held_after}
 use Rattle.stamp_times.specs.declared.chains.steps.Held.{Held}
 use Rattle.stamp_times.specs.declared.chains.steps.Step.{Step}
 use Rattle.stamp_times.specs.declared.chains.steps.Step.TheVariants.{ToStamp, ToUtc, ToOffset}

@@ -1,5 +1,5 @@
 -- Logs in the order of time in which each instant stands once.
-use Rattle.std.proofs.Common.{◌≡◌, ℕ, zero, suc, ◌+◌, subst, inl, inr, Bool, false, arith, ℤ, int_cmp, List, [], ◌∷◌, ◌++◌, length, take, drop, slice_index_or}
+use Rattle.std.proofs.Common.{◌≡◌, ℕ, zero, suc, ◌+◌, inl, inr, Bool, false, arith, ℤ, int_cmp, List, [], ◌∷◌, ◌++◌, length, take, drop}
 use Rattle.std.proofs.lemmas.Cmp.{int_cmp_total, int_eq_equiv}
 use Rattle.std.proofs.lemmas.Int.{ints}
 use Rattle.std.proofs.lemmas.List.{take-append-drop}

@@ -1,5 +1,5 @@
 -- An instant and its second and nanosecond determine each other.
-use Rattle.std.specs.Prelude.{◌≡◌, ◌<◌, ℕ, ℤ, pos, negsuc}
+use Rattle.std.specs.Prelude.{◌≡◌, ◌<◌, ℕ, ℤ}
 use Rattle.std.proofs.Common.{arith}
 use Rattle.std.proofs.lemmas.Int.{ints}
 use Rattle.calendar_values.specs.Clock.{nanos_per_second}
