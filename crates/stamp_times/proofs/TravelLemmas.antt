@@ -55,5 +55,4 @@ pub travel-ends : (i : ℤ) (steps : List Step) (k : ℕ) (step : Step) → k < 
     SomeIff None (IsWallClock (shown_by step i)) (held_by step i) → stop_index i steps ≡ later k (stop_index i (drop k steps)) → stop_index i steps ≡ Some k
 travel-ends i steps k step below here h so =
     let from_here : 0 + k ≡ k = omega arith in
-    let ends : stop_index i steps ≡ Some (0 + k) = rw (rest steps k step below here, travel-stopped i step (drop (k + 1) steps) h) at so in
-    rw from_here at ends
+    rw (rest steps k step below here, travel-stopped i step (drop (k + 1) steps) h, from_here) at so
