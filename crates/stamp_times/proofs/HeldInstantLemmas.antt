@@ -1,5 +1,5 @@
 -- What the second and the nanosecond of a timestamp say of its instant.
-use Rattle.std.proofs.Common.{◌≡◌, ℕ, ◌/◌, ◌%◌, ◌<◌, arith, ℤ, pos, ◌+ℤ◌, ◌*ℤ◌, unsigned_abs, ap, ◌∙◌}
+use Rattle.std.proofs.Common.{◌≡◌, ℕ, ◌/◌, ◌%◌, ◌<◌, arith, ℤ, pos, ◌+ℤ◌, ◌*ℤ◌, unsigned_abs}
 use Rattle.std.specs.Int.{int_div_euclid, int_rem_euclid}
 use Rattle.calendar_values.specs.Clock.{nanos_per_second, clock_of_parts, hour_of, minute_of, second_of}
 use Rattle.calendar_values.specs.Range.{IsDay}
@@ -11,13 +11,13 @@ use Rattle.plain_times.specs.Replacements.{with_time}
 use Rattle.utc_times.specs.UnixTime.{instant_of_second}
 use Rattle.stamp_times.specs.Instants.{instant_of_parts, instant_of_milliseconds, instant_of_microseconds, unix_nanosecond_of, unix_milliseconds_of}
 use Rattle.stamp_times.specs.Instants.{unix_microseconds_of}
-use Rattle.stamp_times.specs.TimestampLemmas.{unix_seconds_of-parts, unix_nanosecond_of-parts}
 
 pub unix_seconds_of-is : (i s : ℤ) (n : ℕ) → n < nanos_per_second → instant_of_parts s n ≡ i → unix_seconds_of i ≡ s
-unix_seconds_of-is i s n p e = rw (← e) (unix_seconds_of-parts s n p)
+unix_seconds_of-is i s n p e = omega (arith, signed_arith)
 
 pub unix_nanosecond_of-is : (i s : ℤ) (n : ℕ) → n < nanos_per_second → instant_of_parts s n ≡ i → unix_nanosecond_of i ≡ n
-unix_nanosecond_of-is i s n p e = rw (← e) (unix_nanosecond_of-parts s n p)
+unfolding wall_time
+unix_nanosecond_of-is i s n p e = omega (arith, signed_arith)
 
 pub unix_milliseconds_of-is : (i s : ℤ) (n : ℕ) → n < nanos_per_second → instant_of_parts s n ≡ i →
     unix_milliseconds_of i ≡ s *ℤ pos 1_000 +ℤ pos (n / 1_000_000)
@@ -52,14 +52,10 @@ unfolding weekday_of
 weekday_of-Monday n h = omega (arith, signed_arith)
 
 -- another nanosecond of the same second
-pub with_time-second : (i : ℤ) (n : ℕ) → with_time i (clock_of_parts (hour_of (wall_time i)) (minute_of (wall_time i)) (second_of (wall_time i)) n) ≡
-    instant_of_parts (unix_seconds_of i) n
-unfolding with_time wall_day wall_time
-with_time-second i n = omega (arith, signed_arith)
-
 pub with_time-nanosecond : (i s : ℤ) (n m : ℕ) → n < nanos_per_second → instant_of_parts s n ≡ i →
     with_time i (clock_of_parts (hour_of (wall_time i)) (minute_of (wall_time i)) (second_of (wall_time i)) m) ≡ instant_of_parts s m
-with_time-nanosecond i s n m p e = with_time-second i m ∙ ap (λ (t : ℤ). instant_of_parts t m) (unix_seconds_of-is i s n p e)
+unfolding with_time wall_day wall_time
+with_time-nanosecond i s n m p e = omega (arith, signed_arith)
 
 pub ruleset fields = (unix_seconds_of-is, unix_nanosecond_of-is)
 

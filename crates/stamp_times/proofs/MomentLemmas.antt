@@ -1,5 +1,5 @@
 -- What the calls of each type say in the counter's words.
-use Rattle.std.proofs.Common.{◌≡◌, ℤ, Option, Some, None, SomeIff, Result, Ok, Err, ap, ◌∙◌, sym}
+use Rattle.std.proofs.Common.{◌≡◌, refl, ℤ, Option, Some, None, SomeIff, Result, Ok, Err, ap}
 use Rattle.std.specs.Option.{option_map}
 use Rattle.std.specs.Result.{result_map_both}
 use Rattle.calendar_values.specs.Refusals.{Refusal}
@@ -25,8 +25,7 @@ pub ruleset moves = (shifted-SomeIff, replaced-as_is)
 -- what a conversion to an offset replies, accepted and refused
 pub local_reply-accepted : (at : Local) (w o : ℤ) → SomeIff (Some at) (IsWallClock w) (wall_at w o) →
     local_reply at.offset (Some at.wall) ≡ local_reply o (wall_clock_if_any w)
-local_reply-accepted at w o h =
-    ap (λ (p : Local). local_reply p.offset (Some p.wall)) h.1 ∙ ap (local_reply o) (sym (wall_clock_if_any-in w h.0))
+local_reply-accepted at w o h = rw (h.1, wall_clock_if_any-in w h.0) refl
 
 pub local_reply-refused : (w o : ℤ) → SomeIff None (IsWallClock w) (wall_at w o) → Refused ≡ local_reply o (wall_clock_if_any w)
 local_reply-refused w o h = ap (local_reply o) (wall_clock_if_any-SomeIff None w h)

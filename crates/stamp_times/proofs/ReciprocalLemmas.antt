@@ -1,9 +1,9 @@
 -- The steps find the year, its kind and the day of the year that counting finds.
-use Rattle.std.proofs.Common.{◌≡◌, ℕ, suc, ◌+◌, ◌^◌, ◌<◌, ◌≤◌, sym, ◌∙◌, arith, ℤ, pos, negsuc, ◌+ℤ◌}
+use Rattle.std.proofs.Common.{◌≡◌, ℕ, suc, ◌+◌, ◌^◌, ◌<◌, ◌≤◌, sym, ◌∙◌, arith, ℤ, pos, ◌+ℤ◌}
 use Rattle.std.proofs.lemmas.Bool.Decides.{nat_tests}
-use Rattle.std.proofs.lemmas.Int.{ints}
+use Rattle.calendar_values.specs.SignedArith.{signed_arith}
 use Rattle.std.specs.Int.{IsInRange}
-use Rattle.calendar_values.specs.Calendar.{is_leap_year, year_start, year_of, ordinal_of, day_of_ordinal_date, IsOrdinalDate}
+use Rattle.calendar_values.specs.Calendar.{is_leap_year, year_of, ordinal_of, day_of_ordinal_date, IsOrdinalDate}
 use Rattle.calendar_values.specs.DayLemmas.{year_of-is, ordinal_of-is, IsYear-year_of}
 use Rattle.calendar_values.specs.Range.{IsDay}
 use Rattle.calendar_values.specs.Refusals.{IsOrdinalDateOfRange}
@@ -26,22 +26,15 @@ years_of-bound day h = omega arith
 
 -- the rule has a period of 400 years
 is_leap_year-shift : (y : ℤ) (n : ℕ) → y +ℤ pos 2_379_600 ≡ pos n → is_leap_year y ≡ is_leap_year (pos n)
-is_leap_year-shift (pos a) n e = let h : a + 2_379_600 ≡ n = omega (arith, ints) in grind (arith, nat_tests)
-is_leap_year-shift (negsuc a) n e = let h : n + suc a ≡ 2_379_600 = omega (arith, ints) in grind (arith, nat_tests)
+is_leap_year-shift y n e = grind (arith, signed_arith, nat_tests)
 
 -- the same for a day n, counted from 1970
 
-shifted_day-is : (n : ℤ) → IsDay n → n +ℤ pos 869_850_581 ≡ pos (shifted_day n)
-shifted_day-is n h = omega (arith, ints)
-
 pub IsShiftedDay-shifted_day : (n : ℤ) → IsDay n → IsShiftedDay (shifted_day n)
-IsShiftedDay-shifted_day n h = omega (arith, ints)
+IsShiftedDay-shifted_day n h = omega (arith, signed_arith)
 
 step_year-is : (day : ℕ) → step_year day +ℤ pos 2_379_600 ≡ pos (years_of day)
-step_year-is day = omega (arith, ints)
-
-year_start-step : (day : ℕ) → year_start (step_year day) +ℤ pos 869_850_581 ≡ pos (days_from_0 (years_of day))
-year_start-step day = year_start-closed 5_949 (years_of day) (step_year day) (step_year-is day)
+step_year-is day = omega (arith, signed_arith)
 
 -- the year has that day of the year
 IsOrdinalDate-step : (n : ℤ) → IsDay n → IsOrdinalDate (step_year (shifted_day n)) (step_ordinal (shifted_day n))
@@ -56,10 +49,12 @@ IsOrdinalDate-step n h =
     omega arith
 
 -- and its day number is that of the day
-day_of_ordinal_date-step : (n : ℤ) → IsDay n → day_of_ordinal_date (step_year (shifted_day n)) (step_ordinal (shifted_day n)) ≡ n
+pub day_of_ordinal_date-step : (n : ℤ) → IsDay n → day_of_ordinal_date (step_year (shifted_day n)) (step_ordinal (shifted_day n)) ≡ n
 day_of_ordinal_date-step n h =
     let day = shifted_day n in
-    omega (arith, ints, ordinal_sum day (IsShiftedDay-shifted_day n h), shifted_day-is n h, year_start-step day)
+    let sum = ordinal_sum day (IsShiftedDay-shifted_day n h) in
+    let start = year_start-closed 5_949 (years_of day) (step_year day) (step_year-is day) in
+    omega (arith, signed_arith)
 
 pub year_of-step : (n : ℤ) → IsDay n → year_of n ≡ step_year (shifted_day n)
 year_of-step n h = year_of-is n (step_year (shifted_day n)) (step_ordinal (shifted_day n)) (IsOrdinalDate-step n h) (day_of_ordinal_date-step n h)
@@ -67,23 +62,13 @@ year_of-step n h = year_of-is n (step_year (shifted_day n)) (step_ordinal (shift
 pub ordinal_of-step : (n : ℤ) → IsDay n → ordinal_of n ≡ step_ordinal (shifted_day n)
 ordinal_of-step n h = ordinal_of-is n (step_year (shifted_day n)) (step_ordinal (shifted_day n)) (IsOrdinalDate-step n h) (day_of_ordinal_date-step n h)
 
-pub IsOrdinalDateOfRange-found : (n y : ℤ) (ordinal : ℕ) → IsDay n → y ≡ step_year (shifted_day n) → ordinal ≡ step_ordinal (shifted_day n) →
-    IsOrdinalDateOfRange y ordinal
-IsOrdinalDateOfRange-found n y ordinal h year place =
-    let date = IsOrdinalDate-step n h in
-    rw (year, place) (rw (year_of-step n h) at (IsYear-year_of n h), (date.first, date.last))
+pub IsOrdinalDateOfRange-found : (n : ℤ) → IsDay n → IsOrdinalDateOfRange (step_year (shifted_day n)) (step_ordinal (shifted_day n))
+IsOrdinalDateOfRange-found n h =
+    let date = IsOrdinalDate-step n h in (rw (year_of-step n h) at (IsYear-year_of n h), (date.first, date.last))
 
-pub day_of_ordinal_date-found : (n y : ℤ) (ordinal : ℕ) → IsDay n → y ≡ step_year (shifted_day n) → ordinal ≡ step_ordinal (shifted_day n) →
-    day_of_ordinal_date y ordinal ≡ n
-day_of_ordinal_date-found n y ordinal h year place = rw (year, place) (day_of_ordinal_date-step n h)
-
-pub IsInRange-found : (n : ℤ) (ordinal : ℕ) → IsDay n → ordinal ≡ step_ordinal (shifted_day n) → IsInRange 1 366 ordinal
-IsInRange-found n ordinal h place =
-    let date = IsOrdinalDate-step n h in
-    let first = date.first in
-    let last = date.last in
-    let length = days_in_year_bounds (step_year (shifted_day n)) in
-    rw place (omega arith)
+pub IsInRange-found : (n : ℤ) → IsDay n → IsInRange 1 366 (step_ordinal (shifted_day n))
+IsInRange-found n h =
+    let date = IsOrdinalDate-step n h in let length = days_in_year_bounds (step_year (shifted_day n)) in omega (arith, date.first, date.last)
 
 pub is_leap_year-step : (n : ℤ) → IsDay n → is_leap_year (year_of n) ≡ step_leap (shifted_day n)
 is_leap_year-step n h =

@@ -1,6 +1,6 @@
 -- The text of an instant by the seconds and the nanoseconds of its absolute value, and what it tells of them.
 use Rattle.std.proofs.Common.{◌≡◌, ◌≢◌, ◌≤◌, ℕ, zero, suc, ◌+◌, ◌/◌, ◌%◌, ◌<◌, ◌^◌, Bool, true, false, List, [], ◌∷◌, ◌++◌, append_assoc, append-nil, refl, sym}
-use Rattle.std.proofs.Common.{ap, ◌∙◌, arith, ℤ, pos, negsuc, unsigned_abs, decimal, length, length-append}
+use Rattle.std.proofs.Common.{ap, get_or, ◌∙◌, arith, ℤ, pos, negsuc, unsigned_abs, decimal, length, length-append}
 use Rattle.std.specs.Prelude.{⊤, nat_eq, int_lt}
 use Rattle.std.specs.Str.Parse.{digits_value}
 use Rattle.std.proofs.lemmas.Bool.Decides.{nat_tests}
@@ -42,12 +42,6 @@ last_digits-injective (suc k) n m p q e =
     let last = same.1 in
     omega arith
 
-length-fraction_digits-some : (k n : ℕ) → 0 < length (fraction_digits (suc k) n)
-unfolding fraction_digits
-length-fraction_digits-some zero n = omega (arith, length-last_digits 1 n)
-length-fraction_digits-some (suc k) n =
-    grind (arith, nat_tests, length-last_digits (suc (suc k)) n, length-fraction_digits-some k (n / 10))
-
 -- no two fractions of so many places have the same digits
 fraction_digits-injective : (k n m : ℕ) → n < 10 ^ k → m < 10 ^ k → fraction_digits k n ≡ fraction_digits k m → n ≡ m
 unfolding fraction_digits
@@ -55,44 +49,37 @@ fraction_digits-injective zero n m p q e = omega arith
 fraction_digits-injective (suc zero) n m p q e = last_digits-injective 1 n m p q e
 fraction_digits-injective (suc (suc k)) n m p q e = choose (nat_eq (n % 10) 0) refl (nat_eq (m % 10) 0) refl (λ shorter.
     fraction_digits-injective (suc k) (n / 10) (m / 10) (omega arith) (omega arith) shorter) where
+      apart : (x y : ℕ) → fraction_digits (suc k) x ≡ last_digits (suc (suc k)) y → ⊥
+      apart x y same = omega (arith, ap (length {A = ℕ}) same, length-fraction_digits (suc k) x, length-last_digits (suc (suc k)) y)
+
       choose : (a : Bool) → nat_eq (n % 10) 0 ≡ a → (b : Bool) → nat_eq (m % 10) 0 ≡ b →
           (fraction_digits (suc k) (n / 10) ≡ fraction_digits (suc k) (m / 10) → n / 10 ≡ m / 10) → n ≡ m
-      choose true f true g earlier =
-          let left : fraction_digits (suc (suc k)) n ≡ fraction_digits (suc k) (n / 10) = rw f in
-          let right : fraction_digits (suc (suc k)) m ≡ fraction_digits (suc k) (m / 10) = rw g in
-          let same = earlier (sym left ∙ e ∙ right) in
-          grind (arith, nat_tests)
-      choose true f false g earlier =
-          let left : fraction_digits (suc (suc k)) n ≡ fraction_digits (suc k) (n / 10) = rw f in
-          let right : fraction_digits (suc (suc k)) m ≡ last_digits (suc (suc k)) m = rw g in
-          absurd (omega (arith, ap (length {A = ℕ}) (sym left ∙ e ∙ right), length-fraction_digits (suc k) (n / 10), length-last_digits (suc (suc k)) m))
-      choose false f true g earlier =
-          let left : fraction_digits (suc (suc k)) n ≡ last_digits (suc (suc k)) n = rw f in
-          let right : fraction_digits (suc (suc k)) m ≡ fraction_digits (suc k) (m / 10) = rw g in
-          absurd (omega (arith, ap (length {A = ℕ}) (sym left ∙ e ∙ right), length-fraction_digits (suc k) (m / 10), length-last_digits (suc (suc k)) n))
-      choose false f false g earlier =
-          let left : fraction_digits (suc (suc k)) n ≡ last_digits (suc (suc k)) n = rw f in
-          let right : fraction_digits (suc (suc k)) m ≡ last_digits (suc (suc k)) m = rw g in
-          last_digits-injective (suc (suc k)) n m p q (sym left ∙ e ∙ right)
+      choose true f true g earlier = let same = earlier (rw (f, g) at e) in grind (arith, nat_tests)
+      choose true f false g earlier = absurd (apart (n / 10) m (rw (f, g) at e))
+      choose false f true g earlier = absurd (apart (m / 10) n (sym (rw (f, g) at e)))
+      choose false f false g earlier = last_digits-injective (suc (suc k)) n m p q (rw (f, g) at e)
+
+-- the last element of a list, or d where it has none
+abbrev last_or : ℕ → List ℕ → ℕ
+last_or d [] = d
+last_or d (x ∷ xs) = last_or x xs
+
+last_or-append : (d : ℕ) (xs ys : List ℕ) → last_or d (xs ++ ys) ≡ last_or (last_or d xs) ys
+last_or-append d [] ys = refl
+last_or-append d (x ∷ xs) ys = last_or-append x xs ys
 
 -- a fraction that is not 0 ends in another digit than 0
-fraction_digits-end : (k n : ℕ) (front : List ℕ) (d : ℕ) → 0 < n → n < 10 ^ k → fraction_digits k n ≡ front ++ d ∷ [] → d ≢ 48
+fraction_digits-end : (k n d : ℕ) → 0 < n → n < 10 ^ k → last_or d (fraction_digits k n) ≢ 48
 unfolding fraction_digits last_digits
-fraction_digits-end zero n front d some p e = absurd (omega arith)
-fraction_digits-end (suc zero) n front d some p e =
-    let last = (push-injective [] front (48 + n % 10) d e).1 in λ zero_digit. absurd (omega arith)
-fraction_digits-end (suc (suc k)) n front d some p e = choose (nat_eq (n % 10) 0) refl (λ more shorter.
-    fraction_digits-end (suc k) (n / 10) front d more (omega arith) shorter) where
-      choose : (a : Bool) → nat_eq (n % 10) 0 ≡ a → (0 < n / 10 → fraction_digits (suc k) (n / 10) ≡ front ++ d ∷ [] → d ≢ 48) → d ≢ 48
-      choose true f earlier =
-          let left : fraction_digits (suc (suc k)) n ≡ fraction_digits (suc k) (n / 10) = rw f in
-          let short : n % 10 ≡ 0 = grind (arith, nat_tests) in
-          earlier (omega arith) (sym left ∙ e)
+fraction_digits-end zero n d some p e = omega arith
+fraction_digits-end (suc zero) n d some p e = omega arith
+fraction_digits-end (suc (suc k)) n d some p e = choose (nat_eq (n % 10) 0) refl (λ more shorter.
+    fraction_digits-end (suc k) (n / 10) d more (omega arith) shorter) where
+      choose : (a : Bool) → nat_eq (n % 10) 0 ≡ a → (0 < n / 10 → last_or d (fraction_digits (suc k) (n / 10)) ≢ 48) → ⊥
+      choose true f earlier = let short : n % 10 ≡ 0 = grind (arith, nat_tests) in earlier (omega arith) (rw f at e)
       choose false f earlier =
-          let left : fraction_digits (suc (suc k)) n ≡ last_digits (suc (suc k)) n = rw f in
-          let last = (push-injective (last_digits (suc k) (n / 10)) front (48 + n % 10) d (sym left ∙ e)).1 in
-          let some_digit : n % 10 ≢ 0 = grind (arith, nat_tests) in
-          λ zero_digit. some_digit (omega arith)
+          let last : 48 + n % 10 ≡ 48 = sym (last_or-append d (last_digits (suc k) (n / 10)) ((48 + n % 10) ∷ [])) ∙ rw f at e in
+          grind (arith, nat_tests)
 
 -- the bytes are digits, or come after them in ASCII: none is `-` or `.`
 abbrev HasNoMarks : List ℕ → Type 0
@@ -132,104 +119,26 @@ fraction_text-zero : fraction_text 0 ≡ []
 unfolding fraction_text
 fraction_text-zero = refl
 
-fraction_text-some : (n : ℕ) → 0 < n → fraction_text n ≡ 46 ∷ fraction_digits 9 n
+fraction_text-some : (n : ℕ) → fraction_text (suc n) ≡ 46 ∷ fraction_digits 9 (suc n)
 unfolding fraction_text
-fraction_text-some zero some = absurd (omega arith)
-fraction_text-some (suc n) some = grind (arith, nat_tests)
+fraction_text-some n = grind (arith, nat_tests)
 
 IsFraction-fraction_text : (n : ℕ) → IsFraction (fraction_text n)
 IsFraction-fraction_text zero = rw fraction_text-zero tt
-IsFraction-fraction_text (suc n) = rw (fraction_text-some (suc n) (omega arith)) refl
+IsFraction-fraction_text (suc n) = rw (fraction_text-some n) refl
 
 fraction_text-injective : (n m : ℕ) → n < nanos_per_second → m < nanos_per_second → fraction_text n ≡ fraction_text m → n ≡ m
 fraction_text-injective zero zero p q e = refl
-fraction_text-injective zero (suc m) p q e =
-    let apart : [] ≡ 46 ∷ fraction_digits 9 (suc m) = sym fraction_text-zero ∙ e ∙ fraction_text-some (suc m) (omega arith) in absurd cc
-fraction_text-injective (suc n) zero p q e =
-    let apart : 46 ∷ fraction_digits 9 (suc n) ≡ [] = sym (fraction_text-some (suc n) (omega arith)) ∙ e ∙ fraction_text-zero in absurd cc
+fraction_text-injective zero (suc m) p q e = absurd (let apart = rw (fraction_text-zero, fraction_text-some m) at e in cc)
+fraction_text-injective (suc n) zero p q e = absurd (let apart = rw (fraction_text-zero, fraction_text-some n) at e in cc)
 fraction_text-injective (suc n) (suc m) p q e =
-    let both : 46 ∷ fraction_digits 9 (suc n) ≡ 46 ∷ fraction_digits 9 (suc m) =
-    sym (fraction_text-some (suc n) (omega arith)) ∙ e ∙ fraction_text-some (suc m) (omega arith) in
-    let digits : fraction_digits 9 (suc n) ≡ fraction_digits 9 (suc m) = cc in
-    fraction_digits-injective 9 (suc n) (suc m) (omega arith) (omega arith) digits
-
-seconds_text-injective : (s t n m : ℕ) → s < 2 ^ 64 → t < 2 ^ 64 → n < nanos_per_second → m < nanos_per_second → seconds_text s n ≡ seconds_text t m → (s ≡ t) ×
-    (n ≡ m)
-unfolding seconds_text
-seconds_text-injective s t n m p q h k e =
-    let same = split-injective (decimal s) (decimal t) (fraction_text n) (fraction_text m) (HasNoMarks-decimal s p) (HasNoMarks-decimal t q)
-    (IsFraction-fraction_text n) (IsFraction-fraction_text m) e in
-    (decimal-injective s t p q same.0, fraction_text-injective n m h k same.1)
+    let both = rw (fraction_text-some n, fraction_text-some m) at e in
+    fraction_digits-injective 9 (suc n) (suc m) (omega arith) (omega arith) cc
 
 -- a text with no sign has no minus first
 not_minus : (ds f rest : List ℕ) → HasNoMarks ds → 0 < length ds → ds ++ f ≡ 45 ∷ rest → ⊥
 not_minus [] f rest h some e = omega arith
 not_minus (c ∷ ds) f rest h some e = let same : c ≡ 45 = cc in omega (arith, h.0)
-
-seconds_text-not_minus : (s n : ℕ) (rest : List ℕ) → s < 2 ^ 64 → seconds_text s n ≡ 45 ∷ rest → ⊥
-unfolding seconds_text
-seconds_text-not_minus s n rest p e = not_minus (decimal s) (fraction_text n) rest (HasNoMarks-decimal s p) (decimal_nonempty s p) e
-
-timestamp_text-later : (a : ℕ) → timestamp_text (pos a) ≡ seconds_text (a / nanos_per_second) (a % nanos_per_second)
-unfolding timestamp_text
-timestamp_text-later a = let sign : int_lt (pos a) (pos 0) ≡ false = grind (arith, ints) in rw sign
-
-timestamp_text-earlier : (a : ℕ) → timestamp_text (negsuc a) ≡ 45 ∷ seconds_text (suc a / nanos_per_second) (suc a % nanos_per_second)
-unfolding timestamp_text
-timestamp_text-earlier a = refl
-
--- no two instants of the range have one text
-pub timestamp_text-injective : (i j : ℤ) → IsWallClock i → IsWallClock j → timestamp_text i ≡ timestamp_text j → i ≡ j
-timestamp_text-injective (pos a) (pos b) h k e =
-    let a_in : a / nanos_per_second < 2 ^ 64 = omega (arith, ints) in
-    let b_in : b / nanos_per_second < 2 ^ 64 = omega (arith, ints) in
-    let same = seconds_text-injective (a / nanos_per_second) (b / nanos_per_second) (a % nanos_per_second) (b % nanos_per_second) a_in b_in (omega arith)
-    (omega arith) (sym (timestamp_text-later a) ∙ e ∙ timestamp_text-later b) in
-    omega (arith, ints, same.0, same.1)
-timestamp_text-injective (pos a) (negsuc b) h k e =
-    absurd (seconds_text-not_minus (a / nanos_per_second) (a % nanos_per_second) _ (omega (arith, ints))
-    (sym (timestamp_text-later a) ∙ e ∙ timestamp_text-earlier b))
-timestamp_text-injective (negsuc a) (pos b) h k e =
-    absurd (seconds_text-not_minus (b / nanos_per_second) (b % nanos_per_second) _ (omega (arith, ints))
-    (sym (timestamp_text-later b) ∙ sym e ∙ timestamp_text-earlier a))
-timestamp_text-injective (negsuc a) (negsuc b) h k e =
-    let a_in : suc a / nanos_per_second < 2 ^ 64 = omega (arith, ints) in
-    let b_in : suc b / nanos_per_second < 2 ^ 64 = omega (arith, ints) in
-    let both : 45 ∷ seconds_text (suc a / nanos_per_second) (suc a % nanos_per_second) ≡
-    45 ∷ seconds_text (suc b / nanos_per_second) (suc b % nanos_per_second) = sym (timestamp_text-earlier a) ∙ e ∙ timestamp_text-earlier b in
-    let text : seconds_text (suc a / nanos_per_second) (suc a % nanos_per_second) ≡ seconds_text (suc b / nanos_per_second) (suc b % nanos_per_second) = cc in
-    let same = seconds_text-injective (suc a / nanos_per_second) (suc b / nanos_per_second) (suc a % nanos_per_second) (suc b % nanos_per_second) a_in b_in
-    (omega arith) (omega arith) text in
-    omega (arith, ints, same.0, same.1)
-
--- a list that is not empty has a last element
-last_of : (c : ℕ) (cs : List ℕ) → (front : List ℕ) × ((d : ℕ) × (c ∷ cs ≡ front ++ d ∷ []))
-last_of c [] = ([], (c, refl))
-last_of c (b ∷ cs) =
-    let end = last_of b cs in (c ∷ end.0, (end.1.0, ap (λ (t : List ℕ). c ∷ t) end.1.1))
-
--- a text that ends in a 0 has no fraction
-seconds_text-zero_end : (s n : ℕ) (before front : List ℕ) → n < nanos_per_second → before ++ seconds_text s n ≡ front ++ 48 ∷ [] → n ≡ 0
-unfolding seconds_text
-seconds_text-zero_end s zero before front h e = refl
-seconds_text-zero_end s (suc n) before front h e = absurd (ended (fraction_digits 9 (suc n)) refl) where
-  ended : (digits : List ℕ) → fraction_digits 9 (suc n) ≡ digits → ⊥
-  ended [] is = omega (arith, ap (length {A = ℕ}) is, length-fraction_digits-some 8 (suc n))
-  ended (c ∷ cs) is =
-      let end = last_of c cs in
-      let digits : fraction_digits 9 (suc n) ≡ end.0 ++ end.1.0 ∷ [] = is ∙ end.1.1 in
-      let text : fraction_text (suc n) ≡ 46 ∷ (end.0 ++ end.1.0 ∷ []) = fraction_text-some (suc n) (omega arith) ∙ ap (λ (t : List ℕ). 46 ∷ t) digits in
-      let whole : (before ++ (decimal s ++ (46 ∷ end.0))) ++ (end.1.0 ∷ []) ≡ front ++ 48 ∷ [] =
-      append_assoc before (decimal s ++ (46 ∷ end.0)) (end.1.0 ∷ []) ∙
-      ap (λ (t : List ℕ). before ++ t) (append_assoc (decimal s) (46 ∷ end.0) (end.1.0 ∷ []) ∙ ap (λ (t : List ℕ). decimal s ++ t) (sym text)) ∙ e in
-      let last = (push-injective (before ++ (decimal s ++ (46 ∷ end.0))) front end.1.0 48 whole).1 in
-      fraction_digits-end 9 (suc n) end.0 end.1.0 (omega arith) (omega arith) digits last
-
-timestamp_text-zero_end : (i : ℤ) (front : List ℕ) → timestamp_text i ≡ front ++ 48 ∷ [] → unsigned_abs i % nanos_per_second ≡ 0
-timestamp_text-zero_end (pos a) front e =
-    seconds_text-zero_end (a / nanos_per_second) (a % nanos_per_second) [] front (omega arith) (sym (timestamp_text-later a) ∙ e)
-timestamp_text-zero_end (negsuc a) front e =
-    seconds_text-zero_end (suc a / nanos_per_second) (suc a % nanos_per_second) (45 ∷ []) front (omega arith) (sym (timestamp_text-earlier a) ∙ e)
 
 -- digits have no point
 no_point : (digits whole rest : List ℕ) → HasNoMarks digits → digits ≡ whole ++ 46 ∷ rest → ⊥
@@ -239,27 +148,73 @@ no_point (c ∷ digits) [] rest h e = let same : c ≡ 46 = cc in omega (arith, 
 no_point (c ∷ digits) (b ∷ whole) rest h e =
     let others : digits ≡ whole ++ 46 ∷ rest = cc in no_point digits whole rest h.1 others
 
-seconds_text-whole : (s n : ℕ) → n ≡ 0 → seconds_text s n ≡ decimal s
+-- the text of so many nanoseconds, and bytes that are digits before its fraction
+abbrev size_text : ℕ → List ℕ
+size_text a = seconds_text (a / nanos_per_second) (a % nanos_per_second)
+
+HasNoMarks-seconds : (a : ℕ) → a < 10 ^ 23 → HasNoMarks (decimal (a / nanos_per_second))
+HasNoMarks-seconds a p = HasNoMarks-decimal (a / nanos_per_second) (omega arith)
+
+size_text-injective : (a b : ℕ) → a < 10 ^ 23 → b < 10 ^ 23 → size_text a ≡ size_text b → a ≡ b
 unfolding seconds_text
-seconds_text-whole s n e = rw (e, fraction_text-zero, append-nil)
+size_text-injective a b p q e =
+    let left = IsFraction-fraction_text (a % nanos_per_second) in
+    let right = IsFraction-fraction_text (b % nanos_per_second) in
+    let same = split-injective _ _ _ _ (HasNoMarks-seconds a p) (HasNoMarks-seconds b q) left right e in
+    let seconds = decimal-injective (a / nanos_per_second) (b / nanos_per_second) (omega arith) (omega arith) same.0 in
+    let rest = fraction_text-injective (a % nanos_per_second) (b % nanos_per_second) (omega arith) (omega arith) same.1 in
+    omega arith
 
-first_bytes_apart : (a b : ℕ) (xs ys : List ℕ) → a < b → a ∷ xs ≡ b ∷ ys → ⊥
-first_bytes_apart a b xs ys below e = let same : a ≡ b = cc in omega arith
+size_text-not_minus : (a : ℕ) (rest : List ℕ) → a < 10 ^ 23 → size_text a ≡ 45 ∷ rest → ⊥
+unfolding seconds_text
+size_text-not_minus a rest p e = not_minus _ _ rest (HasNoMarks-seconds a p) (decimal_nonempty (a / nanos_per_second) (omega arith)) e
 
--- the text of a whole second has no point
+-- the text of whole seconds has no point
+size_text-whole : (a : ℕ) (whole rest : List ℕ) → a < 10 ^ 23 → a % nanos_per_second ≡ 0 → size_text a ≡ whole ++ 46 ∷ rest → ⊥
+unfolding seconds_text
+size_text-whole a whole rest p none e = no_point _ whole rest (HasNoMarks-seconds a p) (rw (none, fraction_text-zero, append-nil) at e)
+
+timestamp_text-later : (a : ℕ) → timestamp_text (pos a) ≡ size_text a
+unfolding timestamp_text
+timestamp_text-later a = let sign : int_lt (pos a) (pos 0) ≡ false = grind (arith, ints) in rw sign
+
+timestamp_text-earlier : (a : ℕ) → timestamp_text (negsuc a) ≡ 45 ∷ size_text (suc a)
+unfolding timestamp_text
+timestamp_text-earlier a = refl
+
+-- no two instants of the range have one text
+pub timestamp_text-injective : (i j : ℤ) → IsWallClock i → IsWallClock j → timestamp_text i ≡ timestamp_text j → i ≡ j
+timestamp_text-injective (pos a) (pos b) h k e =
+    ap pos (size_text-injective a b (omega (arith, ints)) (omega (arith, ints)) (sym (timestamp_text-later a) ∙ e ∙ timestamp_text-later b))
+timestamp_text-injective (pos a) (negsuc b) h k e =
+    absurd (size_text-not_minus a _ (omega (arith, ints)) (sym (timestamp_text-later a) ∙ e ∙ timestamp_text-earlier b))
+timestamp_text-injective (negsuc a) (pos b) h k e =
+    absurd (size_text-not_minus b _ (omega (arith, ints)) (sym (timestamp_text-later b) ∙ sym e ∙ timestamp_text-earlier a))
+timestamp_text-injective (negsuc a) (negsuc b) h k e =
+    let both : 45 ∷ size_text (suc a) ≡ 45 ∷ size_text (suc b) = sym (timestamp_text-earlier a) ∙ e ∙ timestamp_text-earlier b in
+    let same = size_text-injective (suc a) (suc b) (omega (arith, ints)) (omega (arith, ints)) cc in
+    omega (arith, ints)
+
+-- a text that ends in a 0 has no fraction
+seconds_text-zero_end : (s n : ℕ) (before front : List ℕ) → n < nanos_per_second → before ++ seconds_text s n ≡ front ++ 48 ∷ [] → n ≡ 0
+unfolding seconds_text
+seconds_text-zero_end s zero before front h e = refl
+seconds_text-zero_end s (suc n) before front h e =
+    let ends : last_or 0 (before ++ (decimal s ++ 46 ∷ fraction_digits 9 (suc n))) ≡ last_or 0 (front ++ 48 ∷ []) =
+    ap (last_or 0) (rw (fraction_text-some n) at e) in
+    absurd (fraction_digits-end 9 (suc n) 46 (omega arith) (omega arith) (rw (last_or-append, last_or-append, last_or-append) at ends))
+
+timestamp_text-zero_end : (i : ℤ) (front : List ℕ) → timestamp_text i ≡ front ++ 48 ∷ [] → unsigned_abs i % nanos_per_second ≡ 0
+unfolding timestamp_text
+timestamp_text-zero_end i front e = seconds_text-zero_end (unsigned_abs i / nanos_per_second) (unsigned_abs i % nanos_per_second) _ front (omega arith) e
+
 timestamp_text-whole : (i : ℤ) (whole rest : List ℕ) → IsWallClock i → unsigned_abs i % nanos_per_second ≡ 0 → timestamp_text i ≡ whole ++ 46 ∷ rest → ⊥
-timestamp_text-whole (pos a) whole rest h none e =
-    no_point (decimal (a / nanos_per_second)) whole rest (HasNoMarks-decimal (a / nanos_per_second) (omega (arith, ints)))
-    (sym (timestamp_text-later a ∙ seconds_text-whole (a / nanos_per_second) (a % nanos_per_second) none) ∙ e)
+timestamp_text-whole (pos a) whole rest h none e = size_text-whole a whole rest (omega (arith, ints)) none (sym (timestamp_text-later a) ∙ e)
 timestamp_text-whole (negsuc a) [] rest h none e =
-    let signed : 45 ∷ decimal (suc a / nanos_per_second) ≡ 46 ∷ rest =
-    sym (timestamp_text-earlier a ∙ ap (λ (t : List ℕ). 45 ∷ t) (seconds_text-whole (suc a / nanos_per_second) (suc a % nanos_per_second) none)) ∙ e in
-    first_bytes_apart 45 46 (decimal (suc a / nanos_per_second)) rest (omega arith) signed
+    let signed : 45 ∷ size_text (suc a) ≡ 46 ∷ rest = sym (timestamp_text-earlier a) ∙ e in absurd (omega (arith, ap (λ (t : List ℕ). get_or t 0 0) signed))
 timestamp_text-whole (negsuc a) (b ∷ whole) rest h none e =
-    let signed : 45 ∷ decimal (suc a / nanos_per_second) ≡ b ∷ (whole ++ 46 ∷ rest) =
-    sym (timestamp_text-earlier a ∙ ap (λ (t : List ℕ). 45 ∷ t) (seconds_text-whole (suc a / nanos_per_second) (suc a % nanos_per_second) none)) ∙ e in
-    let digits : decimal (suc a / nanos_per_second) ≡ whole ++ 46 ∷ rest = cc in
-    no_point (decimal (suc a / nanos_per_second)) whole rest (HasNoMarks-decimal (suc a / nanos_per_second) (omega (arith, ints))) digits
+    let signed : 45 ∷ size_text (suc a) ≡ b ∷ (whole ++ 46 ∷ rest) = sym (timestamp_text-earlier a) ∙ e in
+    size_text-whole (suc a) whole rest (omega (arith, ints)) none cc
 
 -- no fraction ends in a zero
 pub timestamp_text-fraction_end : (i : ℤ) (whole digits front : List ℕ) → IsWallClock i
@@ -270,18 +225,14 @@ timestamp_text-fraction_end i whole digits front h e ends =
     point ∙ ap (λ (t : List ℕ). whole ++ 46 ∷ t) ends ∙ sym (append_assoc whole (46 ∷ front) (48 ∷ [])) in
     timestamp_text-whole i whole digits h (timestamp_text-zero_end i (whole ++ 46 ∷ front) zero_end) point
 
-seconds_text-zero : seconds_text 0 0 ≡ 48 ∷ []
+size_text-zero : size_text 0 ≡ 48 ∷ []
 unfolding seconds_text
-seconds_text-zero = rw (decimal_digit 0 (omega arith), fraction_text-zero)
+size_text-zero = rw (decimal_digit 0 (omega arith), fraction_text-zero)
 
 -- the text of no instant is `-0`
 pub timestamp_text-not_zero : (i : ℤ) → IsWallClock i → timestamp_text i ≢ 45 ∷ 48 ∷ []
-timestamp_text-not_zero (pos a) h e =
-    seconds_text-not_minus (a / nanos_per_second) (a % nanos_per_second) _ (omega (arith, ints)) (sym (timestamp_text-later a) ∙ e)
+timestamp_text-not_zero (pos a) h e = size_text-not_minus a _ (omega (arith, ints)) (sym (timestamp_text-later a) ∙ e)
 timestamp_text-not_zero (negsuc a) h e =
-    let in_range : suc a / nanos_per_second < 2 ^ 64 = omega (arith, ints) in
-    let both : 45 ∷ seconds_text (suc a / nanos_per_second) (suc a % nanos_per_second) ≡ 45 ∷ 48 ∷ [] = sym (timestamp_text-earlier a) ∙ e in
-    let text : seconds_text (suc a / nanos_per_second) (suc a % nanos_per_second) ≡ 48 ∷ [] = cc in
-    let same = seconds_text-injective (suc a / nanos_per_second) 0 (suc a % nanos_per_second) 0 in_range (omega arith) (omega arith) (omega arith)
-    (text ∙ sym seconds_text-zero) in
-    omega (arith, same.0, same.1)
+    let both : 45 ∷ size_text (suc a) ≡ 45 ∷ size_text 0 = sym (timestamp_text-earlier a) ∙ e ∙ ap (λ (t : List ℕ). 45 ∷ t) (sym size_text-zero) in
+    let same = size_text-injective (suc a) 0 (omega (arith, ints)) (omega arith) cc in
+    omega arith

@@ -1,14 +1,12 @@
 -- One more step of a chain of conversions.
-use Rattle.std.proofs.Common.{◌≡◌, ℕ, suc, ◌+◌, ◌<◌, ℤ, List, [], ◌∷◌, ◌++◌, Option, Some, None, SomeIff, Bool, true, false, length, take, drop, get_or, sym}
-use Rattle.std.proofs.Common.{ap, ◌∙◌, refl, arith, add-one, cond, option_map}
+use Rattle.std.proofs.Common.{◌≡◌, ℕ, ◌+◌, ◌<◌, ℤ, List, [], ◌∷◌, ◌++◌, Option, Some, None, SomeIff, length, take, drop, get_or, sym}
+use Rattle.std.proofs.Common.{ap, ◌∙◌, refl, arith, add-one, option_map}
 use Rattle.std.proofs.Math.Seq.{drop-cons}
 use Rattle.std.proofs.lemmas.List.{take_more}
-use Rattle.std.specs.Option.{is_some}
 use Rattle.calendar_values.specs.WallClock.{IsWallClock}
 use Rattle.offset_times.specs.InstantLemmas.{instant_of-local_at}
 use Rattle.plain_times.specs.SumLemmas.{wall_clock_if_any-in, wall_clock_if_any-SomeIff}
-use Rattle.plain_times.specs.Sums.{wall_clock_if_any}
-use Rattle.stamp_times.specs.Travel.{held_instant, shown_by, holds, held_by, stop_index, held_after}
+use Rattle.stamp_times.specs.Travel.{held_instant, shown_by, held_by, stop_index, held_after}
 use Rattle.stamp_times.specs.declared.chains.steps.Held.{Held}
 use Rattle.stamp_times.specs.declared.chains.steps.Step.{Step}
 use Rattle.stamp_times.specs.declared.chains.steps.Step.TheVariants.{ToStamp, ToUtc, ToOffset}
@@ -28,44 +26,33 @@ held_instant-kept next step i e = ap held_instant e ∙ held_instant-held_by ste
 
 later-later : (k : ℕ) (place : Option ℕ) → later k (later 1 place) ≡ later (k + 1) place
 later-later k None = refl
-later-later k (Some n) = let e : (n + 1) + k ≡ n + (k + 1) = omega arith in ap (λ (m : ℕ). let place : Option ℕ = Some m in place) e
+later-later k (Some n) = let e : (n + 1) + k ≡ n + (k + 1) = omega arith in rw e refl
 
 held_after-append : (held : Held) (i : ℤ) (steps : List Step) (step : Step) → held_after held i (steps ++ step ∷ []) ≡ held_by step i
 held_after-append held i [] step = refl
 held_after-append held i (x ∷ steps) step = held_after-append (held_by x i) i steps step
 
 travel-on : (i : ℤ) (step : Step) (steps : List Step) → IsWallClock (shown_by step i) → stop_index i (step ∷ steps) ≡ later 1 (stop_index i steps)
-travel-on i step steps h =
-    let on : holds step i ≡ true = ap is_some (wall_clock_if_any-in (shown_by step i) h) in
-    ap (λ (b : Bool). cond b (later 1 (stop_index i steps)) (Some 0)) on
+travel-on i step steps h = rw (wall_clock_if_any-in (shown_by step i) h) refl
 
 travel-stopped : (i : ℤ) (step : Step) (steps : List Step) → SomeIff None (IsWallClock (shown_by step i)) (held_by step i)
     → stop_index i (step ∷ steps) ≡ Some 0
-travel-stopped i step steps h =
-    let none : None ≡ wall_clock_if_any (shown_by step i) = wall_clock_if_any-SomeIff None (shown_by step i) h in
-    let stopped : holds step i ≡ false = ap is_some (sym none) in
-    ap (λ (b : Bool). cond b (later 1 (stop_index i steps)) (Some 0)) stopped
+travel-stopped i step steps h = rw (sym (wall_clock_if_any-SomeIff None (shown_by step i) h)) refl
 
 rest : (steps : List Step) (k : ℕ) (step : Step) → k < length steps → step ≡ get_or steps k step → drop k steps ≡ step ∷ drop (k + 1) steps
-rest steps k step below here =
-    rw add-one (drop-cons steps k step below ∙ ap (λ (x : Step). x ∷ drop (suc k) steps) (sym here))
+rest steps k step below here = rw (add-one, drop-cons steps k step below, ← here) refl
 
 pub held_after-more : (start next : Held) (i : ℤ) (steps : List Step) (k : ℕ) (step : Step) → k < length steps → step ≡ get_or steps k step →
     next ≡ held_by step i → next ≡ held_after start i (take (k + 1) steps)
-held_after-more start next i steps k step below here e =
-    let more : take (k + 1) steps ≡ take k steps ++ step ∷ [] = take_more steps k step below ∙ ap (λ (x : Step). take k steps ++ x ∷ []) (sym here) in
-    e ∙ sym (ap (held_after start i) more ∙ held_after-append start i (take k steps) step)
+held_after-more start next i steps k step below here e = rw (take_more steps k step below, ← here, held_after-append) e
 
 pub travel-more : (i : ℤ) (steps : List Step) (k : ℕ) (step : Step) → k < length steps → step ≡ get_or steps k step → IsWallClock (shown_by step i) →
     stop_index i steps ≡ later k (stop_index i (drop k steps)) → stop_index i steps ≡ later (k + 1) (stop_index i (drop (k + 1) steps))
 travel-more i steps k step below here h so =
-    let one : stop_index i (drop k steps) ≡ later 1 (stop_index i (drop (k + 1) steps)) =
-    ap (stop_index i) (rest steps k step below here) ∙ travel-on i step (drop (k + 1) steps) h in
-    so ∙ ap (later k) one ∙ later-later k (stop_index i (drop (k + 1) steps))
+    rw (rest steps k step below here, travel-on i step (drop (k + 1) steps) h, later-later k (stop_index i (drop (k + 1) steps))) at so
 
 pub travel-ends : (i : ℤ) (steps : List Step) (k : ℕ) (step : Step) → k < length steps → step ≡ get_or steps k step →
     SomeIff None (IsWallClock (shown_by step i)) (held_by step i) → stop_index i steps ≡ later k (stop_index i (drop k steps)) → stop_index i steps ≡ Some k
 travel-ends i steps k step below here h so =
     let from_here : 0 + k ≡ k = omega arith in
-    let ends : stop_index i (drop k steps) ≡ Some 0 = ap (stop_index i) (rest steps k step below here) ∙ travel-stopped i step (drop (k + 1) steps) h in
-    so ∙ ap (later k) ends ∙ ap (λ (n : ℕ). let place : Option ℕ = Some n in place) from_here
+    rw (rest steps k step below here, travel-stopped i step (drop (k + 1) steps) h, from_here) at so

@@ -1,5 +1,5 @@
 -- Logs in the order of time in which each instant stands once.
-use Rattle.std.proofs.Common.{◌≡◌, ℕ, zero, suc, ◌+◌, subst, inl, inr, Bool, false, arith, ℤ, int_cmp, List, [], ◌∷◌, ◌++◌, length, take, drop, slice_index_or}
+use Rattle.std.proofs.Common.{◌≡◌, ℕ, zero, suc, ◌+◌, inl, inr, Bool, false, arith, ℤ, int_cmp, List, [], ◌∷◌, ◌++◌, length, take, drop}
 use Rattle.std.proofs.lemmas.Cmp.{int_cmp_total, int_eq_equiv}
 use Rattle.std.proofs.lemmas.Int.{ints}
 use Rattle.std.proofs.lemmas.List.{take-append-drop}
@@ -27,8 +27,7 @@ IsSorted-strictly (x ∷ []) h k d from within = absurd (omega arith)
 IsSorted-strictly (x ∷ y ∷ xs) h zero d from within = not_less x y h.0.0
 IsSorted-strictly (x ∷ y ∷ xs) h (suc k) d from within =
     let next : suc (k + 1) ≡ suc k + 1 = omega arith in
-    subst (λ (n : ℕ). is_lt (int_cmp (slice_index_or (x ∷ y ∷ xs) n d) (slice_index_or (y ∷ xs) k d)) ≡ false) next
-    (IsSorted-strictly (y ∷ xs) h.1 k d (omega arith) (omega arith))
+    rw (← next) (IsSorted-strictly (y ∷ xs) h.1 k d (omega arith) (omega arith))
 
 -- each element of a list with one more
 all_inserted : (P : ℤ → Type 0) (xs : List ℤ) (i : ℕ) (x : ℤ) → AllByRecursion P xs → P x → AllByRecursion P (insert xs i x)

@@ -8,8 +8,7 @@ pub loop-index-preserved : goal.loop-index-preserved
 loop-index-preserved c =
     let i = held_instant c.args.start in
     let step = c.index-steps-index.result in
-    let kept = c.loop-index.invariant.instant in
-    let next : SomeIff (Some c.in-Some.next) (IsWallClock (shown_by step i)) (held_by step i) = rw kept at c.in-Some.ensures in
+    let next : SomeIff (Some c.in-Some.next) (IsWallClock (shown_by step i)) (held_by step i) = rw c.loop-index.invariant.instant at c.in-Some.ensures in
     record {
       instant = held_instant-kept _ _ _ next.1;
       here = held_after-more _ _ _ _ _ _ c.loop-index-test.true c.index-steps-index.is next.1;
@@ -20,6 +19,5 @@ pub returns-in-None-clause-stopped : goal.returns-in-None-clause-stopped
 returns-in-None-clause-stopped c =
     let i = held_instant c.args.start in
     let step = c.index-steps-index.result in
-    let kept = c.loop-index.invariant.instant in
-    let none : SomeIff None (IsWallClock (shown_by step i)) (held_by step i) = rw kept at c.in-None.ensures in
+    let none : SomeIff None (IsWallClock (shown_by step i)) (held_by step i) = rw c.loop-index.invariant.instant at c.in-None.ensures in
     travel-ends i _ _ _ c.loop-index-test.true c.index-steps-index.is none c.loop-index.invariant.stops

@@ -1,13 +1,18 @@
 use Rattle.std.proofs.Common.{◌≡◌, ◌∙◌, sym, rules, w32, to_z, of_z}
 use Rattle.stamp_times.specs.Reciprocal.{shifted_day, step_year, step_leap, step_ordinal}
-use Rattle.stamp_times.proofs.ReciprocalLemmas.{year_of-step, is_leap_year-step, ordinal_of-step, IsOrdinalDateOfRange-found, day_of_ordinal_date-found}
+use Rattle.stamp_times.proofs.ReciprocalLemmas.{year_of-step, is_leap_year-step, ordinal_of-step, IsOrdinalDateOfRange-found, day_of_ordinal_date-step}
 use Rattle.stamp_times.proofs.ReciprocalLemmas.{IsInRange-found}
 use Rattle.stamp_times.proofs.reciprocal.year_leap_ordinal.Goals as goal
 
+-- what the steps found
+year : (c : goal.After-year_of_shift) → to_z w32 (of_z w32 c.year_of_shift.result) ≡ step_year (shifted_day c.args.day)
+year c = search rules
+
+ordinal : (c : goal.After-year_of_shift) → c.years_leap_ordinal-years.result.2 ≡ step_ordinal (shifted_day c.args.day)
+ordinal c = search rules
+
 pub returns-clause-year : goal.returns-clause-year
-returns-clause-year c =
-    let year : to_z w32 (of_z w32 c.year_of_shift.result) ≡ step_year (shifted_day c.args.day) = search rules in
-    year ∙ sym (year_of-step c.args.day c.requires)
+returns-clause-year c = year c ∙ sym (year_of-step c.args.day c.requires)
 
 pub returns-clause-leap : goal.returns-clause-leap
 returns-clause-leap c =
@@ -15,23 +20,13 @@ returns-clause-leap c =
     leap ∙ sym (is_leap_year-step c.args.day c.requires)
 
 pub returns-clause-ordinal : goal.returns-clause-ordinal
-returns-clause-ordinal c =
-    let ordinal : c.years_leap_ordinal-years.result.2 ≡ step_ordinal (shifted_day c.args.day) = search rules in
-    ordinal ∙ sym (ordinal_of-step c.args.day c.requires)
+returns-clause-ordinal c = ordinal c ∙ sym (ordinal_of-step c.args.day c.requires)
 
 pub returns-clause-date : goal.returns-clause-date
-returns-clause-date c =
-    let year : to_z w32 (of_z w32 c.year_of_shift.result) ≡ step_year (shifted_day c.args.day) = search rules in
-    let ordinal : c.years_leap_ordinal-years.result.2 ≡ step_ordinal (shifted_day c.args.day) = search rules in
-    IsOrdinalDateOfRange-found c.args.day _ _ c.requires year ordinal
+returns-clause-date c = rw (year c, ordinal c) (IsOrdinalDateOfRange-found c.args.day c.requires)
 
 pub returns-clause-day : goal.returns-clause-day
-returns-clause-day c =
-    let year : to_z w32 (of_z w32 c.year_of_shift.result) ≡ step_year (shifted_day c.args.day) = search rules in
-    let ordinal : c.years_leap_ordinal-years.result.2 ≡ step_ordinal (shifted_day c.args.day) = search rules in
-    day_of_ordinal_date-found c.args.day _ _ c.requires year ordinal
+returns-clause-day c = rw (year c, ordinal c) (day_of_ordinal_date-step c.args.day c.requires)
 
 pub returns-clause-ordinal_in_range : goal.returns-clause-ordinal_in_range
-returns-clause-ordinal_in_range c =
-    let ordinal : c.years_leap_ordinal-years.result.2 ≡ step_ordinal (shifted_day c.args.day) = search rules in
-    IsInRange-found c.args.day _ c.requires ordinal
+returns-clause-ordinal_in_range c = rw (ordinal c) (IsInRange-found c.args.day c.requires)

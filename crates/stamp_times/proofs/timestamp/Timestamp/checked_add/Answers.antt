@@ -1,18 +1,20 @@
-use Rattle.std.proofs.Common.{◌≡◌, rules, to_z, of_z, w32, w64, ◌+ℤ◌}
-use Rattle.calendar_values.specs.Durations.{whole_seconds_of, subsec_nanoseconds_of}
-use Rattle.calendar_values.specs.WallClock.{unix_seconds_of}
-use Rattle.stamp_times.proofs.TimestampSumLemmas.{IsSplit-of, not_IsWallClock-large, SomeIff-parts}
+use Rattle.std.proofs.Common.{arith}
+use Rattle.calendar_values.specs.DurationPartLemmas.{duration_of_parts-of, IsDurationParts-of}
+use Rattle.calendar_values.specs.SignedArith.{signed_casts}
+use Rattle.stamp_times.specs.TimestampLemmas.{instant_of_parts-of}
+use Rattle.stamp_times.proofs.TimestampSumLemmas.{IsWallClock-same}
 use Rattle.stamp_times.proofs.timestamp.Timestamp.checked_add.Goals as goal
 
 pub returns-in_err-seconds : goal.returns-in_err-seconds
 returns-in_err-seconds c =
-    let second : to_z w64 (of_z w64 c.as_seconds.result) ≡ unix_seconds_of c.args.self = search rules in
-    let whole : to_z w64 (of_z w64 c.whole_seconds.result) ≡ whole_seconds_of c.args.duration = search rules in
-    not_IsWallClock-large _ _ _ _ _ c.as_seconds.ensures.self_in_range (IsSplit-of c.args.duration)
-    (rw (second, whole) at c.in_err-seconds.ensures) c.from_residual.ensures
+    let here = instant_of_parts-of c.args.self in
+    let sum = duration_of_parts-of c.args.duration in
+    let parts = IsDurationParts-of c.args.duration in
+    rw c.from_residual.ensures (λ within. c.in_err-seconds.ensures (omega (arith, signed_casts)))
 
 pub returns : goal.returns
 returns c =
-    let seconds : to_z w64 (of_z w64 c.in_ok-seconds.seconds) ≡ unix_seconds_of c.args.self +ℤ whole_seconds_of c.args.duration = search rules in
-    let rest : to_z w32 (of_z w32 c.subsec_nanoseconds.result) ≡ subsec_nanoseconds_of c.args.duration = search rules in
-    SomeIff-parts _ _ _ _ _ _ _ _ (IsSplit-of c.args.duration) seconds c.nanosecond.ensures.value rest c.from_sum.ensures
+    let here = instant_of_parts-of c.args.self in
+    let sum = duration_of_parts-of c.args.duration in
+    let seconds = c.in_ok-seconds.ensures in
+    IsWallClock-same _ _ _ c.from_sum.ensures (omega (arith, signed_casts))
