@@ -46,16 +46,13 @@ pub IsInMonth-month_of_ordinal : (b : Bool) (ordinal : ℕ) → 1 ≤ ordinal �
 unfolding month_of_ordinal
 IsInMonth-month_of_ordinal b ordinal low high = in_last_begun 12 b ordinal (omega arith) low (omega (arith, days_in_months-twelve b))
 
-days_in_months-add : (b : Bool) (m k : ℕ) → days_in_months b m ≤ days_in_months b (k + m)
-days_in_months-add b m zero = let same : 0 + m ≡ m = omega arith in rw same (omega arith)
-days_in_months-add b m (suc k) =
-    let next : suc k + m ≡ suc (k + m) = omega arith in
-    rw next (omega (arith, days_in_months-add b m k, days_in_months-suc b (k + m)))
-
 days_in_months-mono : (b : Bool) (m later : ℕ) → m ≤ later → days_in_months b m ≤ days_in_months b later
-days_in_months-mono b m later h =
-    let same : later - m + m ≡ later = omega arith in
-    rw same at (days_in_months-add b m (later - m))
+days_in_months-mono b m zero h = let same : m ≡ 0 = omega arith in rw same (omega arith)
+days_in_months-mono b m (suc later) h = elim (cases_order m (suc later)) [
+  | inl e ↦ rw e (omega arith)
+  | inr (inl lt) ↦ omega (arith, days_in_months-mono b m later (omega arith), days_in_months-suc b later)
+  | inr (inr gt) ↦ absurd (omega arith)
+]
 
 -- a later month begins after the days of this one
 days_before_month-later : (b : Bool) (m later : ℕ) → 1 ≤ m → m < later → days_before_month b m + days_in_month b m ≤ days_before_month b later
@@ -70,10 +67,6 @@ IsInMonth-unique b ordinal m k h j = elim (cases_order m k) [
   | inr (inl lt) ↦ absurd (omega (arith, days_before_month-later b m k h.first lt))
   | inr (inr gt) ↦ absurd (omega (arith, days_before_month-later b k m j.first gt))
 ]
-
--- a month that has begun and has not ended is the month of the day
-pub month_of_ordinal-unique : (b : Bool) (ordinal m : ℕ) → 1 ≤ ordinal → ordinal ≤ year_length b → IsInMonth b ordinal m → month_of_ordinal b ordinal ≡ m
-month_of_ordinal-unique b ordinal m low high h = IsInMonth-unique b ordinal _ m (IsInMonth-month_of_ordinal b ordinal low high) h
 
 -- no month ends after the year
 pub days_before_month-end : (b : Bool) (m d : ℕ) → 1 ≤ m → m ≤ 12 → d ≤ days_in_month b m → days_before_month b m + d ≤ year_length b
@@ -98,13 +91,10 @@ IsMonthDay-of_ordinal b ordinal low high =
     record { month_first = h.first; month_last = h.last; day_first = omega arith; day_last = omega arith; sum = omega arith }
 
 -- and no other month and day do
-month_in : (b : Bool) (ordinal m d : ℕ) → IsMonthDay b ordinal m d → IsInMonth b ordinal m
-month_in b ordinal m d h = record { first = h.month_first; last = h.month_last; low = omega arith; high = omega arith }
-
 pub month_of_ordinal-is : (b : Bool) (ordinal m d : ℕ) → IsMonthDay b ordinal m d → month_of_ordinal b ordinal ≡ m
 month_of_ordinal-is b ordinal m d h =
-    month_of_ordinal-unique b ordinal m (omega arith) (omega (arith, days_before_month-end b m d h.month_first h.month_last h.day_last))
-    (month_in b ordinal m d h)
+    let end = days_before_month-end b m d h.month_first h.month_last h.day_last in
+    IsInMonth-unique b ordinal _ m (IsInMonth-month_of_ordinal b ordinal (omega arith) (omega arith)) (omega arith)
 
 pub day_of_ordinal-is : (b : Bool) (ordinal m d : ℕ) → IsMonthDay b ordinal m d → day_of_ordinal b ordinal ≡ d
 unfolding day_of_ordinal
