@@ -6,10 +6,6 @@ use Rattle.calendar_values.specs.Calendar.{day_of_ordinal, year_of, ordinal_of, 
 use Rattle.calendar_values.specs.SignedArith.{signed_arith}
 use Rattle.calendar_values.specs.DayLemmas.{IsOrdinalDate-of, ordinal_of-start, year_of-ordinal_date, ordinal_of-ordinal_date}
 
-days_in_months-zero : (b : Bool) → days_in_months b 0 ≡ 0
-unfolding days_in_months
-days_in_months-zero b = refl
-
 days_in_months-suc : (b : Bool) (n : ℕ) → days_in_months b (suc n) ≡ days_in_months b n + days_in_month b (suc n)
 unfolding days_in_months
 days_in_months-suc b n = refl
@@ -31,8 +27,8 @@ pub record IsInMonth (is_leap : Bool) (ordinal m : ℕ) : Type 0 where
   pub high : ordinal ≤ days_before_month is_leap m + days_in_month is_leap m
 
 in_last_begun : (n : ℕ) (b : Bool) (ordinal : ℕ) → n ≤ 12 → 1 ≤ ordinal → ordinal ≤ days_in_months b n → IsInMonth b ordinal (last_month_begun n b ordinal)
-unfolding last_month_begun
-in_last_begun zero b ordinal last low high = absurd (omega (arith, days_in_months-zero b))
+unfolding last_month_begun days_in_months
+in_last_begun zero b ordinal last low high = absurd (omega arith)
 in_last_begun (suc n) b ordinal last low high = choose (nat_lt (days_in_months b n) ordinal) refl (λ h. in_last_begun n b ordinal (omega arith) low h) where
   choose : (t : Bool) → nat_lt (days_in_months b n) ordinal ≡ t → (ordinal ≤ days_in_months b n → IsInMonth b ordinal (last_month_begun n b ordinal)) →
       IsInMonth b ordinal (cond t (suc n) (last_month_begun n b ordinal))

@@ -1,12 +1,11 @@
 -- A replacement is accepted exactly where a clock shows the part as given, the kept parts as before and 0 for the
 -- cleared parts; it gives that clock, which is the only one.
-use Rattle.std.proofs.Common.{◌≡◌, ℕ, ◌*◌, ◌≤◌, List, Ok, Err, sym, subst, ◌∙◌, arith}
+use Rattle.std.proofs.Common.{◌≡◌, ℕ, ◌*◌, ◌≤◌, List, Ok, Err, sym, ◌∙◌, arith}
 use Rattle.std.specs.Prelude.{if◌then◌else◌, nat_lt, ◌↔◌, codes}
 use Rattle.std.proofs.lemmas.Bool.Decides.{nat_tests}
 use Rattle.calendar_values.specs.Clock.{IsClock, IsTimeOfDay, Shows, clock_of_parts, hour_of, minute_of, second_of, millisecond_of, microsecond_of}
 use Rattle.calendar_values.specs.Clock.{nanosecond_of, nanos_per_millisecond, nanos_per_microsecond}
-use Rattle.calendar_values.specs.ClockLemmas.{IsClock-clock_of_parts, IsTimeOfDay-of, clock_of_parts-of, hour_of-clock_of_parts, minute_of-clock_of_parts}
-use Rattle.calendar_values.specs.ClockLemmas.{second_of-clock_of_parts, nanosecond_of-clock_of_parts}
+use Rattle.calendar_values.specs.ClockLemmas.{IsTimeOfDay-of, clock_of_parts-of}
 use Rattle.calendar_values.specs.Refusals.{outright_refusal}
 use Rattle.calendar_values.specs.Replacements.{hour_outcome, minute_outcome, second_outcome, millisecond_outcome, microsecond_outcome, nanosecond_outcome}
 

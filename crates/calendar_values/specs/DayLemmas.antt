@@ -83,9 +83,9 @@ pub IsYear-year_of : (n : ℤ) → IsDay n → IsYear (year_of n)
 IsYear-year_of n h =
     let here = IsInYear-year_of n in (
       by_lt_z (year_of n) first_year (λ lt. let start = year_start-mono (year_of n +ℤ pos 1) first_year (omega (arith, signed_arith)) in
-      absurd (omega (arith, signed_arith, h.0, year_start-first))) (λ ge. ge),
+          absurd (omega (arith, signed_arith, h.0, year_start-first))) (λ ge. ge),
       by_lt_z last_year (year_of n) (λ gt. let start = year_start-mono (last_year +ℤ pos 1) (year_of n) (omega (arith, signed_arith)) in
-      absurd (omega (arith, signed_arith, h.1, year_start-after_last))) (λ le. le),
+          absurd (omega (arith, signed_arith, h.1, year_start-after_last))) (λ le. le),
     )
 
 -- so is each day of a year of the range

@@ -1,7 +1,5 @@
-use Rattle.std.proofs.Common.{rules, arith, ◌≡◌, ◌+◌, ◌-◌, ◌∙◌, pos, ◌+ℤ◌, ◌-ℤ◌, FitsSigned, to_z, of_z, w32, to_z-of_z}
+use Rattle.std.proofs.Common.{rules, arith, ◌≡◌, ◌+◌, ◌-◌, pos, ◌+ℤ◌, ◌-ℤ◌, FitsSigned, to_z, of_z, w32, to_z-of_z}
 use Rattle.calendar_values.specs.Calendar.{days_in_year}
-use Rattle.calendar_values.specs.Weeks.{weekday_of}
-use Rattle.calendar_values.specs.DayLemmas.{IsDay-ordinal_date}
 use Rattle.calendar_values.specs.SignedArith.{signed_arith}
 use Rattle.calendar_values.proofs.WeekNumberLemmas.{IsThursdayOf, IsThursdayOf-previous, IsThursdayOf-next}
 use Rattle.calendar_values.proofs.date.Date.thursday.Goals as goal
