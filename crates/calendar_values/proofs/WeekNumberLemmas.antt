@@ -47,8 +47,8 @@ IsThursdayOf-previous n y previous ordinal days thursday year date day before we
     thursday_at n previous thursday (rw day at (IsDay-ordinal_date y ordinal year date)) (omega (arith, length, date.first))
     (omega (arith, signed_arith, date.first, length))
 
-pub IsThursdayOf-next : (n y next : ℤ) (ordinal days thursday : ℕ) → IsYear y → IsOrdinalDate y ordinal → day_of_ordinal_date y ordinal ≡ n → next ≡ y +ℤ pos 1 →
-    days ≡ weekday_of n → days < ordinal + 3 → days_in_year y < ordinal + 3 - days → thursday ≡ ordinal + 3 - days - days_in_year y →
+pub IsThursdayOf-next : (n y next : ℤ) (ordinal days thursday : ℕ) → IsYear y → IsOrdinalDate y ordinal → day_of_ordinal_date y ordinal ≡ n →
+    next ≡ y +ℤ pos 1 → days ≡ weekday_of n → days < ordinal + 3 → days_in_year y < ordinal + 3 - days → thursday ≡ ordinal + 3 - days - days_in_year y →
     IsThursdayOf n next thursday
 IsThursdayOf-next n y next ordinal days thursday year date day after weekday late past is =
     let length = days_in_year_bounds next in

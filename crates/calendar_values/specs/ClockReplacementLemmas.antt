@@ -63,7 +63,8 @@ pub microsecond_outcome-shows : (c micro d : ℕ) → IsClock c → ((microsecon
     (micro * nanos_per_microsecond)
 microsecond_outcome-shows c micro d clock =
     let parts = IsTimeOfDay-of c clock in
-    replaced 999_999 micro (hour_of c) (minute_of c) (second_of c) (micro * nanos_per_microsecond) d (codes "microsecond") (λ low. omega arith) (λ q. omega arith)
+    replaced 999_999 micro (hour_of c) (minute_of c) (second_of c) (micro * nanos_per_microsecond) d (codes "microsecond") (λ low.
+    omega arith) (λ q. omega arith)
 
 pub nanosecond_outcome-shows : (c n d : ℕ) → IsClock c → ((nanosecond_outcome c n).answer ≡ Ok d) ↔ Shows d (hour_of c) (minute_of c) (second_of c) n
 nanosecond_outcome-shows c n d clock =
