@@ -1,15 +1,8 @@
 -- A day is kept exactly if the range has it.
-use Rattle.std.proofs.Common.{◌≡◌, ℕ, arith, ℤ, ◌<ℤ◌, Option, SomeIff, subst}
-use Rattle.std.proofs.lemmas.Int.{ints}
+use Rattle.std.proofs.Common.{◌≡◌, ℕ, ℤ, Option, SomeIff, subst}
 use Rattle.calendar_values.specs.Calendar.{day_of_ordinal_date, IsOrdinalDate}
-use Rattle.calendar_values.specs.Range.{IsDay, IsYear, first_day, last_day}
+use Rattle.calendar_values.specs.Range.{IsDay, IsYear}
 use Rattle.calendar_values.specs.DayLemmas.{IsDay-ordinal_date}
-
-pub not_IsDay-after : (n : ℤ) → last_day <ℤ n → IsDay n → ⊥
-not_IsDay-after n h day = omega (arith, ints)
-
-pub not_IsDay-before : (n : ℤ) → n <ℤ first_day → IsDay n → ⊥
-not_IsDay-before n h day = omega (arith, ints)
 
 -- the day of a year of the range is kept
 pub IsDay-date : (n y : ℤ) (ordinal : ℕ) → IsYear y → IsOrdinalDate y ordinal → day_of_ordinal_date y ordinal ≡ n → IsDay n ×

@@ -45,13 +45,10 @@ agrees-at : (b : Bool) (days months n day : ℕ) → agrees_below b days months 
     (month_of_ordinal b (days + day) ≡ month_by_product day + months) × (day_of_ordinal b (days + day) ≡ day_by_product day)
 agrees-at b days months zero day t low high = absurd (omega arith)
 agrees-at b days months (suc n) day t low high = elim (cases_order day (suc n)) [
-  | inl e ↦ rw e (here (and-both _ _ t).1)
+  | inl e ↦ rw e (let last = and-both _ _ (and-both _ _ t).1 in (eqb-true _ _ last.0, eqb-true _ _ last.1))
   | inr (inl lt) ↦ agrees-at b days months n day (and-both _ _ t).0 low (omega arith)
   | inr (inr gt) ↦ absurd (omega arith)
-] where
-  here : agrees b days months (suc n) ≡ true → (month_of_ordinal b (days + suc n) ≡ month_by_product (suc n) + months) ×
-      (day_of_ordinal b (days + suc n) ≡ day_by_product (suc n))
-  here s = let both = and-both _ _ s in (eqb-true _ _ both.0, eqb-true _ _ both.1)
+]
 
 -- up to the end of February the day is counted from 1 January
 pub early-month : (b : Bool) (ordinal : ℕ) → 1 ≤ ordinal → ordinal ≤ until_march b → month_of_ordinal b ordinal ≡ month_by_product ordinal

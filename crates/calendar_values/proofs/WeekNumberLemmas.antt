@@ -7,7 +7,7 @@ use Rattle.calendar_values.specs.SignedArith.{signed_arith}
 use Rattle.calendar_values.specs.WeekLemmas.{weekday_of-parts, weekday_of-bound, weekday_of-ordinal, count_weekday-closed, iso_week_of-closed}
 use Rattle.calendar_values.specs.WeekLemmas.{IsDay-thursday_of}
 use Rattle.calendar_values.specs.YearLemmas.{year_start-next, days_in_year_bounds}
-use Rattle.calendar_values.specs.DayLemmas.{IsOrdinalDate-of, year_of-is, IsYear-year_of}
+use Rattle.calendar_values.specs.DayLemmas.{IsOrdinalDate-of, year_of-is, IsYear-year_of, IsDay-ordinal_date}
 
 -- the week numbers by the weekday and the day of the year
 pub sunday_week_of-closed : (n : ℤ) → sunday_week_of n ≡ (ordinal_of n + 6 - (weekday_of n + 1) % 7) / 7
@@ -37,23 +37,23 @@ thursday_at n y ordinal h date e =
     }
 
 -- it lies in the year before, or in the next
-pub IsThursdayOf-previous : (n y previous : ℤ) (ordinal days thursday : ℕ) → IsDay n → IsOrdinalDate y ordinal → day_of_ordinal_date y ordinal ≡ n →
+pub IsThursdayOf-previous : (n y previous : ℤ) (ordinal days thursday : ℕ) → IsYear y → IsOrdinalDate y ordinal → day_of_ordinal_date y ordinal ≡ n →
     previous +ℤ pos 1 ≡ y → days ≡ weekday_of n → ordinal + 3 ≤ days → thursday ≡ days_in_year previous + (ordinal + 3) - days →
     IsThursdayOf n previous thursday
-IsThursdayOf-previous n y previous ordinal days thursday day_in date day before weekday early is =
+IsThursdayOf-previous n y previous ordinal days thursday year date day before weekday early is =
     let bound = weekday_of-bound n in
     let length = days_in_year_bounds previous in
     let start = rw before at (year_start-next previous) in
-    thursday_at n previous thursday day_in (omega (arith, length, date.first))
+    thursday_at n previous thursday (rw day at (IsDay-ordinal_date y ordinal year date)) (omega (arith, length, date.first))
     (omega (arith, signed_arith, date.first, length))
 
-pub IsThursdayOf-next : (n y next : ℤ) (ordinal days thursday : ℕ) → IsDay n → IsOrdinalDate y ordinal → day_of_ordinal_date y ordinal ≡ n → next ≡ y +ℤ pos 1 →
-    days ≡ weekday_of n → days < ordinal + 3 → days_in_year y < ordinal + 3 - days → thursday ≡ ordinal + 3 - days - days_in_year y →
+pub IsThursdayOf-next : (n y next : ℤ) (ordinal days thursday : ℕ) → IsYear y → IsOrdinalDate y ordinal → day_of_ordinal_date y ordinal ≡ n →
+    next ≡ y +ℤ pos 1 → days ≡ weekday_of n → days < ordinal + 3 → days_in_year y < ordinal + 3 - days → thursday ≡ ordinal + 3 - days - days_in_year y →
     IsThursdayOf n next thursday
-IsThursdayOf-next n y next ordinal days thursday day_in date day after weekday late past is =
+IsThursdayOf-next n y next ordinal days thursday year date day after weekday late past is =
     let length = days_in_year_bounds next in
     let start = rw (← after) at (year_start-next y) in
-    thursday_at n next thursday day_in (omega (arith, date.last, length)) (omega (arith, signed_arith, date.last))
+    thursday_at n next thursday (rw day at (IsDay-ordinal_date y ordinal year date)) (omega (arith, date.last, length)) (omega (arith, signed_arith, date.last))
 
 pub ruleset weekdays = (signed_arith, weekday_of-parts)
 

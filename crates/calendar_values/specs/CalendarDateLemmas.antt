@@ -6,10 +6,6 @@ use Rattle.calendar_values.specs.Calendar.{day_of_ordinal, year_of, ordinal_of, 
 use Rattle.calendar_values.specs.SignedArith.{signed_arith}
 use Rattle.calendar_values.specs.DayLemmas.{IsOrdinalDate-of, ordinal_of-start, year_of-ordinal_date, ordinal_of-ordinal_date}
 
-days_in_months-zero : (b : Bool) → days_in_months b 0 ≡ 0
-unfolding days_in_months
-days_in_months-zero b = refl
-
 days_in_months-suc : (b : Bool) (n : ℕ) → days_in_months b (suc n) ≡ days_in_months b n + days_in_month b (suc n)
 unfolding days_in_months
 days_in_months-suc b n = refl
@@ -31,8 +27,8 @@ pub record IsInMonth (is_leap : Bool) (ordinal m : ℕ) : Type 0 where
   pub high : ordinal ≤ days_before_month is_leap m + days_in_month is_leap m
 
 in_last_begun : (n : ℕ) (b : Bool) (ordinal : ℕ) → n ≤ 12 → 1 ≤ ordinal → ordinal ≤ days_in_months b n → IsInMonth b ordinal (last_month_begun n b ordinal)
-unfolding last_month_begun
-in_last_begun zero b ordinal last low high = absurd (omega (arith, days_in_months-zero b))
+unfolding last_month_begun days_in_months
+in_last_begun zero b ordinal last low high = absurd (omega arith)
 in_last_begun (suc n) b ordinal last low high = choose (nat_lt (days_in_months b n) ordinal) refl (λ h. in_last_begun n b ordinal (omega arith) low h) where
   choose : (t : Bool) → nat_lt (days_in_months b n) ordinal ≡ t → (ordinal ≤ days_in_months b n → IsInMonth b ordinal (last_month_begun n b ordinal)) →
       IsInMonth b ordinal (cond t (suc n) (last_month_begun n b ordinal))
@@ -46,16 +42,13 @@ pub IsInMonth-month_of_ordinal : (b : Bool) (ordinal : ℕ) → 1 ≤ ordinal �
 unfolding month_of_ordinal
 IsInMonth-month_of_ordinal b ordinal low high = in_last_begun 12 b ordinal (omega arith) low (omega (arith, days_in_months-twelve b))
 
-days_in_months-add : (b : Bool) (m k : ℕ) → days_in_months b m ≤ days_in_months b (k + m)
-days_in_months-add b m zero = let same : 0 + m ≡ m = omega arith in rw same (omega arith)
-days_in_months-add b m (suc k) =
-    let next : suc k + m ≡ suc (k + m) = omega arith in
-    rw next (omega (arith, days_in_months-add b m k, days_in_months-suc b (k + m)))
-
 days_in_months-mono : (b : Bool) (m later : ℕ) → m ≤ later → days_in_months b m ≤ days_in_months b later
-days_in_months-mono b m later h =
-    let same : later - m + m ≡ later = omega arith in
-    rw same at (days_in_months-add b m (later - m))
+days_in_months-mono b m zero h = let same : m ≡ 0 = omega arith in rw same (omega arith)
+days_in_months-mono b m (suc later) h = elim (cases_order m (suc later)) [
+  | inl e ↦ rw e (omega arith)
+  | inr (inl lt) ↦ omega (arith, days_in_months-mono b m later (omega arith), days_in_months-suc b later)
+  | inr (inr gt) ↦ absurd (omega arith)
+]
 
 -- a later month begins after the days of this one
 days_before_month-later : (b : Bool) (m later : ℕ) → 1 ≤ m → m < later → days_before_month b m + days_in_month b m ≤ days_before_month b later
@@ -70,10 +63,6 @@ IsInMonth-unique b ordinal m k h j = elim (cases_order m k) [
   | inr (inl lt) ↦ absurd (omega (arith, days_before_month-later b m k h.first lt))
   | inr (inr gt) ↦ absurd (omega (arith, days_before_month-later b k m j.first gt))
 ]
-
--- a month that has begun and has not ended is the month of the day
-pub month_of_ordinal-unique : (b : Bool) (ordinal m : ℕ) → 1 ≤ ordinal → ordinal ≤ year_length b → IsInMonth b ordinal m → month_of_ordinal b ordinal ≡ m
-month_of_ordinal-unique b ordinal m low high h = IsInMonth-unique b ordinal _ m (IsInMonth-month_of_ordinal b ordinal low high) h
 
 -- no month ends after the year
 pub days_before_month-end : (b : Bool) (m d : ℕ) → 1 ≤ m → m ≤ 12 → d ≤ days_in_month b m → days_before_month b m + d ≤ year_length b
@@ -98,13 +87,10 @@ IsMonthDay-of_ordinal b ordinal low high =
     record { month_first = h.first; month_last = h.last; day_first = omega arith; day_last = omega arith; sum = omega arith }
 
 -- and no other month and day do
-month_in : (b : Bool) (ordinal m d : ℕ) → IsMonthDay b ordinal m d → IsInMonth b ordinal m
-month_in b ordinal m d h = record { first = h.month_first; last = h.month_last; low = omega arith; high = omega arith }
-
 pub month_of_ordinal-is : (b : Bool) (ordinal m d : ℕ) → IsMonthDay b ordinal m d → month_of_ordinal b ordinal ≡ m
 month_of_ordinal-is b ordinal m d h =
-    month_of_ordinal-unique b ordinal m (omega arith) (omega (arith, days_before_month-end b m d h.month_first h.month_last h.day_last))
-    (month_in b ordinal m d h)
+    let end = days_before_month-end b m d h.month_first h.month_last h.day_last in
+    IsInMonth-unique b ordinal _ m (IsInMonth-month_of_ordinal b ordinal (omega arith) (omega arith)) (omega arith)
 
 pub day_of_ordinal-is : (b : Bool) (ordinal m d : ℕ) → IsMonthDay b ordinal m d → day_of_ordinal b ordinal ≡ d
 unfolding day_of_ordinal

@@ -1,23 +1,16 @@
 -- A replacement is accepted exactly where a clock shows the part as given, the kept parts as before and 0 for the
 -- cleared parts; it gives that clock, which is the only one.
-use Rattle.std.proofs.Common.{◌≡◌, ℕ, ◌*◌, ◌≤◌, List, Ok, Err, sym, subst, ◌∙◌, arith}
+use Rattle.std.proofs.Common.{◌≡◌, ℕ, ◌*◌, ◌≤◌, List, Ok, Err, sym, ◌∙◌, arith}
 use Rattle.std.specs.Prelude.{if◌then◌else◌, nat_lt, ◌↔◌, codes}
 use Rattle.std.proofs.lemmas.Bool.Decides.{nat_tests}
 use Rattle.calendar_values.specs.Clock.{IsClock, IsTimeOfDay, Shows, clock_of_parts, hour_of, minute_of, second_of, millisecond_of, microsecond_of}
 use Rattle.calendar_values.specs.Clock.{nanosecond_of, nanos_per_millisecond, nanos_per_microsecond}
-use Rattle.calendar_values.specs.ClockLemmas.{IsClock-clock_of_parts, IsTimeOfDay-of, clock_of_parts-of, hour_of-clock_of_parts, minute_of-clock_of_parts}
-use Rattle.calendar_values.specs.ClockLemmas.{second_of-clock_of_parts, nanosecond_of-clock_of_parts}
+use Rattle.calendar_values.specs.ClockLemmas.{IsTimeOfDay-of, clock_of_parts-of}
 use Rattle.calendar_values.specs.Refusals.{outright_refusal}
 use Rattle.calendar_values.specs.Replacements.{hour_outcome, minute_outcome, second_outcome, millisecond_outcome, microsecond_outcome, nanosecond_outcome}
 
 pub Shows-clock_of_parts : (h m s n : ℕ) → IsTimeOfDay h m s n → Shows (clock_of_parts h m s n) h m s n
-Shows-clock_of_parts h m s n p = record {
-  clock = IsClock-clock_of_parts h m s n p;
-  hour = hour_of-clock_of_parts h m s n p;
-  minute = minute_of-clock_of_parts h m s n p;
-  second = second_of-clock_of_parts h m s n p;
-  nanosecond = nanosecond_of-clock_of_parts h m s n p;
-}
+Shows-clock_of_parts h m s n p = omega arith
 
 pub clock_of_parts-shown : (c h m s n : ℕ) → Shows c h m s n → clock_of_parts h m s n ≡ c
 clock_of_parts-shown c h m s n p = omega (arith, clock_of_parts-of c)
@@ -34,45 +27,37 @@ parts_of_shown c h m s n p =
 accepted : (limit part x d : ℕ) (name : List ℕ) → part ≤ limit → x ≡ d → (if nat_lt limit part then Err (outright_refusal name) else Ok x) ≡ Ok d
 accepted limit part x d name low e = grind (arith, nat_tests)
 
-limit_of_accepted : (limit part x d : ℕ) (name : List ℕ) → (if nat_lt limit part then Err (outright_refusal name) else Ok x) ≡ Ok d → part ≤ limit
-limit_of_accepted limit part x d name e = grind (arith, nat_tests)
-
-value_of_accepted : (limit part x d : ℕ) (name : List ℕ) → (if nat_lt limit part then Err (outright_refusal name) else Ok x) ≡ Ok d → x ≡ d
-value_of_accepted limit part x d name e = grind (arith, nat_tests)
+accepted_is : (limit part x d : ℕ) (name : List ℕ) → (if nat_lt limit part then Err (outright_refusal name) else Ok x) ≡ Ok d → (part ≤ limit) × (x ≡ d)
+accepted_is limit part x d name e = (grind (arith, nat_tests), grind (arith, nat_tests))
 
 -- what a replacement of a part up to a limit gives: the clock that shows these parts
 replaced : (limit part h m s n d : ℕ) (name : List ℕ) → (part ≤ limit → IsTimeOfDay h m s n) → (IsTimeOfDay h m s n → part ≤ limit) →
     ((if nat_lt limit part then Err (outright_refusal name) else Ok (clock_of_parts h m s n)) ≡ Ok d) ↔ Shows d h m s n
 replaced limit part h m s n d name within back = (
-  λ e. subst (λ c. Shows c h m s n) (value_of_accepted limit part (clock_of_parts h m s n) d name e)
-      (Shows-clock_of_parts h m s n (within (limit_of_accepted limit part (clock_of_parts h m s n) d name e))),
+  λ e. let is = accepted_is limit part (clock_of_parts h m s n) d name e in rw is.1 at (Shows-clock_of_parts h m s n (within is.0)),
   λ p. accepted limit part (clock_of_parts h m s n) d name (back (parts_of_shown d h m s n p)) (clock_of_parts-shown d h m s n p),
 )
 
 pub hour_outcome-shows : (c h d : ℕ) → IsClock c → ((hour_outcome c h).answer ≡ Ok d) ↔ Shows d h (minute_of c) (second_of c) (nanosecond_of c)
 hour_outcome-shows c h d clock =
     let parts = IsTimeOfDay-of c clock in
-    replaced 23 h h (minute_of c) (second_of c) (nanosecond_of c) d (codes "hour") (λ low.
-    omega arith) (λ q. omega arith)
+    replaced 23 h h (minute_of c) (second_of c) (nanosecond_of c) d (codes "hour") (λ low. omega arith) (λ q. omega arith)
 
 pub minute_outcome-shows : (c m d : ℕ) → IsClock c → ((minute_outcome c m).answer ≡ Ok d) ↔ Shows d (hour_of c) m (second_of c) (nanosecond_of c)
 minute_outcome-shows c m d clock =
     let parts = IsTimeOfDay-of c clock in
-    replaced 59 m (hour_of c) m (second_of c) (nanosecond_of c) d (codes "minute") (λ low.
-    omega arith) (λ q. omega arith)
+    replaced 59 m (hour_of c) m (second_of c) (nanosecond_of c) d (codes "minute") (λ low. omega arith) (λ q. omega arith)
 
 pub second_outcome-shows : (c s d : ℕ) → IsClock c → ((second_outcome c s).answer ≡ Ok d) ↔ Shows d (hour_of c) (minute_of c) s (nanosecond_of c)
 second_outcome-shows c s d clock =
     let parts = IsTimeOfDay-of c clock in
-    replaced 59 s (hour_of c) (minute_of c) s (nanosecond_of c) d (codes "second") (λ low.
-    omega arith) (λ q. omega arith)
+    replaced 59 s (hour_of c) (minute_of c) s (nanosecond_of c) d (codes "second") (λ low. omega arith) (λ q. omega arith)
 
 pub millisecond_outcome-shows : (c milli d : ℕ) → IsClock c → ((millisecond_outcome c milli).answer ≡ Ok d) ↔ Shows d (hour_of c) (minute_of c) (second_of c)
     (milli * nanos_per_millisecond)
 millisecond_outcome-shows c milli d clock =
     let parts = IsTimeOfDay-of c clock in
-    replaced 999 milli (hour_of c) (minute_of c) (second_of c) (milli * nanos_per_millisecond) d (codes "millisecond") (λ low.
-    omega arith) (λ q. omega arith)
+    replaced 999 milli (hour_of c) (minute_of c) (second_of c) (milli * nanos_per_millisecond) d (codes "millisecond") (λ low. omega arith) (λ q. omega arith)
 
 pub microsecond_outcome-shows : (c micro d : ℕ) → IsClock c → ((microsecond_outcome c micro).answer ≡ Ok d) ↔ Shows d (hour_of c) (minute_of c) (second_of c)
     (micro * nanos_per_microsecond)
@@ -84,8 +69,7 @@ microsecond_outcome-shows c micro d clock =
 pub nanosecond_outcome-shows : (c n d : ℕ) → IsClock c → ((nanosecond_outcome c n).answer ≡ Ok d) ↔ Shows d (hour_of c) (minute_of c) (second_of c) n
 nanosecond_outcome-shows c n d clock =
     let parts = IsTimeOfDay-of c clock in
-    replaced 999_999_999 n (hour_of c) (minute_of c) (second_of c) n d (codes "nanosecond") (λ low.
-    omega arith) (λ q. omega arith)
+    replaced 999_999_999 n (hour_of c) (minute_of c) (second_of c) n d (codes "nanosecond") (λ low. omega arith) (λ q. omega arith)
 
 -- a millisecond reads as given where nothing is finer
 pub millisecond_of-exact : (c milli : ℕ) → nanosecond_of c ≡ milli * nanos_per_millisecond → millisecond_of c ≡ milli

@@ -23,10 +23,8 @@ IsInYear-previous n previous y e h = choose (int_lt previous (year_start y)) ref
   choose : (b : Bool) → int_lt previous (year_start y) ≡ b → IsInYear previous (cond b (y -ℤ pos 1) y)
   choose true t =
       let back : y -ℤ pos 1 +ℤ pos 1 ≡ y = omega (arith, signed_arith) in
-      record {
-        low = omega (arith, signed_arith, rw back at (year_start-next (y -ℤ pos 1)), days_in_year_bounds (y -ℤ pos 1));
-        high = rw back (omega (arith, signed_arith));
-      }
+      let start = rw back at (year_start-next (y -ℤ pos 1)) in
+      record { low = omega (arith, signed_arith, days_in_year_bounds (y -ℤ pos 1)); high = rw back (omega (arith, signed_arith)) }
   choose false t = omega (arith, signed_arith)
 
 in_year_after : (n : ℕ) → IsInYear (pos n) (year_after_1970 n)
@@ -84,20 +82,10 @@ ordinal_of-is n y ordinal h e = rw (← e) (ordinal_of-ordinal_date y ordinal h)
 pub IsYear-year_of : (n : ℤ) → IsDay n → IsYear (year_of n)
 IsYear-year_of n h =
     let here = IsInYear-year_of n in (
-      by_lt_z (year_of n) first_year (λ lt. absurd (omega (
-        arith,
-        signed_arith,
-        h.0,
-        year_start-mono (year_of n +ℤ pos 1) first_year (omega (arith, signed_arith)),
-        year_start-first,
-      ))) (λ ge. ge),
-      by_lt_z last_year (year_of n) (λ gt. absurd (omega (
-        arith,
-        signed_arith,
-        h.1,
-        year_start-mono (last_year +ℤ pos 1) (year_of n) (omega (arith, signed_arith)),
-        year_start-after_last,
-      ))) (λ le. le),
+      by_lt_z (year_of n) first_year (λ lt. let start = year_start-mono (year_of n +ℤ pos 1) first_year (omega (arith, signed_arith)) in
+          absurd (omega (arith, signed_arith, h.0, year_start-first))) (λ ge. ge),
+      by_lt_z last_year (year_of n) (λ gt. let start = year_start-mono (last_year +ℤ pos 1) (year_of n) (omega (arith, signed_arith)) in
+          absurd (omega (arith, signed_arith, h.1, year_start-after_last))) (λ le. le),
     )
 
 -- so is each day of a year of the range

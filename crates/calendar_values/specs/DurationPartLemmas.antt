@@ -12,14 +12,8 @@ duration_of_parts-of d = omega (arith, signed_arith, one_part d)
 
 pub IsDurationParts-of : (d : ℤ) → IsDurationParts (whole_seconds_of d) (subsec_nanoseconds_of d)
 unfolding whole_seconds_of subsec_nanoseconds_of
-IsDurationParts-of (pos n) = record {
-  in_range = omega (arith, signed_arith);
-  one_sign = inl omega (arith, ints);
-}
-IsDurationParts-of (negsuc n) = record {
-  in_range = omega (arith, signed_arith);
-  one_sign = inr omega (arith, ints);
-}
+IsDurationParts-of (pos n) = record { in_range = omega (arith, signed_arith); one_sign = inl omega (arith, ints) }
+IsDurationParts-of (negsuc n) = record { in_range = omega (arith, signed_arith); one_sign = inr omega (arith, ints) }
 
 -- no part is negative, or none is positive
 pub duration_signs : (s n : ℤ) → IsDurationParts s n → ((down s ≡ 0) × (down n ≡ 0)) ⊎ ((up s ≡ 0) × (up n ≡ 0))

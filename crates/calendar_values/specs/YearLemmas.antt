@@ -62,13 +62,8 @@ closed_forward zero k n e = omega arith
 closed_forward (suc j) k n e =
     let m = 1970 + j + 400 * k in
     let more : n ≡ suc m = omega arith in
-    rw more (omega (
-      arith,
-      closed_forward j k m refl,
-      days_from_0-suc m,
-      leap_day-shift k m (pos 1970 +ℤ pos j) refl,
-      days_in_year-leap_day (pos 1970 +ℤ pos j),
-    ))
+    let shift = leap_day-shift k m (pos 1970 +ℤ pos j) refl in
+    rw more (omega (arith, closed_forward j k m refl, days_from_0-suc m, days_in_year-leap_day (pos 1970 +ℤ pos j)))
 
 closed_backward : (j k n : ℕ) → n + j ≡ 1970 + 400 * k → days_from_0 n + days_until_1970 j ≡ 719528 + 146097 * k
 unfolding days_until_1970
@@ -98,13 +93,9 @@ year_start-later y z h =
     let k = up y + down y + up z + down z in
     let m = up y + 400 * k - down y in
     let n = up z + 400 * k - down z in
-    omega (
-      arith,
-      signed_arith,
-      year_start-closed k m y (omega (arith, signed_arith)),
-      year_start-closed k n z (omega (arith, signed_arith)),
-      days_from_0-later m n (omega (arith, signed_arith)),
-    )
+    let start = year_start-closed k m y (omega (arith, signed_arith)) in
+    let later = year_start-closed k n z (omega (arith, signed_arith)) in
+    omega (arith, signed_arith, days_from_0-later m n (omega (arith, signed_arith)))
 
 pub year_start-mono : (y z : ℤ) → y ≤ℤ z → year_start y ≤ℤ year_start z
 year_start-mono y z h = by_lt_z y z (λ lt. omega (arith, signed_arith, year_start-later y z lt)) (λ ge. let e : y ≡ z = omega (arith, signed_arith) in

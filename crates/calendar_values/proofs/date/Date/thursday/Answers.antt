@@ -1,7 +1,5 @@
-use Rattle.std.proofs.Common.{rules, arith, ◌≡◌, ◌+◌, ◌-◌, ◌∙◌, pos, ◌+ℤ◌, ◌-ℤ◌, FitsSigned, to_z, of_z, w32, to_z-of_z}
+use Rattle.std.proofs.Common.{rules, arith, ◌≡◌, ◌+◌, ◌-◌, pos, ◌+ℤ◌, ◌-ℤ◌, FitsSigned, to_z, of_z, w32, to_z-of_z}
 use Rattle.calendar_values.specs.Calendar.{days_in_year}
-use Rattle.calendar_values.specs.Weeks.{weekday_of}
-use Rattle.calendar_values.specs.DayLemmas.{IsDay-ordinal_date}
 use Rattle.calendar_values.specs.SignedArith.{signed_arith}
 use Rattle.calendar_values.proofs.WeekNumberLemmas.{IsThursdayOf, IsThursdayOf-previous, IsThursdayOf-next}
 use Rattle.calendar_values.proofs.date.Date.thursday.Goals as goal
@@ -11,24 +9,17 @@ previous : (c : goal.After-days_in_year) → IsThursdayOf c.args.self (to_z w32 
 previous c =
     let y = c.self.inside.year in
     let fits : FitsSigned w32 y = search rules in
-    let day_in = rw c.self.view_is at (IsDay-ordinal_date y c.self.inside.ordinal c.self.invariant.0 c.self.invariant.1) in
-    let days : c.from-days_from_monday.result ≡ weekday_of c.args.self =
-    c.from-days_from_monday.ensures ∙ c.number_days_from_monday.ensures.value ∙ c.weekday.ensures in
-    IsThursdayOf-previous c.args.self y _ c.self.inside.ordinal c.from-days_from_monday.result _ day_in c.self.invariant.1 c.self.view_is
-    (omega (arith, signed_arith, c.self.invariant.0)) days c.if-ordinal-days_from_monday.true (omega (arith, c.days_in_year.ensures))
+    IsThursdayOf-previous c.args.self y _ c.self.inside.ordinal c.from-days_from_monday.result _ c.self.invariant.0 c.self.invariant.1 c.self.view_is
+    (omega (arith, signed_arith, c.self.invariant.0)) (omega arith) c.if-ordinal-days_from_monday.true (omega arith)
 
 next : (c : goal.After-struct_told-then-ordinal-length-1) → IsThursdayOf c.args.self (to_z w32 (of_z w32 (to_z w32 (of_z w32 c.self.inside.year) +ℤ pos 1)))
     (c.self.inside.ordinal + 3 - c.from-days_from_monday.result - c.days_in_year-length.result)
 next c =
     let y = c.self.inside.year in
     let fits : FitsSigned w32 y = search rules in
-    let day_in = rw c.self.view_is at (IsDay-ordinal_date y c.self.inside.ordinal c.self.invariant.0 c.self.invariant.1) in
-    let days : c.from-days_from_monday.result ≡ weekday_of c.args.self =
-    c.from-days_from_monday.ensures ∙ c.number_days_from_monday.ensures.value ∙ c.weekday.ensures in
     let length : c.days_in_year-length.result ≡ days_in_year y = simp to_z-of_z at c.days_in_year-length.ensures in
-    IsThursdayOf-next c.args.self y _ c.self.inside.ordinal c.from-days_from_monday.result _ day_in c.self.invariant.1 c.self.view_is
-    (omega (arith, signed_arith, c.self.invariant.0)) days c.if-ordinal-days_from_monday.false (omega (arith, c.if-ordinal-length.true, length))
-    (omega (arith, length))
+    IsThursdayOf-next c.args.self y _ c.self.inside.ordinal c.from-days_from_monday.result _ c.self.invariant.0 c.self.invariant.1 c.self.view_is
+    (omega (arith, signed_arith, c.self.invariant.0)) (omega arith) c.if-ordinal-days_from_monday.false (omega arith) (omega arith)
 
 pub invariant_of-result : goal.invariant_of-result
 invariant_of-result c = let t = previous c in (t.year_in_range, t.date)

@@ -7,25 +7,16 @@ pub overflow_add-self-inside : goal.overflow_add-self-inside
 overflow_add-self-inside c =
     let s : FitsSigned w64 c.self.inside.seconds = search rules in
     let t : FitsSigned w64 c.other.inside.seconds = search rules in
-    omega (arith, signed_arith, duration_signs _ _ c.self.invariant, duration_signs _ _ c.other.invariant, c.self.view_is, c.other.view_is, c.requires)
+    let a = duration_signs _ _ c.self.invariant in let b = duration_signs _ _ c.other.invariant in omega (arith, signed_arith, c.self.view_is, c.other.view_is)
 
 pub new-requires : goal.new-requires
 new-requires c =
     let s : FitsSigned w64 c.self.inside.seconds = search rules in
     let t : FitsSigned w64 c.other.inside.seconds = search rules in
-    omega (arith, signed_arith, duration_signs _ _ c.self.invariant, duration_signs _ _ c.other.invariant, c.self.view_is, c.other.view_is, c.requires)
+    let a = duration_signs _ _ c.self.invariant in let b = duration_signs _ _ c.other.invariant in omega (arith, signed_arith, c.self.view_is, c.other.view_is)
 
 pub returns : goal.returns
 returns c =
     let s : FitsSigned w64 c.self.inside.seconds = search rules in
     let t : FitsSigned w64 c.other.inside.seconds = search rules in
-    omega (
-      arith,
-      signed_arith,
-      duration_signs _ _ c.self.invariant,
-      duration_signs _ _ c.other.invariant,
-      c.self.view_is,
-      c.other.view_is,
-      c.requires,
-      c.new.ensures,
-    )
+    let a = duration_signs _ _ c.self.invariant in let b = duration_signs _ _ c.other.invariant in omega (arith, signed_arith, c.self.view_is, c.other.view_is)

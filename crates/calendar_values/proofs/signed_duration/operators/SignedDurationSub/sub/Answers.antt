@@ -12,32 +12,15 @@ pub new-requires : goal.new-requires
 new-requires c =
     let s : FitsSigned w64 c.self.inside.seconds = search rules in
     let t : FitsSigned w64 c.other.inside.seconds = search rules in
-    omega (
-      arith,
-      signed_arith,
-      duration_signs _ _ c.self.invariant,
-      duration_signs _ _ c.other.invariant,
-      c.self.view_is,
-      c.other.view_is,
-      c.requires,
-      c.in-Some.ensures,
-    )
+    let some = c.in-Some.ensures in
+    let a = duration_signs _ _ c.self.invariant in let b = duration_signs _ _ c.other.invariant in omega (arith, signed_arith, c.self.view_is, c.other.view_is)
 
 pub returns-in-Some : goal.returns-in-Some
 returns-in-Some c =
     let s : FitsSigned w64 c.self.inside.seconds = search rules in
     let t : FitsSigned w64 c.other.inside.seconds = search rules in
-    omega (
-      arith,
-      signed_arith,
-      duration_signs _ _ c.self.invariant,
-      duration_signs _ _ c.other.invariant,
-      c.self.view_is,
-      c.other.view_is,
-      c.requires,
-      c.in-Some.ensures,
-      c.new.ensures,
-    )
+    let some = c.in-Some.ensures in
+    let a = duration_signs _ _ c.self.invariant in let b = duration_signs _ _ c.other.invariant in omega (arith, signed_arith, c.self.view_is, c.other.view_is)
 
 excess : (c : goal.In-None) → (c.self.inside.seconds -ℤ c.other.inside.seconds ≡ pos 9_223_372_036_854_775_808)
     × ((c.self.inside.nanoseconds -ℤ c.other.inside.nanoseconds) <ℤ pos 0)
@@ -50,19 +33,11 @@ overflow_add-nanoseconds c =
 
 pub new-requires-in-None : goal.new-requires-in-None
 new-requires-in-None c =
-    omega (
-      arith,
-      signed_arith,
-      duration_signs _ _ c.self.invariant,
-      duration_signs _ _ c.other.invariant,
-      c.self.view_is,
-      c.other.view_is,
-      c.requires,
-      excess c,
-    )
+    let more = excess c in
+    let a = duration_signs _ _ c.self.invariant in let b = duration_signs _ _ c.other.invariant in omega (arith, signed_arith, c.self.view_is, c.other.view_is)
 
 pub returns-in-None : goal.returns-in-None
 returns-in-None c =
     let excess = seconds_excess _ _ _ _ (search rules) (search rules) c.self.invariant c.other.invariant
     (rw (c.self.view_is, c.other.view_is) c.requires) c.in-None.ensures in
-    omega (arith, signed_arith, c.self.view_is, c.other.view_is, c.new-in-None.ensures, excess)
+    omega (arith, signed_arith, c.self.view_is, c.other.view_is)
