@@ -2,7 +2,6 @@
 use Rattle.std.proofs.Common.{◌≡◌, ◌↔◌, refl, sym, ap, ◌∙◌, Bool, true, false, cond, not, IsTrue, arith, ℤ, pos, neg_ℤ}
 use Rattle.std.proofs.Common.{◌+ℤ◌, ◌-ℤ◌, ◌≤ℤ◌, ◌<ℤ◌, Option, Some, None, SomeIff}
 use Rattle.std.proofs.lemmas.Int.{ints, by_lt_z}
-use Rattle.calendar_values.specs.Durations.{IsDuration}
 use Rattle.calendar_values.specs.WallClock.{first_wall_clock, last_wall_clock, IsWallClock}
 use Rattle.plain_times.specs.Sums.{wall_clock_if_any, nearest_wall_clock, IsSaturatingSum, IsSaturatingDifference}
 
@@ -80,7 +79,3 @@ IsSaturatingDifference-end w d v false h outside sign e =
     by_lt_z d (pos 0) (λ lt. let no : false ≡ true = sign.1 lt in cc) (λ ge. omega (arith, ints))))) in
     IsSaturatingDifference-sum w d v (IsSaturatingSum-end w (neg_ℤ d) v true h outside
     ((λ yes. omega (arith, ints)), (λ lt. refl)) e)
-
--- the time between two wall clocks of the range is a duration
-pub IsDuration-difference : (v w : ℤ) → IsWallClock v → IsWallClock w → IsDuration (v -ℤ w)
-IsDuration-difference v w h k = omega (arith, ints)
