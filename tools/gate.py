@@ -7,18 +7,29 @@ import signal
 import subprocess
 import sys
 import tempfile
+import threading
+import time
 
 TOOLS = os.path.dirname(os.path.realpath(__file__))
 REPOSITORY = os.path.dirname(TOOLS)
 
-# The variable that names the folder of the copy, where several steps share one. ./test sets it.
+# The variable that names the folder that the steps of one gate share. ./test sets it.
 SHARED_FOLDER = "GATE_FOLDER"
+
+# What ./test, and then tools/proved_copy, leave in that folder: the first for as long as other work goes on beside.
+BESIDE, PROVED, UNPROVED = "beside", "proved", "unproved"
+
+# The library for C in that folder, once it is proved and built.
+ARCHIVE = "libmuxandu_c.a"
 
 # The compilers that build a program, by the names that `rt` has for them.
 COMPILERS = ("llvm", "rattle")
 
 # How much of what a command printed is shown where it failed.
 SHOWN = 3_000
+
+# How many seconds a step waits for another.
+LONGEST_WAIT = 10_000
 
 
 class Tally:
@@ -63,9 +74,49 @@ def rt(words, folder):
     )
 
 
+def is_beside():
+    """Whether this step runs beside another that takes all processors."""
+    shared = os.environ.get(SHARED_FOLDER)
+    return bool(shared) and os.path.exists(os.path.join(shared, BESIDE))
+
+
 def jobs():
-    """How many jobs a check may have on this machine, as tools/jobs says."""
+    """How many jobs a check may have on this machine, as tools/jobs says; one beside other work."""
+    if is_beside():
+        return 1
     return int(subprocess.run([os.path.join(TOOLS, "jobs")], stdout=subprocess.PIPE, check=True).stdout)
+
+
+class Room:
+    """Room for checks of one job side by side: as many as there are jobs at the time."""
+
+    def __init__(self):
+        self.running = 0
+        self.condition = threading.Condition()
+
+    def __enter__(self):
+        with self.condition:
+            while self.running >= jobs():
+                self.condition.wait(timeout=10)
+            self.running += 1
+
+    def __exit__(self, *_):
+        with self.condition:
+            self.running -= 1
+            self.condition.notify_all()
+
+
+def crates(root=REPOSITORY):
+    """The names of the crates of a repository, each after those that it stands on, as crates.txt lists them."""
+    with open(os.path.join(root, "crates.txt"), encoding="utf-8") as lines:
+        return [line.split(":")[0].split()[0] for line in lines if ":" in line and not line.startswith("#")]
+
+
+def copy_repository(folder, repository=REPOSITORY):
+    """The path of a copy of a repository in the folder, with what checks have kept."""
+    copy = os.path.join(folder, "copy")
+    shutil.copytree(repository, copy, symlinks=True, ignore=shutil.ignore_patterns(".git", "__pycache__"))
+    return copy
 
 
 def program(folder, compiler):
@@ -75,18 +126,9 @@ def program(folder, compiler):
 
 def build(folder):
     """Makes a copy of the repository in the folder, has ./bench prove and build times_bench in it, and then has Rattle's own
-    compiler build it too.
-
-    What checks kept in the repository comes along, so little is left to do where it is proved already. Where an earlier
-    step built the copy, nothing is done; where an earlier step could not build it, this one ends too.
-    """
-    copy, built = os.path.join(folder, "copy"), os.path.join(folder, "built")
-    if os.path.exists(built):
-        return
-    if os.path.exists(copy):
-        sys.exit("the copy of the repository could not be built")
+    compiler build it too. What checks kept in the repository comes along, so little is left to do where it is proved."""
     print("building a copy of the repository", flush=True)
-    shutil.copytree(REPOSITORY, copy, symlinks=True, ignore=shutil.ignore_patterns(".git", "__pycache__"))
+    copy = copy_repository(folder)
     if subprocess.run([os.path.join(copy, "bench")], stdin=subprocess.DEVNULL, check=False).returncode != 0:
         sys.exit("the copy of the repository is not proved and built")
     crate = os.path.join(copy, "crates", "times_bench")
@@ -95,42 +137,76 @@ def build(folder):
     if run.returncode != 0:
         sys.exit(f"Rattle's own compiler does not build times_bench:\n{run.stdout[-SHOWN:]}")
     shutil.copy(os.path.join(crate, "out", "times_bench"), program(folder, "rattle"))
-    open(built, "w", encoding="utf-8").close()
 
 
 @contextlib.contextmanager
-def built_folder():
-    """A folder in which a copy is built: that of all steps, or one for this step alone, which is removed at the end, and
-    where the step is asked to end early."""
-    shared = os.environ.get(SHARED_FOLDER)
-    if shared:
-        build(shared)
-        yield shared
-        return
+def own_folder():
+    """A folder for this step alone, which is removed at the end, and where the step is asked to end early."""
     signal.signal(signal.SIGTERM, lambda *_: sys.exit("asked to end"))
     with tempfile.TemporaryDirectory(prefix="gate-") as folder:
-        build(folder)
         yield folder
 
 
+def wait_for(folder, name):
+    """Waits until tools/proved_copy has left that file in the folder. Ends the step where it could not."""
+    end = time.monotonic() + LONGEST_WAIT
+    while not os.path.exists(os.path.join(folder, name)):
+        if os.path.exists(os.path.join(folder, UNPROVED)) or time.monotonic() > end:
+            sys.exit("the copy of the repository is not proved")
+        time.sleep(1)
+
+
 @contextlib.contextmanager
-def built_copy():
-    """The path of a copy of the repository in which times_bench and the crates below it are proved and built."""
-    with built_folder() as folder:
-        yield os.path.join(folder, "copy")
+def proved_copy(is_changed=False):
+    """The path of a copy of the repository whose crates are proved, with what their checks kept: that of the gate, or where
+    it is to be changed a copy of that; or one of its own."""
+    shared = os.environ.get(SHARED_FOLDER)
+    if shared:
+        wait_for(shared, PROVED)
+        if not is_changed:
+            yield os.path.join(shared, "copy")
+            return
+    with own_folder() as folder:
+        copy = copy_repository(folder, os.path.join(shared, "copy") if shared else REPOSITORY)
+        for crate in crates(copy) if not shared else ():
+            prove(copy, crate)
+        yield copy
+
+
+def is_test(crate):
+    """Whether a crate has tests alone."""
+    return crate.endswith("_tests")
+
+
+def prove(root, crate):
+    """Proves a crate of that repository, unless it is one of tests, and keeps what the check keeps; a library is built too.
+    Ends the step where it is not proved."""
+    if is_test(crate):
+        return
+    folder = os.path.join(root, "crates", crate)
+    is_library = crate != "uses" and not os.path.exists(os.path.join(folder, "src", "main.rt"))
+    run = rt(["lib" if is_library else "check", "--jobs", str(jobs())], folder)
+    if run.returncode != 0:
+        sys.exit(f"{crate} is not proved:\n{run.stdout[-SHOWN:]}")
 
 
 @contextlib.contextmanager
 def programs():
-    """What times_bench is, and its path: as each compiler builds it in a copy of the repository, or the one program that
-    `--program PATH` names on the command line."""
+    """What times_bench is, and its path: as each compiler builds it, or the one program that `--program PATH` names on the
+    command line. In the gate these are the programs that `rt ci` has proved and built, else those of a copy."""
     words = sys.argv[1:]
     if words[:1] == ["--program"] and len(words) == 2:
         yield [(words[1], os.path.abspath(words[1]))]
         return
     if words:
         sys.exit(f"usage: {sys.argv[0]} [--program PATH]")
-    with built_folder() as folder:
+    shared = os.environ.get(SHARED_FOLDER)
+    with contextlib.nullcontext(shared) if shared else own_folder() as folder:
+        if not shared:
+            build(folder)
+        lacking = [compiler for compiler in COMPILERS if not os.path.exists(program(folder, compiler))]
+        if lacking:
+            sys.exit(f"there is no times_bench built by {' or '.join(lacking)}")
         yield [(f"times_bench built by {compiler}", program(folder, compiler)) for compiler in COMPILERS]
 
 

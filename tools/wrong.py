@@ -1,0 +1,54 @@
+"""Wrong bodies, as their files in the crates have them."""
+
+import os
+from dataclasses import dataclass, field
+
+# Where wrong bodies stand in a crate.
+FOLDERS = ("must-fail", "wrong")
+
+
+@dataclass
+class Wrong:
+    """A wrong body: its file, what it does in words, the function that it makes wrong, the clause that it breaks, and what it
+    changes: for each text that stands once in a file of the crate, or first behind a text that does, another."""
+
+    path: str
+    says: str = ""
+    function: str = ""
+    clause: str = ""
+    changes: list = field(default_factory=list)
+
+    @property
+    def name(self):
+        return os.path.basename(self.path).removesuffix(".edit")
+
+
+def read(path):
+    """The wrong body that a file has."""
+    wrong, file, after, old = Wrong(path), "", "", None
+    with open(path, encoding="utf-8") as text:
+        for line in text.read().split("\n"):
+            word, _, rest = line.partition(":")
+            rest = rest.removeprefix(" ")
+            if word in ("says", "function", "clause"):
+                setattr(wrong, word, rest.strip())
+            elif word == "file":
+                file = rest.strip()
+            elif word == "after":
+                after = rest
+            elif word == "old":
+                old = rest
+            elif word == "new":
+                wrong.changes.append((file, after, old, rest))
+                after = ""
+    return wrong
+
+
+def wrong_bodies(folder, names=()):
+    """The wrong bodies of a crate, or those of these names."""
+    found = []
+    for part in FOLDERS:
+        inside = os.path.join(folder, part)
+        files = sorted(os.listdir(inside)) if os.path.isdir(inside) else []
+        found += [read(os.path.join(inside, file)) for file in files if file.endswith(".edit")]
+    return [wrong for wrong in found if not names or wrong.name in names]
