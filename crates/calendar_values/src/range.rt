@@ -1,4 +1,4 @@
-//! The range of the library. Every other limit is computed from the numbers here.
+//! The range of the library. Limits elsewhere are computed from the numbers here, or proved to agree with them.
 
 // The first year and the last.
 pub(crate) const FIRST_YEAR: i32 = -999_999;

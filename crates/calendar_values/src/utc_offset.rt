@@ -63,17 +63,16 @@ impl UtcOffset {
     /// or of the minutes if the hours are 0, is given to the smaller parts, as the `time` crate
     /// documents: `from_hms(1, -2, -3)` is 1:02:03. The first part that is out of its range is
     /// refused, as `hours`, `minutes` or `seconds`, not conditionally.
-    #[tactic(auto, unfolding(crate::specs::Offsets::offset_of_parts))]
     pub fn from_hms(hours: i8, minutes: i8, seconds: i8) -> Result<UtcOffset, ComponentRange>
         ensures { Gives result (offset_outcome hours minutes seconds) }
     {
-        if hours < -25 || hours > 25 {
+        if hours.unsigned_abs() > 25 {
             return Err(ComponentRange::new("hours", false));
         }
-        if minutes < -59 || minutes > 59 {
+        if minutes.unsigned_abs() > 59 {
             return Err(ComponentRange::new("minutes", false));
         }
-        if seconds < -59 || seconds > 59 {
+        if seconds.unsigned_abs() > 59 {
             return Err(ComponentRange::new("seconds", false));
         }
         Ok(UtcOffset {

@@ -1,17 +1,17 @@
--- The order of instants, by dates that lie far apart, by the time between them, and by packed parts.
-use Rattle.std.proofs.Common.{◌≡◌, ℕ, ◌/◌, ◌<◌, ap, arith, ℤ, pos, ◌+ℤ◌, ◌-ℤ◌, ◌*ℤ◌, ◌<ℤ◌, int_cmp}
+-- The order of instants, by dates that lie far apart, by the parts of what clocks at one offset show, and by packed parts.
+use Rattle.std.proofs.Common.{◌≡◌, ℕ, arith, ℤ, pos, ◌+ℤ◌, ◌-ℤ◌, ◌*ℤ◌, ◌<ℤ◌, int_cmp}
 use Rattle.std.proofs.lemmas.Int.{ints, by_lt_z}
-use Rattle.calendar_values.specs.Calendar.{year_start, year_of, ordinal_of, day_of_ordinal_date, IsOrdinalDate}
-use Rattle.calendar_values.specs.Clock.{IsClock, nanos_per_second, nanosecond_of}
+use Rattle.calendar_values.specs.Calendar.{year_of, ordinal_of, day_of_ordinal_date, IsOrdinalDate}
+use Rattle.calendar_values.specs.Clock.{IsClock}
 use Rattle.calendar_values.specs.DayLemmas.{IsOrdinalDate-of, day_of_ordinal_date-of, year_of-ordinal_date, ordinal_of-ordinal_date}
 use Rattle.calendar_values.specs.Offsets.{IsOffset}
 use Rattle.calendar_values.specs.OrderLemmas.{int_cmp_agrees}
 use Rattle.calendar_values.specs.SignedArith.{signed_arith}
 use Rattle.calendar_values.specs.WallClock.{wall_clock, wall_day, wall_time}
 use Rattle.calendar_values.specs.WallClockLemmas.{wall_clock-parts, IsClock-wall_time, wall_day-wall_clock, wall_time-wall_clock}
-use Rattle.calendar_values.specs.YearLemmas.{year_start-later, year_start-next, days_in_year_bounds}
-use Rattle.offset_times.specs.Local.{Local, IsLocal, instant_of, offset_nanos}
-use Rattle.plain_times.specs.Packed.{packed_parts, packed_wall_clock}
+use Rattle.calendar_values.specs.YearLemmas.{year_start-later, year_start-mono, year_start-next, days_in_year_bounds}
+use Rattle.offset_times.specs.Local.{Local, IsLocal, instant_of, shown_at, offset_nanos}
+use Rattle.plain_times.specs.Packed.{IsParts, wall_clock_of_parts, packed_parts, packed_wall_clock}
 
 -- dates that lie more than four days apart, were each year of 366, lie more than three apart
 later_date : (y z : ℤ) (o p : ℕ) → IsOrdinalDate y o → IsOrdinalDate z p → pos 4 <ℤ ((y -ℤ z) *ℤ pos 366 +ℤ pos o -ℤ pos p) →
@@ -50,38 +50,42 @@ pub int_cmp-earlier : (d i j : ℤ) → d <ℤ pos 0 → i <ℤ j → int_cmp d 
 int_cmp-earlier d i j sign earlier =
     int_cmp_agrees d (pos 0) i j (λ lt. earlier) (λ gt. absurd (omega (arith, ints))) (λ e. absurd (omega (arith, ints)))
 
--- the seconds between two instants decide
-pub int_cmp-seconds : (s i j : ℤ) (n m : ℕ) → s *ℤ pos 1_000_000_000 +ℤ (pos n -ℤ pos m) ≡ i -ℤ j → n < 1_000_000_000 → m < 1_000_000_000
-    → (s ≡ pos 0 → ⊥) → int_cmp s (pos 0) ≡ int_cmp i j
-int_cmp-seconds s i j n m e h k apart =
-    int_cmp_agrees s (pos 0) i j (λ lt. omega (arith, signed_arith)) (λ gt. omega (arith, signed_arith)) (λ none. absurd (apart none))
+-- a day of a later place, were each year of 366, is later, whatever the clocks show
+later_parts : (y z : ℤ) (o p c d : ℕ) → IsParts y o c → IsParts z p d → pos 0 <ℤ ((y -ℤ z) *ℤ pos 366 +ℤ pos o -ℤ pos p) →
+    wall_clock_of_parts z p d <ℤ wall_clock_of_parts y o c
+later_parts y z o p c d h k later =
+    by_lt_z z y
+    (λ more. omega (arith, signed_arith, year_start-mono (z +ℤ pos 1) y (omega (arith, signed_arith)), year_start-next z))
+    (λ ge. by_lt_z y z
+    (λ less. absurd (omega (arith, signed_arith, days_in_year_bounds y)))
+    (λ le. let e : y ≡ z = omega (arith, signed_arith) in rw e (omega (arith, signed_arith))))
 
--- and where there are none, the nanoseconds do
-pub int_cmp-nanoseconds : (s i j : ℤ) (n m : ℕ) → s *ℤ pos 1_000_000_000 +ℤ (pos n -ℤ pos m) ≡ i -ℤ j → s ≡ pos 0
-    → int_cmp (pos n -ℤ pos m) (pos 0) ≡ int_cmp i j
-int_cmp-nanoseconds s i j n m e none =
-    int_cmp_agrees (pos n -ℤ pos m) (pos 0) i j
-    (λ lt. omega (arith, signed_arith)) (λ gt. omega (arith, signed_arith)) (λ same. omega (arith, signed_arith))
+-- so the days decide
+pub int_cmp-days : (s y z : ℤ) (o p c d : ℕ) → IsParts y o c → IsParts z p d → s ≡ (y -ℤ z) *ℤ pos 366 +ℤ pos o -ℤ pos p → (s ≡ pos 0 → ⊥) →
+    int_cmp s (pos 0) ≡ int_cmp (wall_clock_of_parts y o c) (wall_clock_of_parts z p d)
+int_cmp-days s y z o p c d h k e apart =
+    int_cmp_agrees s (pos 0) (wall_clock_of_parts y o c) (wall_clock_of_parts z p d)
+    (λ lt. later_parts z y p o d c k h (omega (arith, ints))) (λ gt. later_parts y z o p c d h k (omega (arith, ints))) (λ none. absurd (apart none))
 
--- days of one year lie apart by their places in it
-pub days_in_one_year : (m n : ℤ) → year_of m ≡ year_of n → pos (ordinal_of m) -ℤ pos (ordinal_of n) ≡ m -ℤ n
-days_in_one_year m n e =
-    let first = day_of_ordinal_date-of m in
-    let second = day_of_ordinal_date-of n in
-    let same : year_start (year_of m) ≡ year_start (year_of n) = ap year_start e in
-    omega (arith, signed_arith)
+-- and where there are none between, the clocks do
+clocks_of_one_day : (m : ℤ) (c d : ℕ) → int_cmp (pos c -ℤ pos d) (pos 0) ≡ int_cmp (wall_clock m c) (wall_clock m d)
+clocks_of_one_day m c d =
+    int_cmp_agrees (pos c -ℤ pos d) (pos 0) (wall_clock m c) (wall_clock m d)
+    (λ lt. omega (arith, ints)) (λ gt. omega (arith, ints)) (λ same. omega (arith, ints))
 
--- instants lie apart by the days, the seconds of the days, the offsets and the nanoseconds
-pub instants_between : (a b : Local) (s : ℤ) (n m : ℕ)
-    → s ≡ (wall_day a.wall -ℤ wall_day b.wall) *ℤ pos 86_400 +ℤ pos (wall_time a.wall / nanos_per_second) -ℤ a.offset
-    -ℤ (pos (wall_time b.wall / nanos_per_second) -ℤ b.offset)
-    → n ≡ nanosecond_of (wall_time a.wall) → m ≡ nanosecond_of (wall_time b.wall)
-    → s *ℤ pos 1_000_000_000 +ℤ (pos n -ℤ pos m) ≡ instant_of a -ℤ instant_of b
+pub int_cmp-clocks : (s y z : ℤ) (o p c d : ℕ) → IsParts y o c → IsParts z p d → s ≡ (y -ℤ z) *ℤ pos 366 +ℤ pos o -ℤ pos p → s ≡ pos 0 →
+    int_cmp (pos c -ℤ pos d) (pos 0) ≡ int_cmp (wall_clock_of_parts y o c) (wall_clock_of_parts z p d)
+int_cmp-clocks s y z o p c d h k e none =
+    let year : y ≡ z = omega (arith, signed_arith, days_in_year_bounds y, days_in_year_bounds z) in
+    let ordinal : o ≡ p = omega (arith, signed_arith) in
+    rw (year, ordinal) (clocks_of_one_day (day_of_ordinal_date z p) c d)
+
+-- instants compare as what clocks at the offset of the first show
+pub int_cmp-shown : (a b : Local) → int_cmp a.wall (shown_at (instant_of b) a.offset) ≡ int_cmp (instant_of a) (instant_of b)
 unfolding instant_of
-instants_between a b s n m e f g =
-    let first = wall_clock-parts a.wall in
-    let second = wall_clock-parts b.wall in
-    omega (arith, signed_arith)
+int_cmp-shown a b =
+    int_cmp_agrees a.wall (shown_at (b.wall -ℤ offset_nanos b.offset) a.offset) (a.wall -ℤ offset_nanos a.offset) (b.wall -ℤ offset_nanos b.offset)
+    (λ lt. omega (arith, ints)) (λ gt. omega (arith, ints)) (λ same. omega (arith, ints))
 
 -- the packed parts of a wall clock are its packed number
 pub packed_parts-is : (w y : ℤ) (o c : ℕ) → IsOrdinalDate y o → IsClock c → wall_clock (day_of_ordinal_date y o) c ≡ w →

@@ -3,3 +3,4 @@ pub mod ConversionLawLemmas
 pub mod InstantOrderLemmas
 pub mod LocalLemmas
 pub mod NextYearLemmas
+pub mod SumLemmas

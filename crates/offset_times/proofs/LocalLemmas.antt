@@ -1,5 +1,6 @@
 -- Wall clocks at offsets, and their instants.
-use Rattle.std.proofs.Common.{◌≡◌, ℕ, sym, ap, ◌∙◌, arith, ℤ, ◌+ℤ◌, ◌-ℤ◌}
+use Rattle.std.proofs.Common.{◌≡◌, ℕ, sym, ap, ◌∙◌, arith, ℤ, pos, ◌+ℤ◌, ◌-ℤ◌, ◌*ℤ◌, FitsSigned, to_z, of_z, w32}
+use Rattle.std.specs.Int.{w128}
 use Rattle.std.proofs.lemmas.Int.{ints}
 use Rattle.calendar_values.specs.Calendar.{day_of_ordinal_date, IsOrdinalDate}
 use Rattle.calendar_values.specs.Clock.{IsClock}
@@ -7,6 +8,7 @@ use Rattle.calendar_values.specs.DayLemmas.{IsYear-year_of, year_of-ordinal_date
 use Rattle.calendar_values.specs.Durations.{IsDuration}
 use Rattle.calendar_values.specs.Offsets.{IsOffset}
 use Rattle.calendar_values.specs.Range.{IsYear}
+use Rattle.calendar_values.specs.SignedArith.{signed_arith}
 use Rattle.calendar_values.specs.WallClock.{wall_clock, IsWallClock}
 use Rattle.calendar_values.specs.WallClockLemmas.{IsDay-wall_day, wall_day-wall_clock}
 use Rattle.offset_times.specs.InstantLemmas.{shown_at-instant_of, local_at-instant_of}
@@ -41,3 +43,13 @@ instants_apart a b walls offsets e f = omega (arith, ints)
 pub IsDuration-apart : (a b : Local) (walls offsets : ℤ) → IsLocal a → IsLocal b → walls ≡ a.wall -ℤ b.wall → offsets ≡ offset_nanos (b.offset -ℤ a.offset) →
     IsDuration (walls +ℤ offsets)
 IsDuration-apart a b walls offsets h k e f = omega (arith, ints)
+
+-- the nanoseconds of a wall clock less those of an offset, as they are cast
+pub instant_of-nanos : (at : Local) (n o : ℤ) → IsLocal at → n ≡ at.wall → o ≡ at.offset → to_z w128 (of_z w128 (to_z w128 (of_z w128 n) -ℤ to_z w128
+    (of_z w128 (to_z w128 (of_z w128 (to_z w32 (of_z w32 o))) *ℤ pos 1_000_000_000)))) ≡ instant_of at
+unfolding instant_of
+instant_of-nanos at n o h e f = omega (arith, signed_arith)
+
+pub FitsSigned-nanos : (at : Local) (n o : ℤ) → IsLocal at → n ≡ at.wall → o ≡ at.offset → FitsSigned w128 (to_z w128 (of_z w128 n) -ℤ to_z w128
+    (of_z w128 (to_z w128 (of_z w128 (to_z w32 (of_z w32 o))) *ℤ pos 1_000_000_000)))
+FitsSigned-nanos at n o h e f = omega (arith, signed_arith)

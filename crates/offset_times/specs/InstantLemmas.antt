@@ -16,6 +16,11 @@ pub instant_of-utc : (i : ℤ) → instant_of (local_in_utc i) ≡ i
 unfolding instant_of
 instant_of-utc i = omega (arith, ints)
 
+-- a wall clock in UTC is its instant
+pub instant_of-in_utc : (at : Local) → at.offset ≡ pos 0 → instant_of at ≡ at.wall
+unfolding instant_of
+instant_of-in_utc at utc = omega (arith, ints)
+
 -- clocks at the own offset show the own wall clock
 pub shown_at-instant_of : (at : Local) → shown_at (instant_of at) at.offset ≡ at.wall
 unfolding instant_of
@@ -54,5 +59,12 @@ instant_of-not_a_day_earlier old new same day =
 
 pub ruleset same_day = (instant_of-not_a_day_later, instant_of-not_a_day_earlier)
 
+-- the difference of two leads from the second to the first, and back
+pub later-by_difference : (i j : ℤ) → j +ℤ (i -ℤ j) ≡ i
+later-by_difference i j = omega (arith, ints)
+
+pub earlier-by_difference : (i j : ℤ) → i -ℤ (i -ℤ j) ≡ j
+earlier-by_difference i j = omega (arith, ints)
+
 -- what callers name where they follow an instant
-pub ruleset instants = (instant_of-local_at, instant_of-utc, instant_of-later, instant_of-earlier)
+pub ruleset instants = (instant_of-local_at, instant_of-utc, instant_of-later, instant_of-earlier, later-by_difference, earlier-by_difference)

@@ -1,8 +1,16 @@
 -- What shows that conversions, sums and truncations are what their names say: laws of all wall clocks, offsets and
 -- durations, each proved by a function of `src/laws.rt`.
-use Rattle.std.specs.Prelude.{◌≡◌, ℕ, ◌<◌, ℤ, ◌+ℤ◌, ◌-ℤ◌, Option, Some, SomeIff}
-use Rattle.calendar_values.specs.WallClock.{IsWallClock}
-use Rattle.offset_times.specs.Local.{Local, instant_of, shown_at, wall_at, local_at, local_multiple_below}
+use Rattle.std.specs.Prelude.{◌≡◌, ℕ, ◌<◌, ◌≤◌, ℤ, ◌+ℤ◌, ◌-ℤ◌, ◌≤ℤ◌, Option, Some, SomeIff, Ok}
+use Rattle.std.specs.Ordering.{int_cmp}
+use Rattle.calendar_values.specs.Calendar.{year_of, month_of, day_of_month_of, ordinal_of}
+use Rattle.calendar_values.specs.Clock.{hour_of, minute_of, second_of, millisecond_of, microsecond_of, nanosecond_of}
+use Rattle.calendar_values.specs.Outcomes.{within}
+use Rattle.calendar_values.specs.WallClock.{IsWallClock, wall_day, wall_time}
+use Rattle.offset_times.specs.Local.{Local, instant_of, shown_at, wall_at, local_at, at_offset_of, local_multiple_below}
+use Rattle.plain_times.specs.Replacements.{wall_year_outcome, wall_month_outcome, wall_day_outcome, wall_ordinal_outcome}
+use Rattle.plain_times.specs.Replacements.{wall_hour_outcome, wall_minute_outcome, wall_second_outcome}
+use Rattle.plain_times.specs.Replacements.{wall_millisecond_outcome, wall_microsecond_outcome, wall_nanosecond_outcome}
+use Rattle.plain_times.specs.Sums.{nearest_wall_clock}
 
 -- after an accepted conversion a second one answers as one of the original does: wall clock and offset alike, or refused like it
 abbrev pub ConversionsCompose : Type 0
@@ -35,3 +43,29 @@ pub record DifferencesLeadBack : Type 0 where
 abbrev pub TruncationsRoundDownOnce : Type 0
 TruncationsRoundDownOnce =
     (unit : ℕ) (at : Local) → 0 < unit → local_multiple_below unit (local_multiple_below unit at) ≡ local_multiple_below unit at
+
+-- sums with one duration keep the order: accepted ones are in the order of the values, and at one offset saturating ones do not leave it
+pub record SumsKeepTheOrder : Type 0 where
+  pub accepted : (a b first second : Local) (d : ℤ) → SomeIff (Some first) (IsWallClock (a.wall +ℤ d)) (wall_at (a.wall +ℤ d) a.offset)
+      → SomeIff (Some second) (IsWallClock (b.wall +ℤ d)) (wall_at (b.wall +ℤ d) b.offset)
+      → int_cmp (instant_of first) (instant_of second) ≡ int_cmp (instant_of a) (instant_of b)
+  pub saturating : (a b : Local) (d : ℤ) → a.offset ≡ b.offset → instant_of a ≤ℤ instant_of b
+      → instant_of (at_offset_of a (nearest_wall_clock (a.wall +ℤ d))) ≤ℤ instant_of (at_offset_of b (nearest_wall_clock (b.wall +ℤ d)))
+
+-- after an accepted replacement the part of the wall clock reads as given
+pub record ReplacedPartsReadAsGiven : Type 0 where
+  pub year : (at v : Local) (y : ℤ) → (within (at_offset_of at) (wall_year_outcome at.wall y)).answer ≡ Ok v → year_of (wall_day v.wall) ≡ y
+  pub month : (at v : Local) (m : ℕ) → 1 ≤ m → m ≤ 12 → (within (at_offset_of at) (wall_month_outcome at.wall m)).answer ≡ Ok v
+      → month_of (wall_day v.wall) ≡ m
+  pub day : (at v : Local) (d : ℕ) → (within (at_offset_of at) (wall_day_outcome at.wall d)).answer ≡ Ok v → day_of_month_of (wall_day v.wall) ≡ d
+  pub ordinal : (at v : Local) (o : ℕ) → (within (at_offset_of at) (wall_ordinal_outcome at.wall o)).answer ≡ Ok v
+      → ordinal_of (wall_day v.wall) ≡ o
+  pub hour : (at v : Local) (h : ℕ) → (within (at_offset_of at) (wall_hour_outcome at.wall h)).answer ≡ Ok v → hour_of (wall_time v.wall) ≡ h
+  pub minute : (at v : Local) (m : ℕ) → (within (at_offset_of at) (wall_minute_outcome at.wall m)).answer ≡ Ok v → minute_of (wall_time v.wall) ≡ m
+  pub second : (at v : Local) (s : ℕ) → (within (at_offset_of at) (wall_second_outcome at.wall s)).answer ≡ Ok v → second_of (wall_time v.wall) ≡ s
+  pub millisecond : (at v : Local) (n : ℕ) → (within (at_offset_of at) (wall_millisecond_outcome at.wall n)).answer ≡ Ok v
+      → millisecond_of (wall_time v.wall) ≡ n
+  pub microsecond : (at v : Local) (n : ℕ) → (within (at_offset_of at) (wall_microsecond_outcome at.wall n)).answer ≡ Ok v
+      → microsecond_of (wall_time v.wall) ≡ n
+  pub nanosecond : (at v : Local) (n : ℕ) → (within (at_offset_of at) (wall_nanosecond_outcome at.wall n)).answer ≡ Ok v
+      → nanosecond_of (wall_time v.wall) ≡ n

@@ -156,7 +156,8 @@ fn carry_sixty(part: u8, from: i8, to: i8, carried: i8) -> (u8, i8)
     ensures below_limit { result.0 < 60 }
     ensures within { IsWithin 2 result.1 }
 {
-    carry(moved_part(part, from, to) + carried as i16, 60)
+    let sum = lifted_part(part, from, to, carried);
+    ((sum % 60) as u8, (sum / 60) as i8 - 4)
 }
 
 // An hour moved from one offset to another, with what is carried into it, and the days that go out of it.
@@ -169,7 +170,20 @@ fn carry_day(hour: u8, from: i8, to: i8, carried: i8) -> (u8, i8)
     ensures below_limit { result.0 < 24 }
     ensures within { IsWithin 3 result.1 }
 {
-    carry(moved_part(hour, from, to) + carried as i16, 24)
+    let sum = lifted_part(hour, from, to, carried);
+    ((sum % 24) as u8, (sum / 24) as i8 - 10)
+}
+
+// A second, a minute or an hour moved from one offset to another, with what is carried into it, and 240 more:
+// four times 60 and ten times 24, so that it is not negative.
+fn lifted_part(part: u8, from: i8, to: i8, carried: i8) -> u16
+    requires part { part < 60 }
+    requires from { IsWithin 59 from }
+    requires to { IsWithin 59 to }
+    requires carried { IsWithin 2 carried }
+    ensures { pos result ≡ pos part +ℤ to -ℤ from +ℤ carried +ℤ pos 240 }
+{
+    (moved_part(part, from, to) + carried as i16 + 240) as u16
 }
 
 // A second, a minute or an hour moved from one offset to another.
@@ -182,35 +196,7 @@ fn moved_part(part: u8, from: i8, to: i8) -> i16
     part as i16 + to as i16 - from as i16
 }
 
-// Brings a sum below the limit, and says how often the limit went out of it.
-fn carry(sum: i16, limit: u8) -> (u8, i8)
-    requires limit_low { 24 ≤ limit }
-    requires limit_high { limit ≤ 60 }
-    requires low { neg_ℤ (pos 3 *ℤ pos limit) ≤ℤ sum }
-    requires high { sum <ℤ (pos 4 *ℤ pos limit) }
-    ensures sum { sum ≡ result.1 *ℤ pos limit +ℤ pos result.0 }
-    ensures below_limit { result.0 < limit }
-{
-    let limit = i16::from(limit);
-    if sum < 0 - 2 * limit {
-        ((sum + 3 * limit) as u8, -3)
-    } else if sum < 0 - limit {
-        ((sum + 2 * limit) as u8, -2)
-    } else if sum < 0 {
-        ((sum + limit) as u8, -1)
-    } else if sum < limit {
-        (sum as u8, 0)
-    } else if sum < 2 * limit {
-        ((sum - limit) as u8, 1)
-    } else if sum < 3 * limit {
-        ((sum - 2 * limit) as u8, 2)
-    } else {
-        ((sum - 3 * limit) as u8, 3)
-    }
-}
-
 // The day that comes so many days later: at most three, so that it lies in the same year or in one beside it.
-#[tactic(auto, using(crate::proofs::NextYearLemmas::lengths))]
 fn days_later(year: i32, ordinal: u16, days: i8) -> (i32, u16)
     requires year { IsYear year }
     requires date { IsOrdinalDate year ordinal }

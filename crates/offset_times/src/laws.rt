@@ -2,7 +2,7 @@
 //! offset and duration, and does nothing when it is called.
 ghost use Rattle.std.specs.Prelude.{◌≡◌};
 ghost use Rattle.std.specs.Ordering.{int_eq, int_cmp};
-ghost use Rattle.offset_times.specs.Laws.{ConversionsCompose, OwnOffsetStays, DifferencesUndoSums, DifferencesLeadBack, TruncationsRoundDownOnce};
+ghost use Rattle.offset_times.specs.Laws.{ConversionsCompose, OwnOffsetStays, DifferencesUndoSums, DifferencesLeadBack, TruncationsRoundDownOnce, SumsKeepTheOrder, ReplacedPartsReadAsGiven};
 ghost use Rattle.offset_times.specs.Local.{instant_of};
 ghost use Rattle.plain_times.specs.Laws.{ReplacementsKeepTheRest};
 
@@ -42,6 +42,12 @@ pub fn differences_lead_back()
     ensures { DifferencesLeadBack }
 {}
 
+/// Accepted sums with one duration are in the order of the values; saturating ones, at one offset, do not
+/// leave it.
+pub fn sums_keep_the_order()
+    ensures { SumsKeepTheOrder }
+{}
+
 /// Truncating twice to a unit is truncating once.
 pub fn truncations_round_down_once()
     ensures { TruncationsRoundDownOnce }
@@ -53,4 +59,12 @@ pub fn replacements_keep_the_rest()
     ensures { ReplacementsKeepTheRest }
 {
     plain_times::laws::replacements_keep_the_rest()
+}
+
+/// After an accepted replacement of a part of the date or of the time of day of the wall clock, that part
+/// reads as given.
+pub fn replaced_parts_read_as_given()
+    ensures { ReplacedPartsReadAsGiven }
+{
+    plain_times::laws::replaced_parts_read_as_given()
 }

@@ -1,5 +1,5 @@
 //! Dates with a time of day at an offset from UTC.
-#![tactic(auto, using(calendar_values::specs::Constants::constants))]
+#![tactic(auto)]
 
 mod assume;
 pub mod carries;

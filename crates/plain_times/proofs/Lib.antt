@@ -1,2 +1,3 @@
 pub mod DateAndTimeLemmas
+pub mod DaySumLemmas
 pub mod WallClockLawLemmas

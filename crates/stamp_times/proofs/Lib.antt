@@ -1,7 +1,9 @@
 pub mod HeldInstantLemmas
 pub mod LogSearchLemmas
 pub mod MomentLemmas
+pub mod OutcomeLemmas
 pub mod ReciprocalLemmas
+pub mod RunLemmas
 pub mod TimestampOrderLemmas
 pub mod TimestampSumLemmas
 pub mod TimestampTextLemmas

@@ -1,13 +1,23 @@
 -- What the calls of each type say in the counter's words.
-use Rattle.std.proofs.Common.{◌≡◌, refl, ℤ, Option, Some, None, SomeIff, Result, Ok, Err, ap}
+use Rattle.std.proofs.Common.{◌≡◌, ℕ, refl, sym, arith, FitsSigned, w32, to_z, of_z, to_z-of_z, ℤ, Option, Some, None, SomeIff, Result, Ok, Err, ap}
 use Rattle.std.specs.Option.{option_map}
 use Rattle.std.specs.Result.{result_map_both}
+use Rattle.calendar_values.specs.Dates.{IsCalendarDateOf, IsIsoWeekDateOf}
+use Rattle.calendar_values.specs.Month.{month_number}
 use Rattle.calendar_values.specs.Refusals.{Refusal}
+use Rattle.calendar_values.specs.SignedArith.{signed_arith}
 use Rattle.calendar_values.specs.WallClock.{IsWallClock}
+use Rattle.calendar_values.specs.Weekday.{weekday_number}
+use Rattle.calendar_values.specs.declared.month.Month.{Month}
+use Rattle.calendar_values.specs.declared.weekday.Weekday.{Weekday}
 use Rattle.offset_times.specs.Local.{Local, wall_at}
 use Rattle.plain_times.specs.SumLemmas.{wall_clock_if_any-in, wall_clock_if_any-SomeIff}
 use Rattle.plain_times.specs.Sums.{wall_clock_if_any}
-use Rattle.stamp_times.specs.Counter.{local_reply}
+use Rattle.stamp_times.specs.Counter.{local_reply, date_part_of}
+use Rattle.stamp_times.specs.Numbered.{month_numbered, weekday_numbered}
+use Rattle.stamp_times.specs.NumberedLemmas.{month_numbered-number, weekday_numbered-number}
+use Rattle.stamp_times.specs.declared.runs.calls.DatePart.TheVariants as date_part
+use Rattle.stamp_times.specs.declared.runs.calls.DateRead.TheVariants as date_read
 use Rattle.stamp_times.specs.declared.runs.calls.Reply.TheVariants.{Refused}
 
 -- an accepted sum and a refused one, in the counter's words
@@ -29,3 +39,23 @@ local_reply-accepted at w o h = rw (h.1, wall_clock_if_any-in w h.0) refl
 
 pub local_reply-refused : (w o : ℤ) → SomeIff None (IsWallClock w) (wall_at w o) → Refused ≡ local_reply o (wall_clock_if_any w)
 local_reply-refused w o h = ap (local_reply o) (wall_clock_if_any-SomeIff None w h)
+
+-- a month and a day of the week are those of their numbers
+pub month_numbered-is : (m : Month) (k : ℕ) → month_number m ≡ k → m ≡ month_numbered k
+month_numbered-is m k e = rw (← e) (sym (month_numbered-number m))
+
+pub weekday_numbered-is : (d : Weekday) (k : ℕ) → weekday_number d ≡ k → d ≡ weekday_numbered k
+weekday_numbered-is d k e = rw (← e) (sym (weekday_numbered-number d))
+
+-- the parts of a date, as they are read
+pub CalendarDate-is : (n : ℤ) (date : ℤ × Month × ℕ) → IsCalendarDateOf n date →
+    date_part.CalendarDate (to_z w32 (of_z w32 date.0), date.1, date.2) ≡ date_part_of n date_read.CalendarDate
+CalendarDate-is n date h =
+    let fits : FitsSigned w32 date.0 = omega (arith, signed_arith, h.year_in_range) in
+    rw (to_z-of_z fits, h.year, month_numbered-is _ _ h.month, h.day) refl
+
+pub IsoWeekDate-is : (n : ℤ) (date : ℤ × ℕ × Weekday) → IsIsoWeekDateOf n date →
+    date_part.IsoWeekDate (to_z w32 (of_z w32 date.0), date.1, date.2) ≡ date_part_of n date_read.IsoWeekDate
+IsoWeekDate-is n date h =
+    let fits : FitsSigned w32 date.0 = omega (arith, signed_arith, h.year_in_range) in
+    rw (to_z-of_z fits, h.year, h.week, weekday_numbered-is _ _ h.weekday) refl

@@ -1,12 +1,13 @@
 -- One more step of a chain of conversions.
 use Rattle.std.proofs.Common.{◌≡◌, ℕ, ◌+◌, ◌<◌, ℤ, List, [], ◌∷◌, ◌++◌, Option, Some, None, SomeIff, length, take, drop, get_or, sym}
-use Rattle.std.proofs.Common.{ap, ◌∙◌, refl, arith, add-one, option_map}
+use Rattle.std.proofs.Common.{ap, ◌∙◌, refl, arith, add-one, option_map, Bool, true, false, if◌then◌else◌, suc}
 use Rattle.std.proofs.Math.Seq.{drop-cons}
 use Rattle.std.proofs.lemmas.List.{take_more}
 use Rattle.calendar_values.specs.WallClock.{IsWallClock}
 use Rattle.offset_times.specs.InstantLemmas.{instant_of-local_at}
 use Rattle.plain_times.specs.SumLemmas.{wall_clock_if_any-in, wall_clock_if_any-SomeIff}
-use Rattle.stamp_times.specs.Travel.{held_instant, shown_by, held_by, stop_index, held_after}
+use Rattle.stamp_times.specs.Laws.{ChainsCompose, stop_of_both}
+use Rattle.stamp_times.specs.Travel.{held_instant, shown_by, holds, held_by, stop_index, held_after}
 use Rattle.stamp_times.specs.declared.chains.steps.Held.{Held}
 use Rattle.stamp_times.specs.declared.chains.steps.Step.{Step}
 use Rattle.stamp_times.specs.declared.chains.steps.Step.TheVariants.{ToStamp, ToUtc, ToOffset}
@@ -28,9 +29,30 @@ later-later : (k : ℕ) (place : Option ℕ) → later k (later 1 place) ≡ lat
 later-later k None = refl
 later-later k (Some n) = let e : (n + 1) + k ≡ n + (k + 1) = omega arith in rw e refl
 
-held_after-append : (held : Held) (i : ℤ) (steps : List Step) (step : Step) → held_after held i (steps ++ step ∷ []) ≡ held_by step i
-held_after-append held i [] step = refl
-held_after-append held i (x ∷ steps) step = held_after-append (held_by x i) i steps step
+-- steps after steps
+held_after-append : (held : Held) (i : ℤ) (first rest : List Step) → held_after held i (first ++ rest) ≡ held_after (held_after held i first) i rest
+held_after-append held i [] rest = refl
+held_after-append held i (step ∷ first) rest = held_after-append (held_by step i) i first rest
+
+stop_of_both-none : (stop : Option ℕ) → stop_of_both None 0 stop ≡ stop
+stop_of_both-none None = refl
+stop_of_both-none (Some k) = let e : k + 0 ≡ k = omega arith in rw e refl
+
+stop_of_both-one_on : (is_held : Bool) (first : Option ℕ) (steps : ℕ) (stop : Option ℕ)
+    → (if is_held then later 1 (stop_of_both first steps stop) else Some 0) ≡ stop_of_both (if is_held then later 1 first else Some 0) (suc steps) stop
+stop_of_both-one_on false first steps stop = refl
+stop_of_both-one_on true (Some k) steps stop = refl
+stop_of_both-one_on true None steps None = refl
+stop_of_both-one_on true None steps (Some k) = let e : (k + steps) + 1 ≡ k + suc steps = omega arith in rw e refl
+
+stop_index-append : (i : ℤ) (first rest : List Step) → stop_index i (first ++ rest) ≡ stop_of_both (stop_index i first) (length first) (stop_index i rest)
+stop_index-append i [] rest = sym (stop_of_both-none (stop_index i rest))
+stop_index-append i (step ∷ first) rest =
+    ap (λ stop. if holds step i then later 1 stop else Some 0) (stop_index-append i first rest)
+    ∙ stop_of_both-one_on (holds step i) (stop_index i first) (length first) (stop_index i rest)
+
+pub chains-compose : ChainsCompose
+chains-compose = record { stop = stop_index-append; held = held_after-append }
 
 travel-on : (i : ℤ) (step : Step) (steps : List Step) → IsWallClock (shown_by step i) → stop_index i (step ∷ steps) ≡ later 1 (stop_index i steps)
 travel-on i step steps h = rw (wall_clock_if_any-in (shown_by step i) h) refl

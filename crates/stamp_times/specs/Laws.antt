@@ -1,11 +1,19 @@
--- What shows that counts, replaced parts of a second and texts tell their instants: laws of all instants, each proved by a function of `src/laws.rt`.
-use Rattle.std.specs.Prelude.{◌≡◌, ◌≢◌, ℕ, List, ◌++◌, codes, ℤ}
+-- What shows that counts, replaced parts of a second and texts tell their instants, and that runs and chains go on from where
+-- others end: laws of all instants, each proved by a function of `src/laws.rt`.
+use Rattle.std.specs.Prelude.{◌≡◌, ◌≢◌, ℕ, ◌+◌, List, ◌∷◌, ◌++◌, length, codes, ℤ, Option, Some, None, option_map}
 use Rattle.calendar_values.specs.Clock.{clock_of_parts, hour_of, minute_of, second_of}
 use Rattle.calendar_values.specs.WallClock.{wall_time, unix_seconds_of, IsWallClock}
+use Rattle.calendar_values.specs.Refusals.{Refusal}
 use Rattle.plain_times.specs.Replacements.{with_time}
 use Rattle.utc_times.specs.UnixTime.{instant_of_second}
 use Rattle.stamp_times.specs.Instants.{instant_of_parts, instant_of_milliseconds, instant_of_microseconds, unix_milliseconds_of, unix_microseconds_of}
+use Rattle.stamp_times.specs.Counter.{reply, replies, instant_after, last_instant}
 use Rattle.stamp_times.specs.Texts.{timestamp_text}
+use Rattle.stamp_times.specs.Travel.{stop_index, held_after}
+use Rattle.stamp_times.specs.declared.chains.steps.Held.{Held}
+use Rattle.stamp_times.specs.declared.chains.steps.Step.{Step}
+use Rattle.stamp_times.specs.declared.runs.calls.Call.{Call}
+use Rattle.stamp_times.specs.declared.runs.calls.Reply.TheVariants as replied
 
 -- the instant of a count has this count
 pub record CountsReadAsGiven : Type 0 where
@@ -24,3 +32,25 @@ pub record TextsTellInstants : Type 0 where
   pub no_zero_ends_a_fraction : (i : ℤ) (whole digits front : List ℕ) → IsWallClock i
       → timestamp_text i ≡ whole ++ codes "." ++ digits → digits ≢ front ++ codes "0"
   pub no_negative_zero : (i : ℤ) → IsWallClock i → timestamp_text i ≢ codes "-0"
+
+-- calls after calls: the others go on from where the first end
+pub record RunsCompose : Type 0 where
+  pub replies_of_both : (i : ℤ) (first rest : List Call) → replies i (first ++ rest) ≡ replies i first ++ replies (last_instant i first) rest
+  pub last_of_both : (i : ℤ) (first rest : List Call) → last_instant i (first ++ rest) ≡ last_instant (last_instant i first) rest
+
+-- a call that is refused changes nothing, so what comes after it is as without it
+pub record RefusedCallsChangeNothing : Type 0 where
+  pub sums : (i : ℤ) (c : Call) → reply i c ≡ replied.Refused → instant_after i c ≡ i
+  pub parts : (i : ℤ) (c : Call) (refusal : Refusal) → reply i c ≡ replied.RefusedPart refusal → instant_after i c ≡ i
+  pub left_out : (i : ℤ) (first rest : List Call) (c : Call) → instant_after (last_instant i first) c ≡ last_instant i first
+      → last_instant i (first ++ (c ∷ rest)) ≡ last_instant i (first ++ rest)
+
+-- where steps after steps stop: in the first, or else so many steps on, in the others
+abbrev pub stop_of_both : Option ℕ → ℕ → Option ℕ → Option ℕ
+stop_of_both (Some k) steps stop = Some k
+stop_of_both None steps stop = option_map (λ k. k + steps) stop
+
+-- steps after steps: the others go on from what the first leave
+pub record ChainsCompose : Type 0 where
+  pub stop : (i : ℤ) (first rest : List Step) → stop_index i (first ++ rest) ≡ stop_of_both (stop_index i first) (length first) (stop_index i rest)
+  pub held : (held : Held) (i : ℤ) (first rest : List Step) → held_after held i (first ++ rest) ≡ held_after (held_after held i first) i rest

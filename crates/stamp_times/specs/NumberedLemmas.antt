@@ -33,5 +33,3 @@ weekday_numbered-number Thursday = refl
 weekday_numbered-number Friday = refl
 weekday_numbered-number Saturday = refl
 weekday_numbered-number Sunday = refl
-
-pub ruleset numbers = (month_numbered-number, weekday_numbered-number)

@@ -2,7 +2,7 @@
 ghost use Rattle.std.specs.Prelude.{◌≡◌};
 ghost use Rattle.std.specs.Ordering.{int_eq, int_cmp};
 ghost use Rattle.plain_times.specs.Laws.{DifferencesUndoSums, DifferencesLeadBack, ReplacedPartsReadAsGiven, ReplacementsKeepTheRest};
-ghost use Rattle.stamp_times.specs.Laws.{CountsReadAsGiven, NanosecondsKeepTheSecond, TextsTellInstants};
+ghost use Rattle.stamp_times.specs.Laws.{CountsReadAsGiven, NanosecondsKeepTheSecond, TextsTellInstants, RunsCompose, RefusedCallsChangeNothing, ChainsCompose};
 
 use crate::Timestamp;
 use utc_times::UtcDateTime;
@@ -67,3 +67,20 @@ pub fn replacements_keep_the_rest()
 {
     plain_times::laws::replacements_keep_the_rest()
 }
+
+/// A run over calls and then others replies as the run over the first and the run over the others from where the
+/// first end, and ends where that ends.
+pub fn runs_compose()
+    ensures { RunsCompose }
+{}
+
+/// A refused call changes nothing: what follows it is as if it were left out.
+pub fn refused_calls_change_nothing()
+    ensures { RefusedCallsChangeNothing }
+{}
+
+/// A chain over steps and then others stops where the first stop, or else where the others do, and holds what the
+/// others hold after the first.
+pub fn chains_compose()
+    ensures { ChainsCompose }
+{}

@@ -41,3 +41,18 @@ pub fn shown_like(first: OffsetDateTime, second: OffsetDateTime) -> Option<Offse
 {
     second.checked_to_offset(first.offset())
 }
+
+/// The first, put where the second is, by the time from the one to the other. None where clocks show no date of
+/// the range there.
+pub fn put_at(first: OffsetDateTime, second: OffsetDateTime) -> Option<OffsetDateTime>
+    ensures instant { IfSome result (λ put. instant_of put ≡ instant_of second) }
+{
+    first.checked_add(apart(first, second))
+}
+
+/// The same, back by the time from the second to the first.
+pub fn put_back_at(first: OffsetDateTime, second: OffsetDateTime) -> Option<OffsetDateTime>
+    ensures instant { IfSome result (λ put. instant_of put ≡ instant_of second) }
+{
+    first.checked_sub(first - second)
+}

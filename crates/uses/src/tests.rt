@@ -105,6 +105,11 @@ fn callers_at_offsets_are_called(rt: HostRuntime) -> Result<(), Fail> {
     );
     let shown = offsets::shown_like(local(0, 1)?, local(0, -5)?).ok_or("shown")?;
     assert_eq!(rt; shown.date_time().time(), Time::from_hms(1, 0, 0)?);
+    assert_eq!(rt; offsets::put_at(local(0, 1)?, local(0, -5)?), Some(shown));
+    assert_eq!(rt;
+        offsets::put_back_at(local(0, 1)?, local(0, -5)?),
+        Some(shown)
+    );
 
     Ok(())
 }

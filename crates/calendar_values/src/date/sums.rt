@@ -14,7 +14,6 @@ impl Date {
     ghost use Rattle.calendar_values.specs.Range.{IsDay};
 
     /// The next date, or None at the last.
-    #[tactic(auto, using(crate::specs::SignedArith::signed_arith))]
     pub fn next_day(self) -> Option<Date>
         ensures { SomeIff result (IsDay (self +ℤ pos 1)) (self +ℤ pos 1) }
     {
@@ -34,7 +33,6 @@ impl Date {
     }
 
     /// The date before, or None at the first.
-    #[tactic(auto, using(crate::specs::SignedArith::signed_arith))]
     pub fn previous_day(self) -> Option<Date>
         ensures { SomeIff result (IsDay (self -ℤ pos 1)) (self -ℤ pos 1) }
     {

@@ -1,19 +1,17 @@
 //! Date-times with an offset compare, and feed a hasher, by their instants.
-ghost use Rattle.std.specs.Prelude.{◌≡◌, ◌≤◌, ◌/◌, pos, neg_ℤ, unsigned_abs, ◌+ℤ◌, ◌-ℤ◌, ◌*ℤ◌, ◌<ℤ◌, ◌≤ℤ◌};
+ghost use Rattle.std.specs.Prelude.{◌≡◌, pos, neg_ℤ, ◌+ℤ◌, ◌-ℤ◌, ◌*ℤ◌, ◌<ℤ◌};
 ghost use Rattle.std.proofs.Common.{rules};
 ghost use Rattle.std.specs.Cmp.{partial_order_from_own_ties};
 ghost use Rattle.std.specs.Cmp.Rules.{comparing, hashing};
 ghost use Rattle.std.specs.Hash as fed;
 ghost use Rattle.std.specs.Ordering.{on, int_eq, int_cmp, as_partial_cmp};
-ghost use Rattle.calendar_values.specs.Clock.{nanos_per_second};
-ghost use Rattle.calendar_values.specs.WallClock.{wall_day, wall_time};
-ghost use Rattle.offset_times.specs.Local.{instant_of};
-ghost use Rattle.plain_times.specs.Packed.{packed_wall_clock};
+ghost use Rattle.offset_times.specs.Local.{instant_of, shown_at};
+ghost use Rattle.plain_times.specs.Packed.{IsParts, packed_wall_clock, wall_clock_of_parts};
 
 use crate::OffsetDateTime;
-use crate::carries::to_utc_raw;
-use calendar_values::units::SECONDS_PER_DAY;
-use plain_times::{PlainDateTime, packed};
+use crate::carries::{to_offset_raw, to_utc_raw};
+use calendar_values::{Time, UtcOffset};
+use plain_times::packed;
 use std::cmp::Ordering;
 use std::hash::{Hash, Hasher};
 
@@ -26,65 +24,48 @@ impl OffsetDateTime {
     }
 
     // A number of the sign of the time from the other instant to this one. Dates more than four days apart
-    // decide alone, else the time between the instants does.
+    // decide alone, else what clocks at the offset of this one show does.
     #[inline(always)]
     fn sign_after(self, other: OffsetDateTime) -> i64
         ensures { int_cmp result (pos 0) ≡ int_cmp (instant_of self) (instant_of other) }
     {
         let days = self.days_after(other);
         if days < -4 || days > 4 {
-            return days as i64;
+            return days;
         }
-        self.sign_of_time_after(other)
+        self.sign_of_shown_after(other)
     }
 
-    // The seconds from the other instant to this one, or where there are none the nanoseconds.
+    // The sign by what clocks at the offset of this one show at both instants.
     #[inline(always)]
-    fn sign_of_time_after(self, other: OffsetDateTime) -> i64
+    fn sign_of_shown_after(self, other: OffsetDateTime) -> i64
         ensures { int_cmp result (pos 0) ≡ int_cmp (instant_of self) (instant_of other) }
     {
-        let seconds = self.seconds_after(other);
-        if seconds == 0 {
-            self.nanosecond() as i64 - other.nanosecond() as i64
-        } else {
-            seconds
-        }
+        sign_of_parts_after(self.raw(), other.shown_raw(self.offset()))
     }
 
-    // The seconds from the other instant to this one, each without the nanosecond of its second.
+    // What clocks at the offset show then, at the own one without a conversion: the year, the day of the year
+    // and the time of day, which are told of a date outside the range too.
     #[inline(always)]
-    fn seconds_after(self, other: OffsetDateTime) -> i64
-        ensures { result ≡ (wall_day self.wall -ℤ wall_day other.wall) *ℤ pos 86_400
-            +ℤ pos (wall_time self.wall / nanos_per_second) -ℤ self.offset
-            -ℤ (pos (wall_time other.wall / nanos_per_second) -ℤ other.offset) }
+    fn shown_raw(self, offset: UtcOffset) -> (i32, u16, Time)
+        ensures parts { IsParts result.0 result.1 result.2 }
+        ensures shown { wall_clock_of_parts result.0 result.1 result.2 ≡
+            shown_at (instant_of self) offset }
     {
-        let seconds = self.second_of_day_in_utc() - other.second_of_day_in_utc();
-        seconds_of(self.date_after(other), seconds)
+        if self.offset() == offset {
+            return self.raw();
+        }
+        to_offset_raw(self, offset)
     }
 
-    // The days from the other date to this one.
+    // The year, the day of the year and the time of day of the wall clock.
     #[inline(always)]
-    fn date_after(self, other: OffsetDateTime) -> i32
-        ensures { result ≡ wall_day self.wall -ℤ wall_day other.wall }
+    fn raw(self) -> (i32, u16, Time)
+        ensures parts { IsParts result.0 result.1 result.2 }
+        ensures shown { wall_clock_of_parts result.0 result.1 result.2 ≡ self.wall }
     {
         let (year, ordinal) = self.to_ordinal_date();
-        let (other_year, other_ordinal) = other.to_ordinal_date();
-        if year == other_year {
-            i32::from(ordinal) - i32::from(other_ordinal)
-        } else {
-            days_between(self.date_time(), other.date_time())
-        }
-    }
-
-    // The seconds in UTC from the midnight that begins the date.
-    #[inline(always)]
-    #[tactic(auto, using(calendar_values::specs::SignedArith::signed_casts))]
-    fn second_of_day_in_utc(self) -> i32
-        ensures value { result ≡ pos (wall_time self.wall / nanos_per_second) -ℤ self.offset }
-        ensures low { neg_ℤ (pos 93_599) ≤ℤ result }
-        ensures high { result ≤ℤ pos 179_998 }
-    {
-        self.time().second_of_day() as i32 - self.offset().whole_seconds()
+        (year, ordinal, self.time())
     }
 
     // What clocks in UTC show then, in one number, which is told of an instant outside the range too.
@@ -97,44 +78,41 @@ impl OffsetDateTime {
 
     // The days from the other date to this one, as if each year had 366.
     #[inline(always)]
-    fn days_after(self, other: OffsetDateTime) -> i32
+    fn days_after(self, other: OffsetDateTime) -> i64
         ensures later { pos 4 <ℤ result → instant_of other <ℤ instant_of self }
         ensures earlier { result <ℤ neg_ℤ (pos 4) → instant_of self <ℤ instant_of other }
     {
-        let (year, ordinal) = self.date_time().to_ordinal_date();
-        let (other_year, other_ordinal) = other.date_time().to_ordinal_date();
-        days_apart(year - other_year, ordinal, other_ordinal)
+        let day = self.date_time().to_ordinal_date();
+        days_apart(day, other.date_time().to_ordinal_date())
     }
 }
 
-// The days from the second date to the first. Few dates that lie near are of two years.
-#[cold]
-#[inline(never)]
-fn days_between(at: PlainDateTime, other: PlainDateTime) -> i32
-    ensures { result ≡ wall_day at -ℤ wall_day other }
+// A number of the sign of the time from the second wall clock to the first.
+#[inline(always)]
+fn sign_of_parts_after(at: (i32, u16, Time), other: (i32, u16, Time)) -> i64
+    requires parts { IsParts at.0 at.1 at.2 }
+    requires other_parts { IsParts other.0 other.1 other.2 }
+    ensures { int_cmp result (pos 0) ≡ int_cmp (wall_clock_of_parts at.0 at.1 at.2)
+        (wall_clock_of_parts other.0 other.1 other.2) }
 {
-    at.to_julian_day() - other.to_julian_day()
+    let (year, ordinal, time) = at;
+    let (other_year, other_ordinal, other_time) = other;
+    let days = days_apart((year, ordinal), (other_year, other_ordinal));
+    if days == 0 {
+        time.nanosecond_of_day() as i64 - other_time.nanosecond_of_day() as i64
+    } else {
+        days
+    }
 }
 
-// The seconds of days and of seconds.
+// The days from the second day to the first, as if each year had 366.
 #[inline(always)]
-#[tactic(auto, using(calendar_values::specs::SignedArith::signed_casts))]
-fn seconds_of(days: i32, seconds: i32) -> i64
-    ensures { result ≡ days *ℤ pos 86_400 +ℤ seconds }
+fn days_apart(day: (i32, u16), other: (i32, u16)) -> i64
+    ensures { result ≡ (day.0 -ℤ other.0) *ℤ pos 366 +ℤ pos day.1 -ℤ pos other.1 }
 {
-    days as i64 * SECONDS_PER_DAY + seconds as i64
-}
-
-// The days from one day of a year to another, so many years of 366 days later.
-#[inline(always)]
-#[tactic(auto, using(calendar_values::specs::SignedArith::signed_casts))]
-fn days_apart(years: i32, ordinal: u16, other_ordinal: u16) -> i32
-    requires years { unsigned_abs years ≤ 1_999_998 }
-    requires ordinal { ordinal ≤ 366 }
-    requires other_ordinal { other_ordinal ≤ 366 }
-    ensures { result ≡ years *ℤ pos 366 +ℤ pos ordinal -ℤ pos other_ordinal }
-{
-    years * 366 + i32::from(ordinal) - i32::from(other_ordinal)
+    let (year, ordinal) = day;
+    let (other_year, other_ordinal) = other;
+    (year as i64 - other_year as i64) * 366 + ordinal as i64 - other_ordinal as i64
 }
 
 impl PartialEq for OffsetDateTime {

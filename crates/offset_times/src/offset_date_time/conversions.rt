@@ -47,7 +47,6 @@ impl OffsetDateTime {
     }
 
     /// The same instant in UTC. None outside the range.
-    #[tactic(auto, unfolding(crate::specs::Local::instant_of))]
     pub fn checked_to_utc(self) -> Option<UtcDateTime>
         ensures { SomeIff result (IsWallClock (instant_of self)) (instant_of self) }
     {

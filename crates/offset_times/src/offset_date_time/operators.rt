@@ -16,7 +16,6 @@ impl Add<SignedDuration> for OffsetDateTime {
 
     ghost add_gives = { λ at duration sum. IsLater at duration sum };
 
-    #[tactic(auto, using(crate::specs::InstantLemmas::instants))]
     fn add(self, duration: SignedDuration) -> OffsetDateTime {
         self.replace_date_time(self.date_time() + duration)
     }
@@ -39,7 +38,6 @@ impl Add<Duration> for OffsetDateTime {
 
     ghost add_gives = { λ at duration sum. IsLater at (pos (as_nanos duration)) sum };
 
-    #[tactic(auto, using(crate::specs::InstantLemmas::instants))]
     fn add(self, duration: Duration) -> OffsetDateTime {
         self.replace_date_time(self.date_time() + duration)
     }
@@ -62,7 +60,6 @@ impl Sub<SignedDuration> for OffsetDateTime {
 
     ghost sub_gives = { λ at duration difference. IsEarlier at duration difference };
 
-    #[tactic(auto, using(crate::specs::InstantLemmas::instants))]
     fn sub(self, duration: SignedDuration) -> OffsetDateTime {
         self.replace_date_time(self.date_time() - duration)
     }
@@ -86,7 +83,6 @@ impl Sub<Duration> for OffsetDateTime {
     ghost sub_gives = { λ at duration difference.
         IsEarlier at (pos (as_nanos duration)) difference };
 
-    #[tactic(auto, using(crate::specs::InstantLemmas::instants))]
     fn sub(self, duration: Duration) -> OffsetDateTime {
         self.replace_date_time(self.date_time() - duration)
     }

@@ -1,12 +1,12 @@
 //! Date-times with a part replaced, or truncated to a unit of time: the wall clock is, and the offset stays.
-ghost use Rattle.std.specs.Prelude.{IfOk, ◌≡◌, ◌*◌, pos, ◌+ℤ◌, ◌<ℤ◌};
+ghost use Rattle.std.specs.Prelude.{IfOk, ◌≡◌, ◌*◌, pos, ◌+ℤ◌, ◌-ℤ◌, ◌<ℤ◌};
 ghost use Rattle.calendar_values.specs.Clock.{nanos_per_day, nanos_per_hour, nanos_per_minute, nanos_per_second, nanos_per_millisecond, nanos_per_microsecond};
 ghost use Rattle.calendar_values.specs.Month.{month_number};
 ghost use Rattle.calendar_values.specs.Outcomes.{Gives, within};
 ghost use Rattle.calendar_values.specs.WallClock.{wall_clock, wall_day, wall_time};
 ghost use Rattle.plain_times.specs.Replacements.{with_date, with_time, ReplacesDate, ReplacesTime, wall_year_outcome, wall_month_outcome, wall_day_outcome, wall_ordinal_outcome, wall_hour_outcome, wall_minute_outcome, wall_second_outcome, wall_millisecond_outcome, wall_microsecond_outcome, wall_nanosecond_outcome, ShowsYear, ShowsMonth, ShowsDay, ShowsOrdinal, ShowsHour, ShowsMinute, ShowsSecond, ShowsMillisecond, ShowsMicrosecond, ShowsNanosecond};
 ghost use Rattle.plain_times.specs.Truncations.{TruncatesTo};
-ghost use Rattle.offset_times.specs.Local.{wall_at, at_offset_of, local_multiple_below, instant_of, SameOffset};
+ghost use Rattle.offset_times.specs.Local.{wall_at, at_offset_of, local_multiple_below, offset_nanos, instant_of, SameOffset};
 
 use crate::{Assume, OffsetDateTime};
 use calendar_values::{ComponentRange, Date, Month, Time, UtcOffset};
@@ -24,13 +24,13 @@ impl OffsetDateTime {
 
     /// The same date and time of day at another offset, so at another instant.
     pub fn replace_offset(self, offset: UtcOffset) -> OffsetDateTime
-        ensures { result ≡ wall_at self.wall offset }
+        ensures value { result ≡ wall_at self.wall offset }
+        ensures instant { instant_of result ≡ self.wall -ℤ offset_nanos offset }
     {
         self.date_time().assume_offset(offset)
     }
 
     /// The same date at another time of day, at the same offset.
-    #[tactic(auto, using(crate::specs::InstantLemmas::same_day))]
     pub fn replace_time(self, time: Time) -> OffsetDateTime
         ensures value { result ≡ at_offset_of self (with_time self.wall time) }
         ensures wall { ReplacesTime self.wall time result.wall }

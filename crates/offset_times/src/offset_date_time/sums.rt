@@ -12,7 +12,6 @@ use std::time::Duration;
 impl OffsetDateTime {
     /// The wall clock so much later at the same offset, or earlier for a negative duration. None where the wall
     /// clock would be outside the range; whether the instant lies in it does not matter.
-    #[tactic(auto, using(crate::specs::InstantLemmas::instants))]
     pub fn checked_add(self, duration: SignedDuration) -> Option<OffsetDateTime>
         ensures value { let wall = self.wall +ℤ duration in
             SomeIff result (IsWallClock wall) (wall_at wall self.offset) }
@@ -23,7 +22,6 @@ impl OffsetDateTime {
 
     /// The wall clock so much earlier at the same offset, or later for a negative duration. None where the wall
     /// clock would be outside the range; whether the instant lies in it does not matter.
-    #[tactic(auto, using(crate::specs::InstantLemmas::instants))]
     pub fn checked_sub(self, duration: SignedDuration) -> Option<OffsetDateTime>
         ensures value { let wall = self.wall -ℤ duration in
             SomeIff result (IsWallClock wall) (wall_at wall self.offset) }
@@ -34,7 +32,6 @@ impl OffsetDateTime {
 
     /// The wall clock so much later at the same offset. None where the wall clock would be outside the range;
     /// whether the instant lies in it does not matter.
-    #[tactic(auto, using(crate::specs::InstantLemmas::instants))]
     pub fn checked_add_std(self, duration: Duration) -> Option<OffsetDateTime>
         ensures value { let wall = self.wall +ℤ pos (as_nanos duration) in
             SomeIff result (IsWallClock wall) (wall_at wall self.offset) }
@@ -46,7 +43,6 @@ impl OffsetDateTime {
 
     /// The wall clock so much earlier at the same offset. None where the wall clock would be outside the range;
     /// whether the instant lies in it does not matter.
-    #[tactic(auto, using(crate::specs::InstantLemmas::instants))]
     pub fn checked_sub_std(self, duration: Duration) -> Option<OffsetDateTime>
         ensures value { let wall = self.wall -ℤ pos (as_nanos duration) in
             SomeIff result (IsWallClock wall) (wall_at wall self.offset) }

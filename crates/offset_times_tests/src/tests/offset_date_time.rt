@@ -627,6 +627,8 @@ fn constants_and_laws(rt: HostRuntime) {
     laws::own_offset_stays();
     laws::differences_undo_sums();
     laws::differences_lead_back();
+    laws::sums_keep_the_order();
     laws::truncations_round_down_once();
     laws::replacements_keep_the_rest();
+    laws::replaced_parts_read_as_given();
 }

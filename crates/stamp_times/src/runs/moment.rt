@@ -138,7 +138,6 @@ macro_rules! replace {
 impl Moment for UtcDateTime {
     ghost instant = { λ i. i };
 
-    #[tactic(auto, using(crate::specs::NumberedLemmas::numbers))]
     fn date_part(self, read: DateRead) -> DatePart {
         date_part!(self, read)
     }
@@ -173,7 +172,6 @@ impl Moment for UtcDateTime {
 impl Moment for Timestamp {
     ghost instant = { λ i. i };
 
-    #[tactic(auto, using(crate::specs::NumberedLemmas::numbers))]
     fn date_part(self, read: DateRead) -> DatePart {
         date_part!(self, read)
     }

@@ -137,11 +137,10 @@ impl Timestamp {
     }
 
     /// As [`Date::weekday`], of the day in UTC.
-    #[tactic(auto, using(crate::proofs::HeldInstantLemmas::weekdays))]
     pub fn weekday(self) -> Weekday
         ensures { weekday_number result ≡ weekday_of (wall_day self) }
     {
-        match (self.day_number() + DAYS_FROM_MONDAY) as u32 % 7 {
+        match self.days_from_monday() {
             0 => Weekday::Monday,
             1 => Weekday::Tuesday,
             2 => Weekday::Wednesday,
@@ -150,6 +149,15 @@ impl Timestamp {
             5 => Weekday::Saturday,
             _ => Weekday::Sunday,
         }
+    }
+
+    // How many days the date comes after a Monday.
+    #[tactic(auto, using(crate::proofs::HeldInstantLemmas::weekdays))]
+    fn days_from_monday(self) -> u32
+        ensures value { result ≡ weekday_of (wall_day self) }
+        ensures in_range { result < 7 }
+    {
+        (self.day_number() + DAYS_FROM_MONDAY) as u32 % 7
     }
 
     /// As [`Date::to_julian_day`], of the day in UTC.

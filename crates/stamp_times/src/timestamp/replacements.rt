@@ -33,7 +33,6 @@ impl Timestamp {
     }
 
     /// As [`Date::replace_year`], of the day in UTC, with the time of day kept.
-    #[tactic(auto, unfolding(calendar_values::specs::Outcomes::answer_within))]
     pub fn replace_year(self, year: i32) -> Result<Timestamp, ComponentRange>
         ensures value { Gives result (wall_year_outcome self year) }
         ensures shown { IfOk result (ShowsYear self year) }

@@ -53,7 +53,6 @@ impl Timestamp {
 
     /// The instant so much later, or earlier for a negative duration; outside the range the end of it that lies
     /// in this direction.
-    #[tactic(auto, using(std::proofs::lemmas::Int::ints), unfolding(plain_times::specs::Sums::nearest_wall_clock))]
     pub fn saturating_add(self, duration: SignedDuration) -> Timestamp
         ensures { IsSaturatingSum self duration result }
     {
@@ -68,7 +67,6 @@ impl Timestamp {
 
     /// The instant so much earlier, or later for a negative duration; outside the range the end of it that lies
     /// in this direction.
-    #[tactic(auto, using(std::proofs::lemmas::Int::ints), unfolding(plain_times::specs::Sums::nearest_wall_clock))]
     pub fn saturating_sub(self, duration: SignedDuration) -> Timestamp
         ensures { IsSaturatingDifference self duration result }
     {
@@ -84,7 +82,6 @@ impl Timestamp {
 
 // The instant of a second and a nanosecond of that second, less than a second later or earlier, if the
 // range has it.
-#[tactic(auto, using(crate::proofs::TimestampSumLemmas::carries))]
 fn from_sum(seconds: i64, nanosecond: u32, change: i32) -> Option<Timestamp>
     requires nanosecond { nanosecond < nanos_per_second }
     requires change { unsigned_abs change < nanos_per_second }

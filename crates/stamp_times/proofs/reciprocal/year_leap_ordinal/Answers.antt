@@ -30,3 +30,9 @@ returns-clause-day c = rw (year c, ordinal c) (day_of_ordinal_date-step c.args.d
 
 pub returns-clause-ordinal_in_range : goal.returns-clause-ordinal_in_range
 returns-clause-ordinal_in_range c = rw (ordinal c) (IsInRange-found c.args.day c.requires)
+
+pub returns-clause-year_by_steps : goal.returns-clause-year_by_steps
+returns-clause-year_by_steps c = year c
+
+pub returns-clause-ordinal_by_steps : goal.returns-clause-ordinal_by_steps
+returns-clause-ordinal_by_steps c = ordinal c

@@ -8,3 +8,12 @@ returns c =
     let n : FitsSigned w32 c.args.nanoseconds = c.ranges.nanoseconds in
     let e = c.of_one_sign.ensures in
     omega (arith, signed_arith, one_part c.args.nanoseconds)
+
+pub overflow_cast-carried : goal.overflow_cast-carried
+overflow_cast-carried c = omega (arith, signed_arith, one_part c.args.nanoseconds)
+
+pub overflow_add-carried : goal.overflow_add-carried
+overflow_add-carried c = omega (arith, signed_arith, one_part c.args.nanoseconds)
+
+pub of_one_sign-requires : goal.of_one_sign-requires
+of_one_sign-requires c = omega (arith, signed_arith, one_part c.args.nanoseconds)

@@ -1,4 +1,4 @@
-use Rattle.std.proofs.Common.{◌≡◌, pos, ◌+ℤ◌, ◌*ℤ◌, arith}
+use Rattle.std.proofs.Common.{◌≡◌, pos, ◌+ℤ◌, ◌*ℤ◌, FitsSigned, w8, w32, to_z-of_z, arith, rules}
 use Rattle.calendar_values.specs.SignedArith.{signed_arith}
 use Rattle.calendar_values.proofs.utc_offset.UtcOffset.whole_seconds.Goals as goal
 
@@ -11,3 +11,24 @@ returns-clause-value c =
 
 pub returns-clause-self_in_range : goal.returns-clause-self_in_range
 returns-clause-self_in_range c = omega (arith, signed_arith, view c)
+
+pub in_sixtieths-minutes-requires-clause-units : goal.in_sixtieths-minutes-requires-clause-units
+in_sixtieths-minutes-requires-clause-units c =
+    let fits : FitsSigned w8 c.self.inside.hours = search rules in
+    let same = simp to_z-of_z at c.from.ensures in
+    let wide : FitsSigned w32 c.from.result = omega (arith, signed_arith) in
+    simp to_z-of_z (rw same (omega (arith, c.self.invariant.hours_in_range)))
+
+pub in_sixtieths-minutes-requires-clause-sixtieths : goal.in_sixtieths-minutes-requires-clause-sixtieths
+in_sixtieths-minutes-requires-clause-sixtieths c =
+    let fits : FitsSigned w8 c.self.inside.minutes = search rules in
+    let same = simp to_z-of_z at c.from-2.ensures in
+    let wide : FitsSigned w32 c.from-2.result = omega (arith, signed_arith) in
+    simp to_z-of_z (rw same (omega (arith, c.self.invariant.minutes_in_range)))
+
+pub in_sixtieths-requires-clause-sixtieths : goal.in_sixtieths-requires-clause-sixtieths
+in_sixtieths-requires-clause-sixtieths c =
+    let fits : FitsSigned w8 c.self.inside.seconds = search rules in
+    let same = simp to_z-of_z at c.from-3.ensures in
+    let wide : FitsSigned w32 c.from-3.result = omega (arith, signed_arith) in
+    simp to_z-of_z (rw same (omega (arith, c.self.invariant.seconds_in_range)))

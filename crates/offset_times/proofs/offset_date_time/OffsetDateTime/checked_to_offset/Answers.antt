@@ -2,7 +2,7 @@ use Rattle.std.proofs.Common.{◌≡◌, ◌∙◌, rules, sym, subst, ℤ, to_z
 use Rattle.std.specs.Cmp.{signed_Decides}
 use Rattle.calendar_values.specs.Calendar.{day_of_ordinal_date}
 use Rattle.calendar_values.specs.WallClock.{wall_clock, IsWallClock}
-use Rattle.offset_times.specs.Local.{instant_of, shown_at, local_at}
+use Rattle.offset_times.specs.Local.{instant_of, shown_at, wall_at, local_at}
 use Rattle.offset_times.specs.InstantLemmas.{instant_of-local_at}
 use Rattle.offset_times.proofs.LocalLemmas.{shown_at-own, local_at-own}
 use Rattle.offset_times.proofs.offset_date_time.OffsetDateTime.checked_to_offset.Goals as goal
@@ -25,3 +25,11 @@ pub returns-clause-instant : goal.returns-clause-instant
 returns-clause-instant c =
     let kept : c.assume_offset.result ≡ local_at (instant_of c.args.self) c.args.offset = search rules in
     ap instant_of kept ∙ instant_of-local_at (instant_of c.args.self) c.args.offset
+
+pub returns-clause-value : goal.returns-clause-value
+returns-clause-value c =
+    let shown : wall_clock (day_of_ordinal_date (to_z w32 (of_z w32 c.to_offset_raw-year.result.0)) c.to_offset_raw-year.result.1) c.to_offset_raw-year.result.2
+    ≡ shown_at (instant_of c.args.self) c.args.offset = search rules in (
+      subst (λ (w : ℤ). IsWallClock w) shown c.in_ok-in_range.ensures.0,
+      c.assume_offset.ensures.value ∙ ap (λ (w : ℤ). wall_at w c.args.offset) (c.in_ok-in_range.ensures.1 ∙ shown),
+    )

@@ -1,4 +1,4 @@
-use Rattle.std.proofs.Common.{◌≡◌, ◌∙◌, rules, ap, arith, ℤ, pos, neg_ℤ, ◌<ℤ◌, int_cmp, to_z, of_z, w32, w64}
+use Rattle.std.proofs.Common.{◌≡◌, ◌∙◌, rules, ap, arith, ℤ, pos, neg_ℤ, ◌<ℤ◌, int_cmp, to_z, of_z, w64}
 use Rattle.calendar_values.specs.SignedArith.{signed_casts}
 use Rattle.offset_times.specs.Local.{instant_of}
 use Rattle.offset_times.proofs.InstantOrderLemmas.{int_cmp-later, int_cmp-earlier}
@@ -9,8 +9,7 @@ use Rattle.offset_times.proofs.offset_date_time.OffsetDateTime.sign_after.Goals 
 pub returns-then-days-ltminus4 : goal.returns-then-days-ltminus4
 returns-then-days-ltminus4 c =
     let days = c.days_after-days.result in
-    let day : to_z w32 (of_z w32 days) ≡ days = search rules in
-    let back : to_z w64 (of_z w64 (to_z w32 (of_z w32 days))) ≡ days = omega (arith, signed_casts, day) in
+    let back : to_z w64 (of_z w64 days) ≡ days = search rules in
     ap (λ (d : ℤ). int_cmp d (pos 0)) back ∙ elim c.then-days-ltminus4.branch [
       | then-days-ltminus4-via-then-days-ltminus4 w ↦
           let far : days <ℤ neg_ℤ (pos 4) = omega (arith, signed_casts, w.if-days-ltminus4) in

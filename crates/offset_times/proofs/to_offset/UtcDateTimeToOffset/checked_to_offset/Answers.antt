@@ -31,3 +31,11 @@ pub returns-clause-instant : goal.returns-clause-instant
 returns-clause-instant c =
     let kept : c.assume_offset.result ≡ local_at c.args.self c.args.offset = search rules in
     ap instant_of kept ∙ instant_of-local_at c.args.self c.args.offset
+
+pub returns-clause-value : goal.returns-clause-value
+returns-clause-value c =
+    let shown : wall_clock (day_of_ordinal_date (to_z w32 (of_z w32 c.utc_to_offset_raw-year.result.0)) c.utc_to_offset_raw-year.result.1)
+    c.utc_to_offset_raw-year.result.2 ≡ shown_at c.args.self c.args.offset = search rules in (
+      subst (λ (w : ℤ). IsWallClock w) shown c.in_ok-in_range.ensures.0,
+      c.assume_offset.ensures.value ∙ ap (λ (w : ℤ). wall_at w c.args.offset) (c.in_ok-in_range.ensures.1 ∙ shown),
+    )

@@ -1,11 +1,16 @@
-use Rattle.std.proofs.Common.{rules, ◌≡◌, w32, to_z, of_z}
-use Rattle.calendar_values.specs.WallClock.{wall_day}
-use Rattle.calendar_values.specs.Weeks.{iso_year_of}
-use Rattle.stamp_times.specs.NumberedLemmas.{weekday_numbered-number}
+use Rattle.std.proofs.Common.{ap}
+use Rattle.stamp_times.specs.declared.runs.calls.DatePart.TheVariants as date_part
+use Rattle.stamp_times.proofs.MomentLemmas.{month_numbered-is, weekday_numbered-is, CalendarDate-is, IsoWeekDate-is}
 use Rattle.stamp_times.proofs.runs.moment.UtcDateTimeMoment.date_part.Goals as goal
 
+pub returns-in-Month : goal.returns-in-Month
+returns-in-Month c = rw c.in-Month.is (ap date_part.Month (month_numbered-is _ _ c.month.ensures))
+
+pub returns-in-Weekday : goal.returns-in-Weekday
+returns-in-Weekday c = rw c.in-Weekday.is (ap date_part.Weekday (weekday_numbered-is _ _ c.weekday.ensures))
+
+pub returns-in-CalendarDate : goal.returns-in-CalendarDate
+returns-in-CalendarDate c = rw c.in-CalendarDate.is (CalendarDate-is _ _ c.to_calendar_date-year.ensures)
+
 pub returns-in-IsoWeekDate : goal.returns-in-IsoWeekDate
-returns-in-IsoWeekDate c =
-    let year : to_z w32 (of_z w32 c.to_iso_week_date-year.result.0) ≡ iso_year_of (wall_day c.args.self) = search rules in
-    let day = weekday_numbered-number c.to_iso_week_date-year.result.2 in
-    rw c.in-IsoWeekDate.is (cc)
+returns-in-IsoWeekDate c = rw c.in-IsoWeekDate.is (IsoWeekDate-is _ _ c.to_iso_week_date-year.ensures)
