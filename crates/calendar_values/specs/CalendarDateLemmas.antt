@@ -3,6 +3,7 @@ use Rattle.std.proofs.Common.{◌≡◌, ℕ, zero, suc, ◌+◌, ◌-◌, ◌<�
 use Rattle.std.proofs.lemmas.Bool.{cases_order, ltb-true, ltb-false}
 use Rattle.calendar_values.specs.Calendar.{is_leap_year, year_length, days_in_month, days_in_months, days_before_month, last_month_begun, month_of_ordinal}
 use Rattle.calendar_values.specs.Calendar.{day_of_ordinal, year_of, ordinal_of, month_of, day_of_month_of, day_of_calendar_date, IsOrdinalDate, IsCalendarDate}
+use Rattle.calendar_values.specs.Dates.{ShowsDate}
 use Rattle.calendar_values.specs.SignedArith.{signed_arith}
 use Rattle.calendar_values.specs.DayLemmas.{IsOrdinalDate-of, ordinal_of-start, year_of-ordinal_date, ordinal_of-ordinal_date}
 
@@ -131,3 +132,7 @@ month_of-calendar_date y m d h = rw (year_of-calendar_date y m d h, ordinal_of-c
 pub day_of_month_of-calendar_date : (y : ℤ) (m d : ℕ) → IsCalendarDate y m d → day_of_month_of (day_of_calendar_date y m d) ≡ d
 day_of_month_of-calendar_date y m d h = rw (year_of-calendar_date y m d h, ordinal_of-calendar_date y m d h)
     (day_of_ordinal-is (is_leap_year y) _ m d (IsMonthDay-date y m d h))
+
+pub ShowsDate-calendar_date : (y : ℤ) (m d : ℕ) → IsCalendarDate y m d → ShowsDate y m d (day_of_calendar_date y m d)
+ShowsDate-calendar_date y m d h =
+    record { year = year_of-calendar_date y m d h; month = month_of-calendar_date y m d h; day = day_of_month_of-calendar_date y m d h }

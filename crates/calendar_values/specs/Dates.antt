@@ -1,4 +1,4 @@
--- What a day shows, as the parts of a date together, each in its range.
+-- What a day shows, as the parts of a date together.
 use Rattle.std.specs.Prelude.{◌≡◌, ℕ, ℤ}
 use Rattle.std.specs.Int.{IsInRange}
 use Rattle.calendar_values.specs.Calendar.{year_of, month_of, day_of_month_of, ordinal_of}
@@ -9,7 +9,7 @@ use Rattle.calendar_values.specs.Weeks.{iso_year_of, iso_week_of, weekday_of}
 use Rattle.calendar_values.specs.declared.month.Month.{Month}
 use Rattle.calendar_values.specs.declared.weekday.Weekday.{Weekday}
 
--- the year, the month and the day of the month of a day
+-- the year, the month and the day of the month of a day, each in its range
 pub record IsCalendarDateOf (n : ℤ) (date : ℤ × Month × ℕ) : Type 0 where
   pub year : date.0 ≡ year_of n
   pub month : month_number date.1 ≡ month_of n
@@ -17,17 +17,28 @@ pub record IsCalendarDateOf (n : ℤ) (date : ℤ × Month × ℕ) : Type 0 wher
   pub year_in_range : IsYear date.0
   pub day_in_range : IsInRange 1 31 date.2
 
--- the year and the day of the year of a day
+-- the year and the day of the year of a day, each in its range
 pub record IsOrdinalDateOf (n : ℤ) (date : ℤ × ℕ) : Type 0 where
   pub year : date.0 ≡ year_of n
   pub ordinal : date.1 ≡ ordinal_of n
   pub year_in_range : IsYear date.0
   pub ordinal_in_range : IsInRange 1 366 date.1
 
--- the ISO year, the ISO week and the day of the week of a day
+-- the ISO year, the ISO week and the day of the week of a day, each in its range
 pub record IsIsoWeekDateOf (n : ℤ) (date : ℤ × ℕ × Weekday) : Type 0 where
   pub year : date.0 ≡ iso_year_of n
   pub week : date.1 ≡ iso_week_of n
   pub weekday : weekday_number date.2 ≡ weekday_of n
   pub year_in_range : IsYear date.0
   pub week_in_range : IsInRange 1 53 date.1
+
+-- the day shows this year, month and day of the month
+pub record ShowsDate (y : ℤ) (m d : ℕ) (n : ℤ) : Type 0 where
+  pub year : year_of n ≡ y
+  pub month : month_of n ≡ m
+  pub day : day_of_month_of n ≡ d
+
+-- the day shows this year and day of the year
+pub record ShowsOrdinalDate (y : ℤ) (o : ℕ) (n : ℤ) : Type 0 where
+  pub year : year_of n ≡ y
+  pub ordinal : ordinal_of n ≡ o

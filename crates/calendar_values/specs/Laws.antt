@@ -1,9 +1,13 @@
 -- What shows that the definitions are those of the calendar: laws of all years, days and clocks, each proved by a function of `src/laws.rt`.
-use Rattle.std.specs.Prelude.{◌≡◌, ◌↔◌, ℕ, ◌*◌, ◌<◌, ◌≤◌, ℤ, pos, ◌+ℤ◌, Ok}
+use Rattle.std.specs.Prelude.{◌≡◌, ◌↔◌, ℕ, ◌*◌, ◌<◌, ◌≤◌, ℤ, pos, ◌+ℤ◌, ◌*ℤ◌, Ok}
 use Rattle.calendar_values.specs.Calendar.{days_in_year, year_start, year_of, ordinal_of, month_of, day_of_month_of, day_of_calendar_date, day_of_ordinal_date}
 use Rattle.calendar_values.specs.Calendar.{IsInYear, IsCalendarDate, IsOrdinalDate}
 use Rattle.calendar_values.specs.Clock.{IsClock, Shows, hour_of, minute_of, second_of, nanosecond_of, nanos_per_millisecond, nanos_per_microsecond}
-use Rattle.calendar_values.specs.Range.{first_year, last_year, first_day, last_day}
+use Rattle.calendar_values.specs.Constructors.{calendar_date_outcome, ordinal_date_outcome, julian_date_outcome}
+use Rattle.calendar_values.specs.Constructors.{hms_outcome, hms_milli_outcome, hms_micro_outcome, hms_nano_outcome}
+use Rattle.calendar_values.specs.Offsets.{offset_outcome, offset_seconds_outcome}
+use Rattle.calendar_values.specs.Outcomes.{IsOneAnswer}
+use Rattle.calendar_values.specs.Range.{first_year, last_year, first_day, last_day, IsDay}
 use Rattle.calendar_values.specs.Replacements.{year_outcome, month_outcome, day_outcome, ordinal_outcome, hour_outcome, minute_outcome}
 use Rattle.calendar_values.specs.Replacements.{second_outcome, millisecond_outcome, microsecond_outcome, nanosecond_outcome}
 use Rattle.calendar_values.specs.Truncations.{multiple_below, IsGreatestMultiple}
@@ -71,3 +75,29 @@ pub record ClockReplacementsKeepTheRest : Type 0 where
 -- a truncation gives the greatest multiple of the unit that is not above the clock
 abbrev pub TruncationIsGreatestMultiple : Type 0
 TruncationIsGreatestMultiple = (unit c : ℕ) → 0 < unit → IsGreatestMultiple unit c (multiple_below unit c)
+
+-- what each call comes to that may refuse is one answer: its value where its arguments fit, and its refusal where they do not
+pub record OutcomesAreAnswers : Type 0 where
+  pub calendar_date : (y : ℤ) (m d : ℕ) → IsOneAnswer (calendar_date_outcome y m d)
+  pub ordinal_date : (y : ℤ) (o : ℕ) → IsOneAnswer (ordinal_date_outcome y o)
+  pub julian_date : (j : ℤ) → IsOneAnswer (julian_date_outcome j)
+  pub hms : (h m s : ℕ) → IsOneAnswer (hms_outcome h m s)
+  pub hms_milli : (h m s milli : ℕ) → IsOneAnswer (hms_milli_outcome h m s milli)
+  pub hms_micro : (h m s micro : ℕ) → IsOneAnswer (hms_micro_outcome h m s micro)
+  pub hms_nano : (h m s n : ℕ) → IsOneAnswer (hms_nano_outcome h m s n)
+  pub offset : (h m s : ℤ) → IsOneAnswer (offset_outcome h m s)
+  pub offset_seconds : (o : ℤ) → IsOneAnswer (offset_seconds_outcome o)
+  pub year : (n y : ℤ) → IsOneAnswer (year_outcome n y)
+  pub month : (n : ℤ) (m : ℕ) → IsDay n → IsOneAnswer (month_outcome n m)
+  pub day : (n : ℤ) (d : ℕ) → IsDay n → IsOneAnswer (day_outcome n d)
+  pub ordinal : (n : ℤ) (o : ℕ) → IsDay n → IsOneAnswer (ordinal_outcome n o)
+  pub hour : (c h : ℕ) → IsOneAnswer (hour_outcome c h)
+  pub minute : (c m : ℕ) → IsOneAnswer (minute_outcome c m)
+  pub second : (c s : ℕ) → IsOneAnswer (second_outcome c s)
+  pub millisecond : (c n : ℕ) → IsOneAnswer (millisecond_outcome c n)
+  pub microsecond : (c n : ℕ) → IsOneAnswer (microsecond_outcome c n)
+  pub nanosecond : (c n : ℕ) → IsOneAnswer (nanosecond_outcome c n)
+
+-- seven days later it is the same day of the week
+abbrev pub WeekdaysRepeat : Type 0
+WeekdaysRepeat = (n weeks : ℤ) → weekday_of (n +ℤ weeks *ℤ pos 7) ≡ weekday_of n

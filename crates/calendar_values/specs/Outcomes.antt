@@ -16,6 +16,10 @@ pub record Gives {T : Type 0} (result : Result T Refusal) (outcome : Outcome T) 
   pub refused : IfErr result (λ refusal. refusal ≡ outcome.refusal)
   pub equation : result ≡ outcome.answer
 
+-- its answer is the value where the arguments fit, and the refusal where they do not
+abbrev pub IsOneAnswer : {T : Type 0} → Outcome T → Type 0
+IsOneAnswer outcome = Gives outcome.answer outcome
+
 -- of a part up to a limit: the value, or else the refusal of the part by its name
 abbrev pub at_most : {T : Type 0} → ℕ → List ℕ → ℕ → T → Outcome T
 at_most limit name part value = record {

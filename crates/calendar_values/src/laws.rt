@@ -1,6 +1,6 @@
 //! Laws of the definitions that the contracts cite: each function here proves one, for every year,
 //! day and clock, and does nothing when it is called.
-ghost use Rattle.calendar_values.specs.Laws.{YearsFollow, YearIsUnique, CalendarDatesAreDays, OrdinalDatesAreDays, RangeIsWholeYears, ReplacementsKeepTheRest, ClockReplacementsKeepTheRest, TruncationIsGreatestMultiple};
+ghost use Rattle.calendar_values.specs.Laws.{YearsFollow, YearIsUnique, CalendarDatesAreDays, OrdinalDatesAreDays, RangeIsWholeYears, ReplacementsKeepTheRest, ClockReplacementsKeepTheRest, TruncationIsGreatestMultiple, OutcomesAreAnswers, WeekdaysRepeat};
 
 /// 1970 begins on day 0, and each year begins after the days of the year before.
 pub fn years_follow()
@@ -43,4 +43,15 @@ pub fn clock_replacements_keep_the_rest()
 /// A truncation of a time gives the greatest multiple of the unit that is not above it.
 pub fn truncation_is_greatest_multiple()
     ensures { TruncationIsGreatestMultiple }
+{}
+
+/// What a constructor or a replacement comes to is one answer: its value where the arguments fit, and its
+/// refusal where they do not.
+pub fn outcomes_are_answers()
+    ensures { OutcomesAreAnswers }
+{}
+
+/// Whole weeks later it is the same day of the week.
+pub fn weekdays_repeat()
+    ensures { WeekdaysRepeat }
 {}

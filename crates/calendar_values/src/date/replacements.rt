@@ -1,9 +1,11 @@
 //! Dates with a part replaced.
-ghost use Rattle.std.specs.Prelude.{◌<◌, ◌/◌};
+ghost use Rattle.std.specs.Prelude.{◌<◌, ◌/◌, IfOk};
 
 use crate::{ComponentRange, Date, Month};
 
 impl Date {
+    ghost use Rattle.calendar_values.specs.Calendar.{year_of, month_of, day_of_month_of};
+    ghost use Rattle.calendar_values.specs.Dates.{ShowsDate, ShowsOrdinalDate};
     ghost use Rattle.calendar_values.specs.Month.{month_number};
     ghost use Rattle.calendar_values.specs.Outcomes.{Gives};
     ghost use Rattle.calendar_values.specs.Replacements.{year_outcome, month_outcome, day_outcome, ordinal_outcome};
@@ -11,7 +13,8 @@ impl Date {
     /// The date with another year, and the month and the day of the month kept. Refused `year` before the
     /// first year or after the last, and, conditionally, `day` for 29 February in a common year.
     pub fn replace_year(self, year: i32) -> Result<Date, ComponentRange>
-        ensures { Gives result (year_outcome self year) }
+        ensures value { Gives result (year_outcome self year) }
+        ensures shown { IfOk result (ShowsDate year (month_of self) (day_of_month_of self)) }
     {
         let (month, day) = self.month_day();
         Date::from_calendar_date(year, month, day)
@@ -20,7 +23,8 @@ impl Date {
     /// The date with another month, and the year and the day of the month kept. Refused, conditionally,
     /// `day` if the month is too short.
     pub fn replace_month(self, month: Month) -> Result<Date, ComponentRange>
-        ensures { Gives result (month_outcome self (month_number month)) }
+        ensures value { Gives result (month_outcome self (month_number month)) }
+        ensures shown { IfOk result (ShowsDate (year_of self) (month_number month) (day_of_month_of self)) }
     {
         Date::from_calendar_date(self.year(), month, self.day())
     }
@@ -28,7 +32,8 @@ impl Date {
     /// The date with another day of the month. Refused `day` at 0 or above 31, or, conditionally, past
     /// the end of the month.
     pub fn replace_day(self, day: u8) -> Result<Date, ComponentRange>
-        ensures { Gives result (day_outcome self day) }
+        ensures value { Gives result (day_outcome self day) }
+        ensures shown { IfOk result (ShowsDate (year_of self) (month_of self) day) }
     {
         Date::from_calendar_date(self.year(), self.month(), day)
     }
@@ -36,7 +41,8 @@ impl Date {
     /// The date with another day of the year. Refused `ordinal` at 0 or above 366, or, conditionally,
     /// at 366 in a common year.
     pub fn replace_ordinal(self, ordinal: u16) -> Result<Date, ComponentRange>
-        ensures { Gives result (ordinal_outcome self ordinal) }
+        ensures value { Gives result (ordinal_outcome self ordinal) }
+        ensures shown { IfOk result (ShowsOrdinalDate (year_of self) ordinal) }
     {
         Date::from_ordinal_date(self.year(), ordinal)
     }

@@ -1,6 +1,6 @@
 //! Times of day with a part replaced, or truncated to a unit of time.
-ghost use Rattle.std.specs.Prelude.{◌≡◌, ◌+◌, ◌-◌, ◌*◌, ◌/◌, ◌%◌, ◌<◌, ◌≤◌};
-ghost use Rattle.calendar_values.specs.Clock.{nanos_per_hour, nanos_per_minute, nanos_per_second, nanos_per_millisecond, nanos_per_microsecond};
+ghost use Rattle.std.specs.Prelude.{◌≡◌, ◌+◌, ◌-◌, ◌*◌, ◌/◌, ◌%◌, ◌<◌, ◌≤◌, IfOk};
+ghost use Rattle.calendar_values.specs.Clock.{nanos_per_hour, nanos_per_minute, nanos_per_second, nanos_per_millisecond, nanos_per_microsecond, hour_of, minute_of, second_of, nanosecond_of, Shows};
 ghost use Rattle.calendar_values.specs.Outcomes.{Gives};
 ghost use Rattle.calendar_values.specs.Replacements.{hour_outcome, minute_outcome, second_outcome, millisecond_outcome, microsecond_outcome, nanosecond_outcome};
 ghost use Rattle.calendar_values.specs.Truncations.{multiple_below};
@@ -10,7 +10,8 @@ use crate::{ComponentRange, Time};
 impl Time {
     /// The same time with another hour. Refused `hour` above 23.
     pub fn replace_hour(self, hour: u8) -> Result<Time, ComponentRange>
-        ensures { Gives result (hour_outcome self hour) }
+        ensures value { Gives result (hour_outcome self hour) }
+        ensures shown { IfOk result (λ time. Shows time hour (minute_of self) (second_of self) (nanosecond_of self)) }
     {
         if hour <= 23 {
             Ok(Time { hour, ..self })
@@ -35,7 +36,8 @@ impl Time {
 
     /// The same time with another minute. Refused `minute` above 59.
     pub fn replace_minute(self, minute: u8) -> Result<Time, ComponentRange>
-        ensures { Gives result (minute_outcome self minute) }
+        ensures value { Gives result (minute_outcome self minute) }
+        ensures shown { IfOk result (λ time. Shows time (hour_of self) minute (second_of self) (nanosecond_of self)) }
     {
         if minute <= 59 {
             Ok(Time { minute, ..self })
@@ -59,7 +61,8 @@ impl Time {
 
     /// The same time with another second. Refused `second` above 59.
     pub fn replace_second(self, second: u8) -> Result<Time, ComponentRange>
-        ensures { Gives result (second_outcome self second) }
+        ensures value { Gives result (second_outcome self second) }
+        ensures shown { IfOk result (λ time. Shows time (hour_of self) (minute_of self) second (nanosecond_of self)) }
     {
         if second <= 59 {
             Ok(Time { second, ..self })
@@ -83,7 +86,9 @@ impl Time {
     /// The same time with another millisecond of the second, and nothing finer. Refused `millisecond`
     /// above 999.
     pub fn replace_millisecond(self, millisecond: u16) -> Result<Time, ComponentRange>
-        ensures { Gives result (millisecond_outcome self millisecond) }
+        ensures value { Gives result (millisecond_outcome self millisecond) }
+        ensures shown { IfOk result (λ time. Shows time (hour_of self) (minute_of self) (second_of self)
+            (millisecond * nanos_per_millisecond)) }
     {
         if millisecond <= 999 {
             Ok(Time {
@@ -110,7 +115,9 @@ impl Time {
     /// The same time with another microsecond of the second, and nothing finer. Refused `microsecond`
     /// above 999,999.
     pub fn replace_microsecond(self, microsecond: u32) -> Result<Time, ComponentRange>
-        ensures { Gives result (microsecond_outcome self microsecond) }
+        ensures value { Gives result (microsecond_outcome self microsecond) }
+        ensures shown { IfOk result (λ time. Shows time (hour_of self) (minute_of self) (second_of self)
+            (microsecond * nanos_per_microsecond)) }
     {
         if microsecond <= 999_999 {
             Ok(Time {
@@ -136,7 +143,8 @@ impl Time {
 
     /// The same time with another nanosecond of the second. Refused `nanosecond` above 999,999,999.
     pub fn replace_nanosecond(self, nanosecond: u32) -> Result<Time, ComponentRange>
-        ensures { Gives result (nanosecond_outcome self nanosecond) }
+        ensures value { Gives result (nanosecond_outcome self nanosecond) }
+        ensures shown { IfOk result (λ time. Shows time (hour_of self) (minute_of self) (second_of self) nanosecond) }
     {
         if nanosecond <= 999_999_999 {
             Ok(Time { nanosecond, ..self })

@@ -16,9 +16,12 @@ overflow_sub-julian_day c = omega (arith, signed_arith)
 pub from_day-requires : goal.from_day-requires
 from_day-requires c = (omega (arith, signed_arith), omega (arith, signed_arith))
 
-pub returns : goal.returns
-returns c =
+pub returns-clause-value : goal.returns-clause-value
+returns-clause-value c =
     let j = c.args.julian_day in
     let same : c.from_day.result ≡ j -ℤ pos 2_440_588 = omega (arith, signed_arith, c.from_day.ensures) in
     let day : IsDay (j -ℤ pos 2_440_588) = (omega (arith, signed_arith), omega (arith, signed_arith)) in
     record { value = (day, same); refused = tt; equation = ap Ok same ∙ sym (julian_date-in j day) }
+
+pub returns-clause-shown : goal.returns-clause-shown
+returns-clause-shown c = omega (arith, signed_arith, c.from_day.ensures)

@@ -1,0 +1,123 @@
+-- What a call comes to that may refuse is one answer: by a test, put in its place, and so for each constructor and replacement.
+use Rattle.std.proofs.Common.{◌≡◌, ◌↔◌, ℕ, ◌≤◌, ◌==◌, ◌||◌, Bool, true, false, cond, refl, ap, arith, List, Result, Ok, Err, OkIff, IfErr, nat_lt}
+use Rattle.std.proofs.Common.{ℤ, pos, neg_ℤ, ◌-ℤ◌}
+use Rattle.std.proofs.lemmas.Bool.Decides.{nat_tests}
+use Rattle.std.proofs.lemmas.Int.{ints}
+use Rattle.calendar_values.specs.Calendar.{epoch_julian_day, is_leap_year, days_in_year, days_in_month, day_of_calendar_date, day_of_ordinal_date}
+use Rattle.calendar_values.specs.Calendar.{year_of, month_of, day_of_month_of}
+use Rattle.calendar_values.specs.Clock.{clock_of_parts, IsTimeOfDay}
+use Rattle.calendar_values.specs.Constructors.{calendar_date, calendar_date_outcome, ordinal_date, ordinal_date_outcome, julian_date, julian_date_outcome}
+use Rattle.calendar_values.specs.Constructors.{clock_with, clock_outcome}
+use Rattle.calendar_values.specs.Offsets.{least_offset, greatest_offset, AreOffsetParts, IsOffset, offset_refusal, seconds_of_signed_parts}
+use Rattle.calendar_values.specs.Offsets.{offset_of_parts, offset_outcome, offset_of_seconds, offset_seconds_outcome}
+use Rattle.calendar_values.specs.Outcomes.{Outcome, Gives, IsOneAnswer, answer_within, within, at_most}
+use Rattle.calendar_values.specs.Range.{first_year, last_year, first_day, last_day, is_outside, IsYear, IsDay}
+use Rattle.calendar_values.specs.Refusals.{Refusal, IsDateOfRange, IsOrdinalDateOfRange, date_refusal, ordinal_refusal, clock_refusal, outright_refusal}
+use Rattle.calendar_values.specs.Replacements.{month_outcome, day_outcome, ordinal_outcome}
+use Rattle.calendar_values.specs.CalendarDateLemmas.{IsCalendarDate-of, days_in_month_bounds}
+use Rattle.calendar_values.specs.DayLemmas.{IsYear-year_of}
+
+-- a refusal or a value, by a test that says where the arguments do not fit
+pub IsOneAnswer-tested : {T : Type 0} (fits : Type 0) (test : Bool) (value : T) (refusal : Refusal) → (fits → test ≡ false) → (test ≡ false → fits)
+    → IsOneAnswer (record { fits = fits; value = value; refusal = refusal; answer = cond test (Err refusal) (Ok value) })
+IsOneAnswer-tested fits true value refusal there back = record { value = λ f. let e = there f in cc; refused = refl; equation = refl }
+IsOneAnswer-tested fits false value refusal there back = record { value = (back refl, refl); refused = tt; equation = refl }
+
+-- of a part up to a limit
+pub IsOneAnswer-at_most : {T : Type 0} (limit : ℕ) (name : List ℕ) (part : ℕ) (value : T) → IsOneAnswer (at_most limit name part value)
+IsOneAnswer-at_most limit name part value =
+    IsOneAnswer-tested (part ≤ limit) (nat_lt limit part) value (outright_refusal name) (λ f. grind (arith, nat_tests)) (λ t. grind (arith, nat_tests))
+
+placed : {S T : Type 0} (put : S → T) (answer : Result S Refusal) (fits : Type 0) (value : S) (refusal : Refusal) → OkIff answer fits value
+    → IfErr answer (λ r. r ≡ refusal)
+    → IsOneAnswer (record { fits = fits; value = put value; refusal = refusal; answer = answer_within put answer })
+unfolding answer_within
+placed put (Ok x) fits value refusal given refused = record { value = (given.0, ap put given.1); refused = tt; equation = refl }
+placed put (Err r) fits value refusal given refused = record { value = given; refused = refused; equation = refl }
+
+-- put in its place
+pub IsOneAnswer-within : {S T : Type 0} (put : S → T) (outcome : Outcome S) → IsOneAnswer outcome → IsOneAnswer (within put outcome)
+IsOneAnswer-within put outcome h = placed put outcome.answer outcome.fits outcome.value outcome.refusal h.value h.refused
+
+pub IsOneAnswer-calendar_date : (y : ℤ) (m d : ℕ) → IsOneAnswer (calendar_date_outcome y m d)
+unfolding calendar_date
+IsOneAnswer-calendar_date y m d =
+    IsOneAnswer-tested (IsDateOfRange y m d) (is_outside first_year last_year y || ((d == 0) || nat_lt (days_in_month (is_leap_year y) m) d))
+        (day_of_calendar_date y m d) (date_refusal y d) (λ f. grind (arith, nat_tests, ints)) (λ t. grind (arith, nat_tests, ints))
+
+pub IsOneAnswer-ordinal_date : (y : ℤ) (o : ℕ) → IsOneAnswer (ordinal_date_outcome y o)
+unfolding ordinal_date
+IsOneAnswer-ordinal_date y o =
+    IsOneAnswer-tested (IsOrdinalDateOfRange y o) (is_outside first_year last_year y || ((o == 0) || nat_lt (days_in_year y) o))
+        (day_of_ordinal_date y o) (ordinal_refusal y o) (λ f. grind (arith, nat_tests, ints)) (λ t. grind (arith, nat_tests, ints))
+
+pub IsOneAnswer-julian_date : (j : ℤ) → IsOneAnswer (julian_date_outcome j)
+unfolding julian_date
+IsOneAnswer-julian_date j =
+    IsOneAnswer-tested (IsDay (j -ℤ epoch_julian_day)) (is_outside first_day last_day (j -ℤ epoch_julian_day)) (j -ℤ epoch_julian_day) _
+        (λ f. grind (arith, ints)) (λ t. grind (arith, ints))
+
+-- a part of the second fits up to its limit exactly where the nanoseconds that it makes are those of a second
+pub IsOneAnswer-clock : (h m s : ℕ) (name : List ℕ) (limit part n : ℕ) → (s ≤ 59 → (part ≤ limit) ↔ (n ≤ 999_999_999))
+    → IsOneAnswer (clock_outcome h m s name limit part n)
+unfolding clock_with
+IsOneAnswer-clock h m s name limit part n same =
+    IsOneAnswer-tested (IsTimeOfDay h m s n) (nat_lt 23 h || (nat_lt 59 m || (nat_lt 59 s || nat_lt limit part))) (clock_of_parts h m s n)
+        (clock_refusal h m s name) (λ f. let fit = (same f.second).1 f.nanosecond in grind (arith, nat_tests)) (λ t. clock t) where
+  clock : (nat_lt 23 h || (nat_lt 59 m || (nat_lt 59 s || nat_lt limit part))) ≡ false → IsTimeOfDay h m s n
+  clock t =
+      let part_fits : part ≤ limit = grind (arith, nat_tests) in
+      let second_fits : s ≤ 59 = grind (arith, nat_tests) in
+      record {
+        hour = grind (arith, nat_tests);
+        minute = grind (arith, nat_tests);
+        second = second_fits;
+        nanosecond = (same second_fits).0 part_fits;
+      }
+
+pub IsOneAnswer-offset : (h m s : ℤ) → IsOneAnswer (offset_outcome h m s)
+unfolding offset_of_parts
+IsOneAnswer-offset h m s =
+    IsOneAnswer-tested (AreOffsetParts h m s)
+        (is_outside (neg_ℤ (pos 25)) (pos 25) h || (is_outside (neg_ℤ (pos 59)) (pos 59) m || is_outside (neg_ℤ (pos 59)) (pos 59) s))
+        (seconds_of_signed_parts h m s) (offset_refusal h m) (λ f. grind (arith, ints)) (λ t. grind (arith, ints))
+
+pub IsOneAnswer-offset_seconds : (o : ℤ) → IsOneAnswer (offset_seconds_outcome o)
+unfolding offset_of_seconds
+IsOneAnswer-offset_seconds o =
+    IsOneAnswer-tested (IsOffset o) (is_outside least_offset greatest_offset o) o _ (λ f. grind (arith, ints)) (λ t. grind (arith, ints))
+
+-- where other words say when the arguments fit, or what they are refused by
+reworded : {T : Type 0} (answer : Result T Refusal) (fits other : Type 0) (value : T) (refusal named : Refusal) → (fits → other) → (other → fits)
+    → refusal ≡ named → Gives answer (record { fits = fits; value = value; refusal = refusal; answer = answer })
+    → Gives answer (record { fits = other; value = value; refusal = named; answer = answer })
+reworded (Ok x) fits other value refusal named there back e h = record { value = (there h.value.0, h.value.1); refused = tt; equation = refl }
+reworded (Err r) fits other value refusal named there back e h =
+    record { value = λ o. h.value (back o); refused = rw e at h.refused; equation = refl }
+
+third : {A : Type 0} (first second : Bool) (x y z : A) → first ≡ false → second ≡ false → cond first x (cond second y z) ≡ z
+third first second x y z e f = rw (e, f) refl
+
+-- the year of a day of the range is not refused
+year_fits : (n : ℤ) → IsDay n → is_outside first_year last_year (year_of n) ≡ false
+year_fits n day = let year = IsYear-year_of n day in grind (arith, ints)
+
+-- a day of the range with another part
+pub IsOneAnswer-month : (n : ℤ) (m : ℕ) → IsDay n → IsOneAnswer (month_outcome n m)
+IsOneAnswer-month n m day =
+    let date = IsCalendarDate-of n in
+    let most = days_in_month_bounds (is_leap_year (year_of n)) (month_of n) in
+    let d = day_of_month_of n in
+    let there : ((d == 0) || nat_lt 31 d) ≡ false = grind (arith, nat_tests) in
+    reworded (calendar_date (year_of n) m d) (IsDateOfRange (year_of n) m d) _ _ (date_refusal (year_of n) d) _ (λ f. f.1.1)
+        (λ f. (IsYear-year_of n day, (date.day_first, f))) (third _ _ _ _ _ (year_fits n day) there) (IsOneAnswer-calendar_date (year_of n) m d)
+
+pub IsOneAnswer-day : (n : ℤ) (d : ℕ) → IsDay n → IsOneAnswer (day_outcome n d)
+IsOneAnswer-day n d day =
+    reworded (calendar_date (year_of n) (month_of n) d) (IsDateOfRange (year_of n) (month_of n) d) _ _ _ _ (λ f. f.1)
+        (λ f. (IsYear-year_of n day, f)) refl (IsOneAnswer-calendar_date (year_of n) (month_of n) d)
+
+pub IsOneAnswer-ordinal : (n : ℤ) (o : ℕ) → IsDay n → IsOneAnswer (ordinal_outcome n o)
+IsOneAnswer-ordinal n o day =
+    reworded (ordinal_date (year_of n) o) (IsOrdinalDateOfRange (year_of n) o) _ _ _ _ (λ f. f.1)
+        (λ f. (IsYear-year_of n day, f)) refl (IsOneAnswer-ordinal_date (year_of n) o)
