@@ -1,13 +1,15 @@
 -- What shows that the definitions are what their names say: laws of all wall clocks and durations, each proved by a function of `src/laws.rt`.
-use Rattle.std.specs.Prelude.{◌≡◌, ◌↔◌, ℕ, ◌<◌, ◌≤◌, ℤ, ◌+ℤ◌, ◌-ℤ◌, ◌<ℤ◌, Option, Some, SomeIff, Ok}
+use Rattle.std.specs.Prelude.{◌≡◌, ◌↔◌, ℕ, ◌<◌, ◌≤◌, ℤ, ◌+ℤ◌, ◌-ℤ◌, ◌<ℤ◌, ◌≤ℤ◌, Option, Some, SomeIff, Ok}
 use Rattle.calendar_values.specs.Calendar.{year_of, month_of, day_of_month_of, ordinal_of}
 use Rattle.calendar_values.specs.Clock.{IsClock, hour_of, minute_of, second_of, millisecond_of, microsecond_of, nanosecond_of}
+use Rattle.calendar_values.specs.Outcomes.{IsOneAnswer}
 use Rattle.calendar_values.specs.WallClock.{wall_day, wall_time, IsWallClock}
 use Rattle.plain_times.specs.Packed.{packed_wall_clock}
 use Rattle.plain_times.specs.Replacements.{with_date, with_time, wall_year_outcome, wall_month_outcome, wall_day_outcome, wall_ordinal_outcome}
 use Rattle.plain_times.specs.Replacements.{wall_hour_outcome}
 use Rattle.plain_times.specs.Replacements.{wall_minute_outcome, wall_second_outcome, wall_millisecond_outcome, wall_microsecond_outcome}
 use Rattle.plain_times.specs.Replacements.{wall_nanosecond_outcome}
+use Rattle.plain_times.specs.Sums.{nearest_wall_clock}
 use Rattle.plain_times.specs.Truncations.{wall_multiple_below, IsGreatestWallMultiple}
 
 -- where a sum with a wall clock of the range is accepted, the duration taken away from it gives the wall clock back
@@ -56,3 +58,26 @@ TruncationsRoundDownOnce = (unit : ℕ) (w : ℤ) → 0 < unit → wall_multiple
 pub record PackedNumbersKeepTheOrder : Type 0 where
   pub same : (w v : ℤ) → (packed_wall_clock w ≡ packed_wall_clock v) ↔ (w ≡ v)
   pub earlier : (w v : ℤ) → (packed_wall_clock w <ℤ packed_wall_clock v) ↔ (w <ℤ v)
+
+-- after an accepted sum a second one answers as the one sum with both durations
+abbrev pub SumsAssociate : Type 0
+SumsAssociate = (w d e sum : ℤ) (second both : Option ℤ) → SomeIff (Some sum) (IsWallClock (w +ℤ d)) (w +ℤ d)
+    → SomeIff second (IsWallClock (sum +ℤ e)) (sum +ℤ e) → SomeIff both (IsWallClock (w +ℤ (d +ℤ e))) (w +ℤ (d +ℤ e)) → second ≡ both
+
+-- saturating sums with one duration keep the order, and so does a longer duration
+pub record SaturatingSumsKeepTheOrder : Type 0 where
+  pub of_wall_clocks : (w v d : ℤ) → w ≤ℤ v → nearest_wall_clock (w +ℤ d) ≤ℤ nearest_wall_clock (v +ℤ d)
+  pub of_durations : (w d e : ℤ) → d ≤ℤ e → nearest_wall_clock (w +ℤ d) ≤ℤ nearest_wall_clock (w +ℤ e)
+
+-- what each replacement comes to is one answer: its value where the part fits, and its refusal where it does not
+pub record OutcomesAreAnswers : Type 0 where
+  pub year : (w y : ℤ) → IsOneAnswer (wall_year_outcome w y)
+  pub month : (w : ℤ) (m : ℕ) → IsWallClock w → IsOneAnswer (wall_month_outcome w m)
+  pub day : (w : ℤ) (d : ℕ) → IsWallClock w → IsOneAnswer (wall_day_outcome w d)
+  pub ordinal : (w : ℤ) (o : ℕ) → IsWallClock w → IsOneAnswer (wall_ordinal_outcome w o)
+  pub hour : (w : ℤ) (h : ℕ) → IsOneAnswer (wall_hour_outcome w h)
+  pub minute : (w : ℤ) (m : ℕ) → IsOneAnswer (wall_minute_outcome w m)
+  pub second : (w : ℤ) (s : ℕ) → IsOneAnswer (wall_second_outcome w s)
+  pub millisecond : (w : ℤ) (n : ℕ) → IsOneAnswer (wall_millisecond_outcome w n)
+  pub microsecond : (w : ℤ) (n : ℕ) → IsOneAnswer (wall_microsecond_outcome w n)
+  pub nanosecond : (w : ℤ) (n : ℕ) → IsOneAnswer (wall_nanosecond_outcome w n)

@@ -1,19 +1,14 @@
 -- What a replaced wall clock shows.
 use Rattle.std.proofs.Common.{◌≡◌, ℕ, ◌≤◌, refl, sym, ap, ◌∙◌, arith, ℤ, Result, Ok, Err}
-use Rattle.calendar_values.specs.Calendar.{IsCalendarDate, IsOrdinalDate, day_of_calendar_date, day_of_ordinal_date, days_in_month, days_in_year, is_leap_year}
-use Rattle.calendar_values.specs.Calendar.{year_of, month_of, day_of_month_of}
+use Rattle.calendar_values.specs.Calendar.{year_of, month_of, day_of_month_of, ordinal_of}
 use Rattle.calendar_values.specs.Clock.{IsClock, clock_of_parts, hour_of, minute_of, second_of, nanosecond_of}
-use Rattle.calendar_values.specs.DayLemmas.{year_of-ordinal_date, ordinal_of-ordinal_date}
-use Rattle.calendar_values.specs.Month.{month_number}
-use Rattle.calendar_values.specs.CalendarDateLemmas.{IsCalendarDate-of, year_of-calendar_date, month_of-calendar_date, day_of_month_of-calendar_date}
-use Rattle.calendar_values.specs.MonthNumberLemmas.{month_number_bounds}
+use Rattle.calendar_values.specs.Dates.{ShowsDate, ShowsOrdinalDate}
 use Rattle.calendar_values.specs.Outcomes.{answer_within}
-use Rattle.calendar_values.specs.Refusals.{IsDateOfRange, Refusal}
+use Rattle.calendar_values.specs.Refusals.{Refusal}
 use Rattle.calendar_values.specs.SignedArith.{signed_arith}
 use Rattle.calendar_values.specs.WallClock.{wall_day, wall_time}
-use Rattle.calendar_values.specs.declared.month.Month.{Month}
 use Rattle.calendar_values.specs.WallClockLemmas.{IsClock-wall_time, wall_day-wall_clock, wall_time-wall_clock}
-use Rattle.plain_times.specs.Replacements.{with_date, with_time, OnDate, OnOrdinalDate, AtTime}
+use Rattle.plain_times.specs.Replacements.{with_date, with_time, OnDate, OnOrdinalDate, AtTime, ReplacesDate}
 
 -- another date, and the time of day as before
 pub wall_day-with_date : (w n : ℤ) → wall_day (with_date w n) ≡ n
@@ -47,53 +42,18 @@ wall_time-accepted w v (Err refusal) clock e = absurd cc
 
 pub ruleset replaced = (wall_day-with_date, wall_time-with_date, wall_day-with_time, wall_time-with_time)
 
--- a date of the calendar reads as given, and the time of day as before
-OnDate-is : (old new n y : ℤ) (m d : ℕ) → IsCalendarDate y m d → n ≡ day_of_calendar_date y m d → new ≡ with_date old n → OnDate old y m d new
-OnDate-is old new n y m d date is e =
-    let day : wall_day new ≡ day_of_calendar_date y m d = ap wall_day e ∙ wall_day-with_date old n ∙ is in
-    record {
-      year = rw day (year_of-calendar_date y m d date);
-      month = rw day (month_of-calendar_date y m d date);
-      day = rw day (day_of_month_of-calendar_date y m d date);
-      time = ap wall_time e ∙ wall_time-with_date old n;
-    }
+-- on a date the parts of the date read as it shows them, and the time of day as before
+pub OnDate-shown : (old n new y : ℤ) (m d : ℕ) → ShowsDate y m d n → ReplacesDate old n new → OnDate old y m d new
+OnDate-shown old n new y m d shown on = record {
+  year = ap year_of on.date ∙ shown.year;
+  month = ap month_of on.date ∙ shown.month;
+  day = ap day_of_month_of on.date ∙ shown.day;
+  time = on.time;
+}
 
-pub OnDate-year : (old new day n y : ℤ) → day ≡ wall_day old → IsDateOfRange y (month_of day) (day_of_month_of day)
-    → n ≡ day_of_calendar_date y (month_of day) (day_of_month_of day) → new ≡ with_date old n
-    → OnDate old y (month_of (wall_day old)) (day_of_month_of (wall_day old)) new
-OnDate-year old new day n y here h is e =
-    let date = IsCalendarDate-of day in
-    rw (← here) (OnDate-is old new n y _ _ (record { month_first = date.month_first; month_last = date.month_last; day_first = h.1.0; day_last = h.1.1 }) is e)
-
-pub OnDate-month : (old new day n : ℤ) (m : Month) → day ≡ wall_day old
-    → day_of_month_of day ≤ days_in_month (is_leap_year (year_of day)) (month_number m)
-    → n ≡ day_of_calendar_date (year_of day) (month_number m) (day_of_month_of day) → new ≡ with_date old n
-    → OnDate old (year_of (wall_day old)) (month_number m) (day_of_month_of (wall_day old)) new
-OnDate-month old new day n m here h is e =
-    let date = IsCalendarDate-of day in
-    let month = month_number_bounds m in
-    rw (← here) (OnDate-is old new n _ _ _ (record { month_first = month.0; month_last = month.1; day_first = date.day_first; day_last = h }) is e)
-
-pub OnDate-day : (old new day n : ℤ) (d : ℕ) → day ≡ wall_day old
-    → (1 ≤ d) × (d ≤ days_in_month (is_leap_year (year_of day)) (month_of day))
-    → n ≡ day_of_calendar_date (year_of day) (month_of day) d → new ≡ with_date old n
-    → OnDate old (year_of (wall_day old)) (month_of (wall_day old)) d new
-OnDate-day old new day n d here h is e =
-    let date = IsCalendarDate-of day in
-    rw (← here) (OnDate-is old new n _ _ _ (record { month_first = date.month_first; month_last = date.month_last; day_first = h.0; day_last = h.1 }) is e)
-
--- so does a day of the year
-pub OnOrdinalDate-is : (old new day n : ℤ) (ordinal : ℕ) → day ≡ wall_day old → (1 ≤ ordinal) × (ordinal ≤ days_in_year (year_of day))
-    → n ≡ day_of_ordinal_date (year_of day) ordinal → new ≡ with_date old n
-    → OnOrdinalDate old (year_of (wall_day old)) ordinal new
-OnOrdinalDate-is old new day n ordinal here h is e =
-    let date : IsOrdinalDate (year_of day) ordinal = record { first = h.0; last = h.1 } in
-    let shown : wall_day new ≡ day_of_ordinal_date (year_of day) ordinal = ap wall_day e ∙ wall_day-with_date old n ∙ is in
-    rw (← here) (record {
-      year = rw shown (year_of-ordinal_date _ ordinal date);
-      ordinal = rw shown (ordinal_of-ordinal_date _ ordinal date);
-      time = ap wall_time e ∙ wall_time-with_date old n;
-    })
+pub OnOrdinalDate-shown : (old n new y : ℤ) (o : ℕ) → ShowsOrdinalDate y o n → ReplacesDate old n new → OnOrdinalDate old y o new
+OnOrdinalDate-shown old n new y o shown on =
+    record { year = ap year_of on.date ∙ shown.year; ordinal = ap ordinal_of on.date ∙ shown.ordinal; time = on.time }
 
 -- a time of day reads as given, and the date as before
 pub AtTime-hour : (old new : ℤ) (c h : ℕ) → h ≤ 23

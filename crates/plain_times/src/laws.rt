@@ -1,6 +1,6 @@
 //! Laws of the definitions that the contracts cite: each function here proves one, for every wall clock
 //! and every duration, and does nothing when it is called.
-ghost use Rattle.plain_times.specs.Laws.{DifferencesUndoSums, DifferencesLeadBack, ReplacementsKeepTheRest, ReplacedPartsReadAsGiven, TruncationsRoundDown, TruncationsRoundDownOnce, PackedNumbersKeepTheOrder};
+ghost use Rattle.plain_times.specs.Laws.{DifferencesUndoSums, DifferencesLeadBack, ReplacementsKeepTheRest, ReplacedPartsReadAsGiven, TruncationsRoundDown, TruncationsRoundDownOnce, PackedNumbersKeepTheOrder, SumsAssociate, SaturatingSumsKeepTheOrder, OutcomesAreAnswers};
 
 /// Where a wall clock and its sum with a duration lie in the range, taking the duration from the sum
 /// gives the wall clock back.
@@ -42,3 +42,22 @@ pub fn truncations_round_down_once()
 pub fn packed_numbers_keep_the_order()
     ensures { PackedNumbersKeepTheOrder }
 {}
+
+/// After an accepted sum a second one answers as the one sum with both durations.
+pub fn sums_associate()
+    ensures { SumsAssociate }
+{}
+
+/// Saturating sums with one duration keep the order of wall clocks, and with one wall clock the order of
+/// durations.
+pub fn saturating_sums_keep_the_order()
+    ensures { SaturatingSumsKeepTheOrder }
+{}
+
+/// What a replacement comes to is one answer: its value where the part fits, and its refusal where it does
+/// not.
+pub fn outcomes_are_answers()
+    ensures { OutcomesAreAnswers }
+{
+    calendar_values::laws::outcomes_are_answers();
+}

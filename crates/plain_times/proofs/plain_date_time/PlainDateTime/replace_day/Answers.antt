@@ -1,8 +1,5 @@
-use Rattle.plain_times.specs.ReplacementLemmas.{OnDate-day}
+use Rattle.plain_times.specs.ReplacementLemmas.{OnDate-shown}
 use Rattle.plain_times.proofs.plain_date_time.PlainDateTime.replace_day.Goals as goal
 
 pub returns-clause-shown : goal.returns-clause-shown
-returns-clause-shown c =
-    let accepted = c.in_ok-replace_day.ensures.value in
-    OnDate-day c.args.self c.replace_date.result c.date.result c.in_ok-replace_day.field-0 c.args.day c.date.ensures.value accepted.0 accepted.1
-    c.replace_date.ensures.value
+returns-clause-shown c = OnDate-shown _ _ _ _ _ _ (rw c.date.ensures.value at c.in_ok-replace_day.ensures.shown) c.replace_date.ensures

@@ -1,8 +1,5 @@
-use Rattle.plain_times.specs.ReplacementLemmas.{OnDate-month}
+use Rattle.plain_times.specs.ReplacementLemmas.{OnDate-shown}
 use Rattle.stamp_times.proofs.timestamp.Timestamp.replace_month.Goals as goal
 
 pub returns-clause-shown : goal.returns-clause-shown
-returns-clause-shown c =
-    let accepted = c.in_ok-replace_month.ensures.value in
-    OnDate-month c.args.self c.replace_date.result c.date.result c.in_ok-replace_month.field-0 c.args.month c.date.ensures.value accepted.0 accepted.1
-    c.replace_date.ensures.value
+returns-clause-shown c = OnDate-shown _ _ _ _ _ _ (rw c.date.ensures.value at c.in_ok-replace_month.ensures.shown) c.replace_date.ensures
