@@ -1,5 +1,5 @@
 -- Conversions, sums and truncations at an offset, by what their calls answer.
-use Rattle.std.proofs.Common.{◌≡◌, ℕ, ◌<◌, ap, sym, ◌∙◌, subst, arith, ℤ, ◌+ℤ◌, ◌-ℤ◌, Option, Some, None, SomeIff}
+use Rattle.std.proofs.Common.{◌≡◌, ℕ, ◌<◌, refl, ap, sym, ◌∙◌, subst, arith, ℤ, ◌+ℤ◌, ◌-ℤ◌, Option, Some, None, SomeIff}
 use Rattle.std.proofs.lemmas.Int.{ints}
 use Rattle.calendar_values.specs.WallClock.{IsWallClock}
 use Rattle.offset_times.specs.InstantLemmas.{instant_of-local_at, shown_at-instant_of, local_at-instant_of}
@@ -41,6 +41,27 @@ difference-undoes_sum at sum d back in_range accepted answer =
     let same : wall_at (sum.wall -ℤ d) sum.offset ≡ at =
     ap (λ (w : ℤ). wall_at w sum.offset) wall ∙ ap (λ (o : ℤ). wall_at at.wall o) offset in
     answered back (wall_at (sum.wall -ℤ d) sum.offset) answer (subst (λ (w : ℤ). IsWallClock w) (sym wall) in_range) ∙ ap Some same
+
+answered_alike : (r q : Option Local) (P : Type 0) (v : Local) → SomeIff r P v → SomeIff q P v → r ≡ q
+answered_alike None None P v h k = refl
+answered_alike None (Some y) P v h k = absurd (h k.0)
+answered_alike (Some x) None P v h k = absurd (k h.0)
+answered_alike (Some x) (Some y) P v h k = ap Some (h.1 ∙ sym k.1)
+
+sums_on : (w d e sum : ℤ) → sum ≡ w +ℤ d → sum +ℤ e ≡ w +ℤ (d +ℤ e)
+sums_on w d e sum h = omega (arith, ints)
+
+pub sums-associate : (at sum : Local) (d e : ℤ) (second both : Option Local)
+    → SomeIff (Some sum) (IsWallClock (at.wall +ℤ d)) (wall_at (at.wall +ℤ d) at.offset)
+    → SomeIff second (IsWallClock (sum.wall +ℤ e)) (wall_at (sum.wall +ℤ e) sum.offset)
+    → SomeIff both (IsWallClock (at.wall +ℤ (d +ℤ e))) (wall_at (at.wall +ℤ (d +ℤ e)) at.offset)
+    → second ≡ both
+sums-associate at sum d e second both first one_by_one at_once =
+    let wall : sum.wall +ℤ e ≡ at.wall +ℤ (d +ℤ e) = sums_on at.wall d e sum.wall (ap (λ (s : Local). s.wall) first.1) in
+    let offset : sum.offset ≡ at.offset = ap (λ (s : Local). s.offset) first.1 in
+    let same : wall_at (sum.wall +ℤ e) sum.offset ≡ wall_at (at.wall +ℤ (d +ℤ e)) at.offset =
+    ap (λ (w : ℤ). wall_at w sum.offset) wall ∙ ap (λ (o : ℤ). wall_at (at.wall +ℤ (d +ℤ e)) o) offset in
+    answered_alike second both _ _ (subst (λ (l : Local). SomeIff second (IsWallClock l.wall) l) same one_by_one) at_once
 
 -- a difference, added to its second value
 difference_there : (a b : Local) → b.wall +ℤ (instant_of a -ℤ instant_of b) ≡ shown_at (instant_of a) b.offset

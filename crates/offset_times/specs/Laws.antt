@@ -4,7 +4,7 @@ use Rattle.std.specs.Prelude.{◌≡◌, ℕ, ◌<◌, ◌≤◌, ℤ, ◌+ℤ�
 use Rattle.std.specs.Ordering.{int_cmp}
 use Rattle.calendar_values.specs.Calendar.{year_of, month_of, day_of_month_of, ordinal_of}
 use Rattle.calendar_values.specs.Clock.{hour_of, minute_of, second_of, millisecond_of, microsecond_of, nanosecond_of}
-use Rattle.calendar_values.specs.Outcomes.{within}
+use Rattle.calendar_values.specs.Outcomes.{IsOneAnswer, within}
 use Rattle.calendar_values.specs.WallClock.{IsWallClock, wall_day, wall_time}
 use Rattle.offset_times.specs.Local.{Local, instant_of, shown_at, wall_at, local_at, at_offset_of, local_multiple_below}
 use Rattle.plain_times.specs.Replacements.{wall_year_outcome, wall_month_outcome, wall_day_outcome, wall_ordinal_outcome}
@@ -69,3 +69,24 @@ pub record ReplacedPartsReadAsGiven : Type 0 where
       → microsecond_of (wall_time v.wall) ≡ n
   pub nanosecond : (at v : Local) (n : ℕ) → (within (at_offset_of at) (wall_nanosecond_outcome at.wall n)).answer ≡ Ok v
       → nanosecond_of (wall_time v.wall) ≡ n
+
+-- after an accepted sum a second one answers as the one sum with both durations, offset included
+abbrev pub SumsAssociate : Type 0
+SumsAssociate = (at sum : Local) (d e : ℤ) (second both : Option Local)
+    → SomeIff (Some sum) (IsWallClock (at.wall +ℤ d)) (wall_at (at.wall +ℤ d) at.offset)
+    → SomeIff second (IsWallClock (sum.wall +ℤ e)) (wall_at (sum.wall +ℤ e) sum.offset)
+    → SomeIff both (IsWallClock (at.wall +ℤ (d +ℤ e))) (wall_at (at.wall +ℤ (d +ℤ e)) at.offset)
+    → second ≡ both
+
+-- what each replacement comes to is one answer: its value where the part fits, and its refusal where it does not
+pub record OutcomesAreAnswers : Type 0 where
+  pub year : (at : Local) (y : ℤ) → IsOneAnswer (within (at_offset_of at) (wall_year_outcome at.wall y))
+  pub month : (at : Local) (m : ℕ) → IsWallClock at.wall → IsOneAnswer (within (at_offset_of at) (wall_month_outcome at.wall m))
+  pub day : (at : Local) (d : ℕ) → IsWallClock at.wall → IsOneAnswer (within (at_offset_of at) (wall_day_outcome at.wall d))
+  pub ordinal : (at : Local) (o : ℕ) → IsWallClock at.wall → IsOneAnswer (within (at_offset_of at) (wall_ordinal_outcome at.wall o))
+  pub hour : (at : Local) (h : ℕ) → IsOneAnswer (within (at_offset_of at) (wall_hour_outcome at.wall h))
+  pub minute : (at : Local) (m : ℕ) → IsOneAnswer (within (at_offset_of at) (wall_minute_outcome at.wall m))
+  pub second : (at : Local) (s : ℕ) → IsOneAnswer (within (at_offset_of at) (wall_second_outcome at.wall s))
+  pub millisecond : (at : Local) (n : ℕ) → IsOneAnswer (within (at_offset_of at) (wall_millisecond_outcome at.wall n))
+  pub microsecond : (at : Local) (n : ℕ) → IsOneAnswer (within (at_offset_of at) (wall_microsecond_outcome at.wall n))
+  pub nanosecond : (at : Local) (n : ℕ) → IsOneAnswer (within (at_offset_of at) (wall_nanosecond_outcome at.wall n))

@@ -2,7 +2,7 @@
 //! offset and duration, and does nothing when it is called.
 ghost use Rattle.std.specs.Prelude.{◌≡◌};
 ghost use Rattle.std.specs.Ordering.{int_eq, int_cmp};
-ghost use Rattle.offset_times.specs.Laws.{ConversionsCompose, OwnOffsetStays, DifferencesUndoSums, DifferencesLeadBack, TruncationsRoundDownOnce, SumsKeepTheOrder, ReplacedPartsReadAsGiven};
+ghost use Rattle.offset_times.specs.Laws.{ConversionsCompose, OwnOffsetStays, DifferencesUndoSums, DifferencesLeadBack, TruncationsRoundDownOnce, SumsKeepTheOrder, ReplacedPartsReadAsGiven, SumsAssociate, OutcomesAreAnswers};
 ghost use Rattle.offset_times.specs.Local.{instant_of};
 ghost use Rattle.plain_times.specs.Laws.{ReplacementsKeepTheRest};
 
@@ -67,4 +67,16 @@ pub fn replaced_parts_read_as_given()
     ensures { ReplacedPartsReadAsGiven }
 {
     plain_times::laws::replaced_parts_read_as_given()
+}
+
+/// After an accepted sum a second one answers as the one sum with both durations, offset included.
+pub fn sums_associate()
+    ensures { SumsAssociate }
+{}
+
+/// As [`plain_times::laws::outcomes_are_answers`], of the wall clock at its offset.
+pub fn outcomes_are_answers()
+    ensures { OutcomesAreAnswers }
+{
+    plain_times::laws::outcomes_are_answers()
 }

@@ -1,7 +1,10 @@
 //! Laws of timestamps: each function here proves one, for every instant, and does nothing when it is called.
 ghost use Rattle.std.specs.Prelude.{◌≡◌};
 ghost use Rattle.std.specs.Ordering.{int_eq, int_cmp};
-ghost use Rattle.plain_times.specs.Laws.{DifferencesUndoSums, DifferencesLeadBack, ReplacedPartsReadAsGiven, ReplacementsKeepTheRest};
+ghost use Rattle.plain_times.specs.Laws.{DifferencesUndoSums, DifferencesLeadBack, ReplacedPartsReadAsGiven, ReplacementsKeepTheRest, SumsAssociate, SaturatingSumsKeepTheOrder, OutcomesAreAnswers};
+ghost use Rattle.calendar_values.specs.Outcomes.{IsOneAnswer};
+ghost use Rattle.stamp_times.specs.Refusals.{timestamp_outcome};
+ghost use Rattle.utc_times.specs.UnixTime.{instant_outcome};
 ghost use Rattle.stamp_times.specs.Laws.{CountsReadAsGiven, NanosecondsKeepTheSecond, TextsTellInstants, RunsCompose, RefusedCallsChangeNothing, ChainsCompose};
 
 use crate::Timestamp;
@@ -66,6 +69,30 @@ pub fn replacements_keep_the_rest()
     ensures { ReplacementsKeepTheRest }
 {
     plain_times::laws::replacements_keep_the_rest()
+}
+
+/// As [`plain_times::laws::sums_associate`], of instants.
+pub fn sums_associate()
+    ensures { SumsAssociate }
+{
+    plain_times::laws::sums_associate()
+}
+
+/// As [`plain_times::laws::saturating_sums_keep_the_order`], of instants.
+pub fn saturating_sums_keep_the_order()
+    ensures { SaturatingSumsKeepTheOrder }
+{
+    plain_times::laws::saturating_sums_keep_the_order()
+}
+
+/// As [`utc_times::laws::outcomes_are_answers`]; and a second and a nanosecond of it come to their instant,
+/// or to the refusal of one of them.
+pub fn outcomes_are_answers()
+    ensures replacements { OutcomesAreAnswers }
+    ensures counts { (name : _) (instant : _) → IsOneAnswer (instant_outcome name instant) }
+    ensures parts { (second : _) (nanosecond : _) → IsOneAnswer (timestamp_outcome second nanosecond) }
+{
+    utc_times::laws::outcomes_are_answers()
 }
 
 /// A run over calls and then others replies as the run over the first and the run over the others from where the

@@ -1,6 +1,8 @@
 //! Laws of the definitions that the contracts cite: an instant of the range is counted as a wall clock in UTC,
 //! so they are those of [`plain_times::laws`]. Each function does nothing when it is called.
-ghost use Rattle.plain_times.specs.Laws.{DifferencesUndoSums, DifferencesLeadBack, ReplacementsKeepTheRest, ReplacedPartsReadAsGiven, TruncationsRoundDown, TruncationsRoundDownOnce};
+ghost use Rattle.plain_times.specs.Laws.{DifferencesUndoSums, DifferencesLeadBack, ReplacementsKeepTheRest, ReplacedPartsReadAsGiven, TruncationsRoundDown, TruncationsRoundDownOnce, SumsAssociate, SaturatingSumsKeepTheOrder, OutcomesAreAnswers};
+ghost use Rattle.calendar_values.specs.Outcomes.{IsOneAnswer};
+ghost use Rattle.utc_times.specs.UnixTime.{instant_outcome};
 
 /// As [`plain_times::laws::differences_undo_sums`].
 pub fn differences_undo_sums()
@@ -42,4 +44,27 @@ pub fn truncations_round_down_once()
     ensures { TruncationsRoundDownOnce }
 {
     plain_times::laws::truncations_round_down_once()
+}
+
+/// As [`plain_times::laws::sums_associate`].
+pub fn sums_associate()
+    ensures { SumsAssociate }
+{
+    plain_times::laws::sums_associate()
+}
+
+/// As [`plain_times::laws::saturating_sums_keep_the_order`].
+pub fn saturating_sums_keep_the_order()
+    ensures { SaturatingSumsKeepTheOrder }
+{
+    plain_times::laws::saturating_sums_keep_the_order()
+}
+
+/// As [`plain_times::laws::outcomes_are_answers`]; and the count of an instant comes to the instant where
+/// the range has it, and to the refusal of the count where not.
+pub fn outcomes_are_answers()
+    ensures replacements { OutcomesAreAnswers }
+    ensures counts { (name : _) (instant : _) → IsOneAnswer (instant_outcome name instant) }
+{
+    plain_times::laws::outcomes_are_answers()
 }

@@ -1,6 +1,5 @@
-use Rattle.std.proofs.Common.{◌≡◌, ℕ, ◌+◌, ◌<◌, ℤ, List, [], ◌∷◌, ◌++◌, length, drop, get_or, ◌≤◌, append_assoc, append-nil, arith, add-one}
+use Rattle.std.proofs.Common.{◌≡◌, ℕ, ◌+◌, ◌<◌, ℤ, List, [], ◌∷◌, ◌++◌, length, drop, get_or, append_assoc, arith, add-one}
 use Rattle.std.proofs.Math.Seq.{drop-cons}
-use Rattle.std.proofs.lemmas.List.{drop_all}
 use Rattle.stamp_times.specs.Counter.{reply, instant_after, replies, last_instant}
 use Rattle.stamp_times.specs.declared.runs.calls.Call.{Call}
 use Rattle.stamp_times.specs.declared.runs.calls.Reply.{Reply}
@@ -19,9 +18,6 @@ last_instant-more : (i j last : ℤ) (calls : List Call) (k : ℕ) (call : Call)
     → j ≡ instant_after i call → last_instant i (drop k calls) ≡ last → last_instant j (drop (k + 1) calls) ≡ last
 last_instant-more i j last calls k call below here moved h = rw moved (rw (rest calls k call below here) at h)
 
-replies-all : (now all : List Reply) (i : ℤ) (calls : List Call) (k : ℕ) → length calls ≤ k → now ++ replies i (drop k calls) ≡ all → now ≡ all
-replies-all now all i calls k end h = rw (drop_all k calls end, append-nil) at h
-
 pub loop-call-preserved : goal.loop-call-preserved
 loop-call-preserved g c = record {
   replied = replies-more _ _ _ _ _ _ _ _ _ c.loop-call-test.true c.call-item.is c.step-reply.ensures.reply c.step-reply.ensures.next
@@ -30,9 +26,3 @@ loop-call-preserved g c = record {
   count = omega arith;
   room = omega arith;
 }
-
-pub returns-clause-replies : goal.returns-clause-replies
-returns-clause-replies g c = replies-all _ _ _ _ _ c.loop-call-test.false c.loop-call.invariant.replied
-
-pub returns-clause-last : goal.returns-clause-last
-returns-clause-last g c = rw (drop_all _ _ c.loop-call-test.false) at c.loop-call.invariant.ends
