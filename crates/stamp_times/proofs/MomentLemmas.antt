@@ -1,23 +1,30 @@
 -- What the calls of each type say in the counter's words.
-use Rattle.std.proofs.Common.{◌≡◌, ℕ, refl, sym, arith, FitsSigned, w32, to_z, of_z, to_z-of_z, ℤ, Option, Some, None, SomeIff, Result, Ok, Err, ap}
+use Rattle.std.proofs.Common.{◌≡◌, ℕ, refl, sym, arith, FitsSigned, w32, to_z, of_z, to_z-of_z, ℤ, Option, Some, None, SomeIff, Result, Ok, Err, OkIff, IsOk, ap}
 use Rattle.std.specs.Option.{option_map}
 use Rattle.std.specs.Result.{result_map_both}
+use Rattle.calendar_values.specs.Calendar.{month_of, day_of_month_of}
 use Rattle.calendar_values.specs.Dates.{IsCalendarDateOf, IsIsoWeekDateOf}
 use Rattle.calendar_values.specs.Month.{month_number}
+use Rattle.calendar_values.specs.Outcomes.{Outcome, IsOneAnswer, within}
+use Rattle.calendar_values.specs.OutcomeLemmas.{IsOneAnswer-within, IsOneAnswer-calendar_date, IsOneAnswer-month, IsOneAnswer-day, IsOneAnswer-ordinal, IsOneAnswer-at_most}
 use Rattle.calendar_values.specs.Refusals.{Refusal}
 use Rattle.calendar_values.specs.SignedArith.{signed_arith}
-use Rattle.calendar_values.specs.WallClock.{IsWallClock}
+use Rattle.calendar_values.specs.WallClock.{wall_day, IsWallClock}
+use Rattle.calendar_values.specs.WallClockLemmas.{IsDay-wall_day}
 use Rattle.calendar_values.specs.Weekday.{weekday_number}
 use Rattle.calendar_values.specs.declared.month.Month.{Month}
 use Rattle.calendar_values.specs.declared.weekday.Weekday.{Weekday}
 use Rattle.offset_times.specs.Local.{Local, wall_at}
+use Rattle.plain_times.specs.Replacements.{with_date, with_time}
 use Rattle.plain_times.specs.SumLemmas.{wall_clock_if_any-in, wall_clock_if_any-SomeIff}
 use Rattle.plain_times.specs.Sums.{wall_clock_if_any}
-use Rattle.stamp_times.specs.Counter.{local_reply, date_part_of}
+use Rattle.stamp_times.specs.Counter.{local_reply, date_part_of, instant_after_replacement, IsReplaceable}
 use Rattle.stamp_times.specs.Numbered.{month_numbered, weekday_numbered}
 use Rattle.stamp_times.specs.NumberedLemmas.{month_numbered-number, weekday_numbered-number}
 use Rattle.stamp_times.specs.declared.runs.calls.DatePart.TheVariants as date_part
 use Rattle.stamp_times.specs.declared.runs.calls.DateRead.TheVariants as date_read
+use Rattle.stamp_times.specs.declared.runs.calls.Replace.{Replace}
+use Rattle.stamp_times.specs.declared.runs.calls.Replace.TheVariants as replacing
 use Rattle.stamp_times.specs.declared.runs.calls.Reply.TheVariants.{Refused}
 
 -- an accepted sum and a refused one, in the counter's words
@@ -59,3 +66,37 @@ pub IsoWeekDate-is : (n : ℤ) (date : ℤ × ℕ × Weekday) → IsIsoWeekDateO
 IsoWeekDate-is n date h =
     let fits : FitsSigned w32 date.0 = omega (arith, signed_arith, h.year_in_range) in
     rw (to_z-of_z fits, h.year, h.week, weekday_numbered-is _ _ h.weekday) refl
+
+answered-is_ok : (r : Result ℤ Refusal) (P : Type 0) (v : ℤ) → OkIff r P v → P → IsOk r
+answered-is_ok (Ok x) P v h p = refl
+answered-is_ok (Err e) P v h p = absurd (h p)
+
+fitting-is_ok : (outcome : Outcome ℤ) → IsOneAnswer outcome → outcome.fits → IsOk outcome.answer
+fitting-is_ok outcome h fits = answered-is_ok outcome.answer outcome.fits outcome.value h.value fits
+
+on_date : (i : ℤ) (outcome : Outcome ℤ) → IsOneAnswer outcome → outcome.fits → IsOk (within (with_date i) outcome).answer
+on_date i outcome h fits = fitting-is_ok (within (with_date i) outcome) (IsOneAnswer-within (with_date i) outcome h) fits
+
+at_time : (i : ℤ) (outcome : Outcome ℕ) → IsOneAnswer outcome → outcome.fits → IsOk (within (with_time i) outcome).answer
+at_time i outcome h fits = fitting-is_ok (within (with_time i) outcome) (IsOneAnswer-within (with_time i) outcome h) fits
+
+-- a replacement that fits is accepted
+pub replaceable-is_ok : (i : ℤ) (replace : Replace) → IsWallClock i → IsReplaceable i replace → IsOk (instant_after_replacement i replace)
+replaceable-is_ok i (replacing.Time c) range fits = refl
+replaceable-is_ok i (replacing.Date n) range fits = refl
+replaceable-is_ok i (replacing.Year y) range fits = on_date i _ (IsOneAnswer-calendar_date y (month_of (wall_day i)) (day_of_month_of (wall_day i))) fits
+replaceable-is_ok i (replacing.Month m) range fits = on_date i _ (IsOneAnswer-month (wall_day i) (month_number m) (IsDay-wall_day i range)) fits
+replaceable-is_ok i (replacing.Day d) range fits = on_date i _ (IsOneAnswer-day (wall_day i) d (IsDay-wall_day i range)) fits
+replaceable-is_ok i (replacing.Ordinal o) range fits = on_date i _ (IsOneAnswer-ordinal (wall_day i) o (IsDay-wall_day i range)) fits
+replaceable-is_ok i (replacing.Hour n) range fits = at_time i _ (IsOneAnswer-at_most _ _ n _) fits
+replaceable-is_ok i (replacing.Minute n) range fits = at_time i _ (IsOneAnswer-at_most _ _ n _) fits
+replaceable-is_ok i (replacing.Second n) range fits = at_time i _ (IsOneAnswer-at_most _ _ n _) fits
+replaceable-is_ok i (replacing.Millisecond n) range fits = at_time i _ (IsOneAnswer-at_most _ _ n _) fits
+replaceable-is_ok i (replacing.Microsecond n) range fits = at_time i _ (IsOneAnswer-at_most _ _ n _) fits
+replaceable-is_ok i (replacing.Nanosecond n) range fits = at_time i _ (IsOneAnswer-at_most _ _ n _) fits
+
+-- and so is what is as it
+pub replaced-is_ok : {T : Type 0} (instant : T → ℤ) (r : Result T Refusal) (s : Result ℤ Refusal) → result_map_both instant (λ refusal. refusal) r ≡ s
+    → IsOk s → IsOk r
+replaced-is_ok instant (Ok x) s e ok = refl
+replaced-is_ok instant (Err x) s e ok = cc

@@ -1,5 +1,5 @@
 -- What a run of calls replies: a counter of nanoseconds, read by counted days. It knows no type of instants.
-use Rattle.std.specs.Prelude.{◌≡◌, ℕ, List, [], ◌∷◌, ℤ, ◌+ℤ◌, ◌-ℤ◌, Option, Some, None, SomeIff, Result, Ok, Err}
+use Rattle.std.specs.Prelude.{◌≡◌, ℕ, List, [], ◌∷◌, ℤ, ◌+ℤ◌, ◌-ℤ◌, Option, Some, None, SomeIff, Result, Ok, Err, ⊤}
 use Rattle.calendar_values.specs.Calendar.{year_of, month_of, day_of_month_of, ordinal_of, julian_day_of}
 use Rattle.calendar_values.specs.Clock.{hour_of, minute_of, second_of, millisecond_of, microsecond_of, nanosecond_of}
 use Rattle.calendar_values.specs.Month.{month_number}
@@ -10,8 +10,9 @@ use Rattle.offset_times.specs.Local.{shown_at}
 use Rattle.plain_times.specs.Replacements.{with_date, with_time, wall_year_outcome, wall_month_outcome, wall_day_outcome, wall_ordinal_outcome}
 use Rattle.plain_times.specs.Replacements.{wall_hour_outcome}
 use Rattle.plain_times.specs.Replacements.{wall_minute_outcome, wall_second_outcome, wall_millisecond_outcome, wall_microsecond_outcome}
-use Rattle.plain_times.specs.Replacements.{wall_nanosecond_outcome}
-use Rattle.plain_times.specs.Sums.{wall_clock_if_any, nearest_wall_clock}
+use Rattle.plain_times.specs.Replacements.{wall_nanosecond_outcome, ReplacesDate, ReplacesTime, ShowsYear, ShowsMonth, ShowsDay, ShowsOrdinal}
+use Rattle.plain_times.specs.Replacements.{ShowsHour, ShowsMinute, ShowsSecond, ShowsMillisecond, ShowsMicrosecond, ShowsNanosecond}
+use Rattle.plain_times.specs.Sums.{wall_clock_if_any, nearest_wall_clock, IsSaturatingSum, IsSaturatingDifference}
 use Rattle.stamp_times.specs.Numbered.{month_numbered, weekday_numbered}
 use Rattle.stamp_times.specs.declared.runs.calls.DateRead.{DateRead}
 use Rattle.stamp_times.specs.declared.runs.calls.DateRead.TheVariants as date_read
@@ -76,6 +77,13 @@ Shifts i (CheckedSub d) sum = SomeIff sum (IsWallClock (i -ℤ d)) (i -ℤ d)
 Shifts i (SaturatingAdd d) sum = sum ≡ Some (nearest_wall_clock (i +ℤ d))
 Shifts i (SaturatingSub d) sum = sum ≡ Some (nearest_wall_clock (i -ℤ d))
 
+-- a saturating sum or difference leads no way but that of the duration, and no further
+abbrev pub Saturates : ℤ → Shift → ℤ → Type 0
+Saturates i (CheckedAdd d) j = ⊤
+Saturates i (CheckedSub d) j = ⊤
+Saturates i (SaturatingAdd d) j = IsSaturatingSum i d j
+Saturates i (SaturatingSub d) j = IsSaturatingDifference i d j
+
 -- where a replacement leads, or what it is refused by
 abbrev pub instant_after_replacement : ℤ → Replace → Result ℤ Refusal
 instant_after_replacement i (replacing.Time c) = Ok (with_time i c)
@@ -90,6 +98,36 @@ instant_after_replacement i (replacing.Second s) = (wall_second_outcome i s).ans
 instant_after_replacement i (replacing.Millisecond milli) = (wall_millisecond_outcome i milli).answer
 instant_after_replacement i (replacing.Microsecond micro) = (wall_microsecond_outcome i micro).answer
 instant_after_replacement i (replacing.Nanosecond n) = (wall_nanosecond_outcome i n).answer
+
+-- a replacement is accepted: that of the date or of the time of day always is, that of a part where the part fits
+abbrev pub IsReplaceable : ℤ → Replace → Type 0
+IsReplaceable i (replacing.Time c) = ⊤
+IsReplaceable i (replacing.Date n) = ⊤
+IsReplaceable i (replacing.Year y) = (wall_year_outcome i y).fits
+IsReplaceable i (replacing.Month m) = (wall_month_outcome i (month_number m)).fits
+IsReplaceable i (replacing.Day d) = (wall_day_outcome i d).fits
+IsReplaceable i (replacing.Ordinal ordinal) = (wall_ordinal_outcome i ordinal).fits
+IsReplaceable i (replacing.Hour h) = (wall_hour_outcome i h).fits
+IsReplaceable i (replacing.Minute m) = (wall_minute_outcome i m).fits
+IsReplaceable i (replacing.Second s) = (wall_second_outcome i s).fits
+IsReplaceable i (replacing.Millisecond milli) = (wall_millisecond_outcome i milli).fits
+IsReplaceable i (replacing.Microsecond micro) = (wall_microsecond_outcome i micro).fits
+IsReplaceable i (replacing.Nanosecond n) = (wall_nanosecond_outcome i n).fits
+
+-- what an instant shows that an accepted replacement led to
+abbrev pub ShowsReplaced : ℤ → Replace → ℤ → Type 0
+ShowsReplaced i (replacing.Time c) j = ReplacesTime i c j
+ShowsReplaced i (replacing.Date n) j = ReplacesDate i n j
+ShowsReplaced i (replacing.Year y) j = ShowsYear i y j
+ShowsReplaced i (replacing.Month m) j = ShowsMonth i (month_number m) j
+ShowsReplaced i (replacing.Day d) j = ShowsDay i d j
+ShowsReplaced i (replacing.Ordinal ordinal) j = ShowsOrdinal i ordinal j
+ShowsReplaced i (replacing.Hour h) j = ShowsHour i h j
+ShowsReplaced i (replacing.Minute m) j = ShowsMinute i m j
+ShowsReplaced i (replacing.Second s) j = ShowsSecond i s j
+ShowsReplaced i (replacing.Millisecond milli) j = ShowsMillisecond i milli j
+ShowsReplaced i (replacing.Microsecond micro) j = ShowsMicrosecond i micro j
+ShowsReplaced i (replacing.Nanosecond n) j = ShowsNanosecond i n j
 
 -- the reply that says where the counter is
 abbrev pub reply_of_instant : ℤ → Reply

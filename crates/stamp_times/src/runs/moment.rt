@@ -1,11 +1,11 @@
 //! What instants of every type have in common.
-ghost use Rattle.std.specs.Prelude.{◌≡◌, ℤ, option_map, IfSome, SomeIff};
+ghost use Rattle.std.specs.Prelude.{◌≡◌, ℤ, option_map, IfSome, SomeIff, IfOk, IsOk};
 ghost use Rattle.std.specs.Ordering.{int_eq, int_cmp};
 ghost use Rattle.std.specs.Result.{result_map_both};
 ghost use Rattle.std.proofs.Common.{refl};
 ghost use Rattle.calendar_values.specs.WallClock.{wall_day, wall_time, IsWallClock};
 ghost use Rattle.offset_times.specs.Local.{instant_of, shown_at, local_at};
-ghost use Rattle.stamp_times.specs.Counter.{date_part_of, clock_part_of, instant_after_shift, instant_after_replacement, Shifts};
+ghost use Rattle.stamp_times.specs.Counter.{date_part_of, clock_part_of, instant_after_shift, instant_after_replacement, Shifts, Saturates, IsReplaceable, ShowsReplaced};
 
 use crate::Timestamp;
 use crate::runs::calls::{ClockPart, ClockRead, DatePart, DateRead, Replace, Shift};
@@ -31,12 +31,16 @@ pub trait Moment: Copy + Eq + Ord + Hash {
     /// A sum or a difference, or None where a checked one is out of the range.
     fn shift(self, shift: Shift) -> Option<Self>
         ensures value { option_map instant result ≡ instant_after_shift (instant self) shift }
-        ensures sum { Shifts (instant self) shift (option_map instant result) };
+        ensures sum { Shifts (instant self) shift (option_map instant result) }
+        ensures order { IfSome result (λ next. Saturates (instant self) shift (instant next)) };
 
     /// The value with a part replaced in UTC. Refused as the replacement of that part is.
     fn replace(self, replace: Replace) -> Result<Self, ComponentRange>
-        ensures { result_map_both instant (λ refusal. refusal) result ≡
-            instant_after_replacement (instant self) replace };
+        ensures value { result_map_both instant (λ refusal. refusal) result ≡
+            instant_after_replacement (instant self) replace }
+        ensures accepted { IsReplaceable (instant self) replace → IsOk result }
+        ensures shown { IfOk result (λ next.
+            ShowsReplaced (instant self) replace (instant next)) };
 
     /// The date and the time of day in UTC.
     fn parts(self) -> (Date, Time)
@@ -135,6 +139,16 @@ macro_rules! replace {
     };
 }
 
+// A date-time in UTC with a part replaced.
+#[tactic(auto, using(crate::proofs::MomentLemmas::moves))]
+fn utc_with(at: UtcDateTime, replace: Replace) -> Result<UtcDateTime, ComponentRange>
+    ensures value { result_map_both (λ i. i) (λ refusal. refusal) result ≡
+        instant_after_replacement at replace }
+    ensures shown { IfOk result (ShowsReplaced at replace) }
+{
+    replace!(at, replace)
+}
+
 impl Moment for UtcDateTime {
     ghost instant = { λ i. i };
 
@@ -151,9 +165,8 @@ impl Moment for UtcDateTime {
         shift!(self, shift)
     }
 
-    #[tactic(auto, using(crate::proofs::MomentLemmas::moves))]
     fn replace(self, replace: Replace) -> Result<UtcDateTime, ComponentRange> {
-        replace!(self, replace)
+        utc_with(self, replace)
     }
 
     fn parts(self) -> (Date, Time) {
@@ -167,6 +180,16 @@ impl Moment for UtcDateTime {
     ghost eq_by_instant = { λ x y. refl };
 
     ghost cmp_by_instant = { λ x y. refl };
+}
+
+// A timestamp with a part replaced.
+#[tactic(auto, using(crate::proofs::MomentLemmas::moves))]
+fn stamp_with(at: Timestamp, replace: Replace) -> Result<Timestamp, ComponentRange>
+    ensures value { result_map_both (λ i. i) (λ refusal. refusal) result ≡
+        instant_after_replacement at replace }
+    ensures shown { IfOk result (ShowsReplaced at replace) }
+{
+    replace!(at, replace)
 }
 
 impl Moment for Timestamp {
@@ -185,9 +208,8 @@ impl Moment for Timestamp {
         shift!(self, shift)
     }
 
-    #[tactic(auto, using(crate::proofs::MomentLemmas::moves))]
     fn replace(self, replace: Replace) -> Result<Timestamp, ComponentRange> {
-        replace!(self, replace)
+        stamp_with(self, replace)
     }
 
     fn parts(self) -> (Date, Time) {

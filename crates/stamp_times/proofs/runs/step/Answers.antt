@@ -33,17 +33,17 @@ returns-in-None-clause-next g c =
     rw c.in-Shift.is (ap (shift_next i) c.in-None.ensures.value)
 
 pub returns-in-Ok-clause-reply : goal.returns-in-Ok-clause-reply
-returns-in-Ok-clause-reply g c = rw c.in-Replace.is (c.reply_of-in-Ok.ensures ∙ ap replace_reply c.in-Ok.ensures)
+returns-in-Ok-clause-reply g c = rw c.in-Replace.is (c.reply_of-in-Ok.ensures ∙ ap replace_reply c.in-Ok.ensures.value)
 
 pub returns-in-Ok-clause-next : goal.returns-in-Ok-clause-next
 returns-in-Ok-clause-next g c =
     let i = g.M.Moment.instant c.args.held in
-    rw c.in-Replace.is (ap (replace_next i) c.in-Ok.ensures)
+    rw c.in-Replace.is (ap (replace_next i) c.in-Ok.ensures.value)
 
 pub returns-in-Err-clause-reply : goal.returns-in-Err-clause-reply
-returns-in-Err-clause-reply g c = rw c.in-Replace.is (ap replace_reply c.in-Err.ensures)
+returns-in-Err-clause-reply g c = rw c.in-Replace.is (ap replace_reply c.in-Err.ensures.value)
 
 pub returns-in-Err-clause-next : goal.returns-in-Err-clause-next
 returns-in-Err-clause-next g c =
     let i = g.M.Moment.instant c.args.held in
-    rw c.in-Replace.is (ap (replace_next i) c.in-Err.ensures)
+    rw c.in-Replace.is (ap (replace_next i) c.in-Err.ensures.value)
