@@ -43,19 +43,19 @@ pub IsOneAnswer-calendar_date : (y : ℤ) (m d : ℕ) → IsOneAnswer (calendar_
 unfolding calendar_date
 IsOneAnswer-calendar_date y m d =
     IsOneAnswer-tested (IsDateOfRange y m d) (is_outside first_year last_year y || ((d == 0) || nat_lt (days_in_month (is_leap_year y) m) d))
-        (day_of_calendar_date y m d) (date_refusal y d) (λ f. grind (arith, nat_tests, ints)) (λ t. grind (arith, nat_tests, ints))
+    (day_of_calendar_date y m d) (date_refusal y d) (λ f. grind (arith, nat_tests, ints)) (λ t. grind (arith, nat_tests, ints))
 
 pub IsOneAnswer-ordinal_date : (y : ℤ) (o : ℕ) → IsOneAnswer (ordinal_date_outcome y o)
 unfolding ordinal_date
 IsOneAnswer-ordinal_date y o =
     IsOneAnswer-tested (IsOrdinalDateOfRange y o) (is_outside first_year last_year y || ((o == 0) || nat_lt (days_in_year y) o))
-        (day_of_ordinal_date y o) (ordinal_refusal y o) (λ f. grind (arith, nat_tests, ints)) (λ t. grind (arith, nat_tests, ints))
+    (day_of_ordinal_date y o) (ordinal_refusal y o) (λ f. grind (arith, nat_tests, ints)) (λ t. grind (arith, nat_tests, ints))
 
 pub IsOneAnswer-julian_date : (j : ℤ) → IsOneAnswer (julian_date_outcome j)
 unfolding julian_date
 IsOneAnswer-julian_date j =
     IsOneAnswer-tested (IsDay (j -ℤ epoch_julian_day)) (is_outside first_day last_day (j -ℤ epoch_julian_day)) (j -ℤ epoch_julian_day) _
-        (λ f. grind (arith, ints)) (λ t. grind (arith, ints))
+    (λ f. grind (arith, ints)) (λ t. grind (arith, ints))
 
 -- a part of the second fits up to its limit exactly where the nanoseconds that it makes are those of a second
 pub IsOneAnswer-clock : (h m s : ℕ) (name : List ℕ) (limit part n : ℕ) → (s ≤ 59 → (part ≤ limit) ↔ (n ≤ 999_999_999))
@@ -63,24 +63,24 @@ pub IsOneAnswer-clock : (h m s : ℕ) (name : List ℕ) (limit part n : ℕ) →
 unfolding clock_with
 IsOneAnswer-clock h m s name limit part n same =
     IsOneAnswer-tested (IsTimeOfDay h m s n) (nat_lt 23 h || (nat_lt 59 m || (nat_lt 59 s || nat_lt limit part))) (clock_of_parts h m s n)
-        (clock_refusal h m s name) (λ f. let fit = (same f.second).1 f.nanosecond in grind (arith, nat_tests)) (λ t. clock t) where
-  clock : (nat_lt 23 h || (nat_lt 59 m || (nat_lt 59 s || nat_lt limit part))) ≡ false → IsTimeOfDay h m s n
-  clock t =
-      let part_fits : part ≤ limit = grind (arith, nat_tests) in
-      let second_fits : s ≤ 59 = grind (arith, nat_tests) in
-      record {
-        hour = grind (arith, nat_tests);
-        minute = grind (arith, nat_tests);
-        second = second_fits;
-        nanosecond = (same second_fits).0 part_fits;
-      }
+    (clock_refusal h m s name) (λ f. let fit = (same f.second).1 f.nanosecond in grind (arith, nat_tests)) (λ t. clock t) where
+      clock : (nat_lt 23 h || (nat_lt 59 m || (nat_lt 59 s || nat_lt limit part))) ≡ false → IsTimeOfDay h m s n
+      clock t =
+          let part_fits : part ≤ limit = grind (arith, nat_tests) in
+          let second_fits : s ≤ 59 = grind (arith, nat_tests) in
+          record {
+            hour = grind (arith, nat_tests);
+            minute = grind (arith, nat_tests);
+            second = second_fits;
+            nanosecond = (same second_fits).0 part_fits;
+          }
 
 pub IsOneAnswer-offset : (h m s : ℤ) → IsOneAnswer (offset_outcome h m s)
 unfolding offset_of_parts
 IsOneAnswer-offset h m s =
     IsOneAnswer-tested (AreOffsetParts h m s)
-        (is_outside (neg_ℤ (pos 25)) (pos 25) h || (is_outside (neg_ℤ (pos 59)) (pos 59) m || is_outside (neg_ℤ (pos 59)) (pos 59) s))
-        (seconds_of_signed_parts h m s) (offset_refusal h m) (λ f. grind (arith, ints)) (λ t. grind (arith, ints))
+    (is_outside (neg_ℤ (pos 25)) (pos 25) h || (is_outside (neg_ℤ (pos 59)) (pos 59) m || is_outside (neg_ℤ (pos 59)) (pos 59) s))
+    (seconds_of_signed_parts h m s) (offset_refusal h m) (λ f. grind (arith, ints)) (λ t. grind (arith, ints))
 
 pub IsOneAnswer-offset_seconds : (o : ℤ) → IsOneAnswer (offset_seconds_outcome o)
 unfolding offset_of_seconds
@@ -110,14 +110,14 @@ IsOneAnswer-month n m day =
     let d = day_of_month_of n in
     let there : ((d == 0) || nat_lt 31 d) ≡ false = grind (arith, nat_tests) in
     reworded (calendar_date (year_of n) m d) (IsDateOfRange (year_of n) m d) _ _ (date_refusal (year_of n) d) _ (λ f. f.1.1)
-        (λ f. (IsYear-year_of n day, (date.day_first, f))) (third _ _ _ _ _ (year_fits n day) there) (IsOneAnswer-calendar_date (year_of n) m d)
+    (λ f. (IsYear-year_of n day, (date.day_first, f))) (third _ _ _ _ _ (year_fits n day) there) (IsOneAnswer-calendar_date (year_of n) m d)
 
 pub IsOneAnswer-day : (n : ℤ) (d : ℕ) → IsDay n → IsOneAnswer (day_outcome n d)
 IsOneAnswer-day n d day =
     reworded (calendar_date (year_of n) (month_of n) d) (IsDateOfRange (year_of n) (month_of n) d) _ _ _ _ (λ f. f.1)
-        (λ f. (IsYear-year_of n day, f)) refl (IsOneAnswer-calendar_date (year_of n) (month_of n) d)
+    (λ f. (IsYear-year_of n day, f)) refl (IsOneAnswer-calendar_date (year_of n) (month_of n) d)
 
 pub IsOneAnswer-ordinal : (n : ℤ) (o : ℕ) → IsDay n → IsOneAnswer (ordinal_outcome n o)
 IsOneAnswer-ordinal n o day =
     reworded (ordinal_date (year_of n) o) (IsOrdinalDateOfRange (year_of n) o) _ _ _ _ (λ f. f.1)
-        (λ f. (IsYear-year_of n day, f)) refl (IsOneAnswer-ordinal_date (year_of n) o)
+    (λ f. (IsYear-year_of n day, f)) refl (IsOneAnswer-ordinal_date (year_of n) o)

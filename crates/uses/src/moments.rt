@@ -1,7 +1,9 @@
 //! Callers that do not care which type holds an instant, and records that are exchanged.
-ghost use Rattle.std.specs.Prelude.{◌≡◌, IfOk, IfSome, IsPermutation, IsSorted, OnOk, pos, ◌+ℤ◌};
+ghost use Rattle.std.specs.Prelude.{◌≡◌, IfOk, IfSome, IsPermutation, IsSorted, OnOk, pos, ◌+ℤ◌, ◌≤ℤ◌};
 ghost use Rattle.std.specs.Ordering.{on, int_cmp};
-ghost use Rattle.calendar_values.specs.Clock.{nanos_per_day};
+ghost use Rattle.calendar_values.specs.Calendar.{day_of_month_of};
+ghost use Rattle.calendar_values.specs.Clock.{nanos_per_day, hour_of};
+ghost use Rattle.calendar_values.specs.WallClock.{wall_day, wall_time};
 ghost use Rattle.offset_times.specs.Local.{instant_of, shown_at, local_at};
 ghost use Rattle.offset_times.specs.Texts.{offset_date_time_text};
 ghost use Rattle.plain_times.specs.Replacements.{with_time};
@@ -28,6 +30,31 @@ pub fn tomorrow<M: Moment>(at: M) -> Option<M>
     ensures { IfSome result (λ later. M.instant later ≡ M.instant at +ℤ pos nanos_per_day) }
 {
     at.shift(Shift::CheckedAdd(SignedDuration::days(1)))
+}
+
+/// The first day of the month at the same time of day, for any type that holds an instant.
+pub fn first_of_month<M: Moment>(at: M) -> M
+    ensures { day_of_month_of (wall_day (M.instant result)) ≡ 1 }
+{
+    at.replace(Replace::Day(1)).unwrap()
+}
+
+/// The same day and minute in the last hour of the day, for any type that holds an instant.
+pub fn in_the_last_hour<M: Moment>(at: M) -> M
+    ensures hour { hour_of (wall_time (M.instant result)) ≡ 23 }
+    ensures day { wall_day (M.instant result) ≡ wall_day (M.instant at) }
+{
+    at.replace(Replace::Hour(23)).unwrap()
+}
+
+/// An hour later, or the end of the range, for any type that holds an instant.
+pub fn an_hour_on<M: Moment>(at: M) -> M
+    ensures not_before { M.instant at ≤ℤ M.instant result }
+{
+    match at.shift(Shift::SaturatingAdd(SignedDuration::hours(1))) {
+        Some(later) => later,
+        None => at,
+    }
 }
 
 /// The next midnight that clocks at the offset show, or None where they show no date of the range now or then.

@@ -1,6 +1,7 @@
 //! Conversions and calls that come as lists.
-ghost use Rattle.std.specs.Prelude.{◌≡◌, ◌≤◌, IfOk, IfSome, length, vec_len};
+ghost use Rattle.std.specs.Prelude.{◌≡◌, ◌≤◌, ◌++◌, IfOk, IfSome, length, vec_len};
 ghost use Rattle.offset_times.specs.Local.{instant_of};
+ghost use Rattle.stamp_times.specs.Counter.{last_instant};
 ghost use Rattle.stamp_times.specs.Travel.{held_instant};
 
 use calendar_values::UtcOffset;
@@ -45,4 +46,19 @@ pub fn replies_to(alloc: Global, start: Timestamp, calls: &[Call]) -> Result<Vec
 {
     let (replies, _) = run(alloc, start, calls)?;
     Ok(replies)
+}
+
+/// Where calls and then others lead: where the run over all of them ends.
+pub fn led_by_both(
+    alloc: Global,
+    start: Timestamp,
+    first: &[Call],
+    rest: &[Call],
+) -> Result<Timestamp, AllocError>
+    ensures { IfOk result (λ end. end ≡ last_instant start (first.now ++ rest.now)) }
+{
+    stamp_times::laws::runs_compose();
+    let (_, between) = run(alloc, start, first)?;
+    let (_, end) = run(alloc, between, rest)?;
+    Ok(end)
 }

@@ -14,8 +14,8 @@ of_parts : (s : ℤ) (n : ℕ) → IsOneAnswer (timestamp_outcome s n)
 unfolding timestamp_of_parts
 of_parts s n =
     IsOneAnswer-tested (IsWallClock (instant_of_second s) × (n < 1_000_000_000))
-        (is_outside first_wall_clock last_wall_clock (instant_of_second s) || nat_lt 999_999_999 n) (instant_of_parts s n) (parts_refusal s)
-        (λ f. grind (arith, nat_tests, ints)) (λ t. grind (arith, nat_tests, ints))
+    (is_outside first_wall_clock last_wall_clock (instant_of_second s) || nat_lt 999_999_999 n) (instant_of_parts s n) (parts_refusal s)
+    (λ f. grind (arith, nat_tests, ints)) (λ t. grind (arith, nat_tests, ints))
 
 pub returns-clause-parts : goal.returns-clause-parts
 returns-clause-parts c = of_parts
