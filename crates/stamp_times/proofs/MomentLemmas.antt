@@ -1,12 +1,14 @@
 -- What the calls of each type say in the counter's words.
-use Rattle.std.proofs.Common.{◌≡◌, ℕ, refl, sym, arith, FitsSigned, w32, to_z, of_z, to_z-of_z, ℤ, Option, Some, None, SomeIff, Result, Ok, Err, OkIff, IsOk, ap}
+use Rattle.std.proofs.Common.{◌≡◌, ℕ, refl, sym, arith, FitsSigned, w32, to_z, of_z, to_z-of_z, ℤ}
+use Rattle.std.proofs.Common.{Option, Some, None, SomeIff, Result, Ok, Err, OkIff, IsOk, ap}
 use Rattle.std.specs.Option.{option_map}
 use Rattle.std.specs.Result.{result_map_both}
 use Rattle.calendar_values.specs.Calendar.{month_of, day_of_month_of}
 use Rattle.calendar_values.specs.Dates.{IsCalendarDateOf, IsIsoWeekDateOf}
 use Rattle.calendar_values.specs.Month.{month_number}
 use Rattle.calendar_values.specs.Outcomes.{Outcome, IsOneAnswer, within}
-use Rattle.calendar_values.specs.OutcomeLemmas.{IsOneAnswer-within, IsOneAnswer-calendar_date, IsOneAnswer-month, IsOneAnswer-day, IsOneAnswer-ordinal, IsOneAnswer-at_most}
+use Rattle.calendar_values.specs.OutcomeLemmas.{IsOneAnswer-within, IsOneAnswer-calendar_date, IsOneAnswer-month}
+use Rattle.calendar_values.specs.OutcomeLemmas.{IsOneAnswer-day, IsOneAnswer-ordinal, IsOneAnswer-at_most}
 use Rattle.calendar_values.specs.Refusals.{Refusal}
 use Rattle.calendar_values.specs.SignedArith.{signed_arith}
 use Rattle.calendar_values.specs.WallClock.{wall_day, IsWallClock}

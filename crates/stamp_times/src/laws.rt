@@ -90,7 +90,8 @@ pub fn saturating_sums_keep_the_order()
 pub fn outcomes_are_answers()
     ensures replacements { OutcomesAreAnswers }
     ensures counts { (name : _) (instant : _) → IsOneAnswer (instant_outcome name instant) }
-    ensures parts { (second : _) (nanosecond : _) → IsOneAnswer (timestamp_outcome second nanosecond) }
+    ensures parts { (second : _) (nanosecond : _) →
+        IsOneAnswer (timestamp_outcome second nanosecond) }
 {
     utc_times::laws::outcomes_are_answers()
 }

@@ -24,7 +24,8 @@ impl Date {
     /// `day` if the month is too short.
     pub fn replace_month(self, month: Month) -> Result<Date, ComponentRange>
         ensures value { Gives result (month_outcome self (month_number month)) }
-        ensures shown { IfOk result (ShowsDate (year_of self) (month_number month) (day_of_month_of self)) }
+        ensures shown { IfOk result
+            (ShowsDate (year_of self) (month_number month) (day_of_month_of self)) }
     {
         Date::from_calendar_date(self.year(), month, self.day())
     }

@@ -11,7 +11,8 @@ impl Time {
     /// The same time with another hour. Refused `hour` above 23.
     pub fn replace_hour(self, hour: u8) -> Result<Time, ComponentRange>
         ensures value { Gives result (hour_outcome self hour) }
-        ensures shown { IfOk result (λ time. Shows time hour (minute_of self) (second_of self) (nanosecond_of self)) }
+        ensures shown { IfOk result (λ time.
+            Shows time hour (minute_of self) (second_of self) (nanosecond_of self)) }
     {
         if hour <= 23 {
             Ok(Time { hour, ..self })
@@ -37,7 +38,8 @@ impl Time {
     /// The same time with another minute. Refused `minute` above 59.
     pub fn replace_minute(self, minute: u8) -> Result<Time, ComponentRange>
         ensures value { Gives result (minute_outcome self minute) }
-        ensures shown { IfOk result (λ time. Shows time (hour_of self) minute (second_of self) (nanosecond_of self)) }
+        ensures shown { IfOk result (λ time.
+            Shows time (hour_of self) minute (second_of self) (nanosecond_of self)) }
     {
         if minute <= 59 {
             Ok(Time { minute, ..self })
@@ -62,7 +64,8 @@ impl Time {
     /// The same time with another second. Refused `second` above 59.
     pub fn replace_second(self, second: u8) -> Result<Time, ComponentRange>
         ensures value { Gives result (second_outcome self second) }
-        ensures shown { IfOk result (λ time. Shows time (hour_of self) (minute_of self) second (nanosecond_of self)) }
+        ensures shown { IfOk result (λ time.
+            Shows time (hour_of self) (minute_of self) second (nanosecond_of self)) }
     {
         if second <= 59 {
             Ok(Time { second, ..self })
@@ -87,7 +90,8 @@ impl Time {
     /// above 999.
     pub fn replace_millisecond(self, millisecond: u16) -> Result<Time, ComponentRange>
         ensures value { Gives result (millisecond_outcome self millisecond) }
-        ensures shown { IfOk result (λ time. Shows time (hour_of self) (minute_of self) (second_of self)
+        ensures shown { IfOk result (λ time.
+            Shows time (hour_of self) (minute_of self) (second_of self)
             (millisecond * nanos_per_millisecond)) }
     {
         if millisecond <= 999 {
@@ -116,7 +120,8 @@ impl Time {
     /// above 999,999.
     pub fn replace_microsecond(self, microsecond: u32) -> Result<Time, ComponentRange>
         ensures value { Gives result (microsecond_outcome self microsecond) }
-        ensures shown { IfOk result (λ time. Shows time (hour_of self) (minute_of self) (second_of self)
+        ensures shown { IfOk result (λ time.
+            Shows time (hour_of self) (minute_of self) (second_of self)
             (microsecond * nanos_per_microsecond)) }
     {
         if microsecond <= 999_999 {
@@ -144,7 +149,8 @@ impl Time {
     /// The same time with another nanosecond of the second. Refused `nanosecond` above 999,999,999.
     pub fn replace_nanosecond(self, nanosecond: u32) -> Result<Time, ComponentRange>
         ensures value { Gives result (nanosecond_outcome self nanosecond) }
-        ensures shown { IfOk result (λ time. Shows time (hour_of self) (minute_of self) (second_of self) nanosecond) }
+        ensures shown { IfOk result (λ time.
+            Shows time (hour_of self) (minute_of self) (second_of self) nanosecond) }
     {
         if nanosecond <= 999_999_999 {
             Ok(Time { nanosecond, ..self })
