@@ -2,7 +2,7 @@
 ghost use Rattle.std.specs.Prelude.{◌≡◌, ◌≤◌, ◌++◌, IfOk, IfSome, length, vec_len};
 ghost use Rattle.offset_times.specs.Local.{instant_of};
 ghost use Rattle.stamp_times.specs.Counter.{last_instant};
-ghost use Rattle.stamp_times.specs.Travel.{held_instant};
+ghost use Rattle.stamp_times.specs.Travel.{held_instant, held_after};
 
 use calendar_values::UtcOffset;
 use offset_times::OffsetDateTime;
@@ -61,4 +61,13 @@ pub fn led_by_both(
     let (_, between) = run(alloc, start, first)?;
     let (_, end) = run(alloc, between, rest)?;
     Ok(end)
+}
+
+/// What steps and then others lead to, where all of them can be made.
+pub fn converted_by_both(start: Held, first: &[Step], rest: &[Step]) -> Option<Held>
+    ensures { IfSome result (λ held. held ≡ held_after start (held_instant start) (first.now ++ rest.now)) }
+{
+    stamp_times::laws::chains_compose();
+    let between = chain(start, first).ok()?;
+    chain(between, rest).ok()
 }

@@ -1,5 +1,5 @@
 //! A pause that grows with each attempt.
-ghost use Rattle.std.specs.Prelude.{◌*◌, ◌+ℤ◌, ◌≤ℤ◌, pos};
+ghost use Rattle.std.specs.Prelude.{◌≡◌, ◌*◌, ◌+ℤ◌, ◌≤ℤ◌, pos, IfSome};
 ghost use Rattle.calendar_values.specs.Clock.{nanos_per_second};
 
 use calendar_values::SignedDuration;
@@ -21,4 +21,28 @@ pub fn next_attempt(failed: Timestamp, attempts: u32) -> Timestamp
 {
     let seconds = attempts.min(60);
     failed.saturating_add(SignedDuration::seconds(i64::from(seconds)))
+}
+
+/// Two that failed try again after one pause, the first before the second, or both at the end of the range.
+pub fn in_turn(
+    first: Timestamp,
+    second: Timestamp,
+    pause: SignedDuration,
+) -> (Timestamp, Timestamp)
+    requires { first ≤ℤ second }
+    ensures { result.0 ≤ℤ result.1 }
+{
+    stamp_times::laws::saturating_sums_keep_the_order();
+    (first.saturating_add(pause), second.saturating_add(pause))
+}
+
+/// After one pause and then another: as after both.
+pub fn after_both(
+    at: Timestamp,
+    first: SignedDuration,
+    second: SignedDuration,
+) -> Option<Timestamp>
+    ensures { IfSome result (λ end. end ≡ at +ℤ (first +ℤ second)) }
+{
+    at.checked_add(first)?.checked_add(second)
 }

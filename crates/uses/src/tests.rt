@@ -1,12 +1,12 @@
 use crate::audit::Audit;
 use crate::periods::Period;
 use crate::{
-    audit, batches, billing, constants, daily, exchange, expiry, invoices, log, meeting, midnight,
-    milliseconds, moments, offsets, periods, replays, reports, retry, timeouts,
+    audit, batches, billing, constants, daily, days, exchange, expiry, invoices, log, meeting,
+    midnight, milliseconds, moments, offsets, periods, replays, reports, retry, timeouts,
 };
 use calendar_values::{ComponentRange, Date, Month, SignedDuration, Time, UtcOffset};
 use offset_times::OffsetDateTime;
-use stamp_times::{Call, ClockRead, Held, Step, Timestamp};
+use stamp_times::{Call, ClockRead, Held, Shift, Step, Timestamp};
 use std::cmp::Ordering;
 use std::test::Fail;
 use utc_times::UtcDateTime;
@@ -235,5 +235,45 @@ fn logs_without_repeats_are_called(rt: HostRuntime) -> Result<(), Fail> {
     assert!(rt; log::joined_has(&mut log, epoch)?);
     log::enter_shift(&mut log, epoch, Timestamp::MAX)?;
     assert_eq!(rt; log.len(), 3);
+    Ok(())
+}
+
+#[test]
+fn callers_of_what_replacements_show_are_called(rt: HostRuntime) -> Result<(), Fail> {
+    let leap_day = Date::from_calendar_date(2024, Month::February, 29)?;
+    assert_eq!(rt;
+        days::first_of_its_month(leap_day),
+        Date::from_calendar_date(2024, Month::February, 1)?
+    );
+    assert_eq!(rt; days::first_of_year(1970), Some(Date::UNIX_EPOCH));
+    assert_eq!(rt; days::first_of_year(1_000_000), None);
+    assert_eq!(rt;
+        days::a_week_later(leap_day),
+        Some(Date::from_calendar_date(2024, Month::March, 7)?)
+    );
+    assert_eq!(rt; days::at_half_past(Time::MIDNIGHT), Time::from_hms(0, 30, 0)?);
+    assert_eq!(rt; moments::first_of_month(utc(1_709_164_800)?), utc(1_706_745_600)?);
+    assert_eq!(rt; moments::in_the_last_hour(utc(60)?), utc(82_860)?);
+    assert_eq!(rt; moments::an_hour_on(UtcDateTime::MAX), UtcDateTime::MAX);
+    Ok(())
+}
+
+#[test]
+fn callers_of_sums_in_order_are_called(rt: HostRuntime) -> Result<(), Fail> {
+    let alloc = rt.alloc();
+    let epoch = Timestamp::UNIX_EPOCH;
+    let second = SignedDuration::seconds(1);
+    let (first, later) = retry::in_turn(epoch, Timestamp::MAX, second);
+    assert_eq!(rt; first, Timestamp::from_seconds(1)?);
+    assert_eq!(rt; later, Timestamp::MAX);
+    assert_eq!(rt;
+        retry::after_both(epoch, second, second),
+        Some(Timestamp::from_seconds(2)?)
+    );
+    let shift = [Call::Shift(Shift::CheckedAdd(second))];
+    let end = replays::led_by_both(alloc, epoch, &shift, &shift)?;
+    assert_eq!(rt; end, Timestamp::from_seconds(2)?);
+    let both = replays::converted_by_both(Held::Stamp(epoch), &[Step::ToUtc], &[Step::ToStamp]);
+    assert_eq!(rt; both, Some(Held::Stamp(epoch)));
     Ok(())
 }
