@@ -24,11 +24,7 @@ pub fn next_attempt(failed: Timestamp, attempts: u32) -> Timestamp
 }
 
 /// Two that failed try again after one pause, the first before the second, or both at the end of the range.
-pub fn in_turn(
-    first: Timestamp,
-    second: Timestamp,
-    pause: SignedDuration,
-) -> (Timestamp, Timestamp)
+pub fn in_turn(first: Timestamp, second: Timestamp, pause: SignedDuration) -> (Timestamp, Timestamp)
     requires { first ≤ℤ second }
     ensures { result.0 ≤ℤ result.1 }
 {
@@ -37,11 +33,7 @@ pub fn in_turn(
 }
 
 /// After one pause and then another: as after both.
-pub fn after_both(
-    at: Timestamp,
-    first: SignedDuration,
-    second: SignedDuration,
-) -> Option<Timestamp>
+pub fn after_both(at: Timestamp, first: SignedDuration, second: SignedDuration) -> Option<Timestamp>
     ensures { IfSome result (λ end. end ≡ at +ℤ (first +ℤ second)) }
 {
     at.checked_add(first)?.checked_add(second)

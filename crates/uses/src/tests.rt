@@ -251,8 +251,14 @@ fn callers_of_what_replacements_show_are_called(rt: HostRuntime) -> Result<(), F
         days::a_week_later(leap_day),
         Some(Date::from_calendar_date(2024, Month::March, 7)?)
     );
-    assert_eq!(rt; days::at_half_past(Time::MIDNIGHT), Time::from_hms(0, 30, 0)?);
-    assert_eq!(rt; moments::first_of_month(utc(1_709_164_800)?), utc(1_706_745_600)?);
+    assert_eq!(rt;
+        days::at_half_past(Time::MIDNIGHT),
+        Time::from_hms(0, 30, 0)?
+    );
+    assert_eq!(rt;
+        moments::first_of_month(utc(1_709_164_800)?),
+        utc(1_706_745_600)?
+    );
     assert_eq!(rt; moments::in_the_last_hour(utc(60)?), utc(82_860)?);
     assert_eq!(rt; moments::an_hour_on(UtcDateTime::MAX), UtcDateTime::MAX);
     Ok(())
@@ -274,6 +280,10 @@ fn callers_of_sums_in_order_are_called(rt: HostRuntime) -> Result<(), Fail> {
     let end = replays::led_by_both(alloc, epoch, &shift, &shift)?;
     assert_eq!(rt; end, Timestamp::from_seconds(2)?);
     let both = replays::converted_by_both(Held::Stamp(epoch), &[Step::ToUtc], &[Step::ToStamp]);
-    assert_eq!(rt; both, Some(Held::Stamp(epoch)));
+    let is_epoch = match both {
+        Some(Held::Stamp(stamp)) => stamp == epoch,
+        _ => false,
+    };
+    assert!(rt; is_epoch);
     Ok(())
 }
