@@ -4,7 +4,7 @@ ghost use Rattle.calendar_values.specs.Calendar.{year_of, month_of, day_of_month
 ghost use Rattle.calendar_values.specs.Clock.{hour_of, minute_of};
 ghost use Rattle.calendar_values.specs.Weeks.{weekday_of};
 
-use calendar_values::{Date, Month, SignedDuration, Time};
+use calendar_values::{Date, Month, Time};
 
 /// The days from the first date to the second, below 0 where the second is earlier.
 pub fn days_between(first: Date, second: Date) -> i32
@@ -43,12 +43,4 @@ pub fn at_half_past(time: Time) -> Time
     ensures minute { minute_of result ≡ 30 }
 {
     time.replace_minute(30).unwrap()
-}
-
-/// The same day of the week a week later, or None past the last date.
-pub fn a_week_later(date: Date) -> Option<Date>
-    ensures { IfSome result (λ later. weekday_of later ≡ weekday_of date) }
-{
-    calendar_values::laws::weekdays_repeat();
-    date.checked_add(SignedDuration::days(7))
 }

@@ -248,7 +248,7 @@ fn callers_of_what_replacements_show_are_called(rt: HostRuntime) -> Result<(), F
     assert_eq!(rt; days::first_of_year(1970), Some(Date::UNIX_EPOCH));
     assert_eq!(rt; days::first_of_year(1_000_000), None);
     assert_eq!(rt;
-        days::a_week_later(leap_day),
+        days::weeks_later(leap_day, 1),
         Some(Date::from_calendar_date(2024, Month::March, 7)?)
     );
     assert_eq!(rt;
