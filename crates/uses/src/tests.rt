@@ -248,10 +248,6 @@ fn callers_of_what_replacements_show_are_called(rt: HostRuntime) -> Result<(), F
     assert_eq!(rt; days::first_of_year(1970), Some(Date::UNIX_EPOCH));
     assert_eq!(rt; days::first_of_year(1_000_000), None);
     assert_eq!(rt;
-        days::weeks_later(leap_day, 1),
-        Some(Date::from_calendar_date(2024, Month::March, 7)?)
-    );
-    assert_eq!(rt;
         days::at_half_past(Time::MIDNIGHT),
         Time::from_hms(0, 30, 0)?
     );
