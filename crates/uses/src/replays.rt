@@ -65,7 +65,8 @@ pub fn led_by_both(
 
 /// What steps and then others lead to, where all of them can be made.
 pub fn converted_by_both(start: Held, first: &[Step], rest: &[Step]) -> Option<Held>
-    ensures { IfSome result (λ held. held ≡ held_after start (held_instant start) (first.now ++ rest.now)) }
+    ensures { IfSome result (λ held.
+        held ≡ held_after start (held_instant start) (first.now ++ rest.now)) }
 {
     stamp_times::laws::chains_compose();
     let between = chain(start, first).ok()?;
