@@ -1,10 +1,11 @@
 //! Days that are counted.
-ghost use Rattle.std.specs.Prelude.{◌≡◌, ◌↔◌, ◌≤◌, ◌-ℤ◌, IfSome, IsTrue};
+ghost use Rattle.std.specs.Prelude.{◌≡◌, ◌↔◌, ◌≤◌, ◌+ℤ◌, ◌-ℤ◌, ◌*ℤ◌, pos, IfSome, IsTrue};
 ghost use Rattle.calendar_values.specs.Calendar.{year_of, month_of, day_of_month_of};
 ghost use Rattle.calendar_values.specs.Clock.{hour_of, minute_of};
+ghost use Rattle.calendar_values.specs.Weekday.{weekday_number};
 ghost use Rattle.calendar_values.specs.Weeks.{weekday_of};
 
-use calendar_values::{Date, Month, Time};
+use calendar_values::{Date, Month, Time, Weekday};
 
 /// The days from the first date to the second, below 0 where the second is earlier.
 pub fn days_between(first: Date, second: Date) -> i32
@@ -43,4 +44,12 @@ pub fn at_half_past(time: Time) -> Time
     ensures minute { minute_of result ≡ 30 }
 {
     time.replace_minute(30).unwrap()
+}
+
+/// The day of the week so many weeks later, or earlier for a negative number, in the range or not.
+pub fn weekday_weeks_later(date: Date, weeks: i32) -> Weekday
+    ensures { weekday_number result ≡ weekday_of (date +ℤ weeks *ℤ pos 7) }
+{
+    calendar_values::laws::weekdays_repeat();
+    date.weekday()
 }

@@ -4,7 +4,7 @@ use crate::{
     audit, batches, billing, constants, daily, days, exchange, expiry, invoices, log, meeting,
     midnight, milliseconds, moments, offsets, periods, replays, reports, retry, timeouts,
 };
-use calendar_values::{ComponentRange, Date, Month, SignedDuration, Time, UtcOffset};
+use calendar_values::{ComponentRange, Date, Month, SignedDuration, Time, UtcOffset, Weekday};
 use offset_times::OffsetDateTime;
 use stamp_times::{Call, ClockRead, Held, Shift, Step, Timestamp};
 use std::cmp::Ordering;
@@ -247,6 +247,7 @@ fn callers_of_what_replacements_show_are_called(rt: HostRuntime) -> Result<(), F
     );
     assert_eq!(rt; days::first_of_year(1970), Some(Date::UNIX_EPOCH));
     assert_eq!(rt; days::first_of_year(1_000_000), None);
+    assert_eq!(rt; days::weekday_weeks_later(leap_day, -3), Weekday::Thursday);
     assert_eq!(rt;
         days::at_half_past(Time::MIDNIGHT),
         Time::from_hms(0, 30, 0)?
