@@ -3,7 +3,8 @@ use Rattle.std.proofs.Common.{◌≡◌, ℤ, pos, FitsSigned, w64, to_z, of_z, 
 use Rattle.std.proofs.lemmas.Int.{by_lt_z, ints}
 use Rattle.std.specs.Ordering.{int_cmp, ordering_then}
 use Rattle.calendar_values.specs.DurationPartLemmas.{duration_signs}
-use Rattle.calendar_values.specs.Durations.{duration_of_parts, IsDuration, whole_seconds_of, whole_days_of, IsDurationParts}
+use Rattle.calendar_values.specs.Durations.{duration_of_parts, IsDuration, IsDurationParts}
+use Rattle.calendar_values.specs.Durations.{whole_seconds_of, whole_minutes_of, whole_hours_of, whole_days_of, whole_weeks_of}
 use Rattle.calendar_values.specs.SignedArith.{signed_arith, one_part}
 
 -- a duration of fewer seconds is less
@@ -19,7 +20,19 @@ int_cmp-duration_of_parts s t m n p q =
     let above = duration_below t s n m q p in
     grind (arith, ints)
 
--- the whole days are those of the whole seconds
+-- the whole minutes, hours, days and weeks are those of the whole seconds
+pub whole_minutes_of-whole_seconds_of : (d : ℤ) → whole_minutes_of d ≡ int_div (whole_seconds_of d) (pos 60)
+unfolding whole_minutes_of whole_seconds_of
+whole_minutes_of-whole_seconds_of d = omega (arith, signed_arith, one_part d)
+
+pub whole_hours_of-whole_seconds_of : (d : ℤ) → whole_hours_of d ≡ int_div (whole_seconds_of d) (pos 3_600)
+unfolding whole_hours_of whole_seconds_of
+whole_hours_of-whole_seconds_of d = omega (arith, signed_arith, one_part d)
+
+pub whole_weeks_of-whole_seconds_of : (d : ℤ) → whole_weeks_of d ≡ int_div (whole_seconds_of d) (pos 604_800)
+unfolding whole_weeks_of whole_seconds_of
+whole_weeks_of-whole_seconds_of d = omega (arith, signed_arith, one_part d)
+
 pub whole_days_of-whole_seconds_of : (d : ℤ) → whole_days_of d ≡ int_div (whole_seconds_of d) (pos 86_400)
 unfolding whole_days_of whole_seconds_of
 whole_days_of-whole_seconds_of d = omega (arith, signed_arith, one_part d)

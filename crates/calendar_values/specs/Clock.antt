@@ -20,6 +20,9 @@ nanos_per_hour = 3_600_000_000_000
 abbrev pub nanos_per_day : ℕ
 nanos_per_day = 86_400_000_000_000
 
+abbrev pub nanos_per_week : ℕ
+nanos_per_week = 604_800_000_000_000
+
 -- a nanosecond of the day
 abbrev pub IsClock : ℕ → Type 0
 IsClock c = c < nanos_per_day

@@ -1,6 +1,6 @@
 -- A duration is a whole number of nanoseconds. Its seconds and days are whole ones, rounded towards zero.
 use Rattle.std.specs.Prelude.{◌≤◌, ◌⊎◌, ℤ, pos, neg_ℤ, ◌+ℤ◌, ◌*ℤ◌, ◌≤ℤ◌, int_div, int_rem, unsigned_abs}
-use Rattle.calendar_values.specs.Clock.{nanos_per_second, nanos_per_day}
+use Rattle.calendar_values.specs.Clock.{nanos_per_second, nanos_per_minute, nanos_per_hour, nanos_per_day, nanos_per_week}
 
 -- the duration of so many seconds and nanoseconds
 abbrev pub duration_of_parts : ℤ → ℤ → ℤ
@@ -25,9 +25,18 @@ whole_seconds_of d = int_div d (pos nanos_per_second)
 unfoldable pub subsec_nanoseconds_of : ℤ → ℤ
 subsec_nanoseconds_of d = int_rem d (pos nanos_per_second)
 
--- its whole days
+-- its whole minutes, hours, days and weeks
+unfoldable pub whole_minutes_of : ℤ → ℤ
+whole_minutes_of d = int_div d (pos nanos_per_minute)
+
+unfoldable pub whole_hours_of : ℤ → ℤ
+whole_hours_of d = int_div d (pos nanos_per_hour)
+
 unfoldable pub whole_days_of : ℤ → ℤ
 whole_days_of d = int_div d (pos nanos_per_day)
+
+unfoldable pub whole_weeks_of : ℤ → ℤ
+whole_weeks_of d = int_div d (pos nanos_per_week)
 
 -- seconds, and nanoseconds that make less than a second, of one sign
 pub record IsDurationParts (s n : ℤ) : Type 0 where

@@ -1,6 +1,6 @@
 -- The hours, the minutes and the seconds of an offset are the only ones of one sign that make it.
 use Rattle.std.specs.Prelude.{◌≡◌, ◌⊎◌, ℤ, pos, negsuc}
-use Rattle.std.proofs.Common.{arith, inl, inr}
+use Rattle.std.proofs.Common.{arith, inl, inr, ◌-ℤ◌, FitsSigned, w32, to_z, of_z, to_z-of_z}
 use Rattle.std.proofs.lemmas.Int.{ints}
 use borrow.Author.Differences.{up, down}
 use Rattle.calendar_values.specs.Offsets.{IsOffset, seconds_of_parts, offset_hours_of, offset_minutes_of, offset_seconds_of, IsOffsetParts}
@@ -47,3 +47,13 @@ pub offset_seconds_of-parts : (h m s : ℤ) → IsOffsetParts h m s → offset_s
 unfolding offset_seconds_of
 offset_seconds_of-parts h m s p =
     omega (arith, signed_arith, offset_signs h m s p, one_part (seconds_of_parts h m s))
+
+-- the seconds between two offsets fit an i32, and are what it holds
+pub FitsSigned-offsets_apart : (a b : ℤ) → IsOffset a → IsOffset b → FitsSigned w32 (a -ℤ b)
+FitsSigned-offsets_apart a b h k = omega (arith, signed_arith)
+
+pub to_z-offsets_apart : (a b : ℤ) → IsOffset a → IsOffset b → to_z w32 (of_z w32 (a -ℤ b)) ≡ a -ℤ b
+to_z-offsets_apart a b h k = to_z-of_z (FitsSigned-offsets_apart a b h k)
+
+-- what callers name who take the seconds of one offset from those of another
+pub ruleset offsets_apart = (FitsSigned-offsets_apart, to_z-offsets_apart)

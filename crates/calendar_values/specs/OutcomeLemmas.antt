@@ -11,7 +11,7 @@ use Rattle.calendar_values.specs.Constructors.{clock_with, clock_outcome}
 use Rattle.calendar_values.specs.Offsets.{least_offset, greatest_offset, AreOffsetParts, IsOffset, offset_refusal, seconds_of_signed_parts}
 use Rattle.calendar_values.specs.Offsets.{offset_of_parts, offset_outcome, offset_of_seconds, offset_seconds_outcome}
 use Rattle.calendar_values.specs.Outcomes.{Outcome, Gives, IsOneAnswer, answer_within, within, at_most}
-use Rattle.calendar_values.specs.Range.{first_year, last_year, first_day, last_day, is_outside, IsYear, IsDay}
+use Rattle.calendar_values.specs.Range.{first_year, last_year, first_day, last_day, is_outside, IsDay}
 use Rattle.calendar_values.specs.Refusals.{Refusal, IsDateOfRange, IsOrdinalDateOfRange, date_refusal, ordinal_refusal, clock_refusal, outright_refusal}
 use Rattle.calendar_values.specs.Replacements.{month_outcome, day_outcome, ordinal_outcome}
 use Rattle.calendar_values.specs.CalendarDateLemmas.{IsCalendarDate-of, days_in_month_bounds}

@@ -1,5 +1,5 @@
 -- The day of the week and the ISO week in closed form.
-use Rattle.std.proofs.Common.{◌≡◌, ℕ, zero, suc, ◌+◌, ◌-◌, ◌*◌, ◌/◌, ◌%◌, ◌<◌, refl, arith, ℤ, ◌+ℤ◌, pos}
+use Rattle.std.proofs.Common.{◌≡◌, ℕ, zero, suc, ◌+◌, ◌-◌, ◌*◌, ◌/◌, ◌%◌, ◌<◌, refl, arith, ℤ, ◌+ℤ◌, ◌-ℤ◌, pos}
 use Rattle.std.proofs.lemmas.Bool.Decides.{nat_tests}
 use borrow.Author.Differences.{up, down}
 use Rattle.calendar_values.specs.Calendar.{year_start, year_of, ordinal_of}
@@ -56,3 +56,27 @@ iso_week_of-closed n =
 -- the Thursday of the week of a day of the range lies in the range, which begins on a Monday and ends on a Friday
 pub IsDay-thursday_of : (n : ℤ) → IsDay n → IsDay (thursday_of n)
 IsDay-thursday_of n h = (omega (arith, signed_arith, weekday_of-parts n, h.0), omega (arith, signed_arith, weekday_of-parts n, h.1))
+
+-- so many days later
+pub weekday_of-days_later : (n : ℤ) (k : ℕ) → weekday_of (n +ℤ pos k) ≡ (weekday_of n + k) % 7
+weekday_of-days_later n k = weekday_of-add n (n +ℤ pos k) k refl
+
+-- a week later, or earlier, is the same day of the week
+pub weekday_of-week_later : (a b : ℤ) → b ≡ a +ℤ pos 7 → weekday_of b ≡ weekday_of a
+weekday_of-week_later a b e = omega (arith, weekday_of-add a b 7 e, weekday_of-bound a)
+
+pub weekday_of-week_earlier : (a b : ℤ) → b ≡ a -ℤ pos 7 → weekday_of b ≡ weekday_of a
+weekday_of-week_earlier a b e = let back : a ≡ b +ℤ pos 7 = omega (arith, signed_arith) in omega (arith, weekday_of-week_later b a back)
+
+-- the Monday of the week of a day
+pub weekday_of-monday : (n : ℤ) → weekday_of (n -ℤ pos (weekday_of n)) ≡ 0
+weekday_of-monday n = omega (arith, signed_arith, weekday_of-parts n, weekday_of-parts (n -ℤ pos (weekday_of n)))
+
+-- a caller who lists `weekdays` goes from a day to others of its week, and to those of the next
+pub ruleset weekdays = (
+  weekday_of-bound,
+  weekday_of-days_later,
+  weekday_of-week_later,
+  weekday_of-week_earlier,
+  weekday_of-monday,
+)

@@ -11,9 +11,9 @@ use std::error::Error;
 use std::fmt;
 use std::marker::Model;
 
-// The parts that can be refused.
+/// The parts that can be refused, by the names of [`ComponentRange::name`].
 #[derive(Clone, Copy, Debug, PartialEq, Eq)]
-enum Part {
+pub enum Part {
     Year,
     Month,
     Day,
@@ -36,6 +36,7 @@ enum Part {
 }
 
 impl Part {
+    ghost use Rattle.calendar_values.specs.CountParts.{is_count_name};
     ghost use Rattle.calendar_values.specs.Parts.{part_name, is_part_name};
 
     fn named(name: &str) -> Part
@@ -54,6 +55,15 @@ impl Part {
             "millisecond" => Part::Millisecond,
             "microsecond" => Part::Microsecond,
             "nanosecond" => Part::Nanosecond,
+            _ => Part::count_named(name),
+        }
+    }
+
+    fn count_named(name: &str) -> Part
+        requires { IsTrue (is_count_name name.now) }
+        ensures { part_name result ≡ name.now }
+    {
+        match name {
             "hours" => Part::Hours,
             "minutes" => Part::Minutes,
             "seconds" => Part::Seconds,
@@ -67,9 +77,7 @@ impl Part {
     }
 
     fn name(self) -> &'static str
-        ensures value { result.now ≡ part_name self }
-        ensures ascii { IsAscii result.now }
-        ensures length { length result.now ≤ 14 }
+        ensures { result.now ≡ part_name self }
     {
         match self {
             Part::Year => "year",
@@ -120,7 +128,7 @@ impl Model for ComponentRange {
 }
 
 impl ComponentRange {
-    ghost use Rattle.calendar_values.specs.Parts.{is_part_name};
+    ghost use Rattle.calendar_values.specs.Parts.{is_part_name, part_name};
 
     /// The refusal of the part of this name. `conditional` says that the value is possible for some
     /// year and month, and not with the other parts.
@@ -132,6 +140,14 @@ impl ComponentRange {
             part: Part::named(name),
             conditional,
         }
+    }
+
+    /// The part.
+    #[inline(always)]
+    pub fn part(self) -> Part
+        ensures { part_name result ≡ self.name }
+    {
+        self.part
     }
 
     /// The name of the part: ASCII, and at most 14 bytes long.

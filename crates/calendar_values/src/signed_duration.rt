@@ -1,9 +1,9 @@
 //! Durations, which may be negative.
 ghost use Rattle.std.specs.Prelude.{◌≡◌, ℤ, pos, ◌≤◌, ◌*ℤ◌, unsigned_abs};
-ghost use Rattle.calendar_values.specs.Clock.{nanos_per_second, nanos_per_hour, nanos_per_day};
-ghost use Rattle.calendar_values.specs.Durations.{IsDuration, IsDurationParts, duration_of_parts, whole_seconds_of, subsec_nanoseconds_of};
+ghost use Rattle.calendar_values.specs.Clock.{nanos_per_microsecond, nanos_per_millisecond, nanos_per_second, nanos_per_minute, nanos_per_hour, nanos_per_day, nanos_per_week};
+ghost use Rattle.calendar_values.specs.Durations.{IsDuration, IsDurationParts, duration_of_parts, whole_seconds_of, subsec_nanoseconds_of, whole_days_of};
 
-use crate::units::{NANOS_PER_SECOND, SECONDS_PER_DAY, SECONDS_PER_HOUR};
+use crate::units::{NANOS_PER_SECOND, SECONDS_PER_DAY, SECONDS_PER_HOUR, SECONDS_PER_MINUTE};
 use std::marker::Model;
 
 mod comparisons;
@@ -104,11 +104,22 @@ impl SignedDuration {
         }
     }
 
+    /// The duration of so many weeks of seven days. Their absolute value must be at most 15,250,284,452,471,
+    /// the most that fits.
+    pub fn weeks(weeks: i64) -> SignedDuration
+        requires { unsigned_abs weeks ≤ 15_250_284_452_471 }
+        ensures value { result ≡ weeks *ℤ pos nanos_per_week }
+        ensures whole { whole_days_of result ≡ weeks *ℤ pos 7 }
+    {
+        SignedDuration::days(weeks * 7)
+    }
+
     /// The duration of so many days of 86,400 seconds. Their absolute value must be at most
     /// 106,751,991,167,300, the most that fits.
     pub fn days(days: i64) -> SignedDuration
         requires { unsigned_abs days ≤ 106_751_991_167_300 }
-        ensures { result ≡ days *ℤ pos nanos_per_day }
+        ensures value { result ≡ days *ℤ pos nanos_per_day }
+        ensures whole { whole_days_of result ≡ days }
     {
         SignedDuration::seconds(days * SECONDS_PER_DAY)
     }
@@ -122,6 +133,15 @@ impl SignedDuration {
         SignedDuration::seconds(hours * SECONDS_PER_HOUR as i64)
     }
 
+    /// The duration of so many minutes. Their absolute value must be at most 153,722,867,280,912,930, the most
+    /// that fits.
+    pub fn minutes(minutes: i64) -> SignedDuration
+        requires { unsigned_abs minutes ≤ 153_722_867_280_912_930 }
+        ensures { result ≡ minutes *ℤ pos nanos_per_minute }
+    {
+        SignedDuration::seconds(minutes * SECONDS_PER_MINUTE)
+    }
+
     /// The duration of so many seconds.
     pub fn seconds(seconds: i64) -> SignedDuration
         ensures { result ≡ seconds *ℤ pos nanos_per_second }
@@ -130,6 +150,26 @@ impl SignedDuration {
             seconds,
             nanoseconds: 0,
         }
+    }
+
+    /// The duration of so many milliseconds.
+    pub fn milliseconds(milliseconds: i64) -> SignedDuration
+        ensures { result ≡ milliseconds *ℤ pos nanos_per_millisecond }
+    {
+        SignedDuration::new(
+            milliseconds / 1_000,
+            (milliseconds % 1_000) as i32 * 1_000_000,
+        )
+    }
+
+    /// The duration of so many microseconds.
+    pub fn microseconds(microseconds: i64) -> SignedDuration
+        ensures { result ≡ microseconds *ℤ pos nanos_per_microsecond }
+    {
+        SignedDuration::new(
+            microseconds / 1_000_000,
+            (microseconds % 1_000_000) as i32 * 1_000,
+        )
     }
 
     /// The duration of so many nanoseconds.

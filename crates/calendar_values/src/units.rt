@@ -1,10 +1,16 @@
 //! How many of one unit of time another has, and the day from which days are counted. There are no leap seconds.
 
+/// The seconds of a minute.
+pub const SECONDS_PER_MINUTE: i64 = 60;
+
 /// The seconds of an hour.
 pub const SECONDS_PER_HOUR: i32 = 3_600;
 
 /// The seconds of a day.
 pub const SECONDS_PER_DAY: i64 = 86_400;
+
+/// The seconds of a week.
+pub const SECONDS_PER_WEEK: i64 = 604_800;
 
 /// The nanoseconds of a second.
 pub const NANOS_PER_SECOND: i32 = 1_000_000_000;

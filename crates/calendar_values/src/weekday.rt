@@ -1,5 +1,5 @@
 //! The days of the week.
-ghost use Rattle.std.specs.Prelude.{◌≡◌, ◌<◌, ◌≤◌, Some, length, IsAscii};
+ghost use Rattle.std.specs.Prelude.{◌≡◌, ◌<◌, ◌≤◌, ◌↔◌, Some, IsSome, IfSome, length, IsAscii};
 ghost use Rattle.std.specs.Fmt.{padded};
 
 use crate::Text;
@@ -28,7 +28,19 @@ impl Weekday {
         self as u8
     }
 
-    pub(crate) fn numbered(number: u8) -> Weekday
+    /// The day of the week so many days after a Monday, 0 for Monday to 6 for Sunday. None above 6.
+    pub fn from_number_days_from_monday(number: u8) -> Option<Weekday>
+        ensures accepted { IsSome result ↔ (number < 7) }
+        ensures value { IfSome result (λ weekday. weekday_number weekday ≡ number) }
+    {
+        if number > 6 {
+            return None;
+        }
+        Some(Weekday::numbered(number))
+    }
+
+    /// As [`Weekday::from_number_days_from_monday`], of a number below 7, which the caller has to show.
+    pub fn numbered(number: u8) -> Weekday
         requires { number < 7 }
         ensures { weekday_number result ≡ number }
     {

@@ -1,5 +1,5 @@
 //! The dates before and after a date, and sums of a date and a duration.
-ghost use Rattle.std.specs.Prelude.{◌+◌, ◌<◌, ℤ, pos, ◌+ℤ◌, ◌-ℤ◌, ◌/◌, ◌^◌, unsigned_abs, Some, SomeIff};
+ghost use Rattle.std.specs.Prelude.{◌+◌, ◌<◌, ℤ, pos, ◌+ℤ◌, ◌-ℤ◌, ◌/◌, Some, SomeIff};
 ghost use Rattle.std.specs.Duration.{as_nanos};
 ghost use Rattle.calendar_values.specs.Clock.{nanos_per_day};
 ghost use Rattle.calendar_values.specs.Durations.{whole_days_of};
@@ -8,6 +8,9 @@ use crate::range::{FIRST_DAY, FIRST_YEAR, LAST_DAY, LAST_YEAR};
 use crate::units::SECONDS_PER_DAY;
 use crate::{Date, SignedDuration, days_in_year};
 use std::time::Duration;
+
+// The days from the first date to the last.
+const DAYS_OF_RANGE: i64 = LAST_DAY as i64 - FIRST_DAY as i64;
 
 impl Date {
     ghost use Rattle.calendar_values.specs.Calendar.{days_in_year};
@@ -58,7 +61,7 @@ impl Date {
         ensures { SomeIff result (IsDay (self +ℤ whole_days_of duration))
             (self +ℤ whole_days_of duration) }
     {
-        self.moved_by(duration.whole_days())
+        self.checked_add_days(duration.whole_days())
     }
 
     /// The date so many whole days earlier, or later for a negative duration, whose days are rounded
@@ -68,7 +71,7 @@ impl Date {
         ensures { SomeIff result (IsDay (self -ℤ whole_days_of duration))
             (self -ℤ whole_days_of duration) }
     {
-        self.moved_by(-duration.whole_days())
+        self.checked_add_days(-duration.whole_days())
     }
 
     /// The date so many whole days later. None outside the range.
@@ -76,7 +79,7 @@ impl Date {
         ensures { SomeIff result (IsDay (self +ℤ pos (as_nanos duration / nanos_per_day)))
             (self +ℤ pos (as_nanos duration / nanos_per_day)) }
     {
-        self.moved_by((duration.as_secs() / SECONDS_PER_DAY as u64) as i64)
+        self.checked_add_days((duration.as_secs() / SECONDS_PER_DAY as u64) as i64)
     }
 
     /// The date so many whole days earlier. None outside the range.
@@ -85,32 +88,25 @@ impl Date {
         ensures { SomeIff result (IsDay (self -ℤ pos (as_nanos duration / nanos_per_day)))
             (self -ℤ pos (as_nanos duration / nanos_per_day)) }
     {
-        self.moved_by(-((duration.as_secs() / SECONDS_PER_DAY as u64) as i64))
+        self.checked_add_days(-((duration.as_secs() / SECONDS_PER_DAY as u64) as i64))
     }
 
-    // The date so many days later, if the range has it. Most are of the same year.
-    fn moved_by(self, days: i64) -> Option<Date>
-        requires { unsigned_abs days < 2 ^ 62 }
+    /// The date so many days later, or earlier for a negative number. None outside the range.
+    pub fn checked_add_days(self, days: i64) -> Option<Date>
         ensures { SomeIff result (IsDay (self +ℤ days)) (self +ℤ days) }
     {
-        let ordinal = self.ordinal as i64 + days;
+        let ordinal = self.ordinal as i64;
+        if days < -DAYS_OF_RANGE || days > DAYS_OF_RANGE {
+            return None;
+        }
+        // Most dates are of the same year.
+        let ordinal = ordinal + days;
         if ordinal >= 1 && ordinal <= 365 {
             return Some(Date {
                 year: self.year,
                 ordinal: ordinal as u16,
             });
         }
-        Date::checked_from_day(self.days_since_epoch() as i64 + days)
-    }
-
-    // The date of a day number, which is compared before it is narrowed.
-    #[tactic(auto, using(crate::specs::SignedArith::signed_arith))]
-    fn checked_from_day(day: i64) -> Option<Date>
-        ensures { SomeIff result (IsDay day) day }
-    {
-        if day < FIRST_DAY as i64 || day > LAST_DAY as i64 {
-            return None;
-        }
-        Some(Date::from_day(day as i32))
+        Date::from_days_since_epoch(self.days_since_epoch() + days as i32)
     }
 }

@@ -1,16 +1,38 @@
 //! What a duration is made of.
 ghost use Rattle.std.specs.Prelude.{◌≡◌, ℤ, pos, ◌≤◌, ◌↔◌, IsTrue, ◌<ℤ◌, unsigned_abs};
-ghost use Rattle.calendar_values.specs.Durations.{IsDuration, IsDurationParts, duration_of_parts, whole_seconds_of, subsec_nanoseconds_of, whole_days_of};
+ghost use Rattle.calendar_values.specs.Durations.{IsDuration, IsDurationParts, duration_of_parts, whole_seconds_of, subsec_nanoseconds_of, whole_minutes_of, whole_hours_of, whole_days_of, whole_weeks_of};
 
 use crate::SignedDuration;
-use crate::units::SECONDS_PER_DAY;
+use crate::units::{SECONDS_PER_DAY, SECONDS_PER_HOUR, SECONDS_PER_MINUTE, SECONDS_PER_WEEK};
 
 impl SignedDuration {
+    /// Whether the duration is 0.
+    pub fn is_zero(self) -> bool
+        ensures { IsTrue result ↔ (self ≡ pos 0) }
+    {
+        self.seconds == 0 && self.nanoseconds == 0
+    }
+
     /// Whether the duration is below 0.
     pub fn is_negative(self) -> bool
         ensures { IsTrue result ↔ (self <ℤ pos 0) }
     {
         self.seconds < 0 || self.nanoseconds < 0
+    }
+
+    /// Whether the duration is above 0.
+    pub fn is_positive(self) -> bool
+        ensures { IsTrue result ↔ (pos 0 <ℤ self) }
+    {
+        self.seconds > 0 || self.nanoseconds > 0
+    }
+
+    /// The whole weeks of seven days, rounded towards zero: -15,250,284,452,471 to 15,250,284,452,471.
+    pub fn whole_weeks(self) -> i64
+        ensures value { result ≡ whole_weeks_of self }
+        ensures in_range { unsigned_abs result ≤ 15_250_284_452_471 }
+    {
+        self.seconds / SECONDS_PER_WEEK
     }
 
     /// The whole days, rounded towards zero: -106,751,991,167,300 to 106,751,991,167,300.
@@ -19,6 +41,22 @@ impl SignedDuration {
         ensures in_range { unsigned_abs result ≤ 106_751_991_167_300 }
     {
         self.seconds / SECONDS_PER_DAY
+    }
+
+    /// The whole hours, rounded towards zero: -2,562,047,788,015,215 to 2,562,047,788,015,215.
+    pub fn whole_hours(self) -> i64
+        ensures value { result ≡ whole_hours_of self }
+        ensures in_range { unsigned_abs result ≤ 2_562_047_788_015_215 }
+    {
+        self.seconds / SECONDS_PER_HOUR as i64
+    }
+
+    /// The whole minutes, rounded towards zero: -153,722,867,280,912,930 to 153,722,867,280,912,930.
+    pub fn whole_minutes(self) -> i64
+        ensures value { result ≡ whole_minutes_of self }
+        ensures in_range { unsigned_abs result ≤ 153_722_867_280_912_930 }
+    {
+        self.seconds / SECONDS_PER_MINUTE
     }
 
     /// The whole seconds, rounded towards zero: -2^63 to 2^63 - 1.

@@ -56,13 +56,10 @@ impl Time {
         requires { IsClock nanoseconds }
         ensures { result ≡ nanoseconds }
     {
-        let seconds = (nanoseconds / NANOS_PER_SECOND as u64) as u32;
-        Time {
-            hour: (seconds / 3_600) as u8,
-            minute: (seconds / 60 % 60) as u8,
-            second: (seconds % 60) as u8,
-            nanosecond: (nanoseconds % NANOS_PER_SECOND as u64) as u32,
-        }
+        Time::at_second_of_day(
+            (nanoseconds / NANOS_PER_SECOND as u64) as u32,
+            (nanoseconds % NANOS_PER_SECOND as u64) as u32,
+        )
     }
 
     // The time so many nanoseconds later, or earlier where they are negative, and the day it is on.

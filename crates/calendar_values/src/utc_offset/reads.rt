@@ -43,6 +43,7 @@ impl UtcOffset {
     /// The offset in seconds, -93,599 to 93,599.
     pub fn whole_seconds(self) -> i32
         ensures value { result ≡ self }
+        ensures in_range { IsOffset result }
         ensures self_in_range { IsOffset self }
     {
         let minutes = in_sixtieths(i32::from(self.hours), i32::from(self.minutes));

@@ -1,7 +1,7 @@
 //! Leap years, lengths of years and months.
 use super::is;
 use calendar_values::{
-    Month, days_in_month, days_in_year, is_leap_year, leap_ordinal_to_month_day,
+    Month, day_and_second, days_in_month, days_in_year, is_leap_year, leap_ordinal_to_month_day,
 };
 
 #[test]
@@ -29,5 +29,18 @@ fn months_have_their_days(rt: HostRuntime) {
         (leap_ordinal_to_month_day(true, 366), (Month::December, 31)),
     ] {
         is(&rt, shown, wanted);
+    }
+}
+
+#[test]
+fn seconds_lie_in_their_days(rt: HostRuntime) {
+    for (second, day) in [
+        (0, (0, 0)),
+        (-1, (-1, 86_399)),
+        (951_782_400, (11_016, 0)),
+        (-31_619_087_596_800, (-365_961_662, 0)),
+        (31_494_784_780_799, (364_522_971, 86_399)),
+    ] {
+        is(&rt, day_and_second(second), day);
     }
 }

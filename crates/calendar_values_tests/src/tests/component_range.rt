@@ -1,6 +1,6 @@
 //! Refusals and their texts.
 use super::is;
-use calendar_values::ComponentRange;
+use calendar_values::{ComponentRange, Part};
 use std::test::Fail;
 
 #[test]
@@ -11,6 +11,8 @@ fn refusals_are_shown_by_their_names(rt: HostRuntime) -> Result<(), Fail> {
     );
     is(&rt, ordinal.name(), "ordinal");
     is(&rt, ordinal.is_conditional(), true);
+    is(&rt, ordinal.part(), Part::Ordinal);
+    is(&rt, day.part(), Part::Day);
     assert_ne!(rt; ordinal, ComponentRange::new("ordinal", false));
     is(
         &rt,

@@ -232,6 +232,14 @@ fn unsigned_durations_move_over_the_leap_day(rt: HostRuntime) -> Result<(), Fail
         (date(2000, 2, 28)?.checked_add_std(day), Some(leap_day)),
         (date(2000, 3, 1)?.checked_sub_std(day), Some(leap_day)),
         (Date::MAX.checked_sub_std(Duration::MAX), None),
+        (date(1999, 3, 1)?.checked_add_days(365), Some(leap_day)),
+        (date(2000, 12, 31)?.checked_add_days(-306), Some(leap_day)),
+        (leap_day.checked_add_days(i64::MAX), None),
+        (leap_day.checked_add_days(i64::MIN), None),
+        (Date::MIN.checked_add_days(730_484_633), Some(Date::MAX)),
+        (Date::MAX.checked_add_days(-730_484_633), Some(Date::MIN)),
+        (Date::MIN.checked_add_days(730_484_634), None),
+        (Some(Date::at_ordinal_date(2000, 60)), Some(leap_day)),
     ] {
         is(&rt, moved, wanted);
     }

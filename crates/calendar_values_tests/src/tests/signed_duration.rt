@@ -37,6 +37,92 @@ fn parts_have_one_sign(rt: HostRuntime) {
 }
 
 #[test]
+fn larger_units_round_towards_zero(rt: HostRuntime) {
+    for (duration, seconds, nanoseconds, weeks, hours, minutes) in [
+        (
+            SignedDuration::weeks(-15_250_284_452_471),
+            -9_223_372_036_854_460_800,
+            0,
+            -15_250_284_452_471,
+            -2_562_047_788_015_128,
+            -153_722_867_280_907_680,
+        ),
+        (SignedDuration::weeks(2), 1_209_600, 0, 2, 336, 20_160),
+        (
+            SignedDuration::minutes(153_722_867_280_912_930),
+            9_223_372_036_854_775_800,
+            0,
+            15_250_284_452_471,
+            2_562_047_788_015_215,
+            153_722_867_280_912_930,
+        ),
+        (SignedDuration::minutes(-90), -5_400, 0, 0, -1, -90),
+        (
+            SignedDuration::milliseconds(-604_800_001),
+            -604_800,
+            -1_000_000,
+            -1,
+            -168,
+            -10_080,
+        ),
+        (
+            SignedDuration::milliseconds(i64::MAX),
+            9_223_372_036_854_775,
+            807_000_000,
+            15_250_284_452,
+            2_562_047_788_015,
+            153_722_867_280_912,
+        ),
+        (
+            SignedDuration::microseconds(3_599_999_999),
+            3_599,
+            999_999_000,
+            0,
+            0,
+            59,
+        ),
+        (
+            SignedDuration::microseconds(i64::MIN),
+            -9_223_372_036_854,
+            -775_808_000,
+            -15_250_284,
+            -2_562_047_788,
+            -153_722_867_280,
+        ),
+        (SignedDuration::nanoseconds(-1), 0, -1, 0, 0, 0),
+        (SignedDuration::nanoseconds(1), 0, 1, 0, 0, 0),
+        (SignedDuration::ZERO, 0, 0, 0, 0, 0),
+        (
+            SignedDuration::MIN,
+            i64::MIN,
+            -999_999_999,
+            -15_250_284_452_471,
+            -2_562_047_788_015_215,
+            -153_722_867_280_912_930,
+        ),
+        (
+            SignedDuration::MAX,
+            i64::MAX,
+            999_999_999,
+            15_250_284_452_471,
+            2_562_047_788_015_215,
+            153_722_867_280_912_930,
+        ),
+    ] {
+        let parts = (duration.whole_seconds(), duration.subsec_nanoseconds());
+        is(&rt, parts, (seconds, nanoseconds));
+        let counts = (
+            duration.whole_weeks(),
+            duration.whole_hours(),
+            duration.whole_minutes(),
+        );
+        is(&rt, counts, (weeks, hours, minutes));
+        is(&rt, duration.is_zero(), seconds == 0 && nanoseconds == 0);
+        is(&rt, duration.is_positive(), seconds > 0 || nanoseconds > 0);
+    }
+}
+
+#[test]
 fn sums_and_differences_carry(rt: HostRuntime) {
     let (second, nanosecond) = (SignedDuration::seconds(1), SignedDuration::nanoseconds(1));
     let (least, greatest) = (SignedDuration::MIN, SignedDuration::MAX);

@@ -105,7 +105,20 @@ fn seconds_and_nanoseconds_are_counted_from_midnight(rt: HostRuntime) -> Result<
         let time = time(hour, minute, second, nanosecond)?;
         is(&rt, time.second_of_day(), second_of_day);
         is(&rt, time.nanosecond_of_day(), nanosecond_of_day);
+        is(
+            &rt,
+            Time::from_second_of_day(second_of_day, nanosecond),
+            Some(time),
+        );
+        is(
+            &rt,
+            Time::at_hms_nano(hour, minute, second, nanosecond),
+            time,
+        );
     }
+    is(&rt, Time::at_second_of_day(86_399, 999_999_999), Time::MAX);
+    is(&rt, Time::from_second_of_day(86_400, 0), None);
+    is(&rt, Time::from_second_of_day(0, 1_000_000_000), None);
     Ok(())
 }
 

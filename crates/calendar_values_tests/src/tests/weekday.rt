@@ -17,7 +17,14 @@ fn days_of_a_week_have_their_numbers_and_names(rt: HostRuntime) -> Result<(), Fa
         let weekday = Date::from_julian_day(julian_day)?.weekday();
         is(&rt, weekday.number_days_from_monday(), number);
         is(&rt, weekday.text().as_str(), name);
+        is(
+            &rt,
+            Weekday::from_number_days_from_monday(number),
+            Some(weekday),
+        );
     }
+    is(&rt, Weekday::numbered(6), Weekday::Sunday);
+    is(&rt, Weekday::from_number_days_from_monday(7), None);
     Ok(())
 }
 

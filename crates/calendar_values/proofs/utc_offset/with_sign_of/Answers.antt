@@ -1,4 +1,4 @@
-use Rattle.std.proofs.Common.{FitsSigned, w8, to_z-of_z, arith}
+use Rattle.std.proofs.Common.{arith}
 use Rattle.std.proofs.lemmas.Int.{ints}
 use Rattle.calendar_values.specs.SignedArith.{signed_arith}
 use Rattle.calendar_values.proofs.utc_offset.with_sign_of.Goals as goal

@@ -5,7 +5,6 @@ use Rattle.calendar_values.specs.Offsets.{offset_of_parts, offset_outcome, secon
 use Rattle.calendar_values.specs.Outcomes.{Gives}
 use Rattle.calendar_values.specs.Range.{is_outside}
 use Rattle.calendar_values.specs.Refusals.{outright_refusal}
-use Rattle.calendar_values.specs.SignedArith.{signed_arith}
 use Rattle.calendar_values.proofs.OffsetLemmas.{IsOffsetParts-with_sign_of, unsigned_abs-with_sign_of}
 use Rattle.calendar_values.proofs.utc_offset.UtcOffset.from_hms.Goals as goal
 

@@ -12,6 +12,9 @@ returns-clause-value c =
 pub returns-clause-self_in_range : goal.returns-clause-self_in_range
 returns-clause-self_in_range c = omega (arith, signed_arith, view c)
 
+pub returns-clause-in_range : goal.returns-clause-in_range
+returns-clause-in_range c = rw (returns-clause-value c) (returns-clause-self_in_range c)
+
 pub in_sixtieths-minutes-requires-clause-units : goal.in_sixtieths-minutes-requires-clause-units
 in_sixtieths-minutes-requires-clause-units c =
     let fits : FitsSigned w8 c.self.inside.hours = search rules in

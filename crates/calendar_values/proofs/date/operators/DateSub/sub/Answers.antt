@@ -7,4 +7,4 @@ pub returns : goal.returns
 returns c =
     let days : to_z w64 (of_z w64 (to_z w64 (of_z w64 (to_z w32 (of_z w32 c.days_since_epoch.result))) -ℤ
     to_z w64 (of_z w64 (to_z w32 (of_z w32 c.days_since_epoch-2.result))))) ≡ c.args.self -ℤ c.args.other = omega (arith, signed_arith) in
-    c.days.ensures ∙ ap (λ (d : ℤ). d *ℤ pos nanos_per_day) days
+    c.days.ensures.value ∙ ap (λ (d : ℤ). d *ℤ pos nanos_per_day) days
