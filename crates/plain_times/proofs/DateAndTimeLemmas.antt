@@ -5,8 +5,8 @@ use Rattle.calendar_values.specs.Range.{IsDay}
 use Rattle.calendar_values.specs.WallClock.{wall_clock, wall_day, wall_time, first_wall_clock, last_wall_clock}
 use Rattle.calendar_values.specs.WallClockLemmas.{wall_day-wall_clock, wall_time-wall_clock, IsWallClock-wall_clock}
 use Rattle.plain_times.specs.Replacements.{with_time}
-use Rattle.plain_times.specs.TruncationLemmas.{with_time-midnight, with_time-hour, with_time-minute, with_time-second, with_time-millisecond}
-use Rattle.plain_times.specs.TruncationLemmas.{with_time-microsecond, wall_multiple_below-not_above, wall_multiple_below-within}
+use Rattle.plain_times.specs.TruncationLemmas.{multiple_below-day, with_time-midnight, with_time-hour, with_time-minute, with_time-second}
+use Rattle.plain_times.specs.TruncationLemmas.{with_time-millisecond, with_time-microsecond, wall_multiple_below-not_above, wall_multiple_below-within}
 
 pub wall_day-is : (w n : ℤ) (c : ℕ) → IsClock c → wall_clock n c ≡ w → wall_day w ≡ n
 wall_day-is w n c clock e = rw (← e) (wall_day-wall_clock n c clock)
@@ -29,6 +29,7 @@ pub ruleset fields = (wall_day-is, wall_time-is, first_wall_clock-is, last_wall_
 pub ruleset truncations = (
   with_time-first,
   with_time-midnight,
+  multiple_below-day,
   with_time-hour,
   with_time-minute,
   with_time-second,

@@ -9,7 +9,7 @@ use Rattle.calendar_values.specs.CalendarDateLemmas.{day_of_month_of-calendar_da
 use Rattle.calendar_values.specs.MonthNumberLemmas.{month_number_bounds}
 use Rattle.calendar_values.specs.SignedArith.{signed_arith}
 use Rattle.calendar_values.specs.YearLemmas.{year_start-next}
-use Rattle.plain_times.specs.Months.{last_of_month}
+use Rattle.plain_times.specs.Months.{last_of_month, month_index}
 
 -- the first day of a month is of that year and month
 IsCalendarDate-first : (y : ℤ) (m : ℕ) → 1 ≤ m → m ≤ 12 → IsCalendarDate y m 1
@@ -35,6 +35,11 @@ year_of-clamped n y m d first last some e = rw e (year_of-calendar_date y m _ (I
 pub month_of-clamped : (n y : ℤ) (m d : ℕ) → 1 ≤ m → m ≤ 12 → 1 ≤ d
     → n ≡ day_of_calendar_date y m (min d (days_in_month (is_leap_year y) m)) → month_of n ≡ m
 month_of-clamped n y m d first last some e = rw e (month_of-calendar_date y m _ (IsCalendarDate-clamped y m d first last some))
+
+pub day_of_month_of-clamped : (n y : ℤ) (m d : ℕ) → 1 ≤ m → m ≤ 12 → 1 ≤ d
+    → n ≡ day_of_calendar_date y m (min d (days_in_month (is_leap_year y) m)) → day_of_month_of n ≡ min d (days_in_month (is_leap_year y) m)
+day_of_month_of-clamped n y m d first last some e =
+    rw e (day_of_month_of-calendar_date y m _ (IsCalendarDate-clamped y m d first last some))
 
 -- each day has a month of the year, and a day of that month
 pub month_of_bounds : (n : ℤ) → (1 ≤ month_of n) × (month_of n ≤ 12)
@@ -97,6 +102,16 @@ year_of-next_year d last = year_of-first _ (year_of d +ℤ pos 1) 1 (omega arith
 pub month_of-next_year : (d : ℤ) → month_of d ≡ 12 → month_of (last_of_month d +ℤ pos 1) ≡ 1
 month_of-next_year d last = month_of-first _ (year_of d +ℤ pos 1) 1 (omega arith) (omega arith) (december d last)
 
+-- either way the next month is the next by number
+pub month_index-next_month : (d : ℤ) → month_index (last_of_month d +ℤ pos 1) ≡ month_index d +ℤ pos 1
+month_index-next_month d =
+    let date = IsCalendarDate-of d in
+    elim (cases_order (month_of d) 12) [
+      | inl last ↦ omega (arith, signed_arith, year_of-next_year d last, month_of-next_year d last)
+      | inr (inl before) ↦ omega (arith, signed_arith, year_of-next_month d before, month_of-next_month d before)
+      | inr (inr after) ↦ absurd (omega arith)
+    ]
+
 -- what callers name
 pub ruleset month_days = (
   days_in_month_bounds,
@@ -107,6 +122,7 @@ pub ruleset month_days = (
   day_of_month_of-first,
   year_of-clamped,
   month_of-clamped,
+  day_of_month_of-clamped,
 )
 
 -- what callers name who go from a month to the next
@@ -116,4 +132,5 @@ pub ruleset next_months = (
   month_of-next_month,
   year_of-next_year,
   month_of-next_year,
+  month_index-next_month,
 )

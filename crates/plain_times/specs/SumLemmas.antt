@@ -17,6 +17,9 @@ pub wall_clock_if_any-after : (w : ℤ) → last_wall_clock <ℤ w → wall_cloc
 unfolding wall_clock_if_any
 wall_clock_if_any-after w h = grind (arith, ints)
 
+-- what callers name who make calls that they know, by `run` or `chain`
+pub ruleset known_calls = (wall_clock_if_any-in, wall_clock_if_any-before, wall_clock_if_any-after)
+
 -- an answer that is the sum exactly where the range has it is the checked sum, and the other way round
 pub wall_clock_if_any-SomeIff : (r : Option ℤ) (w : ℤ) → SomeIff r (IsWallClock w) w → r ≡ wall_clock_if_any w
 unfolding wall_clock_if_any
@@ -59,6 +62,9 @@ IsSaturatingSum-end w d v false h not sign e =
 IsSaturatingDifference-sum : (w d v : ℤ) → IsSaturatingSum w (neg_ℤ d) v → IsSaturatingDifference w d v
 IsSaturatingDifference-sum w d v sum = record {
   value = sum.value;
+  exact = λ inside. sum.exact inside;
+  at_the_end = λ above. sum.at_the_end above;
+  at_the_beginning = λ below. sum.at_the_beginning below;
   not_before = λ earlier. sum.not_before (omega (arith, ints));
   not_after = λ later. sum.not_after (omega (arith, ints));
   not_above = λ earlier. sum.not_above (omega (arith, ints));

@@ -1,7 +1,7 @@
 -- Sums of a wall clock and a duration: refused outside the range, or brought to the nearest wall clock of the range.
-use Rattle.std.specs.Prelude.{◌≡◌, ℤ, pos, ◌+ℤ◌, ◌-ℤ◌, ◌≤ℤ◌, Option, Some, None, if◌then◌else◌, int_lt}
+use Rattle.std.specs.Prelude.{◌≡◌, ℤ, pos, ◌+ℤ◌, ◌-ℤ◌, ◌≤ℤ◌, ◌<ℤ◌, Option, Some, None, if◌then◌else◌, int_lt}
 use Rattle.calendar_values.specs.Range.{is_outside}
-use Rattle.calendar_values.specs.WallClock.{first_wall_clock, last_wall_clock}
+use Rattle.calendar_values.specs.WallClock.{first_wall_clock, last_wall_clock, IsWallClock}
 
 -- the number, if it is a wall clock of the range
 unfoldable pub wall_clock_if_any : ℤ → Option ℤ
@@ -16,6 +16,9 @@ nearest_wall_clock w =
 -- v is the wall clock nearest to the sum of w and a duration: the sum leads no way but that of the duration, and no further
 pub record IsSaturatingSum (w duration v : ℤ) : Type 0 where
   pub value : v ≡ nearest_wall_clock (w +ℤ duration)
+  pub exact : IsWallClock (w +ℤ duration) → v ≡ w +ℤ duration
+  pub at_the_end : last_wall_clock <ℤ (w +ℤ duration) → v ≡ last_wall_clock
+  pub at_the_beginning : (w +ℤ duration) <ℤ first_wall_clock → v ≡ first_wall_clock
   pub not_before : pos 0 ≤ℤ duration → w ≤ℤ v
   pub not_after : duration ≤ℤ pos 0 → v ≤ℤ w
   pub not_above : pos 0 ≤ℤ duration → v ≤ℤ (w +ℤ duration)
@@ -24,6 +27,9 @@ pub record IsSaturatingSum (w duration v : ℤ) : Type 0 where
 -- v is the wall clock nearest to the difference of w and a duration, which leads the other way, and no further
 pub record IsSaturatingDifference (w duration v : ℤ) : Type 0 where
   pub value : v ≡ nearest_wall_clock (w -ℤ duration)
+  pub exact : IsWallClock (w -ℤ duration) → v ≡ w -ℤ duration
+  pub at_the_end : last_wall_clock <ℤ (w -ℤ duration) → v ≡ last_wall_clock
+  pub at_the_beginning : (w -ℤ duration) <ℤ first_wall_clock → v ≡ first_wall_clock
   pub not_before : duration ≤ℤ pos 0 → w ≤ℤ v
   pub not_after : pos 0 ≤ℤ duration → v ≤ℤ w
   pub not_above : duration ≤ℤ pos 0 → v ≤ℤ (w -ℤ duration)

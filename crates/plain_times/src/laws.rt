@@ -1,6 +1,11 @@
 //! Laws of the definitions that the contracts cite: each function here proves one, for every wall clock
 //! and every duration, and does nothing when it is called.
+ghost use Rattle.std.specs.Prelude.{◌≡◌, ◌↔◌};
+ghost use Rattle.calendar_values.specs.WallClock.{IsWallClock};
 ghost use Rattle.plain_times.specs.Laws.{DifferencesUndoSums, DifferencesLeadBack, ReplacementsKeepTheRest, ReplacedPartsReadAsGiven, TruncationsRoundDown, TruncationsRoundDownOnce, PackedNumbersKeepTheOrder, SumsAssociate, SaturatingSumsKeepTheOrder, OutcomesAreAnswers};
+
+use crate::PlainDateTime;
+use std::hash::Hash;
 
 /// Where a wall clock and its sum with a duration lie in the range, taking the duration from the sum
 /// gives the wall clock back.
@@ -41,6 +46,13 @@ pub fn truncations_round_down_once()
 /// clocks are.
 pub fn packed_numbers_keep_the_order()
     ensures { PackedNumbersKeepTheOrder }
+{}
+
+/// Date-times feed a hasher the same exactly where they are the same.
+pub fn hashed_by_wall_clock()
+    ensures { (x y : _) → IsWallClock x → IsWallClock y →
+        (⟦<PlainDateTime as Hash>⟧.hash_input x ≡ ⟦<PlainDateTime as Hash>⟧.hash_input y)
+        ↔ (x ≡ y) }
 {}
 
 /// After an accepted sum a second one answers as the one sum with both durations.

@@ -37,10 +37,6 @@ pub IsDay-near : (second : ℤ) → IsDay (int_div_euclid second (pos 86_400))
     → (neg_ℤ (pos 34_560_000_000_000) ≤ℤ second) × (second ≤ℤ pos 34_560_000_000_000)
 IsDay-near second day = omega (arith, signed_arith)
 
--- and its day is found by whole days from there
-pub day_of_second : (second : ℤ) (n : ℕ) → pos n ≡ second +ℤ pos 34_560_000_000_000 → pos (n / 86_400) -ℤ pos 400_000_000 ≡ int_div_euclid second (pos 86_400)
-day_of_second second n e = omega (arith, signed_arith)
-
 -- each instant of the range has a second of 64 bits
 pub FitsSigned-second : (w : ℤ) → IsWallClock w → FitsSigned w64 (int_div_euclid w (pos nanos_per_second))
 FitsSigned-second w h = omega (arith, signed_arith)

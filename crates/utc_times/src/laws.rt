@@ -1,8 +1,13 @@
 //! Laws of the definitions that the contracts cite: an instant of the range is counted as a wall clock in UTC,
 //! so they are those of [`plain_times::laws`]. Each function does nothing when it is called.
+ghost use Rattle.std.specs.Prelude.{◌≡◌, ◌↔◌};
+ghost use Rattle.calendar_values.specs.WallClock.{IsWallClock};
 ghost use Rattle.plain_times.specs.Laws.{DifferencesUndoSums, DifferencesLeadBack, ReplacementsKeepTheRest, ReplacedPartsReadAsGiven, TruncationsRoundDown, TruncationsRoundDownOnce, SumsAssociate, SaturatingSumsKeepTheOrder, OutcomesAreAnswers};
 ghost use Rattle.calendar_values.specs.Outcomes.{IsOneAnswer};
 ghost use Rattle.utc_times.specs.UnixTime.{instant_outcome};
+
+use crate::UtcDateTime;
+use std::hash::Hash;
 
 /// As [`plain_times::laws::differences_undo_sums`].
 pub fn differences_undo_sums()
@@ -44,6 +49,14 @@ pub fn truncations_round_down_once()
     ensures { TruncationsRoundDownOnce }
 {
     plain_times::laws::truncations_round_down_once()
+}
+
+/// As [`plain_times::laws::hashed_by_wall_clock`].
+pub fn hashed_by_instant()
+    ensures { (x y : _) → IsWallClock x → IsWallClock y →
+        (⟦<UtcDateTime as Hash>⟧.hash_input x ≡ ⟦<UtcDateTime as Hash>⟧.hash_input y) ↔ (x ≡ y) }
+{
+    plain_times::laws::hashed_by_wall_clock()
 }
 
 /// As [`plain_times::laws::sums_associate`].
