@@ -1,9 +1,9 @@
 -- The instant of a wall clock at an offset, where the offset or the instant was given.
-use Rattle.std.proofs.Common.{◌≡◌, refl, sym, arith, ℤ, pos, ◌+ℤ◌, ◌-ℤ◌, ◌<ℤ◌}
+use Rattle.std.proofs.Common.{◌≡◌, refl, sym, arith, ℕ, ℤ, pos, ◌+ℤ◌, ◌-ℤ◌, ◌<ℤ◌}
 use Rattle.std.proofs.lemmas.Int.{ints}
 use Rattle.calendar_values.specs.Clock.{nanos_per_day}
 use Rattle.calendar_values.specs.WallClock.{wall_day}
-use Rattle.offset_times.specs.Local.{Local, instant_of, wall_at, local_in_utc, local_at, shown_at, SameOffset}
+use Rattle.offset_times.specs.Local.{Local, instant_of, wall_at, local_in_utc, local_at, shown_at, offset_nanos, SameOffset}
 use Rattle.plain_times.specs.DaysLaterLemmas.{same_day-within}
 
 -- a conversion keeps the instant
@@ -46,6 +46,13 @@ SameOffset-wall_at at w = (refl, omega (arith, ints))
 
 pub ruleset same_offset = SameOffset-wall_at
 
+-- at one offset instants lie within a unit where the wall clocks do
+pub instant_of-within : (unit : ℕ) (old new : Local) → SameOffset old new → old.wall <ℤ (new.wall +ℤ pos unit)
+    → instant_of old <ℤ (instant_of new +ℤ pos unit)
+instant_of-within unit old new same within = omega (arith, ints, same.1)
+
+pub ruleset within_unit = instant_of-within
+
 -- on one day at one offset two instants are less than a day apart
 pub instant_of-not_a_day_later : (old new : Local) → SameOffset old new → wall_day new.wall ≡ wall_day old.wall
     → instant_of new <ℤ (instant_of old +ℤ pos nanos_per_day)
@@ -65,6 +72,13 @@ later-by_difference i j = omega (arith, ints)
 
 pub earlier-by_difference : (i j : ℤ) → i -ℤ (i -ℤ j) ≡ j
 earlier-by_difference i j = omega (arith, ints)
+
+-- what clocks show at two offsets, at one instant, lies the offsets apart
+pub shown_at-apart : (i first second : ℤ) → shown_at i second -ℤ shown_at i first ≡ offset_nanos (second -ℤ first)
+shown_at-apart i first second = omega (arith, ints)
+
+-- what callers name who compare what clocks at two offsets show
+pub ruleset two_offsets = shown_at-apart
 
 -- what callers name where they follow an instant
 pub ruleset instants = (instant_of-local_at, instant_of-utc, instant_of-later, instant_of-earlier, later-by_difference, earlier-by_difference)

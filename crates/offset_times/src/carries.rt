@@ -3,7 +3,7 @@
 //! range too.
 ghost use Rattle.std.specs.Prelude.{◌≡◌, ◌<◌, ◌≤◌, ℤ, pos, neg_ℤ, ◌+ℤ◌, ◌-ℤ◌, ◌*ℤ◌, ◌≤ℤ◌, ◌<ℤ◌};
 ghost use Rattle.calendar_values.specs.Calendar.{days_in_year, IsOrdinalDate, day_of_ordinal_date};
-ghost use Rattle.calendar_values.specs.Clock.{IsClock, IsTimeOfDay, clock_of_parts};
+ghost use Rattle.calendar_values.specs.Clock.{IsClock};
 ghost use Rattle.calendar_values.specs.Range.{IsYear};
 ghost use Rattle.calendar_values.specs.WallClock.{wall_clock, wall_day, wall_time};
 ghost use Rattle.offset_times.specs.Carries.{minutes_carried, hours_carried, days_carried, carried_second, carried_minute, carried_hour, carried_clock, IsWithin, CarriesWithin};
@@ -88,7 +88,10 @@ fn moved_time(time: Time, from: UtcOffset, to: UtcOffset) -> (Time, i8)
     let (second, minutes) = moved_second(time, from, to);
     let (minute, hours) = moved_minute(time, from, to, minutes);
     let (hour, days) = moved_hour(time, from, to, hours);
-    (time_of_day(hour, minute, second, time.nanosecond()), days)
+    (
+        Time::at_hms_nano(hour, minute, second, time.nanosecond()),
+        days,
+    )
 }
 
 // The second that clocks at `to` show, and the minutes that go out of it.
@@ -136,14 +139,6 @@ fn moved_hour(time: Time, from: UtcOffset, to: UtcOffset, hours: i8) -> (u8, i8)
     ensures within { IsWithin 3 result.1 }
 {
     carry_day(time.hour(), from.whole_hours(), to.whole_hours(), hours)
-}
-
-// The time of day of these parts.
-fn time_of_day(hour: u8, minute: u8, second: u8, nanosecond: u32) -> Time
-    requires { IsTimeOfDay hour minute second nanosecond }
-    ensures { result ≡ clock_of_parts hour minute second nanosecond }
-{
-    Time::from_hms_nano(hour, minute, second, nanosecond).unwrap()
 }
 
 // A second or a minute moved from one offset to another, with what is carried into it and out of it.

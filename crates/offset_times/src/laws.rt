@@ -3,14 +3,14 @@
 ghost use Rattle.std.specs.Prelude.{◌≡◌};
 ghost use Rattle.std.specs.Ordering.{int_eq, int_cmp};
 ghost use Rattle.offset_times.specs.Laws.{ConversionsCompose, OwnOffsetStays, DifferencesUndoSums, DifferencesLeadBack, TruncationsRoundDownOnce, SumsKeepTheOrder, ReplacedPartsReadAsGiven, SumsAssociate, OutcomesAreAnswers};
-ghost use Rattle.offset_times.specs.Local.{instant_of};
+ghost use Rattle.offset_times.specs.Local.{instant_of, IsLocal};
 ghost use Rattle.plain_times.specs.Laws.{ReplacementsKeepTheRest};
 
 use crate::OffsetDateTime;
 use std::hash::Hash;
 
-/// Date-times are equal exactly where their instants are, their order is that of their instants, and equal
-/// ones feed a hasher the same.
+/// Date-times are equal exactly where their instants are, their order is that of their instants, and they feed
+/// a hasher the same exactly where their instants are equal.
 pub fn compared_by_instant()
     ensures equal { (x y : _) → ⟦<OffsetDateTime as PartialEq>⟧.eq x y ≡
         int_eq (instant_of x) (instant_of y) }
@@ -18,6 +18,9 @@ pub fn compared_by_instant()
         int_cmp (instant_of x) (instant_of y) }
     ensures hashed { (x y : _) → instant_of x ≡ instant_of y →
         ⟦<OffsetDateTime as Hash>⟧.hash_input x ≡ ⟦<OffsetDateTime as Hash>⟧.hash_input y }
+    ensures told_apart { (x y : _) → IsLocal x → IsLocal y →
+        ⟦<OffsetDateTime as Hash>⟧.hash_input x ≡ ⟦<OffsetDateTime as Hash>⟧.hash_input y →
+        instant_of x ≡ instant_of y }
 {}
 
 /// Where a conversion to an offset is accepted, a second one gives what it gives of the original, wall clock

@@ -1,5 +1,5 @@
 //! Date-times with a part replaced, or truncated to a unit of time: the wall clock is, and the offset stays.
-ghost use Rattle.std.specs.Prelude.{IfOk, ◌≡◌, ◌*◌, pos, ◌+ℤ◌, ◌-ℤ◌, ◌<ℤ◌};
+ghost use Rattle.std.specs.Prelude.{IfOk, ◌≡◌, ◌*◌, pos, ◌+ℤ◌, ◌-ℤ◌, ◌<ℤ◌, ◌≤ℤ◌};
 ghost use Rattle.calendar_values.specs.Clock.{nanos_per_day, nanos_per_hour, nanos_per_minute, nanos_per_second, nanos_per_millisecond, nanos_per_microsecond};
 ghost use Rattle.calendar_values.specs.Month.{month_number};
 ghost use Rattle.calendar_values.specs.Outcomes.{Gives, within};
@@ -95,6 +95,7 @@ impl OffsetDateTime {
     }
 
     /// The first nanosecond of the day that it is in, by the wall clock, at the same offset.
+    #[tactic(auto, using(crate::specs::InstantLemmas::within_unit))]
     pub fn truncate_to_day(self) -> OffsetDateTime
         ensures value { result ≡ local_multiple_below nanos_per_day self }
         ensures midnight { result ≡ at_offset_of self (wall_clock (wall_day self.wall) 0) }
@@ -102,6 +103,8 @@ impl OffsetDateTime {
         ensures time { wall_time result.wall ≡ 0 }
         ensures wall { TruncatesTo nanos_per_day self.wall result.wall }
         ensures instant { SameOffset self result }
+        ensures not_after { instant_of result ≤ℤ instant_of self }
+        ensures within { instant_of self <ℤ (instant_of result +ℤ pos nanos_per_day) }
     {
         self.replace_date_time(self.date_time().truncate_to_day())
     }
@@ -118,10 +121,13 @@ impl OffsetDateTime {
     }
 
     /// The first nanosecond of the hour that it is in, by the wall clock, at the same offset.
+    #[tactic(auto, using(crate::specs::InstantLemmas::within_unit))]
     pub fn truncate_to_hour(self) -> OffsetDateTime
         ensures value { result ≡ local_multiple_below nanos_per_hour self }
         ensures wall { TruncatesTo nanos_per_hour self.wall result.wall }
         ensures instant { SameOffset self result }
+        ensures not_after { instant_of result ≤ℤ instant_of self }
+        ensures within { instant_of self <ℤ (instant_of result +ℤ pos nanos_per_hour) }
     {
         self.replace_date_time(self.date_time().truncate_to_hour())
     }
@@ -138,10 +144,13 @@ impl OffsetDateTime {
     }
 
     /// The first nanosecond of the minute that it is in, by the wall clock, at the same offset.
+    #[tactic(auto, using(crate::specs::InstantLemmas::within_unit))]
     pub fn truncate_to_minute(self) -> OffsetDateTime
         ensures value { result ≡ local_multiple_below nanos_per_minute self }
         ensures wall { TruncatesTo nanos_per_minute self.wall result.wall }
         ensures instant { SameOffset self result }
+        ensures not_after { instant_of result ≤ℤ instant_of self }
+        ensures within { instant_of self <ℤ (instant_of result +ℤ pos nanos_per_minute) }
     {
         self.replace_date_time(self.date_time().truncate_to_minute())
     }
@@ -158,10 +167,13 @@ impl OffsetDateTime {
     }
 
     /// The first nanosecond of the second that it is in, by the wall clock, at the same offset.
+    #[tactic(auto, using(crate::specs::InstantLemmas::within_unit))]
     pub fn truncate_to_second(self) -> OffsetDateTime
         ensures value { result ≡ local_multiple_below nanos_per_second self }
         ensures wall { TruncatesTo nanos_per_second self.wall result.wall }
         ensures instant { SameOffset self result }
+        ensures not_after { instant_of result ≤ℤ instant_of self }
+        ensures within { instant_of self <ℤ (instant_of result +ℤ pos nanos_per_second) }
     {
         self.replace_date_time(self.date_time().truncate_to_second())
     }
@@ -179,10 +191,13 @@ impl OffsetDateTime {
     }
 
     /// The first nanosecond of the millisecond that it is in, by the wall clock, at the same offset.
+    #[tactic(auto, using(crate::specs::InstantLemmas::within_unit))]
     pub fn truncate_to_millisecond(self) -> OffsetDateTime
         ensures value { result ≡ local_multiple_below nanos_per_millisecond self }
         ensures wall { TruncatesTo nanos_per_millisecond self.wall result.wall }
         ensures instant { SameOffset self result }
+        ensures not_after { instant_of result ≤ℤ instant_of self }
+        ensures within { instant_of self <ℤ (instant_of result +ℤ pos nanos_per_millisecond) }
     {
         self.replace_date_time(self.date_time().truncate_to_millisecond())
     }
@@ -200,10 +215,13 @@ impl OffsetDateTime {
     }
 
     /// The first nanosecond of the microsecond that it is in, by the wall clock, at the same offset.
+    #[tactic(auto, using(crate::specs::InstantLemmas::within_unit))]
     pub fn truncate_to_microsecond(self) -> OffsetDateTime
         ensures value { result ≡ local_multiple_below nanos_per_microsecond self }
         ensures wall { TruncatesTo nanos_per_microsecond self.wall result.wall }
         ensures instant { SameOffset self result }
+        ensures not_after { instant_of result ≤ℤ instant_of self }
+        ensures within { instant_of self <ℤ (instant_of result +ℤ pos nanos_per_microsecond) }
     {
         self.replace_date_time(self.date_time().truncate_to_microsecond())
     }

@@ -10,3 +10,12 @@ returns-clause-hour c = omega (arith, signed_arith)
 pub returns-clause-days : goal.returns-clause-days
 unfolding days_carried
 returns-clause-days c = omega (arith, signed_arith)
+
+pub carry_day-requires-clause-from : goal.carry_day-requires-clause-from
+carry_day-requires-clause-from c = omega (arith, signed_arith, c.whole_hours.ensures.in_range)
+
+pub carry_day-requires-clause-to : goal.carry_day-requires-clause-to
+carry_day-requires-clause-to c = omega (arith, signed_arith, c.whole_hours-2.ensures.in_range)
+
+pub carry_day-requires-clause-carried : goal.carry_day-requires-clause-carried
+carry_day-requires-clause-carried c = omega (arith, signed_arith)

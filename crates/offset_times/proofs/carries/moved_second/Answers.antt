@@ -10,3 +10,9 @@ returns-clause-second c = omega (arith, signed_arith)
 pub returns-clause-minutes : goal.returns-clause-minutes
 unfolding minutes_carried
 returns-clause-minutes c = omega (arith, signed_arith)
+
+pub carry_sixty-requires-clause-from : goal.carry_sixty-requires-clause-from
+carry_sixty-requires-clause-from c = omega (arith, signed_arith, c.seconds_past_minute.ensures.in_range)
+
+pub carry_sixty-requires-clause-to : goal.carry_sixty-requires-clause-to
+carry_sixty-requires-clause-to c = omega (arith, signed_arith, c.seconds_past_minute-2.ensures.in_range)
