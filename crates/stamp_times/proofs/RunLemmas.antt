@@ -2,7 +2,7 @@
 use Rattle.std.proofs.Common.{◌≡◌, ◌∙◌, ap, refl, sym, ℤ, List, [], ◌∷◌, ◌++◌, Option, Some, None, Result, Ok, Err}
 use Rattle.calendar_values.specs.Refusals.{Refusal}
 use Rattle.stamp_times.specs.Counter.{reply, replies, instant_after, last_instant, instant_after_shift, instant_after_replacement}
-use Rattle.stamp_times.specs.Counter.{shift_reply, shift_next, replace_reply, replace_next, local_reply}
+use Rattle.stamp_times.specs.Counter.{shift_reply, shift_next, replace_reply, replace_next}
 use Rattle.stamp_times.specs.Laws.{RunsCompose, RefusedCallsChangeNothing}
 use Rattle.stamp_times.specs.declared.runs.calls.Call.{Call}
 use Rattle.stamp_times.specs.declared.runs.calls.Call.TheVariants as call

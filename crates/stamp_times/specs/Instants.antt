@@ -1,8 +1,9 @@
 -- An instant is a Unix second and a nanosecond of that second, and has counts in larger units that are rounded down, before 1970 too.
-use Rattle.std.specs.Prelude.{ℕ, ℤ, pos, ◌+ℤ◌, ◌*ℤ◌}
+use Rattle.std.specs.Prelude.{ℕ, ℤ, pos, ◌+ℤ◌, ◌*ℤ◌, ◌++◌}
+use Rattle.std.specs.Hash as fed
 use Rattle.std.specs.Int.{int_div_euclid}
 use Rattle.calendar_values.specs.Clock.{nanos_per_millisecond, nanos_per_microsecond, nanosecond_of}
-use Rattle.calendar_values.specs.WallClock.{wall_time}
+use Rattle.calendar_values.specs.WallClock.{unix_seconds_of, wall_time}
 use Rattle.utc_times.specs.UnixTime.{instant_of_second}
 
 -- the instant of a Unix second and a nanosecond of that second
@@ -19,6 +20,10 @@ instant_of_microseconds count = count *ℤ pos nanos_per_microsecond
 -- the nanosecond of the second of an instant
 abbrev pub unix_nanosecond_of : ℤ → ℕ
 unix_nanosecond_of i = nanosecond_of (wall_time i)
+
+-- what a hasher is fed for an instant: its second, and then the nanosecond of that second
+unfoldable pub hashed_instant : ℤ → fed.HashWrites
+hashed_instant i = fed.i64 (unix_seconds_of i) ++ fed.u32 (unix_nanosecond_of i)
 
 -- the whole milliseconds and microseconds of an instant
 abbrev pub unix_milliseconds_of : ℤ → ℤ

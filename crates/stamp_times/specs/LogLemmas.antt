@@ -1,5 +1,7 @@
 -- Logs in the order of time in which each instant stands once.
-use Rattle.std.proofs.Common.{◌≡◌, ℕ, zero, suc, ◌+◌, inl, inr, Bool, false, arith, ℤ, int_cmp, List, [], ◌∷◌, ◌++◌, length, take, drop}
+use Rattle.std.proofs.Common.{◌≡◌, ◌↔◌, ◌⊎◌, ℕ, zero, suc, ◌+◌, ◌-◌, ◌<◌, inl, inr, Bool, false, arith, ℤ, ◌≤ℤ◌, int_cmp, List, [], ◌∷◌, ◌++◌}
+use Rattle.std.proofs.Common.{length, take, drop, get_or, All, Option, Some, None, IsNone, IfSome, slice_get, refl, sym, ap, ◌∙◌}
+use Rattle.std.proofs.lemmas.Option.{none-some, slice_get-get_or, get_or_from_slice_get}
 use Rattle.std.proofs.lemmas.Cmp.{int_cmp_total, int_eq_equiv}
 use Rattle.std.proofs.lemmas.Int.{ints}
 use Rattle.std.proofs.lemmas.List.{take-append-drop}
@@ -7,6 +9,7 @@ use Rattle.std.proofs.lemmas.List.Elements.{Contains-append_left, Contains-appen
 use Rattle.std.proofs.lemmas.List.Filters.{dedup_is}
 use Rattle.std.proofs.lemmas.List.Kept.{IsStrictlySortedBy-dedup, Contains-dedup, Contains-from_dedup}
 use Rattle.std.proofs.lemmas.List.Sorted.{searchable_from_sorted}
+use Rattle.std.proofs.Math.Seq.{take-append_seam}
 use Rattle.std.specs.List.{AllByRecursion, AllWithin, Contains, insert}
 use Rattle.std.specs.List.Retain.{IsFiltered, DiffersFromLast}
 use Rattle.std.specs.List.Sorted.{IsSorted, IsStrictlySortedBy, IsNonDecreasingBy, IsPartitionPoint}
@@ -91,6 +94,56 @@ Contains-deduped xs ys x left there = rw (dedup_is int_eq xs ys left) (Contains-
 
 pub Contains-before_dedup : (xs ys : List ℤ) (x : ℤ) → IsFiltered (DiffersFromLast int_eq) [] xs ys → Contains ys x → Contains xs x
 Contains-before_dedup xs ys x left there = let is = dedup_is int_eq xs ys left in Contains-from_dedup int_eq xs x (rw is at there)
+
+-- what is in two lists that are joined is in one of them
+pub Contains-joined : (xs ys zs : List ℤ) (x : ℤ) → zs ≡ xs ++ ys → Contains zs x → Contains xs x ⊎ Contains ys x
+Contains-joined xs ys zs x e there = Contains-append_cases xs ys x (rw e at there)
+
+-- what becomes of two lists that are one behind the other, and of the first of them again
+pub ruleset joined = (Contains-append_left, Contains-append_right, Contains-append_cases, take-append_seam)
+
+-- ---- the last of a list in order
+
+not_later : (x y : ℤ) → is_lt (int_cmp y x) ≡ false → x ≤ℤ y
+not_later x y e = grind (arith, ints)
+
+rises : (xs : List ℤ) → IsSorted int_cmp xs → (j k : ℕ) (d : ℤ) → k + j < length xs → get_or xs k d ≤ℤ get_or xs (k + j) d
+rises xs h zero k d within =
+    let here : k + 0 ≡ k = omega arith in rw here (omega (arith, ints))
+rises xs h (suc j) k d within =
+    let next : k + suc j ≡ k + j + 1 = omega arith in
+    let before = rises xs h j k d (omega arith) in
+    let here = get_or xs (k + j) d in
+    let after = get_or xs (k + j + 1) d in
+    let step : here ≤ℤ after = not_later here after (h (k + j) d (omega arith) (omega arith)) in
+    rw next (omega (arith, ints, before, step))
+
+none_later : (xs : List ℤ) (last : ℤ) → IsSorted int_cmp xs → slice_get xs (length xs - 1) ≡ Some last → All (λ x. x ≤ℤ last) xs
+none_later xs last h e k d within =
+    let end : k + (length xs - 1 - k) ≡ length xs - 1 = omega arith in
+    let above = rw end at (rises xs h (length xs - 1 - k) k d (omega arith)) in
+    rw (get_or_from_slice_get xs (length xs - 1) last d e) at above
+
+last_none : (xs : List ℤ) → None ≡ slice_get xs (length xs - 1) → xs ≡ []
+last_none [] e = refl
+last_none (x ∷ xs) e = absurd (none-some _ (e ∙ slice_get-get_or (x ∷ xs) (length (x ∷ xs) - 1) x (omega arith)))
+
+last_within : (xs : List ℤ) (last : ℤ) → slice_get xs (length xs - 1) ≡ Some last → 0 < length xs
+last_within [] last e = absurd cc
+last_within (x ∷ xs) last e = omega arith
+
+pub none_of-last : (xs : List ℤ) (r : Option ℤ) → r ≡ slice_get xs (length xs - 1) → IsNone r ↔ (xs ≡ [])
+none_of-last xs None e = ((λ none. last_none xs e), (λ nil. refl))
+none_of-last xs (Some last) e = ((λ none. absurd cc), (λ nil. absurd (omega (arith, last_within xs last (sym e), ap (length {A = ℤ}) nil))))
+
+pub Contains-last : (xs : List ℤ) (r : Option ℤ) → r ≡ slice_get xs (length xs - 1) → IfSome r (Contains xs)
+Contains-last xs None e = tt
+Contains-last xs (Some last) e =
+    (length xs - 1, omega (arith, last_within xs last (sym e)), get_or_from_slice_get xs (length xs - 1) last last (sym e))
+
+pub none_later-last : (xs : List ℤ) (r : Option ℤ) → r ≡ slice_get xs (length xs - 1) → IsSorted int_cmp xs → IfSome r (λ last. All (λ x. x ≤ℤ last) xs)
+none_later-last xs None e h = tt
+none_later-last xs (Some last) e h = none_later xs last h (sym e)
 
 -- what callers name who keep a log in order, each instant once
 pub ruleset without_repeats = IsSorted-strictly

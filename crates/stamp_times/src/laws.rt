@@ -1,13 +1,15 @@
 //! Laws of timestamps: each function here proves one, for every instant, and does nothing when it is called.
-ghost use Rattle.std.specs.Prelude.{◌≡◌};
+ghost use Rattle.std.specs.Prelude.{◌≡◌, ◌↔◌};
 ghost use Rattle.std.specs.Ordering.{int_eq, int_cmp};
 ghost use Rattle.plain_times.specs.Laws.{DifferencesUndoSums, DifferencesLeadBack, ReplacedPartsReadAsGiven, ReplacementsKeepTheRest, SumsAssociate, SaturatingSumsKeepTheOrder, OutcomesAreAnswers};
 ghost use Rattle.calendar_values.specs.Outcomes.{IsOneAnswer};
+ghost use Rattle.calendar_values.specs.WallClock.{IsWallClock};
 ghost use Rattle.stamp_times.specs.Refusals.{timestamp_outcome};
 ghost use Rattle.utc_times.specs.UnixTime.{instant_outcome};
 ghost use Rattle.stamp_times.specs.Laws.{CountsReadAsGiven, NanosecondsKeepTheSecond, TextsTellInstants, RunsCompose, RefusedCallsChangeNothing, ChainsCompose};
 
 use crate::Timestamp;
+use std::hash::Hash;
 use utc_times::UtcDateTime;
 
 /// A timestamp as a date-time in UTC and back is the same timestamp, and so is a date-time in UTC as a
@@ -26,6 +28,12 @@ pub fn compared_by_instant()
     ensures stamps_ordered { (x y : _) → ⟦<Timestamp as Ord>⟧.cmp x y ≡ int_cmp x y }
     ensures utc_equal { (x y : _) → ⟦<UtcDateTime as PartialEq>⟧.eq x y ≡ int_eq x y }
     ensures utc_ordered { (x y : _) → ⟦<UtcDateTime as Ord>⟧.cmp x y ≡ int_cmp x y }
+{}
+
+/// Timestamps feed a hasher the same exactly where they are the same.
+pub fn hashed_by_instant()
+    ensures { (x y : _) → IsWallClock x → IsWallClock y →
+        (⟦<Timestamp as Hash>⟧.hash_input x ≡ ⟦<Timestamp as Hash>⟧.hash_input y) ↔ (x ≡ y) }
 {}
 
 /// The instant of a count of seconds, milliseconds or microseconds has this count.

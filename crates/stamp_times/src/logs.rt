@@ -1,7 +1,7 @@
 //! Logs: timestamps in the order of time.
-ghost use Rattle.std.specs.Prelude.{◌≡◌, ◌<◌, ℤ, Contains, IfNone, IfSome, IsSorted, OnOk, OnErr, length};
+ghost use Rattle.std.specs.Prelude.{◌≡◌, ◌<◌, ◌↔◌, ◌⊎◌, ◌≤ℤ◌, ℤ, [], All, Contains, IfNone, IfOk, IfSome, IsNone, IsTrue, IsPermutation, IsSorted, IsSortedByKey, OnOk, OnErr, length};
 ghost use Rattle.std.specs.List.{HoldsAt};
-ghost use Rattle.std.specs.List.Sorted.{IsStrictlySortedBy};
+ghost use Rattle.std.specs.List.Sorted.{IsStrictlySortedBy, IsStableByKey};
 ghost use Rattle.std.specs.Ordering.{int_cmp};
 
 use crate::Timestamp;
@@ -27,6 +27,7 @@ pub fn enter(log: &mut Vec<Timestamp>, at: Timestamp) -> Result<bool, AllocError
     requires { IsStrictlySortedBy int_cmp log.old.items }
     ensures in_order { IsStrictlySortedBy int_cmp log.new.items }
     ensures entered { OnOk result (Contains log.new.items at) }
+    ensures was_new { IfOk result (λ is_new. IsTrue is_new ↔ (¬ Contains log.old.items at)) }
     ensures kept { (entry : ℤ) → Contains log.old.items entry → Contains log.new.items entry }
     ensures unchanged { OnErr result (log.new.items ≡ log.old.items) }
 {
@@ -44,8 +45,82 @@ pub fn put_in_order(log: &mut Vec<Timestamp>) -> Result<(), AllocError>
     ensures in_order { OnOk result (IsStrictlySortedBy int_cmp log.new.items) }
     ensures kept { (entry : ℤ) → Contains log.old.items entry → Contains log.new.items entry }
     ensures no_other { (entry : ℤ) → Contains log.new.items entry → Contains log.old.items entry }
+    ensures unchanged { OnErr result (log.new.items ≡ log.old.items) }
 {
     log.sort()?;
     log.dedup();
+    Ok(())
+}
+
+/// Adds the entries of another list, puts all in order, and leaves each timestamp once. `AllocError`, with the log as
+/// before, where there is no memory for them or to sort them.
+#[tactic(auto, using(crate::specs::LogLemmas::joined))]
+pub fn merge(log: &mut Vec<Timestamp>, other: &[Timestamp]) -> Result<(), AllocError>
+    ensures in_order { OnOk result (IsStrictlySortedBy int_cmp log.new.items) }
+    ensures entered { OnOk result ((entry : ℤ) →
+        Contains other.now entry → Contains log.new.items entry) }
+    ensures kept { (entry : ℤ) → Contains log.old.items entry → Contains log.new.items entry }
+    ensures no_other { (entry : ℤ) → Contains log.new.items entry →
+        Contains log.old.items entry ⊎ Contains other.now entry }
+    ensures unchanged { OnErr result (log.new.items ≡ log.old.items) }
+{
+    let before = log.len();
+    log.extend_from_slice(other)?;
+    let in_order = put_in_order(log);
+    if in_order.is_err() {
+        log.truncate(before);
+    }
+    in_order
+}
+
+/// The last entry of a log that is in order: none of the others is later. None where it is empty.
+pub fn last(log: &[Timestamp]) -> Option<Timestamp>
+    requires { IsSorted int_cmp log.now }
+    ensures none { IsNone result ↔ (log.now ≡ []) }
+    ensures present { IfSome result (Contains log.now) }
+    ensures none_later { IfSome result (λ last. All (λ entry. entry ≤ℤ last) log.now) }
+{
+    log.last().copied()
+}
+
+/// The latest of timestamps that stand in any order. None where there are none.
+#[tactic(auto, using(std::proofs::lemmas::Int::ints))]
+pub fn latest(stamps: &[Timestamp]) -> Option<Timestamp>
+    ensures none { IsNone result ↔ (stamps.now ≡ []) }
+    ensures present { IfSome result (Contains stamps.now) }
+    ensures none_later { IfSome result (λ latest. All (λ at. at ≤ℤ latest) stamps.now) }
+{
+    stamps.iter().copied().max()
+}
+
+/// The earliest of timestamps that stand in any order. None where there are none.
+#[tactic(auto, using(std::proofs::lemmas::Int::ints))]
+pub fn earliest(stamps: &[Timestamp]) -> Option<Timestamp>
+    ensures none { IsNone result ↔ (stamps.now ≡ []) }
+    ensures present { IfSome result (Contains stamps.now) }
+    ensures none_earlier { IfSome result (λ earliest. All (λ at. earliest ≤ℤ at) stamps.now) }
+{
+    stamps.iter().copied().min()
+}
+
+/// A record that has a timestamp.
+pub trait Stamped {
+    /// The instant of its timestamp.
+    ghost stamp: { Self → ℤ };
+
+    /// Its timestamp.
+    fn stamp(&self) -> Timestamp
+        ensures { result ≡ stamp self.now };
+}
+
+/// Puts records into the order of their timestamps; those of one instant stay as they stood to one another. `AllocError`,
+/// with all as before, where there is no memory to sort them.
+pub fn sort_by_stamp<T: Stamped>(records: &mut Vec<T>) -> Result<(), AllocError>
+    ensures same_records { IsPermutation records.old.items records.new.items }
+    ensures in_order { OnOk result (IsSortedByKey T.stamp int_cmp records.new.items) }
+    ensures stable { IsStableByKey T.stamp int_cmp records.old.items records.new.items }
+    ensures unchanged { OnErr result (records.new.items ≡ records.old.items) }
+{
+    records.sort_by_key(|record| record.stamp())?;
     Ok(())
 }

@@ -1,12 +1,10 @@
 //! Timestamps compare, and feed a hasher, by their instants.
-ghost use Rattle.std.specs.Prelude.{◌++◌, Some};
+ghost use Rattle.std.specs.Prelude.{Some};
 ghost use Rattle.std.proofs.Common.{rules};
 ghost use Rattle.std.specs.Cmp.{partial_order_from_own_ties};
 ghost use Rattle.std.specs.Cmp.Rules.{comparing, hashing};
-ghost use Rattle.std.specs.Hash as fed;
 ghost use Rattle.std.specs.Ordering.{int_eq, int_cmp, as_partial_cmp};
-ghost use Rattle.calendar_values.specs.WallClock.{unix_seconds_of};
-ghost use Rattle.stamp_times.specs.Instants.{unix_nanosecond_of};
+ghost use Rattle.stamp_times.specs.Instants.{hashed_instant};
 
 use crate::Timestamp;
 use std::cmp::Ordering;
@@ -55,10 +53,11 @@ impl PartialOrd for Timestamp {
 
 // The second and the nanosecond are what a hasher is fed today. They are no promise to callers.
 impl Hash for Timestamp {
-    ghost hash_input = { λ i. fed.i64 (unix_seconds_of i) ++ fed.u32 (unix_nanosecond_of i) };
+    ghost hash_input = { hashed_instant };
 
     ghost respects_eq = { Prim.search (hashing, rules) };
 
+    #[tactic(auto, unfolding(crate::specs::Instants::hashed_instant))]
     fn hash<H: Hasher>(&self, state: &mut H) {
         self.as_seconds().hash(state);
         self.nanosecond().hash(state);

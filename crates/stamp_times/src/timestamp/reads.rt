@@ -12,8 +12,8 @@ ghost use Rattle.calendar_values.specs.Weeks.{iso_week_of, sunday_week_of, monda
 
 use crate::Timestamp;
 use crate::reciprocal::year_leap_ordinal;
-use calendar_values::units::{EPOCH_JULIAN_DAY, SECONDS_PER_DAY};
-use calendar_values::{Date, Month, Time, Weekday, leap_ordinal_to_month_day};
+use calendar_values::units::EPOCH_JULIAN_DAY;
+use calendar_values::{Date, Month, Time, Weekday, day_and_second, leap_ordinal_to_month_day};
 
 // The days from a Monday before the range to 1970-01-01.
 const DAYS_FROM_MONDAY: i32 = 365_961_669;
@@ -25,7 +25,7 @@ impl Timestamp {
         ensures value { result ≡ wall_day self }
         ensures in_range { IsDay result }
     {
-        self.as_seconds().div_euclid(SECONDS_PER_DAY) as i32
+        day_and_second(self.as_seconds()).0
     }
 
     // The second of the day.
@@ -34,7 +34,7 @@ impl Timestamp {
         ensures value { result ≡ wall_time self / nanos_per_second }
         ensures in_range { result < 86_400 }
     {
-        self.as_seconds().rem_euclid(SECONDS_PER_DAY) as u32
+        day_and_second(self.as_seconds()).1
     }
 
     /// The date.
@@ -43,7 +43,7 @@ impl Timestamp {
         ensures self_in_range { IsWallClock self }
     {
         let (year, _, ordinal) = year_leap_ordinal(self.day_number());
-        Date::from_ordinal_date(year, ordinal).unwrap()
+        Date::at_ordinal_date(year, ordinal)
     }
 
     /// The time of day.
@@ -51,8 +51,7 @@ impl Timestamp {
         ensures value { result ≡ wall_time self }
         ensures self_in_range { IsWallClock self }
     {
-        let (hour, minute, second, nanosecond) = self.as_hms_nano();
-        Time::from_hms_nano(hour, minute, second, nanosecond).unwrap()
+        Time::at_second_of_day(self.second_of_day(), self.nanosecond())
     }
 
     /// As [`Date::year`], of the day in UTC.
@@ -140,24 +139,16 @@ impl Timestamp {
     pub fn weekday(self) -> Weekday
         ensures { weekday_number result ≡ weekday_of (wall_day self) }
     {
-        match self.days_from_monday() {
-            0 => Weekday::Monday,
-            1 => Weekday::Tuesday,
-            2 => Weekday::Wednesday,
-            3 => Weekday::Thursday,
-            4 => Weekday::Friday,
-            5 => Weekday::Saturday,
-            _ => Weekday::Sunday,
-        }
+        Weekday::numbered(self.days_from_monday())
     }
 
     // How many days the date comes after a Monday.
     #[tactic(auto, using(crate::proofs::HeldInstantLemmas::weekdays))]
-    fn days_from_monday(self) -> u32
+    fn days_from_monday(self) -> u8
         ensures value { result ≡ weekday_of (wall_day self) }
         ensures in_range { result < 7 }
     {
-        (self.day_number() + DAYS_FROM_MONDAY) as u32 % 7
+        ((self.day_number() + DAYS_FROM_MONDAY) as u32 % 7) as u8
     }
 
     /// As [`Date::to_julian_day`], of the day in UTC.
@@ -173,12 +164,7 @@ impl Timestamp {
         ensures value { let c = wall_time self in result ≡ (hour_of c, minute_of c, second_of c) }
         ensures in_range { IsTimeOfDay result.0 result.1 result.2 0 }
     {
-        let second = self.second_of_day();
-        (
-            (second / 3_600) as u8,
-            (second / 60 % 60) as u8,
-            (second % 60) as u8,
-        )
+        self.time().as_hms()
     }
 
     /// As [`Time::as_hms_milli`], of the time of day in UTC.
@@ -218,7 +204,7 @@ impl Timestamp {
         ensures value { result ≡ hour_of (wall_time self) }
         ensures in_range { result ≤ 23 }
     {
-        (self.second_of_day() / 3_600) as u8
+        self.time().hour()
     }
 
     /// As [`Time::minute`], of the time of day in UTC.
@@ -226,7 +212,7 @@ impl Timestamp {
         ensures value { result ≡ minute_of (wall_time self) }
         ensures in_range { result ≤ 59 }
     {
-        (self.second_of_day() / 60 % 60) as u8
+        self.time().minute()
     }
 
     /// As [`Time::second`], of the time of day in UTC.
@@ -234,7 +220,7 @@ impl Timestamp {
         ensures value { result ≡ second_of (wall_time self) }
         ensures in_range { result ≤ 59 }
     {
-        (self.second_of_day() % 60) as u8
+        self.time().second()
     }
 
     /// As [`Time::millisecond`], of the time of day in UTC.

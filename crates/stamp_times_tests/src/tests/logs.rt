@@ -1,5 +1,6 @@
 //! Logs in the order of time.
 use super::is;
+use stamp_times::logs::Stamped;
 use stamp_times::{Timestamp, logs};
 use std::test::Fail;
 
@@ -11,5 +12,79 @@ fn each_timestamp_once(rt: HostRuntime) -> Result<(), Fail> {
     assert!(rt; logs::enter(&mut log, Timestamp::MAX)?);
     assert!(rt; !logs::enter(&mut log, epoch)?);
     is(&rt, log.len(), 3);
+    Ok(())
+}
+
+#[test]
+fn merged(rt: HostRuntime) -> Result<(), Fail> {
+    let epoch = Timestamp::UNIX_EPOCH;
+    let mut log = [Timestamp::MIN, epoch].to_vec(rt.alloc())?;
+    logs::merge(&mut log, &[Timestamp::MAX, epoch])?;
+    is(&rt, log.len(), 3);
+    is(&rt, log.get(0).copied(), Some(Timestamp::MIN));
+    is(&rt, log.get(1).copied(), Some(epoch));
+    is(&rt, log.get(2).copied(), Some(Timestamp::MAX));
+    logs::merge(&mut log, &[])?;
+    is(&rt, log.len(), 3);
+    Ok(())
+}
+
+#[test]
+#[tactic(auto, using(stamp_times::specs::LogLemmas::without_repeats))]
+fn last_of_a_log(rt: HostRuntime) -> Result<(), Fail> {
+    let mut log = [Timestamp::MAX, Timestamp::MIN].to_vec(rt.alloc())?;
+    logs::put_in_order(&mut log)?;
+    is(&rt, logs::last(&log), Some(Timestamp::MAX));
+    Ok(())
+}
+
+#[test]
+fn ends_of_what_stands_in_any_order(rt: HostRuntime) -> Result<(), Fail> {
+    let stamps = [
+        Timestamp::UNIX_EPOCH,
+        Timestamp::MAX,
+        Timestamp::MIN,
+        Timestamp::UNIX_EPOCH,
+    ];
+    is(&rt, logs::latest(&stamps), Some(Timestamp::MAX));
+    is(&rt, logs::earliest(&stamps), Some(Timestamp::MIN));
+    is(&rt, logs::latest(&[]), None);
+    is(&rt, logs::earliest(&[]), None);
+    Ok(())
+}
+
+#[derive(Clone, Copy)]
+struct Line {
+    at: Timestamp,
+    number: u8,
+}
+
+impl Stamped for Line {
+    ghost stamp = { λ line. line.at };
+
+    fn stamp(&self) -> Timestamp {
+        self.at
+    }
+}
+
+fn numbered(at: Timestamp, number: u8) -> Line {
+    Line { at, number }
+}
+
+#[test]
+fn records_by_their_stamps(rt: HostRuntime) -> Result<(), Fail> {
+    let epoch = Timestamp::UNIX_EPOCH;
+    let mut lines = [
+        numbered(Timestamp::MAX, 1),
+        numbered(epoch, 2),
+        numbered(Timestamp::MIN, 3),
+        numbered(epoch, 4),
+    ]
+    .to_vec(rt.alloc())?;
+    logs::sort_by_stamp(&mut lines)?;
+    for (line, number) in lines.iter().zip([3_u8, 2, 4, 1].iter()) {
+        is(&rt, line.number, *number);
+    }
+    is(&rt, numbered(epoch, 1).stamp(), epoch);
     Ok(())
 }

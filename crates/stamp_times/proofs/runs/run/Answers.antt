@@ -1,5 +1,6 @@
-use Rattle.std.proofs.Common.{◌≡◌, ℕ, ◌+◌, ◌<◌, ℤ, List, [], ◌∷◌, ◌++◌, length, drop, get_or, append_assoc, arith, add-one}
+use Rattle.std.proofs.Common.{◌≡◌, ℕ, ◌+◌, ◌<◌, ◌≤◌, ℤ, List, [], ◌∷◌, ◌++◌, length, drop, get_or, append_assoc, rules, arith, add-one, sym, ap, ◌∙◌}
 use Rattle.std.proofs.Math.Seq.{drop-cons}
+use Rattle.std.proofs.lemmas.List.{append-nil, drop_all}
 use Rattle.stamp_times.specs.Counter.{reply, instant_after, replies, last_instant}
 use Rattle.stamp_times.specs.declared.runs.calls.Call.{Call}
 use Rattle.stamp_times.specs.declared.runs.calls.Reply.{Reply}
@@ -18,6 +19,14 @@ last_instant-more : (i j last : ℤ) (calls : List Call) (k : ℕ) (call : Call)
     → j ≡ instant_after i call → last_instant i (drop k calls) ≡ last → last_instant j (drop (k + 1) calls) ≡ last
 last_instant-more i j last calls k call below here moved h = rw moved (rw (rest calls k call below here) at h)
 
+-- no call is left
+replies-all : (done all : List Reply) (i : ℤ) (calls : List Call) (k : ℕ) → length calls ≤ k → done ++ replies i (drop k calls) ≡ all → done ≡ all
+replies-all done all i calls k end h =
+    sym (append-nil done) ∙ ap (λ (rest : List Call). done ++ replies i rest) (sym (drop_all k calls end)) ∙ h
+
+last_instant-all : (i last : ℤ) (calls : List Call) (k : ℕ) → length calls ≤ k → last_instant i (drop k calls) ≡ last → i ≡ last
+last_instant-all i last calls k end h = ap (last_instant i) (sym (drop_all k calls end)) ∙ h
+
 pub loop-call-preserved : goal.loop-call-preserved
 loop-call-preserved g c = record {
   replied = replies-more _ _ _ _ _ _ _ _ _ c.loop-call-test.true c.call-item.is c.step-reply.ensures.reply c.step-reply.ensures.next
@@ -26,3 +35,9 @@ loop-call-preserved g c = record {
   count = omega arith;
   room = omega arith;
 }
+
+pub returns-clause-replies : goal.returns-clause-replies
+returns-clause-replies g c = replies-all _ _ _ c.args.calls.now c.loop-call.call-index (search rules) c.loop-call.invariant.replied
+
+pub returns-clause-last : goal.returns-clause-last
+returns-clause-last g c = last_instant-all _ _ c.args.calls.now c.loop-call.call-index (search rules) c.loop-call.invariant.ends
