@@ -1,0 +1,7 @@
+pub mod Device
+pub mod InputLemmas
+pub mod LineLemmas
+pub mod LineParts
+pub mod Lines
+pub mod Writing
+pub mod WritingLemmas

@@ -1,0 +1,132 @@
+//! What bytes come from and go to.
+ghost use Rattle.std.specs.Prelude.{◌≡◌, ℕ, ◌<◌, Bool, false, List, length, Option, IfOk};
+ghost use Rattle.std.specs.Io.{ReadsAtMost, WritesAtMost};
+ghost use Rattle.std.specs.Io.KnownBytes.{ReadConsumes, WriteAppends};
+ghost use Rattle.line_devices.specs.Writing.{MarksFailure, WritesAll};
+
+use std::io::{Read, Write};
+
+/// A read or a write failed.
+#[derive(Clone, Copy, Debug, PartialEq, Eq)]
+pub struct DeviceFault;
+
+/// What bytes are read from, with a mark that tells whether a call failed.
+pub trait Source {
+    /// The bytes that are left to read, where they are known.
+    ghost left: { Self → Option (List ℕ) };
+
+    /// The mark.
+    ghost is_marked: { Self → Bool };
+
+    /// Reads some bytes to the front of the buffer, and gives their number: 0 for a buffer that is
+    /// not empty is the end of the bytes. A failed call reads no byte and sets the mark; no other
+    /// call changes the mark.
+    fn read_some(&mut self, buffer: &mut [u8]) -> Result<usize, DeviceFault>
+        ensures bound { ReadsAtMost result buffer.new }
+        ensures consumed { ReadConsumes (left self.old) (left self.new) result buffer.new }
+        ensures mark { MarksFailure result (is_marked self.old) (is_marked self.new) };
+
+    /// Whether the mark is set.
+    fn failed(&self) -> bool
+        ensures { result ≡ is_marked self.now };
+}
+
+/// What bytes are written to, with a mark that tells whether a call failed.
+pub trait Sink {
+    /// The bytes that were written, where they are known.
+    ghost written: { Self → Option (List ℕ) };
+
+    /// The mark.
+    ghost is_marked: { Self → Bool };
+
+    /// Writes the first bytes of the text, and gives their number: at least 1, if the text is not
+    /// empty. A failed call writes no byte and sets the mark; no other call changes the mark.
+    fn write_some(&mut self, text: &[u8]) -> Result<usize, DeviceFault>
+        ensures bound { WritesAtMost result text.now }
+        ensures progress { IfOk result (λ count. 0 < length text.now → 0 < count) }
+        ensures appended { WriteAppends (written self.old) (written self.new) result text.now }
+        ensures mark { MarksFailure result (is_marked self.old) (is_marked self.new) };
+
+    /// Whether the mark is set.
+    fn failed(&self) -> bool
+        ensures { result ≡ is_marked self.now };
+}
+
+/// A reader or a writer of `std::io` with a mark. A write that takes no byte of a text that is not
+/// empty is a failed call.
+#[derive(Drop)]
+pub struct Device<T> {
+    inner: T,
+    has_failed: bool,
+}
+
+impl<T> Device<T> {
+    ghost use Rattle.line_devices.specs.Device.{inner_of, has_failed};
+
+    /// The device over a reader or a writer. Its mark is not set.
+    pub fn new(inner: T) -> Device<T>
+        ensures inner { inner_of result ≡ inner }
+        ensures unmarked { has_failed result ≡ false }
+    {
+        Device {
+            inner,
+            has_failed: false,
+        }
+    }
+}
+
+impl<T: Read> Source for Device<T> {
+    ghost use Rattle.line_devices.specs.Device.{inner_of, has_failed};
+
+    ghost left = { λ device. T.remaining (inner_of device) };
+
+    ghost is_marked = { has_failed };
+
+    fn read_some(&mut self, buffer: &mut [u8]) -> Result<usize, DeviceFault> {
+        match self.inner.read(buffer) {
+            Ok(count) => Ok(count),
+            Err(_) => {
+                self.has_failed = true;
+                Err(DeviceFault)
+            }
+        }
+    }
+
+    fn failed(&self) -> bool {
+        self.has_failed
+    }
+}
+
+impl<T: Write> Sink for Device<T> {
+    ghost use Rattle.line_devices.specs.Device.{inner_of, has_failed};
+
+    ghost written = { λ device. T.contents (inner_of device) };
+
+    ghost is_marked = { has_failed };
+
+    fn write_some(&mut self, text: &[u8]) -> Result<usize, DeviceFault> {
+        match self.inner.write(text) {
+            Ok(count) if count > 0 || text.is_empty() => Ok(count),
+            _ => {
+                self.has_failed = true;
+                Err(DeviceFault)
+            }
+        }
+    }
+
+    fn failed(&self) -> bool {
+        self.has_failed
+    }
+}
+
+/// Writes all of the text.
+pub(crate) fn write_whole<W: Sink>(writer: &mut W, text: &[u8]) -> Result<(), DeviceFault>
+    ensures written { WritesAll result (W.written writer.old) (W.written writer.new) text.now }
+    ensures mark { MarksFailure result (W.is_marked writer.old) (W.is_marked writer.new) }
+{
+    let mut place = 0;
+    while place < text.len() {
+        place += writer.write_some(&text[place..])?;
+    }
+    Ok(())
+}

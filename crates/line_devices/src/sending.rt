@@ -1,0 +1,37 @@
+//! Bytes on their way to a sink.
+ghost use Rattle.std.specs.Prelude.{◌≡◌, [], ◌++◌, OnOk};
+ghost use Rattle.line_devices.specs.Writing.{MarksFailure, SendsAll, WritesAll};
+
+use crate::devices::{DeviceFault, Sink, write_whole};
+use crate::table::Table;
+
+/// The most bytes that wait to be written.
+pub const MOST_PENDING: usize = 65_536;
+
+/// Bytes that are still to be written.
+pub type Pending = Table<u8, MOST_PENDING>;
+
+/// Writes what is pending.
+pub fn flush<W: Sink>(writer: &mut W, pending: &mut Pending) -> Result<(), DeviceFault>
+    ensures written { WritesAll result (W.written writer.old) (W.written writer.new) pending.old }
+    ensures empty { OnOk result (pending.new ≡ []) }
+    ensures mark { MarksFailure result (W.is_marked writer.old) (W.is_marked writer.new) }
+{
+    write_whole(writer, pending.items())?;
+    pending.clear();
+    Ok(())
+}
+
+/// Sends a text behind what is pending, which is written where both are too much to wait.
+pub fn send<W: Sink>(writer: &mut W, pending: &mut Pending, text: &[u8]) -> Result<(), DeviceFault>
+    ensures sent { SendsAll result (W.written writer.old) (W.written writer.new)
+        pending.new (pending.old ++ text.now) }
+    ensures mark { MarksFailure result (W.is_marked writer.old) (W.is_marked writer.new) }
+{
+    if text.len() <= pending.room() {
+        pending.push_all(text);
+        return Ok(());
+    }
+    flush(writer, pending)?;
+    write_whole(writer, text)
+}
