@@ -1,10 +1,8 @@
-pub mod FieldDigitLemmas
-pub mod FormLemmas
-pub mod FractionLemmas
-pub mod MeaningLemmas
-pub mod ReadInstantLemmas
-pub mod TextLemmas
+mod ByteLemmas
+pub mod FrontLemmas
+mod RangeLemmas
+pub mod FullDateLemmas
+pub mod LengthLemmas
 pub mod TextOrderLemmas
-pub mod ValueLemmas
+pub mod UnixLemmas
 pub mod WriteLemmas
-pub mod WrittenDigits

@@ -20,8 +20,8 @@ use Rattle.calendar_values.specs.WallClockLemmas.{wall_clock-parts, IsClock-wall
 use Rattle.calendar_values.specs.YearLemmas.{year_start-mono}
 use Rattle.offset_times.specs.Local.{local_in_utc}
 use Rattle.rfc3339.specs.Texts.{HasFixedText, fixed_text, parts_of}
-use Rattle.rfc3339.proofs.ValueLemmas.{year_is, IsDateTime-fixed}
-use Rattle.rfc3339.proofs.WrittenDigits.{HasDigits}
+use Rattle.rfc3339.specs.ValueLemmas.{year_is, IsDateTime-fixed}
+use Rattle.rfc3339.specs.WrittenDigitLemmas.{HasDigits}
 
 -- ---- digits
 

@@ -1,16 +1,24 @@
 -- Laws of the texts, each proved by a function of `src/laws.rt`.
-use Rattle.std.specs.Prelude.{◌≡◌, ℕ, ℤ, List, length, Ok}
+use Rattle.std.specs.Prelude.{◌≡◌, ℕ, ℤ, List, length, Ok, Err, ◌⊎◌}
 use Rattle.std.specs.Cmp.Lexicographic.{slice_cmp}
 use Rattle.std.specs.Ordering.{nat_cmp, int_cmp}
 use Rattle.offset_times.specs.Local.{Local}
 use Rattle.rfc3339.specs.Form.{IsDateTime}
 use Rattle.rfc3339.specs.Meaning.{meaning}
+use Rattle.rfc3339.specs.Reading.{reading_of}
 use Rattle.rfc3339.specs.Texts.{HasText, rfc3339_text, HasFixedText, fixed_text}
 use Rattle.rfc3339.specs.declared.parts.Parts.{Parts}
+use Rattle.rfc3339.specs.declared.refusal.TextRefusal.TheVariants.{Syntax}
 
 -- a text spells one list of parts at most
 abbrev pub TextsHaveOneReading : Type 0
 TextsHaveOneReading = (text : List ℕ) (p q : Parts) → IsDateTime text p → IsDateTime text q → p ≡ q
+
+-- what a text is read as: what the numbers that it spells mean, or else a refusal of its form
+abbrev pub ReadingsAreOfTheForm : Type 0
+ReadingsAreOfTheForm =
+    (text : List ℕ) → ((p : Parts) → IsDateTime text p → reading_of text ≡ meaning p)
+    × ((reading_of text ≡ Err Syntax) ⊎ ((p : Parts) × IsDateTime text p))
 
 -- what is written has the form, and means the value that was written
 abbrev pub WrittenTextsReadBack : Type 0

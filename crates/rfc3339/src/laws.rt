@@ -1,10 +1,15 @@
 //! Laws of the texts: each function here proves one, and does nothing when it is called.
-ghost use Rattle.rfc3339.specs.Laws.{TextsHaveOneReading, WrittenTextsReadBack, TextsTellValues};
+ghost use Rattle.rfc3339.specs.Laws.{TextsHaveOneReading, ReadingsAreOfTheForm, WrittenTextsReadBack, TextsTellValues};
 ghost use Rattle.rfc3339.specs.Laws.{FixedTextsHaveOneWidth, FixedTextsKeepTheOrder};
 
 /// A text spells one list of parts at most.
 pub fn texts_have_one_reading()
     ensures { TextsHaveOneReading }
+{}
+
+/// What a text is read as is what the numbers that it spells mean, or else a refusal of its form.
+pub fn readings_are_of_the_form()
+    ensures { ReadingsAreOfTheForm }
 {}
 
 /// What is written has the form, and means the value that was written, offset included.

@@ -1,7 +1,10 @@
 //! Texts of exchange: date-times as RFC 3339 writes them, written and read.
 #![tactic(auto, using(calendar_values::specs::Constants::constants))]
 
+mod front;
+mod full_dates;
 pub mod laws;
+pub mod length_laws;
 mod parse;
 mod parts;
 mod reading;
@@ -9,9 +12,13 @@ mod refusal;
 mod texts;
 mod write;
 mod write_fixed;
+mod write_unix;
 
+pub use front::{parse_rfc3339_front, parse_rfc3339_offset};
+pub use full_dates::{date_from_rfc3339, date_to_rfc3339};
 pub use parse::parse_rfc3339;
 pub use parts::Parts;
 pub use refusal::{Component, TextRefusal};
 pub use texts::Rfc3339;
-pub use write_fixed::to_rfc3339_nanos;
+pub use write_fixed::{to_rfc3339_nanos, to_rfc3339_nanos_at};
+pub use write_unix::to_unix_nanos;

@@ -4,6 +4,7 @@ ghost use Rattle.calendar_values.specs.WallClock.{IsWallClock};
 ghost use Rattle.offset_times.specs.Local.{Local, local_in_utc, instant_of};
 ghost use Rattle.rfc3339.specs.Form.{IsDateTime};
 ghost use Rattle.rfc3339.specs.Meaning.{meaning, offset_of, value_of, AreInRange};
+ghost use Rattle.rfc3339.specs.Reading.{reading_of};
 ghost use Rattle.rfc3339.specs.Texts.{HasText, rfc3339_text, HasFixedText, fixed_text};
 ghost use Rattle.rfc3339.specs.declared.parts.Parts.{Parts};
 ghost use Rattle.rfc3339.specs.declared.refusal.TextRefusal.TheVariants.{Syntax};
@@ -18,22 +19,24 @@ use offset_times::OffsetDateTime;
 /// past the ninth are dropped, which rounds down; `-00:00` is the offset 0. Refused `Syntax` where the text has not
 /// that form, else by the first part from the left that is out of its range; a second of 60 is.
 pub fn parse_rfc3339(text: &[u8]) -> Result<OffsetDateTime, TextRefusal>
-    // A text that spells parts is accepted exactly where they are in their ranges, and then as what they mean.
+    // The whole answer, as a word that computes.
+    ensures reading { result ≡ reading_of text.now }
+
+    // The same by the form of the text: one that spells parts is accepted exactly where they are in their ranges, and
+    // refused by the first that is not; any other is refused for its form.
     ensures value { (p : Parts) → IsDateTime text.now p → OkIff result (AreInRange p) (value_of p) }
-    // Any other text is refused for its form.
-    ensures syntax { (result ≡ Err Syntax) ⊎ ((p : Parts) × IsDateTime text.now p) }
-    // Both in one equation, with the refusal that comes: that of the first part that is out of its range.
     ensures equation { (p : Parts) → IsDateTime text.now p → result ≡ meaning p }
-    // What is accepted spells parts in their ranges.
+    ensures syntax { (result ≡ Err Syntax) ⊎ ((p : Parts) × IsDateTime text.now p) }
+
+    // What is accepted spells parts in their ranges, can be written, and has an instant in the range, so that it
+    // converts to UTC.
     ensures accepted { IfOk result (λ at.
         (p : Parts) × IsDateTime text.now p × AreInRange p × (at ≡ value_of p)) }
-    // What is read can be written.
     ensures has_text { IfOk result HasText }
-    // Its instant lies in the range, so that it converts to UTC.
     ensures instant { IfOk result (λ at. IsWallClock (instant_of at)) }
-    // What `to_rfc3339` wrote is read back, offset included.
+
+    // What `to_rfc3339` wrote is read back, offset included, and what `to_rfc3339_nanos` wrote, in UTC.
     ensures written { (at : Local) → HasText at → text.now ≡ rfc3339_text at → result ≡ Ok at }
-    // And what `to_rfc3339_nanos` wrote, in UTC.
     ensures written_fixed { (i : ℤ) → HasFixedText i → text.now ≡ fixed_text i →
         result ≡ Ok (local_in_utc i) }
 {
@@ -45,7 +48,7 @@ pub fn parse_rfc3339(text: &[u8]) -> Result<OffsetDateTime, TextRefusal>
 
 // What the numbers of a text mean.
 #[tactic(auto, unfolding(crate::specs::Meaning::meaning))]
-fn date_time(parts: Parts) -> Result<OffsetDateTime, TextRefusal>
+pub(crate) fn date_time(parts: Parts) -> Result<OffsetDateTime, TextRefusal>
     requires nanosecond { parts.nanosecond ≤ 999_999_999 }
     requires year { parts.year ≤ 9_999 }
     ensures value { result ≡ meaning parts }
@@ -77,7 +80,7 @@ fn date_time(parts: Parts) -> Result<OffsetDateTime, TextRefusal>
 }
 
 // The offset of a sign, hours and minutes.
-fn offset(is_west: bool, hour: u8, minute: u8) -> UtcOffset
+pub(crate) fn offset(is_west: bool, hour: u8, minute: u8) -> UtcOffset
     requires hour { hour ≤ 23 }
     requires minute { minute ≤ 59 }
     ensures { result ≡ offset_of is_west hour minute }

@@ -2,7 +2,7 @@
 ghost use Rattle.std.specs.Prelude.{◌≡◌, ℕ, ◌+◌, ◌-◌, ◌*◌, ◌≤◌, ◌<◌, option_map, IfSome};
 ghost use Rattle.std.specs.Int.{IsInRange};
 ghost use Rattle.rfc3339.specs.Reading.{digit_at, two_digits_at, mark_at, part_at, year_at};
-ghost use Rattle.rfc3339.specs.Reading.{separator_at, digits_at, fraction_at, ended, zone_at, parts_at};
+ghost use Rattle.rfc3339.specs.Reading.{separator_at, digits_at, fraction_at, zone_at, second_on, time_on, front_at, parts_at};
 
 use crate::Parts;
 
@@ -17,18 +17,61 @@ pub(crate) fn parts(text: &[u8]) -> Option<Parts>
     ensures value { result ≡ parts_at text.now }
     ensures in_range { IfSome result (λ p. (p.nanosecond ≤ 999_999_999) × (p.year ≤ 9_999)) }
 {
+    let (parts, rest) = front(text)?;
+    if rest.is_empty() { Some(parts) } else { None }
+}
+
+// The parts of the date-time in front of a text, and what follows it.
+#[tactic(auto, unfolding(crate::specs::Reading::front_at))]
+#[inline(always)]
+pub(crate) fn front(text: &[u8]) -> Option<(Parts, &[u8])>
+    ensures value { option_map (λ read. (read.0, read.1.now)) result ≡ front_at text.now }
+    ensures in_range { IfSome result (λ read.
+        (read.0.nanosecond ≤ 999_999_999) × (read.0.year ≤ 9_999)) }
+{
     if text.len() < SHORTEST {
         return None;
     }
     let (year, text) = year(text)?;
     let (month, text) = part(b'-', text)?;
     let (day, text) = part(b'-', text)?;
+    after_date(year, month, day, text)
+}
+
+// The same, from what follows its date on.
+#[inline(always)]
+fn after_date(year: u16, month: u8, day: u8, text: &[u8]) -> Option<(Parts, &[u8])>
+    requires { year ≤ 9_999 }
+    ensures value { option_map (λ read. (read.0, read.1.now)) result
+        ≡ time_on year month day text.now }
+    ensures in_range { IfSome result (λ read.
+        (read.0.nanosecond ≤ 999_999_999) × (read.0.year ≤ 9_999)) }
+{
     let (hour, text) = two_digits(after_separator(text)?)?;
     let (minute, text) = part(b':', text)?;
+    after_minute(year, month, day, hour, minute, text)
+}
+
+// The same, from what follows its minute on.
+#[inline(always)]
+fn after_minute(
+    year: u16,
+    month: u8,
+    day: u8,
+    hour: u8,
+    minute: u8,
+    text: &[u8],
+) -> Option<(Parts, &[u8])>
+    requires { year ≤ 9_999 }
+    ensures value { option_map (λ read. (read.0, read.1.now)) result
+        ≡ second_on year month day hour minute text.now }
+    ensures in_range { IfSome result (λ read.
+        (read.0.nanosecond ≤ 999_999_999) × (read.0.year ≤ 9_999)) }
+{
     let (second, text) = part(b':', text)?;
     let (nanosecond, text) = fraction(text)?;
-    let (is_west, offset_hour, offset_minute) = zone(text)?;
-    Some(Parts {
+    let ((is_west, offset_hour, offset_minute), text) = zone(text)?;
+    let parts = Parts {
         year,
         month,
         day,
@@ -39,13 +82,14 @@ pub(crate) fn parts(text: &[u8]) -> Option<Parts>
         is_west,
         offset_hour,
         offset_minute,
-    })
+    };
+    Some((parts, text))
 }
 
 // A year of four digits, and what follows it.
 #[tactic(auto, unfolding(crate::specs::Reading::year_at, crate::specs::Reading::two_digits_at, crate::specs::Reading::digit_at))]
 #[inline(always)]
-fn year(text: &[u8]) -> Option<(u16, &[u8])>
+pub(crate) fn year(text: &[u8]) -> Option<(u16, &[u8])>
     ensures value { option_map (λ read. (read.0, read.1.now)) result ≡ year_at text.now }
     ensures in_range { IfSome result (λ read. read.0 ≤ 9_999) }
 {
@@ -67,7 +111,7 @@ fn year(text: &[u8]) -> Option<(u16, &[u8])>
 // The two digits after a mark, and what follows them.
 #[tactic(auto, unfolding(crate::specs::Reading::part_at, crate::specs::Reading::mark_at, crate::specs::Reading::two_digits_at, crate::specs::Reading::digit_at))]
 #[inline(always)]
-fn part(mark: u8, text: &[u8]) -> Option<(u8, &[u8])>
+pub(crate) fn part(mark: u8, text: &[u8]) -> Option<(u8, &[u8])>
     ensures { option_map (λ read. (read.0, read.1.now)) result ≡ part_at mark text.now }
 {
     let [first, tens, units, rest @ ..] = text else {
@@ -193,17 +237,17 @@ fn after_digits(text: &[u8]) -> &[u8]
     rest
 }
 
-// `Z` or `z`, or a sign, hours and minutes, and no more: whether it is west, the hours, the minutes.
+// `Z` or `z`, or a sign, hours and minutes: whether it is west, the hours, the minutes; and what follows them.
 #[tactic(auto, unfolding(crate::specs::Reading::zone_at, crate::specs::Reading::two_digits_at, crate::specs::Reading::digit_at))]
 #[inline(always)]
-fn zone(text: &[u8]) -> Option<(bool, u8, u8)>
-    ensures { result ≡ zone_at text.now }
+pub(crate) fn zone(text: &[u8]) -> Option<((bool, u8, u8), &[u8])>
+    ensures { option_map (λ read. (read.0, read.1.now)) result ≡ zone_at text.now }
 {
     let [first, text @ ..] = text else {
         return None;
     };
     if *first == b'Z' || *first == b'z' {
-        return at_end((false, 0, 0), text);
+        return Some(((false, 0, 0), text));
     }
     let [tens, units, text @ ..] = text else {
         return None;
@@ -212,15 +256,7 @@ fn zone(text: &[u8]) -> Option<(bool, u8, u8)>
     if ((*first == b'+') | (*first == b'-')) & tens.is_ascii_digit() & units.is_ascii_digit() {
         let hour = number(*tens, *units);
         let (minute, text) = part(b':', text)?;
-        return at_end((*first == b'-', hour, minute), text);
+        return Some(((*first == b'-', hour, minute), text));
     }
     None
-}
-
-// What was read, if the text ends there.
-#[inline(always)]
-fn at_end(zone: (bool, u8, u8), text: &[u8]) -> Option<(bool, u8, u8)>
-    ensures { result ≡ ended zone text.now }
-{
-    if text.is_empty() { Some(zone) } else { None }
 }

@@ -1,10 +1,12 @@
 //! Every type that has texts of RFC 3339.
-ghost use Rattle.std.specs.Prelude.{◌≡◌, ◌≤◌, ◌⊎◌, SomeIff, IfSome, OkIff, Err, Ok, pos, length};
+ghost use Rattle.std.specs.Prelude.{◌≡◌, ℤ, IfOk, ◌≤◌, ◌⊎◌, SomeIff, IfSome, OkIff, Err, Ok, pos, length};
 ghost use Rattle.std.specs.Result.{result_map_both};
+ghost use Rattle.calendar_values.specs.WallClock.{IsWallClock};
 ghost use Rattle.offset_times.specs.Local.{Local, local_in_utc, instant_of};
 ghost use Rattle.rfc3339.specs.Form.{IsDateTime};
 ghost use Rattle.rfc3339.specs.Meaning.{meaning, value_of, AreInRange};
-ghost use Rattle.rfc3339.specs.Texts.{HasText, rfc3339_text};
+ghost use Rattle.rfc3339.specs.Reading.{reading_of, reading_as};
+ghost use Rattle.rfc3339.specs.Texts.{HasText, rfc3339_text, HasFixedText, fixed_text};
 ghost use Rattle.rfc3339.specs.declared.parts.Parts.{Parts};
 ghost use Rattle.rfc3339.specs.declared.refusal.TextRefusal.TheVariants.{Syntax};
 
@@ -26,13 +28,28 @@ pub trait Rfc3339: Copy {
     /// Reads a text as [`parse_rfc3339`] does, as a value of this type, and with its refusals. The instant of such a
     /// text always exists.
     fn from_rfc3339(text: &[u8]) -> Result<Self, TextRefusal>
+        // The whole answer, as a word that computes.
+        ensures reading { result ≡ reading_as value_shown text.now }
+
+        // The same by the form of the text.
         ensures value { (p : Parts) → IsDateTime text.now p →
             OkIff result (AreInRange p) (value_shown (value_of p)) }
-        ensures syntax { (result ≡ Err Syntax) ⊎ ((p : Parts) × IsDateTime text.now p) }
         ensures equation { (p : Parts) → IsDateTime text.now p →
             result ≡ result_map_both value_shown (λ refusal. refusal) (meaning p) }
+        ensures syntax { (result ≡ Err Syntax) ⊎ ((p : Parts) × IsDateTime text.now p) }
+
+        // What is accepted spells parts in their ranges; what was read of it can be written at its own offset, and has
+        // an instant in the range.
+        ensures accepted { IfOk result (λ at. (p : Parts) × IsDateTime text.now p ×
+            AreInRange p × (at ≡ value_shown (value_of p))) }
+        ensures has_text { IfOk (reading_of text.now) HasText }
+        ensures instant { IfOk result (λ at. IsWallClock (instant_of (shown at))) }
+
+        // What was written is read back.
         ensures written { (at : Self) → HasText (shown at) →
-            text.now ≡ rfc3339_text (shown at) → result ≡ Ok at };
+            text.now ≡ rfc3339_text (shown at) → result ≡ Ok at }
+        ensures written_fixed { (i : ℤ) → HasFixedText i → text.now ≡ fixed_text i →
+            result ≡ Ok (value_shown (local_in_utc i)) };
 
     /// The text, the shortest that there is, as `1985-04-12T23:20:50.52Z` or `1996-12-19T16:39:57-08:00`: `T` between
     /// the date and the time of day, no fraction for a whole second and else none that ends in 0, `Z` for the offset 0.

@@ -3,15 +3,23 @@ ghost use Rattle.std.specs.Prelude.{◌≡◌, ◌≤◌, ◌<◌, ◌+◌, ◌+
 ghost use Rattle.calendar_values.specs.Digits.{last_digits, text_capacity};
 ghost use Rattle.calendar_values.specs.Offsets.{IsOffsetParts, seconds_of_parts};
 ghost use Rattle.stamp_times.specs.Texts.{fraction_text};
-ghost use Rattle.rfc3339.specs.Texts.{HasText, time_offset_text, rfc3339_text};
+ghost use Rattle.rfc3339.specs.Texts.{HasText, time_offset_text, rfc3339_text, text_with, fraction_with};
 
 use calendar_values::Text;
 use offset_times::OffsetDateTime;
 
 // The shortest text of RFC 3339, if there is one.
-#[tactic(auto, unfolding(crate::specs::Texts::rfc3339_text))]
 pub(crate) fn text_of(at: OffsetDateTime) -> Option<Text>
     ensures text { SomeIff result (HasText at) (rfc3339_text at) }
+    ensures length { IfSome result (λ text. length text ≤ 35) }
+{
+    text_with(at, false)
+}
+
+// The text of RFC 3339, if there is one: with nine digits of the fraction, or with those that it takes.
+#[inline(always)]
+pub(crate) fn text_with(at: OffsetDateTime, has_nine_digits: bool) -> Option<Text>
+    ensures text { SomeIff result (HasText at) (text_with has_nine_digits at) }
     ensures length { IfSome result (λ text. length text ≤ 35) }
 {
     let (date, time, offset) = at.parts();
@@ -25,7 +33,7 @@ pub(crate) fn text_of(at: OffsetDateTime) -> Option<Text>
     push_date(&mut text, year as u32, u8::from(month), day);
     text.push(b'T');
     push_clock(&mut text, hour, minute, second);
-    push_fraction(&mut text, nanosecond);
+    push_digits(&mut text, nanosecond, has_nine_digits);
     push_offset(&mut text, hours, minutes);
     Some(text)
 }
@@ -69,8 +77,32 @@ fn push_fraction(text: &mut Text, nanosecond: u32)
     }
 }
 
+// Adds the fraction, of nine digits or of those that it takes.
+#[inline(always)]
+fn push_digits(text: &mut Text, nanosecond: u32, has_nine_digits: bool)
+    requires { length text.old + 10 ≤ text_capacity }
+    ensures value { text.new ≡ text.old ++ fraction_with has_nine_digits nanosecond }
+    ensures length { length text.new ≤ length text.old + 10 }
+{
+    if has_nine_digits {
+        push_whole_fraction(text, nanosecond);
+    } else {
+        push_fraction(text, nanosecond);
+    }
+}
+
+// Adds the point and nine digits.
+pub(crate) fn push_whole_fraction(text: &mut Text, nanosecond: u32)
+    requires { length text.old + 10 ≤ text_capacity }
+    ensures value { text.new ≡ text.old ++ codes "." ++ last_digits 9 nanosecond }
+    ensures length { length text.new ≡ length text.old + 10 }
+{
+    text.push(b'.');
+    push_nine_digits(text, nanosecond);
+}
+
 // Adds the offset of so many hours and minutes, of one sign.
-fn push_offset(text: &mut Text, hours: i8, minutes: i8)
+pub(crate) fn push_offset(text: &mut Text, hours: i8, minutes: i8)
     requires room { length text.old + 6 ≤ text_capacity }
     requires parts { IsOffsetParts hours minutes (pos 0) }
     ensures value { let o = seconds_of_parts hours minutes (pos 0) in
@@ -85,4 +117,16 @@ fn push_offset(text: &mut Text, hours: i8, minutes: i8)
     let sign = if is_west { b'-' } else { b'+' };
     text.push_part(sign, hours.unsigned_abs());
     text.push_part(b':', minutes.unsigned_abs());
+}
+
+// Adds the last nine digits of a number.
+#[tactic(auto, using(crate::proofs::WriteLemmas::pushed_digits))]
+fn push_nine_digits(text: &mut Text, number: u32)
+    requires { length text.old + 9 ≤ text_capacity }
+    ensures value { text.new ≡ text.old ++ last_digits 9 number }
+    ensures length { length text.new ≡ length text.old + 9 }
+{
+    text.push(b'0' + (number / 100_000_000 % 10) as u8);
+    text.push_four_digits(number / 10_000);
+    text.push_four_digits(number);
 }

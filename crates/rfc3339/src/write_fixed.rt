@@ -1,10 +1,10 @@
 //! Texts of fixed width written.
-ghost use Rattle.std.specs.Prelude.{◌≡◌, ◌≤◌, ◌+◌, ◌++◌, length, SomeIff, IfSome};
-ghost use Rattle.calendar_values.specs.Digits.{last_digits, text_capacity};
-ghost use Rattle.rfc3339.specs.Texts.{HasFixedText, fixed_text};
+ghost use Rattle.std.specs.Prelude.{◌≡◌, ◌≤◌, length, SomeIff, IfSome};
+ghost use Rattle.rfc3339.specs.Texts.{HasFixedText, fixed_text, HasText, fixed_text_at};
 
-use crate::write::{push_clock, push_date};
+use crate::write::{push_clock, push_date, push_whole_fraction, text_with};
 use calendar_values::Text;
+use offset_times::OffsetDateTime;
 use stamp_times::Moment;
 
 /// The text of RFC 3339 of an instant in UTC, always with nine digits of the fraction and with `Z`, of 30 bytes:
@@ -24,20 +24,16 @@ pub fn to_rfc3339_nanos<M: Moment>(at: M) -> Option<Text>
     push_date(&mut text, year as u32, u8::from(month), day);
     text.push(b'T');
     push_clock(&mut text, hour, minute, second);
-    text.push(b'.');
-    push_nine_digits(&mut text, nanosecond);
+    push_whole_fraction(&mut text, nanosecond);
     text.push(b'Z');
     Some(text)
 }
 
-// Adds the last nine digits of a number.
-#[tactic(auto, using(crate::proofs::WriteLemmas::pushed_digits))]
-fn push_nine_digits(text: &mut Text, number: u32)
-    requires { length text.old + 9 ≤ text_capacity }
-    ensures value { text.new ≡ text.old ++ last_digits 9 number }
-    ensures length { length text.new ≡ length text.old + 9 }
+/// The same at an offset, as `1985-04-13T04:50:50.520000000+05:30`, with `Z` for the offset 0: at one offset all have one
+/// width, and compare as their instants do. None where [`Rfc3339::to_rfc3339`](crate::Rfc3339::to_rfc3339) has no text.
+pub fn to_rfc3339_nanos_at(at: OffsetDateTime) -> Option<Text>
+    ensures text { SomeIff result (HasText at) (fixed_text_at at) }
+    ensures length { IfSome result (λ text. length text ≤ 35) }
 {
-    text.push(b'0' + (number / 100_000_000 % 10) as u8);
-    text.push_four_digits(number / 10_000);
-    text.push_four_digits(number);
+    text_with(at, true)
 }

@@ -2,6 +2,8 @@
 use std::fmt::Debug;
 use std::process::Abort;
 
+mod dates;
+mod fronts;
 mod places;
 mod texts;
 

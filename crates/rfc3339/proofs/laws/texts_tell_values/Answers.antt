@@ -1,4 +1,4 @@
-use Rattle.rfc3339.proofs.ValueLemmas.{one_value}
+use Rattle.rfc3339.specs.ValueLemmas.{one_value}
 use Rattle.rfc3339.proofs.laws.texts_tell_values.Goals as goal
 
 pub returns : goal.returns

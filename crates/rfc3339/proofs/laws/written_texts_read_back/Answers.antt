@@ -1,4 +1,4 @@
-use Rattle.rfc3339.proofs.ValueLemmas.{read_back}
+use Rattle.rfc3339.specs.ValueLemmas.{read_back}
 use Rattle.rfc3339.proofs.laws.written_texts_read_back.Goals as goal
 
 pub returns : goal.returns

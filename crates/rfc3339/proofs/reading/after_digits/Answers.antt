@@ -1,5 +1,5 @@
 use Rattle.std.proofs.Common.{rules, arith, sym, ◌∙◌}
-use Rattle.rfc3339.proofs.FieldDigitLemmas.{loop_drop, digits_at-none, length-digit}
+use Rattle.rfc3339.specs.FieldDigitLemmas.{loop_drop, digits_at-none, length-digit}
 use Rattle.rfc3339.proofs.reading.after_digits.Goals as goal
 
 pub loop-more-smaller : goal.loop-more-smaller

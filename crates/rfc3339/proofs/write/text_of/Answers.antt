@@ -1,59 +1,6 @@
-use Rattle.std.proofs.Common.{refl, length, arith, sym, ap, ◌∙◌, ◌≡◌, ℕ, unsigned_abs, w32, to_z, of_z}
-use Rattle.calendar_values.specs.Calendar.{year_of}
-use Rattle.calendar_values.specs.SignedArith.{signed_casts}
-use Rattle.calendar_values.specs.WallClock.{wall_day}
-use Rattle.rfc3339.proofs.WriteLemmas.{back_part, no_part, some_size, size_of_parts}
-use Rattle.rfc3339.specs.Texts.{rfc3339_text}
+use Rattle.rfc3339.specs.Texts.{text_with, rfc3339_text}
 use Rattle.rfc3339.proofs.write.text_of.Goals as goal
-use Rattle.rfc3339.proofs.write.text_of.Goals.{then-year-lt0-via-then-year-lt0, then-year-lt0-via-else-year-lt0+then-year-gt9999}
-use Rattle.rfc3339.proofs.write.text_of.Goals.{then-year-lt0-via-else-year-lt0+else-year-gt9999+then-seconds-ne0}
-use Rattle.rfc3339.proofs.write.text_of.Goals.{then-year-lt0-via-else-year-lt0+else-year-gt9999+else-seconds-ne0+then-unsigned_abs-gt23}
-
-pub returns-then-year-lt0-clause-text : goal.returns-then-year-lt0-clause-text
-returns-then-year-lt0-clause-text c h =
-    let shown = c.to_calendar_date-year.ensures in
-    let year = shown.year ∙ ap year_of c.parts-date.ensures.date in
-    let range = shown.year_in_range in
-    let p = c.as_hms-hours.ensures.in_range in
-    let offset = c.as_hms-hours.ensures.parts ∙ c.parts-date.ensures.offset in
-    let size = ap unsigned_abs (sym offset) ∙ size_of_parts c.as_hms-hours.result.0 c.as_hms-hours.result.1 c.as_hms-hours.result.2 p in
-    elim c.then-year-lt0.branch [
-      | then-year-lt0-via-then-year-lt0 w ↦ omega (arith, signed_casts, w.if-year-lt0.true)
-      | then-year-lt0-via-else-year-lt0+then-year-gt9999 w ↦ omega (arith, signed_casts, w.if-year-gt9999.true)
-      | then-year-lt0-via-else-year-lt0+else-year-gt9999+then-seconds-ne0 w ↦ omega (arith, some_size c.as_hms-hours.result.2 w.if-seconds-ne0.true)
-      | then-year-lt0-via-else-year-lt0+else-year-gt9999+else-seconds-ne0+then-unsigned_abs-gt23 w ↦
-          omega (arith, w.unsigned_abs.ensures.value ∙ ap unsigned_abs (back_part c.as_hms-hours.result.0 (omega (arith, p.hours_in_range))))
-    ]
-
-pub push_offset-requires-clause-parts : goal.push_offset-requires-clause-parts
-push_offset-requires-clause-parts c =
-    let p = c.as_hms-hours.ensures.in_range in
-    let back_hours = back_part c.as_hms-hours.result.0 (omega (arith, p.hours_in_range)) in
-    let back_minutes = back_part c.as_hms-hours.result.1 p.minutes_in_range in
-    let none = no_part c.as_hms-hours.result.2 p.seconds_in_range c.if-seconds-ne0.false in
-    rw (back_hours, back_minutes) (rw none at p)
 
 pub returns-clause-text : goal.returns-clause-text
-unfolding rfc3339_text
-returns-clause-text c =
-    let shown = c.to_calendar_date-year.ensures in
-    let date = c.parts-date.ensures in
-    let year : c.to_calendar_date-year.result.0 ≡ year_of (wall_day c.args.at.wall) = shown.year ∙ ap year_of date.date in
-    let same : to_z w32 (of_z w32 c.to_calendar_date-year.result.0) ≡ c.to_calendar_date-year.result.0 = omega (arith, signed_casts, shown.year_in_range) in
-    let p = c.as_hms-hours.ensures.in_range in
-    let offset = c.as_hms-hours.ensures.parts ∙ date.offset in
-    let size = ap unsigned_abs (sym offset) ∙ size_of_parts c.as_hms-hours.result.0 c.as_hms-hours.result.1 c.as_hms-hours.result.2 p in
-    let back_hours = back_part c.as_hms-hours.result.0 (omega (arith, p.hours_in_range)) in
-    let back_minutes = back_part c.as_hms-hours.result.1 p.minutes_in_range in
-    let none = no_part c.as_hms-hours.result.2 p.seconds_in_range c.if-seconds-ne0.false in
-    let no_seconds = ap unsigned_abs none in
-    let hours = c.unsigned_abs.ensures.value ∙ ap unsigned_abs back_hours in
-    let signed = rw none at offset in (
-      omega (arith, signed_casts),
-      rw (c.push_offset.ensures.value, c.push_fraction.ensures.value, c.push_clock.ensures.value, c.push.ensures.value, c.push_date.ensures.value)
-          (rw (c.new-text.ensures, back_hours, back_minutes, signed, same, c.from.ensures, shown.year, shown.month, shown.day, date.date)
-          (rw (c.as_hms_nano-hour.ensures.value, date.time) refl)),
-    )
-
-pub returns-clause-length : goal.returns-clause-length
-returns-clause-length c = omega (arith, ap (length {A = ℕ}) c.new-text.ensures)
+unfolding text_with rfc3339_text
+returns-clause-text c = c.text_with.ensures.text

@@ -18,9 +18,9 @@ use Rattle.rfc3339.specs.Form.{IsFraction, IsOffsetText, IsDateTime}
 use Rattle.rfc3339.specs.Meaning.{AreInRange, offset_of, value_of, meaning}
 use Rattle.stamp_times.specs.Texts.{fraction_text}
 use Rattle.rfc3339.specs.Texts.{HasText, HasFixedText, parts_of, time_offset_text, rfc3339_text, fixed_text}
-use Rattle.rfc3339.proofs.MeaningLemmas.{meaning-in_range, ok_is}
-use Rattle.rfc3339.proofs.TextLemmas.{one_reading}
-use Rattle.rfc3339.proofs.WrittenDigits.{last_digits-are, fraction_digits-are, fraction_digits-some, fraction_value-nine, fraction_value-nanosecond}
+use Rattle.rfc3339.specs.MeaningLemmas.{meaning-in_range, ok_is}
+use Rattle.rfc3339.specs.TextLemmas.{one_reading}
+use Rattle.rfc3339.specs.WrittenDigitLemmas.{last_digits-are, fraction_digits-are, fraction_digits-some, fraction_value-nine, fraction_value-nanosecond}
 
 -- ---- a fraction
 

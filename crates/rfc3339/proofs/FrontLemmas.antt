@@ -1,0 +1,87 @@
+-- What the front of a text is read as.
+use Rattle.std.proofs.Common.{◌≡◌, ℕ, ℤ, ◌-◌, ◌≤◌, ◌<◌, Bool, true, false, cond, nat_lt, List, [], ◌++◌, length, length-append, append-nil, Some, Result, Ok}
+use Rattle.std.proofs.Common.{Err}
+use Rattle.std.proofs.Common.{refl, sym, ap, ◌∙◌, arith}
+use Rattle.std.specs.Prelude.{IfOk, OkIff}
+use Rattle.std.specs.Result.{result_map_both}
+use Rattle.calendar_values.specs.WallClock.{IsWallClock}
+use Rattle.offset_times.specs.Local.{Local, instant_of}
+use Rattle.rfc3339.specs.declared.parts.Parts.{Parts}
+use Rattle.rfc3339.specs.declared.refusal.TextRefusal.{TextRefusal}
+use Rattle.rfc3339.specs.declared.refusal.Component.TheVariants.{OffsetHour, OffsetMinute}
+use Rattle.rfc3339.specs.declared.refusal.TextRefusal.TheVariants.{OutOfRange}
+use Rattle.rfc3339.specs.Form.{IsDateTime, IsOffsetText}
+use Rattle.rfc3339.specs.Front.{front_reading_of, offset_reading_of}
+use Rattle.rfc3339.specs.ReadInstantLemmas.{instant_of-in_range}
+use Rattle.rfc3339.specs.Meaning.{AreInRange, offset_of, value_of, meaning}
+use Rattle.rfc3339.specs.Reading.{front_at}
+use Rattle.rfc3339.specs.Texts.{HasText}
+use Rattle.std.proofs.lemmas.Bool.Decides.{nat_tests}
+use Rattle.rfc3339.specs.FractionLemmas.{zone_again}
+use Rattle.rfc3339.specs.MeaningLemmas.{meaning-ok, meaning-in_range, has_text_of}
+use Rattle.rfc3339.specs.TextLemmas.{front_takes, front_again}
+
+-- what follows is no longer than the text
+pub length-rest : (text : List ℕ) (p : Parts) (rest : List ℕ) → Some (p, rest) ≡ front_at text → length rest ≤ length text
+length-rest text p rest e =
+    let front = front_takes text p rest (sym e) in omega (arith, ap (length {A = ℕ}) front.1.parts, length-append front.0 rest)
+
+-- what is read of digits can be written
+pub has_text_of-front : (p : Parts) (at : Local) → Ok at ≡ meaning p → p.nanosecond ≤ 999_999_999 → p.year ≤ 9_999 → HasText at
+has_text_of-front p at e n y = has_text_of p (Ok at) e n y
+
+pub ruleset fronts = (length-rest)
+
+-- with the number of bytes
+abbrev with_length : ℕ → Result Local TextRefusal → Result (Local × ℕ) TextRefusal
+with_length n r = result_map_both (λ at. (at, n)) (λ refusal. refusal) r
+
+front_reading_of-spelled : (text stamp rest : List ℕ) (p : Parts) → text ≡ stamp ++ rest → IsDateTime stamp p
+    → front_reading_of text ≡ with_length (length stamp) (meaning p)
+unfolding front_reading_of
+front_reading_of-spelled text stamp rest p e h =
+    let count : length (stamp ++ rest) - length rest ≡ length stamp = omega (arith, length-append stamp rest) in
+    rw (e, front_again stamp p rest h, count) refl
+
+accepted-with_length : (p : Parts) (n : ℕ) (m : Result Local TextRefusal) → m ≡ meaning p → OkIff (with_length n m) (AreInRange p) (value_of p, n)
+accepted-with_length p n (Ok at) e =
+    let ok = meaning-ok p at (sym e) in (ok.0, ap (λ (z : Local). (z, n)) ok.1)
+accepted-with_length p n (Err d) e = λ h. let bad = e ∙ meaning-in_range p h in absurd cc
+
+-- a beginning that spells parts is accepted exactly where they are in their ranges
+pub accepted_front : (text : List ℕ) (r : Result (Local × ℕ) TextRefusal) → r ≡ front_reading_of text → (stamp rest : List ℕ) (p : Parts)
+    → text ≡ stamp ++ rest → IsDateTime stamp p → OkIff r (AreInRange p) (value_of p, length stamp)
+accepted_front text r e stamp rest p s h =
+    rw (e, front_reading_of-spelled text stamp rest p s h) (accepted-with_length p (length stamp) (meaning p) refl)
+
+longest_with : (n : ℕ) (m : Result Local TextRefusal) → IfOk (with_length n m) (λ read. n ≤ read.1)
+longest_with n (Ok at) = omega arith
+longest_with n (Err d) = tt
+
+-- and is the longest that has the form
+pub longest_front : (text : List ℕ) (r : Result (Local × ℕ) TextRefusal) → r ≡ front_reading_of text → (stamp rest : List ℕ) (p : Parts)
+    → text ≡ stamp ++ rest → IsDateTime stamp p → IfOk r (λ read. length stamp ≤ read.1)
+longest_front text r e stamp rest p s h =
+    rw (e, front_reading_of-spelled text stamp rest p s h) (longest_with (length stamp) (meaning p))
+
+-- its instant lies in the range
+pub instant_in_range : (r : Result (Local × ℕ) TextRefusal) → IfOk r (λ read. HasText read.0) → IfOk r (λ read. IsWallClock (instant_of read.0))
+instant_in_range (Ok read) h = instant_of-in_range read.0 h
+instant_in_range (Err refusal) h = tt
+
+-- ---- an offset alone
+
+accepted-numbers : (is_west : Bool) (hour minute : ℕ) (late over : Bool) → nat_lt 23 hour ≡ late → nat_lt 59 minute ≡ over
+    → OkIff (cond late (Err (OutOfRange OffsetHour)) (cond over (Err (OutOfRange OffsetMinute)) (Ok (offset_of is_west hour minute))))
+    ((hour ≤ 23) × (minute ≤ 59)) (offset_of is_west hour minute)
+accepted-numbers is_west hour minute true over e f = λ h. grind (arith, nat_tests, h.0)
+accepted-numbers is_west hour minute false true e f = λ h. grind (arith, nat_tests, h.1)
+accepted-numbers is_west hour minute false false e f = ((grind (arith, nat_tests), grind (arith, nat_tests)), refl)
+
+pub accepted_offset : (text : List ℕ) (r : Result ℤ TextRefusal) → r ≡ offset_reading_of text → (is_west : Bool) (hour minute : ℕ)
+    → IsOffsetText text is_west hour minute → hour < 100 → minute < 100
+    → OkIff r ((hour ≤ 23) × (minute ≤ 59)) (offset_of is_west hour minute)
+unfolding offset_reading_of
+accepted_offset text r e is_west hour minute is h m =
+    let zone = rw (append-nil text) at (zone_again text is_west hour minute [] is h m) in
+    rw (e, zone) (accepted-numbers is_west hour minute (nat_lt 23 hour) (nat_lt 59 minute) refl refl)

@@ -1,0 +1,11 @@
+use Rattle.rfc3339.proofs.FrontLemmas.{accepted_front, longest_front, instant_in_range}
+use Rattle.rfc3339.proofs.front.parse_rfc3339_front.Goals as goal
+
+pub returns-clause-value : goal.returns-clause-value
+returns-clause-value c = accepted_front c.args.text.now c.read_front.result c.read_front.ensures.reading
+
+pub returns-clause-longest : goal.returns-clause-longest
+returns-clause-longest c = longest_front c.args.text.now c.read_front.result c.read_front.ensures.reading
+
+pub returns-clause-instant : goal.returns-clause-instant
+returns-clause-instant c = instant_in_range c.read_front.result c.read_front.ensures.has_text

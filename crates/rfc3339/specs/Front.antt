@@ -1,0 +1,35 @@
+-- What the front of a text is read as, and what an offset alone.
+use Rattle.std.specs.Prelude.{ℕ, ◌-◌, ℤ, Bool, nat_lt, List, length, if◌then◌else◌, Option, Some, None, Result, Ok, Err}
+use Rattle.std.specs.Result.{result_map_both}
+use Rattle.offset_times.specs.Local.{Local}
+use Rattle.rfc3339.specs.Meaning.{meaning, offset_of}
+use Rattle.rfc3339.specs.Reading.{◌>>=◌, front_at, zone_at, ended}
+use Rattle.rfc3339.specs.declared.parts.Parts.{Parts}
+use Rattle.rfc3339.specs.declared.refusal.Component.TheVariants.{OffsetHour, OffsetMinute}
+use Rattle.rfc3339.specs.declared.refusal.TextRefusal.{TextRefusal}
+use Rattle.rfc3339.specs.declared.refusal.TextRefusal.TheVariants.{Syntax, OutOfRange}
+
+-- what the numbers in front mean, and how many bytes spell them
+abbrev pub front_meaning : List ℕ → Option (Parts × List ℕ) → Result (Local × ℕ) TextRefusal
+front_meaning text None = Err Syntax
+front_meaning text (Some (p, rest)) = result_map_both (λ at. (at, length text - length rest)) (λ refusal. refusal) (meaning p)
+
+-- what the front of a text is read as: a wall clock at an offset, and the number of its bytes
+unfoldable pub front_reading_of : List ℕ → Result (Local × ℕ) TextRefusal
+front_reading_of text = front_meaning text (front_at text)
+
+-- the seconds of an offset, or the first of its numbers that is out of its range
+abbrev pub offset_meaning : Option (Bool × ℕ × ℕ) → Result ℤ TextRefusal
+offset_meaning None = Err Syntax
+offset_meaning (Some (is_west, hour, minute)) =
+    if nat_lt 23 hour then Err (OutOfRange OffsetHour)
+    else (if nat_lt 59 minute then Err (OutOfRange OffsetMinute)
+    else Ok (offset_of is_west hour minute))
+
+-- the sign, the hours and the minutes of a text that has no more
+abbrev pub offset_numbers : List ℕ → Option (Bool × ℕ × ℕ)
+offset_numbers text = zone_at text >>= λ read. ended read.0 read.1
+
+-- what a text of an offset is read as
+unfoldable pub offset_reading_of : List ℕ → Result ℤ TextRefusal
+offset_reading_of text = offset_meaning (offset_numbers text)

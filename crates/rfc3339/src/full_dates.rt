@@ -1,0 +1,72 @@
+//! Days as texts, written and read.
+ghost use Rattle.std.specs.Prelude.{◌≡◌, ◌≤◌, ◌⊎◌, ℕ, ℤ, SomeIff, IfSome, Err, Ok, length};
+ghost use Rattle.rfc3339.specs.FullDates.{IsFullDate, HasFullDate, full_date_text};
+ghost use Rattle.rfc3339.specs.FullDates.{full_date_at, full_date_meaning};
+ghost use Rattle.rfc3339.specs.declared.refusal.TextRefusal.TheVariants.{Syntax};
+
+use crate::reading::{part, year};
+use crate::write::push_date;
+use crate::{Component, TextRefusal};
+use calendar_values::{Date, Month, Text};
+
+/// The text of a day, as RFC 3339 writes a `full-date`: `1985-04-12`, of 10 bytes. None where its year is not one of 0 to
+/// 9999.
+#[tactic(auto, unfolding(crate::specs::FullDates::full_date_text))]
+pub fn date_to_rfc3339(date: Date) -> Option<Text>
+    ensures text { SomeIff result (HasFullDate date) (full_date_text date) }
+    ensures length { IfSome result (λ text. length text ≡ 10) }
+{
+    let (year, month, day) = date.to_calendar_date();
+    if year < 0 || year > 9_999 {
+        return None;
+    }
+    let mut text = Text::new();
+    push_date(&mut text, year as u32, u8::from(month), day);
+    Some(text)
+}
+
+/// Reads a `full-date` of RFC 3339, section 5.6, with nothing before or after it, as `1985-04-12`. Refused `Syntax` where
+/// the text has not that form, else by its month or its day, the first that is out of its range.
+pub fn date_from_rfc3339(text: &[u8]) -> Result<Date, TextRefusal>
+    ensures equation { (year month day : ℕ) → IsFullDate text.now year month day →
+        result ≡ full_date_meaning year month day }
+    ensures syntax { (result ≡ Err Syntax)
+        ⊎ ((year : ℕ) × (month : ℕ) × (day : ℕ) × IsFullDate text.now year month day) }
+    // What `date_to_rfc3339` wrote is read back.
+    ensures written { (n : ℤ) → HasFullDate n → text.now ≡ full_date_text n → result ≡ Ok n }
+{
+    match numbers(text) {
+        Some((year, month, day)) => date(year, month, day),
+        None => Err(TextRefusal::Syntax),
+    }
+}
+
+// The year, the month and the day of a text, if it has the form.
+#[tactic(auto, unfolding(crate::specs::FullDates::full_date_at))]
+fn numbers(text: &[u8]) -> Option<(u16, u8, u8)>
+    ensures value { result ≡ full_date_at text.now }
+    ensures in_range { IfSome result (λ read. read.0 ≤ 9_999) }
+{
+    let (year, text) = year(text)?;
+    let (month, text) = part(b'-', text)?;
+    let (day, text) = part(b'-', text)?;
+    if text.is_empty() {
+        Some((year, month, day))
+    } else {
+        None
+    }
+}
+
+// The day that the numbers mean.
+fn date(year: u16, month: u8, day: u8) -> Result<Date, TextRefusal>
+    requires year { year ≤ 9_999 }
+    ensures { result ≡ full_date_meaning year month day }
+{
+    let Ok(month) = Month::from_number(month) else {
+        return Err(TextRefusal::OutOfRange(Component::Month));
+    };
+    let Ok(date) = Date::from_calendar_date(year as i32, month, day) else {
+        return Err(TextRefusal::OutOfRange(Component::Day));
+    };
+    Ok(date)
+}
