@@ -8,16 +8,18 @@ use Rattle.std.proofs.lemmas.Grind.{flat_map-append}
 use Rattle.std.proofs.lemmas.List.{length-take, take_all}
 use Rattle.std.proofs.lemmas.Result.{MatchResult-weaker}
 use Rattle.times_bench.specs.Answers.{answer_to, request_takes_memory, takes_memory, answer_of, answers_of}
-use Rattle.times_bench.specs.Lines.{unless_empty}
-use Rattle.times_bench.specs.LineParts.{ended_from, rest_from, Holds}
+use Rattle.line_devices.specs.Lines.{unless_empty}
+use Rattle.line_devices.specs.LineParts.{ended_from, rest_from}
+use Rattle.times_bench.specs.LineParts.{Holds}
 use Rattle.times_bench.specs.Progress.{AnswersBeforeMemory, AtFault, WritesPending, SendsAnswer, WritesAnswers}
 use Rattle.times_bench.specs.Requests.{Request, request_of}
-use Rattle.times_bench.specs.Writing.{AppendsBeginning, Sends}
+use Rattle.line_devices.specs.Writing.{AppendsBeginning, Sends}
 use Rattle.times_bench.specs.declared.sending.AnswerFault.{AnswerFault}
-use Rattle.times_bench.proofs.CutLemmas.{ended_from-append, ended_from-line_feed}
+use Rattle.line_devices.specs.LineLemmas.{ended_from-append, ended_from-line_feed}
 use Rattle.times_bench.proofs.LineLemmas.{Holds-append}
-use Rattle.times_bench.proofs.SendingLemmas.{Appends-append, Appends-flushed, AppendsBeginning-flushed, AppendsBeginning-longer, AppendsBeginning-pending}
-use Rattle.times_bench.proofs.SendingLemmas.{Sends-append, AtFault-weaker}
+use Rattle.line_devices.specs.WritingLemmas.{Appends-append, Appends-flushed, AppendsBeginning-flushed, AppendsBeginning-longer, AppendsBeginning-pending}
+use Rattle.line_devices.specs.WritingLemmas.{Sends-append}
+use Rattle.times_bench.proofs.SendingLemmas.{AtFault-weaker}
 
 -- the answers to the lines of one part and then of another
 pub answers_of-append : (piece xs ys : List ℕ)

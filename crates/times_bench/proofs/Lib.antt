@@ -1,6 +1,5 @@
 pub mod AnswerLemmas
 pub mod CallWordLemmas
-pub mod CutLemmas
 pub mod FeedLemmas
 pub mod LineLemmas
 pub mod NumberLemmas

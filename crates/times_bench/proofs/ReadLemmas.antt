@@ -4,43 +4,13 @@ use Rattle.std.specs.Prelude.{IfSome}
 use Rattle.std.specs.Io.KnownBytes.{Appends, Consumes, Keeps, IsAtEnd}
 use Rattle.std.proofs.lemmas.Grind.{flat_map-append}
 use Rattle.times_bench.specs.Progress.{AnswersBeforeMemory}
-use Rattle.times_bench.specs.Writing.{AppendsBeginning}
-use Rattle.times_bench.specs.Lines.{lines_of, whole_lines_of, unless_empty}
-use Rattle.times_bench.specs.LineParts.{ended_from, rest_from}
+use Rattle.line_devices.specs.Writing.{AppendsBeginning}
+use Rattle.line_devices.specs.Lines.{lines_of, whole_lines_of, unless_empty}
+use Rattle.line_devices.specs.LineParts.{ended_from, rest_from}
 use Rattle.times_bench.specs.Answers.{answer_of, answers_of}
-use Rattle.times_bench.proofs.CutLemmas.{lines_of-parts, lines_of-append, whole_lines_of-parts}
+use Rattle.line_devices.specs.LineLemmas.{lines_of-parts, lines_of-append, whole_lines_of-parts}
 use Rattle.times_bench.proofs.FeedLemmas.{answers_of-append, AnswersBeforeMemory-append, AnswersBeforeMemory-longer}
-use Rattle.times_bench.proofs.SendingLemmas.{AppendsBeginning-longer, Appends-append, AppendsBeginning-append}
-
-pub Consumes-nil : (a : Option (List ℕ)) → Consumes a a []
-Consumes-nil None = tt
-Consumes-nil (Some a) = refl
-
-pub Consumes-append : (a b c : Option (List ℕ)) (xs ys : List ℕ) → Consumes a b xs → Consumes b c ys → Consumes a c (xs ++ ys)
-Consumes-append None b c xs ys h k = tt
-Consumes-append (Some a) None c xs ys h k = absurd h
-Consumes-append (Some a) (Some b) None xs ys h k = absurd k
-Consumes-append (Some a) (Some b) (Some c) xs ys h k = h ∙ ap (λ (z : List ℕ). xs ++ z) k ∙ sym (append_assoc xs ys c)
-
--- a read that keeps what is left takes nothing
-pub Consumes-keep : (a b c : Option (List ℕ)) (xs : List ℕ) → Consumes a b xs → Keeps b c → Consumes a c xs
-Consumes-keep None b c xs h k = tt
-Consumes-keep (Some a) None c xs h k = absurd h
-Consumes-keep (Some a) (Some b) None xs h k = absurd k
-Consumes-keep (Some a) (Some b) (Some c) xs h k = h ∙ ap (λ (z : List ℕ). xs ++ z) (sym k)
-
--- at the end what was taken is the input
-pub input-end : (a b c : Option (List ℕ)) (taken : List ℕ) (P : List ℕ → Type 0) → Consumes a b taken → Consumes b c [] → IsAtEnd c → P taken → IfSome a P
-input-end None b c taken P h k e p = tt
-input-end (Some xs) None c taken P h k e p = absurd h
-input-end (Some xs) (Some ys) None taken P h k e p = absurd k
-input-end (Some xs) (Some ys) (Some zs) taken P h k e p = rw (h, k, e, append-nil taken) p
-
--- before, what was taken begins the input
-pub input-begin : (a b : Option (List ℕ)) (taken : List ℕ) (P : List ℕ → Type 0) → Consumes a b taken → ((rest : List ℕ) → P (taken ++ rest)) → IfSome a P
-input-begin None b taken P h p = tt
-input-begin (Some xs) None taken P h p = absurd h
-input-begin (Some xs) (Some ys) taken P h p = rw h (p ys)
+use Rattle.line_devices.specs.WritingLemmas.{AppendsBeginning-longer, Appends-append, AppendsBeginning-append}
 
 -- so many answers were written: those of the lines that were read whole
 abbrev pub AnswersWritten : Option (List ℕ) → Option (List ℕ) → List ℕ → Type 0

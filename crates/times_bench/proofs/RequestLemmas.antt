@@ -1,10 +1,10 @@
 -- What the words of a line ask for.
-use Rattle.std.proofs.Common.{◌≡◌, ◌≢◌, ℕ, ◌+◌, ◌<◌, ◌≤◌, true, false, cond, nat_lt, nat_eq, List, [], ◌∷◌, ◌++◌, length, Option, Some, None}
+use Rattle.std.proofs.Common.{◌≡◌, ◌≢◌, ℕ, ◌+◌, ◌<◌, ◌≤◌, Bool, true, false, cond, nat_lt, nat_eq, List, [], ◌∷◌, ◌++◌, length, Option, Some, None}
 use Rattle.std.proofs.Common.{refl, sym, ◌∙◌, ap, arith, append_assoc, Bor}
 use Rattle.std.specs.Prelude.{codes}
 use Rattle.std.specs.Char.{is_ascii_digit}
 use Rattle.std.specs.List.{join_with_byte}
-use Rattle.std.specs.Option.{option_map, option_map_or, option_and_then}
+use Rattle.std.specs.Option.{option_map, option_map_or}
 use Rattle.std.specs.Str.{bytes_eq}
 use Rattle.std.proofs.lemmas.Bool.{and_right, false_from_ne_true}
 use Rattle.std.proofs.lemmas.Bool.Decides.{nat_tests}
@@ -12,10 +12,8 @@ use Rattle.std.proofs.lemmas.List.Folds.{list_all-append}
 use Rattle.std.proofs.lemmas.List.Splits.{join_with_byte-slice_split}
 use Rattle.std.proofs.lemmas.Slice.Eq.{bytes_eq-Decides}
 use Rattle.std.proofs.lemmas.List.{length-append}
-use Rattle.times_bench.specs.declared.requests.Command.{Command}
-use Rattle.times_bench.specs.declared.requests.Command.TheVariants as command
 use Rattle.times_bench.specs.Numbers.{number_digits, is_numeral, number_of, i64_of}
-use Rattle.times_bench.specs.Requests.{Unix, unix_request, stamp_request, parse_instant, run_request, chain_request, request_of_command, command_of_word}
+use Rattle.times_bench.specs.Requests.{Unix, unix_request, stamp_request, parse_instant, run_request, chain_request}
 use Rattle.times_bench.specs.Requests.{request_of_words, request_of}
 use Rattle.times_bench.specs.Words.{words_of, words_left, bytes_left, exactly_one, exactly_two, all_of}
 use Rattle.times_bench.proofs.WordLemmas.{length-cut_at-some}
@@ -92,27 +90,27 @@ abbrev pub AsksNothing : List ℕ → Type 0
 AsksNothing line = (rest : List ℕ) → (line ≢ codes "unix " ++ rest) × (line ≢ codes "stamp " ++ rest) × (line ≢ codes "run " ++ rest)
     × (line ≢ codes "chain " ++ rest)
 
-command_of_word-other : (word rest line : List ℕ) → word ++ 32 ∷ rest ≡ line → AsksNothing line → command_of_word word ≡ None
-command_of_word-other word rest line e none =
+other_kind : (word rest line : List ℕ) → word ++ 32 ∷ rest ≡ line → AsksNothing line → (words : List (List ℕ)) → request_of_words (word ∷ words) ≡ None
+other_kind word rest line e none words =
     let other : (front : List ℕ) → ¬ (line ≡ front ++ 32 ∷ rest) → bytes_eq word front ≡ false =
     (λ front h. false_from_ne_true _ (λ is. h (sym e ∙ ap (λ (z : List ℕ). z ++ 32 ∷ rest) ((bytes_eq-Decides word front).0 is)))) in
     let no = none rest in
     rw (other (codes "unix") no.0, other (codes "stamp") no.1, other (codes "run") no.2, other (codes "chain") no.3) refl
 
 -- a first word alone asks for nothing
-request_of_command-alone : (asked : Option Command) → option_and_then (λ k. request_of_command k []) asked ≡ None
+kind_alone : (is_unix is_stamp is_run is_chain : Bool)
+    → cond is_unix (unix_request []) (cond is_stamp (stamp_request []) (cond is_run (run_request []) (cond is_chain (chain_request []) None))) ≡ None
 unfolding unix_request stamp_request parse_instant run_request chain_request exactly_one exactly_two
-request_of_command-alone None = refl
-request_of_command-alone (Some command.Unix) = refl
-request_of_command-alone (Some command.Stamp) = refl
-request_of_command-alone (Some command.Run) = refl
-request_of_command-alone (Some command.Chain) = refl
+kind_alone true is_stamp is_run is_chain = refl
+kind_alone false true is_run is_chain = refl
+kind_alone false false true is_chain = refl
+kind_alone false false false true = refl
+kind_alone false false false false = refl
 
 request_of_words-other : (words : List (List ℕ)) (line : List ℕ) → join_with_byte 32 words ≡ line → AsksNothing line → request_of_words words ≡ None
 request_of_words-other [] line e none = refl
-request_of_words-other (first ∷ []) line e none = request_of_command-alone (command_of_word first)
-request_of_words-other (first ∷ next ∷ words) line e none =
-    ap (option_and_then (λ k. request_of_command k (next ∷ words))) (command_of_word-other first (join_with_byte 32 (next ∷ words)) line e none)
+request_of_words-other (kind ∷ []) line e none = kind_alone _ _ _ _
+request_of_words-other (kind ∷ next ∷ words) line e none = other_kind kind (join_with_byte 32 (next ∷ words)) line e none (next ∷ words)
 
 pub request_of-other : (line : List ℕ) → length line ≤ 1024 → AsksNothing line → request_of line ≡ None
 request_of-other line short none =

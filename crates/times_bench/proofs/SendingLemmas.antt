@@ -1,74 +1,45 @@
 -- Writing one text after another.
-use Rattle.std.proofs.Common.{ℕ, ◌+◌, List, [], ◌++◌, length-append, take, drop, Option, Some, None, refl, sym, ◌∙◌, ap}
+use Rattle.std.proofs.Common.{◌≡◌, ◌≢◌, ℕ, ◌+◌, Bool, true, List, [], ◌++◌, length-append, take, drop, Option, Some, None, Result, Ok, Err, refl, sym, ◌∙◌, ap}
 use Rattle.std.proofs.Common.{arith, append_assoc, append-nil}
 use Rattle.std.specs.Io.KnownBytes.{Appends}
 use Rattle.std.proofs.Math.Seq.{take-add}
-use Rattle.times_bench.specs.Progress.{AtFault}
-use Rattle.times_bench.specs.Writing.{AppendsBeginning, Sends}
+use Rattle.std.specs.Result.{IsErrAnd}
+use Rattle.times_bench.specs.Progress.{AtFault, mark_after}
+use Rattle.line_devices.specs.Writing.{AppendsBeginning, Sends}
 use Rattle.times_bench.specs.declared.sending.AnswerFault.{AnswerFault}
 use Rattle.times_bench.specs.declared.sending.AnswerFault.TheVariants.{Write, Memory}
-
--- nothing is appended at first
-pub Appends-nil : (a : Option (List ℕ)) → Appends a a []
-Appends-nil None = tt
-Appends-nil (Some a) = sym (append-nil a)
-
--- one append after another
-pub Appends-append : (a b c : Option (List ℕ)) (xs ys : List ℕ) → Appends a b xs → Appends b c ys → Appends a c (xs ++ ys)
-Appends-append None b c xs ys h k = tt
-Appends-append (Some a) None c xs ys h k = absurd h
-Appends-append (Some a) (Some b) None xs ys h k = absurd k
-Appends-append (Some a) (Some b) (Some c) xs ys h k = k ∙ ap (λ (z : List ℕ). z ++ ys) h ∙ append_assoc a xs ys
-
--- a write of the next n bytes of a text
-pub Appends-take : (a b c : Option (List ℕ)) (at n : ℕ) (text : List ℕ) → Appends a b (take at text) → Appends b c (take n (drop at text))
-    → Appends a c (take (at + n) text)
-Appends-take a b c at n text h k = rw (take-add at n text) (Appends-append a b c (take at text) (take n (drop at text)) h k)
-
--- with more bytes behind, a beginning is a beginning still
-pub AppendsBeginning-longer : (a b : Option (List ℕ)) (xs ys : List ℕ) → AppendsBeginning a b xs → AppendsBeginning a b (xs ++ ys)
-AppendsBeginning-longer a b xs ys h = record {
-  beginning = h.beginning;
-  missing = h.missing ++ ys;
-  appended = h.appended;
-  whole = rw h.whole (append_assoc h.beginning h.missing ys);
-  some_missing = omega (arith, h.some_missing, length-append h.missing ys);
-}
-
--- a beginning after bytes that were all written
-pub AppendsBeginning-append : (a b c : Option (List ℕ)) (xs ys : List ℕ) → Appends a b xs → AppendsBeginning b c ys → AppendsBeginning a c (xs ++ ys)
-AppendsBeginning-append a b c xs ys h k = record {
-  beginning = xs ++ k.beginning;
-  missing = k.missing;
-  appended = Appends-append a b c xs k.beginning h k.appended;
-  whole = rw k.whole (sym (append_assoc xs k.beginning k.missing));
-  some_missing = k.some_missing;
-}
-
--- before anything is sent, all bytes are pending
-pub Sends-nothing : (a : Option (List ℕ)) (xs : List ℕ) → Sends a a xs xs
-Sends-nothing a xs = record { sent = []; appended = Appends-nil a; whole = refl }
-
--- what is pending is sent before what comes behind it
-pub Sends-append : (a b c : Option (List ℕ)) (p xs q ys : List ℕ) → Sends a b p xs → Sends b c q (p ++ ys) → Sends a c q (xs ++ ys)
-Sends-append a b c p xs q ys h k = record {
-  sent = h.sent ++ k.sent;
-  appended = Appends-append a b c h.sent k.sent h.appended k.appended;
-  whole = rw (h.whole, append_assoc h.sent p ys, k.whole) (sym (append_assoc h.sent k.sent q));
-}
-
-pub AppendsBeginning-pending : (a b c : Option (List ℕ)) (p xs ys : List ℕ) → Sends a b p xs → AppendsBeginning b c (p ++ ys) → AppendsBeginning a c (xs ++ ys)
-AppendsBeginning-pending a b c p xs ys h k = rw (h.whole, append_assoc h.sent p ys) (AppendsBeginning-append a b c h.sent (p ++ ys) h.appended k)
-
--- what is pending is written behind the bytes that were sent
-pub Appends-flushed : (a b c : Option (List ℕ)) (p bytes : List ℕ) → Sends a b p bytes → Appends b c p → Appends a c bytes
-Appends-flushed a b c p bytes h k = rw h.whole (Appends-append a b c h.sent p h.appended k)
-
-pub AppendsBeginning-flushed : (a b c : Option (List ℕ)) (p bytes : List ℕ) → Sends a b p bytes → AppendsBeginning b c p → AppendsBeginning a c bytes
-AppendsBeginning-flushed a b c p bytes h k = rw h.whole (AppendsBeginning-append a b c h.sent p h.appended k)
+use Rattle.times_bench.specs.declared.bench.BenchFault.{BenchFault}
+use Rattle.times_bench.specs.declared.bench.BenchFault.TheVariants as ended
+use Rattle.times_bench.specs.Faults.{bench_fault}
 
 -- what holds after a fault, weakened
 pub AtFault-weaker : {Cut Short Cut' Short' : Type 0} (fault : AnswerFault) → AtFault fault Cut Short → (Cut → Cut') → (Short → Short')
     → AtFault fault Cut' Short'
 AtFault-weaker Write h f g = f h
 AtFault-weaker Memory h f g = g h
+
+-- the fault that ended the sending, by what ended the work
+pub ended_by : {T : Type 0} (result : Result T BenchFault) (fault : AnswerFault) (ended : BenchFault) → IsErrAnd result (λ made. made ≡ bench_fault fault)
+    → result ≡ Err ended → bench_fault fault ≡ ended
+ended_by (Ok done) fault ended made is = absurd made
+ended_by (Err by) fault ended made is = cc
+
+pub not_read : (fault : AnswerFault) → bench_fault fault ≢ ended.Read
+not_read Write is = absurd cc
+not_read Memory is = absurd cc
+
+pub AtFault-write : (Cut Short : Type 0) (fault : AnswerFault) → bench_fault fault ≡ ended.Write → AtFault fault Cut Short → Cut
+AtFault-write Cut Short Write is h = h
+AtFault-write Cut Short Memory is h = absurd cc
+
+pub AtFault-memory : (Cut Short : Type 0) (fault : AnswerFault) → bench_fault fault ≡ ended.Memory → AtFault fault Cut Short → Short
+AtFault-memory Cut Short Write is h = absurd cc
+AtFault-memory Cut Short Memory is h = h
+
+pub mark_after-write : (fault : AnswerFault) (mark : Bool) → bench_fault fault ≡ ended.Write → mark_after {T = Unit} (Err fault) mark ≡ true
+mark_after-write Write mark is = refl
+mark_after-write Memory mark is = absurd cc
+
+pub mark_after-memory : (fault : AnswerFault) (mark : Bool) → bench_fault fault ≡ ended.Memory → mark_after {T = Unit} (Err fault) mark ≡ mark
+mark_after-memory Write mark is = absurd cc
+mark_after-memory Memory mark is = refl

@@ -6,7 +6,7 @@ use Rattle.std.proofs.lemmas.Grind.{common_steps}
 use Rattle.std.proofs.lemmas.List.{length-take, take_all}
 use Rattle.std.proofs.lemmas.List.Splits.{slice_split_none, slice_split_at, length-slice_split}
 use Rattle.std.proofs.lemmas.List.Sums.{count_by-le-length}
-use Rattle.times_bench.specs.LineParts.{HasNone}
+use Rattle.line_devices.specs.LineParts.{HasNone}
 use Rattle.times_bench.specs.Words.{cut_at, exactly_one}
 
 -- no separator stands before the end of a text

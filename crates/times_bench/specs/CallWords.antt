@@ -1,6 +1,6 @@
 -- How a call of a run reads: a name, and after `=` the arguments with `,` between.
 use Rattle.std.specs.Prelude.{ℕ, ◌&&◌, ◌||◌, List, [], ◌∷◌, ℤ, pos, neg_ℤ, int_lt, codes, if◌then◌else◌, Option, Some, None}
-use Rattle.std.specs.Option.{option_map, option_and_then}
+use Rattle.std.specs.Option.{option_map, option_and_then, option_or}
 use Rattle.std.specs.Result.{result_ok}
 use Rattle.std.specs.Str.{bytes_eq}
 use Rattle.calendar_values.specs.Durations.{duration_of_parts}
@@ -9,17 +9,16 @@ use Rattle.calendar_values.specs.Range.{is_outside}
 use Rattle.calendar_values.specs.Constructors.{calendar_date, clock_time_nano}
 use Rattle.stamp_times.specs.Numbered.{month_numbered}
 use Rattle.calendar_values.specs.declared.month.Month.{Month}
+use Rattle.stamp_times.specs.declared.runs.calls.DateRead.{DateRead}
 use Rattle.stamp_times.specs.declared.runs.calls.DateRead.TheVariants as date_read
+use Rattle.stamp_times.specs.declared.runs.calls.ClockRead.{ClockRead}
 use Rattle.stamp_times.specs.declared.runs.calls.ClockRead.TheVariants as clock_read
+use Rattle.stamp_times.specs.declared.runs.calls.Shift.{Shift}
 use Rattle.stamp_times.specs.declared.runs.calls.Shift.TheVariants as shift
 use Rattle.stamp_times.specs.declared.runs.calls.Replace.{Replace}
 use Rattle.stamp_times.specs.declared.runs.calls.Replace.TheVariants as replacing
 use Rattle.stamp_times.specs.declared.runs.calls.Call.{Call}
 use Rattle.stamp_times.specs.declared.runs.calls.Call.TheVariants as call
-use Rattle.times_bench.specs.declared.call_words.CallName.{CallName}
-use Rattle.times_bench.specs.declared.call_words.CallName.TheVariants as name
-use Rattle.times_bench.specs.declared.call_words.PartName.{PartName}
-use Rattle.times_bench.specs.declared.call_words.PartName.TheVariants as part
 use Rattle.times_bench.specs.Numbers.{i64_of, i32_of, u32_of, u16_of, u8_of}
 use Rattle.times_bench.specs.StepWords.{parse_offset}
 use Rattle.times_bench.specs.Words.{cut_at, arguments_of, exactly_one, exactly_two, exactly_three, exactly_four}
@@ -29,33 +28,41 @@ abbrev pub entry_of : {A : Type 0} → List (List ℕ × A) → List ℕ → Opt
 entry_of [] name = None
 entry_of (first ∷ others) name = if bytes_eq name first.0 then Some first.1 else entry_of others name
 
--- the reads, by their names
-unfoldable pub reads : List (List ℕ × Call)
-reads =
-    (codes "date", call.ReadDate date_read.Date) ∷
-    (codes "year", call.ReadDate date_read.Year) ∷
-    (codes "month", call.ReadDate date_read.Month) ∷
-    (codes "day", call.ReadDate date_read.Day) ∷
-    (codes "ordinal", call.ReadDate date_read.Ordinal) ∷
-    (codes "iso_week", call.ReadDate date_read.IsoWeek) ∷
-    (codes "sunday_based_week", call.ReadDate date_read.SundayWeek) ∷
-    (codes "monday_based_week", call.ReadDate date_read.MondayWeek) ∷
-    (codes "to_calendar_date", call.ReadDate date_read.CalendarDate) ∷
-    (codes "to_ordinal_date", call.ReadDate date_read.OrdinalDate) ∷
-    (codes "to_iso_week_date", call.ReadDate date_read.IsoWeekDate) ∷
-    (codes "weekday", call.ReadDate date_read.Weekday) ∷
-    (codes "to_julian_day", call.ReadDate date_read.JulianDay) ∷
-    (codes "time", call.ReadClock clock_read.Time) ∷
-    (codes "as_hms", call.ReadClock clock_read.Hms) ∷
-    (codes "as_hms_milli", call.ReadClock clock_read.HmsMilli) ∷
-    (codes "as_hms_micro", call.ReadClock clock_read.HmsMicro) ∷
-    (codes "as_hms_nano", call.ReadClock clock_read.HmsNano) ∷
-    (codes "hour", call.ReadClock clock_read.Hour) ∷
-    (codes "minute", call.ReadClock clock_read.Minute) ∷
-    (codes "second", call.ReadClock clock_read.Second) ∷
-    (codes "millisecond", call.ReadClock clock_read.Millisecond) ∷
-    (codes "microsecond", call.ReadClock clock_read.Microsecond) ∷
-    (codes "nanosecond", call.ReadClock clock_read.Nanosecond) ∷ []
+-- the reads of the date, by their names
+unfoldable pub date_reads : List (List ℕ × DateRead)
+date_reads =
+    (codes "date", date_read.Date) ∷
+    (codes "year", date_read.Year) ∷
+    (codes "month", date_read.Month) ∷
+    (codes "day", date_read.Day) ∷
+    (codes "ordinal", date_read.Ordinal) ∷
+    (codes "iso_week", date_read.IsoWeek) ∷
+    (codes "sunday_based_week", date_read.SundayWeek) ∷
+    (codes "monday_based_week", date_read.MondayWeek) ∷
+    (codes "to_calendar_date", date_read.CalendarDate) ∷
+    (codes "to_ordinal_date", date_read.OrdinalDate) ∷
+    (codes "to_iso_week_date", date_read.IsoWeekDate) ∷
+    (codes "weekday", date_read.Weekday) ∷
+    (codes "to_julian_day", date_read.JulianDay) ∷ []
+
+-- the reads of the time of day, by their names
+unfoldable pub clock_reads : List (List ℕ × ClockRead)
+clock_reads =
+    (codes "time", clock_read.Time) ∷
+    (codes "as_hms", clock_read.Hms) ∷
+    (codes "as_hms_milli", clock_read.HmsMilli) ∷
+    (codes "as_hms_micro", clock_read.HmsMicro) ∷
+    (codes "as_hms_nano", clock_read.HmsNano) ∷
+    (codes "hour", clock_read.Hour) ∷
+    (codes "minute", clock_read.Minute) ∷
+    (codes "second", clock_read.Second) ∷
+    (codes "millisecond", clock_read.Millisecond) ∷
+    (codes "microsecond", clock_read.Microsecond) ∷
+    (codes "nanosecond", clock_read.Nanosecond) ∷ []
+
+-- the read of a name
+unfoldable pub read_of : List ℕ → Option Call
+read_of name = option_or (option_map call.ReadDate (entry_of date_reads name)) (option_map call.ReadClock (entry_of clock_reads name))
 
 -- the parts of a duration: seconds, and less than a second in nanoseconds of the same sign
 abbrev pub duration_of_numbers : ℤ → ℤ → Option ℤ
@@ -87,56 +94,61 @@ parse_date arguments =
     option_and_then (λ d. result_ok (calendar_date y (month_number m) d)) (u8_of parts.2)) (parse_month parts.1)) (i32_of parts.0))
     (exactly_three arguments)
 
--- the calls with arguments, by their names
-unfoldable pub call_names : List (List ℕ × CallName)
-call_names =
-    (codes "checked_add", name.CheckedAdd) ∷
-    (codes "checked_sub", name.CheckedSub) ∷
-    (codes "saturating_add", name.SaturatingAdd) ∷
-    (codes "saturating_sub", name.SaturatingSub) ∷
-    (codes "replace_time", name.ReplaceTime) ∷
-    (codes "replace_date", name.ReplaceDate) ∷
-    (codes "replace_month", name.Replace part.Month) ∷
-    (codes "replace_year", name.Replace part.Year) ∷
-    (codes "replace_day", name.Replace part.Day) ∷
-    (codes "replace_ordinal", name.Replace part.Ordinal) ∷
-    (codes "replace_hour", name.Replace part.Hour) ∷
-    (codes "replace_minute", name.Replace part.Minute) ∷
-    (codes "replace_second", name.Replace part.Second) ∷
-    (codes "replace_millisecond", name.Replace part.Millisecond) ∷
-    (codes "replace_microsecond", name.Replace part.Microsecond) ∷
-    (codes "replace_nanosecond", name.Replace part.Nanosecond) ∷
-    (codes "checked_to_offset", name.CheckedToOffset) ∷ []
+-- a sum or a difference
+unfoldable pub shift_with : List ℕ → List (List ℕ) → Option Shift
+shift_with name arguments =
+    if bytes_eq name (codes "checked_add") then option_map shift.CheckedAdd (parse_duration arguments)
+    else (if bytes_eq name (codes "checked_sub") then option_map shift.CheckedSub (parse_duration arguments)
+    else (if bytes_eq name (codes "saturating_add") then option_map shift.SaturatingAdd (parse_duration arguments)
+    else (if bytes_eq name (codes "saturating_sub") then option_map shift.SaturatingSub (parse_duration arguments)
+    else None)))
+
+-- a part of the date replaced by a number
+unfoldable pub date_part_with : List ℕ → List ℕ → Option Replace
+date_part_with name number =
+    if bytes_eq name (codes "replace_year") then option_map replacing.Year (i32_of number)
+    else (if bytes_eq name (codes "replace_month") then option_map replacing.Month (parse_month number)
+    else (if bytes_eq name (codes "replace_day") then option_map replacing.Day (u8_of number)
+    else (if bytes_eq name (codes "replace_ordinal") then option_map replacing.Ordinal (u16_of number)
+    else None)))
+
+-- a part of the time of day replaced by a number
+unfoldable pub clock_part_with : List ℕ → List ℕ → Option Replace
+clock_part_with name number =
+    if bytes_eq name (codes "replace_hour") then option_map replacing.Hour (u8_of number)
+    else (if bytes_eq name (codes "replace_minute") then option_map replacing.Minute (u8_of number)
+    else (if bytes_eq name (codes "replace_second") then option_map replacing.Second (u8_of number)
+    else (if bytes_eq name (codes "replace_millisecond") then option_map replacing.Millisecond (u16_of number)
+    else (if bytes_eq name (codes "replace_microsecond") then option_map replacing.Microsecond (u32_of number)
+    else (if bytes_eq name (codes "replace_nanosecond") then option_map replacing.Nanosecond (u32_of number)
+    else None)))))
 
 -- a part replaced by a number
-unfoldable pub part_with : PartName → List ℕ → Option Replace
-part_with part.Month number = option_map replacing.Month (parse_month number)
-part_with part.Year number = option_map replacing.Year (i32_of number)
-part_with part.Day number = option_map replacing.Day (u8_of number)
-part_with part.Ordinal number = option_map replacing.Ordinal (u16_of number)
-part_with part.Hour number = option_map replacing.Hour (u8_of number)
-part_with part.Minute number = option_map replacing.Minute (u8_of number)
-part_with part.Second number = option_map replacing.Second (u8_of number)
-part_with part.Millisecond number = option_map replacing.Millisecond (u16_of number)
-part_with part.Microsecond number = option_map replacing.Microsecond (u32_of number)
-part_with part.Nanosecond number = option_map replacing.Nanosecond (u32_of number)
+abbrev pub part_with : List ℕ → List ℕ → Option Replace
+part_with name number = option_or (date_part_with name number) (clock_part_with name number)
 
--- how the arguments of each call read
-unfoldable pub call_with : CallName → List (List ℕ) → Option Call
-call_with name.CheckedAdd arguments = option_map (λ d. call.Shift (shift.CheckedAdd d)) (parse_duration arguments)
-call_with name.CheckedSub arguments = option_map (λ d. call.Shift (shift.CheckedSub d)) (parse_duration arguments)
-call_with name.SaturatingAdd arguments = option_map (λ d. call.Shift (shift.SaturatingAdd d)) (parse_duration arguments)
-call_with name.SaturatingSub arguments = option_map (λ d. call.Shift (shift.SaturatingSub d)) (parse_duration arguments)
-call_with name.ReplaceTime arguments = option_map (λ c. call.Replace (replacing.Time c)) (parse_time arguments)
-call_with name.ReplaceDate arguments = option_map (λ n. call.Replace (replacing.Date n)) (parse_date arguments)
-call_with (name.Replace part) arguments = option_map call.Replace (option_and_then (part_with part) (exactly_one arguments))
-call_with name.CheckedToOffset arguments = option_map call.Local (option_and_then parse_offset (exactly_one arguments))
+-- a replacement
+unfoldable pub replace_with : List ℕ → List (List ℕ) → Option Replace
+replace_with name arguments =
+    if bytes_eq name (codes "replace_time") then option_map replacing.Time (parse_time arguments)
+    else (if bytes_eq name (codes "replace_date") then option_map replacing.Date (parse_date arguments)
+    else option_and_then (part_with name) (exactly_one arguments))
+
+-- a conversion to an offset
+abbrev pub local_with : List ℕ → List (List ℕ) → Option ℤ
+local_with name arguments = if bytes_eq name (codes "checked_to_offset") then option_and_then parse_offset (exactly_one arguments) else None
+
+-- a call with arguments
+unfoldable pub call_with : List ℕ → List (List ℕ) → Option Call
+call_with name arguments =
+    option_or (option_map call.Shift (shift_with name arguments))
+    (option_or (option_map call.Replace (replace_with name arguments)) (option_map call.Local (local_with name arguments)))
 
 -- a call, by what stands before its `=` and after it
 unfoldable pub call_of_parts : List (List ℕ) → Option Call
 call_of_parts [] = None
-call_of_parts (name ∷ []) = entry_of reads name
-call_of_parts (name ∷ arguments ∷ []) = option_and_then (λ call. call_with call (arguments_of arguments)) (entry_of call_names name)
+call_of_parts (name ∷ []) = read_of name
+call_of_parts (name ∷ arguments ∷ []) = call_with name (arguments_of arguments)
 call_of_parts (name ∷ arguments ∷ next ∷ parts) = None
 
 -- a call

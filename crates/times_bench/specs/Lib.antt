@@ -1,8 +1,6 @@
 pub mod Answers
 pub mod CallWords
-pub mod Device
 pub mod Faults
-pub mod Lines
 pub mod LineParts
 pub mod Numbers
 pub mod Progress
@@ -10,4 +8,3 @@ pub mod ReplyTexts
 pub mod Requests
 pub mod StepWords
 pub mod Words
-pub mod Writing

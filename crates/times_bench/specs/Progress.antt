@@ -4,7 +4,7 @@ use Rattle.std.specs.Io.KnownBytes.{Appends}
 use Rattle.times_bench.specs.declared.sending.AnswerFault.{AnswerFault}
 use Rattle.times_bench.specs.declared.sending.AnswerFault.TheVariants.{Write, Memory}
 use Rattle.times_bench.specs.Answers.{takes_memory, answer_of, answers_of}
-use Rattle.times_bench.specs.Writing.{AppendsBeginning, Sends}
+use Rattle.line_devices.specs.Writing.{AppendsBeginning, Sends}
 
 -- an answer has room behind what is pending: 256 replies and what follows them, each of at most 64 bytes
 abbrev pub HasRoom : List ℕ → Type 0

@@ -1,11 +1,9 @@
 -- What a line asks for: its words, and how they read.
-use Rattle.std.specs.Prelude.{ℕ, nat_lt, List, [], ◌∷◌, length, codes, if◌then◌else◌, ℤ, Option, Some, None}
+use Rattle.std.specs.Prelude.{ℕ, nat_lt, List, [], ◌∷◌, length, codes, if◌then◌else◌, ℤ, Option, None}
 use Rattle.std.specs.Option.{option_map, option_and_then}
 use Rattle.std.specs.Str.{bytes_eq}
 use Rattle.stamp_times.specs.declared.runs.calls.Call.{Call}
 use Rattle.stamp_times.specs.declared.chains.steps.Step.{Step}
-use Rattle.times_bench.specs.declared.requests.Command.{Command}
-use Rattle.times_bench.specs.declared.requests.Command.TheVariants as command
 use Rattle.times_bench.specs.CallWords.{call_of}
 use Rattle.times_bench.specs.Numbers.{i64_of, u32_of}
 use Rattle.times_bench.specs.StepWords.{step_of}
@@ -47,26 +45,15 @@ chain_from s n (start ∷ steps) = option_and_then (λ at. option_map (Chain s n
 unfoldable pub chain_request : List (List ℕ) → Option Request
 chain_request words = option_and_then (λ from. chain_from from.0 from.1 from.2) (parse_instant words)
 
--- what the words after the first one ask for, by its command
-abbrev pub request_of_command : Command → List (List ℕ) → Option Request
-request_of_command command.Unix words = unix_request words
-request_of_command command.Stamp words = stamp_request words
-request_of_command command.Run words = run_request words
-request_of_command command.Chain words = chain_request words
-
--- the command of a line, by its first word
-abbrev pub command_of_word : List ℕ → Option Command
-command_of_word word =
-    if bytes_eq word (codes "unix") then Some command.Unix
-    else (if bytes_eq word (codes "stamp") then Some command.Stamp
-    else (if bytes_eq word (codes "run") then Some command.Run
-    else (if bytes_eq word (codes "chain") then Some command.Chain
-    else None)))
-
--- what the words of a line ask for
+-- what the words of a line ask for: the first says its kind
 abbrev pub request_of_words : List (List ℕ) → Option Request
 request_of_words [] = None
-request_of_words (first ∷ words) = option_and_then (λ k. request_of_command k words) (command_of_word first)
+request_of_words (kind ∷ words) =
+    if bytes_eq kind (codes "unix") then unix_request words
+    else (if bytes_eq kind (codes "stamp") then stamp_request words
+    else (if bytes_eq kind (codes "run") then run_request words
+    else (if bytes_eq kind (codes "chain") then chain_request words
+    else None)))
 
 -- the most bytes of a line that asks for something
 abbrev pub longest_line : ℕ

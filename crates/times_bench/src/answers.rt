@@ -1,21 +1,18 @@
 //! The answers to lines.
-ghost use Rattle.std.specs.Prelude.{◌≡◌, ◌≤◌, ◌<◌, ◌+◌, ◌*◌, ◌∷◌, [], ◌++◌, length, codes, decimal, flat_map, IsTrue, is_ok, MatchResult};
+ghost use Rattle.std.specs.Prelude.{◌≡◌, ◌≤◌, ◌<◌, ◌+◌, ◌++◌, length, None, codes, decimal, flat_map, IsTrue, MatchResult};
 ghost use Rattle.calendar_values.specs.WallClock.{wall_day};
-ghost use Rattle.times_bench.specs.Answers.{unix_answer, stamp_answer, run_answer, chain_answer, held_start, arrival_text, with_instant_nanosecond, day_text, answer_to, answer_of, takes_memory, request_takes_memory};
+ghost use Rattle.times_bench.specs.Answers.{answer_to, answer_of, takes_memory, request_takes_memory, with_instant_nanosecond, day_text, held_start};
 ghost use Rattle.times_bench.specs.Progress.{HasRoom};
 ghost use Rattle.times_bench.specs.Requests.{unix_request, stamp_request, run_request, chain_request};
 ghost use Rattle.times_bench.specs.Words.{words_of};
-ghost use Rattle.stamp_times.specs.Refusals.{timestamp_of_parts};
 ghost use Rattle.stamp_times.specs.Texts.{timestamp_text};
-ghost use Rattle.times_bench.specs.ReplyTexts.{reply_text};
+ghost use Rattle.times_bench.specs.ReplyTexts.{held_text, reply_text};
 ghost use Rattle.utc_times.specs.Texts.{utc_text};
 ghost use Rattle.utc_times.specs.UnixTime.{unix_instant};
 
-use super::reply_texts::{held_text, push_signed, refused_text, reply_text};
-use super::requests::{
-    ChainRequest, Command, RunRequest, chain_request_of, command_of, run_request_of,
-    stamp_request_of, unix_request_of,
-};
+use super::lines::LONGEST_LINE;
+use super::reply_texts::{push_held, push_reply, push_signed, refused_text};
+use super::requests::{Calls, Room, Steps, read_chain, read_run, read_stamp, read_unix};
 use super::sending::Pending;
 use calendar_values::{ComponentRange, Text};
 use offset_times::{Assume, OffsetDateTime};
@@ -25,54 +22,86 @@ use utc_times::UtcDateTime;
 
 /// Puts the answer to a line behind what is pending, and nothing where there is no memory for its
 /// replies.
-pub fn put_answer(alloc: Global, pending: &mut Pending, line: &[u8]) -> Result<(), AllocError>
+pub fn put_answer(
+    alloc: Global,
+    pending: &mut Pending,
+    room: &mut Room,
+    line: &[u8],
+) -> Result<(), AllocError>
     requires { HasRoom pending.old }
     ensures { MatchResult result (λ _. pending.new ≡ pending.old ++ answer_of line.now)
         (λ _. (pending.new ≡ pending.old) × IsTrue (takes_memory line.now)) }
 {
-    match command_of(line) {
-        Some((Command::Unix, words)) => answer_unix(pending, words),
-        Some((Command::Stamp, words)) => answer_stamp(pending, words),
-        Some((Command::Run, words)) => answer_run(alloc, pending, words)?,
-        Some((Command::Chain, words)) => answer_chain(pending, words),
-        None => pending.push_all(b"bad line"),
+    if line.len() > LONGEST_LINE {
+        put_bad_line(pending);
+    } else if let Some(words) = line.strip_prefix(b"unix ".as_slice()) {
+        put_unix(pending, words);
+    } else if let Some(words) = line.strip_prefix(b"stamp ".as_slice()) {
+        put_stamp(pending, words);
+    } else if let Some(words) = line.strip_prefix(b"run ".as_slice()) {
+        put_run(alloc, pending, &mut room.calls, words)?;
+    } else if let Some(words) = line.strip_prefix(b"chain ".as_slice()) {
+        put_chain(pending, &mut room.steps, words);
+    } else {
+        put_bad_line(pending);
     }
     pending.push(b'\n');
     Ok(())
 }
 
+// Puts the answer to a line that asks for nothing.
+fn put_bad_line(pending: &mut Pending)
+    requires { HasRoom pending.old }
+    ensures answer { pending.new ≡ pending.old ++ answer_to None }
+    ensures room { length pending.new < 65_536 }
+{
+    pending.push_all(b"bad line");
+}
+
 // Puts the answer to the words after `unix`.
-fn answer_unix(pending: &mut Pending, words: &[u8])
+fn put_unix(pending: &mut Pending, words: &[u8])
     requires { HasRoom pending.old }
     ensures answer { pending.new ≡ pending.old ++ answer_to (unix_request (words_of words.now)) }
     ensures room { length pending.new < 65_536 }
 {
-    match unix_request_of(words) {
-        Some(second) => {
+    let Some(second) = read_unix(words) else {
+        return put_bad_line(pending);
+    };
+    match Timestamp::from_seconds(second) {
+        Ok(at) => {
             let mut text = Text::new();
-            unix_text(&mut text, second);
+            at.to_utc().append_to(&mut text);
             put_text(pending, &text);
         }
-        None => pending.push_all(b"bad line"),
+        Err(_) => pending.push_all(b"refused timestamp"),
     }
 }
 
 // Puts the answer to the words after `stamp`.
-#[inline(never)]
-fn answer_stamp(pending: &mut Pending, words: &[u8])
+fn put_stamp(pending: &mut Pending, words: &[u8])
     requires { HasRoom pending.old }
     ensures answer { pending.new ≡ pending.old ++ answer_to (stamp_request (words_of words.now)) }
     ensures room { length pending.new < 65_536 }
 {
-    match stamp_request_of(words) {
-        Some((second, nanosecond)) => put_stamp_answer(pending, second, nanosecond),
-        None => pending.push_all(b"bad line"),
+    let Some((second, nanosecond)) = read_stamp(words) else {
+        return put_bad_line(pending);
+    };
+    match instant_at(second, nanosecond) {
+        Ok(at) => {
+            put_text(pending, &instant_text(at));
+            put_text(pending, &day_text_of(at));
+        }
+        Err(refusal) => put_text(pending, &refused_text(refusal)),
     }
 }
 
 // Puts the answer to the words after `run`, and nothing where there is no memory for the replies.
-#[inline(never)]
-fn answer_run(alloc: Global, pending: &mut Pending, words: &[u8]) -> Result<(), AllocError>
+fn put_run(
+    alloc: Global,
+    pending: &mut Pending,
+    calls: &mut Calls,
+    words: &[u8],
+) -> Result<(), AllocError>
     requires room { HasRoom pending.old }
     requires words { length words.now < 1024 }
     ensures answer { let request = run_request (words_of words.now) in
@@ -80,26 +109,40 @@ fn answer_run(alloc: Global, pending: &mut Pending, words: &[u8]) -> Result<(), 
         (λ _. (pending.new ≡ pending.old) × IsTrue (request_takes_memory request)) }
     ensures room { length pending.new < 65_536 }
 {
-    match run_request_of(words) {
-        Some(asked) => put_run_answer(alloc, pending, &asked),
-        None => {
-            pending.push_all(b"bad line");
-            Ok(())
+    let Some((second, nanosecond)) = read_run(words, calls) else {
+        put_bad_line(pending);
+        return Ok(());
+    };
+    match Timestamp::new(second, nanosecond) {
+        Ok(start) => {
+            let (replies, last) = run(alloc, start.to_utc(), calls.items())?;
+            put_replies(pending, replies.as_slice());
+            put_text(pending, &end_text(Timestamp::from(last)));
         }
+        Err(refusal) => put_text(pending, &refused_text(refusal)),
     }
+    Ok(())
 }
 
 // Puts the answer to the words after `chain`.
-#[inline(never)]
-fn answer_chain(pending: &mut Pending, words: &[u8])
+fn put_chain(pending: &mut Pending, steps: &mut Steps, words: &[u8])
     requires room { HasRoom pending.old }
     requires words { length words.now < 1024 }
     ensures answer { pending.new ≡ pending.old ++ answer_to (chain_request (words_of words.now)) }
     ensures room { length pending.new < 65_536 }
 {
-    match chain_request_of(words) {
-        Some(asked) => put_chain_answer(pending, &asked),
-        None => pending.push_all(b"bad line"),
+    let Some((second, nanosecond, start)) = read_chain(words, steps) else {
+        return put_bad_line(pending);
+    };
+    match Timestamp::new(second, nanosecond) {
+        Ok(at) => match chain(held_start(start, at), steps.items()) {
+            Ok(held) => put_held(pending, held),
+            Err(stopped) => {
+                put_text(pending, &stopped_text(stopped.index));
+                put_held(pending, stopped.held);
+            }
+        },
+        Err(refusal) => put_text(pending, &refused_text(refusal)),
     }
 }
 
@@ -110,33 +153,6 @@ fn put_text(pending: &mut Pending, text: &Text)
     ensures length { length pending.new ≤ length pending.old + 64 }
 {
     pending.push_all(text.as_bytes());
-}
-
-// Writes the answer to `unix S` to an empty text.
-fn unix_text(text: &mut Text, second: i64)
-    requires { text.old ≡ [] }
-    ensures { text.new ≡ unix_answer second }
-{
-    match UtcDateTime::from_unix_timestamp(second) {
-        Ok(at) => at.append_to(text),
-        Err(_) => text.push_bytes(b"refused timestamp"),
-    }
-}
-
-// Puts the answer to `stamp S N`.
-#[inline(never)]
-fn put_stamp_answer(pending: &mut Pending, second: i64, nanosecond: u32)
-    requires { HasRoom pending.old }
-    ensures answer { pending.new ≡ pending.old ++ stamp_answer second nanosecond }
-    ensures room { length pending.new < 65_536 }
-{
-    match instant_at(second, nanosecond) {
-        Ok(at) => {
-            put_text(pending, &instant_text(at));
-            put_text(pending, &day_text_of(at));
-        }
-        Err(refusal) => put_text(pending, &refused_text(refusal)),
-    }
 }
 
 // A Unix second with its nanosecond replaced.
@@ -168,24 +184,15 @@ fn day_text_of(at: UtcDateTime) -> Text
     text
 }
 
-// Puts the answer to `chain S N START STEP..`.
-#[inline(never)]
-fn put_chain_answer(pending: &mut Pending, asked: &ChainRequest)
-    requires { HasRoom pending.old }
-    ensures answer { pending.new ≡ pending.old
-        ++ chain_answer asked.now.second asked.now.nanosecond asked.now.start asked.now.steps }
-    ensures room { length pending.new < 65_536 }
+// Puts the type that holds an instant, and the text of the value.
+fn put_held(pending: &mut Pending, held: Held)
+    requires { length pending.old + 64 ≤ 65_536 }
+    ensures text { pending.new ≡ pending.old ++ held_text held }
+    ensures length { length pending.new ≤ length pending.old + 64 }
 {
-    match Timestamp::new(asked.second, asked.nanosecond) {
-        Ok(at) => match chain(held_start(asked.start, at), asked.steps.items()) {
-            Ok(held) => put_text(pending, &held_text(held)),
-            Err(stopped) => {
-                put_text(pending, &stopped_text(stopped.index));
-                put_text(pending, &held_text(stopped.held));
-            }
-        },
-        Err(refusal) => put_text(pending, &refused_text(refusal)),
-    }
+    let mut text = Text::new();
+    push_held(&mut text, held);
+    put_text(pending, &text);
 }
 
 // The instant as the start of a chain holds it. For an offset, what clocks in UTC show is the wall clock there.
@@ -210,32 +217,6 @@ fn stopped_text(index: usize) -> Text
     text
 }
 
-// Puts the answer to `run S N CALL..`, and nothing where there is no memory for the replies.
-#[inline(never)]
-fn put_run_answer(
-    alloc: Global,
-    pending: &mut Pending,
-    asked: &RunRequest,
-) -> Result<(), AllocError>
-    requires { HasRoom pending.old }
-    ensures answer { MatchResult result
-        (λ _. pending.new ≡ pending.old
-        ++ run_answer asked.now.second asked.now.nanosecond asked.now.calls)
-        (λ _. (pending.new ≡ pending.old)
-        × IsTrue (is_ok (timestamp_of_parts asked.now.second asked.now.nanosecond))) }
-    ensures room { length pending.new < 65_536 }
-{
-    match Timestamp::new(asked.second, asked.nanosecond) {
-        Ok(start) => {
-            let (replies, last) = run(alloc, start, asked.calls.items())?;
-            put_replies(pending, replies.as_slice());
-            put_text(pending, &end_text(last));
-        }
-        Err(refusal) => put_text(pending, &refused_text(refusal)),
-    }
-    Ok(())
-}
-
 // Puts replies, each with `; ` after it.
 #[inline(never)]
 fn put_replies(pending: &mut Pending, replies: &[Reply])
@@ -246,17 +227,20 @@ fn put_replies(pending: &mut Pending, replies: &[Reply])
     ensures room { length pending.new ≤ length pending.old + 16_384 }
 {
     'replies: for reply in replies {
-        put_text(pending, &ended_text(*reply));
+        put_reply(pending, *reply);
     }
 }
 
-// The text of a reply, and `; `.
-fn ended_text(reply: Reply) -> Text
-    ensures { result ≡ reply_text reply ++ codes "; " }
+// Puts a reply, and `; `.
+fn put_reply(pending: &mut Pending, reply: Reply)
+    requires { length pending.old + 64 ≤ 65_536 }
+    ensures text { pending.new ≡ pending.old ++ (reply_text reply ++ codes "; ") }
+    ensures length { length pending.new ≤ length pending.old + 64 }
 {
-    let mut text = reply_text(reply);
+    let mut text = Text::new();
+    push_reply(&mut text, reply);
     text.push_bytes(b"; ");
-    text
+    put_text(pending, &text);
 }
 
 // `end`, and the last instant.

@@ -1,6 +1,7 @@
 //! The words of a run.
 ghost use Rattle.std.specs.Prelude.{◌≡◌, ◌≤◌, length, OnSome};
-ghost use Rattle.times_bench.specs.CallWords.{entry_of, reads, call_names, call_with, part_with, parse_duration, parse_time, parse_month, parse_date, call_of};
+ghost use Rattle.std.specs.Str.{bytes_eq};
+ghost use Rattle.times_bench.specs.CallWords.{entry_of, date_reads, clock_reads, read_of, call_with, shift_with, replace_with, date_part_with, clock_part_with, parse_duration, parse_time, parse_month, parse_date, call_of};
 ghost use Rattle.times_bench.specs.Words.{arguments_of};
 
 use super::numbers::{parse_i32, parse_i64, parse_u8, parse_u16, parse_u32};
@@ -9,154 +10,193 @@ use super::words::{cut_at, four_fields, one_field, three_fields, two_fields};
 use calendar_values::{Date, Month, SignedDuration, Time};
 use stamp_times::{Call, ClockRead, DateRead, Replace, Shift};
 
-/// The calls that take arguments.
-#[derive(Clone, Copy)]
-pub enum CallName {
-    CheckedAdd,
-    CheckedSub,
-    SaturatingAdd,
-    SaturatingSub,
-    ReplaceTime,
-    ReplaceDate,
-    Replace(PartName),
-    CheckedToOffset,
-}
-
-/// The parts of a date or a time of day that a call replaces by a number.
-#[derive(Clone, Copy)]
-pub enum PartName {
-    Month,
-    Year,
-    Day,
-    Ordinal,
-    Hour,
-    Minute,
-    Second,
-    Millisecond,
-    Microsecond,
-    Nanosecond,
-}
-
 /// The call of a word: the name of a read, or a name, `=` and its arguments with `,` between.
 #[tactic(auto, unfolding(crate::specs::CallWords::call_of_parts, crate::specs::CallWords::call_of))]
 pub fn call_of(word: &[u8]) -> Option<Call>
     ensures value { result ≡ call_of word.now }
     ensures three_bytes { OnSome result (3 ≤ length word.now) }
 {
+    if let Some(call) = read_of(word) {
+        return Some(call);
+    }
     let (name, arguments) = cut_at(b'=', word);
-    let name = str::from_utf8(name).ok()?;
-    let Some(arguments) = arguments else {
-        return read_named(name);
-    };
-    let (arguments, more) = cut_at(b'=', arguments);
+    let (arguments, more) = cut_at(b'=', arguments?);
     if more.is_some() {
         return None;
     }
-    call_with(call_name(name)?, arguments)
+    call_with(name, arguments)
+}
+
+// Whether a name is this text.
+#[inline(always)]
+fn is(name: &[u8], text: &str) -> bool
+    ensures { result ≡ bytes_eq name.now text.now }
+{
+    name == text.as_bytes()
 }
 
 // The read of this name.
-#[tactic(auto, unfolding(crate::specs::CallWords::reads))]
-fn read_named(name: &str) -> Option<Call>
-    ensures { result ≡ entry_of reads name.now }
+#[tactic(auto, unfolding(crate::specs::CallWords::read_of))]
+fn read_of(name: &[u8]) -> Option<Call>
+    ensures { result ≡ read_of name.now }
 {
-    match name {
-        "date" => Some(Call::ReadDate(DateRead::Date)),
-        "year" => Some(Call::ReadDate(DateRead::Year)),
-        "month" => Some(Call::ReadDate(DateRead::Month)),
-        "day" => Some(Call::ReadDate(DateRead::Day)),
-        "ordinal" => Some(Call::ReadDate(DateRead::Ordinal)),
-        "iso_week" => Some(Call::ReadDate(DateRead::IsoWeek)),
-        "sunday_based_week" => Some(Call::ReadDate(DateRead::SundayWeek)),
-        "monday_based_week" => Some(Call::ReadDate(DateRead::MondayWeek)),
-        "to_calendar_date" => Some(Call::ReadDate(DateRead::CalendarDate)),
-        "to_ordinal_date" => Some(Call::ReadDate(DateRead::OrdinalDate)),
-        "to_iso_week_date" => Some(Call::ReadDate(DateRead::IsoWeekDate)),
-        "weekday" => Some(Call::ReadDate(DateRead::Weekday)),
-        "to_julian_day" => Some(Call::ReadDate(DateRead::JulianDay)),
-        "time" => Some(Call::ReadClock(ClockRead::Time)),
-        "as_hms" => Some(Call::ReadClock(ClockRead::Hms)),
-        "as_hms_milli" => Some(Call::ReadClock(ClockRead::HmsMilli)),
-        "as_hms_micro" => Some(Call::ReadClock(ClockRead::HmsMicro)),
-        "as_hms_nano" => Some(Call::ReadClock(ClockRead::HmsNano)),
-        "hour" => Some(Call::ReadClock(ClockRead::Hour)),
-        "minute" => Some(Call::ReadClock(ClockRead::Minute)),
-        "second" => Some(Call::ReadClock(ClockRead::Second)),
-        "millisecond" => Some(Call::ReadClock(ClockRead::Millisecond)),
-        "microsecond" => Some(Call::ReadClock(ClockRead::Microsecond)),
-        "nanosecond" => Some(Call::ReadClock(ClockRead::Nanosecond)),
-        _ => None,
+    if let Some(read) = date_read(name) {
+        return Some(Call::ReadDate(read));
+    }
+    Some(Call::ReadClock(clock_read(name)?))
+}
+
+// What stands beside a name.
+macro_rules! entry_of {
+    ($name:expr, $($text:literal => $value:expr,)*) => {{
+        $(if is($name, $text) {
+            return Some($value);
+        })*
+        None
+    }};
+}
+
+// The read of the date that has this name.
+fn date_read(name: &[u8]) -> Option<DateRead>
+    ensures { result ≡ entry_of date_reads name.now }
+{
+    entry_of! {
+        name,
+        "date" => DateRead::Date,
+        "year" => DateRead::Year,
+        "month" => DateRead::Month,
+        "day" => DateRead::Day,
+        "ordinal" => DateRead::Ordinal,
+        "iso_week" => DateRead::IsoWeek,
+        "sunday_based_week" => DateRead::SundayWeek,
+        "monday_based_week" => DateRead::MondayWeek,
+        "to_calendar_date" => DateRead::CalendarDate,
+        "to_ordinal_date" => DateRead::OrdinalDate,
+        "to_iso_week_date" => DateRead::IsoWeekDate,
+        "weekday" => DateRead::Weekday,
+        "to_julian_day" => DateRead::JulianDay,
     }
 }
 
-// The call of this name that takes arguments.
-#[tactic(auto, unfolding(crate::specs::CallWords::call_names))]
-fn call_name(name: &str) -> Option<CallName>
-    ensures { result ≡ entry_of call_names name.now }
+// The read of the time of day that has this name.
+fn clock_read(name: &[u8]) -> Option<ClockRead>
+    ensures { result ≡ entry_of clock_reads name.now }
 {
-    match name {
-        "checked_add" => Some(CallName::CheckedAdd),
-        "checked_sub" => Some(CallName::CheckedSub),
-        "saturating_add" => Some(CallName::SaturatingAdd),
-        "saturating_sub" => Some(CallName::SaturatingSub),
-        "replace_time" => Some(CallName::ReplaceTime),
-        "replace_date" => Some(CallName::ReplaceDate),
-        "replace_month" => Some(CallName::Replace(PartName::Month)),
-        "replace_year" => Some(CallName::Replace(PartName::Year)),
-        "replace_day" => Some(CallName::Replace(PartName::Day)),
-        "replace_ordinal" => Some(CallName::Replace(PartName::Ordinal)),
-        "replace_hour" => Some(CallName::Replace(PartName::Hour)),
-        "replace_minute" => Some(CallName::Replace(PartName::Minute)),
-        "replace_second" => Some(CallName::Replace(PartName::Second)),
-        "replace_millisecond" => Some(CallName::Replace(PartName::Millisecond)),
-        "replace_microsecond" => Some(CallName::Replace(PartName::Microsecond)),
-        "replace_nanosecond" => Some(CallName::Replace(PartName::Nanosecond)),
-        "checked_to_offset" => Some(CallName::CheckedToOffset),
-        _ => None,
+    entry_of! {
+        name,
+        "time" => ClockRead::Time,
+        "as_hms" => ClockRead::Hms,
+        "as_hms_milli" => ClockRead::HmsMilli,
+        "as_hms_micro" => ClockRead::HmsMicro,
+        "as_hms_nano" => ClockRead::HmsNano,
+        "hour" => ClockRead::Hour,
+        "minute" => ClockRead::Minute,
+        "second" => ClockRead::Second,
+        "millisecond" => ClockRead::Millisecond,
+        "microsecond" => ClockRead::Microsecond,
+        "nanosecond" => ClockRead::Nanosecond,
     }
 }
 
 // The call of this name with these arguments.
 #[tactic(auto, unfolding(crate::specs::CallWords::call_with))]
-fn call_with(name: CallName, arguments: &[u8]) -> Option<Call>
-    ensures { result ≡ call_with name (arguments_of arguments.now) }
+fn call_with(name: &[u8], arguments: &[u8]) -> Option<Call>
+    ensures { result ≡ call_with name.now (arguments_of arguments.now) }
 {
-    match name {
-        CallName::CheckedAdd => Some(Call::Shift(Shift::CheckedAdd(parse_duration(arguments)?))),
-        CallName::CheckedSub => Some(Call::Shift(Shift::CheckedSub(parse_duration(arguments)?))),
-        CallName::SaturatingAdd => Some(Call::Shift(Shift::SaturatingAdd(parse_duration(
-            arguments,
-        )?))),
-        CallName::SaturatingSub => Some(Call::Shift(Shift::SaturatingSub(parse_duration(
-            arguments,
-        )?))),
-        CallName::ReplaceTime => Some(Call::Replace(Replace::Time(parse_time(arguments)?))),
-        CallName::ReplaceDate => Some(Call::Replace(Replace::Date(parse_date(arguments)?))),
-        CallName::Replace(part) => Some(Call::Replace(part_with(
-            part,
-            one_field(b',', arguments)?,
-        )?)),
-        CallName::CheckedToOffset => Some(Call::Local(parse_offset(one_field(b',', arguments)?)?)),
+    if let Some(shift) = shift_with(name, arguments) {
+        return Some(Call::Shift(shift));
     }
+    if let Some(replace) = replace_with(name, arguments) {
+        return Some(Call::Replace(replace));
+    }
+    if is(name, "checked_to_offset") {
+        return Some(Call::Local(parse_offset(one_field(b',', arguments)?)?));
+    }
+    None
 }
 
-// The replacement of this part by a number.
-#[tactic(auto, unfolding(crate::specs::CallWords::part_with))]
-fn part_with(part: PartName, number: &[u8]) -> Option<Replace>
-    ensures { result ≡ part_with part number.now }
+// The sum or the difference of this name with these arguments.
+#[tactic(auto, unfolding(crate::specs::CallWords::shift_with))]
+fn shift_with(name: &[u8], arguments: &[u8]) -> Option<Shift>
+    ensures { result ≡ shift_with name.now (arguments_of arguments.now) }
 {
-    match part {
-        PartName::Month => Some(Replace::Month(parse_month(number)?)),
-        PartName::Year => Some(Replace::Year(parse_i32(number)?)),
-        PartName::Day => Some(Replace::Day(parse_u8(number)?)),
-        PartName::Ordinal => Some(Replace::Ordinal(parse_u16(number)?)),
-        PartName::Hour => Some(Replace::Hour(parse_u8(number)?)),
-        PartName::Minute => Some(Replace::Minute(parse_u8(number)?)),
-        PartName::Second => Some(Replace::Second(parse_u8(number)?)),
-        PartName::Millisecond => Some(Replace::Millisecond(parse_u16(number)?)),
-        PartName::Microsecond => Some(Replace::Microsecond(parse_u32(number)?)),
-        PartName::Nanosecond => Some(Replace::Nanosecond(parse_u32(number)?)),
+    if is(name, "checked_add") {
+        return Some(Shift::CheckedAdd(parse_duration(arguments)?));
     }
+    if is(name, "checked_sub") {
+        return Some(Shift::CheckedSub(parse_duration(arguments)?));
+    }
+    if is(name, "saturating_add") {
+        return Some(Shift::SaturatingAdd(parse_duration(arguments)?));
+    }
+    if is(name, "saturating_sub") {
+        return Some(Shift::SaturatingSub(parse_duration(arguments)?));
+    }
+    None
+}
+
+// The replacement of this name with these arguments.
+#[tactic(auto, unfolding(crate::specs::CallWords::replace_with))]
+fn replace_with(name: &[u8], arguments: &[u8]) -> Option<Replace>
+    ensures { result ≡ replace_with name.now (arguments_of arguments.now) }
+{
+    if is(name, "replace_time") {
+        return Some(Replace::Time(parse_time(arguments)?));
+    }
+    if is(name, "replace_date") {
+        return Some(Replace::Date(parse_date(arguments)?));
+    }
+    let number = one_field(b',', arguments)?;
+    if let Some(replace) = date_part_with(name, number) {
+        return Some(replace);
+    }
+    clock_part_with(name, number)
+}
+
+// The replacement of a part of the date, of this name, by a number.
+#[tactic(auto, unfolding(crate::specs::CallWords::date_part_with))]
+fn date_part_with(name: &[u8], number: &[u8]) -> Option<Replace>
+    ensures { result ≡ date_part_with name.now number.now }
+{
+    if is(name, "replace_year") {
+        return Some(Replace::Year(parse_i32(number)?));
+    }
+    if is(name, "replace_month") {
+        return Some(Replace::Month(parse_month(number)?));
+    }
+    if is(name, "replace_day") {
+        return Some(Replace::Day(parse_u8(number)?));
+    }
+    if is(name, "replace_ordinal") {
+        return Some(Replace::Ordinal(parse_u16(number)?));
+    }
+    None
+}
+
+// The replacement of a part of the time of day, of this name, by a number.
+#[tactic(auto, unfolding(crate::specs::CallWords::clock_part_with))]
+fn clock_part_with(name: &[u8], number: &[u8]) -> Option<Replace>
+    ensures { result ≡ clock_part_with name.now number.now }
+{
+    if is(name, "replace_hour") {
+        return Some(Replace::Hour(parse_u8(number)?));
+    }
+    if is(name, "replace_minute") {
+        return Some(Replace::Minute(parse_u8(number)?));
+    }
+    if is(name, "replace_second") {
+        return Some(Replace::Second(parse_u8(number)?));
+    }
+    if is(name, "replace_millisecond") {
+        return Some(Replace::Millisecond(parse_u16(number)?));
+    }
+    if is(name, "replace_microsecond") {
+        return Some(Replace::Microsecond(parse_u32(number)?));
+    }
+    if is(name, "replace_nanosecond") {
+        return Some(Replace::Nanosecond(parse_u32(number)?));
+    }
+    None
 }
 
 // The duration of seconds and nanoseconds: less than a second, of the same sign.

@@ -1,12 +1,14 @@
 //! Lines out of blocks of bytes.
 ghost use Rattle.std.specs.Prelude.{◌≡◌, ℕ, List, [], ◌++◌, IsOk, OnOk};
-ghost use Rattle.times_bench.specs.LineParts.{Holds, ended_from, rest_from};
+ghost use Rattle.line_devices.specs.LineParts.{ended_from, rest_from};
+ghost use Rattle.times_bench.specs.LineParts.{Holds};
 ghost use Rattle.times_bench.specs.Progress.{SendsAnswer, WritesAnswers, mark_after};
 
-use super::devices::Sink;
-use super::places::place_of;
+use super::requests::Room;
 use super::sending::{AnswerFault, Pending, flush, send_answer};
-use super::table::Table;
+use line_devices::devices::Sink;
+use line_devices::places::place_of;
+use line_devices::table::Table;
 use std::alloc::Global;
 
 /// The most bytes of a line that asks for something.
@@ -24,6 +26,7 @@ pub fn feed<W: Sink>(
     alloc: Global,
     writer: &mut W,
     pending: &mut Pending,
+    room: &mut Room,
     line: &mut Line,
     block: &[u8],
 ) -> Result<(), AnswerFault>
@@ -43,7 +46,7 @@ pub fn feed<W: Sink>(
             line.push_front_of(&block[place..end]);
             place = end;
         } else {
-            end_line(alloc, writer, pending, line, &block[place..end])?;
+            end_line(alloc, writer, pending, room, line, &block[place..end])?;
             place = end + 1;
         }
     }
@@ -55,6 +58,7 @@ fn end_line<W: Sink>(
     alloc: Global,
     writer: &mut W,
     pending: &mut Pending,
+    room: &mut Room,
     line: &mut Line,
     part: &[u8],
 ) -> Result<(), AnswerFault>
@@ -65,10 +69,10 @@ fn end_line<W: Sink>(
     ensures mark { W.is_marked writer.new ≡ mark_after result (W.is_marked writer.old) }
 {
     if line.is_empty() {
-        return send_answer(alloc, writer, pending, part);
+        return send_answer(alloc, writer, pending, room, part);
     }
     line.push_front_of(part);
-    let result = send_answer(alloc, writer, pending, line.items());
+    let result = send_answer(alloc, writer, pending, room, line.items());
     line.clear();
     result
 }

@@ -4,21 +4,18 @@
 mod answers;
 mod bench;
 mod call_words;
-mod devices;
 mod lines;
 mod numbers;
-mod places;
 mod reply_texts;
 mod requests;
 mod sending;
 mod step_words;
-mod table;
 #[cfg(test)]
 mod tests;
 mod words;
 
 use bench::{bench, fault_line};
-use devices::Device;
+use line_devices::devices::Device;
 use std::process::ExitCode;
 
 fn main(rt: HostRuntime) -> ExitCode {

@@ -87,7 +87,7 @@ fn parse_digits(text: &[u8]) -> Option<i64>
         if *byte < b'0' || *byte > b'9' {
             return None;
         }
-        value = value * 10 + (*byte - b'0') as u64;
+        value = value * 10 + (*byte as u64 - b'0' as u64);
     }
     Some(value as i64)
 }

@@ -7,26 +7,25 @@ ghost use Rattle.times_bench.specs.ReplyTexts.{refused_text, date_part_text, hms
 use calendar_values::{ComponentRange, Date, Text, Time};
 use stamp_times::{ClockPart, DatePart, Held, Reply};
 
-/// The text of a reply: its parts, with one space between.
+/// Adds the text of a reply to an empty text: its parts, with one space between.
 #[tactic(auto, unfolding(crate::specs::ReplyTexts::reply_text))]
-pub fn reply_text(reply: Reply) -> Text
-    ensures text { result ≡ reply_text reply }
-    ensures length { length result ≤ 43 }
+pub fn push_reply(text: &mut Text, reply: Reply)
+    requires { length text.old ≡ 0 }
+    ensures value { text.new ≡ text.old ++ reply_text reply }
+    ensures length { length text.new ≤ 43 }
 {
-    let mut text = Text::new();
     match reply {
-        Reply::DatePart(part) => push_date_part(&mut text, part),
-        Reply::ClockPart(part) => push_clock_part(&mut text, part),
-        Reply::Now(date, time) => push_date_time(&mut text, date, time),
+        Reply::DatePart(part) => push_date_part(text, part),
+        Reply::ClockPart(part) => push_clock_part(text, part),
+        Reply::Now(date, time) => push_date_time(text, date, time),
         Reply::Refused => text.push_bytes(b"refused"),
-        Reply::RefusedPart(refusal) => return refused_text(refusal),
+        Reply::RefusedPart(refusal) => push_refused(text, refusal),
         Reply::Local(date, time, offset) => {
-            push_date_time(&mut text, date, time);
+            push_date_time(text, date, time);
             text.push(b' ');
-            offset.append_to(&mut text);
+            offset.append_to(text);
         }
     }
-    text
 }
 
 /// `refused`, and the name of the part.
@@ -35,33 +34,41 @@ pub fn refused_text(refusal: ComponentRange) -> Text
     ensures length { length result ≤ 22 }
 {
     let mut text = Text::new();
-    text.push_bytes(b"refused ");
-    text.push_bytes(refusal.name().as_bytes());
+    push_refused(&mut text, refusal);
     text
 }
 
-/// The type that holds an instant, and the text of the value.
-#[tactic(auto, unfolding(crate::specs::ReplyTexts::held_text))]
-pub fn held_text(held: Held) -> Text
-    ensures text { result ≡ held_text held }
-    ensures length { length result ≤ 49 }
+// Adds `refused`, and the name of the part.
+fn push_refused(text: &mut Text, refusal: ComponentRange)
+    requires { length text.old ≡ 0 }
+    ensures value { text.new ≡ text.old ++ refused_text refusal }
+    ensures length { length text.new ≤ 22 }
 {
-    let mut text = Text::new();
+    text.push_bytes(b"refused ");
+    text.push_bytes(refusal.name().as_bytes());
+}
+
+/// Adds the type that holds an instant, and the text of the value, to an empty text.
+#[tactic(auto, unfolding(crate::specs::ReplyTexts::held_text))]
+pub fn push_held(text: &mut Text, held: Held)
+    requires { length text.old ≡ 0 }
+    ensures value { text.new ≡ text.old ++ held_text held }
+    ensures length { length text.new ≤ 49 }
+{
     match held {
         Held::Stamp(at) => {
             text.push_bytes(b"stamp ");
-            at.append_to(&mut text);
+            at.append_to(text);
         }
         Held::Utc(at) => {
             text.push_bytes(b"utc ");
-            at.append_to(&mut text);
+            at.append_to(text);
         }
         Held::Offset(at) => {
             text.push_bytes(b"offset ");
-            at.append_to(&mut text);
+            at.append_to(text);
         }
     }
-    text
 }
 
 /// Adds a number in decimal digits, with `-` before it if it is below 0.

@@ -1,17 +1,16 @@
-//! What a line asks for.
+//! How the words of a line read.
 ghost use Rattle.std.specs.Prelude.{◌≡◌, ◌<◌, ◌≤◌, ℕ, List, length, IfSome, OnSome, Option};
-ghost use Rattle.std.specs.Option.{option_map, option_and_then};
+ghost use Rattle.std.specs.Option.{option_map};
 ghost use Rattle.times_bench.specs.CallWords.{call_of};
 ghost use Rattle.times_bench.specs.StepWords.{step_of};
-ghost use Rattle.times_bench.specs.Requests.{Unix, Stamp, Run, Chain, unix_request, stamp_request, parse_instant, run_request, chain_request, request_of_command, request_of};
+ghost use Rattle.times_bench.specs.Requests.{Unix, Stamp, Run, Chain, unix_request, stamp_request, parse_instant, run_request, chain_request};
 ghost use Rattle.times_bench.specs.Words.{words_of, words_left, bytes_left, all_of};
 
 use super::call_words::call_of;
-use super::lines::LONGEST_LINE;
 use super::numbers::{parse_i64, parse_u32};
 use super::step_words::step_of;
-use super::table::Table;
 use super::words::{cut_at, two_fields};
+use line_devices::table::Table;
 use stamp_times::{Call, DateRead, Step};
 
 /// The most calls or steps of a line: a word of at least three bytes each, and a space before it.
@@ -23,64 +22,25 @@ pub type Calls = Table<Call, MOST_WORDS>;
 /// The steps of a chain.
 pub type Steps = Table<Step, MOST_WORDS>;
 
-/// The kinds of lines that ask for something.
-#[derive(Clone, Copy)]
-pub enum Command {
-    /// `unix S`: the text of the Unix second S.
-    Unix,
-    /// `stamp S N`: the text of the Unix second S with its nanosecond replaced by N, and its day.
-    Stamp,
-    /// `run S N CALL..`: the replies to the calls, from the instant of S and N.
-    Run,
-    /// `chain S N START STEP..`: what the steps lead to, from the instant of S and N as START holds it.
-    Chain,
-}
-
-/// What a run starts from, and its calls.
+/// Room for the calls or the steps of a line, which line after line uses.
 #[derive(Drop)]
-pub struct RunRequest {
-    pub second: i64,
-    pub nanosecond: u32,
+pub struct Room {
     pub calls: Calls,
-}
-
-/// What a chain starts from, and its steps.
-#[derive(Drop)]
-pub struct ChainRequest {
-    pub second: i64,
-    pub nanosecond: u32,
-    pub start: Step,
     pub steps: Steps,
 }
 
-/// The kind of a line, and what stands after its first word. None for a line of no kind, and for one of
-/// more than 1,024 bytes.
-pub fn command_of(line: &[u8]) -> Option<(Command, &[u8])>
-    ensures request { option_and_then
-        (λ asked. request_of_command asked.0 (words_of asked.1.now)) result
-        ≡ request_of line.now }
-    ensures length { IfSome result (λ asked. length asked.1.now < 1024) }
-{
-    if line.len() > LONGEST_LINE {
-        return None;
+impl Room {
+    /// Room that nothing has used.
+    pub fn new() -> Room {
+        Room {
+            calls: Table::new(Call::ReadDate(DateRead::Date)),
+            steps: Table::new(Step::ToStamp),
+        }
     }
-    if let Some(words) = line.strip_prefix(b"unix ".as_slice()) {
-        return Some((Command::Unix, words));
-    }
-    if let Some(words) = line.strip_prefix(b"stamp ".as_slice()) {
-        return Some((Command::Stamp, words));
-    }
-    if let Some(words) = line.strip_prefix(b"run ".as_slice()) {
-        return Some((Command::Run, words));
-    }
-    if let Some(words) = line.strip_prefix(b"chain ".as_slice()) {
-        return Some((Command::Chain, words));
-    }
-    None
 }
 
 /// The second of the words after `unix`.
-pub fn unix_request_of(words: &[u8]) -> Option<i64>
+pub fn read_unix(words: &[u8]) -> Option<i64>
     ensures { option_map Unix result ≡ unix_request (words_of words.now) }
 {
     parse_i64(words)
@@ -88,7 +48,7 @@ pub fn unix_request_of(words: &[u8]) -> Option<i64>
 
 /// The second and the nanosecond of the words after `stamp`.
 #[tactic(auto, unfolding(crate::specs::Requests::stamp_request))]
-pub fn stamp_request_of(words: &[u8]) -> Option<(i64, u32)>
+pub fn read_stamp(words: &[u8]) -> Option<(i64, u32)>
     ensures { option_map (λ asked. Stamp asked.0 asked.1) result
         ≡ stamp_request (words_of words.now) }
 {
@@ -96,40 +56,31 @@ pub fn stamp_request_of(words: &[u8]) -> Option<(i64, u32)>
     Some((parse_i64(second)?, parse_u32(nanosecond)?))
 }
 
-/// The run of the words after `run`.
+/// The second and the nanosecond of the words after `run`. Their calls take the place of those in the table.
 #[tactic(auto, unfolding(crate::specs::Requests::run_request))]
-pub fn run_request_of(words: &[u8]) -> Option<RunRequest>
+pub fn read_run(words: &[u8], calls: &mut Calls) -> Option<(i64, u32)>
     requires { length words.now < 1024 }
-    ensures { option_map (λ asked. Run asked.second asked.nanosecond asked.calls) result
+    ensures { option_map (λ asked. Run asked.0 asked.1 calls.new) result
         ≡ run_request (words_of words.now) }
 {
-    let (second, nanosecond, calls) = parse_instant(words)?;
-    let calls = items_of(Call::ReadDate(DateRead::Date), calls)?;
-    Some(RunRequest {
-        second,
-        nanosecond,
-        calls,
-    })
+    let (second, nanosecond, rest) = parse_instant(words)?;
+    read_items(rest, calls)?;
+    Some((second, nanosecond))
 }
 
-/// The chain of the words after `chain`.
+/// The second, the nanosecond and the start of the words after `chain`. Their steps take the place of those in
+/// the table.
 #[tactic(auto, unfolding(crate::specs::Requests::chain_request, crate::specs::Requests::chain_from))]
-pub fn chain_request_of(words: &[u8]) -> Option<ChainRequest>
+pub fn read_chain(words: &[u8], steps: &mut Steps) -> Option<(i64, u32, Step)>
     requires { length words.now < 1024 }
-    ensures { option_map
-        (λ asked. Chain asked.second asked.nanosecond asked.start asked.steps) result
+    ensures { option_map (λ asked. Chain asked.0 asked.1 asked.2 steps.new) result
         ≡ chain_request (words_of words.now) }
 {
     let (second, nanosecond, words) = parse_instant(words)?;
-    let (start, steps) = cut_at(b' ', words?);
+    let (start, rest) = cut_at(b' ', words?);
     let start = step_of(start)?;
-    let steps = items_of(Step::ToStamp, steps)?;
-    Some(ChainRequest {
-        second,
-        nanosecond,
-        start,
-        steps,
-    })
+    read_items(rest, steps)?;
+    Some((second, nanosecond, start))
 }
 
 // The second and the nanosecond that words begin with, and what is left of them.
@@ -169,17 +120,17 @@ impl Item for Step {
     }
 }
 
-// The items of words, if all of them read. The one that is given fills the room of those to come.
-fn items_of<T: Item>(fill: T, words: Option<&[u8]>) -> Option<Table<T, MOST_WORDS>>
+// Puts the items of words into the table, in the place of those there, if all of the words read.
+fn read_items<T: Item>(words: Option<&[u8]>, items: &mut Table<T, MOST_WORDS>) -> Option<()>
     requires { bytes_left words < 1024 }
-    ensures { result ≡ all_of T.reading (words_left words.entry) }
+    ensures { option_map (λ _. items.new) result ≡ all_of T.reading (words_left words.entry) }
 {
-    let mut items = Table::new(fill);
+    items.clear();
     let mut left = words;
     'words: while let Some(text) = left {
         let (word, rest) = cut_at(b' ', text);
         items.push(T::read(word)?);
         left = rest;
     }
-    Some(items)
+    Some(())
 }

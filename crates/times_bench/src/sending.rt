@@ -1,21 +1,16 @@
 //! Bytes on their way to a sink.
 ghost use Rattle.std.specs.Prelude.{◌≡◌, [], OnOk, MatchResult};
 ghost use Rattle.times_bench.specs.Progress.{AtFault, HasRoom, SendsAnswer, WritesPending, mark_after};
-ghost use Rattle.times_bench.specs.Writing.{AppendsBeginning, Sends};
+ghost use Rattle.line_devices.specs.Writing.{AppendsBeginning, Sends};
 
 use super::answers::put_answer;
-use super::devices::{Sink, write_whole};
-use super::table::Table;
+use super::requests::Room;
+use line_devices::devices::Sink;
+pub use line_devices::sending::Pending;
 use std::alloc::Global;
-
-/// The most bytes that wait to be written.
-pub const MOST_PENDING: usize = 65_536;
 
 // More bytes than an answer has.
 const ANSWER_ROOM: usize = 16_640;
-
-/// Bytes that are still to be written.
-pub type Pending = Table<u8, MOST_PENDING>;
 
 /// What ended the work before all lines were answered.
 #[derive(Clone, Copy, Debug, PartialEq, Eq)]
@@ -33,10 +28,9 @@ pub fn flush<W: Sink>(writer: &mut W, pending: &mut Pending) -> Result<(), Answe
     ensures empty { OnOk result (pending.new ≡ []) }
     ensures mark { W.is_marked writer.new ≡ mark_after result (W.is_marked writer.old) }
 {
-    let Ok(()) = write_whole(writer, pending.items()) else {
+    let Ok(()) = line_devices::sending::flush(writer, pending) else {
         return Err(AnswerFault::Write);
     };
-    pending.clear();
     Ok(())
 }
 
@@ -46,6 +40,7 @@ pub fn send_answer<W: Sink>(
     alloc: Global,
     writer: &mut W,
     pending: &mut Pending,
+    room: &mut Room,
     line: &[u8],
 ) -> Result<(), AnswerFault>
     ensures sent { SendsAnswer result (W.written writer.old) (W.written writer.new)
@@ -53,7 +48,7 @@ pub fn send_answer<W: Sink>(
     ensures mark { W.is_marked writer.new ≡ mark_after result (W.is_marked writer.old) }
 {
     make_room(writer, pending)?;
-    let Ok(()) = put_answer(alloc, pending, line) else {
+    let Ok(()) = put_answer(alloc, pending, room, line) else {
         flush(writer, pending)?;
         return Err(AnswerFault::Memory);
     };

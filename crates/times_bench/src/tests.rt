@@ -1,6 +1,6 @@
 // Inputs that end in no line feed or are long, and devices that fail at each call in turn.
 use super::bench::{BenchFault, bench, fault_line};
-use super::devices::{Device, Sink, Source};
+use line_devices::devices::{Device, Sink, Source};
 use std::alloc::Global;
 use std::io;
 use std::io::{Read, Write};
@@ -254,6 +254,7 @@ fn write_of_no_byte_fails(rt: HostRuntime) -> Result<(), Fail> {
     let result = bench(rt.alloc(), &mut Device::new(LINES.as_bytes()), &mut writer);
     assert_eq!(rt; result, Err(BenchFault::Write));
     assert!(rt; writer.failed());
+    assert!(rt; writer.write_some(b"x").is_err());
     Ok(())
 }
 

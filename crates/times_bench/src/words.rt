@@ -3,7 +3,7 @@ ghost use Rattle.std.specs.Prelude.{◌≡◌, [], ◌∷◌, option_map};
 ghost use Rattle.std.specs.Option.{option_map_or};
 ghost use Rattle.times_bench.specs.Words.{cut_at, exactly_one, exactly_two, exactly_three, exactly_four};
 
-use super::places::place_of;
+use line_devices::places::place_of;
 
 /// What stands before the first separator, and what stands after it if there is one.
 pub fn cut_at(separator: u8, text: &[u8]) -> (&[u8], Option<&[u8]>)

@@ -9,8 +9,8 @@ use Rattle.times_bench.proofs.answers.put_replies.Goals as goal
 abbrev ended : Reply → List ℕ
 ended reply = reply_text reply ++ codes "; "
 
-pub put_text-requires : goal.put_text-requires
-put_text-requires c = omega arith
+pub put_reply-requires : goal.put_reply-requires
+put_reply-requires c = omega arith
 
 pub replies-init : goal.replies-init
 replies-init c = record { put = sym (append-nil c.args.pending.now); room = omega arith }
@@ -18,8 +18,8 @@ replies-init c = record { put = sym (append-nil c.args.pending.now); room = omeg
 pub replies-preserved : goal.replies-preserved
 replies-preserved c = record {
   put =
-      rw (c.put_text.ensures.text, c.replies.invariant.put)
-      (flat_map-next ended _ c.ended_text.result c.args.replies.now c.replies.reply-index _ (omega arith) c.reply-item.is c.ended_text.ensures);
+      rw (c.put_reply.ensures.text, c.replies.invariant.put)
+      (flat_map-next ended _ _ c.args.replies.now c.replies.reply-index _ (omega arith) c.reply-item.is refl);
   room = omega arith;
 }
 

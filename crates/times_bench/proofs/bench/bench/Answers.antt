@@ -1,10 +1,11 @@
 use Rattle.std.proofs.Common.{arith, ◌∙◌, [], ◌++◌, take, length-append, refl}
-use Rattle.times_bench.specs.LineParts.{ended_from, rest_from}
-use Rattle.times_bench.proofs.CutLemmas.{rest_from-append}
-use Rattle.times_bench.proofs.ReadLemmas.{Consumes-nil, Consumes-append, Consumes-keep, input-end, input-begin}
+use Rattle.line_devices.specs.LineParts.{ended_from, rest_from}
+use Rattle.line_devices.specs.LineLemmas.{rest_from-append}
+use Rattle.line_devices.specs.InputLemmas.{Consumes-nil, Consumes-append, Consumes-keep, input-end, input-begin}
 use Rattle.times_bench.proofs.ReadLemmas.{AnswersWritten-append, answers_of-whole_lines_of, Appends-last, AppendsBeginning-last, AppendsBeginning-block}
 use Rattle.times_bench.proofs.ReadLemmas.{AnswersBeforeMemory-last, AnswersBeforeMemory-block}
-use Rattle.times_bench.proofs.SendingLemmas.{Appends-nil}
+use Rattle.line_devices.specs.WritingLemmas.{Appends-nil}
+use Rattle.times_bench.proofs.SendingLemmas.{ended_by, not_read, AtFault-write, AtFault-memory, mark_after-write, mark_after-memory}
 use Rattle.times_bench.proofs.bench.bench.Goals as goal
 
 pub reads-init : goal.reads-init
@@ -22,44 +23,84 @@ reads-init g c = (
   },
 )
 
-pub returns-in-Ok-finish-clause-answers : goal.returns-in-Ok-finish-clause-answers
-returns-in-Ok-finish-clause-answers g c =
+pub returns-then-count-eq0-clause-answers : goal.returns-then-count-eq0-clause-answers
+returns-then-count-eq0-clause-answers g c =
     let so_far = c.reads.invariant in
     let end = c.in-Ok.ensures.consumed.1 c.if-count-eq0.true (omega arith) in
     input-end _ _ _ so_far.0 _ so_far.1.consumed (rw c.if-count-eq0.true at c.in-Ok.ensures.consumed.0) end
-    (Appends-last _ _ _ so_far.0 so_far.1.sent (c.in-Ok-finish.ensures.written (rest_from [] so_far.0) so_far.1.line))
+    (Appends-last _ _ _ so_far.0 so_far.1.sent (c.in_ok-finish.ensures.written (rest_from [] so_far.0) so_far.1.line))
 
-pub returns-in-Err-Write-clause-beginning : goal.returns-in-Err-Write-clause-beginning
-returns-in-Err-Write-clause-beginning g c _ =
+pub returns-in_err-finish-clause-read : goal.returns-in_err-finish-clause-read
+returns-in_err-finish-clause-read g c is = absurd (not_read _ (ended_by _ _ _ c.from_residual.ensures.1 is))
+
+pub returns-in_err-finish-clause-whole_lines : goal.returns-in_err-finish-clause-whole_lines
+returns-in_err-finish-clause-whole_lines g c is = absurd (not_read _ (ended_by _ _ _ c.from_residual.ensures.1 is))
+
+pub returns-in_err-finish-clause-only_a_read : goal.returns-in_err-finish-clause-only_a_read
+returns-in_err-finish-clause-only_a_read g c is = absurd (not_read _ (ended_by _ _ _ c.from_residual.ensures.1 is))
+
+pub returns-in_err-finish-clause-write : goal.returns-in_err-finish-clause-write
+returns-in_err-finish-clause-write g c is = c.in_err-finish.ensures.mark ∙ mark_after-write _ _ (ended_by _ _ _ c.from_residual.ensures.1 is)
+
+pub returns-in_err-finish-clause-beginning : goal.returns-in_err-finish-clause-beginning
+returns-in_err-finish-clause-beginning g c is =
     let so_far = c.reads.invariant in
+    let by = ended_by _ _ _ c.from_residual.ensures.1 is in
+    let cut = AtFault-write _ _ _ by (c.in_err-finish.ensures.written (rest_from [] so_far.0) so_far.1.line) in
     let end = c.in-Ok.ensures.consumed.1 c.if-count-eq0.true (omega arith) in
-    let cut = rw c.in-Err-Write.field-0-is at (c.in-Err-Write.ensures.written (rest_from [] so_far.0) so_far.1.line) in
     input-end _ _ _ so_far.0 _ so_far.1.consumed (rw c.if-count-eq0.true at c.in-Ok.ensures.consumed.0) end
     (AppendsBeginning-last _ _ _ so_far.0 so_far.1.sent cut)
 
-pub returns-in-Err-Write-feed-clause-beginning : goal.returns-in-Err-Write-feed-clause-beginning
-returns-in-Err-Write-feed-clause-beginning g c _ =
+pub returns-in_err-finish-clause-memory : goal.returns-in_err-finish-clause-memory
+returns-in_err-finish-clause-memory g c is =
     let so_far = c.reads.invariant in
+    let by = ended_by _ _ _ c.from_residual.ensures.1 is in
+    let cut = AtFault-memory _ _ _ by (c.in_err-finish.ensures.written (rest_from [] so_far.0) so_far.1.line) in
+    let end = c.in-Ok.ensures.consumed.1 c.if-count-eq0.true (omega arith) in
+    input-end _ _ _ so_far.0 _ so_far.1.consumed (rw c.if-count-eq0.true at c.in-Ok.ensures.consumed.0) end
+    (AnswersBeforeMemory-last _ _ _ so_far.0 so_far.1.sent cut)
+
+pub returns-in_err-finish-clause-no_call_failed : goal.returns-in_err-finish-clause-no_call_failed
+returns-in_err-finish-clause-no_call_failed g c is =
+    let so_far = c.reads.invariant in
+    let by = ended_by _ _ _ c.from_residual.ensures.1 is in
+    (c.in-Ok.ensures.mark ∙ so_far.1.reader_mark, c.in_err-finish.ensures.mark ∙ mark_after-memory _ _ by ∙ so_far.1.writer_mark)
+
+pub returns-in_err-feed-clause-read : goal.returns-in_err-feed-clause-read
+returns-in_err-feed-clause-read g c is = absurd (not_read _ (ended_by _ _ _ c.from_residual-in_err-feed.ensures.1 is))
+
+pub returns-in_err-feed-clause-whole_lines : goal.returns-in_err-feed-clause-whole_lines
+returns-in_err-feed-clause-whole_lines g c is = absurd (not_read _ (ended_by _ _ _ c.from_residual-in_err-feed.ensures.1 is))
+
+pub returns-in_err-feed-clause-only_a_read : goal.returns-in_err-feed-clause-only_a_read
+returns-in_err-feed-clause-only_a_read g c is = absurd (not_read _ (ended_by _ _ _ c.from_residual-in_err-feed.ensures.1 is))
+
+pub returns-in_err-feed-clause-write : goal.returns-in_err-feed-clause-write
+returns-in_err-feed-clause-write g c is = c.in_err-feed.ensures.mark ∙ mark_after-write _ _ (ended_by _ _ _ c.from_residual-in_err-feed.ensures.1 is)
+
+pub returns-in_err-feed-clause-beginning : goal.returns-in_err-feed-clause-beginning
+returns-in_err-feed-clause-beginning g c is =
+    let so_far = c.reads.invariant in
+    let by = ended_by _ _ _ c.from_residual-in_err-feed.ensures.1 is in
+    let cut = AtFault-write _ _ _ by (c.in_err-feed.ensures.written (rest_from [] so_far.0) so_far.1.line) in
     let block = take c.in-Ok.count c.read_some.new.buffer in
-    let cut = rw c.in-Err-Write-feed.field-0-is at (c.in-Err-Write-feed.ensures.written (rest_from [] so_far.0) so_far.1.line) in
     input-begin _ _ (so_far.0 ++ block) _ (Consumes-append _ _ _ so_far.0 block so_far.1.consumed c.in-Ok.ensures.consumed.0)
     (λ rest. AppendsBeginning-block _ _ _ so_far.0 block rest so_far.1.sent cut)
 
-pub returns-in-Err-Memory-clause-memory : goal.returns-in-Err-Memory-clause-memory
-returns-in-Err-Memory-clause-memory g c _ =
+pub returns-in_err-feed-clause-memory : goal.returns-in_err-feed-clause-memory
+returns-in_err-feed-clause-memory g c is =
     let so_far = c.reads.invariant in
-    let end = c.in-Ok.ensures.consumed.1 c.if-count-eq0.true (omega arith) in
-    let stopped = rw c.in-Err-Memory.field-0-is at (c.in-Err-Memory.ensures.written (rest_from [] so_far.0) so_far.1.line) in
-    input-end _ _ _ so_far.0 _ so_far.1.consumed (rw c.if-count-eq0.true at c.in-Ok.ensures.consumed.0) end
-    (AnswersBeforeMemory-last _ _ _ so_far.0 so_far.1.sent stopped)
-
-pub returns-in-Err-Memory-feed-clause-memory : goal.returns-in-Err-Memory-feed-clause-memory
-returns-in-Err-Memory-feed-clause-memory g c _ =
-    let so_far = c.reads.invariant in
+    let by = ended_by _ _ _ c.from_residual-in_err-feed.ensures.1 is in
+    let cut = AtFault-memory _ _ _ by (c.in_err-feed.ensures.written (rest_from [] so_far.0) so_far.1.line) in
     let block = take c.in-Ok.count c.read_some.new.buffer in
-    let stopped = rw c.in-Err-Memory-feed.field-0-is at (c.in-Err-Memory-feed.ensures.written (rest_from [] so_far.0) so_far.1.line) in
     input-begin _ _ (so_far.0 ++ block) _ (Consumes-append _ _ _ so_far.0 block so_far.1.consumed c.in-Ok.ensures.consumed.0)
-    (λ rest. AnswersBeforeMemory-block _ _ _ so_far.0 block rest so_far.1.sent stopped)
+    (λ rest. AnswersBeforeMemory-block _ _ _ so_far.0 block rest so_far.1.sent cut)
+
+pub returns-in_err-feed-clause-no_call_failed : goal.returns-in_err-feed-clause-no_call_failed
+returns-in_err-feed-clause-no_call_failed g c is =
+    let so_far = c.reads.invariant in
+    let by = ended_by _ _ _ c.from_residual-in_err-feed.ensures.1 is in
+    (c.in-Ok.ensures.mark ∙ so_far.1.reader_mark, c.in_err-feed.ensures.mark ∙ mark_after-memory _ _ by ∙ so_far.1.writer_mark)
 
 pub reads-preserved : goal.reads-preserved
 reads-preserved g c =
@@ -69,11 +110,11 @@ reads-preserved g c =
       record {
         consumed = Consumes-append _ _ _ so_far.0 block so_far.1.consumed c.in-Ok.ensures.consumed.0;
         turns = omega (arith, so_far.1.turns, c.in-Ok.ensures.bound.1, c.if-count-eq0.false, length-append so_far.0 block);
-        line = rw (rest_from-append [] so_far.0 block) (c.in-Ok-feed.ensures.line refl (rest_from [] so_far.0) so_far.1.line);
-        empty = c.in-Ok-feed.ensures.empty;
-        sent = AnswersWritten-append _ _ _ so_far.0 block so_far.1.sent (c.in-Ok-feed.ensures.written (rest_from [] so_far.0) so_far.1.line);
+        line = rw (rest_from-append [] so_far.0 block) (c.in_ok-feed.ensures.line refl (rest_from [] so_far.0) so_far.1.line);
+        empty = c.in_ok-feed.ensures.empty;
+        sent = AnswersWritten-append _ _ _ so_far.0 block so_far.1.sent (c.in_ok-feed.ensures.written (rest_from [] so_far.0) so_far.1.line);
         reader_mark = c.in-Ok.ensures.mark ∙ so_far.1.reader_mark;
-        writer_mark = c.in-Ok-feed.ensures.mark ∙ so_far.1.writer_mark;
+        writer_mark = c.in_ok-feed.ensures.mark ∙ so_far.1.writer_mark;
       },
     )
 

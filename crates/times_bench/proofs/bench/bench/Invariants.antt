@@ -1,6 +1,7 @@
 use Rattle.std.proofs.Common.{List, ℕ, [], ◌≡◌, ◌≤◌, length, false}
 use Rattle.std.specs.Io.KnownBytes.{Consumes}
-use Rattle.times_bench.specs.LineParts.{Holds, rest_from}
+use Rattle.line_devices.specs.LineParts.{rest_from}
+use Rattle.times_bench.specs.LineParts.{Holds}
 use Rattle.times_bench.proofs.ReadLemmas.{AnswersWritten}
 use Rattle.times_bench.proofs.bench.bench.Given as goal
 

@@ -1,21 +1,16 @@
-use Rattle.std.proofs.Common.{arith, refl, ◌≡◌, ℕ, ◌+◌, ◌<◌, List, [], ◌∷◌, ◌++◌, length, take, drop, get_or, add-one, sym, ◌∙◌}
-use Rattle.std.proofs.Math.Seq.{take-suc}
+use Rattle.std.proofs.Common.{arith, refl, ◌≡◌, ℕ, ◌+◌, ◌<◌, List, [], ◌∷◌, ◌++◌, length, take, drop, get_or, sym, ◌∙◌}
 use Rattle.std.proofs.lemmas.Result.{err_from_is_err_and}
 use Rattle.std.proofs.lemmas.List.{take_all, take-append-drop}
-use Rattle.times_bench.specs.LineParts.{ended_from, rest_from}
-use Rattle.times_bench.proofs.CutLemmas.{ended_until, rest_from-line_feed}
+use Rattle.line_devices.specs.LineParts.{ended_from, rest_from}
+use Rattle.line_devices.specs.LineLemmas.{ended_until, rest_from-line_feed, take-line_feed}
 use Rattle.times_bench.proofs.FeedLemmas.{Sends-line, AtFault-line, WritesAnswers-flushed}
 use Rattle.times_bench.proofs.LineLemmas.{Holds-append}
-use Rattle.times_bench.proofs.SendingLemmas.{Sends-nothing}
+use Rattle.line_devices.specs.WritingLemmas.{Sends-nothing}
 use Rattle.times_bench.proofs.lines.feed.Goals as goal
-
-line_feed_at : (block : List ℕ) (end : ℕ) → end < length block → get_or block end 0 ≡ 10 → take (end + 1) block ≡ take end block ++ 10 ∷ []
-line_feed_at block end low is =
-    rw (add-one, take-suc block end 0 low, is) refl
 
 cut_at : (block : List ℕ) (end : ℕ) → end < length block → get_or block end 0 ≡ 10 → block ≡ (take end block ++ 10 ∷ []) ++ drop (end + 1) block
 cut_at block end low is =
-    rw (← line_feed_at block end low is) (sym (take-append-drop (end + 1) block))
+    rw (← take-line_feed block end low is) (sym (take-append-drop (end + 1) block))
 
 pub lines-init : goal.lines-init
 unfolding ended_from rest_from
@@ -60,7 +55,7 @@ lines-preserved g c =
     let found = c.place_of-end.ensures in
     let so_far = c.lines.invariant in
     let low : end < length block = omega (arith, found.bounds) in
-    let next = line_feed_at block end low (found.byte_there low) in
+    let next = take-line_feed block end low (found.byte_there low) in
     record {
       within = omega arith;
       line = λ piece h. rw (next, rest_from-line_feed piece (take end block)) (c.in_ok-end_line.ensures.line refl);

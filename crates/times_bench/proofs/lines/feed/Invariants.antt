@@ -1,7 +1,8 @@
 use Rattle.std.proofs.Common.{◌≡◌, ◌≤◌, ◌-◌, length, List, ℕ, take}
 use Rattle.times_bench.specs.Answers.{answers_of}
-use Rattle.times_bench.specs.LineParts.{Holds, ended_from, rest_from}
-use Rattle.times_bench.specs.Writing.{Sends}
+use Rattle.line_devices.specs.LineParts.{ended_from, rest_from}
+use Rattle.times_bench.specs.LineParts.{Holds}
+use Rattle.line_devices.specs.Writing.{Sends}
 use Rattle.times_bench.proofs.lines.feed.Given as goal
 
 abbrev pub invariant-lines : goal.invariant-lines

@@ -1,6 +1,7 @@
 use Rattle.std.proofs.lemmas.Result.{err_from_is_err_and}
 use Rattle.times_bench.specs.Answers.{answer_of}
-use Rattle.times_bench.proofs.SendingLemmas.{AtFault-weaker, AppendsBeginning-longer, AppendsBeginning-flushed}
+use Rattle.line_devices.specs.WritingLemmas.{AppendsBeginning-longer, AppendsBeginning-flushed}
+use Rattle.times_bench.proofs.SendingLemmas.{AtFault-weaker}
 use Rattle.times_bench.proofs.sending.send_answer.Goals as goal
 
 pub returns-in_err-make_room-clause-sent : goal.returns-in_err-make_room-clause-sent

@@ -1,13 +1,13 @@
 use Rattle.std.proofs.Common.{rules, Some, append-nil, arith, [], ◌∷◌, length, length-append, ◌≡◌, ◌∙◌, sym, ap, None}
 use Rattle.times_bench.specs.Words.{words_left, all_of}
 use Rattle.times_bench.proofs.RequestLemmas.{items-next, length-words}
-use Rattle.times_bench.proofs.requests.items_of.Goals as goal
+use Rattle.times_bench.proofs.requests.read_items.Goals as goal
 
 pub returns-in_err-read : goal.returns-in_err-read
 unfolding all_of
 returns-in_err-read g c =
     let cut = ap words_left c.in-Some.is ∙ c.cut_at.ensures in
-    c.from_residual.ensures ∙ sym (rw (cut, ← c.in_err-read.ensures.value) at c.words.invariant.so_far)
+    rw c.from_residual.ensures (sym (rw (cut, ← c.in_err-read.ensures.value) at c.words.invariant.so_far))
 
 pub words-smaller : goal.words-smaller
 words-smaller g c = rw c.in-Some.is (omega (arith, length-words c.in-Some.text.now c.cut_at.result.0.now c.cut_at.result.1 c.cut_at.ensures))

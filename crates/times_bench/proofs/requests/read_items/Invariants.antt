@@ -1,7 +1,7 @@
 use Rattle.std.proofs.Common.{◌≤◌, ◌+◌, ◌*◌, length}
 use Rattle.times_bench.specs.Words.{words_left, all_of}
 use Rattle.times_bench.proofs.RequestLemmas.{AllSoFar, room_left}
-use Rattle.times_bench.proofs.requests.items_of.Given as goal
+use Rattle.times_bench.proofs.requests.read_items.Given as goal
 
 abbrev pub invariant-words : goal.invariant-words
 invariant-words g l =
