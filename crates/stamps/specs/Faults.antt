@@ -1,0 +1,19 @@
+-- What ends the work.
+use Rattle.std.specs.Prelude.{◌≡◌, ℕ, List, codes, Option, Err}
+use Rattle.std.specs.Io.KnownBytes.{Appends}
+use Rattle.stamps.specs.Runs.{Run}
+use Rattle.stamps.specs.declared.finding.Finding.{Finding}
+use Rattle.stamps.specs.declared.lines.LineFault.{LineFault}
+use Rattle.stamps.specs.declared.lines.LineFault.TheVariants as line
+use Rattle.stamps.specs.declared.stamps.StampFault.{StampFault}
+use Rattle.stamps.specs.declared.stamps.StampFault.TheVariants.{Write, Found}
+
+-- what ends the work where a fault ends that on the lines of a block
+abbrev pub stamp_fault : LineFault → StampFault
+stamp_fault line.Write = Write
+stamp_fault (line.Found found) = Found found
+
+-- what stands before the finding was written, and it ended the run
+pub record FoundIn (old new : Option (List ℕ)) (result : Run) (found : Finding) : Type 0 where
+  pub written : Appends old new result.text
+  pub named : result.end ≡ Err found

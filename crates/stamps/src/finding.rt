@@ -1,0 +1,81 @@
+//! Why a line ends the run.
+ghost use Rattle.std.specs.Prelude.{◌≡◌, ◌≤◌, ◌+◌, ◌++◌, IsAscii, length};
+ghost use Rattle.stamps.specs.Findings.{cause_name, cause_end, cause_text, finding_text};
+
+use calendar_values::Text;
+use rfc3339::Component;
+
+/// What is the matter with a line.
+#[derive(Clone, Copy, Debug, PartialEq, Eq)]
+pub enum Cause {
+    /// No stamp stands at its front.
+    Missing,
+    /// The stamp has a part that is out of its range.
+    Refused(Component),
+    /// The instant of the stamp has no text in the style that is asked for.
+    NoText,
+    /// The instant is earlier than the one before.
+    Earlier,
+}
+
+/// A line that ends the run.
+#[derive(Clone, Copy, Debug, PartialEq, Eq)]
+pub struct Finding {
+    /// Its number, counted from 1 on, and at most 2^64 - 1.
+    pub line: u64,
+    /// What is the matter with it.
+    pub cause: Cause,
+}
+
+impl Finding {
+    /// The text, as `line 3: second is out of range`.
+    pub fn text(&self) -> Text
+        ensures text { result ≡ finding_text self.now }
+        ensures length { length result ≤ 57 }
+    {
+        let mut text = Text::new();
+        text.push_bytes(b"line ");
+        text.push_decimal(self.line);
+        text.push_bytes(b": ");
+        push_cause(&mut text, self.cause);
+        text
+    }
+}
+
+// Adds what is the matter.
+fn push_cause(text: &mut Text, cause: Cause)
+    requires { length text.old ≤ 27 }
+    ensures value { text.new ≡ text.old ++ cause_text cause }
+    ensures length { length text.new ≤ length text.old + 29 }
+{
+    text.push_bytes(cause_name(cause).as_bytes());
+    text.push_bytes(cause_end(cause).as_bytes());
+}
+
+// What a cause is called: the first part.
+fn cause_name(cause: Cause) -> &'static str
+    ensures value { result.now ≡ cause_name cause }
+    ensures ascii { IsAscii result.now }
+    ensures length { length result.now + length (cause_end cause) ≤ 29 }
+{
+    match cause {
+        Cause::Missing => "no stamp",
+        Cause::Refused(component) => component.name(),
+        Cause::NoText => "its instant has no text",
+        Cause::Earlier => "earlier",
+    }
+}
+
+// What a cause is called: the second part.
+fn cause_end(cause: Cause) -> &'static str
+    ensures value { result.now ≡ cause_end cause }
+    ensures ascii { IsAscii result.now }
+    ensures length { length result.now ≤ 20 }
+{
+    match cause {
+        Cause::Refused(_) => " is out of range",
+        Cause::Earlier => " than the one before",
+        Cause::Missing => "",
+        Cause::NoText => "",
+    }
+}

@@ -1,0 +1,384 @@
+//! Lines out of blocks of bytes.
+ghost use Rattle.std.specs.Prelude.{◌≡◌, ◌≢◌, ◌≤◌, ℕ, true, false, List, [], ◌∷◌, ◌++◌, drop, length, Option, OnOk, IfErr, IsOk};
+ghost use Rattle.line_devices.specs.LineParts.{HasNone};
+ghost use Rattle.line_devices.specs.Writing.{MarksFailure, SendsAll};
+ghost use Rattle.stamps.specs.Decisions.{decision_of, first_state, state_after};
+ghost use Rattle.stamps.specs.Progress.{Begins, Completes, Decided, Ends, Keeps, KeepsLine, Passes};
+ghost use Rattle.stamps.specs.Progress.{Settled, Stands, is_kept, mark_after, passed};
+ghost use Rattle.stamps.specs.declared.lines.LineFault.TheVariants.{Write};
+ghost use Rattle.stamps.specs.declared.lines.Progress.TheVariants.{Kept};
+
+use crate::decide::{Decision, LONGEST_STAMP, State, decide, first_state};
+use crate::finding::Finding;
+use crate::task::Task;
+use line_devices::devices::{DeviceFault, Sink};
+use line_devices::places::place_of;
+use line_devices::sending::{Pending, flush, send};
+use line_devices::table::Table;
+
+/// What ended the work before the end of the input.
+#[derive(Clone, Copy, Debug, PartialEq, Eq)]
+pub enum LineFault {
+    /// A write failed.
+    Write,
+    /// A line ends the run.
+    Found(Finding),
+}
+
+impl From<DeviceFault> for LineFault {
+    ghost from_gives = { λ fault result. result ≡ Write };
+
+    fn from(_fault: DeviceFault) -> LineFault {
+        LineFault::Write
+    }
+}
+
+/// How far a line is.
+#[derive(Clone, Copy, Debug, PartialEq, Eq)]
+pub enum Progress {
+    /// Its beginning is kept, and nothing of it was sent.
+    Kept,
+    /// What was read of it was sent.
+    Sent,
+    /// Nothing of it is to be sent.
+    Skipped,
+}
+
+/// The beginning of a line.
+pub type Head = Table<u8, LONGEST_STAMP>;
+
+/// What is known behind the bytes that were read.
+#[derive(Drop)]
+pub struct Work {
+    /// What is known of the lines before, and of the last one once it is not kept.
+    pub state: State,
+    /// How far the last line is.
+    pub progress: Progress,
+    /// What is kept of it.
+    pub head: Head,
+}
+
+impl Work {
+    /// What is known before anything is read.
+    pub fn new(task: &Task) -> Work
+        ensures state { result.state ≡ first_state task.now }
+        ensures progress { result.progress ≡ Kept }
+        ensures head { result.head ≡ [] }
+    {
+        Work {
+            state: first_state(task),
+            progress: Progress::Kept,
+            head: Head::new(0),
+        }
+    }
+}
+
+/// Takes in a block, and writes what is to be written of the lines in it, up to one that ends the run.
+pub fn feed<W: Sink>(
+    task: &Task,
+    writer: &mut W,
+    pending: &mut Pending,
+    work: &mut Work,
+    block: &[u8],
+) -> Result<(), LineFault>
+    requires { pending.old ≡ [] }
+    ensures stands { IsOk result → (base : Option (List ℕ)) (taken : List ℕ)
+        → Stands task.now base (W.written writer.old) pending.old work.old taken
+        → Stands task.now base (W.written writer.new) pending.new work.new (taken ++ block.now) }
+    ensures ends { IfErr result (λ fault. (base : Option (List ℕ)) (taken more : List ℕ)
+        → Stands task.now base (W.written writer.old) pending.old work.old taken
+        → Ends task.now base (W.written writer.new) fault ((taken ++ block.now) ++ more)) }
+    ensures empty { OnOk result (pending.new ≡ []) }
+    ensures mark { W.is_marked writer.new ≡ mark_after result (W.is_marked writer.old) }
+{
+    let mut place = 0;
+    'lines: while place < block.len() {
+        let end = place_of(b'\n', block, place);
+        if end == block.len() {
+            take_part(task, writer, pending, work, &block[place..end])?;
+            place = end;
+        } else {
+            end_line(task, writer, pending, work, &block[place..end])?;
+            place = end + 1;
+        }
+    }
+    flush(writer, pending)?;
+    Ok(())
+}
+
+// Takes in a part of a line, which has no line feed.
+fn take_part<W: Sink>(
+    task: &Task,
+    writer: &mut W,
+    pending: &mut Pending,
+    work: &mut Work,
+    part: &[u8],
+) -> Result<(), LineFault>
+    requires { HasNone 10 part.now 0 (length part.now) }
+    ensures stands { IsOk result → (base : Option (List ℕ)) (taken : List ℕ)
+        → Stands task.now base (W.written writer.old) pending.old work.old taken
+        → Stands task.now base (W.written writer.new) pending.new work.new (taken ++ part.now) }
+    ensures ends { IfErr result (λ fault. (base : Option (List ℕ)) (taken more : List ℕ)
+        → Stands task.now base (W.written writer.old) pending.old work.old taken
+        → Ends task.now base (W.written writer.new) fault ((taken ++ part.now) ++ more)) }
+    ensures mark { W.is_marked writer.new ≡ mark_after result (W.is_marked writer.old) }
+{
+    if is_kept(work.progress) {
+        return keep_part(task, writer, pending, work, part);
+    }
+    pass(writer, pending, work.progress, part)
+}
+
+// Keeps a part of a line, up to one with which the line is as long as a stamp may be: then it is decided.
+fn keep_part<W: Sink>(
+    task: &Task,
+    writer: &mut W,
+    pending: &mut Pending,
+    work: &mut Work,
+    part: &[u8],
+) -> Result<(), LineFault>
+    requires { HasNone 10 part.now 0 (length part.now) }
+    ensures stands { IsOk result → (base : Option (List ℕ)) (taken : List ℕ)
+        → Keeps task.now base (W.written writer.old) pending.old work.old taken
+        → Stands task.now base (W.written writer.new) pending.new work.new (taken ++ part.now) }
+    ensures ends { IfErr result (λ fault. (base : Option (List ℕ)) (taken more : List ℕ)
+        → Keeps task.now base (W.written writer.old) pending.old work.old taken
+        → Ends task.now base (W.written writer.new) fault ((taken ++ part.now) ++ more)) }
+    ensures mark { W.is_marked writer.new ≡ mark_after result (W.is_marked writer.old) }
+{
+    let room = work.head.room();
+    work.head.push_front_of(part);
+    if part.len() < room {
+        return Ok(());
+    }
+    work.progress = begin(task, writer, pending, &mut work.state, work.head.items())?;
+    pass(writer, pending, work.progress, rest_of(part, room))
+}
+
+// Ends a line with its last part, behind which the line feed stands.
+fn end_line<W: Sink>(
+    task: &Task,
+    writer: &mut W,
+    pending: &mut Pending,
+    work: &mut Work,
+    part: &[u8],
+) -> Result<(), LineFault>
+    requires { HasNone 10 part.now 0 (length part.now) }
+    ensures stands { IsOk result → (base : Option (List ℕ)) (taken : List ℕ)
+        → Stands task.now base (W.written writer.old) pending.old work.old taken
+        → Stands task.now base (W.written writer.new) pending.new work.new
+        ((taken ++ part.now) ++ 10 ∷ []) }
+    ensures ends { IfErr result (λ fault. (base : Option (List ℕ)) (taken more : List ℕ)
+        → Stands task.now base (W.written writer.old) pending.old work.old taken
+        → Ends task.now base (W.written writer.new) fault
+        (((taken ++ part.now) ++ 10 ∷ []) ++ more)) }
+    ensures mark { W.is_marked writer.new ≡ mark_after result (W.is_marked writer.old) }
+{
+    decide_line(task, writer, pending, work, part)?;
+    pass(writer, pending, work.progress, b"\n")?;
+    work.progress = Progress::Kept;
+    work.head.clear();
+    Ok(())
+}
+
+// Decides a line by its last part, and sends what was not sent of it.
+fn decide_line<W: Sink>(
+    task: &Task,
+    writer: &mut W,
+    pending: &mut Pending,
+    work: &mut Work,
+    part: &[u8],
+) -> Result<(), LineFault>
+    requires { HasNone 10 part.now 0 (length part.now) }
+    ensures decided { IsOk result → (base : Option (List ℕ)) (taken : List ℕ)
+        → Stands task.now base (W.written writer.old) pending.old work.old taken
+        → Decided task.now base (W.written writer.new) pending.new work.new (taken ++ part.now) }
+    ensures ends { IfErr result (λ fault. (base : Option (List ℕ)) (taken more : List ℕ)
+        → Stands task.now base (W.written writer.old) pending.old work.old taken
+        → Ends task.now base (W.written writer.new) fault
+        (((taken ++ part.now) ++ 10 ∷ []) ++ more)) }
+    ensures mark { W.is_marked writer.new ≡ mark_after result (W.is_marked writer.old) }
+{
+    if is_fresh(work) {
+        work.progress = begin(task, writer, pending, &mut work.state, part)?;
+        return Ok(());
+    }
+    take_part(task, writer, pending, work, part)?;
+    if is_kept(work.progress) {
+        return begin_kept(task, writer, pending, work);
+    }
+    Ok(())
+}
+
+/// Sends what is left of the last line, which no line feed ends, and writes all.
+pub fn finish<W: Sink>(
+    task: &Task,
+    writer: &mut W,
+    pending: &mut Pending,
+    work: &mut Work,
+) -> Result<(), LineFault>
+    ensures completes { IsOk result → (base : Option (List ℕ)) (taken : List ℕ)
+        → Stands task.now base (W.written writer.old) pending.old work.old taken
+        → Completes task.now base (W.written writer.new) taken }
+    ensures ends { IfErr result (λ fault. (base : Option (List ℕ)) (taken : List ℕ)
+        → Stands task.now base (W.written writer.old) pending.old work.old taken
+        → Ends task.now base (W.written writer.new) fault taken) }
+    ensures mark { W.is_marked writer.new ≡ mark_after result (W.is_marked writer.old) }
+{
+    decide_rest(task, writer, pending, work)?;
+    flush(writer, pending)?;
+    Ok(())
+}
+
+// Decides what stands behind the last line feed, if anything does, and sends what was not sent of it.
+fn decide_rest<W: Sink>(
+    task: &Task,
+    writer: &mut W,
+    pending: &mut Pending,
+    work: &mut Work,
+) -> Result<(), LineFault>
+    ensures settled { IsOk result → (base : Option (List ℕ)) (taken : List ℕ)
+        → Stands task.now base (W.written writer.old) pending.old work.old taken
+        → Settled task.now base (W.written writer.new) pending.new work.new taken }
+    ensures ends { IfErr result (λ fault. (base : Option (List ℕ)) (taken : List ℕ)
+        → Stands task.now base (W.written writer.old) pending.old work.old taken
+        → Ends task.now base (W.written writer.new) fault taken) }
+    ensures mark { W.is_marked writer.new ≡ mark_after result (W.is_marked writer.old) }
+{
+    if is_fresh(work) {
+        return Ok(());
+    }
+    if is_kept(work.progress) {
+        return begin_kept(task, writer, pending, work);
+    }
+    Ok(())
+}
+
+// Decides a line that is kept, and sends it.
+fn begin_kept<W: Sink>(
+    task: &Task,
+    writer: &mut W,
+    pending: &mut Pending,
+    work: &mut Work,
+) -> Result<(), LineFault>
+    ensures decided { IsOk result → (base : Option (List ℕ)) (taken : List ℕ)
+        → Keeps task.now base (W.written writer.old) pending.old work.old taken
+        → Decided task.now base (W.written writer.new) pending.new work.new taken }
+    ensures ends { IfErr result (λ fault. (base : Option (List ℕ)) (taken more : List ℕ)
+        → Keeps task.now base (W.written writer.old) pending.old work.old taken
+        → Ends task.now base (W.written writer.new) fault ((taken ++ 10 ∷ []) ++ more)) }
+    ensures last { IfErr result (λ fault. (base : Option (List ℕ)) (taken : List ℕ)
+        → Keeps task.now base (W.written writer.old) pending.old work.old taken
+        → (work.old.head ≢ []) → Ends task.now base (W.written writer.new) fault taken) }
+    ensures mark { W.is_marked writer.new ≡ mark_after result (W.is_marked writer.old) }
+{
+    work.progress = begin(task, writer, pending, &mut work.state, work.head.items())?;
+    Ok(())
+}
+
+// Decides a line by what was read of it, and sends that. Where it ends the run, what is pending is written.
+#[tactic(auto, using(crate::proofs::LongLineLemmas::counts))]
+fn begin<W: Sink>(
+    task: &Task,
+    writer: &mut W,
+    pending: &mut Pending,
+    state: &mut State,
+    line: &[u8],
+) -> Result<Progress, LineFault>
+    ensures state { state.new ≡ state_after task.now state.old line.now }
+    ensures begins { Begins result (decision_of task.now state.old line.now) state.new
+        (W.written writer.old) (W.written writer.new) pending.old pending.new line.now }
+    ensures mark { W.is_marked writer.new ≡ mark_after result (W.is_marked writer.old) }
+{
+    match decide(task, state, line) {
+        Decision::Keep(text, count) => {
+            keep_line(writer, pending, text.as_bytes(), rest_of(line, count))
+        }
+        Decision::Skip => Ok(Progress::Skipped),
+        Decision::Stop(found) => {
+            flush(writer, pending)?;
+            Err(LineFault::Found(found))
+        }
+    }
+}
+
+// A line without so many bytes in front.
+#[inline(always)]
+fn rest_of(line: &[u8], count: usize) -> &[u8]
+    requires { count ≤ length line.now }
+    ensures { result.now ≡ drop count line.now }
+{
+    &line[count..]
+}
+
+// Sends a line that goes on: a text, and the rest of the line.
+fn keep_line<W: Sink>(
+    writer: &mut W,
+    pending: &mut Pending,
+    text: &[u8],
+    rest: &[u8],
+) -> Result<Progress, LineFault>
+    ensures kept { KeepsLine result (W.written writer.old) (W.written writer.new)
+        pending.new (pending.old ++ (text.now ++ rest.now)) }
+    ensures mark { W.is_marked writer.new ≡ mark_after result (W.is_marked writer.old) }
+{
+    send_both(writer, pending, text, rest)?;
+    Ok(Progress::Sent)
+}
+
+// Sends a text, and another behind it.
+fn send_both<W: Sink>(
+    writer: &mut W,
+    pending: &mut Pending,
+    first: &[u8],
+    second: &[u8],
+) -> Result<(), DeviceFault>
+    ensures sent { SendsAll result (W.written writer.old) (W.written writer.new)
+        pending.new (pending.old ++ (first.now ++ second.now)) }
+    ensures mark { MarksFailure result (W.is_marked writer.old) (W.is_marked writer.new) }
+{
+    send(writer, pending, first)?;
+    send(writer, pending, second)
+}
+
+// Sends more bytes of a line that is decided.
+fn pass<W: Sink>(
+    writer: &mut W,
+    pending: &mut Pending,
+    progress: Progress,
+    part: &[u8],
+) -> Result<(), LineFault>
+    ensures passed { Passes result (W.written writer.old) (W.written writer.new)
+        pending.new (pending.old ++ passed progress part.now) }
+    ensures mark { W.is_marked writer.new ≡ mark_after result (W.is_marked writer.old) }
+{
+    if progress == Progress::Sent {
+        send(writer, pending, part)?;
+    }
+    Ok(())
+}
+
+// Whether nothing of a line was read.
+#[inline(always)]
+fn is_fresh(work: &Work) -> bool
+    ensures fresh { result ≡ true → (work.now.progress ≡ Kept) × (work.now.head ≡ []) }
+    ensures begun { result ≡ false → work.now.progress ≡ Kept → work.now.head ≢ [] }
+{
+    match work.progress {
+        Progress::Kept => work.head.is_empty(),
+        Progress::Sent => false,
+        Progress::Skipped => false,
+    }
+}
+
+// Whether a line is kept, and nothing of it was sent.
+#[inline(always)]
+fn is_kept(progress: Progress) -> bool
+    ensures { result ≡ is_kept progress }
+{
+    match progress {
+        Progress::Kept => true,
+        Progress::Sent => false,
+        Progress::Skipped => false,
+    }
+}

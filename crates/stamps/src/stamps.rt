@@ -1,0 +1,98 @@
+//! The work of the program: lines in, lines out.
+ghost use Rattle.std.specs.Prelude.{◌≡◌, ℕ, ◌-◌, ◌^◌, ◌≤◌, ◌⊎◌, true, false, List, [], length, Some, Err, OnOk, IsOk, IfSome, IfErr, IsErrOf};
+ghost use Rattle.std.specs.Io.KnownBytes.{Appends, Consumes};
+ghost use Rattle.line_devices.specs.Writing.{AppendsBeginning};
+ghost use Rattle.stamps.specs.Faults.{stamp_fault, FoundIn};
+ghost use Rattle.stamps.specs.Runs.{input_run, open_run};
+
+use crate::finding::Finding;
+use crate::lines::{LineFault, Work, feed, finish};
+use crate::task::Task;
+use line_devices::devices::{Sink, Source};
+use line_devices::sending::Pending;
+
+/// What ended the work before the end of the input.
+#[derive(Clone, Copy, Debug, PartialEq, Eq)]
+pub enum StampFault {
+    /// A read failed.
+    Read,
+    /// A write failed.
+    Write,
+    /// A line ends the run.
+    Found(Finding),
+}
+
+impl From<LineFault> for StampFault {
+    ghost from_gives = { λ fault result. result ≡ stamp_fault fault };
+
+    fn from(fault: LineFault) -> StampFault {
+        match fault {
+            LineFault::Write => StampFault::Write,
+            LineFault::Found(found) => StampFault::Found(found),
+        }
+    }
+}
+
+// The most bytes of a read.
+const BLOCK: usize = 65_536;
+
+/// Reads lines to the end of the input, and writes of each what the task says.
+///
+/// A line is what stands before a line feed, or behind the last one. A fault ends the work: `Read` and `Write` after a
+/// failed call of the reader or the writer, and `Found` at the first line that the task names: what the lines before
+/// it come to is written, and nothing of its own. `Read` also comes after 2^64 - 1 reads that reached no end.
+pub fn stamps<R: Source, W: Sink>(
+    task: &Task,
+    reader: &mut R,
+    writer: &mut W,
+) -> Result<(), StampFault>
+    requires reader { R.is_marked reader.old ≡ false }
+    requires writer { W.is_marked writer.old ≡ false }
+
+    // At the end of the input: all of it was read, exactly what it comes to was written, and it has no finding.
+    ensures end { OnOk result (IfSome (R.left reader.old) (λ _. R.left reader.new ≡ Some [])) }
+    ensures written { OnOk result (IfSome (R.left reader.old) (λ input.
+        Appends (W.written writer.old) (W.written writer.new) (input_run task.now input).text)) }
+    ensures well { OnOk result (IfSome (R.left reader.old) (λ input.
+        IsOk (input_run task.now input).end)) }
+    ensures no_read_failed { OnOk result (R.is_marked reader.new ≡ false) }
+    ensures no_write_failed { OnOk result (W.is_marked writer.new ≡ false) }
+
+    // A read failed: exactly what can be told of the bytes that were read was written.
+    ensures read { IsErrOf result StampFault.Read
+        → (R.is_marked reader.new ≡ true)
+        ⊎ IfSome (R.left reader.old) (λ input. 2 ^ 64 - 1 ≤ length input) }
+    ensures as_read { IsErrOf result StampFault.Read
+        → (taken : List ℕ) × Consumes (R.left reader.old) (R.left reader.new) taken
+        × Appends (W.written writer.old) (W.written writer.new) (open_run task.now taken).text }
+    ensures only_a_read { IsErrOf result StampFault.Read → W.is_marked writer.new ≡ false }
+
+    // A write failed: a beginning of what the input comes to was written, and not all of it.
+    ensures write { IsErrOf result StampFault.Write → W.is_marked writer.new ≡ true }
+    ensures beginning { IsErrOf result StampFault.Write → IfSome (R.left reader.old) (λ input.
+        AppendsBeginning (W.written writer.old) (W.written writer.new)
+        (input_run task.now input).text) }
+    ensures only_a_write { IsErrOf result StampFault.Write → R.is_marked reader.new ≡ false }
+
+    // A line ends the run: it is the one that the task names, and exactly what stands before it was written.
+    ensures found { (found : Finding) → result ≡ Err (StampFault.Found found)
+        → IfSome (R.left reader.old) (λ input.
+        FoundIn (W.written writer.old) (W.written writer.new) (input_run task.now input) found) }
+    ensures no_call_failed { (found : Finding) → result ≡ Err (StampFault.Found found)
+        → (R.is_marked reader.new ≡ false) × (W.is_marked writer.new ≡ false) }
+{
+    let mut block = [0u8; BLOCK];
+    let mut work = Work::new(task);
+    let mut pending = Pending::new(0);
+    'reads: for _turn in 0..u64::MAX {
+        let Ok(count) = reader.read_some(&mut block) else {
+            return Err(StampFault::Read);
+        };
+        if count == 0 {
+            finish(task, writer, &mut pending, &mut work)?;
+            return Ok(());
+        }
+        feed(task, writer, &mut pending, &mut work, &block[..count])?;
+    }
+    Err(StampFault::Read)
+}

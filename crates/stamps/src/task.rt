@@ -1,0 +1,29 @@
+//! What is asked for.
+
+use calendar_values::UtcOffset;
+use utc_times::UtcDateTime;
+
+/// How an instant is written.
+#[derive(Clone, Copy, Debug)]
+pub enum Style {
+    /// In UTC, at fixed width.
+    Utc,
+    /// At an offset, at fixed width.
+    At(UtcOffset),
+    /// As Unix seconds with nine digits of their fraction.
+    Unix,
+}
+
+/// What becomes of the lines.
+#[derive(Clone, Copy, Debug)]
+pub enum Task {
+    /// The stamp of each is written in a style. A line that has no text there goes on as it is, or, where the task is
+    /// strict, ends the run.
+    Write(Style, bool),
+    /// Nothing is written; the first line whose stamp is refused or earlier than the one before ends the run.
+    Check,
+    /// Those whose instant is not before one go on.
+    Since(UtcDateTime),
+    /// Those whose instant is before one go on.
+    Until(UtcDateTime),
+}
