@@ -1,3 +1,7 @@
-mod DayLemmas
+mod AnswerLemmas
+mod ApartLemmas
+mod BatchLemmas
+mod CarriedDurationLemmas
+mod DayDigitLemmas
 mod ValuesLemmas
 mod WeekDateLemmas

@@ -1,5 +1,5 @@
 -- The day of an ISO week date: that of the week date of a day is the day.
-use Rattle.std.proofs.Common.{◌≡◌, ◌+◌, ◌-◌, ◌*◌, ◌<◌, ◌≤◌, ◌==◌, ◌||◌, ℕ, Bool, true, false, nat_lt, int_lt, refl, ap, arith}
+use Rattle.std.proofs.Common.{◌≡◌, ◌+◌, ◌-◌, ◌*◌, ◌<◌, ◌≤◌, ◌==◌, ◌||◌, ℕ, Bool, true, false, nat_lt, int_lt, refl, sym, ap, ◌∙◌, arith}
 use Rattle.std.proofs.Common.{ℤ, pos, ◌+ℤ◌, ◌≤ℤ◌, Result, Ok, Err}
 use Rattle.std.specs.Prelude.{IfOk, if◌then◌else◌}
 use Rattle.std.proofs.lemmas.Bool.Decides.{nat_tests}
@@ -13,9 +13,10 @@ use Rattle.calendar_values.specs.SignedArith.{signed_arith}
 use Rattle.calendar_values.specs.WeekLemmas.{weekday_of-parts, weekday_of-bound, weekday_of-thursday_of, iso_week_of-closed, IsDay-thursday_of}
 use Rattle.calendar_values.specs.YearLemmas.{days_in_year_bounds}
 use Rattle.calendar_values.specs.Weeks.{weekday_of, thursday_of, iso_year_of, iso_week_of}
-use Rattle.muxandu_c.specs.Answers.{and_then, told}
+use Rattle.muxandu_c.proofs.AnswerLemmas.{after}
+use Rattle.muxandu_c.specs.Answers.{and_then, as_refused}
 use Rattle.muxandu_c.specs.Values.{date_value}
-use Rattle.muxandu_c.specs.WeekDates.{monday_of, day_of_week, day_of_week_date, week_date_of_day}
+use Rattle.muxandu_c.specs.WeekDates.{monday_of, day_of_week, day_in_range, day_from_week_date, week_date_from_day}
 use Rattle.muxandu_c.specs.declared.refused.Refused.{Refused}
 use Rattle.muxandu_c.specs.declared.refused.Refused.TheVariants as refused
 use Rattle.muxandu_c.specs.declared.values.MuxanduWeekDate.{MuxanduWeekDate}
@@ -75,7 +76,7 @@ monday_of-week n =
     )
 
 -- the day of the ISO week date of a day is the day
-pub week_date-reads_back : (n : ℤ) → IsDay n → day_of_week_date (record { year = iso_year_of n; week = iso_week_of n; weekday = weekday_of n }) ≡ Ok n
+pub week_date-reads_back : (n : ℤ) → IsDay n → day_from_week_date (record { year = iso_year_of n; week = iso_week_of n; weekday = weekday_of n }) ≡ Ok n
 week_date-reads_back n h =
     let t = thursday_of n in
     let y = iso_year_of n in
@@ -94,13 +95,13 @@ week_date-reads_back n h =
     (omega (arith, signed_arith, ordinal_of-start t, place.last)) (omega (arith, signed_arith)) h)
 
 -- of any number, which has a week date if the range has it
-pub week_date_of_day-reads_back : (n : ℤ) → IfOk (week_date_of_day n) (λ date. day_of_week_date date ≡ Ok n)
-week_date_of_day-reads_back n = choose (int_lt n first_day) (int_lt last_day n) refl refl where
+pub week_date_from_day-reads_back : (n : ℤ) → IfOk (week_date_from_day n) (λ date. day_from_week_date date ≡ Ok n)
+week_date_from_day-reads_back n = choose (int_lt n first_day) (int_lt last_day n) refl refl where
   shown : ℤ → MuxanduWeekDate
   shown day = record { year = iso_year_of day; week = iso_week_of day; weekday = weekday_of day }
 
   choose : (s t : Bool) → int_lt n first_day ≡ s → int_lt last_day n ≡ t →
-      IfOk (and_then (if s || t then Err refused.DayNumber else Ok n) (λ (day : ℤ). Ok (shown day))) (λ date. day_of_week_date date ≡ Ok n)
+      IfOk (and_then (if s || t then Err refused.DayNumber else Ok n) (λ (day : ℤ). Ok (shown day))) (λ date. day_from_week_date date ≡ Ok n)
   choose true t low high = tt
   choose false true low high = tt
   choose false false low high = week_date-reads_back n (omega (arith, signed_arith), omega (arith, signed_arith))
@@ -120,7 +121,7 @@ year_accepted : (y n : ℤ) → date_value y 1 4 ≡ Ok n → IsYear y
 unfolding calendar_date
 year_accepted y n e = choose (int_lt y first_year) (int_lt last_year y) refl refl e where
   choose : (s t : Bool) → int_lt y first_year ≡ s → int_lt last_year y ≡ t →
-      told (if (s || t) || false then Err (date_refusal y 4) else Ok (day_of_calendar_date y 1 4)) ≡ Ok n → IsYear y
+      as_refused (if (s || t) || false then Err (date_refusal y 4) else Ok (day_of_calendar_date y 1 4)) ≡ Ok n → IsYear y
   choose true t low high e = absurd cc
   choose false true low high e = absurd cc
   choose false false low high e = (omega (arith, signed_arith), omega (arith, signed_arith))
@@ -148,9 +149,9 @@ IsWeekDateOf-day n y week weekday first low last e =
     }
 
 -- the week date of its day is the week date
-pub day_of_week_date-reads_back : (v : MuxanduWeekDate) → IfOk (day_of_week_date v) (λ n. week_date_of_day n ≡ Ok v)
-day_of_week_date-reads_back v = choose (day_of_week_date v) refl where
-  shown : (n : ℤ) → day_of_week_date v ≡ Ok n → week_date_of_day n ≡ Ok v
+pub day_from_week_date-reads_back : (v : MuxanduWeekDate) → IfOk (day_from_week_date v) (λ n. week_date_from_day n ≡ Ok v)
+day_from_week_date-reads_back v = choose (day_from_week_date v) refl where
+  shown : (n : ℤ) → day_from_week_date v ≡ Ok n → week_date_from_day n ≡ Ok v
   shown n e =
       let year = year_accepted v.year _ (after_value (date_value v.year 1 4) _ n e).1 in
       let monday = monday_of (year_start v.year +ℤ pos 3) +ℤ pos ((v.week - 1) * 7) in
@@ -163,6 +164,37 @@ day_of_week_date-reads_back v = choose (day_of_week_date v) refl where
       (omega (arith, signed_arith, thursday.0)) same in
       rw (rw same at day.0, parts.week, parts.year, parts.weekday) refl
 
-  choose : (answer : Result ℤ Refused) → day_of_week_date v ≡ answer → IfOk answer (λ n. week_date_of_day n ≡ Ok v)
+  choose : (answer : Result ℤ Refused) → day_from_week_date v ≡ answer → IfOk answer (λ n. week_date_from_day n ≡ Ok v)
   choose (Ok n) e = shown n e
   choose (Err refusal) e = tt
+
+-- ---- the tests of a day of a week
+
+-- the Thursday of the week is past the last day of the year
+pub day_of_week-late : (monday last : ℤ) (weekday : ℕ) → ¬ ((monday +ℤ pos 3) ≤ℤ last) → Err refused.WeekOfYear ≡ day_of_week monday weekday last
+day_of_week-late monday last weekday late = choose (int_lt last (monday +ℤ pos 3)) refl where
+  choose : (t : Bool) → int_lt last (monday +ℤ pos 3) ≡ t → Err refused.WeekOfYear ≡ day_of_week monday weekday last
+  choose true t = rw t refl
+  choose false t = absurd (late (omega (arith, signed_arith)))
+
+-- or it is not
+pub day_of_week-early : (monday last : ℤ) (weekday : ℕ) → (monday +ℤ pos 3) ≤ℤ last → day_of_week monday weekday last ≡ day_in_range (monday +ℤ pos weekday)
+day_of_week-early monday last weekday early = rw (not_before (monday +ℤ pos 3) last early) refl
+
+-- what follows the days of 4 January and of 31 December
+abbrev after_days : MuxanduWeekDate → ℤ → ℤ → Result ℤ Refused
+after_days v january_4 december_31 =
+    if v.week == 0 || nat_lt 53 v.week then Err refused.Week
+    else (if nat_lt 6 v.weekday then Err refused.Weekday
+    else day_of_week (monday_of january_4 +ℤ pos ((v.week - 1) * 7)) v.weekday december_31)
+
+-- the day of a week and a day of the week that are in their ranges
+pub day_from_week_date-of : (v : MuxanduWeekDate) (year january_4 december_31 monday last : ℤ) (answer : Result ℤ Refused)
+    → answer ≡ day_of_week monday v.weekday last → monday ≡ monday_of january_4 +ℤ pos ((v.week - 1) * 7) → last ≡ december_31
+    → Ok january_4 ≡ date_value year 1 4 → Ok december_31 ≡ date_value year 12 31 → year ≡ v.year
+    → 1 ≤ v.week → v.week ≤ 53 → v.weekday < 7 → answer ≡ day_from_week_date v
+day_from_week_date-of v year january_4 december_31 monday last answer made m l first second y low high weekday =
+    let tested : after_days v january_4 december_31 ≡ day_of_week (monday_of january_4 +ℤ pos ((v.week - 1) * 7)) v.weekday december_31 =
+    rw (week_tested v.week low high, weekday_tested v.weekday weekday) refl in
+    rw (m, l) at made ∙ sym tested ∙ after (date_value v.year 12 31) (after_days v january_4) december_31 (rw y at second)
+    ∙ after (date_value v.year 1 4) (λ (j : ℤ). and_then (date_value v.year 12 31) (after_days v j)) january_4 (rw y at first)

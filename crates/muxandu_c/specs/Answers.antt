@@ -1,5 +1,5 @@
 -- What a call answers: a value, or what it refuses; and the status and the value that its caller finds.
-use Rattle.std.specs.Prelude.{ℕ, ◌||◌, Bool, List, Result, Ok, Err, if◌then◌else◌, nat_eq, nat_lt, codes, length, drop, ◌++◌}
+use Rattle.std.specs.Prelude.{ℕ, ◌==◌, ◌||◌, Bool, List, Result, Ok, Err, if◌then◌else◌, nat_eq, nat_lt, codes, length, drop, ◌++◌}
 use Rattle.std.specs.Cmp.Lexicographic.{pointwise}
 use Rattle.calendar_values.specs.Refusals.{Refusal}
 use Rattle.rfc3339.specs.declared.refusal.Component.TheVariants as component
@@ -55,26 +55,30 @@ refused_part r =
     else (if is_named r (codes "julian_day") then refused.DayNumber
     else refused.Timestamp)))))))))
 
--- a refused text, as a caller sees it
-abbrev pub refused_text : TextRefusal → Refused
-refused_text Syntax = refused.Syntax
-refused_text (OutOfRange component.Month) = refused.Month
-refused_text (OutOfRange component.Day) = refused.Day
-refused_text (OutOfRange component.Hour) = refused.Hour
-refused_text (OutOfRange component.Minute) = refused.Minute
-refused_text (OutOfRange component.Second) = refused.Second
-refused_text (OutOfRange component.OffsetHour) = refused.OffsetHour
-refused_text (OutOfRange component.OffsetMinute) = refused.OffsetMinute
+-- a refused day: it is none of any month, or none of its month
+abbrev pub refused_day : ℕ → Refused
+refused_day day = if day == 0 || nat_lt 31 day then refused.Day else refused.DayOfMonth
+
+-- a refused text of this day, as a caller sees it
+abbrev pub refused_text : ℕ → TextRefusal → Refused
+refused_text day Syntax = refused.Syntax
+refused_text day (OutOfRange component.Month) = refused.Month
+refused_text day (OutOfRange component.Day) = refused_day day
+refused_text day (OutOfRange component.Hour) = refused.Hour
+refused_text day (OutOfRange component.Minute) = refused.Minute
+refused_text day (OutOfRange component.Second) = refused.Second
+refused_text day (OutOfRange component.OffsetHour) = refused.OffsetHour
+refused_text day (OutOfRange component.OffsetMinute) = refused.OffsetMinute
 
 -- an answer of the library, with its refusal as a caller sees it
-abbrev pub told : {A : Type 0} → Result A Refusal → Result A Refused
-told (Ok value) = Ok value
-told (Err refusal) = Err (refused_part refusal)
+abbrev pub as_refused : {A : Type 0} → Result A Refusal → Result A Refused
+as_refused (Ok value) = Ok value
+as_refused (Err refusal) = Err (refused_part refusal)
 
--- the same of an answer to a text
-abbrev pub text_told : {A : Type 0} → Result A TextRefusal → Result A Refused
-text_told (Ok value) = Ok value
-text_told (Err refusal) = Err (refused_text refusal)
+-- the same of an answer to a text of this day
+abbrev pub text_as_refused : {A : Type 0} → ℕ → Result A TextRefusal → Result A Refused
+text_as_refused day (Ok value) = Ok value
+text_as_refused day (Err refusal) = Err (refused_text day refusal)
 
 -- what a first answer leads to
 abbrev pub and_then : {A B : Type 0} → Result A Refused → (A → Result B Refused) → Result B Refused
@@ -92,12 +96,12 @@ written (Ok value) there = value
 written (Err refusal) there = there
 
 -- the text, if a buffer has room for it
-abbrev pub fitting : List ℕ → List ℕ → Result (List ℕ) Refused
-fitting there text = if nat_lt (length there) (length text) then Err refused.Buffer else Ok text
+abbrev pub bytes_if_room : List ℕ → List ℕ → Result (List ℕ) Refused
+bytes_if_room there text = if nat_lt (length there) (length text) then Err refused.Buffer else Ok text
 
 -- the text of an answer, if a buffer has room for it
-abbrev pub fitted : Result (List ℕ) Refused → List ℕ → Result (List ℕ) Refused
-fitted answer there = and_then answer (fitting there)
+abbrev pub text_if_room : Result (List ℕ) Refused → List ℕ → Result (List ℕ) Refused
+text_if_room answer there = and_then answer (bytes_if_room there)
 
 -- what an answer leaves in a buffer: its text at the front
 abbrev pub written_over : Result (List ℕ) Refused → List ℕ → List ℕ
@@ -105,6 +109,6 @@ written_over (Ok text) there = text ++ drop (length text) there
 written_over (Err refusal) there = there
 
 -- the length of a text, if an answer has one
-abbrev pub length_told : Result (List ℕ) Refused → Result ℕ Refused
-length_told (Ok text) = Ok (length text)
-length_told (Err refusal) = Err refusal
+abbrev pub length_of_answer : Result (List ℕ) Refused → Result ℕ Refused
+length_of_answer (Ok text) = Ok (length text)
+length_of_answer (Err refusal) = Err refusal

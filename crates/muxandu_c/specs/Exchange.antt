@@ -9,11 +9,11 @@ use Rattle.rfc3339.specs.Form.{IsDateTime}
 use Rattle.rfc3339.specs.Meaning.{meaning}
 use Rattle.rfc3339.specs.Texts.{rfc3339_text, fixed_text}
 use Rattle.rfc3339.specs.declared.parts.Parts.{Parts}
-use Rattle.muxandu_c.specs.Answers.{text_told, and_then}
-use Rattle.muxandu_c.specs.Values.{civil_value, timestamp_value, as_civil, timestamp_parts}
+use Rattle.muxandu_c.specs.Answers.{text_as_refused, and_then}
+use Rattle.muxandu_c.specs.Values.{date_time_value, timestamp_value, as_date_time, timestamp_parts}
 use Rattle.muxandu_c.specs.declared.refused.Refused.{Refused}
 use Rattle.muxandu_c.specs.declared.refused.Refused.TheVariants as refused
-use Rattle.muxandu_c.specs.declared.values.MuxanduCivil.{MuxanduCivil}
+use Rattle.muxandu_c.specs.declared.values.MuxanduDateTime.{MuxanduDateTime}
 use Rattle.muxandu_c.specs.declared.values.MuxanduSpan.{MuxanduSpan}
 use Rattle.muxandu_c.specs.declared.values.MuxanduTimestamp.{MuxanduTimestamp}
 
@@ -34,22 +34,22 @@ abbrev pub fixed_rfc3339_of : ℤ → Result (List ℕ) Refused
 fixed_rfc3339_of i = if is_far i then Err refused.NoText else Ok (fixed_text i)
 
 -- the texts of a date-time and of a timestamp
-abbrev pub civil_rfc3339 : MuxanduCivil → Result (List ℕ) Refused
-civil_rfc3339 v = and_then (civil_value v) rfc3339_of
+abbrev pub date_time_to_rfc3339 : MuxanduDateTime → Result (List ℕ) Refused
+date_time_to_rfc3339 v = and_then (date_time_value v) rfc3339_of
 
-abbrev pub timestamp_rfc3339 : MuxanduTimestamp → Result (List ℕ) Refused
-timestamp_rfc3339 v = and_then (timestamp_value v) (λ i. rfc3339_of (local_in_utc i))
+abbrev pub timestamp_to_rfc3339 : MuxanduTimestamp → Result (List ℕ) Refused
+timestamp_to_rfc3339 v = and_then (timestamp_value v) (λ i. rfc3339_of (local_in_utc i))
 
-abbrev pub timestamp_rfc3339_nanos : MuxanduTimestamp → Result (List ℕ) Refused
-timestamp_rfc3339_nanos v = and_then (timestamp_value v) fixed_rfc3339_of
+abbrev pub timestamp_to_rfc3339_nanos : MuxanduTimestamp → Result (List ℕ) Refused
+timestamp_to_rfc3339_nanos v = and_then (timestamp_value v) fixed_rfc3339_of
 
 -- what the numbers of a text mean
 abbrev pub read_parts : Parts → Result Local Refused
-read_parts p = text_told (meaning p)
+read_parts p = text_as_refused p.day (meaning p)
 
 -- as a date-time, and as an instant
-abbrev pub civil_spelled : Parts → Result MuxanduCivil Refused
-civil_spelled p = as_civil (read_parts p)
+abbrev pub date_time_spelled : Parts → Result MuxanduDateTime Refused
+date_time_spelled p = as_date_time (read_parts p)
 
 abbrev pub timestamp_spelled : Parts → Result MuxanduTimestamp Refused
 timestamp_spelled p = and_then (read_parts p) (λ at. Ok (timestamp_parts (instant_of at)))

@@ -1,5 +1,14 @@
 pub mod Answers
 pub mod Batches
+pub mod Clocks
+pub mod DateSums
+pub mod DateTexts
+pub mod EachBatches
 pub mod Exchange
+pub mod OffsetParts
+pub mod PartsReplaced
+pub mod Reads
+pub mod StatusTexts
+pub mod SubsecondBatches
 pub mod Values
 pub mod WeekDates

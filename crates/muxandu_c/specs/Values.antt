@@ -19,12 +19,12 @@ use Rattle.stamp_times.specs.Instants.{unix_nanosecond_of, instant_of_parts, ins
 use Rattle.stamp_times.specs.Refusals.{timestamp_of_parts}
 use Rattle.offset_times.specs.Texts.{offset_date_time_text}
 use Rattle.stamp_times.specs.Texts.{timestamp_text}
-use Rattle.muxandu_c.specs.Answers.{told, and_then}
+use Rattle.muxandu_c.specs.Answers.{as_refused, and_then}
 use Rattle.muxandu_c.specs.declared.refused.Refused.{Refused}
 use Rattle.muxandu_c.specs.declared.refused.Refused.TheVariants as refused
 use Rattle.muxandu_c.specs.declared.unit.Unit.{Unit}
 use Rattle.muxandu_c.specs.declared.unit.Unit.TheVariants as unit
-use Rattle.muxandu_c.specs.declared.values.MuxanduCivil.{MuxanduCivil}
+use Rattle.muxandu_c.specs.declared.values.MuxanduDateTime.{MuxanduDateTime}
 use Rattle.muxandu_c.specs.declared.values.MuxanduTimestamp.{MuxanduTimestamp}
 use Rattle.muxandu_c.specs.declared.values.MuxanduDuration.{MuxanduDuration}
 use Rattle.muxandu_c.specs.declared.values.MuxanduDate.{MuxanduDate}
@@ -36,18 +36,18 @@ month_value m = if m == 0 || nat_lt 12 m then Err refused.Month else Ok m
 
 -- the day of a year, the number of a month, and a day of the month
 abbrev pub date_value : ℤ → ℕ → ℕ → Result ℤ Refused
-date_value y m d = and_then (month_value m) (λ month. told (calendar_date y month d))
+date_value y m d = and_then (month_value m) (λ month. as_refused (calendar_date y month d))
 
 -- the date-time of its parts, or the first part that is out of its range
-abbrev pub civil_value : MuxanduCivil → Result Local Refused
-civil_value v =
+abbrev pub date_time_value : MuxanduDateTime → Result Local Refused
+date_time_value v =
     and_then (date_value v.year v.month v.day) (λ n.
-    and_then (told (clock_time_nano v.hour v.minute v.second v.nanosecond)) (λ c.
-    and_then (told (offset_of_seconds v.offset_seconds)) (λ o. Ok (wall_at (wall_clock n c) o))))
+    and_then (as_refused (clock_time_nano v.hour v.minute v.second v.nanosecond)) (λ c.
+    and_then (as_refused (offset_of_seconds v.offset_seconds)) (λ o. Ok (wall_at (wall_clock n c) o))))
 
 -- the parts of a date-time
-abbrev pub civil_parts : Local → MuxanduCivil
-civil_parts at = record {
+abbrev pub date_time_parts : Local → MuxanduDateTime
+date_time_parts at = record {
   year = year_of (wall_day at.wall);
   month = month_of (wall_day at.wall);
   day = day_of_month_of (wall_day at.wall);
@@ -60,7 +60,7 @@ civil_parts at = record {
 
 -- the instant of its parts
 abbrev pub timestamp_value : MuxanduTimestamp → Result ℤ Refused
-timestamp_value v = told (timestamp_of_parts v.seconds v.nanoseconds)
+timestamp_value v = as_refused (timestamp_of_parts v.seconds v.nanoseconds)
 
 -- the parts of an instant
 abbrev pub timestamp_parts : ℤ → MuxanduTimestamp
@@ -87,7 +87,7 @@ local_in_range wall o = and_then (in_range wall) (λ shown. Ok (wall_at shown o)
 -- what clocks at an offset show at an instant, if the range has it
 abbrev pub shown : ℤ → ℤ → Result Local Refused
 shown i offset_seconds =
-    and_then (told (offset_of_seconds offset_seconds)) (λ o.
+    and_then (as_refused (offset_of_seconds offset_seconds)) (λ o.
     local_in_range (shown_at i o) o)
 
 -- the parts of an instant, of a duration and of a date-time, if an answer has one
@@ -97,42 +97,42 @@ as_timestamp answer = and_then answer (λ i. Ok (timestamp_parts i))
 abbrev pub as_duration : Result ℤ Refused → Result MuxanduDuration Refused
 as_duration answer = and_then answer (λ d. Ok (duration_parts d))
 
-abbrev pub as_civil : Result Local Refused → Result MuxanduCivil Refused
-as_civil answer = and_then answer (λ at. Ok (civil_parts at))
+abbrev pub as_date_time : Result Local Refused → Result MuxanduDateTime Refused
+as_date_time answer = and_then answer (λ at. Ok (date_time_parts at))
 
 -- the parts of what clocks at an offset show at an instant
-abbrev pub civil_shown : MuxanduTimestamp → ℤ → Result MuxanduCivil Refused
-civil_shown v offset_seconds =
-    as_civil (and_then (timestamp_value v) (λ i. shown i offset_seconds))
+abbrev pub date_time_from_timestamp : MuxanduTimestamp → ℤ → Result MuxanduDateTime Refused
+date_time_from_timestamp v offset_seconds =
+    as_date_time (and_then (timestamp_value v) (λ i. shown i offset_seconds))
 
 -- the instant of a date-time, if the range has it
-abbrev pub civil_instant : MuxanduCivil → Result ℤ Refused
-civil_instant v = and_then (civil_value v) (λ at. in_range (instant_of at))
+abbrev pub date_time_instant : MuxanduDateTime → Result ℤ Refused
+date_time_instant v = and_then (date_time_value v) (λ at. in_range (instant_of at))
 
-abbrev pub timestamp_of_civil : MuxanduCivil → Result MuxanduTimestamp Refused
-timestamp_of_civil v = as_timestamp (civil_instant v)
+abbrev pub timestamp_from_date_time : MuxanduDateTime → Result MuxanduTimestamp Refused
+timestamp_from_date_time v = as_timestamp (date_time_instant v)
 
 -- the same instant at another offset
-abbrev pub civil_at_offset : MuxanduCivil → ℤ → Result MuxanduCivil Refused
-civil_at_offset v offset_seconds =
-    as_civil (and_then (civil_value v) (λ at. shown (instant_of at) offset_seconds))
+abbrev pub date_time_to_offset : MuxanduDateTime → ℤ → Result MuxanduDateTime Refused
+date_time_to_offset v offset_seconds =
+    as_date_time (and_then (date_time_value v) (λ at. shown (instant_of at) offset_seconds))
 
 -- a timestamp and a duration added, if the range has the sum, or brought into the range
-abbrev pub timestamp_sum : MuxanduTimestamp → MuxanduDuration → Result MuxanduTimestamp Refused
-timestamp_sum v w =
+abbrev pub timestamp_add : MuxanduTimestamp → MuxanduDuration → Result MuxanduTimestamp Refused
+timestamp_add v w =
     as_timestamp (and_then (timestamp_value v) (λ i. and_then (duration_value w) (λ d. in_range (i +ℤ d))))
 
-abbrev pub timestamp_sum_clamped : MuxanduTimestamp → MuxanduDuration → Result MuxanduTimestamp Refused
-timestamp_sum_clamped v w =
+abbrev pub timestamp_saturating_add : MuxanduTimestamp → MuxanduDuration → Result MuxanduTimestamp Refused
+timestamp_saturating_add v w =
     as_timestamp (and_then (timestamp_value v) (λ i. and_then (duration_value w) (λ d. Ok (nearest_wall_clock (i +ℤ d)))))
 
 -- a timestamp less a duration, if the range has it, or brought into the range
-abbrev pub timestamp_less : MuxanduTimestamp → MuxanduDuration → Result MuxanduTimestamp Refused
-timestamp_less v w =
+abbrev pub timestamp_subtract : MuxanduTimestamp → MuxanduDuration → Result MuxanduTimestamp Refused
+timestamp_subtract v w =
     as_timestamp (and_then (timestamp_value v) (λ i. and_then (duration_value w) (λ d. in_range (i -ℤ d))))
 
-abbrev pub timestamp_less_clamped : MuxanduTimestamp → MuxanduDuration → Result MuxanduTimestamp Refused
-timestamp_less_clamped v w =
+abbrev pub timestamp_saturating_subtract : MuxanduTimestamp → MuxanduDuration → Result MuxanduTimestamp Refused
+timestamp_saturating_subtract v w =
     as_timestamp (and_then (timestamp_value v) (λ i. and_then (duration_value w) (λ d. Ok (nearest_wall_clock (i -ℤ d)))))
 
 -- from the second timestamp to the first
@@ -161,12 +161,12 @@ unit_nanos unit.Millisecond = nanos_per_millisecond
 unit_nanos unit.Microsecond = nanos_per_microsecond
 
 -- a date-time truncated to a unit, and a timestamp, rounded down before 1970 too
-abbrev pub civil_truncated : MuxanduCivil → ℕ → Result MuxanduCivil Refused
-civil_truncated v number =
-    as_civil (and_then (civil_value v) (λ at. and_then (unit_numbered number) (λ unit. Ok (local_multiple_below (unit_nanos unit) at))))
+abbrev pub date_time_truncate : MuxanduDateTime → ℕ → Result MuxanduDateTime Refused
+date_time_truncate v number =
+    as_date_time (and_then (date_time_value v) (λ at. and_then (unit_numbered number) (λ unit. Ok (local_multiple_below (unit_nanos unit) at))))
 
-abbrev pub timestamp_truncated : MuxanduTimestamp → ℕ → Result MuxanduTimestamp Refused
-timestamp_truncated v number =
+abbrev pub timestamp_truncate : MuxanduTimestamp → ℕ → Result MuxanduTimestamp Refused
+timestamp_truncate v number =
     as_timestamp (and_then (timestamp_value v) (λ i. and_then (unit_numbered number) (λ unit. Ok (wall_multiple_below (unit_nanos unit) i))))
 
 -- -1, 0 or 1
@@ -176,13 +176,13 @@ sign_of Equal = pos 0
 sign_of Greater = pos 1
 
 -- the order of two timestamps, also of those that a call refuses: seconds and nanoseconds are added
-abbrev pub timestamp_order : MuxanduTimestamp → MuxanduTimestamp → ℤ
-timestamp_order v w = sign_of (int_cmp (instant_of_parts v.seconds v.nanoseconds) (instant_of_parts w.seconds w.nanoseconds))
+abbrev pub timestamp_compare : MuxanduTimestamp → MuxanduTimestamp → ℤ
+timestamp_compare v w = sign_of (int_cmp (instant_of_parts v.seconds v.nanoseconds) (instant_of_parts w.seconds w.nanoseconds))
 
 -- the order of two date-times, by instant
-abbrev pub civil_order : MuxanduCivil → MuxanduCivil → Result ℤ Refused
-civil_order v w =
-    and_then (civil_value v) (λ a. and_then (civil_value w) (λ b. Ok (sign_of (int_cmp (instant_of a) (instant_of b)))))
+abbrev pub date_time_compare : MuxanduDateTime → MuxanduDateTime → Result ℤ Refused
+date_time_compare v w =
+    and_then (date_time_value v) (λ a. and_then (date_time_value w) (λ b. Ok (sign_of (int_cmp (instant_of a) (instant_of b)))))
 
 -- a day number of the range
 abbrev pub day_value : ℤ → Result ℤ Refused
@@ -193,58 +193,58 @@ abbrev pub date_parts : ℤ → MuxanduDate
 date_parts n = record { year = year_of n; month = month_of n; day = day_of_month_of n }
 
 -- the dates of a day number, and its day of the week
-abbrev pub date_of_day : ℤ → Result MuxanduDate Refused
-date_of_day n = and_then (day_value n) (λ day. Ok (date_parts day))
+abbrev pub date_from_day : ℤ → Result MuxanduDate Refused
+date_from_day n = and_then (day_value n) (λ day. Ok (date_parts day))
 
-abbrev pub ordinal_date_of_day : ℤ → Result MuxanduOrdinalDate Refused
-ordinal_date_of_day n = and_then (day_value n) (λ day. Ok (record { year = year_of day; ordinal = ordinal_of day }))
+abbrev pub ordinal_date_from_day : ℤ → Result MuxanduOrdinalDate Refused
+ordinal_date_from_day n = and_then (day_value n) (λ day. Ok (record { year = year_of day; ordinal = ordinal_of day }))
 
-abbrev pub weekday_of_day : ℤ → Result ℕ Refused
-weekday_of_day n = and_then (day_value n) (λ day. Ok (weekday_of day))
+abbrev pub weekday_from_day : ℤ → Result ℕ Refused
+weekday_from_day n = and_then (day_value n) (λ day. Ok (weekday_of day))
 
 -- the day number of a date
-abbrev pub day_of_date : MuxanduDate → Result ℤ Refused
-day_of_date v = date_value v.year v.month v.day
+abbrev pub day_from_date : MuxanduDate → Result ℤ Refused
+day_from_date v = date_value v.year v.month v.day
 
-abbrev pub day_of_ordinal_date : MuxanduOrdinalDate → Result ℤ Refused
-day_of_ordinal_date v = told (ordinal_date v.year v.ordinal)
+abbrev pub day_from_ordinal_date : MuxanduOrdinalDate → Result ℤ Refused
+day_from_ordinal_date v = as_refused (ordinal_date v.year v.ordinal)
 
 -- the days of a month, if the range has its first
 abbrev pub length_of_month : ℤ → ℕ → Result ℕ Refused
 length_of_month y m =
-    and_then (month_value m) (λ month. and_then (told (calendar_date y month 1)) (λ first. Ok (days_in_month (is_leap_year y) month)))
+    and_then (month_value m) (λ month. and_then (as_refused (calendar_date y month 1)) (λ first. Ok (days_in_month (is_leap_year y) month)))
 
 -- the day that clocks show
-abbrev pub civil_day : MuxanduCivil → Result ℤ Refused
-civil_day v = and_then (civil_value v) (λ at. Ok (wall_day at.wall))
+abbrev pub date_time_day : MuxanduDateTime → Result ℤ Refused
+date_time_day v = and_then (date_time_value v) (λ at. Ok (wall_day at.wall))
 
 -- what clocks at an offset show at a Unix second
-abbrev pub civil_of_second : ℤ → ℤ → Result MuxanduCivil Refused
-civil_of_second offset_seconds second = civil_shown (record { seconds = second; nanoseconds = 0 }) offset_seconds
+abbrev pub date_time_of_second : ℤ → ℤ → Result MuxanduDateTime Refused
+date_time_of_second offset_seconds second = date_time_from_timestamp (record { seconds = second; nanoseconds = 0 }) offset_seconds
 
 -- the text of a date-time
-abbrev pub civil_text : MuxanduCivil → Result (List ℕ) Refused
-civil_text v = and_then (civil_value v) (λ at. Ok (offset_date_time_text at))
+abbrev pub date_time_text : MuxanduDateTime → Result (List ℕ) Refused
+date_time_text v = and_then (date_time_value v) (λ at. Ok (offset_date_time_text at))
 
 -- and of a timestamp
 abbrev pub timestamp_text_of : MuxanduTimestamp → Result (List ℕ) Refused
 timestamp_text_of v = and_then (timestamp_value v) (λ i. Ok (timestamp_text i))
 
 -- the Unix second of a date-time
-abbrev pub second_of_civil : MuxanduCivil → Result ℤ Refused
-second_of_civil v = and_then (civil_instant v) (λ i. Ok (unix_seconds_of i))
+abbrev pub second_of_date_time : MuxanduDateTime → Result ℤ Refused
+second_of_date_time v = and_then (date_time_instant v) (λ i. Ok (unix_seconds_of i))
 
 -- an instant, if the range has it, or the refusal of its count
 abbrev pub count_in_range : ℤ → Result ℤ Refused
 count_in_range i = if is_outside first_wall_clock last_wall_clock i then Err refused.Timestamp else Ok i
 
 -- the instant of so many milliseconds
-abbrev pub timestamp_of_milliseconds : ℤ → Result MuxanduTimestamp Refused
-timestamp_of_milliseconds count = as_timestamp (count_in_range (instant_of_milliseconds count))
+abbrev pub timestamp_from_milliseconds : ℤ → Result MuxanduTimestamp Refused
+timestamp_from_milliseconds count = as_timestamp (count_in_range (instant_of_milliseconds count))
 
 -- the milliseconds of an instant, rounded down
-abbrev pub milliseconds_of_timestamp : MuxanduTimestamp → Result ℤ Refused
-milliseconds_of_timestamp v = and_then (timestamp_value v) (λ i. Ok (unix_milliseconds_of i))
+abbrev pub timestamp_to_milliseconds : MuxanduTimestamp → Result ℤ Refused
+timestamp_to_milliseconds v = and_then (timestamp_value v) (λ i. Ok (unix_milliseconds_of i))
 
 -- a number, if 64 bits hold it
 abbrev pub in_64_bits : ℤ → Result ℤ Refused
@@ -252,31 +252,31 @@ in_64_bits n =
     if is_outside (neg_ℤ (pos 9_223_372_036_854_775_808)) (pos 9_223_372_036_854_775_807) n then Err refused.Result else Ok n
 
 -- the microseconds of an instant, rounded down, and its nanoseconds
-abbrev pub microseconds_of_timestamp : MuxanduTimestamp → Result ℤ Refused
-microseconds_of_timestamp v = and_then (timestamp_value v) (λ i. in_64_bits (unix_microseconds_of i))
+abbrev pub timestamp_to_microseconds : MuxanduTimestamp → Result ℤ Refused
+timestamp_to_microseconds v = and_then (timestamp_value v) (λ i. in_64_bits (unix_microseconds_of i))
 
-abbrev pub nanoseconds_of_timestamp : MuxanduTimestamp → Result ℤ Refused
-nanoseconds_of_timestamp v = and_then (timestamp_value v) (λ i. in_64_bits i)
+abbrev pub timestamp_to_nanoseconds : MuxanduTimestamp → Result ℤ Refused
+timestamp_to_nanoseconds v = and_then (timestamp_value v) (λ i. in_64_bits i)
 
 -- a date-time and a duration added at one offset, if the range has the sum, or brought into the range
-abbrev pub civil_sum : MuxanduCivil → MuxanduDuration → Result MuxanduCivil Refused
-civil_sum v w =
-    as_civil (and_then (civil_value v) (λ at. and_then (duration_value w) (λ d. local_in_range (at.wall +ℤ d) at.offset)))
+abbrev pub date_time_add : MuxanduDateTime → MuxanduDuration → Result MuxanduDateTime Refused
+date_time_add v w =
+    as_date_time (and_then (date_time_value v) (λ at. and_then (duration_value w) (λ d. local_in_range (at.wall +ℤ d) at.offset)))
 
-abbrev pub civil_sum_clamped : MuxanduCivil → MuxanduDuration → Result MuxanduCivil Refused
-civil_sum_clamped v w =
-    as_civil (and_then (civil_value v) (λ at. and_then (duration_value w) (λ d. Ok (wall_at (nearest_wall_clock (at.wall +ℤ d)) at.offset))))
+abbrev pub date_time_saturating_add : MuxanduDateTime → MuxanduDuration → Result MuxanduDateTime Refused
+date_time_saturating_add v w =
+    as_date_time (and_then (date_time_value v) (λ at. and_then (duration_value w) (λ d. Ok (wall_at (nearest_wall_clock (at.wall +ℤ d)) at.offset))))
 
 -- a date-time less a duration at one offset, if the range has it, or brought into the range
-abbrev pub civil_less : MuxanduCivil → MuxanduDuration → Result MuxanduCivil Refused
-civil_less v w =
-    as_civil (and_then (civil_value v) (λ at. and_then (duration_value w) (λ d. local_in_range (at.wall -ℤ d) at.offset)))
+abbrev pub date_time_subtract : MuxanduDateTime → MuxanduDuration → Result MuxanduDateTime Refused
+date_time_subtract v w =
+    as_date_time (and_then (date_time_value v) (λ at. and_then (duration_value w) (λ d. local_in_range (at.wall -ℤ d) at.offset)))
 
-abbrev pub civil_less_clamped : MuxanduCivil → MuxanduDuration → Result MuxanduCivil Refused
-civil_less_clamped v w =
-    as_civil (and_then (civil_value v) (λ at. and_then (duration_value w) (λ d. Ok (wall_at (nearest_wall_clock (at.wall -ℤ d)) at.offset))))
+abbrev pub date_time_saturating_subtract : MuxanduDateTime → MuxanduDuration → Result MuxanduDateTime Refused
+date_time_saturating_subtract v w =
+    as_date_time (and_then (date_time_value v) (λ at. and_then (duration_value w) (λ d. Ok (wall_at (nearest_wall_clock (at.wall -ℤ d)) at.offset))))
 
 -- from the second date-time to the first, by instant
-abbrev pub civil_difference : MuxanduCivil → MuxanduCivil → Result MuxanduDuration Refused
-civil_difference v w =
-    as_duration (and_then (civil_value v) (λ a. and_then (civil_value w) (λ b. Ok (instant_of a -ℤ instant_of b))))
+abbrev pub date_time_difference : MuxanduDateTime → MuxanduDateTime → Result MuxanduDuration Refused
+date_time_difference v w =
+    as_duration (and_then (date_time_value v) (λ a. and_then (date_time_value w) (λ b. Ok (instant_of a -ℤ instant_of b))))

@@ -9,8 +9,8 @@ use Rattle.muxandu_c.specs.declared.refused.Refused.TheVariants as refused
 use Rattle.muxandu_c.specs.declared.values.MuxanduWeekDate.{MuxanduWeekDate}
 
 -- the ISO year, the ISO week and the day of the week of a day
-abbrev pub week_date_of_day : ℤ → Result MuxanduWeekDate Refused
-week_date_of_day n =
+abbrev pub week_date_from_day : ℤ → Result MuxanduWeekDate Refused
+week_date_from_day n =
     and_then (day_value n) (λ day. Ok (record { year = iso_year_of day; week = iso_week_of day; weekday = weekday_of day }))
 
 -- the Monday of the week of a day
@@ -27,8 +27,8 @@ day_of_week monday weekday last =
     if int_lt last (monday +ℤ pos 3) then Err refused.WeekOfYear else day_in_range (monday +ℤ pos weekday)
 
 -- the day of an ISO week date: its week is so many weeks after that of 4 January
-abbrev pub day_of_week_date : MuxanduWeekDate → Result ℤ Refused
-day_of_week_date v =
+abbrev pub day_from_week_date : MuxanduWeekDate → Result ℤ Refused
+day_from_week_date v =
     and_then (date_value v.year 1 4) (λ january_4.
     and_then (date_value v.year 12 31) (λ december_31.
     if v.week == 0 || nat_lt 53 v.week then Err refused.Week

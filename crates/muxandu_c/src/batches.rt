@@ -4,19 +4,19 @@ ghost use Rattle.muxandu_c.specs.Answers.{status_number};
 ghost use Rattle.muxandu_c.specs.Batches.{values_of, status_of_items, AreValuesOf};
 ghost use Rattle.muxandu_c.specs.Batches.{batch_values, batch_status};
 ghost use Rattle.muxandu_c.specs.Exchange.{IsRead, IsReadAt};
-ghost use Rattle.muxandu_c.specs.Values.{civil_of_second, second_of_civil, date_of_day, day_of_date};
+ghost use Rattle.muxandu_c.specs.Values.{date_time_of_second, second_of_date_time, date_from_day, day_from_date};
 ghost use Rattle.muxandu_c.specs.declared.refused.Refused.{Refused};
 ghost use Rattle.muxandu_c.specs.declared.refused.Refused.TheVariants as refused;
 
-use crate::civil::civil_from_timestamp;
+use crate::date_times::date_time_from_timestamp;
 use crate::days::{date_from_day, day_from_date};
 use crate::exchange::timestamp_from_rfc3339;
-use crate::parts::{instant, read_civil};
+use crate::parts::{instant, read_date_time};
 use crate::refused::{Refused, status};
-use crate::values::{MuxanduBatch, MuxanduCivil, MuxanduDate, MuxanduSpan, MuxanduTimestamp};
+use crate::values::{MuxanduBatch, MuxanduDate, MuxanduDateTime, MuxanduSpan, MuxanduTimestamp};
 
 // What turns each item of a batch into a value, or refuses it.
-trait Conversion<A, B>: Copy {
+pub(crate) trait Conversion<A, B>: Copy {
     /// The value of an item, or why it is refused.
     ghost value_of: { Self → A → Result B Refused };
 
@@ -26,7 +26,7 @@ trait Conversion<A, B>: Copy {
 
 // The values of items, up to the first that is refused.
 #[inline(always)]
-fn convert_all<A: Copy, B: Copy, C: Conversion<A, B>>(
+pub(crate) fn convert_all<A: Copy, B: Copy, C: Conversion<A, B>>(
     conversion: C,
     items: &[A],
     out: &mut [B],
@@ -66,7 +66,7 @@ fn fill<A: Copy, B: Copy, C: Conversion<A, B>>(
     }
 }
 
-fn stopped(count: usize, refused: Refused) -> MuxanduBatch
+pub(crate) fn stopped(count: usize, refused: Refused) -> MuxanduBatch
     ensures count { result.count ≡ count }
     ensures status { result.status ≡ status_number refused }
 {
@@ -77,16 +77,16 @@ fn stopped(count: usize, refused: Refused) -> MuxanduBatch
 }
 
 #[derive(Clone, Copy)]
-struct ToCivil {
-    offset_seconds: i32,
+pub(crate) struct ToDateTime {
+    pub(crate) offset_seconds: i32,
 }
 
-impl Conversion<i64, MuxanduCivil> for ToCivil {
-    ghost value_of = { λ conversion second. civil_of_second conversion.offset_seconds second };
+impl Conversion<i64, MuxanduDateTime> for ToDateTime {
+    ghost value_of = { λ conversion second. date_time_of_second conversion.offset_seconds second };
 
     #[inline(always)]
-    fn convert(self, item: i64) -> Result<MuxanduCivil, Refused> {
-        civil_from_timestamp(
+    fn convert(self, item: i64) -> Result<MuxanduDateTime, Refused> {
+        date_time_from_timestamp(
             MuxanduTimestamp {
                 seconds: item,
                 nanoseconds: 0,
@@ -96,57 +96,59 @@ impl Conversion<i64, MuxanduCivil> for ToCivil {
     }
 }
 
-/// What clocks at an offset, in seconds, show at each Unix second, up to the first that muxandu_civil_from_timestamp
+/// What clocks at an offset, in seconds, show at each Unix second, up to the first that muxandu_date_time_from_timestamp
 /// refuses. Refused BUFFER, with nothing written, where `out` has fewer items than `seconds`.
 #[unsafe(no_mangle)]
-pub extern "C" fn muxandu_civils_from_seconds(
+pub extern "C" fn muxandu_date_times_from_seconds(
     seconds: &[i64],
     offset_seconds: i32,
-    out: &mut [MuxanduCivil],
+    out: &mut [MuxanduDateTime],
 ) -> MuxanduBatch
     ensures count { result.count ≡
-        length (batch_values (civil_of_second offset_seconds) out.old seconds.now) }
+        length (batch_values (date_time_of_second offset_seconds) out.old seconds.now) }
     ensures status { result.status ≡
-        batch_status (civil_of_second offset_seconds) out.old seconds.now }
-    ensures written { out.new ≡ batch_values (civil_of_second offset_seconds) out.old seconds.now
+        batch_status (date_time_of_second offset_seconds) out.old seconds.now }
+    ensures written { out.new ≡
+        batch_values (date_time_of_second offset_seconds) out.old seconds.now
         ++ drop result.count out.old }
 {
-    convert_all(ToCivil { offset_seconds }, seconds, out)
+    convert_all(ToDateTime { offset_seconds }, seconds, out)
 }
 
 #[derive(Clone, Copy)]
-struct ToSecond;
+pub(crate) struct ToSecond;
 
-impl Conversion<MuxanduCivil, i64> for ToSecond {
-    ghost value_of = { λ conversion civil. second_of_civil civil };
+impl Conversion<MuxanduDateTime, i64> for ToSecond {
+    ghost value_of = { λ conversion date_time. second_of_date_time date_time };
 
     #[inline(always)]
-    fn convert(self, item: MuxanduCivil) -> Result<i64, Refused> {
-        let at = read_civil(item)?;
+    fn convert(self, item: MuxanduDateTime) -> Result<i64, Refused> {
+        let at = read_date_time(item)?;
         Ok(instant(at, item.offset_seconds)?.as_seconds())
     }
 }
 
-/// The Unix second of each date-time, rounded down, up to the first that muxandu_timestamp_from_civil refuses. Refused
-/// BUFFER, with nothing written, where `out` has fewer items than `civils`.
+/// The Unix second of each date-time, rounded down, up to the first that muxandu_timestamp_from_date_time refuses. Refused
+/// BUFFER, with nothing written, where `out` has fewer items than `date_times`.
 #[unsafe(no_mangle)]
-pub extern "C" fn muxandu_seconds_from_civils(
-    civils: &[MuxanduCivil],
+pub extern "C" fn muxandu_seconds_from_date_times(
+    date_times: &[MuxanduDateTime],
     out: &mut [i64],
 ) -> MuxanduBatch
-    ensures count { result.count ≡ length (batch_values second_of_civil out.old civils.now) }
-    ensures status { result.status ≡ batch_status second_of_civil out.old civils.now }
-    ensures written { out.new ≡ batch_values second_of_civil out.old civils.now
+    ensures count { result.count ≡
+        length (batch_values second_of_date_time out.old date_times.now) }
+    ensures status { result.status ≡ batch_status second_of_date_time out.old date_times.now }
+    ensures written { out.new ≡ batch_values second_of_date_time out.old date_times.now
         ++ drop result.count out.old }
 {
-    convert_all(ToSecond, civils, out)
+    convert_all(ToSecond, date_times, out)
 }
 
 #[derive(Clone, Copy)]
 struct ToDate;
 
 impl Conversion<i32, MuxanduDate> for ToDate {
-    ghost value_of = { λ conversion day. date_of_day day };
+    ghost value_of = { λ conversion day. date_from_day day };
 
     #[inline(always)]
     fn convert(self, item: i32) -> Result<MuxanduDate, Refused> {
@@ -158,9 +160,9 @@ impl Conversion<i32, MuxanduDate> for ToDate {
 /// written, where `out` has fewer items than `days`.
 #[unsafe(no_mangle)]
 pub extern "C" fn muxandu_dates_from_days(days: &[i32], out: &mut [MuxanduDate]) -> MuxanduBatch
-    ensures count { result.count ≡ length (batch_values date_of_day out.old days.now) }
-    ensures status { result.status ≡ batch_status date_of_day out.old days.now }
-    ensures written { out.new ≡ batch_values date_of_day out.old days.now
+    ensures count { result.count ≡ length (batch_values date_from_day out.old days.now) }
+    ensures status { result.status ≡ batch_status date_from_day out.old days.now }
+    ensures written { out.new ≡ batch_values date_from_day out.old days.now
         ++ drop result.count out.old }
 {
     convert_all(ToDate, days, out)
@@ -170,7 +172,7 @@ pub extern "C" fn muxandu_dates_from_days(days: &[i32], out: &mut [MuxanduDate])
 struct ToDay;
 
 impl Conversion<MuxanduDate, i32> for ToDay {
-    ghost value_of = { λ conversion date. day_of_date date };
+    ghost value_of = { λ conversion date. day_from_date date };
 
     #[inline(always)]
     fn convert(self, item: MuxanduDate) -> Result<i32, Refused> {
@@ -182,9 +184,9 @@ impl Conversion<MuxanduDate, i32> for ToDay {
 /// written, where `out` has fewer items than `dates`.
 #[unsafe(no_mangle)]
 pub extern "C" fn muxandu_days_from_dates(dates: &[MuxanduDate], out: &mut [i32]) -> MuxanduBatch
-    ensures count { result.count ≡ length (batch_values day_of_date out.old dates.now) }
-    ensures status { result.status ≡ batch_status day_of_date out.old dates.now }
-    ensures written { out.new ≡ batch_values day_of_date out.old dates.now
+    ensures count { result.count ≡ length (batch_values day_from_date out.old dates.now) }
+    ensures status { result.status ≡ batch_status day_from_date out.old dates.now }
+    ensures written { out.new ≡ batch_values day_from_date out.old dates.now
         ++ drop result.count out.old }
 {
     convert_all(ToDay, dates, out)

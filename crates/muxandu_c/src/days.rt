@@ -2,10 +2,10 @@
 ghost use Rattle.std.specs.Prelude.{◌≡◌, IfOk, Ok, ◌≤◌, ◌-◌, ◌*◌, pos, ◌+ℤ◌, ◌-ℤ◌, ◌≤ℤ◌};
 ghost use Rattle.calendar_values.specs.Range.{first_day, last_day};
 ghost use Rattle.muxandu_c.specs.Answers.{status_of, written};
-ghost use Rattle.muxandu_c.specs.Values.{date_of_day, day_of_date};
-ghost use Rattle.muxandu_c.specs.Values.{ordinal_date_of_day, day_of_ordinal_date};
-ghost use Rattle.muxandu_c.specs.Values.{weekday_of_day, length_of_month};
-ghost use Rattle.muxandu_c.specs.WeekDates.{week_date_of_day, day_of_week_date, monday_of, day_of_week, day_in_range};
+ghost use Rattle.muxandu_c.specs.Values.{date_from_day, day_from_date};
+ghost use Rattle.muxandu_c.specs.Values.{ordinal_date_from_day, day_from_ordinal_date};
+ghost use Rattle.muxandu_c.specs.Values.{weekday_from_day, length_of_month};
+ghost use Rattle.muxandu_c.specs.WeekDates.{week_date_from_day, day_from_week_date, monday_of, day_of_week, day_in_range};
 
 use crate::parts::{date_of, day_of, read_date, read_day};
 use crate::refused::{Refused, answer};
@@ -14,7 +14,7 @@ use calendar_values::{Date, Month};
 
 #[inline(always)]
 pub(crate) fn date_from_day(day: i32) -> Result<MuxanduDate, Refused>
-    ensures { result ≡ date_of_day day }
+    ensures { result ≡ date_from_day day }
 {
     read_day(day)?;
     Ok(date_of(day))
@@ -23,15 +23,15 @@ pub(crate) fn date_from_day(day: i32) -> Result<MuxanduDate, Refused>
 /// The date of a day number. Refused DAY_NUMBER.
 #[unsafe(no_mangle)]
 pub extern "C" fn muxandu_date_from_day(day: i32, out: &mut MuxanduDate) -> u32
-    ensures status { result ≡ status_of (date_of_day day) }
-    ensures written { out.new ≡ written (date_of_day day) out.old }
+    ensures status { result ≡ status_of (date_from_day day) }
+    ensures written { out.new ≡ written (date_from_day day) out.old }
 {
     answer(date_from_day(day), out)
 }
 
 #[inline(always)]
 pub(crate) fn day_from_date(date: MuxanduDate) -> Result<i32, Refused>
-    ensures { result ≡ day_of_date date }
+    ensures { result ≡ day_from_date date }
 {
     Ok(day_of(read_date(date.year, date.month, date.day)?))
 }
@@ -39,14 +39,14 @@ pub(crate) fn day_from_date(date: MuxanduDate) -> Result<i32, Refused>
 /// The day number of a date. Refused MONTH, YEAR, DAY or DAY_OF_MONTH, tested in this order.
 #[unsafe(no_mangle)]
 pub extern "C" fn muxandu_day_from_date(date: MuxanduDate, out: &mut i32) -> u32
-    ensures status { result ≡ status_of (day_of_date date) }
-    ensures written { out.new ≡ written (day_of_date date) out.old }
+    ensures status { result ≡ status_of (day_from_date date) }
+    ensures written { out.new ≡ written (day_from_date date) out.old }
 {
     answer(day_from_date(date), out)
 }
 
 fn ordinal_date_from_day(day: i32) -> Result<MuxanduOrdinalDate, Refused>
-    ensures { result ≡ ordinal_date_of_day day }
+    ensures { result ≡ ordinal_date_from_day day }
 {
     let (year, ordinal) = read_day(day)?.to_ordinal_date();
     Ok(MuxanduOrdinalDate { year, ordinal })
@@ -55,14 +55,14 @@ fn ordinal_date_from_day(day: i32) -> Result<MuxanduOrdinalDate, Refused>
 /// The year and the day of the year of a day number. Refused DAY_NUMBER.
 #[unsafe(no_mangle)]
 pub extern "C" fn muxandu_ordinal_date_from_day(day: i32, out: &mut MuxanduOrdinalDate) -> u32
-    ensures status { result ≡ status_of (ordinal_date_of_day day) }
-    ensures written { out.new ≡ written (ordinal_date_of_day day) out.old }
+    ensures status { result ≡ status_of (ordinal_date_from_day day) }
+    ensures written { out.new ≡ written (ordinal_date_from_day day) out.old }
 {
     answer(ordinal_date_from_day(day), out)
 }
 
 fn day_from_ordinal_date(date: MuxanduOrdinalDate) -> Result<i32, Refused>
-    ensures { result ≡ day_of_ordinal_date date }
+    ensures { result ≡ day_from_ordinal_date date }
 {
     Ok(day_of(Date::from_ordinal_date(date.year, date.ordinal)?))
 }
@@ -70,14 +70,14 @@ fn day_from_ordinal_date(date: MuxanduOrdinalDate) -> Result<i32, Refused>
 /// The day number of a day of a year. Refused YEAR, ORDINAL or ORDINAL_OF_YEAR, tested in this order.
 #[unsafe(no_mangle)]
 pub extern "C" fn muxandu_day_from_ordinal_date(date: MuxanduOrdinalDate, out: &mut i32) -> u32
-    ensures status { result ≡ status_of (day_of_ordinal_date date) }
-    ensures written { out.new ≡ written (day_of_ordinal_date date) out.old }
+    ensures status { result ≡ status_of (day_from_ordinal_date date) }
+    ensures written { out.new ≡ written (day_from_ordinal_date date) out.old }
 {
     answer(day_from_ordinal_date(date), out)
 }
 
 fn week_date_from_day(day: i32) -> Result<MuxanduWeekDate, Refused>
-    ensures { result ≡ week_date_of_day day }
+    ensures { result ≡ week_date_from_day day }
 {
     let (year, week, weekday) = read_day(day)?.to_iso_week_date();
     Ok(MuxanduWeekDate {
@@ -91,15 +91,15 @@ fn week_date_from_day(day: i32) -> Result<MuxanduWeekDate, Refused>
 /// number again. Refused DAY_NUMBER.
 #[unsafe(no_mangle)]
 pub extern "C" fn muxandu_week_date_from_day(day: i32, out: &mut MuxanduWeekDate) -> u32
-    ensures status { result ≡ status_of (week_date_of_day day) }
-    ensures written { out.new ≡ written (week_date_of_day day) out.old }
-    ensures reads_back { IfOk (week_date_of_day day) (λ date. day_of_week_date date ≡ Ok day) }
+    ensures status { result ≡ status_of (week_date_from_day day) }
+    ensures written { out.new ≡ written (week_date_from_day day) out.old }
+    ensures reads_back { IfOk (week_date_from_day day) (λ date. day_from_week_date date ≡ Ok day) }
 {
     answer(week_date_from_day(day), out)
 }
 
 fn day_from_week_date(date: MuxanduWeekDate) -> Result<i32, Refused>
-    ensures { result ≡ day_of_week_date date }
+    ensures { result ≡ day_from_week_date date }
 {
     let january_4 = read_date(date.year, 1, 4)?;
     let december_31 = read_date(date.year, 12, 31)?;
@@ -161,15 +161,15 @@ fn day_in_range(day: i32) -> Result<i32, Refused>
 /// for the two days of the last week that lie past the range.
 #[unsafe(no_mangle)]
 pub extern "C" fn muxandu_day_from_week_date(date: MuxanduWeekDate, out: &mut i32) -> u32
-    ensures status { result ≡ status_of (day_of_week_date date) }
-    ensures written { out.new ≡ written (day_of_week_date date) out.old }
-    ensures reads_back { IfOk (day_of_week_date date) (λ day. week_date_of_day day ≡ Ok date) }
+    ensures status { result ≡ status_of (day_from_week_date date) }
+    ensures written { out.new ≡ written (day_from_week_date date) out.old }
+    ensures reads_back { IfOk (day_from_week_date date) (λ day. week_date_from_day day ≡ Ok date) }
 {
     answer(day_from_week_date(date), out)
 }
 
 fn weekday_from_day(day: i32) -> Result<u8, Refused>
-    ensures { result ≡ weekday_of_day day }
+    ensures { result ≡ weekday_from_day day }
 {
     Ok(read_day(day)?.weekday().number_days_from_monday())
 }
@@ -177,13 +177,13 @@ fn weekday_from_day(day: i32) -> Result<u8, Refused>
 /// The day of the week of a day number, 0 for Monday to 6 for Sunday. Refused DAY_NUMBER.
 #[unsafe(no_mangle)]
 pub extern "C" fn muxandu_weekday_from_day(day: i32, out: &mut u8) -> u32
-    ensures status { result ≡ status_of (weekday_of_day day) }
-    ensures written { out.new ≡ written (weekday_of_day day) out.old }
+    ensures status { result ≡ status_of (weekday_from_day day) }
+    ensures written { out.new ≡ written (weekday_from_day day) out.old }
 {
     answer(weekday_from_day(day), out)
 }
 
-fn days_in_month(year: i32, month: u8) -> Result<u8, Refused>
+pub(crate) fn days_in_month(year: i32, month: u8) -> Result<u8, Refused>
     ensures { result ≡ length_of_month year month }
 {
     let month = Month::from_number(month)?;

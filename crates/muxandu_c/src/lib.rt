@@ -3,14 +3,25 @@
 #![tactic(auto, using(calendar_values::specs::Constants::constants))]
 
 mod batches;
-mod civil;
+mod clocks;
+mod date_sums;
+mod date_texts;
+mod date_times;
 mod days;
+mod each_batches;
 mod exchange;
+pub mod limits;
+pub mod offsets;
 mod parts;
+pub mod reads;
 pub mod refused;
+pub mod replacements;
+mod status_texts;
+mod subsecond_batches;
 #[cfg(test)]
 mod tests;
 mod texts;
 mod timestamps;
 pub mod unit;
 pub mod values;
+pub mod version;

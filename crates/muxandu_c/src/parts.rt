@@ -1,32 +1,26 @@
 //! What crosses, as the values of the library, and back.
 ghost use Rattle.std.specs.Prelude.{◌≡◌, ◌<◌, ◌/◌, ◌+ℤ◌, ◌-ℤ◌, IfOk};
 ghost use Rattle.calendar_values.specs.Calendar.{year_of, month_of, day_of_month_of};
-ghost use Rattle.calendar_values.specs.Clock.{nanos_per_second};
 ghost use Rattle.calendar_values.specs.Offsets.{IsOffset, offset_of_seconds};
 ghost use Rattle.calendar_values.specs.Range.{IsDay};
-ghost use Rattle.calendar_values.specs.WallClock.{wall_day, wall_time};
+ghost use Rattle.calendar_values.specs.WallClock.{IsWallClock};
 ghost use Rattle.plain_times.specs.Truncations.{wall_multiple_below};
 ghost use Rattle.offset_times.specs.Local.{local_multiple_below, instant_of, shown_at, wall_at, offset_nanos};
-ghost use Rattle.muxandu_c.specs.Answers.{told};
-ghost use Rattle.muxandu_c.specs.Values.{date_value, date_parts, civil_value, civil_parts, day_value};
+ghost use Rattle.muxandu_c.specs.Answers.{as_refused};
+ghost use Rattle.muxandu_c.specs.Values.{date_value, date_parts, date_time_value, date_time_parts, day_value};
 ghost use Rattle.muxandu_c.specs.Values.{timestamp_value, timestamp_parts, duration_value, duration_parts};
-ghost use Rattle.muxandu_c.specs.Values.{in_range, local_in_range, unit_nanos, sign_of};
+ghost use Rattle.muxandu_c.specs.Values.{in_range, unit_nanos, sign_of};
 
 use crate::refused::Refused;
 use crate::unit::Unit;
-use crate::values::{MuxanduCivil, MuxanduDate, MuxanduDuration, MuxanduTimestamp};
-use calendar_values::units::{NANOS_PER_SECOND, SECONDS_PER_DAY, SECONDS_PER_HOUR};
+use crate::values::{MuxanduDate, MuxanduDateTime, MuxanduDuration, MuxanduTimestamp};
+use calendar_values::units::NANOS_PER_SECOND;
 use calendar_values::{Date, Month, SignedDuration, Time, UtcOffset, leap_ordinal_to_month_day};
 use offset_times::OffsetDateTime;
 use stamp_times::Timestamp;
 use stamp_times::reciprocal::year_leap_ordinal;
 use std::cmp::Ordering;
 use utc_times::{AsUtc, UtcDateTime};
-
-// More days than the range has before 1970, and their seconds.
-const DAYS_BEFORE: i32 = 400_000_000;
-
-const SECONDS_BEFORE: i64 = DAYS_BEFORE as i64 * SECONDS_PER_DAY;
 
 // The date of its parts.
 #[inline(always)]
@@ -38,23 +32,29 @@ pub(crate) fn read_date(year: i32, month: u8, day: u8) -> Result<Date, Refused>
 
 // The date-time of its parts.
 #[inline(always)]
-pub(crate) fn read_civil(civil: MuxanduCivil) -> Result<OffsetDateTime, Refused>
-    ensures value { result ≡ civil_value civil }
-    ensures offset { IfOk result (λ at. at.offset ≡ civil.offset_seconds) }
+pub(crate) fn read_date_time(date_time: MuxanduDateTime) -> Result<OffsetDateTime, Refused>
+    ensures value { result ≡ date_time_value date_time }
+    ensures offset { IfOk result (λ at. at.offset ≡ date_time.offset_seconds) }
+    ensures in_range { IfOk result (λ at. IsOffset at.offset) }
 {
-    let date = read_date(civil.year, civil.month, civil.day)?;
-    let time = Time::from_hms_nano(civil.hour, civil.minute, civil.second, civil.nanosecond)?;
-    let offset = read_offset(civil.offset_seconds)?;
+    let date = read_date(date_time.year, date_time.month, date_time.day)?;
+    let time = Time::from_hms_nano(
+        date_time.hour,
+        date_time.minute,
+        date_time.second,
+        date_time.nanosecond,
+    )?;
+    let offset = read_offset(date_time.offset_seconds)?;
     Ok(OffsetDateTime::new_in_offset(date, time, offset))
 }
 
 // The parts of a date-time.
-pub(crate) fn civil_of(at: OffsetDateTime) -> MuxanduCivil
-    ensures { result ≡ civil_parts at }
+pub(crate) fn date_time_of(at: OffsetDateTime) -> MuxanduDateTime
+    ensures { result ≡ date_time_parts at }
 {
     let (year, month, day) = at.to_calendar_date();
     let (hour, minute, second, nanosecond) = at.to_hms_nano();
-    MuxanduCivil {
+    MuxanduDateTime {
         year,
         month: u8::from(month),
         day,
@@ -68,40 +68,30 @@ pub(crate) fn civil_of(at: OffsetDateTime) -> MuxanduCivil
 
 // The parts of what clocks at an offset, in seconds, show, which is given as clocks in UTC show it.
 #[inline(always)]
-pub(crate) fn wall_parts(wall: Timestamp, offset_seconds: i32) -> MuxanduCivil
-    ensures { result ≡ civil_parts (wall_at wall offset_seconds) }
+pub(crate) fn wall_parts(wall: Timestamp, offset_seconds: i32) -> MuxanduDateTime
+    ensures { result ≡ date_time_parts (wall_at wall offset_seconds) }
 {
-    let (day, second_of_day) = day_and_second(wall);
-    let (year, is_leap, ordinal) = year_leap_ordinal(day);
-    let (month, day) = leap_ordinal_to_month_day(is_leap, ordinal);
-    MuxanduCivil {
+    let (year, month, day) = wall.to_calendar_date();
+    let (hour, minute, second, nanosecond) = wall.as_hms_nano();
+    MuxanduDateTime {
         year,
         month: u8::from(month),
         day,
-        hour: (second_of_day / SECONDS_PER_HOUR as u32) as u8,
-        minute: (second_of_day / 60 % 60) as u8,
-        second: (second_of_day % 60) as u8,
-        nanosecond: wall.nanosecond(),
+        hour,
+        minute,
+        second,
+        nanosecond,
         offset_seconds,
     }
 }
 
-// The day number and the second of the day. Seconds are counted from a day before the range, so that no
-// negative number is divided.
+// What the clocks of a date-time show, as clocks in UTC show it.
 #[inline(always)]
-#[tactic(auto, using(crate::proofs::DayLemmas::days))]
-fn day_and_second(at: Timestamp) -> (i32, u32)
-    ensures day { result.0 ≡ wall_day at }
-    ensures second { result.1 ≡ wall_time at / nanos_per_second }
-    ensures day_in_range { IsDay result.0 }
-    ensures second_in_range { result.1 < 86_400 }
+pub(crate) fn wall_of(at: OffsetDateTime) -> Timestamp
+    ensures value { result ≡ at.wall }
+    ensures in_range { IsWallClock at.wall }
 {
-    let seconds = (at.as_seconds() + SECONDS_BEFORE) as u64;
-    let days = (seconds / SECONDS_PER_DAY as u64) as i32;
-    (
-        days - DAYS_BEFORE,
-        (seconds % SECONDS_PER_DAY as u64) as u32,
-    )
+    Timestamp::from(at.date_time().as_utc())
 }
 
 // The instant of its parts.
@@ -130,10 +120,7 @@ pub(crate) fn instant(at: OffsetDateTime, offset_seconds: i32) -> Result<Timesta
     requires { at.offset ≡ offset_seconds }
     ensures { result ≡ in_range (instant_of at) }
 {
-    difference(
-        Timestamp::from(at.date_time().as_utc()),
-        seconds_of(offset_seconds),
-    )
+    difference(wall_of(at), seconds_of(offset_seconds))
 }
 
 // The duration of its parts together. Most have less than a second of nanoseconds, and carry none.
@@ -171,8 +158,9 @@ pub(crate) fn duration_of(duration: SignedDuration) -> MuxanduDuration
 // The offset of so many seconds.
 #[inline(always)]
 pub(crate) fn read_offset(seconds: i32) -> Result<UtcOffset, Refused>
-    ensures value { result ≡ told (offset_of_seconds seconds) }
+    ensures value { result ≡ as_refused (offset_of_seconds seconds) }
     ensures seconds { IfOk result (λ offset. offset ≡ seconds) }
+    ensures in_range { IfOk result IsOffset }
 {
     Ok(UtcOffset::from_whole_seconds(seconds)?)
 }
@@ -181,7 +169,7 @@ pub(crate) fn read_offset(seconds: i32) -> Result<UtcOffset, Refused>
 // add up from its hours, minutes and seconds.
 #[inline(always)]
 pub(crate) fn checked_offset(seconds: i32) -> Result<i32, Refused>
-    ensures value { result ≡ told (offset_of_seconds seconds) }
+    ensures value { result ≡ as_refused (offset_of_seconds seconds) }
     ensures in_range { IfOk result IsOffset }
 {
     UtcOffset::from_whole_seconds(seconds)?;
@@ -227,30 +215,15 @@ pub(crate) fn difference(at: Timestamp, duration: SignedDuration) -> Result<Time
     }
 }
 
-// What clocks at an offset show so much later, if the range has it.
-pub(crate) fn local_sum(
-    at: OffsetDateTime,
-    duration: SignedDuration,
-) -> Result<OffsetDateTime, Refused>
-    ensures { result ≡ local_in_range (at.wall +ℤ duration) at.offset }
+// The duration from the second instant to the first, by what clocks show and by the seconds between the
+// offsets.
+#[tactic(auto, unfolding(offset_times::specs::Local::instant_of))]
+#[inline(always)]
+pub(crate) fn apart(later: OffsetDateTime, earlier: OffsetDateTime, offsets: i32) -> SignedDuration
+    requires { offsets ≡ later.offset -ℤ earlier.offset }
+    ensures { result ≡ instant_of later -ℤ instant_of earlier }
 {
-    match at.checked_add(duration) {
-        Some(sum) => Ok(sum),
-        None => Err(Refused::Result),
-    }
-}
-
-// What clocks at an offset show so much earlier, if the range has it.
-pub(crate) fn local_difference(
-    at: OffsetDateTime,
-    duration: SignedDuration,
-) -> Result<OffsetDateTime, Refused>
-    ensures { result ≡ local_in_range (at.wall -ℤ duration) at.offset }
-{
-    match at.checked_sub(duration) {
-        Some(difference) => Ok(difference),
-        None => Err(Refused::Result),
-    }
+    wall_of(later) - wall_of(earlier) - seconds_of(offsets)
 }
 
 // What clocks at another offset show at the instant of a date-time, as clocks in UTC show it, if the range
@@ -262,10 +235,7 @@ pub(crate) fn to_offset(at: OffsetDateTime, from: i32, to: i32) -> Result<Timest
     requires to { IsOffset to }
     ensures { result ≡ in_range (shown_at (instant_of at) to) }
 {
-    sum(
-        Timestamp::from(at.date_time().as_utc()),
-        seconds_of(to - from),
-    )
+    sum(wall_of(at), seconds_of(to - from))
 }
 
 // The date of a day number.

@@ -1,112 +1,101 @@
 //! What a call refuses, and the status that says so.
 ghost use Rattle.std.specs.Prelude.{◌≡◌};
-ghost use Rattle.muxandu_c.specs.Answers.{refused_part, refused_text, status_number, status_of, written};
+ghost use Rattle.muxandu_c.specs.Answers.{refused_part, status_number, status_of, written};
 
-use calendar_values::ComponentRange;
-use rfc3339::{Component, TextRefusal};
+use calendar_values::{ComponentRange, Part};
 
-/// Why a call refuses. Its status is this number, and 0 where it refuses nothing. Parts are tested from the first to the
-/// last, and the first that is refused is named.
+/// Why a call refuses. Its status is this number, and 0 where it refuses nothing. Each call says in which order it tests
+/// what it takes, and names the first that is refused.
 #[derive(Clone, Copy, Drop)]
 pub enum Refused {
     /// A year before -999999 or after 999999.
     Year = 1,
     /// A month that is not 1 to 12.
-    Month,
-    /// A day that is not 1 to 31; in a text of RFC 3339, also one that its month does not have.
-    Day,
-    /// A day of 1 to 31 that the month does not have in this year.
-    DayOfMonth,
+    Month = 2,
+    /// A day that is not 1 to 31.
+    Day = 3,
+    /// A day of 1 to 31 that its month does not have in its year.
+    DayOfMonth = 4,
     /// A day of the year that is not 1 to 366.
-    Ordinal,
+    Ordinal = 5,
     /// Day 366 of a year that has 365.
-    OrdinalOfYear,
+    OrdinalOfYear = 6,
     /// An ISO week that is not 1 to 53.
-    Week,
+    Week = 7,
     /// Week 53 of an ISO year that has 52.
-    WeekOfYear,
+    WeekOfYear = 8,
     /// A day of the week above 6.
-    Weekday,
+    Weekday = 9,
     /// An hour above 23.
-    Hour,
+    Hour = 10,
     /// A minute above 59.
-    Minute,
+    Minute = 11,
     /// A second above 59.
-    Second,
+    Second = 12,
     /// A nanosecond above 999999999.
-    Nanosecond,
+    Nanosecond = 13,
     /// An offset below -93599 seconds or above 93599.
-    OffsetSeconds,
+    OffsetSeconds = 14,
     /// A Unix second, or a count of milliseconds, outside the range of timestamps.
-    Timestamp,
+    Timestamp = 15,
     /// A day number before -365961662 or after 364522971.
-    DayNumber,
+    DayNumber = 16,
     /// The seconds and nanoseconds of a duration that together are beyond its range.
-    Duration,
+    Duration = 17,
     /// A number that is no unit.
-    Unit,
+    Unit = 18,
     /// A result outside the range, or one that its type does not hold.
-    Result,
+    Result = 19,
     /// A buffer that is too short for the result.
-    Buffer,
+    Buffer = 20,
     /// A span that does not lie in the block of texts.
-    Span,
+    Span = 21,
     /// A text that is no date-time of RFC 3339.
-    Syntax,
+    Syntax = 22,
     /// In a text, hours of the offset above 23.
-    OffsetHour,
+    OffsetHour = 23,
     /// In a text, minutes of the offset above 59.
-    OffsetMinute,
+    OffsetMinute = 24,
     /// A value that RFC 3339 has no text for: its year is not 0 to 9999, or its offset has seconds or is of 24 hours or
     /// more.
-    NoText,
+    NoText = 25,
 }
 
 impl From<ComponentRange> for Refused {
     ghost from_gives = { λ refusal refused. refused ≡ refused_part refusal };
 
+    // It stands apart, since few calls refuse.
+    #[inline(never)]
     fn from(refusal: ComponentRange) -> Refused {
-        match refusal.name() {
-            "year" => Refused::Year,
-            "month" => Refused::Month,
-            "day" => {
+        match refusal.part() {
+            Part::Year => Refused::Year,
+            Part::Month => Refused::Month,
+            Part::Day => {
                 if refusal.is_conditional() {
                     Refused::DayOfMonth
                 } else {
                     Refused::Day
                 }
             }
-            "ordinal" => {
+            Part::Ordinal => {
                 if refusal.is_conditional() {
                     Refused::OrdinalOfYear
                 } else {
                     Refused::Ordinal
                 }
             }
-            "hour" => Refused::Hour,
-            "minute" => Refused::Minute,
-            "second" => Refused::Second,
-            "nanosecond" | "nanoseconds" => Refused::Nanosecond,
-            "offset_seconds" => Refused::OffsetSeconds,
-            "julian_day" => Refused::DayNumber,
-            _ => Refused::Timestamp,
-        }
-    }
-}
-
-impl From<TextRefusal> for Refused {
-    ghost from_gives = { λ refusal refused. refused ≡ refused_text refusal };
-
-    fn from(refusal: TextRefusal) -> Refused {
-        match refusal {
-            TextRefusal::Syntax => Refused::Syntax,
-            TextRefusal::OutOfRange(Component::Month) => Refused::Month,
-            TextRefusal::OutOfRange(Component::Day) => Refused::Day,
-            TextRefusal::OutOfRange(Component::Hour) => Refused::Hour,
-            TextRefusal::OutOfRange(Component::Minute) => Refused::Minute,
-            TextRefusal::OutOfRange(Component::Second) => Refused::Second,
-            TextRefusal::OutOfRange(Component::OffsetHour) => Refused::OffsetHour,
-            TextRefusal::OutOfRange(Component::OffsetMinute) => Refused::OffsetMinute,
+            Part::Hour => Refused::Hour,
+            Part::Minute => Refused::Minute,
+            Part::Second => Refused::Second,
+            Part::Nanosecond | Part::Nanoseconds => Refused::Nanosecond,
+            Part::OffsetSeconds => Refused::OffsetSeconds,
+            Part::JulianDay => Refused::DayNumber,
+            Part::Millisecond | Part::Microsecond | Part::Hours | Part::Minutes => {
+                Refused::Timestamp
+            }
+            Part::Seconds | Part::Timestamp | Part::Milliseconds | Part::Microseconds => {
+                Refused::Timestamp
+            }
         }
     }
 }

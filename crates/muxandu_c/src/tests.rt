@@ -1,12 +1,15 @@
 use crate::batches::{
-    muxandu_civils_from_seconds, muxandu_dates_from_days, muxandu_days_from_dates,
-    muxandu_seconds_from_civils, muxandu_timestamps_from_rfc3339,
+    muxandu_date_times_from_seconds, muxandu_dates_from_days, muxandu_days_from_dates,
+    muxandu_seconds_from_date_times, muxandu_timestamps_from_rfc3339,
 };
-use crate::civil::{
-    muxandu_civil_add, muxandu_civil_check, muxandu_civil_compare, muxandu_civil_day,
-    muxandu_civil_difference, muxandu_civil_from_timestamp, muxandu_civil_saturating_add,
-    muxandu_civil_saturating_subtract, muxandu_civil_subtract, muxandu_civil_to_offset,
-    muxandu_civil_truncate, muxandu_timestamp_from_civil,
+use crate::clocks::muxandu_time_check;
+use crate::date_sums::{muxandu_date_add_days, muxandu_date_add_months};
+use crate::date_times::{
+    muxandu_date_time_add, muxandu_date_time_check, muxandu_date_time_compare,
+    muxandu_date_time_day, muxandu_date_time_difference, muxandu_date_time_from_timestamp,
+    muxandu_date_time_saturating_add, muxandu_date_time_saturating_subtract,
+    muxandu_date_time_subtract, muxandu_date_time_to_offset, muxandu_date_time_truncate,
+    muxandu_timestamp_from_date_time,
 };
 use crate::days::{
     muxandu_date_from_day, muxandu_day_from_date, muxandu_day_from_ordinal_date,
@@ -14,10 +17,13 @@ use crate::days::{
     muxandu_week_date_from_day, muxandu_weekday_from_day,
 };
 use crate::exchange::{
-    muxandu_civil_from_rfc3339, muxandu_civil_to_rfc3339, muxandu_timestamp_from_rfc3339,
+    muxandu_date_time_from_rfc3339, muxandu_date_time_to_rfc3339, muxandu_timestamp_from_rfc3339,
     muxandu_timestamp_to_rfc3339, muxandu_timestamp_to_rfc3339_nanos,
 };
-use crate::texts::{muxandu_civil_text, muxandu_timestamp_text};
+use crate::offsets::{MuxanduOffset, muxandu_offset_from_parts, muxandu_offset_to_parts};
+use crate::reads::{MuxanduDateReads, muxandu_date_from_julian_day, muxandu_date_reads};
+use crate::replacements::{muxandu_date_time_replace, muxandu_timestamp_replace};
+use crate::texts::{muxandu_date_time_text, muxandu_timestamp_text};
 use crate::timestamps::{
     muxandu_timestamp_add, muxandu_timestamp_check, muxandu_timestamp_compare,
     muxandu_timestamp_difference, muxandu_timestamp_from_microseconds,
@@ -28,8 +34,8 @@ use crate::timestamps::{
     muxandu_timestamp_truncate,
 };
 use crate::values::{
-    MuxanduCivil, MuxanduDate, MuxanduDuration, MuxanduOrdinalDate, MuxanduSpan, MuxanduTimestamp,
-    MuxanduWeekDate,
+    MuxanduDate, MuxanduDateTime, MuxanduDuration, MuxanduOrdinalDate, MuxanduSpan,
+    MuxanduTimestamp, MuxanduWeekDate,
 };
 
 const LAST: i64 = 31_494_784_780_799;
@@ -61,8 +67,8 @@ fn date(year: i32, month: u8, day: u8) -> MuxanduDate {
     MuxanduDate { year, month, day }
 }
 
-fn midnight(year: i32, month: u8, day: u8, offset_seconds: i32) -> MuxanduCivil {
-    MuxanduCivil {
+fn midnight(year: i32, month: u8, day: u8, offset_seconds: i32) -> MuxanduDateTime {
+    MuxanduDateTime {
         year,
         month,
         day,
@@ -169,60 +175,63 @@ fn timestamps(rt: HostRuntime) {
 }
 
 #[test]
-fn civil_date_times(rt: HostRuntime) {
+fn date_times(rt: HostRuntime) {
     let leap_day = midnight(2024, 2, 29, 0);
     let there = midnight(7, 7, 7, 7);
     let day = lasting(86_400, 0);
-    assert_eq!(rt; muxandu_civil_check(leap_day), 0);
-    assert_eq!(rt; muxandu_civil_check(midnight(2023, 2, 29, 0)), 4);
+    assert_eq!(rt; muxandu_date_time_check(leap_day), 0);
+    assert_eq!(rt; muxandu_date_time_check(midnight(2023, 2, 29, 0)), 4);
     for ((status, out), expected) in [
         (
             called!(
-                muxandu_civil_from_timestamp(at(1_709_231_399, 0), -28_800),
+                muxandu_date_time_from_timestamp(at(1_709_231_399, 0), -28_800),
                 there
             ),
             (0, 2024, 2, 29, 10, -28_800),
         ),
         (
-            called!(muxandu_civil_from_timestamp(at(0, 0), 93_600), there),
+            called!(muxandu_date_time_from_timestamp(at(0, 0), 93_600), there),
             (14, 7, 7, 7, 0, 7),
         ),
         (
-            called!(muxandu_civil_from_timestamp(at(LAST, 0), 1), there),
+            called!(muxandu_date_time_from_timestamp(at(LAST, 0), 1), there),
             (19, 7, 7, 7, 0, 7),
         ),
         (
-            called!(muxandu_civil_to_offset(leap_day, -28_800), there),
+            called!(muxandu_date_time_to_offset(leap_day, -28_800), there),
             (0, 2024, 2, 28, 16, -28_800),
         ),
         (
-            called!(muxandu_civil_add(leap_day, day), there),
+            called!(muxandu_date_time_add(leap_day, day), there),
             (0, 2024, 3, 1, 0, 0),
         ),
         (
-            called!(muxandu_civil_subtract(leap_day, day), there),
+            called!(muxandu_date_time_subtract(leap_day, day), there),
             (0, 2024, 2, 28, 0, 0),
         ),
         (
-            called!(muxandu_civil_add(midnight(999_999, 12, 31, 0), day), there),
+            called!(
+                muxandu_date_time_add(midnight(999_999, 12, 31, 0), day),
+                there
+            ),
             (19, 7, 7, 7, 0, 7),
         ),
         (
             called!(
-                muxandu_civil_saturating_add(midnight(999_999, 12, 31, 0), day),
+                muxandu_date_time_saturating_add(midnight(999_999, 12, 31, 0), day),
                 there
             ),
             (0, 999_999, 12, 31, 23, 0),
         ),
         (
             called!(
-                muxandu_civil_saturating_subtract(midnight(-999_999, 1, 1, 0), day),
+                muxandu_date_time_saturating_subtract(midnight(-999_999, 1, 1, 0), day),
                 there
             ),
             (0, -999_999, 1, 1, 0, 0),
         ),
         (
-            called!(muxandu_civil_truncate(leap_day, 2), there),
+            called!(muxandu_date_time_truncate(leap_day, 2), there),
             (0, 2024, 2, 29, 0, 0),
         ),
     ] {
@@ -239,23 +248,23 @@ fn civil_date_times(rt: HostRuntime) {
         );
     }
     let (status, stamp) = called!(
-        muxandu_timestamp_from_civil(midnight(2024, 2, 29, 19_800)),
+        muxandu_timestamp_from_date_time(midnight(2024, 2, 29, 19_800)),
         at(7, 7)
     );
     assert_eq!(rt; (status, stamp.seconds), (0, 1_709_145_000));
     let (status, apart) = called!(
-        muxandu_civil_difference(leap_day, midnight(2024, 2, 29, 60)),
+        muxandu_date_time_difference(leap_day, midnight(2024, 2, 29, 60)),
         lasting(7, 7)
     );
     assert_eq!(rt; (status, apart.seconds), (0, 60));
     assert_eq!(rt;
         called!(
-            muxandu_civil_compare(leap_day, midnight(2024, 2, 29, 60)),
+            muxandu_date_time_compare(leap_day, midnight(2024, 2, 29, 60)),
             7
         ),
         (0, 1)
     );
-    assert_eq!(rt; called!(muxandu_civil_day(leap_day), 7), (0, 19_782));
+    assert_eq!(rt; called!(muxandu_date_time_day(leap_day), 7), (0, 19_782));
 }
 
 #[test]
@@ -327,13 +336,13 @@ fn texts(rt: HostRuntime) {
     for (told, expected) in [
         (
             told!(
-                muxandu_civil_text(midnight(1996, 12, 19, -28_800)),
+                muxandu_date_time_text(midnight(1996, 12, 19, -28_800)),
                 &mut buffer
             ),
             (0, 30),
         ),
         (
-            told!(muxandu_civil_text(midnight(1, 0, 1, 0)), &mut buffer),
+            told!(muxandu_date_time_text(midnight(1, 0, 1, 0)), &mut buffer),
             (2, 7),
         ),
         (
@@ -357,12 +366,18 @@ fn texts_of_exchange(rt: HostRuntime) {
     let odd = midnight(1996, 12, 19, 1);
     let mut buffer = [0; 35];
     for (told, expected) in [
-        (told!(muxandu_civil_to_rfc3339(west), &mut buffer), (0, 25)),
         (
-            told!(muxandu_civil_to_rfc3339(west), &mut buffer[..24]),
+            told!(muxandu_date_time_to_rfc3339(west), &mut buffer),
+            (0, 25),
+        ),
+        (
+            told!(muxandu_date_time_to_rfc3339(west), &mut buffer[..24]),
             (20, 25),
         ),
-        (told!(muxandu_civil_to_rfc3339(odd), &mut buffer), (25, 7)),
+        (
+            told!(muxandu_date_time_to_rfc3339(odd), &mut buffer),
+            (25, 7),
+        ),
         (
             told!(muxandu_timestamp_to_rfc3339(half), &mut buffer),
             (0, 22),
@@ -382,29 +397,42 @@ fn texts_read(rt: HostRuntime) {
     for ((status, out), expected) in [
         (
             called!(
-                muxandu_civil_from_rfc3339(b"1996-12-19T16:39:57-08:00"),
+                muxandu_date_time_from_rfc3339(b"1996-12-19T16:39:57-08:00"),
                 there
             ),
             (0, 1996, 16, -28_800),
         ),
         (
-            called!(muxandu_civil_from_rfc3339(b"1996-12-19T16:39:57"), there),
+            called!(
+                muxandu_date_time_from_rfc3339(b"1996-12-19T16:39:57"),
+                there
+            ),
             (22, 7, 0, 7),
         ),
         (
-            called!(muxandu_civil_from_rfc3339(b"1996-02-30T16:39:57Z"), there),
+            called!(
+                muxandu_date_time_from_rfc3339(b"1996-02-30T16:39:57Z"),
+                there
+            ),
+            (4, 7, 0, 7),
+        ),
+        (
+            called!(
+                muxandu_date_time_from_rfc3339(b"1996-02-32T16:39:57Z"),
+                there
+            ),
             (3, 7, 0, 7),
         ),
         (
             called!(
-                muxandu_civil_from_rfc3339(b"1996-12-19T16:39:57+24:00"),
+                muxandu_date_time_from_rfc3339(b"1996-12-19T16:39:57+24:00"),
                 there
             ),
             (23, 7, 0, 7),
         ),
         (
             called!(
-                muxandu_civil_from_rfc3339(b"1996-12-19T16:39:57+23:60"),
+                muxandu_date_time_from_rfc3339(b"1996-12-19T16:39:57+23:60"),
                 there
             ),
             (24, 7, 0, 7),
@@ -423,24 +451,24 @@ fn texts_read(rt: HostRuntime) {
 }
 
 #[test]
-fn civils_of_seconds(rt: HostRuntime) {
+fn date_times_of_seconds(rt: HostRuntime) {
     let there = midnight(7, 7, 7, 7);
-    let mut civils = [there, there, there];
-    let batch = muxandu_civils_from_seconds(&[0, -1, i64::MAX], 0, &mut civils);
+    let mut date_times = [there, there, there];
+    let batch = muxandu_date_times_from_seconds(&[0, -1, i64::MAX], 0, &mut date_times);
     assert_eq!(rt; (batch.count, batch.status), (2, 15));
     assert_eq!(rt;
-        (civils[0].year, civils[1].year, civils[2].year),
+        (date_times[0].year, date_times[1].year, date_times[2].year),
         (1970, 1969, 7)
     );
 }
 
 #[test]
-fn seconds_of_civils(rt: HostRuntime) {
-    let civils = [midnight(2024, 2, 29, 19_800), midnight(2024, 2, 29, 0)];
+fn seconds_of_date_times(rt: HostRuntime) {
+    let date_times = [midnight(2024, 2, 29, 19_800), midnight(2024, 2, 29, 0)];
     let mut seconds = [7, 7, 7];
-    let batch = muxandu_seconds_from_civils(&civils, &mut seconds[..1]);
+    let batch = muxandu_seconds_from_date_times(&date_times, &mut seconds[..1]);
     assert_eq!(rt; (batch.count, batch.status, seconds[0]), (0, 20, 7));
-    let batch = muxandu_seconds_from_civils(&civils, &mut seconds);
+    let batch = muxandu_seconds_from_date_times(&date_times, &mut seconds);
     assert_eq!(rt;
         (batch.count, batch.status, seconds[0], seconds[2]),
         (2, 0, 1_709_145_000, 7)
@@ -504,4 +532,156 @@ fn texts_of_a_block(rt: HostRuntime) {
     assert_eq!(rt; (stamps[0].seconds, stamps[1].seconds), (1, 1));
     let batch = muxandu_timestamps_from_rfc3339(block, &[first, first], &mut stamps[..1]);
     assert_eq!(rt; (batch.count, batch.status), (0, 20));
+}
+
+#[test]
+fn what_dates_show(rt: HostRuntime) {
+    let there = MuxanduDateReads {
+        day: 7,
+        julian_day: 7,
+        iso_year: 7,
+        ordinal: 7,
+        iso_week: 7,
+        weekday: 7,
+        sunday_based_week: 7,
+        monday_based_week: 7,
+    };
+    // The first of January 2021, a Friday, is in the last week of 2020.
+    let (status, out) = called!(muxandu_date_reads(date(2021, 1, 1)), there);
+    assert_eq!(rt; (status, out.day, out.julian_day), (0, 18_628, 2_459_216));
+    assert_eq!(rt; (out.iso_year, out.iso_week, out.weekday), (2020, 53, 4));
+    assert_eq!(rt;
+        (out.ordinal, out.sunday_based_week, out.monday_based_week),
+        (1, 0, 0)
+    );
+    let (status, out) = called!(muxandu_date_reads(date(2023, 2, 29)), there);
+    assert_eq!(rt; (status, out.day, out.ordinal), (4, 7, 7));
+    for (julian_day, expected) in [
+        (2_440_588, (0, 1970, 1, 1)),
+        (-363_521_074, (0, -999_999, 1, 1)),
+        (-363_521_075, (16, 7, 7, 7)),
+    ] {
+        let (status, out) = called!(muxandu_date_from_julian_day(julian_day), date(7, 7, 7));
+        assert_eq!(rt; (status, out.year, out.month, out.day), expected);
+    }
+}
+
+#[test]
+fn dates_later(rt: HostRuntime) {
+    for ((status, out), expected) in [
+        (
+            called!(muxandu_date_add_days(date(2024, 2, 28), 2), date(7, 7, 7)),
+            (0, 2024, 3, 1),
+        ),
+        (
+            called!(
+                muxandu_date_add_days(date(999_999, 12, 31), 1),
+                date(7, 7, 7)
+            ),
+            (19, 7, 7, 7),
+        ),
+        (
+            called!(
+                muxandu_date_add_days(date(1970, 1, 1), i32::MIN),
+                date(7, 7, 7)
+            ),
+            (19, 7, 7, 7),
+        ),
+        (
+            called!(muxandu_date_add_months(date(2024, 1, 31), 1), date(7, 7, 7)),
+            (0, 2024, 2, 29),
+        ),
+        (
+            called!(muxandu_date_add_months(date(0, 1, 31), -2), date(7, 7, 7)),
+            (0, -1, 11, 30),
+        ),
+        (
+            called!(
+                muxandu_date_add_months(date(999_999, 12, 1), 1),
+                date(7, 7, 7)
+            ),
+            (19, 7, 7, 7),
+        ),
+        (
+            called!(muxandu_date_add_months(date(2023, 2, 29), 1), date(7, 7, 7)),
+            (4, 7, 7, 7),
+        ),
+    ] {
+        assert_eq!(rt; (status, out.year, out.month, out.day), expected);
+    }
+}
+
+fn offset(hours: i8, minutes: i8, seconds: i8) -> MuxanduOffset {
+    MuxanduOffset {
+        hours,
+        minutes,
+        seconds,
+    }
+}
+
+#[test]
+fn parts_of_offsets(rt: HostRuntime) {
+    for (parts, expected) in [
+        (offset(1, -2, -3), (0, 3_723)),
+        (offset(0, -2, 3), (0, -123)),
+        (offset(26, 60, 60), (23, 7)),
+        (offset(25, 60, 60), (24, 7)),
+        (offset(25, 59, -60), (14, 7)),
+    ] {
+        assert_eq!(rt; called!(muxandu_offset_from_parts(parts), 7), expected);
+    }
+    let (status, out) = called!(muxandu_offset_to_parts(-12_601), offset(7, 7, 7));
+    assert_eq!(rt;
+        (status, out.hours, out.minutes, out.seconds),
+        (0, -3, -30, -1)
+    );
+    let (status, out) = called!(muxandu_offset_to_parts(93_600), offset(7, 7, 7));
+    assert_eq!(rt;
+        (status, out.hours, out.minutes, out.seconds),
+        (14, 7, 7, 7)
+    );
+}
+
+#[test]
+fn parts_are_replaced(rt: HostRuntime) {
+    let leap = midnight(2024, 2, 29, 60);
+    for (part, value, expected) in [
+        (1, 2020, (0, 2020, 2, 29)),
+        (1, 2023, (4, 7, 7, 7)),
+        (1, 1_000_000, (1, 7, 7, 7)),
+        (2, 3, (0, 2024, 3, 29)),
+        (2, 13, (2, 7, 7, 7)),
+        (3, 1, (0, 2024, 2, 1)),
+        (3, 32, (3, 7, 7, 7)),
+        (4, 366, (0, 2024, 12, 31)),
+        (4, 0, (5, 7, 7, 7)),
+        (5, 24, (10, 7, 7, 7)),
+        (6, -1, (11, 7, 7, 7)),
+        (7, 60, (12, 7, 7, 7)),
+        (8, 1_000_000_000, (13, 7, 7, 7)),
+        (9, 1, (18, 7, 7, 7)),
+    ] {
+        let there = midnight(7, 7, 7, 7);
+        let (status, out) = called!(muxandu_date_time_replace(leap, part, value), there);
+        assert_eq!(rt; (status, out.year, out.month, out.day), expected);
+    }
+    let (status, out) = called!(muxandu_date_time_replace(leap, 6, 59), leap);
+    assert_eq!(rt; (status, out.minute, out.offset_seconds), (0, 59, 60));
+    let (status, out) = called!(muxandu_timestamp_replace(at(-1, 5), 5, 0), at(7, 7));
+    assert_eq!(rt; (status, out.seconds, out.nanoseconds), (0, -82_801, 5));
+    let (status, out) = called!(muxandu_timestamp_replace(at(LAST, 0), 3, 0), at(7, 7));
+    assert_eq!(rt; (status, out.seconds, out.nanoseconds), (3, 7, 7));
+}
+
+#[test]
+fn times_of_day(rt: HostRuntime) {
+    for (status, expected) in [
+        (muxandu_time_check(23, 59, 59, 999_999_999), 0),
+        (muxandu_time_check(24, 60, 60, u32::MAX), 10),
+        (muxandu_time_check(0, 60, 60, u32::MAX), 11),
+        (muxandu_time_check(0, 0, 60, u32::MAX), 12),
+        (muxandu_time_check(0, 0, 0, 1_000_000_000), 13),
+    ] {
+        assert_eq!(rt; status, expected);
+    }
 }

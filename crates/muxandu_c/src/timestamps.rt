@@ -1,12 +1,12 @@
 //! Timestamps: instants by their Unix seconds.
 ghost use Rattle.std.specs.Prelude.{◌≡◌};
 ghost use Rattle.muxandu_c.specs.Answers.{status_of, written};
-ghost use Rattle.muxandu_c.specs.Values.{timestamp_value, timestamp_parts, timestamp_order};
-ghost use Rattle.muxandu_c.specs.Values.{timestamp_sum, timestamp_sum_clamped};
-ghost use Rattle.muxandu_c.specs.Values.{timestamp_less, timestamp_less_clamped};
-ghost use Rattle.muxandu_c.specs.Values.{timestamp_difference, timestamp_truncated};
-ghost use Rattle.muxandu_c.specs.Values.{timestamp_of_milliseconds, milliseconds_of_timestamp};
-ghost use Rattle.muxandu_c.specs.Values.{microseconds_of_timestamp, nanoseconds_of_timestamp};
+ghost use Rattle.muxandu_c.specs.Values.{timestamp_value, timestamp_parts, timestamp_compare};
+ghost use Rattle.muxandu_c.specs.Values.{timestamp_add, timestamp_saturating_add};
+ghost use Rattle.muxandu_c.specs.Values.{timestamp_subtract, timestamp_saturating_subtract};
+ghost use Rattle.muxandu_c.specs.Values.{timestamp_difference, timestamp_truncate};
+ghost use Rattle.muxandu_c.specs.Values.{timestamp_from_milliseconds, timestamp_to_milliseconds};
+ghost use Rattle.muxandu_c.specs.Values.{timestamp_to_microseconds, timestamp_to_nanoseconds};
 ghost use Rattle.muxandu_c.specs.Values.{count_in_range, in_64_bits};
 ghost use Rattle.stamp_times.specs.Instants.{instant_of_parts, instant_of_milliseconds, instant_of_microseconds};
 
@@ -35,7 +35,7 @@ pub extern "C" fn muxandu_timestamp_compare(
     first: MuxanduTimestamp,
     second: MuxanduTimestamp,
 ) -> i32
-    ensures { result ≡ timestamp_order first second }
+    ensures { result ≡ timestamp_compare first second }
 {
     sign(nanoseconds(first).cmp(&nanoseconds(second)))
 }
@@ -50,7 +50,7 @@ fn timestamp_add(
     at: MuxanduTimestamp,
     duration: MuxanduDuration,
 ) -> Result<MuxanduTimestamp, Refused>
-    ensures { result ≡ timestamp_sum at duration }
+    ensures { result ≡ timestamp_add at duration }
 {
     let at = read_timestamp(at)?;
     Ok(timestamp_of(sum(at, read_duration(duration)?)?))
@@ -64,8 +64,8 @@ pub extern "C" fn muxandu_timestamp_add(
     duration: MuxanduDuration,
     out: &mut MuxanduTimestamp,
 ) -> u32
-    ensures status { result ≡ status_of (timestamp_sum at duration) }
-    ensures written { out.new ≡ written (timestamp_sum at duration) out.old }
+    ensures status { result ≡ status_of (timestamp_add at duration) }
+    ensures written { out.new ≡ written (timestamp_add at duration) out.old }
 {
     answer(timestamp_add(at, duration), out)
 }
@@ -74,7 +74,7 @@ fn timestamp_subtract(
     at: MuxanduTimestamp,
     duration: MuxanduDuration,
 ) -> Result<MuxanduTimestamp, Refused>
-    ensures { result ≡ timestamp_less at duration }
+    ensures { result ≡ timestamp_subtract at duration }
 {
     let at = read_timestamp(at)?;
     Ok(timestamp_of(difference(at, read_duration(duration)?)?))
@@ -88,8 +88,8 @@ pub extern "C" fn muxandu_timestamp_subtract(
     duration: MuxanduDuration,
     out: &mut MuxanduTimestamp,
 ) -> u32
-    ensures status { result ≡ status_of (timestamp_less at duration) }
-    ensures written { out.new ≡ written (timestamp_less at duration) out.old }
+    ensures status { result ≡ status_of (timestamp_subtract at duration) }
+    ensures written { out.new ≡ written (timestamp_subtract at duration) out.old }
 {
     answer(timestamp_subtract(at, duration), out)
 }
@@ -98,7 +98,7 @@ fn timestamp_saturating_add(
     at: MuxanduTimestamp,
     duration: MuxanduDuration,
 ) -> Result<MuxanduTimestamp, Refused>
-    ensures { result ≡ timestamp_sum_clamped at duration }
+    ensures { result ≡ timestamp_saturating_add at duration }
 {
     let at = read_timestamp(at)?;
     Ok(timestamp_of(at.saturating_add(read_duration(duration)?)))
@@ -111,8 +111,8 @@ pub extern "C" fn muxandu_timestamp_saturating_add(
     duration: MuxanduDuration,
     out: &mut MuxanduTimestamp,
 ) -> u32
-    ensures status { result ≡ status_of (timestamp_sum_clamped at duration) }
-    ensures written { out.new ≡ written (timestamp_sum_clamped at duration) out.old }
+    ensures status { result ≡ status_of (timestamp_saturating_add at duration) }
+    ensures written { out.new ≡ written (timestamp_saturating_add at duration) out.old }
 {
     answer(timestamp_saturating_add(at, duration), out)
 }
@@ -121,7 +121,7 @@ fn timestamp_saturating_subtract(
     at: MuxanduTimestamp,
     duration: MuxanduDuration,
 ) -> Result<MuxanduTimestamp, Refused>
-    ensures { result ≡ timestamp_less_clamped at duration }
+    ensures { result ≡ timestamp_saturating_subtract at duration }
 {
     let at = read_timestamp(at)?;
     Ok(timestamp_of(at.saturating_sub(read_duration(duration)?)))
@@ -134,8 +134,8 @@ pub extern "C" fn muxandu_timestamp_saturating_subtract(
     duration: MuxanduDuration,
     out: &mut MuxanduTimestamp,
 ) -> u32
-    ensures status { result ≡ status_of (timestamp_less_clamped at duration) }
-    ensures written { out.new ≡ written (timestamp_less_clamped at duration) out.old }
+    ensures status { result ≡ status_of (timestamp_saturating_subtract at duration) }
+    ensures written { out.new ≡ written (timestamp_saturating_subtract at duration) out.old }
 {
     answer(timestamp_saturating_subtract(at, duration), out)
 }
@@ -164,7 +164,7 @@ pub extern "C" fn muxandu_timestamp_difference(
 }
 
 fn timestamp_truncate(at: MuxanduTimestamp, unit: u32) -> Result<MuxanduTimestamp, Refused>
-    ensures { result ≡ timestamp_truncated at unit }
+    ensures { result ≡ timestamp_truncate at unit }
 {
     let at = read_timestamp(at)?.to_utc();
     Ok(timestamp_of(Timestamp::from(utc_in_unit(at, read_unit(unit)?))))
@@ -177,8 +177,8 @@ pub extern "C" fn muxandu_timestamp_truncate(
     unit: u32,
     out: &mut MuxanduTimestamp,
 ) -> u32
-    ensures status { result ≡ status_of (timestamp_truncated at unit) }
-    ensures written { out.new ≡ written (timestamp_truncated at unit) out.old }
+    ensures status { result ≡ status_of (timestamp_truncate at unit) }
+    ensures written { out.new ≡ written (timestamp_truncate at unit) out.old }
 {
     answer(timestamp_truncate(at, unit), out)
 }
@@ -192,8 +192,8 @@ fn from_milliseconds(milliseconds: i64) -> Result<Timestamp, Refused>
     }
 }
 
-fn timestamp_from_milliseconds(milliseconds: i64) -> Result<MuxanduTimestamp, Refused>
-    ensures { result ≡ timestamp_of_milliseconds milliseconds }
+pub(crate) fn timestamp_from_milliseconds(milliseconds: i64) -> Result<MuxanduTimestamp, Refused>
+    ensures { result ≡ timestamp_from_milliseconds milliseconds }
 {
     Ok(timestamp_of(from_milliseconds(milliseconds)?))
 }
@@ -204,14 +204,14 @@ pub extern "C" fn muxandu_timestamp_from_milliseconds(
     milliseconds: i64,
     out: &mut MuxanduTimestamp,
 ) -> u32
-    ensures status { result ≡ status_of (timestamp_of_milliseconds milliseconds) }
-    ensures written { out.new ≡ written (timestamp_of_milliseconds milliseconds) out.old }
+    ensures status { result ≡ status_of (timestamp_from_milliseconds milliseconds) }
+    ensures written { out.new ≡ written (timestamp_from_milliseconds milliseconds) out.old }
 {
     answer(timestamp_from_milliseconds(milliseconds), out)
 }
 
-fn timestamp_to_milliseconds(at: MuxanduTimestamp) -> Result<i64, Refused>
-    ensures { result ≡ milliseconds_of_timestamp at }
+pub(crate) fn timestamp_to_milliseconds(at: MuxanduTimestamp) -> Result<i64, Refused>
+    ensures { result ≡ timestamp_to_milliseconds at }
 {
     Ok(read_timestamp(at)?.as_milliseconds())
 }
@@ -219,8 +219,8 @@ fn timestamp_to_milliseconds(at: MuxanduTimestamp) -> Result<i64, Refused>
 /// The whole milliseconds from 1970-01-01 0:00 UTC, rounded down. Refused as the timestamp.
 #[unsafe(no_mangle)]
 pub extern "C" fn muxandu_timestamp_to_milliseconds(at: MuxanduTimestamp, out: &mut i64) -> u32
-    ensures status { result ≡ status_of (milliseconds_of_timestamp at) }
-    ensures written { out.new ≡ written (milliseconds_of_timestamp at) out.old }
+    ensures status { result ≡ status_of (timestamp_to_milliseconds at) }
+    ensures written { out.new ≡ written (timestamp_to_milliseconds at) out.old }
 {
     answer(timestamp_to_milliseconds(at), out)
 }
@@ -234,8 +234,8 @@ pub extern "C" fn muxandu_timestamp_from_microseconds(microseconds: i64) -> Muxa
     timestamp_of(Timestamp::new(microseconds.div_euclid(1_000_000), nanoseconds).unwrap())
 }
 
-fn timestamp_to_microseconds(at: MuxanduTimestamp) -> Result<i64, Refused>
-    ensures { result ≡ microseconds_of_timestamp at }
+pub(crate) fn timestamp_to_microseconds(at: MuxanduTimestamp) -> Result<i64, Refused>
+    ensures { result ≡ timestamp_to_microseconds at }
 {
     in_64_bits(read_timestamp(at)?.as_microseconds())
 }
@@ -244,8 +244,8 @@ fn timestamp_to_microseconds(at: MuxanduTimestamp) -> Result<i64, Refused>
 /// not hold them, as before -290308-12-21 and after 294247-01-10.
 #[unsafe(no_mangle)]
 pub extern "C" fn muxandu_timestamp_to_microseconds(at: MuxanduTimestamp, out: &mut i64) -> u32
-    ensures status { result ≡ status_of (microseconds_of_timestamp at) }
-    ensures written { out.new ≡ written (microseconds_of_timestamp at) out.old }
+    ensures status { result ≡ status_of (timestamp_to_microseconds at) }
+    ensures written { out.new ≡ written (timestamp_to_microseconds at) out.old }
 {
     answer(timestamp_to_microseconds(at), out)
 }
@@ -258,8 +258,8 @@ pub extern "C" fn muxandu_timestamp_from_nanoseconds(nanoseconds: i64) -> Muxand
     timestamp_of(Timestamp::UNIX_EPOCH + SignedDuration::nanoseconds(nanoseconds))
 }
 
-fn timestamp_to_nanoseconds(at: MuxanduTimestamp) -> Result<i64, Refused>
-    ensures { result ≡ nanoseconds_of_timestamp at }
+pub(crate) fn timestamp_to_nanoseconds(at: MuxanduTimestamp) -> Result<i64, Refused>
+    ensures { result ≡ timestamp_to_nanoseconds at }
 {
     in_64_bits(read_timestamp(at)?.as_nanoseconds())
 }
@@ -268,8 +268,8 @@ fn timestamp_to_nanoseconds(at: MuxanduTimestamp) -> Result<i64, Refused>
 /// before 1677-09-21 and after 2262-04-11.
 #[unsafe(no_mangle)]
 pub extern "C" fn muxandu_timestamp_to_nanoseconds(at: MuxanduTimestamp, out: &mut i64) -> u32
-    ensures status { result ≡ status_of (nanoseconds_of_timestamp at) }
-    ensures written { out.new ≡ written (nanoseconds_of_timestamp at) out.old }
+    ensures status { result ≡ status_of (timestamp_to_nanoseconds at) }
+    ensures written { out.new ≡ written (timestamp_to_nanoseconds at) out.old }
 {
     answer(timestamp_to_nanoseconds(at), out)
 }

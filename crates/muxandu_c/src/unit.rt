@@ -10,15 +10,15 @@ pub enum Unit {
     /// A day.
     Day = 1,
     /// An hour.
-    Hour,
+    Hour = 2,
     /// A minute.
-    Minute,
+    Minute = 3,
     /// A second.
-    Second,
+    Second = 4,
     /// A millisecond.
-    Millisecond,
+    Millisecond = 5,
     /// A microsecond.
-    Microsecond,
+    Microsecond = 6,
 }
 
 // The unit of a number.

@@ -28,7 +28,7 @@ pub struct MuxanduDuration {
 /// What clocks at an offset from UTC show, in the proleptic Gregorian calendar.
 #[repr(C)]
 #[derive(Clone, Copy)]
-pub struct MuxanduCivil {
+pub struct MuxanduDateTime {
     /// The year, -999999 to 999999; year 0 comes before year 1.
     pub year: i32,
     /// The month, 1 to 12.

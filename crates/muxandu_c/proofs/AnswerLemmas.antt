@@ -1,0 +1,37 @@
+-- What answers lead to, one after another, where each is a value.
+use Rattle.std.proofs.Common.{◌≡◌, ◌∙◌, ap, subst, refl, ℕ, ℤ, Result, Ok}
+use Rattle.calendar_values.specs.Constructors.{clock_time_nano}
+use Rattle.calendar_values.specs.Offsets.{offset_of_seconds}
+use Rattle.calendar_values.specs.WallClock.{wall_clock}
+use Rattle.offset_times.specs.Local.{Local, instant_of, shown_at, wall_at}
+use Rattle.muxandu_c.specs.Answers.{and_then, as_refused}
+use Rattle.muxandu_c.specs.Values.{date_value, date_time_value, as_date_time, local_in_range, shown, date_time_to_offset}
+use Rattle.muxandu_c.specs.declared.refused.Refused.{Refused}
+use Rattle.muxandu_c.specs.declared.values.MuxanduDateTime.{MuxanduDateTime}
+
+-- a value leads on
+pub after : {A B : Type 0} (answer : Result A Refused) (next : A → Result B Refused) (x : A) → Ok x ≡ answer → next x ≡ and_then answer next
+after {A} {B} answer next x e = subst (λ (r : Result A Refused). next x ≡ and_then r next) e refl
+
+pub date_time_value-of : (v : MuxanduDateTime) (year seconds n : ℤ) (c : ℕ) (o : ℤ) (at : Local) → year ≡ v.year → seconds ≡ v.offset_seconds
+    → Ok n ≡ date_value year v.month v.day → Ok c ≡ clock_time_nano v.hour v.minute v.second v.nanosecond
+    → Ok o ≡ as_refused (offset_of_seconds seconds) → at ≡ wall_at (wall_clock n c) o → Ok at ≡ date_time_value v
+date_time_value-of v year seconds n c o at y s date time offset made =
+    let date' = rw y at date in
+    let offset' = rw s at offset in
+    ap (λ (l : Local). Ok l) made
+    ∙ after (as_refused (offset_of_seconds v.offset_seconds)) (λ (o : ℤ). Ok (wall_at (wall_clock n c) o)) o offset'
+    ∙ after (as_refused (clock_time_nano v.hour v.minute v.second v.nanosecond))
+    (λ (c : ℕ). and_then (as_refused (offset_of_seconds v.offset_seconds)) (λ (o : ℤ). Ok (wall_at (wall_clock n c) o))) c (ap as_refused time)
+    ∙ after (date_value v.year v.month v.day)
+    (λ (n : ℤ). and_then (as_refused (clock_time_nano v.hour v.minute v.second v.nanosecond))
+    (λ (c : ℕ). and_then (as_refused (offset_of_seconds v.offset_seconds)) (λ (o : ℤ). Ok (wall_at (wall_clock n c) o)))) n date'
+
+pub date_time_to_offset-of : (v : MuxanduDateTime) (seconds seconds' : ℤ) (at : Local) (o o' : ℤ) (answer : Result MuxanduDateTime Refused)
+    → answer ≡ as_date_time (local_in_range (shown_at (instant_of at) o') o') → o' ≡ o → Ok at ≡ date_time_value v
+    → Ok o ≡ as_refused (offset_of_seconds seconds') → seconds' ≡ seconds → answer ≡ date_time_to_offset v seconds
+date_time_to_offset-of v seconds seconds' at o o' answer made same date_time offset s =
+    let offset' = rw s at offset in
+    made ∙ ap (λ (z : ℤ). as_date_time (local_in_range (shown_at (instant_of at) z) z)) same
+    ∙ ap as_date_time (after (as_refused (offset_of_seconds seconds)) (λ (z : ℤ). local_in_range (shown_at (instant_of at) z) z) o offset')
+    ∙ ap as_date_time (after (date_time_value v) (λ (l : Local). shown (instant_of l) seconds) at date_time)

@@ -1,0 +1,129 @@
+//! Dates so many days or months later.
+ghost use Rattle.std.specs.Prelude.{◌≡◌, IfOk};
+ghost use Rattle.calendar_values.specs.Range.{IsDay};
+ghost use Rattle.muxandu_c.specs.Answers.{status_of, written};
+ghost use Rattle.muxandu_c.specs.DateSums.{date_add_days, date_add_months, days_later};
+ghost use Rattle.muxandu_c.specs.DateSums.{month_index, year_of_index, month_of_index, day_or_last, year_in_range, in_month, months_later};
+
+use crate::days::days_in_month;
+use crate::parts::{date_of, day_of, read_date};
+use crate::refused::{Refused, answer};
+use crate::values::MuxanduDate;
+
+// The first day of the range and the last, and the first year and the last.
+const FIRST_DAY: i64 = -365_961_662;
+
+const LAST_DAY: i64 = 364_522_971;
+
+const FIRST_YEAR: i64 = -999_999;
+
+const LAST_YEAR: i64 = 999_999;
+
+// The day so many days later, if the range has it.
+fn days_later(day: i32, days: i32) -> Result<i32, Refused>
+    ensures value { result ≡ days_later day days }
+    ensures in_range { IfOk result (λ sum. IsDay sum) }
+{
+    let sum = day as i64 + days as i64;
+    if sum < FIRST_DAY || sum > LAST_DAY {
+        return Err(Refused::Result);
+    }
+    Ok(sum as i32)
+}
+
+fn date_add_days(date: MuxanduDate, days: i32) -> Result<MuxanduDate, Refused>
+    ensures { result ≡ date_add_days date days }
+{
+    let day = day_of(read_date(date.year, date.month, date.day)?);
+    Ok(date_of(days_later(day, days)?))
+}
+
+/// The date so many days later, or earlier for a negative count. Refused as the date, then RESULT outside the range.
+#[unsafe(no_mangle)]
+pub extern "C" fn muxandu_date_add_days(date: MuxanduDate, days: i32, out: &mut MuxanduDate) -> u32
+    ensures status { result ≡ status_of (date_add_days date days) }
+    ensures written { out.new ≡ written (date_add_days date days) out.old }
+{
+    answer(date_add_days(date, days), out)
+}
+
+// The months from January of the year 0 to a month of a year.
+fn month_index(year: i32, month: u8) -> i64
+    ensures { result ≡ month_index year month }
+{
+    year as i64 * 12 + month as i64 - 1
+}
+
+// The number of the month that is so many months from January of the year 0.
+fn month_of_index(index: i64) -> u8
+    ensures { result ≡ month_of_index index }
+{
+    (index.rem_euclid(12) + 1) as u8
+}
+
+// Its year.
+fn year_of_index(index: i64) -> i64
+    ensures { result ≡ year_of_index index }
+{
+    index.div_euclid(12)
+}
+
+// A year, if the range has it.
+fn year_in_range(year: i64) -> Result<i32, Refused>
+    ensures { result ≡ year_in_range year }
+{
+    if year < FIRST_YEAR || year > LAST_YEAR {
+        return Err(Refused::Result);
+    }
+    Ok(year as i32)
+}
+
+// The day of a month, or the month's last day where it is shorter.
+fn day_or_last(year: i32, month: u8, day: u8) -> Result<MuxanduDate, Refused>
+    ensures { result ≡ day_or_last year month day }
+{
+    let length = days_in_month(year, month)?;
+    Ok(MuxanduDate {
+        year,
+        month,
+        day: day.min(length),
+    })
+}
+
+// The same of the month that is so many months from January of the year 0, if the range has its year.
+fn in_month(index: i64, day: u8) -> Result<MuxanduDate, Refused>
+    ensures { result ≡ in_month index day }
+{
+    let year = year_in_range(year_of_index(index))?;
+    day_or_last(year, month_of_index(index), day)
+}
+
+// The same day of the month so many months later, of parts that make a date.
+fn months_later(date: MuxanduDate, months: i32) -> Result<MuxanduDate, Refused>
+    ensures { result ≡ months_later date months }
+{
+    in_month(month_index(date.year, date.month) + months as i64, date.day)
+}
+
+fn date_add_months(date: MuxanduDate, months: i32) -> Result<MuxanduDate, Refused>
+    ensures { result ≡ date_add_months date months }
+{
+    match read_date(date.year, date.month, date.day) {
+        Ok(_) => months_later(date, months),
+        Err(refused) => Err(refused),
+    }
+}
+
+/// The same day of the month so many months later, or earlier for a negative count, or the month's last day where it is
+/// shorter. Refused as the date, then RESULT outside the range.
+#[unsafe(no_mangle)]
+pub extern "C" fn muxandu_date_add_months(
+    date: MuxanduDate,
+    months: i32,
+    out: &mut MuxanduDate,
+) -> u32
+    ensures status { result ≡ status_of (date_add_months date months) }
+    ensures written { out.new ≡ written (date_add_months date months) out.old }
+{
+    answer(date_add_months(date, months), out)
+}

@@ -1,0 +1,294 @@
+//! Date-times: what clocks at an offset show.
+ghost use Rattle.std.specs.Prelude.{◌≡◌};
+ghost use Rattle.calendar_values.specs.Offsets.{IsOffset};
+ghost use Rattle.offset_times.specs.Local.{instant_of, shown_at};
+ghost use Rattle.muxandu_c.specs.Answers.{status_of, written};
+ghost use Rattle.muxandu_c.specs.Values.{date_time_value, date_time_from_timestamp, timestamp_from_date_time, date_time_to_offset};
+ghost use Rattle.muxandu_c.specs.Values.{as_date_time, local_in_range};
+ghost use Rattle.muxandu_c.specs.Values.{date_time_add, date_time_saturating_add, date_time_subtract, date_time_saturating_subtract};
+ghost use Rattle.muxandu_c.specs.Values.{date_time_difference, date_time_truncate, date_time_compare, date_time_day};
+
+use crate::parts::{
+    apart, at_offset, checked_offset, date_time_of, day_of, difference, duration_of, in_unit,
+    instant, read_date_time, read_duration, read_timestamp, sign, sum, timestamp_of, to_offset,
+    wall_of, wall_parts,
+};
+use crate::refused::{Refused, answer, status_of};
+use crate::unit::read_unit;
+use crate::values::{MuxanduDateTime, MuxanduDuration, MuxanduTimestamp};
+use offset_times::OffsetDateTime;
+
+/// Whether the parts make a date-time. Refused, as by each call that takes one, MONTH, YEAR, DAY, DAY_OF_MONTH,
+/// HOUR, MINUTE, SECOND, NANOSECOND or OFFSET_SECONDS, tested in this order. To replace a part, write it and ask this.
+#[unsafe(no_mangle)]
+pub extern "C" fn muxandu_date_time_check(date_time: MuxanduDateTime) -> u32
+    ensures status { result ≡ status_of (date_time_value date_time) }
+{
+    status_of(read_date_time(date_time))
+}
+
+#[inline(always)]
+pub(crate) fn date_time_from_timestamp(
+    at: MuxanduTimestamp,
+    offset_seconds: i32,
+) -> Result<MuxanduDateTime, Refused>
+    ensures { result ≡ date_time_from_timestamp at offset_seconds }
+{
+    let at = read_timestamp(at)?;
+    let offset_seconds = checked_offset(offset_seconds)?;
+    Ok(wall_parts(at_offset(at, offset_seconds)?, offset_seconds))
+}
+
+/// What clocks at an offset, in seconds, show at an instant. Refused as the timestamp, then OFFSET_SECONDS, then RESULT
+/// where the clocks show a year outside the range.
+#[unsafe(no_mangle)]
+pub extern "C" fn muxandu_date_time_from_timestamp(
+    at: MuxanduTimestamp,
+    offset_seconds: i32,
+    out: &mut MuxanduDateTime,
+) -> u32
+    ensures status { result ≡ status_of (date_time_from_timestamp at offset_seconds) }
+    ensures written { out.new ≡ written (date_time_from_timestamp at offset_seconds) out.old }
+{
+    answer(date_time_from_timestamp(at, offset_seconds), out)
+}
+
+pub(crate) fn timestamp_from_date_time(
+    date_time: MuxanduDateTime,
+) -> Result<MuxanduTimestamp, Refused>
+    ensures { result ≡ timestamp_from_date_time date_time }
+{
+    let at = read_date_time(date_time)?;
+    Ok(timestamp_of(instant(at, date_time.offset_seconds)?))
+}
+
+/// The instant at which clocks at its offset show the date-time. Refused as the date-time, then RESULT outside the range
+/// of timestamps.
+#[unsafe(no_mangle)]
+pub extern "C" fn muxandu_timestamp_from_date_time(
+    date_time: MuxanduDateTime,
+    out: &mut MuxanduTimestamp,
+) -> u32
+    ensures status { result ≡ status_of (timestamp_from_date_time date_time) }
+    ensures written { out.new ≡ written (timestamp_from_date_time date_time) out.old }
+{
+    answer(timestamp_from_date_time(date_time), out)
+}
+
+// The parts of what clocks at another offset show at the instant of a date-time, if the range has it. Both
+// offsets are given in seconds.
+#[inline(always)]
+fn shown_parts(at: OffsetDateTime, from: i32, to: i32) -> Result<MuxanduDateTime, Refused>
+    requires from { at.offset ≡ from }
+    requires to { IsOffset to }
+    ensures { result ≡ as_date_time (local_in_range (shown_at (instant_of at) to) to) }
+{
+    Ok(wall_parts(to_offset(at, from, to)?, to))
+}
+
+fn date_time_to_offset(
+    date_time: MuxanduDateTime,
+    offset_seconds: i32,
+) -> Result<MuxanduDateTime, Refused>
+    ensures { result ≡ date_time_to_offset date_time offset_seconds }
+{
+    let at = read_date_time(date_time)?;
+    shown_parts(
+        at,
+        date_time.offset_seconds,
+        checked_offset(offset_seconds)?,
+    )
+}
+
+/// What clocks at another offset, in seconds, show at the same instant. Refused as the date-time, then OFFSET_SECONDS,
+/// then RESULT where the clocks there show a year outside the range.
+#[unsafe(no_mangle)]
+pub extern "C" fn muxandu_date_time_to_offset(
+    date_time: MuxanduDateTime,
+    offset_seconds: i32,
+    out: &mut MuxanduDateTime,
+) -> u32
+    ensures status { result ≡ status_of (date_time_to_offset date_time offset_seconds) }
+    ensures written { out.new ≡ written (date_time_to_offset date_time offset_seconds) out.old }
+{
+    answer(date_time_to_offset(date_time, offset_seconds), out)
+}
+
+fn date_time_add(
+    date_time: MuxanduDateTime,
+    duration: MuxanduDuration,
+) -> Result<MuxanduDateTime, Refused>
+    ensures { result ≡ date_time_add date_time duration }
+{
+    let at = read_date_time(date_time)?;
+    let wall = sum(wall_of(at), read_duration(duration)?)?;
+    Ok(wall_parts(wall, date_time.offset_seconds))
+}
+
+/// The date-time so much later at the same offset, or earlier for a negative duration. Refused as the date-time, then
+/// DURATION, then RESULT where the year is outside the range.
+#[unsafe(no_mangle)]
+pub extern "C" fn muxandu_date_time_add(
+    date_time: MuxanduDateTime,
+    duration: MuxanduDuration,
+    out: &mut MuxanduDateTime,
+) -> u32
+    ensures status { result ≡ status_of (date_time_add date_time duration) }
+    ensures written { out.new ≡ written (date_time_add date_time duration) out.old }
+{
+    answer(date_time_add(date_time, duration), out)
+}
+
+fn date_time_subtract(
+    date_time: MuxanduDateTime,
+    duration: MuxanduDuration,
+) -> Result<MuxanduDateTime, Refused>
+    ensures { result ≡ date_time_subtract date_time duration }
+{
+    let at = read_date_time(date_time)?;
+    let wall = difference(wall_of(at), read_duration(duration)?)?;
+    Ok(wall_parts(wall, date_time.offset_seconds))
+}
+
+/// The date-time so much earlier at the same offset, or later for a negative duration. Refused as the date-time, then
+/// DURATION, then RESULT where the year is outside the range.
+#[unsafe(no_mangle)]
+pub extern "C" fn muxandu_date_time_subtract(
+    date_time: MuxanduDateTime,
+    duration: MuxanduDuration,
+    out: &mut MuxanduDateTime,
+) -> u32
+    ensures status { result ≡ status_of (date_time_subtract date_time duration) }
+    ensures written { out.new ≡ written (date_time_subtract date_time duration) out.old }
+{
+    answer(date_time_subtract(date_time, duration), out)
+}
+
+fn date_time_saturating_add(
+    date_time: MuxanduDateTime,
+    duration: MuxanduDuration,
+) -> Result<MuxanduDateTime, Refused>
+    ensures { result ≡ date_time_saturating_add date_time duration }
+{
+    let at = read_date_time(date_time)?;
+    Ok(date_time_of(at.saturating_add(read_duration(duration)?)))
+}
+
+/// The date-time so much later at the same offset, or the end of the range that it is beyond. Refused as the date-time,
+/// then DURATION.
+#[unsafe(no_mangle)]
+pub extern "C" fn muxandu_date_time_saturating_add(
+    date_time: MuxanduDateTime,
+    duration: MuxanduDuration,
+    out: &mut MuxanduDateTime,
+) -> u32
+    ensures status { result ≡ status_of (date_time_saturating_add date_time duration) }
+    ensures written { out.new ≡ written (date_time_saturating_add date_time duration) out.old }
+{
+    answer(date_time_saturating_add(date_time, duration), out)
+}
+
+fn date_time_saturating_subtract(
+    date_time: MuxanduDateTime,
+    duration: MuxanduDuration,
+) -> Result<MuxanduDateTime, Refused>
+    ensures { result ≡ date_time_saturating_subtract date_time duration }
+{
+    let at = read_date_time(date_time)?;
+    Ok(date_time_of(at.saturating_sub(read_duration(duration)?)))
+}
+
+/// The date-time so much earlier at the same offset, or the end of the range that it is beyond. Refused as the
+/// date-time, then DURATION.
+#[unsafe(no_mangle)]
+pub extern "C" fn muxandu_date_time_saturating_subtract(
+    date_time: MuxanduDateTime,
+    duration: MuxanduDuration,
+    out: &mut MuxanduDateTime,
+) -> u32
+    ensures status { result ≡ status_of (date_time_saturating_subtract date_time duration) }
+    ensures written { out.new ≡ written (date_time_saturating_subtract date_time duration) out.old }
+{
+    answer(date_time_saturating_subtract(date_time, duration), out)
+}
+
+fn date_time_difference(
+    later: MuxanduDateTime,
+    earlier: MuxanduDateTime,
+) -> Result<MuxanduDuration, Refused>
+    ensures { result ≡ date_time_difference later earlier }
+{
+    let at = read_date_time(later)?;
+    let from = read_date_time(earlier)?;
+    Ok(duration_of(apart(at, from, later.offset_seconds - earlier.offset_seconds)))
+}
+
+/// The duration from the instant of `earlier` to that of `later`, negative where `later` comes first. Refused as
+/// `later`, then as `earlier`.
+#[unsafe(no_mangle)]
+pub extern "C" fn muxandu_date_time_difference(
+    later: MuxanduDateTime,
+    earlier: MuxanduDateTime,
+    out: &mut MuxanduDuration,
+) -> u32
+    ensures status { result ≡ status_of (date_time_difference later earlier) }
+    ensures written { out.new ≡ written (date_time_difference later earlier) out.old }
+{
+    answer(date_time_difference(later, earlier), out)
+}
+
+fn date_time_truncate(date_time: MuxanduDateTime, unit: u32) -> Result<MuxanduDateTime, Refused>
+    ensures { result ≡ date_time_truncate date_time unit }
+{
+    let at = read_date_time(date_time)?;
+    Ok(date_time_of(in_unit(at, read_unit(unit)?)))
+}
+
+/// The date-time rounded down to a unit, as its clocks show it. Refused as the date-time, then UNIT.
+#[unsafe(no_mangle)]
+pub extern "C" fn muxandu_date_time_truncate(
+    date_time: MuxanduDateTime,
+    unit: u32,
+    out: &mut MuxanduDateTime,
+) -> u32
+    ensures status { result ≡ status_of (date_time_truncate date_time unit) }
+    ensures written { out.new ≡ written (date_time_truncate date_time unit) out.old }
+{
+    answer(date_time_truncate(date_time, unit), out)
+}
+
+fn date_time_compare(first: MuxanduDateTime, second: MuxanduDateTime) -> Result<i32, Refused>
+    ensures { result ≡ date_time_compare first second }
+{
+    let first = read_date_time(first)?;
+    Ok(sign(first.cmp(&read_date_time(second)?)))
+}
+
+/// Which date-time comes first, by their instants: -1 if `first` does, 0 if both are one instant, 1 if `second` does.
+/// Refused as `first`, then as `second`.
+#[unsafe(no_mangle)]
+pub extern "C" fn muxandu_date_time_compare(
+    first: MuxanduDateTime,
+    second: MuxanduDateTime,
+    out: &mut i32,
+) -> u32
+    ensures status { result ≡ status_of (date_time_compare first second) }
+    ensures written { out.new ≡ written (date_time_compare first second) out.old }
+{
+    answer(date_time_compare(first, second), out)
+}
+
+fn date_time_day(date_time: MuxanduDateTime) -> Result<i32, Refused>
+    ensures { result ≡ date_time_day date_time }
+{
+    Ok(day_of(read_date_time(date_time)?.date()))
+}
+
+/// The day number that the clocks show, 0 on 1970-01-01. Refused as the date-time.
+#[unsafe(no_mangle)]
+pub extern "C" fn muxandu_date_time_day(date_time: MuxanduDateTime, out: &mut i32) -> u32
+    ensures status { result ≡ status_of (date_time_day date_time) }
+    ensures written { out.new ≡ written (date_time_day date_time) out.old }
+{
+    answer(date_time_day(date_time), out)
+}

@@ -1,0 +1,73 @@
+//! All that a date shows, at once, and the date of a Julian day.
+ghost use Rattle.std.specs.Prelude.{◌≡◌};
+ghost use Rattle.muxandu_c.specs.Answers.{status_of, written};
+ghost use Rattle.muxandu_c.specs.Reads.{date_reads, date_from_julian_day};
+
+use crate::parts::{date_of, day_of, read_date};
+use crate::refused::{Refused, answer};
+use crate::values::MuxanduDate;
+use calendar_values::Date;
+
+/// All that a date shows.
+#[repr(C)]
+#[derive(Clone, Copy)]
+pub struct MuxanduDateReads {
+    /// The day number, 0 on 1970-01-01.
+    pub day: i32,
+    /// The Julian day, 2440588 on 1970-01-01.
+    pub julian_day: i32,
+    /// The year that the ISO week belongs to, which is that of its Thursday.
+    pub iso_year: i32,
+    /// The day of the year, 1 to 366.
+    pub ordinal: u16,
+    /// The ISO week, 1 to 53.
+    pub iso_week: u8,
+    /// The day of the week, 0 for Monday to 6 for Sunday.
+    pub weekday: u8,
+    /// How many Sundays of the year lie on or before the date, 0 to 53.
+    pub sunday_based_week: u8,
+    /// How many Mondays of the year lie on or before the date, 0 to 53.
+    pub monday_based_week: u8,
+}
+
+fn date_reads(date: MuxanduDate) -> Result<MuxanduDateReads, Refused>
+    ensures { result ≡ date_reads date }
+{
+    let date = read_date(date.year, date.month, date.day)?;
+    let (iso_year, iso_week, weekday) = date.to_iso_week_date();
+    Ok(MuxanduDateReads {
+        day: day_of(date),
+        julian_day: date.to_julian_day(),
+        iso_year,
+        ordinal: date.ordinal(),
+        iso_week,
+        weekday: weekday.number_days_from_monday(),
+        sunday_based_week: date.sunday_based_week(),
+        monday_based_week: date.monday_based_week(),
+    })
+}
+
+/// All that a date shows: its day number and Julian day, its day of the year and of the week, and its weeks by ISO 8601,
+/// by Sundays and by Mondays. Refused MONTH, YEAR, DAY or DAY_OF_MONTH, tested in this order.
+#[unsafe(no_mangle)]
+pub extern "C" fn muxandu_date_reads(date: MuxanduDate, out: &mut MuxanduDateReads) -> u32
+    ensures status { result ≡ status_of (date_reads date) }
+    ensures written { out.new ≡ written (date_reads date) out.old }
+{
+    answer(date_reads(date), out)
+}
+
+fn date_from_julian_day(julian_day: i32) -> Result<MuxanduDate, Refused>
+    ensures { result ≡ date_from_julian_day julian_day }
+{
+    Ok(date_of(day_of(Date::from_julian_day(julian_day)?)))
+}
+
+/// The date of a Julian day, which is 2440588 on 1970-01-01. Refused DAY_NUMBER where the range has no such day.
+#[unsafe(no_mangle)]
+pub extern "C" fn muxandu_date_from_julian_day(julian_day: i32, out: &mut MuxanduDate) -> u32
+    ensures status { result ≡ status_of (date_from_julian_day julian_day) }
+    ensures written { out.new ≡ written (date_from_julian_day julian_day) out.old }
+{
+    answer(date_from_julian_day(julian_day), out)
+}

@@ -1,0 +1,178 @@
+//! What the statuses are called, and what they say.
+ghost use Rattle.std.specs.Prelude.{◌≡◌, ◌≤◌, true, length};
+ghost use Rattle.muxandu_c.specs.Answers.{status_of, bytes_if_room, written_over};
+ghost use Rattle.muxandu_c.specs.StatusTexts.{refused_numbered, refused_name, refused_words};
+ghost use Rattle.muxandu_c.specs.StatusTexts.{is_plain, status_name, status_words};
+
+use crate::refused::Refused;
+use crate::texts::put_bytes;
+
+/// The bytes of the longest text that muxandu_status_text writes: a buffer of so many is long enough.
+pub const MUXANDU_STATUS_ROOM: usize = 128;
+
+// The refusal of a status.
+fn refused_numbered(number: u32) -> Option<Refused>
+    ensures { result ≡ refused_numbered number }
+{
+    match number {
+        1 => Some(Refused::Year),
+        2 => Some(Refused::Month),
+        3 => Some(Refused::Day),
+        4 => Some(Refused::DayOfMonth),
+        5 => Some(Refused::Ordinal),
+        6 => Some(Refused::OrdinalOfYear),
+        7 => Some(Refused::Week),
+        8 => Some(Refused::WeekOfYear),
+        9 => Some(Refused::Weekday),
+        10 => Some(Refused::Hour),
+        11 => Some(Refused::Minute),
+        12 => Some(Refused::Second),
+        13 => Some(Refused::Nanosecond),
+        14 => Some(Refused::OffsetSeconds),
+        15 => Some(Refused::Timestamp),
+        16 => Some(Refused::DayNumber),
+        17 => Some(Refused::Duration),
+        18 => Some(Refused::Unit),
+        19 => Some(Refused::Result),
+        20 => Some(Refused::Buffer),
+        21 => Some(Refused::Span),
+        22 => Some(Refused::Syntax),
+        23 => Some(Refused::OffsetHour),
+        24 => Some(Refused::OffsetMinute),
+        25 => Some(Refused::NoText),
+        _ => None,
+    }
+}
+
+// The name of a refusal.
+fn refused_name(refused: Refused) -> &'static str
+    ensures value { result.now ≡ refused_name refused }
+    ensures ascii { is_plain result.now ≡ true }
+    ensures room { length result.now ≤ 15 }
+{
+    match refused {
+        Refused::Year => "YEAR",
+        Refused::Month => "MONTH",
+        Refused::Day => "DAY",
+        Refused::DayOfMonth => "DAY_OF_MONTH",
+        Refused::Ordinal => "ORDINAL",
+        Refused::OrdinalOfYear => "ORDINAL_OF_YEAR",
+        Refused::Week => "WEEK",
+        Refused::WeekOfYear => "WEEK_OF_YEAR",
+        Refused::Weekday => "WEEKDAY",
+        Refused::Hour => "HOUR",
+        Refused::Minute => "MINUTE",
+        Refused::Second => "SECOND",
+        Refused::Nanosecond => "NANOSECOND",
+        Refused::OffsetSeconds => "OFFSET_SECONDS",
+        Refused::Timestamp => "TIMESTAMP",
+        Refused::DayNumber => "DAY_NUMBER",
+        Refused::Duration => "DURATION",
+        Refused::Unit => "UNIT",
+        Refused::Result => "RESULT",
+        Refused::Buffer => "BUFFER",
+        Refused::Span => "SPAN",
+        Refused::Syntax => "SYNTAX",
+        Refused::OffsetHour => "OFFSET_HOUR",
+        Refused::OffsetMinute => "OFFSET_MINUTE",
+        Refused::NoText => "NO_TEXT",
+    }
+}
+
+// What is refused, in words: the comment of the variant.
+fn refused_words(refused: Refused) -> &'static str
+    ensures value { result.now ≡ refused_words refused }
+    ensures ascii { is_plain result.now ≡ true }
+    ensures room { length result.now ≤ 128 }
+{
+    match refused {
+        Refused::Year => "A year before -999999 or after 999999.",
+        Refused::Month => "A month that is not 1 to 12.",
+        Refused::Day => "A day that is not 1 to 31.",
+        Refused::DayOfMonth => "A day of 1 to 31 that its month does not have in its year.",
+        Refused::Ordinal => "A day of the year that is not 1 to 366.",
+        Refused::OrdinalOfYear => "Day 366 of a year that has 365.",
+        Refused::Week => "An ISO week that is not 1 to 53.",
+        Refused::WeekOfYear => "Week 53 of an ISO year that has 52.",
+        Refused::Weekday => "A day of the week above 6.",
+        Refused::Hour => "An hour above 23.",
+        Refused::Minute => "A minute above 59.",
+        Refused::Second => "A second above 59.",
+        Refused::Nanosecond => "A nanosecond above 999999999.",
+        Refused::OffsetSeconds => "An offset below -93599 seconds or above 93599.",
+        Refused::Timestamp =>
+            "A Unix second, or a count of milliseconds, outside the range of timestamps.",
+        Refused::DayNumber => "A day number before -365961662 or after 364522971.",
+        Refused::Duration =>
+            "The seconds and nanoseconds of a duration that together are beyond its range.",
+        Refused::Unit => "A number that is no unit.",
+        Refused::Result => "A result outside the range, or one that its type does not hold.",
+        Refused::Buffer => "A buffer that is too short for the result.",
+        Refused::Span => "A span that does not lie in the block of texts.",
+        Refused::Syntax => "A text that is no date-time of RFC 3339.",
+        Refused::OffsetHour => "In a text, hours of the offset above 23.",
+        Refused::OffsetMinute => "In a text, minutes of the offset above 59.",
+        Refused::NoText =>
+            "A value that RFC 3339 has no text for: its year is not 0 to 9999, or its offset has seconds or is of 24 hours or more.",
+    }
+}
+
+fn status_name(status: u32) -> &'static str
+    ensures value { result.now ≡ status_name status }
+    ensures ascii { is_plain result.now ≡ true }
+    ensures room { length result.now ≤ 15 }
+{
+    if status == 0 {
+        return "OK";
+    }
+    match refused_numbered(status) {
+        Some(refused) => refused_name(refused),
+        None => "UNKNOWN",
+    }
+}
+
+/// Writes the name of a status, as `OK` or `DAY_OF_MONTH`, of at most 15 bytes, all ASCII and none 0, at the front of
+/// `buffer`, and its length to `size`. A number that is no status of this version has the name `UNKNOWN`. Refused BUFFER
+/// where the name is longer than `buffer`: then `size` says how long it is, and `buffer` is as it was.
+#[unsafe(no_mangle)]
+pub extern "C" fn muxandu_status_name(status: u32, buffer: &mut [u8], size: &mut usize) -> u32
+    ensures status { result ≡ status_of (bytes_if_room buffer.old (status_name status)) }
+    ensures written { buffer.new ≡
+        written_over (bytes_if_room buffer.old (status_name status)) buffer.old }
+    ensures size { size.new ≡ length (status_name status) }
+    ensures ascii { is_plain (status_name status) ≡ true }
+    ensures room { length (status_name status) ≤ 15 }
+{
+    let name = status_name(status).as_bytes();
+    *size = name.len();
+    put_bytes(name, buffer)
+}
+
+fn status_words(status: u32) -> &'static str
+    ensures value { result.now ≡ status_words status }
+    ensures ascii { is_plain result.now ≡ true }
+    ensures room { length result.now ≤ 128 }
+{
+    if status == 0 {
+        return "Nothing is refused.";
+    }
+    match refused_numbered(status) {
+        Some(refused) => refused_words(refused),
+        None => "A number that is no status of this version.",
+    }
+}
+
+/// Writes what a status says, a sentence of at most 128 bytes, as muxandu_status_name does.
+#[unsafe(no_mangle)]
+pub extern "C" fn muxandu_status_text(status: u32, buffer: &mut [u8], size: &mut usize) -> u32
+    ensures status { result ≡ status_of (bytes_if_room buffer.old (status_words status)) }
+    ensures written { buffer.new ≡
+        written_over (bytes_if_room buffer.old (status_words status)) buffer.old }
+    ensures size { size.new ≡ length (status_words status) }
+    ensures ascii { is_plain (status_words status) ≡ true }
+    ensures room { length (status_words status) ≤ 128 }
+{
+    let words = status_words(status).as_bytes();
+    *size = words.len();
+    put_bytes(words, buffer)
+}
