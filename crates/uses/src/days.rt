@@ -1,11 +1,13 @@
 //! Days that are counted.
-ghost use Rattle.std.specs.Prelude.{◌≡◌, ◌↔◌, ◌≤◌, ◌+ℤ◌, ◌-ℤ◌, ◌*ℤ◌, pos, IfSome, IsTrue};
-ghost use Rattle.calendar_values.specs.Calendar.{year_of, month_of, day_of_month_of};
+#![tactic(auto, using(calendar_values::specs::Constants::constants, calendar_values::specs::WeekLemmas::weekdays, calendar_values::specs::MonthNumberLemmas::months))]
+
+ghost use Rattle.std.specs.Prelude.{◌≡◌, ◌↔◌, ◌<◌, ◌≤◌, ◌+◌, ◌+ℤ◌, ◌-ℤ◌, ◌*ℤ◌, ◌≤ℤ◌, ◌<ℤ◌, pos, IfSome, IsTrue};
+ghost use Rattle.calendar_values.specs.Calendar.{days_in_month, is_leap_year, year_of, month_of, day_of_month_of};
 ghost use Rattle.calendar_values.specs.Clock.{hour_of, minute_of};
 ghost use Rattle.calendar_values.specs.Weekday.{weekday_number};
 ghost use Rattle.calendar_values.specs.Weeks.{weekday_of};
 
-use calendar_values::{Date, Month, Time, Weekday};
+use calendar_values::{Date, Month, SignedDuration, Time, Weekday, days_in_month};
 
 /// The days from the first date to the second, below 0 where the second is earlier.
 pub fn days_between(first: Date, second: Date) -> i32
@@ -52,4 +54,64 @@ pub fn weekday_weeks_later(date: Date, weeks: i32) -> Weekday
 {
     calendar_values::laws::weekdays_repeat();
     date.weekday()
+}
+
+/// So many days before the date, or None before the range.
+pub fn days_before(date: Date, days: u8) -> Option<Date>
+    ensures { IfSome result (λ earlier. earlier ≡ date -ℤ pos days) }
+{
+    date.checked_sub(SignedDuration::days(i64::from(days)))
+}
+
+/// The Monday of the week of the date, or None where the range has it not.
+pub fn monday_of(date: Date) -> Option<Date>
+    ensures monday { IfSome result (λ monday. weekday_of monday ≡ 0) }
+    ensures near { IfSome result (λ monday. monday ≡ date -ℤ pos (weekday_of date)) }
+{
+    days_before(date, date.weekday().number_days_from_monday())
+}
+
+/// So many days after the date, or None past the range.
+pub fn days_after(date: Date, days: u8) -> Option<Date>
+    ensures { IfSome result (λ later. later ≡ date +ℤ pos days) }
+{
+    date.checked_add(SignedDuration::days(i64::from(days)))
+}
+
+/// How many days it is to the next day that is no Saturday and no Sunday.
+pub fn days_to_a_working_day(date: Date) -> u8
+    ensures some { 1 ≤ result }
+    ensures few { result ≤ 3 }
+    ensures working { weekday_of (date +ℤ pos result) < 5 }
+{
+    match date.weekday() {
+        Weekday::Friday => 3,
+        Weekday::Saturday => 2,
+        _ => 1,
+    }
+}
+
+/// The next day that is no Saturday and no Sunday, or None past the range.
+pub fn next_working_day(date: Date) -> Option<Date>
+    ensures later { IfSome result (λ next. date <ℤ next) }
+    ensures soon { IfSome result (λ next. next ≤ℤ (date +ℤ pos 3)) }
+    ensures working { IfSome result (λ next. weekday_of next < 5) }
+{
+    days_after(date, days_to_a_working_day(date))
+}
+
+/// The same day of the week, a week later, or None past the range.
+pub fn a_week_later(date: Date) -> Option<Date>
+    ensures later { IfSome result (λ later. later ≡ date +ℤ pos 7) }
+    ensures weekday { IfSome result (λ later. weekday_of later ≡ weekday_of date) }
+{
+    date.checked_add_days(7)
+}
+
+/// The days that the month of the date still has after it.
+pub fn days_left_in_its_month(date: Date) -> u8
+    ensures { result + day_of_month_of date ≡
+        days_in_month (is_leap_year (year_of date)) (month_of date) }
+{
+    days_in_month(date.year(), date.month()) - date.day()
 }

@@ -1,6 +1,8 @@
 //! The examples that stand at the heads of the types, and values of callers.
 use crate::{columns, days, shown, windows};
-use calendar_values::{ComponentRange, Date, Month, SignedDuration, Time, UtcOffset, Weekday};
+use calendar_values::{
+    ComponentRange, Date, Month, Part, SignedDuration, Time, UtcOffset, Weekday,
+};
 use offset_times::OffsetDateTime;
 use plain_times::PlainDateTime;
 use stamp_times::Timestamp;
@@ -108,6 +110,21 @@ fn of_columns(rt: HostRuntime) -> Result<(), Fail> {
     assert_eq!(rt; columns::read_again(Date::MIN), Date::MIN);
     assert!(rt; columns::in_order(Date::MIN, leap_day));
     assert!(rt; !columns::in_order(leap_day, Date::MIN));
+    assert_eq!(rt; columns::time_of(3_723), Some(Time::from_hms(1, 2, 3)?));
+    assert_eq!(rt; columns::time_of(86_400), None);
+    assert_eq!(rt; columns::second_of_day_of(-1), 86_399);
+    assert_eq!(rt; columns::weekday_of_number(3), Some(leap_day.weekday()));
+    assert_eq!(rt; columns::weekday_of_bit(10), leap_day.weekday());
+    assert_eq!(rt;
+        columns::refused_column(ComponentRange::new("day", true)),
+        Part::Day
+    );
+    assert_eq!(rt; columns::time_by_default(), Time::from_hms(8, 15, 0)?);
+    assert_eq!(rt; columns::last_whole_second(), Time::from_hms(23, 59, 59)?);
+    assert_eq!(rt;
+        columns::date_by_default(),
+        Date::from_calendar_date(2000, Month::January, 1)?
+    );
     Ok(())
 }
 

@@ -1,19 +1,22 @@
 //! Date-times that are exchanged as texts of RFC 3339.
-ghost use Rattle.std.specs.Prelude.{◌≡◌, ℤ, IfOk, IfSome, OnOk, OkIff, SomeIff};
+ghost use Rattle.std.specs.Prelude.{◌≡◌, ℤ, is_ok, map, IfOk, IfSome, OnOk, OkIff, SomeIff};
 ghost use Rattle.std.specs.Prelude.{IsPermutation, IsSorted};
 ghost use Rattle.std.specs.Cmp.Lexicographic.{slice_cmp};
 ghost use Rattle.std.specs.Ordering.{nat_cmp, int_cmp};
 ghost use Rattle.offset_times.specs.Local.{instant_of, local_at};
 ghost use Rattle.rfc3339.specs.Form.{IsDateTime};
 ghost use Rattle.rfc3339.specs.Meaning.{value_of, AreInRange};
+ghost use Rattle.rfc3339.specs.Reading.{reading_of};
 ghost use Rattle.rfc3339.specs.Texts.{HasText, rfc3339_text, HasFixedText, fixed_text};
 ghost use Rattle.rfc3339.specs.declared.parts.Parts.{Parts};
+ghost use Rattle.uses.specs.Stamps.{are_one_instant, instant_named, answer_to};
 
 use calendar_values::{Text, UtcOffset};
 use offset_times::OffsetDateTime;
 use rfc3339::laws::fixed_texts_keep_the_order;
 use rfc3339::{Rfc3339, TextRefusal, parse_rfc3339};
-use std::alloc::AllocError;
+use stamp_times::Timestamp;
+use std::alloc::{AllocError, Global};
 use std::cmp::Ordering;
 use utc_times::UtcDateTime;
 
@@ -35,6 +38,43 @@ pub fn instant(stamp: &[u8]) -> Result<UtcDateTime, TextRefusal>
         OkIff result (AreInRange p) (instant_of (value_of p)) }
 {
     UtcDateTime::from_rfc3339(stamp)
+}
+
+/// Whether a stamp is read: it has the form, and each part is in its range.
+pub fn is_valid(stamp: &[u8]) -> bool
+    ensures { result ≡ is_ok (reading_of stamp.now) }
+{
+    parse_rfc3339(stamp).is_ok()
+}
+
+/// Whether two stamps, at whatever offsets, name one instant. False where one of them is refused.
+pub fn name_one_instant(first: &[u8], second: &[u8]) -> bool
+    ensures { result ≡ are_one_instant (instant_named first.now) (instant_named second.now) }
+{
+    let (Ok(first), Ok(second)) = (
+        Timestamp::from_rfc3339(first),
+        Timestamp::from_rfc3339(second),
+    ) else {
+        return false;
+    };
+    first == second
+}
+
+/// The answer to a line that is a stamp: Unix seconds, or why it is refused.
+pub fn answer(stamp: &[u8]) -> Text
+    ensures { result ≡ answer_to stamp.now }
+{
+    match Timestamp::from_rfc3339(stamp) {
+        Ok(at) => at.text(),
+        Err(refusal) => refusal.text(),
+    }
+}
+
+/// The answers to lines, in their order.
+pub fn answers(alloc: Global, lines: &[&[u8]]) -> Result<Vec<Text>, AllocError>
+    ensures { IfOk result (λ answers. answers.items ≡ map (λ line. answer_to line.now) lines.now) }
+{
+    lines.iter().map(|line| answer(line)).collect(alloc)
 }
 
 /// The shortest text of what a text of another program says.

@@ -1,7 +1,7 @@
 //! Rules of expiry: when something expires, and whether it has.
-ghost use Rattle.std.specs.Prelude.{◌↔◌, ◌+ℤ◌, ◌*ℤ◌, ◌≤ℤ◌, pos, IsTrue, SomeIff};
-ghost use Rattle.calendar_values.specs.Clock.{nanos_per_day};
-ghost use Rattle.calendar_values.specs.WallClock.{IsWallClock};
+ghost use Rattle.std.specs.Prelude.{◌≡◌, ◌↔◌, ◌*◌, ◌+ℤ◌, ◌*ℤ◌, ◌≤ℤ◌, ◌<ℤ◌, pos, IfSome, IsTrue, SomeIff};
+ghost use Rattle.calendar_values.specs.Clock.{nanos_per_minute, nanos_per_day};
+ghost use Rattle.calendar_values.specs.WallClock.{first_wall_clock, last_wall_clock, IsWallClock};
 
 use calendar_values::SignedDuration;
 use utc_times::UtcDateTime;
@@ -33,4 +33,33 @@ pub fn tomorrow(at: UtcDateTime) -> Option<UtcDateTime>
     let day = SignedDuration::days(1);
     at.checked_add(day)?;
     Some(at + day)
+}
+
+/// The end of a lease: exactly so much later where the range has it.
+pub fn lease_end(from: UtcDateTime, lasts: SignedDuration) -> UtcDateTime
+    ensures exact { IsWallClock (from +ℤ lasts) → result ≡ from +ℤ lasts }
+    ensures at_the_end { last_wall_clock <ℤ (from +ℤ lasts) → result ≡ last_wall_clock }
+{
+    from.saturating_add(lasts)
+}
+
+/// The end of what never ends: the last instant that there is.
+pub fn without_end(from: UtcDateTime) -> UtcDateTime
+    ensures { result ≡ last_wall_clock }
+{
+    from.saturating_add(SignedDuration::MAX)
+}
+
+/// The beginning of what was always: the first instant that there is.
+pub fn since_ever(until: UtcDateTime) -> UtcDateTime
+    ensures { result ≡ first_wall_clock }
+{
+    until.saturating_sub(SignedDuration::MAX)
+}
+
+/// So many minutes later, or None past the range.
+pub fn minutes_later(at: UtcDateTime, minutes: u16) -> Option<UtcDateTime>
+    ensures { IfSome result (λ later. later ≡ at +ℤ pos (minutes * nanos_per_minute)) }
+{
+    at.checked_add(SignedDuration::minutes(i64::from(minutes)))
 }

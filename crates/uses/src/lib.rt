@@ -8,6 +8,7 @@ pub mod billing;
 pub mod columns;
 pub mod constants;
 pub mod daily;
+pub mod date_texts;
 pub mod days;
 #[cfg(test)]
 mod examples;
@@ -19,12 +20,14 @@ pub mod meeting;
 pub mod midnight;
 pub mod milliseconds;
 pub mod moments;
+pub mod months;
 pub mod offsets;
 pub mod periods;
 pub mod programs;
 pub mod replays;
 pub mod reports;
 pub mod retry;
+pub mod seen;
 pub mod shown;
 #[cfg(test)]
 mod tests;

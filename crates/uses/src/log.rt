@@ -1,14 +1,21 @@
 //! A log in the order of instants.
 #![tactic(auto, using(calendar_values::specs::Constants::constants, stamp_times::specs::LogLemmas::without_repeats))]
 
-ghost use Rattle.std.specs.Prelude.{◌≡◌, ◌↔◌, ℤ, ◌++◌, [], ◌∷◌, Contains, IfOk, IfSome, IsPermutation, IsSorted, IsTrue, OnOk, if◌then◌else◌};
+ghost use Rattle.std.specs.Prelude.{◌≡◌, ◌↔◌, ◌-ℤ◌, ◌<ℤ◌, ℤ, All, IsSortedByKey, true, ◌++◌, [], ◌∷◌, Contains, IfOk, IfSome, IsPermutation, IsSorted, IsTrue, OnOk, if◌then◌else◌};
 ghost use Rattle.std.specs.List.{HoldsAt};
 ghost use Rattle.std.specs.List.Sorted.{IsStrictlySortedBy};
 ghost use Rattle.std.specs.Ordering.{int_cmp};
 ghost use Rattle.std.specs.declared.cmp.Ordering.TheVariants.{Equal};
+ghost use Rattle.calendar_values.specs.WallClock.{IsWallClock};
+ghost use Rattle.offset_times.specs.Local.{IsLocal};
 
+use calendar_values::SignedDuration;
+use offset_times::OffsetDateTime;
+use plain_times::PlainDateTime;
+use stamp_times::logs::Stamped;
 use stamp_times::{Timestamp, logs};
 use std::alloc::AllocError;
+use std::hash::Hash;
 use utc_times::UtcDateTime;
 
 /// Puts the entries into the order of their instants.
@@ -69,4 +76,74 @@ pub fn joined_has(log: &mut Vec<Timestamp>, at: Timestamp) -> Result<bool, Alloc
 {
     logs::put_in_order(log)?;
     Ok(logs::find(log, at).is_some())
+}
+
+/// Takes the entries of another log in.
+pub fn take_in(log: &mut Vec<Timestamp>, other: &[Timestamp]) -> Result<(), AllocError>
+    ensures in_order { OnOk result (IsStrictlySortedBy int_cmp log.new.items) }
+    ensures taken_in { OnOk result ((entry : ℤ) →
+        Contains other.now entry → Contains log.new.items entry) }
+    ensures kept { (entry : ℤ) → Contains log.old.items entry → Contains log.new.items entry }
+{
+    logs::merge(log, other)
+}
+
+/// Whether an instant is after every entry of a log in order.
+pub fn is_news(log: &[Timestamp], at: Timestamp) -> bool
+    requires { IsSorted int_cmp log.now }
+    ensures { IsTrue result → All (λ entry. entry <ℤ at) log.now }
+{
+    logs::last(log).is_none_or(|last| last < at)
+}
+
+/// How long it is from the earliest of the entries to the latest, in whatever order they stand.
+pub fn span(entries: &[Timestamp]) -> Option<SignedDuration>
+    ensures { IfSome result (λ span. (first : ℤ) × (last : ℤ) × Contains entries.now first ×
+        Contains entries.now last × (span ≡ last -ℤ first)) }
+{
+    let first = logs::earliest(entries)?;
+    let last = logs::latest(entries)?;
+    Some(last - first)
+}
+
+/// A line of a log, with the instant of its stamp.
+#[derive(Clone, Copy)]
+pub struct Entry {
+    pub at: Timestamp,
+    pub line: u32,
+}
+
+impl Stamped for Entry {
+    ghost stamp = { λ entry. entry.at };
+
+    fn stamp(&self) -> Timestamp {
+        self.at
+    }
+}
+
+/// Puts lines into the order of their stamps; lines of one instant stay as they stood.
+pub fn sort_lines(lines: &mut Vec<Entry>) -> Result<(), AllocError>
+    ensures same_lines { IsPermutation lines.old.items lines.new.items }
+    ensures in_order { OnOk result (IsSortedByKey (λ line. line.at) int_cmp lines.new.items) }
+{
+    logs::sort_by_stamp(lines)
+}
+
+/// Entries under one key of a hash table that compares what its hasher was fed are one instant, in whatever
+/// type they came.
+pub fn one_key_is_one_instant()
+    ensures stamps { (x y : _) → IsWallClock x → IsWallClock y →
+        ⟦<Timestamp as Hash>⟧.hash_input x ≡ ⟦<Timestamp as Hash>⟧.hash_input y → x ≡ y }
+    ensures utc { (x y : _) → IsWallClock x → IsWallClock y →
+        ⟦<UtcDateTime as Hash>⟧.hash_input x ≡ ⟦<UtcDateTime as Hash>⟧.hash_input y → x ≡ y }
+    ensures plain { (x y : _) → IsWallClock x → IsWallClock y →
+        ⟦<PlainDateTime as Hash>⟧.hash_input x ≡ ⟦<PlainDateTime as Hash>⟧.hash_input y → x ≡ y }
+    ensures local { (x y : _) → IsLocal x → IsLocal y →
+        ⟦<OffsetDateTime as Hash>⟧.hash_input x ≡ ⟦<OffsetDateTime as Hash>⟧.hash_input y →
+        ⟦<OffsetDateTime as PartialEq>⟧.eq x y ≡ true }
+{
+    stamp_times::laws::hashed_by_instant();
+    utc_times::laws::hashed_by_instant();
+    plain_times::laws::hashed_by_wall_clock();
+    offset_times::laws::compared_by_instant();
 }

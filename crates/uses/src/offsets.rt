@@ -1,9 +1,10 @@
 //! Events that were noted at offsets of their own: their instants tell which came first.
 ghost use Rattle.std.specs.Prelude.{◌≡◌, ◌↔◌, ◌-ℤ◌, ◌≤ℤ◌, ◌<ℤ◌, IfSome, IsTrue};
-ghost use Rattle.offset_times.specs.Local.{instant_of};
+ghost use Rattle.offset_times.specs.Local.{instant_of, local_at, offset_nanos};
 
-use calendar_values::SignedDuration;
+use calendar_values::{SignedDuration, UtcOffset};
 use offset_times::OffsetDateTime;
+use stamp_times::{Moment, Timestamp};
 
 /// Whether the first came before the second, wherever they were noted.
 pub fn is_before(first: OffsetDateTime, second: OffsetDateTime) -> bool
@@ -40,6 +41,30 @@ pub fn shown_like(first: OffsetDateTime, second: OffsetDateTime) -> Option<Offse
     ensures instant { IfSome result (λ shown. instant_of shown ≡ instant_of second) }
 {
     second.checked_to_offset(first.offset())
+}
+
+/// How many seconds clocks at the one offset are ahead of those at the other.
+#[tactic(auto, using(calendar_values::specs::Constants::constants, calendar_values::specs::OffsetPartLemmas::offsets_apart))]
+pub fn ahead(there: UtcOffset, here: UtcOffset) -> i32
+    ensures { result ≡ there -ℤ here }
+{
+    there.whole_seconds() - here.whole_seconds()
+}
+
+/// What clocks here and there show at an instant: the one is as far ahead as the offsets are apart. None where
+/// one of them shows no date of the range.
+#[tactic(auto, using(calendar_values::specs::Constants::constants, offset_times::specs::InstantLemmas::instants, offset_times::specs::InstantLemmas::two_offsets))]
+pub fn shown_in_both(
+    at: Timestamp,
+    here: UtcOffset,
+    there: UtcOffset,
+) -> Option<(OffsetDateTime, OffsetDateTime)>
+    ensures here { IfSome result (λ both. both.0 ≡ local_at at here) }
+    ensures there { IfSome result (λ both. both.1 ≡ local_at at there) }
+    ensures apart { IfSome result (λ both.
+        both.1.wall -ℤ both.0.wall ≡ offset_nanos (there -ℤ here)) }
+{
+    Some((at.at_offset(here)?, at.at_offset(there)?))
 }
 
 /// The first, put where the second is, by the time from the one to the other. None where clocks show no date of

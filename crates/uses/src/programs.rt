@@ -1,4 +1,5 @@
 //! What small programs do.
+use crate::exchange::answer;
 use calendar_values::SignedDuration;
 use std::io;
 use utc_times::UtcDateTime;
@@ -10,6 +11,14 @@ pub fn print_tomorrow(rt: HostRuntime) -> io::Result<()> {
         Some(tomorrow) => println!(rt; "{tomorrow}"),
         None => println!(rt; "past the last date"),
     }
+}
+
+/// Answers each line of standard input: its Unix seconds, or why the stamp is refused.
+pub fn answer_lines(rt: HostRuntime) -> io::Result<()> {
+    for line in rt.lines(rt.alloc()) {
+        println!(rt; "{}", answer(line?.as_bytes()))?;
+    }
+    Ok(())
 }
 
 /// Prints when a reminder is due.

@@ -1,13 +1,16 @@
 //! Conversions and calls that come as lists.
-ghost use Rattle.std.specs.Prelude.{◌≡◌, ◌≤◌, ◌++◌, IfOk, IfSome, length, vec_len};
+ghost use Rattle.std.specs.Prelude.{◌≡◌, ◌≤◌, ◌+ℤ◌, ◌++◌, pos, IfOk, IfSome, length, vec_len};
+ghost use Rattle.calendar_values.specs.Clock.{nanos_per_day};
+ghost use Rattle.calendar_values.specs.WallClock.{IsWallClock};
 ghost use Rattle.offset_times.specs.Local.{instant_of};
 ghost use Rattle.stamp_times.specs.Counter.{last_instant};
 ghost use Rattle.stamp_times.specs.Travel.{held_instant, held_after};
 
-use calendar_values::UtcOffset;
+use calendar_values::{SignedDuration, UtcOffset};
 use offset_times::OffsetDateTime;
-use stamp_times::{Call, Held, Reply, Step, Timestamp, chain, run};
+use stamp_times::{Call, Held, Reply, Shift, Step, Timestamp, chain, run};
 use std::alloc::{AllocError, Global};
+use utc_times::UtcDateTime;
 
 /// What the steps give, or what was held where they stopped: the same instant.
 pub fn converted(start: Held, steps: &[Step]) -> Held
@@ -61,6 +64,27 @@ pub fn led_by_both(
     let (_, between) = run(alloc, start, first)?;
     let (_, end) = run(alloc, between, rest)?;
     Ok(end)
+}
+
+/// Where a day forward and a day back lead: to where they began.
+#[tactic(auto, using(plain_times::specs::SumLemmas::known_calls))]
+pub fn day_and_back(alloc: Global, at: Timestamp) -> Result<Timestamp, AllocError>
+    requires { IsWallClock (at +ℤ pos nanos_per_day) }
+    ensures { IfOk result (λ end. end ≡ at) }
+{
+    let day = SignedDuration::days(1);
+    let there = Call::Shift(Shift::CheckedAdd(day));
+    let back = Call::Shift(Shift::CheckedSub(day));
+    let (_, end) = run(alloc, at, &[there, back])?;
+    Ok(end)
+}
+
+/// By way of a timestamp to UTC again: neither step can be refused.
+#[tactic(auto, using(plain_times::specs::SumLemmas::known_calls))]
+pub fn by_way_of_stamp(at: UtcDateTime) -> Held
+    ensures { result ≡ Held.Utc at }
+{
+    chain(Held::Utc(at), &[Step::ToStamp, Step::ToUtc]).unwrap()
 }
 
 /// What steps and then others lead to, where all of them can be made.

@@ -1,8 +1,13 @@
 //! Reports by the hour.
-ghost use Rattle.std.specs.Prelude.{◌≡◌};
-ghost use Rattle.calendar_values.specs.Clock.{nanos_per_hour};
+ghost use Rattle.std.specs.Prelude.{◌≡◌, ◌+ℤ◌, ◌≤ℤ◌, ◌<ℤ◌, pos, IfSome};
+ghost use Rattle.calendar_values.specs.Clock.{nanos_per_hour, minute_of, second_of, nanosecond_of};
+ghost use Rattle.calendar_values.specs.Clock as clocks;
+ghost use Rattle.calendar_values.specs.WallClock.{wall_day, wall_time};
+ghost use Rattle.offset_times.specs.Local.{instant_of};
 ghost use Rattle.plain_times.specs.Truncations.{wall_multiple_below};
 
+use calendar_values::SignedDuration;
+use offset_times::OffsetDateTime;
 use utc_times::UtcDateTime;
 
 /// The hour that an instant is reported under; that of such an hour is the hour itself.
@@ -12,4 +17,27 @@ pub fn hour_of(at: UtcDateTime) -> UtcDateTime
 {
     utc_times::laws::truncations_round_down_once();
     at.truncate_to_hour()
+}
+
+/// The hour after the one that an instant is reported under. None past the range.
+#[tactic(auto, using(calendar_values::specs::Constants::constants, plain_times::specs::TruncationLemmas::multiples))]
+pub fn next_hour(at: UtcDateTime) -> Option<UtcDateTime>
+    ensures whole { IfSome result (λ next. wall_multiple_below nanos_per_hour next ≡ next) }
+    ensures later { IfSome result (λ next. at <ℤ next) }
+    ensures soon { IfSome result (λ next. next ≤ℤ (at +ℤ pos nanos_per_hour)) }
+{
+    Some(at.truncate_to_hour().checked_add(SignedDuration::hours(1))?)
+}
+
+/// The hour that a sale is reported under where it was made: on the same date, in the same hour, at its first nanosecond.
+pub fn hour_there(sale: OffsetDateTime) -> OffsetDateTime
+    ensures date { wall_day result.wall ≡ wall_day sale.wall }
+    ensures hour { clocks.hour_of (wall_time result.wall) ≡ clocks.hour_of (wall_time sale.wall) }
+    ensures minute { minute_of (wall_time result.wall) ≡ 0 }
+    ensures second { second_of (wall_time result.wall) ≡ 0 }
+    ensures nanosecond { nanosecond_of (wall_time result.wall) ≡ 0 }
+    ensures not_after { instant_of result ≤ℤ instant_of sale }
+    ensures within { instant_of sale <ℤ (instant_of result +ℤ pos nanos_per_hour) }
+{
+    sale.truncate_to_hour()
 }

@@ -1,0 +1,31 @@
+//! Days that are exchanged as texts of RFC 3339, and records of a fixed size.
+ghost use Rattle.std.specs.Prelude.{◌≡◌, ◌≤◌, ℕ, SomeIff, IfSome, length};
+ghost use Rattle.rfc3339.specs.FullDates.{IsFullDate, HasFullDate, full_date_meaning};
+
+use calendar_values::{Date, Text};
+use rfc3339::length_laws::texts_in_utc_have_thirty_bytes;
+use rfc3339::{Rfc3339, TextRefusal, date_from_rfc3339, date_to_rfc3339};
+use utc_times::UtcDateTime;
+
+/// The day that the receiver reads of one that is sent: it.
+pub fn received_day(sent: Date) -> Option<Date>
+    ensures { SomeIff result (HasFullDate sent) sent }
+{
+    date_from_rfc3339(date_to_rfc3339(sent)?.as_bytes()).ok()
+}
+
+/// The day of a form's field.
+pub fn day_of_field(field: &[u8]) -> Result<Date, TextRefusal>
+    ensures { (year month day : ℕ) → IsFullDate field.now year month day →
+        result ≡ full_date_meaning year month day }
+{
+    date_from_rfc3339(field)
+}
+
+/// The text of an instant for a column of 30 bytes.
+pub fn column(at: UtcDateTime) -> Option<Text>
+    ensures { IfSome result (λ text. length text ≤ 30) }
+{
+    texts_in_utc_have_thirty_bytes();
+    at.to_rfc3339()
+}

@@ -1,0 +1,89 @@
+//! Days that come each month or each year: a month that is too short has its last day in their place.
+#![tactic(auto, using(calendar_values::specs::Constants::constants, plain_times::specs::MonthLemmas::month_days))]
+
+ghost use Rattle.std.specs.Prelude.{◌≡◌, ◌≤◌, ◌+ℤ◌, ◌-ℤ◌, pos, min, IfOk, IfSome, SomeIff, neg_ℤ, ◌≤ℤ◌};
+ghost use Rattle.calendar_values.specs.Calendar.{days_in_month, is_leap_year, year_of, month_of, day_of_month_of};
+ghost use Rattle.calendar_values.specs.Month.{month_number};
+ghost use Rattle.calendar_values.specs.Range.{IsYear};
+ghost use Rattle.plain_times.specs.Months.{month_index};
+ghost use Rattle.uses.specs.Months as months;
+
+use crate::invoices::{day_or_last, last_day_of_month};
+use calendar_values::{ComponentRange, Date, Month, days_in_month};
+
+/// The day on which a contract is billed in a month. Refused `year` outside the range.
+pub fn billing_day(year: i32, month: Month, day: u8) -> Result<Date, ComponentRange>
+    requires { 1 ≤ day }
+    ensures year { IfOk result (λ due. year_of due ≡ year) }
+    ensures month { IfOk result (λ due. month_of due ≡ month_number month) }
+    ensures day { IfOk result (λ due. day_of_month_of due ≡
+        min day (days_in_month (is_leap_year year) (month_number month))) }
+{
+    day_or_last(year, month, day)
+}
+
+/// The year after that of the date.
+pub fn year_after(date: Date) -> i32
+    ensures { result ≡ year_of date +ℤ pos 1 }
+{
+    date.year() + 1
+}
+
+/// The same day of the next year; for 29 February its 28th where that year has none. None past the range.
+pub fn a_year_later(date: Date) -> Option<Date>
+    ensures value { let y = year_of date +ℤ pos 1 in
+        SomeIff result (IsYear y) (months.day_or_last y (month_of date) (day_of_month_of date)) }
+    ensures year { IfSome result (λ later. year_of later ≡ year_of date +ℤ pos 1) }
+    ensures month { IfSome result (λ later. month_of later ≡ month_of date) }
+{
+    day_or_last(year_after(date), date.month(), date.day()).ok()
+}
+
+/// The first day of the next month. None in the last month of the range.
+#[tactic(auto, using(calendar_values::specs::Constants::constants, plain_times::specs::MonthLemmas::next_months))]
+pub fn next_month(date: Date) -> Option<Date>
+    ensures month { IfSome result (λ first. month_index first ≡ month_index date +ℤ pos 1) }
+    ensures first { IfSome result (λ first. day_of_month_of first ≡ 1) }
+{
+    last_day_of_month(date).next_day()
+}
+
+/// The day of the month that a date is in, or the month's last day where it is shorter.
+pub fn day_in_month_of(date: Date, day: u8) -> Date
+    requires { 1 ≤ day }
+    ensures year { year_of result ≡ year_of date }
+    ensures month { month_of result ≡ month_of date }
+    ensures day { day_of_month_of result ≡
+        min day (days_in_month (is_leap_year (year_of date)) (month_of date)) }
+{
+    date.replace_day(day.min(days_in_month(date.year(), date.month())))
+        .unwrap()
+}
+
+/// The same day of the next month, or its last day where it is shorter. None in the last month of the range.
+pub fn a_month_later(date: Date) -> Option<Date>
+    ensures month { IfSome result (λ later. month_index later ≡ month_index date +ℤ pos 1) }
+    ensures day { IfSome result (λ later. day_of_month_of later ≡ min (day_of_month_of date)
+        (days_in_month (is_leap_year (year_of later)) (month_of later))) }
+{
+    let first = next_month(date)?;
+    Some(day_in_month_of(first, date.day()))
+}
+
+/// The number of the month of a date, counted from January of the year 0.
+#[tactic(auto, using(plain_times::specs::MonthLemmas::month_days, calendar_values::specs::SignedArith::signed_casts))]
+pub fn month_number_from_year_0(date: Date) -> i32
+    ensures value { result ≡ month_index date }
+    ensures not_below { neg_ℤ (pos 13_000_000) ≤ℤ result }
+    ensures not_above { result ≤ℤ pos 13_000_000 }
+{
+    date.year() * 12 + i32::from(u8::from(date.month())) - 1
+}
+
+/// How many months the second date is after the first, whatever the days are.
+#[tactic(auto, using(calendar_values::specs::SignedArith::signed_casts))]
+pub fn months_between(first: Date, second: Date) -> i32
+    ensures { result ≡ month_index second -ℤ month_index first }
+{
+    month_number_from_year_0(second) - month_number_from_year_0(first)
+}
