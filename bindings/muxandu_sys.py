@@ -3,14 +3,14 @@
 Made by tools/bindings from crates/muxandu_c/src. Do not edit.
 
 What a caller must see to, since nothing checks it:
-- each pointer is not NULL, also one to no items, and is aligned for what it points to;
+- each pointer is not NULL, but one to items whose count is 0, and is aligned for what it points to;
 - a pointer to items stands for as many as the count after it says, of at most PTRDIFF_MAX bytes together;
 - what a pointer that is not const points to is reached in no other way during the call: it is no part of what
   another pointer points to, and no other thread reads or writes it. What a const pointer points to is not written
   meanwhile;
-- the declarations here are those of the archive that is linked.
+- the library is not older than these declarations: muxandu_version() is at least MUXANDU_VERSION.
 Any number may stand in any field: each call tests what it reads. Structs go in by value, so that the result may be
-written over one of them, as in muxandu_civil_to_offset(at, 0, &at). A struct has bytes between its fields, or after
+written over one of them, as in muxandu_date_time_to_offset(at, 0, &at). A struct has bytes between its fields, or after
 them: compare fields, not bytes.
 
 A call keeps nothing, shares nothing, takes no memory, waits for nothing and ends: it may be made from any thread, at
@@ -19,6 +19,9 @@ the same time as others, from a signal handler and after fork.
 A call that returns a status returns 0, MUXANDU_OK, where it has written its result, and else the number of what it
 refuses, whose name comes after MUXANDU_REFUSED_; then what `out` points to is as it was. A call that returns a
 MuxanduBatch has written as many items as it counts, and what lies behind them in `out` is as it was.
+
+What stays, as long as the library is libmuxandu.so.0: names, numbers, structs, the parameters of calls and what they
+give. A later version adds calls, constants and statuses, whose numbers come after those that there are.
 """
 
 import ctypes
@@ -27,17 +30,24 @@ import ctypes
 OK = 0
 
 
+def laid_out(structure, size, **places):
+    """Stops where a structure has not the size, or a field of it not the place, that the library has."""
+    found = {name: getattr(structure, name).offset for name in places}
+    if (ctypes.sizeof(structure), found) != (size, places):
+        raise ImportError(f"{structure.__name__} is not laid out as the library has it: {found}")
+
+
 class Refused:
-    """Why a call refuses. Its status is this number, and 0 where it refuses nothing. Parts are tested from the first
-    to the last, and the first that is refused is named."""
+    """Why a call refuses. Its status is this number, and 0 where it refuses nothing. Each call says in which order
+    it tests what it takes, and names the first that is refused."""
 
     # A year before -999999 or after 999999.
     YEAR = 1
     # A month that is not 1 to 12.
     MONTH = 2
-    # A day that is not 1 to 31; in a text of RFC 3339, also one that its month does not have.
+    # A day that is not 1 to 31.
     DAY = 3
-    # A day of 1 to 31 that the month does not have in this year.
+    # A day of 1 to 31 that its month does not have in its year.
     DAY_OF_MONTH = 4
     # A day of the year that is not 1 to 366.
     ORDINAL = 5
@@ -88,8 +98,8 @@ class Refused:
 REFUSALS = {
     1: ("YEAR", "A year before -999999 or after 999999."),
     2: ("MONTH", "A month that is not 1 to 12."),
-    3: ("DAY", "A day that is not 1 to 31; in a text of RFC 3339, also one that its month does not have."),
-    4: ("DAY_OF_MONTH", "A day of 1 to 31 that the month does not have in this year."),
+    3: ("DAY", "A day that is not 1 to 31."),
+    4: ("DAY_OF_MONTH", "A day of 1 to 31 that its month does not have in its year."),
     5: ("ORDINAL", "A day of the year that is not 1 to 366."),
     6: ("ORDINAL_OF_YEAR", "Day 366 of a year that has 365."),
     7: ("WEEK", "An ISO week that is not 1 to 53."),
@@ -130,8 +140,68 @@ class Unit:
     # A microsecond.
     MICROSECOND = 6
 
+
+class Part:
+    """A part of a date-time. A call takes its number."""
+
+    # The year, -999999 to 999999.
+    YEAR = 1
+    # The month, 1 to 12.
+    MONTH = 2
+    # The day of the month, 1 to 31.
+    DAY = 3
+    # The day of the year, 1 to 366.
+    ORDINAL = 4
+    # The hour, 0 to 23.
+    HOUR = 5
+    # The minute, 0 to 59.
+    MINUTE = 6
+    # The second, 0 to 59.
+    SECOND = 7
+    # The nanosecond of the second, 0 to 999999999.
+    NANOSECOND = 8
+
+# The version of these declarations, as ten thousand times the first number, a hundred times the second, and the third.
+VERSION = 100
+
+# The first year.
+YEAR_MIN = -999999
+
+# The last year.
+YEAR_MAX = 999999
+
+# The first day number, of 1 January of the first year.
+DAY_MIN = -365961662
+
+# The last day number, of 31 December of the last year.
+DAY_MAX = 364522971
+
+# The first Unix second of a timestamp, of the first day at 0:00:00.
+SECONDS_MIN = -31619087596800
+
+# The last Unix second of a timestamp, of the last day at 23:59:59.
+SECONDS_MAX = 31494784780799
+
+# The first millisecond of a timestamp.
+MILLISECONDS_MIN = -31619087596800000
+
+# The last millisecond of a timestamp.
+MILLISECONDS_MAX = 31494784780799999
+
+# The last nanosecond of a second.
+NANOSECOND_MAX = 999999999
+
+# The lowest offset, in seconds.
+OFFSET_MIN = -93599
+
+# The highest offset, in seconds.
+OFFSET_MAX = 93599
+
 # The bytes of the longest text that a call writes: a buffer of so many is long enough.
 TEXT_ROOM = 42
+
+# The bytes of the longest text that muxandu_status_text writes: a buffer of so many is long enough.
+STATUS_ROOM = 128
 
 
 class MuxanduTimestamp(ctypes.Structure):
@@ -145,9 +215,7 @@ class MuxanduTimestamp(ctypes.Structure):
     ]
 
 
-assert ctypes.sizeof(MuxanduTimestamp) == 16
-assert MuxanduTimestamp.seconds.offset == 0
-assert MuxanduTimestamp.nanoseconds.offset == 8
+laid_out(MuxanduTimestamp, 16, seconds=0, nanoseconds=8)
 
 
 class MuxanduDuration(ctypes.Structure):
@@ -163,12 +231,10 @@ class MuxanduDuration(ctypes.Structure):
     ]
 
 
-assert ctypes.sizeof(MuxanduDuration) == 16
-assert MuxanduDuration.seconds.offset == 0
-assert MuxanduDuration.nanoseconds.offset == 8
+laid_out(MuxanduDuration, 16, seconds=0, nanoseconds=8)
 
 
-class MuxanduCivil(ctypes.Structure):
+class MuxanduDateTime(ctypes.Structure):
     """What clocks at an offset from UTC show, in the proleptic Gregorian calendar."""
 
     _fields_ = [
@@ -191,15 +257,7 @@ class MuxanduCivil(ctypes.Structure):
     ]
 
 
-assert ctypes.sizeof(MuxanduCivil) == 20
-assert MuxanduCivil.year.offset == 0
-assert MuxanduCivil.month.offset == 4
-assert MuxanduCivil.day.offset == 5
-assert MuxanduCivil.hour.offset == 6
-assert MuxanduCivil.minute.offset == 7
-assert MuxanduCivil.second.offset == 8
-assert MuxanduCivil.nanosecond.offset == 12
-assert MuxanduCivil.offset_seconds.offset == 16
+laid_out(MuxanduDateTime, 20, year=0, month=4, day=5, hour=6, minute=7, second=8, nanosecond=12, offset_seconds=16)
 
 
 class MuxanduDate(ctypes.Structure):
@@ -215,10 +273,7 @@ class MuxanduDate(ctypes.Structure):
     ]
 
 
-assert ctypes.sizeof(MuxanduDate) == 8
-assert MuxanduDate.year.offset == 0
-assert MuxanduDate.month.offset == 4
-assert MuxanduDate.day.offset == 5
+laid_out(MuxanduDate, 8, year=0, month=4, day=5)
 
 
 class MuxanduOrdinalDate(ctypes.Structure):
@@ -232,9 +287,7 @@ class MuxanduOrdinalDate(ctypes.Structure):
     ]
 
 
-assert ctypes.sizeof(MuxanduOrdinalDate) == 8
-assert MuxanduOrdinalDate.year.offset == 0
-assert MuxanduOrdinalDate.ordinal.offset == 4
+laid_out(MuxanduOrdinalDate, 8, year=0, ordinal=4)
 
 
 class MuxanduWeekDate(ctypes.Structure):
@@ -251,10 +304,7 @@ class MuxanduWeekDate(ctypes.Structure):
     ]
 
 
-assert ctypes.sizeof(MuxanduWeekDate) == 8
-assert MuxanduWeekDate.year.offset == 0
-assert MuxanduWeekDate.week.offset == 4
-assert MuxanduWeekDate.weekday.offset == 5
+laid_out(MuxanduWeekDate, 8, year=0, week=4, weekday=5)
 
 
 class MuxanduSpan(ctypes.Structure):
@@ -268,9 +318,7 @@ class MuxanduSpan(ctypes.Structure):
     ]
 
 
-assert ctypes.sizeof(MuxanduSpan) == 16
-assert MuxanduSpan.start.offset == 0
-assert MuxanduSpan.length.offset == 8
+laid_out(MuxanduSpan, 16, start=0, length=8)
 
 
 class MuxanduBatch(ctypes.Structure):
@@ -284,13 +332,68 @@ class MuxanduBatch(ctypes.Structure):
     ]
 
 
-assert ctypes.sizeof(MuxanduBatch) == 16
-assert MuxanduBatch.count.offset == 0
-assert MuxanduBatch.status.offset == 8
+laid_out(MuxanduBatch, 16, count=0, status=8)
+
+
+class MuxanduOffset(ctypes.Structure):
+    """An offset from UTC as hours, minutes and seconds, all of one sign."""
+
+    _fields_ = [
+        # The hours, -25 to 25.
+        ("hours", ctypes.c_int8),
+        # The minutes, -59 to 59.
+        ("minutes", ctypes.c_int8),
+        # The seconds, -59 to 59.
+        ("seconds", ctypes.c_int8),
+    ]
+
+
+laid_out(MuxanduOffset, 3, hours=0, minutes=1, seconds=2)
+
+
+class MuxanduDateReads(ctypes.Structure):
+    """All that a date shows."""
+
+    _fields_ = [
+        # The day number, 0 on 1970-01-01.
+        ("day", ctypes.c_int32),
+        # The Julian day, 2440588 on 1970-01-01.
+        ("julian_day", ctypes.c_int32),
+        # The year that the ISO week belongs to, which is that of its Thursday.
+        ("iso_year", ctypes.c_int32),
+        # The day of the year, 1 to 366.
+        ("ordinal", ctypes.c_uint16),
+        # The ISO week, 1 to 53.
+        ("iso_week", ctypes.c_uint8),
+        # The day of the week, 0 for Monday to 6 for Sunday.
+        ("weekday", ctypes.c_uint8),
+        # How many Sundays of the year lie on or before the date, 0 to 53.
+        ("sunday_based_week", ctypes.c_uint8),
+        # How many Mondays of the year lie on or before the date, 0 to 53.
+        ("monday_based_week", ctypes.c_uint8),
+    ]
+
+
+laid_out(MuxanduDateReads, 20, day=0, julian_day=4, iso_year=8, ordinal=12, iso_week=14, weekday=15, sunday_based_week=16, monday_based_week=17)
 
 
 # The calls: what each takes, what it returns, and what it says. Items go as an address and their count.
 CALLS = {
+    "muxandu_version": (
+        [],
+        ctypes.c_uint32,
+        "The version of the library, a number as MUXANDU_VERSION. Where it is lower, the library has not all that is declared here.",
+    ),
+    "muxandu_status_name": (
+        [ctypes.c_uint32, ctypes.c_void_p, ctypes.c_size_t, ctypes.POINTER(ctypes.c_size_t)],
+        ctypes.c_uint32,
+        "Writes the name of a status, as `OK` or `DAY_OF_MONTH`, of at most 15 bytes, all ASCII and none 0, at the front of `buffer`, and its length to `size`. A number that is no status of this version has the name `UNKNOWN`. Refused BUFFER where the name is longer than `buffer`: then `size` says how long it is, and `buffer` is as it was.",
+    ),
+    "muxandu_status_text": (
+        [ctypes.c_uint32, ctypes.c_void_p, ctypes.c_size_t, ctypes.POINTER(ctypes.c_size_t)],
+        ctypes.c_uint32,
+        "Writes what a status says, a sentence of at most 128 bytes, as muxandu_status_name does.",
+    ),
     "muxandu_timestamp_check": (
         [MuxanduTimestamp],
         ctypes.c_uint32,
@@ -361,63 +464,63 @@ CALLS = {
         ctypes.c_uint32,
         "The nanoseconds from 1970-01-01 0:00 UTC. Refused as the timestamp, then RESULT where 64 bits do not hold them, as before 1677-09-21 and after 2262-04-11.",
     ),
-    "muxandu_civil_check": (
-        [MuxanduCivil],
+    "muxandu_date_time_check": (
+        [MuxanduDateTime],
         ctypes.c_uint32,
-        "Whether the parts make a civil date-time. Refused, as by each call that takes one, MONTH, YEAR, DAY, DAY_OF_MONTH, HOUR, MINUTE, SECOND, NANOSECOND or OFFSET_SECONDS, tested in this order. To replace a part, write it and ask this.",
+        "Whether the parts make a date-time. Refused, as by each call that takes one, MONTH, YEAR, DAY, DAY_OF_MONTH, HOUR, MINUTE, SECOND, NANOSECOND or OFFSET_SECONDS, tested in this order. To replace a part, write it and ask this.",
     ),
-    "muxandu_civil_from_timestamp": (
-        [MuxanduTimestamp, ctypes.c_int32, ctypes.POINTER(MuxanduCivil)],
+    "muxandu_date_time_from_timestamp": (
+        [MuxanduTimestamp, ctypes.c_int32, ctypes.POINTER(MuxanduDateTime)],
         ctypes.c_uint32,
         "What clocks at an offset, in seconds, show at an instant. Refused as the timestamp, then OFFSET_SECONDS, then RESULT where the clocks show a year outside the range.",
     ),
-    "muxandu_timestamp_from_civil": (
-        [MuxanduCivil, ctypes.POINTER(MuxanduTimestamp)],
+    "muxandu_timestamp_from_date_time": (
+        [MuxanduDateTime, ctypes.POINTER(MuxanduTimestamp)],
         ctypes.c_uint32,
         "The instant at which clocks at its offset show the date-time. Refused as the date-time, then RESULT outside the range of timestamps.",
     ),
-    "muxandu_civil_to_offset": (
-        [MuxanduCivil, ctypes.c_int32, ctypes.POINTER(MuxanduCivil)],
+    "muxandu_date_time_to_offset": (
+        [MuxanduDateTime, ctypes.c_int32, ctypes.POINTER(MuxanduDateTime)],
         ctypes.c_uint32,
         "What clocks at another offset, in seconds, show at the same instant. Refused as the date-time, then OFFSET_SECONDS, then RESULT where the clocks there show a year outside the range.",
     ),
-    "muxandu_civil_add": (
-        [MuxanduCivil, MuxanduDuration, ctypes.POINTER(MuxanduCivil)],
+    "muxandu_date_time_add": (
+        [MuxanduDateTime, MuxanduDuration, ctypes.POINTER(MuxanduDateTime)],
         ctypes.c_uint32,
         "The date-time so much later at the same offset, or earlier for a negative duration. Refused as the date-time, then DURATION, then RESULT where the year is outside the range.",
     ),
-    "muxandu_civil_subtract": (
-        [MuxanduCivil, MuxanduDuration, ctypes.POINTER(MuxanduCivil)],
+    "muxandu_date_time_subtract": (
+        [MuxanduDateTime, MuxanduDuration, ctypes.POINTER(MuxanduDateTime)],
         ctypes.c_uint32,
         "The date-time so much earlier at the same offset, or later for a negative duration. Refused as the date-time, then DURATION, then RESULT where the year is outside the range.",
     ),
-    "muxandu_civil_saturating_add": (
-        [MuxanduCivil, MuxanduDuration, ctypes.POINTER(MuxanduCivil)],
+    "muxandu_date_time_saturating_add": (
+        [MuxanduDateTime, MuxanduDuration, ctypes.POINTER(MuxanduDateTime)],
         ctypes.c_uint32,
         "The date-time so much later at the same offset, or the end of the range that it is beyond. Refused as the date-time, then DURATION.",
     ),
-    "muxandu_civil_saturating_subtract": (
-        [MuxanduCivil, MuxanduDuration, ctypes.POINTER(MuxanduCivil)],
+    "muxandu_date_time_saturating_subtract": (
+        [MuxanduDateTime, MuxanduDuration, ctypes.POINTER(MuxanduDateTime)],
         ctypes.c_uint32,
         "The date-time so much earlier at the same offset, or the end of the range that it is beyond. Refused as the date-time, then DURATION.",
     ),
-    "muxandu_civil_difference": (
-        [MuxanduCivil, MuxanduCivil, ctypes.POINTER(MuxanduDuration)],
+    "muxandu_date_time_difference": (
+        [MuxanduDateTime, MuxanduDateTime, ctypes.POINTER(MuxanduDuration)],
         ctypes.c_uint32,
         "The duration from the instant of `earlier` to that of `later`, negative where `later` comes first. Refused as `later`, then as `earlier`.",
     ),
-    "muxandu_civil_truncate": (
-        [MuxanduCivil, ctypes.c_uint32, ctypes.POINTER(MuxanduCivil)],
+    "muxandu_date_time_truncate": (
+        [MuxanduDateTime, ctypes.c_uint32, ctypes.POINTER(MuxanduDateTime)],
         ctypes.c_uint32,
         "The date-time rounded down to a unit, as its clocks show it. Refused as the date-time, then UNIT.",
     ),
-    "muxandu_civil_compare": (
-        [MuxanduCivil, MuxanduCivil, ctypes.POINTER(ctypes.c_int32)],
+    "muxandu_date_time_compare": (
+        [MuxanduDateTime, MuxanduDateTime, ctypes.POINTER(ctypes.c_int32)],
         ctypes.c_uint32,
         "Which date-time comes first, by their instants: -1 if `first` does, 0 if both are one instant, 1 if `second` does. Refused as `first`, then as `second`.",
     ),
-    "muxandu_civil_day": (
-        [MuxanduCivil, ctypes.POINTER(ctypes.c_int32)],
+    "muxandu_date_time_day": (
+        [MuxanduDateTime, ctypes.POINTER(ctypes.c_int32)],
         ctypes.c_uint32,
         "The day number that the clocks show, 0 on 1970-01-01. Refused as the date-time.",
     ),
@@ -461,15 +564,15 @@ CALLS = {
         ctypes.c_uint32,
         "How many days a month of a year has, 28 to 31. Refused MONTH, then YEAR.",
     ),
-    "muxandu_civils_from_seconds": (
+    "muxandu_date_times_from_seconds": (
         [ctypes.c_void_p, ctypes.c_size_t, ctypes.c_int32, ctypes.c_void_p, ctypes.c_size_t],
         MuxanduBatch,
-        "What clocks at an offset, in seconds, show at each Unix second, up to the first that muxandu_civil_from_timestamp refuses. Refused BUFFER, with nothing written, where `out` has fewer items than `seconds`.",
+        "What clocks at an offset, in seconds, show at each Unix second, up to the first that muxandu_date_time_from_timestamp refuses. Refused BUFFER, with nothing written, where `out` has fewer items than `seconds`.",
     ),
-    "muxandu_seconds_from_civils": (
+    "muxandu_seconds_from_date_times": (
         [ctypes.c_void_p, ctypes.c_size_t, ctypes.c_void_p, ctypes.c_size_t],
         MuxanduBatch,
-        "The Unix second of each date-time, rounded down, up to the first that muxandu_timestamp_from_civil refuses. Refused BUFFER, with nothing written, where `out` has fewer items than `civils`.",
+        "The Unix second of each date-time, rounded down, up to the first that muxandu_timestamp_from_date_time refuses. Refused BUFFER, with nothing written, where `out` has fewer items than `date_times`.",
     ),
     "muxandu_dates_from_days": (
         [ctypes.c_void_p, ctypes.c_size_t, ctypes.c_void_p, ctypes.c_size_t],
@@ -486,40 +589,135 @@ CALLS = {
         MuxanduBatch,
         "The instant of each text of RFC 3339, up to the first that muxandu_timestamp_from_rfc3339 refuses, or SPAN, whose span does not lie in the block `texts`. Refused BUFFER, with nothing written, where `out` has fewer items than `spans`.",
     ),
-    "muxandu_civil_to_rfc3339": (
-        [MuxanduCivil, ctypes.c_void_p, ctypes.c_size_t, ctypes.POINTER(ctypes.c_size_t)],
+    "muxandu_time_check": (
+        [ctypes.c_uint8, ctypes.c_uint8, ctypes.c_uint8, ctypes.c_uint32],
         ctypes.c_uint32,
-        "Writes the shortest text of RFC 3339 of a date-time, as `1985-04-12T23:20:50.52Z` or `1996-12-19T16:39:57-08:00`, of at most 35 bytes, as muxandu_civil_text does. Refused as the date-time, then NO_TEXT, then BUFFER.",
+        "Whether an hour, a minute, a second and a nanosecond of it make a time of day. Refused HOUR, MINUTE, SECOND or NANOSECOND, tested in this order.",
+    ),
+    "muxandu_date_add_days": (
+        [MuxanduDate, ctypes.c_int32, ctypes.POINTER(MuxanduDate)],
+        ctypes.c_uint32,
+        "The date so many days later, or earlier for a negative count. Refused as the date, then RESULT outside the range.",
+    ),
+    "muxandu_date_add_months": (
+        [MuxanduDate, ctypes.c_int32, ctypes.POINTER(MuxanduDate)],
+        ctypes.c_uint32,
+        "The same day of the month so many months later, or earlier for a negative count, or the month's last day where it is shorter. Refused as the date, then RESULT outside the range.",
+    ),
+    "muxandu_date_to_rfc3339": (
+        [MuxanduDate, ctypes.c_void_p, ctypes.c_size_t, ctypes.POINTER(ctypes.c_size_t)],
+        ctypes.c_uint32,
+        "Writes the text of a date, as RFC 3339 has a full date, `1985-04-12`, of 10 bytes, as muxandu_date_time_text does. Refused as the date, then NO_TEXT, then BUFFER.",
+    ),
+    "muxandu_date_from_rfc3339": (
+        [ctypes.c_void_p, ctypes.c_size_t, ctypes.POINTER(MuxanduDate)],
+        ctypes.c_uint32,
+        "Reads a date from a text of RFC 3339, with nothing before or after it, as `1985-04-12`. Refused SYNTAX where it has not that form, else MONTH, DAY or DAY_OF_MONTH, by the first from the left that is out of its range.",
+    ),
+    "muxandu_date_times_from_each_second": (
+        [ctypes.c_void_p, ctypes.c_size_t, ctypes.c_int32, ctypes.c_void_p, ctypes.c_size_t, ctypes.c_void_p, ctypes.c_size_t],
+        MuxanduBatch,
+        "What clocks at an offset, in seconds, show at each Unix second, and its status, as muxandu_date_time_from_timestamp has them: where an item is refused, what is in its place stays, and the next follows. `count` is how many were converted. Refused BUFFER, with nothing written, where `out` or `statuses` has fewer items than `seconds`.",
+    ),
+    "muxandu_seconds_from_each_date_time": (
+        [ctypes.c_void_p, ctypes.c_size_t, ctypes.c_void_p, ctypes.c_size_t, ctypes.c_void_p, ctypes.c_size_t],
+        MuxanduBatch,
+        "The Unix second of each date-time, rounded down, and its status, as muxandu_timestamp_from_date_time has them: where an item is refused, what is in its place stays, and the next follows. `count` is how many were converted. Refused BUFFER, with nothing written, where `out` or `statuses` has fewer items than `date_times`.",
+    ),
+    "muxandu_date_time_to_rfc3339": (
+        [MuxanduDateTime, ctypes.c_void_p, ctypes.c_size_t, ctypes.POINTER(ctypes.c_size_t)],
+        ctypes.c_uint32,
+        "Writes the shortest text of RFC 3339 of a date-time, as `1985-04-12T23:20:50.52Z` or `1996-12-19T16:39:57-08:00`, of at most 35 bytes, as muxandu_date_time_text does. Refused as the date-time, then NO_TEXT, then BUFFER.",
     ),
     "muxandu_timestamp_to_rfc3339": (
         [MuxanduTimestamp, ctypes.c_void_p, ctypes.c_size_t, ctypes.POINTER(ctypes.c_size_t)],
         ctypes.c_uint32,
-        "Writes the shortest text of RFC 3339 of an instant, in UTC, as `1985-04-12T23:20:50.52Z`, of at most 35 bytes, as muxandu_civil_text does. Refused as the timestamp, then NO_TEXT, then BUFFER.",
+        "Writes the shortest text of RFC 3339 of an instant, in UTC, as `1985-04-12T23:20:50.52Z`, of at most 35 bytes, as muxandu_date_time_text does. Refused as the timestamp, then NO_TEXT, then BUFFER.",
     ),
     "muxandu_timestamp_to_rfc3339_nanos": (
         [MuxanduTimestamp, ctypes.c_void_p, ctypes.c_size_t, ctypes.POINTER(ctypes.c_size_t)],
         ctypes.c_uint32,
-        "Writes the text of RFC 3339 of an instant, in UTC, always with nine digits of the fraction, as `1985-04-12T23:20:50.520000000Z`, of 30 bytes, as muxandu_civil_text does. Such texts are in the order of their instants, byte by byte. Refused as the timestamp, then NO_TEXT, then BUFFER.",
+        "Writes the text of RFC 3339 of an instant, in UTC, always with nine digits of the fraction, as `1985-04-12T23:20:50.520000000Z`, of 30 bytes, as muxandu_date_time_text does. Such texts are in the order of their instants, byte by byte. Refused as the timestamp, then NO_TEXT, then BUFFER.",
     ),
-    "muxandu_civil_from_rfc3339": (
-        [ctypes.c_void_p, ctypes.c_size_t, ctypes.POINTER(MuxanduCivil)],
+    "muxandu_date_time_from_rfc3339": (
+        [ctypes.c_void_p, ctypes.c_size_t, ctypes.POINTER(MuxanduDateTime)],
         ctypes.c_uint32,
-        "Reads a date-time and its offset from a text of RFC 3339, with nothing before or after it, as `1985-04-12T23:20:50.52Z` or `1996-12-19T16:39:57-08:00`. A `t` or a space can stand for the `T`, and `z` for the `Z`; digits past the ninth of the fraction are dropped; `-00:00` is the offset 0. Refused SYNTAX where it has not that form, else MONTH, DAY, HOUR, MINUTE, SECOND, OFFSET_HOUR or OFFSET_MINUTE, by the first from the left that is out of its range.",
+        "Reads a date-time and its offset from a text of RFC 3339, with nothing before or after it, as `1985-04-12T23:20:50.52Z` or `1996-12-19T16:39:57-08:00`. A `t` or a space can stand for the `T`, and `z` for the `Z`; digits past the ninth of the fraction are dropped; `-00:00` is the offset 0. Refused SYNTAX where it has not that form, else MONTH, DAY or DAY_OF_MONTH, HOUR, MINUTE, SECOND, OFFSET_HOUR or OFFSET_MINUTE, by the first from the left that is out of its range.",
     ),
     "muxandu_timestamp_from_rfc3339": (
         [ctypes.c_void_p, ctypes.c_size_t, ctypes.POINTER(MuxanduTimestamp)],
         ctypes.c_uint32,
-        "Reads the instant of a text of RFC 3339, as muxandu_civil_from_rfc3339 does, and with its refusals.",
+        "Reads the instant of a text of RFC 3339, as muxandu_date_time_from_rfc3339 does, and with its refusals.",
     ),
-    "muxandu_civil_text": (
-        [MuxanduCivil, ctypes.c_void_p, ctypes.c_size_t, ctypes.POINTER(ctypes.c_size_t)],
+    "muxandu_offset_from_parts": (
+        [MuxanduOffset, ctypes.POINTER(ctypes.c_int32)],
+        ctypes.c_uint32,
+        "The seconds of an offset of hours, minutes and seconds, of which the smaller take the sign of the hours, or of the minutes if the hours are 0. Refused OFFSET_HOUR where the hours are not -25 to 25, OFFSET_MINUTE where the minutes are not -59 to 59, then OFFSET_SECONDS where the seconds are not -59 to 59.",
+    ),
+    "muxandu_offset_to_parts": (
+        [ctypes.c_int32, ctypes.POINTER(MuxanduOffset)],
+        ctypes.c_uint32,
+        "The hours, the minutes and the seconds of an offset in seconds, all of one sign. Refused OFFSET_SECONDS.",
+    ),
+    "muxandu_date_reads": (
+        [MuxanduDate, ctypes.POINTER(MuxanduDateReads)],
+        ctypes.c_uint32,
+        "All that a date shows: its day number and Julian day, its day of the year and of the week, and its weeks by ISO 8601, by Sundays and by Mondays. Refused MONTH, YEAR, DAY or DAY_OF_MONTH, tested in this order.",
+    ),
+    "muxandu_date_from_julian_day": (
+        [ctypes.c_int32, ctypes.POINTER(MuxanduDate)],
+        ctypes.c_uint32,
+        "The date of a Julian day, which is 2440588 on 1970-01-01. Refused DAY_NUMBER where the range has no such day.",
+    ),
+    "muxandu_date_time_replace": (
+        [MuxanduDateTime, ctypes.c_uint32, ctypes.c_int32, ctypes.POINTER(MuxanduDateTime)],
+        ctypes.c_uint32,
+        "The date-time with one part replaced, and the others and the offset kept; a day of the year replaces the month and the day. Refused as the date-time, then UNIT where the number is no part's, then YEAR, MONTH, DAY, DAY_OF_MONTH, ORDINAL, ORDINAL_OF_YEAR, HOUR, MINUTE, SECOND or NANOSECOND.",
+    ),
+    "muxandu_timestamp_replace": (
+        [MuxanduTimestamp, ctypes.c_uint32, ctypes.c_int32, ctypes.POINTER(MuxanduTimestamp)],
+        ctypes.c_uint32,
+        "The instant with one part of its date or of its time of day in UTC replaced, and the others kept, as muxandu_date_time_replace does. Refused as the timestamp, then as that call refuses.",
+    ),
+    "muxandu_date_times_from_milliseconds": (
+        [ctypes.c_void_p, ctypes.c_size_t, ctypes.c_int32, ctypes.c_void_p, ctypes.c_size_t],
+        MuxanduBatch,
+        "What clocks at an offset, in seconds, show so many milliseconds from 1970-01-01 0:00 UTC, for each count, up to the first that muxandu_timestamp_from_milliseconds or muxandu_date_time_from_timestamp refuses. Refused BUFFER, with nothing written, where `out` has fewer items than `milliseconds`.",
+    ),
+    "muxandu_milliseconds_from_date_times": (
+        [ctypes.c_void_p, ctypes.c_size_t, ctypes.c_void_p, ctypes.c_size_t],
+        MuxanduBatch,
+        "The milliseconds from 1970-01-01 0:00 UTC of each date-time, rounded down, up to the first that muxandu_timestamp_from_date_time or muxandu_timestamp_to_milliseconds refuses. Refused BUFFER, with nothing written, where `out` has fewer items than `date_times`.",
+    ),
+    "muxandu_date_times_from_microseconds": (
+        [ctypes.c_void_p, ctypes.c_size_t, ctypes.c_int32, ctypes.c_void_p, ctypes.c_size_t],
+        MuxanduBatch,
+        "What clocks at an offset, in seconds, show so many microseconds from 1970-01-01 0:00 UTC, for each count, up to the first that muxandu_date_time_from_timestamp refuses. Refused BUFFER, with nothing written, where `out` has fewer items than `microseconds`.",
+    ),
+    "muxandu_microseconds_from_date_times": (
+        [ctypes.c_void_p, ctypes.c_size_t, ctypes.c_void_p, ctypes.c_size_t],
+        MuxanduBatch,
+        "The microseconds from 1970-01-01 0:00 UTC of each date-time, rounded down, up to the first that muxandu_timestamp_from_date_time or muxandu_timestamp_to_microseconds refuses. Refused BUFFER, with nothing written, where `out` has fewer items than `date_times`.",
+    ),
+    "muxandu_date_times_from_nanoseconds": (
+        [ctypes.c_void_p, ctypes.c_size_t, ctypes.c_int32, ctypes.c_void_p, ctypes.c_size_t],
+        MuxanduBatch,
+        "What clocks at an offset, in seconds, show so many nanoseconds from 1970-01-01 0:00 UTC, for each count, up to the first that muxandu_date_time_from_timestamp refuses. Refused BUFFER, with nothing written, where `out` has fewer items than `nanoseconds`.",
+    ),
+    "muxandu_nanoseconds_from_date_times": (
+        [ctypes.c_void_p, ctypes.c_size_t, ctypes.c_void_p, ctypes.c_size_t],
+        MuxanduBatch,
+        "The nanoseconds from 1970-01-01 0:00 UTC of each date-time, up to the first that muxandu_timestamp_from_date_time or muxandu_timestamp_to_nanoseconds refuses. Refused BUFFER, with nothing written, where `out` has fewer items than `date_times`.",
+    ),
+    "muxandu_date_time_text": (
+        [MuxanduDateTime, ctypes.c_void_p, ctypes.c_size_t, ctypes.POINTER(ctypes.c_size_t)],
         ctypes.c_uint32,
         "Writes the text of a date-time, as `1970-01-01 0:00:00.0 +00:00:00`, of at most 42 bytes, all ASCII and none 0, at the front of `buffer`, and its length to `size`. Refused as the date-time, then BUFFER where it is longer than `buffer`: then `size` says how long it is, and `buffer` is as it was.",
     ),
     "muxandu_timestamp_text": (
         [MuxanduTimestamp, ctypes.c_void_p, ctypes.c_size_t, ctypes.POINTER(ctypes.c_size_t)],
         ctypes.c_uint32,
-        "Writes the text of a timestamp, the signed decimal of its seconds, as `-0.5`, of at most 25 bytes, as muxandu_civil_text does. Refused as the timestamp, then BUFFER.",
+        "Writes the text of a timestamp, the signed decimal of its seconds, as `-0.5`, of at most 25 bytes, as muxandu_date_time_text does. Refused as the timestamp, then BUFFER.",
     ),
 }
 

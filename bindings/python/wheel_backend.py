@@ -1,19 +1,39 @@
-"""Makes the wheel of the package, with the shared library in it. `pip install .` calls it, and needs nothing besides."""
+"""Makes the wheel and the source archive of the package, as PEP 517 and PEP 660 have it, and needs nothing besides Python.
+
+A wheel has the shared library in it, and where `cc` and the headers of a Python from 3.11 on are there, the extension too,
+which links the archive; elsewhere the package goes through ctypes. MUXANDU_EXTENSION=no leaves the extension out, and `must`
+ends the build where it cannot be made. MUXANDU_DIST names a folder that ./build-library has laid out.
+"""
 
 import base64
+import gzip
 import hashlib
+import io
 import os
+import platform
+import re
+import shutil
+import subprocess
+import sys
+import sysconfig
+import tarfile
+import tempfile
 import zipfile
 from pathlib import Path
 
 HERE = Path(__file__).resolve().parent
-LIBRARY = "libmuxandu.so"
-TAG = "py3-none-linux_x86_64"
+SHARED, ARCHIVE, HEADER = "lib/libmuxandu.so", "lib/libmuxandu.a", "include/muxandu.h"
+EXTENSION = "_extension.abi3.so"
+
+# The oldest Python whose limited interface has buffers, and the oldest C library of a manylinux tag.
+FIRST_PYTHON = (3, 11)
+FIRST_LIBRARY = (2, 17)
+
 FIELDS = ("name", "version", "description", "requires-python")
 
 
 def project():
-    """The fields of pyproject.toml that a wheel tells of."""
+    """The fields of pyproject.toml that metadata tell of."""
     fields = {}
     for line in (HERE / "pyproject.toml").read_text(encoding="utf-8").splitlines():
         name, _, value = line.partition(" = ")
@@ -22,43 +42,147 @@ def project():
     return fields
 
 
-def library():
-    """The shared library that goes into the wheel."""
-    named = os.environ.get("MUXANDU_LIBRARY")
-    path = Path(named) if named else HERE.parent.parent / "dist" / "lib" / LIBRARY
-    if not path.is_file():
-        raise SystemExit(f"{path} is not there: build it with ./build-library, or name it in MUXANDU_LIBRARY")
-    return path
+def dist(name):
+    """A file of the library: of the folder that is named, of a source archive, or of what ./build-library lays out."""
+    named = os.environ.get("MUXANDU_DIST")
+    folders = [Path(named)] if named else [HERE / "dist", HERE.parent.parent / "dist"]
+    for folder in folders:
+        if (folder / name).is_file():
+            return folder / name
+    raise SystemExit(f"{name} is not there: lay it out with ./build-library, or name its folder in MUXANDU_DIST")
 
 
-def files():
-    """The name in the wheel and the bytes of each of its files but the last."""
+def licences():
+    return sorted({path.name: path for folder in (HERE.parent.parent, HERE) for path in folder.glob("LICENSE-*")}.values())
+
+
+def compiler_words(folder):
+    """The command that makes the extension, or why there is none."""
+    if os.environ.get("MUXANDU_EXTENSION") == "no":
+        return None, "MUXANDU_EXTENSION is no"
+    compiler, headers = shutil.which(os.environ.get("CC", "cc")), sysconfig.get_paths()["include"]
+    if sys.implementation.name != "cpython" or sys.version_info < FIRST_PYTHON:
+        return None, "it needs CPython from 3.11 on"
+    if compiler is None or not (Path(headers) / "Python.h").is_file():
+        return None, f"there is no {'cc' if compiler is None else headers + '/Python.h'}"
+    flags = ["-shared", "-fPIC", "-O2", "-std=c11", "-Wall", "-Wextra", "-Werror", "-Wl,--exclude-libs,ALL", "-Wl,-z,now"]
+    flags += os.environ.get("CFLAGS", "").split()
+    source = HERE / "extension" / "extension.c"
+    words = [compiler, *flags, f"-I{headers}", f"-I{dist(HEADER).parent}", str(source), str(dist(ARCHIVE))]
+    return [*words, "-o", str(Path(folder) / EXTENSION)], None
+
+
+def extension():
+    """The bytes of the extension, or None where it is not made."""
+    with tempfile.TemporaryDirectory() as folder:
+        words, lacking = compiler_words(folder)
+        if words is not None:
+            ended = subprocess.run(words, stdout=subprocess.PIPE, stderr=subprocess.STDOUT, encoding="utf-8", check=False)
+            if ended.returncode == 0:
+                return (Path(folder) / EXTENSION).read_bytes()
+            lacking = f"it is not compiled:\n{ended.stdout}"
+    if os.environ.get("MUXANDU_EXTENSION") == "must":
+        raise SystemExit(f"no extension: {lacking}")
+    print(f"muxandu goes through ctypes, with no extension: {lacking}", file=sys.stderr)
+    return None
+
+
+def tag(binaries, has_extension):
+    """What the wheel runs on: the Python, and the C library that its binaries ask for."""
+    asked = [tuple(map(int, found)) for data in binaries for found in re.findall(rb"\bGLIBC_(\d+)\.(\d+)", data)]
+    first, second = max([FIRST_LIBRARY, *asked])
+    python = "cp311-abi3" if has_extension else "py3-none"
+    return f"{python}-manylinux_{first}_{second}_{platform.machine()}"
+
+
+def metadata():
     fields = project()
-    told = f"{fields['name']}-{fields['version']}.dist-info"
-    for path in sorted((HERE / "muxandu").glob("*.py")):
-        yield f"muxandu/{path.name}", path.read_bytes()
-    yield f"muxandu/{LIBRARY}", library().read_bytes()
-    for path in sorted(HERE.parent.parent.glob("LICENSE-*")):
-        yield f"{told}/licenses/{path.name}", path.read_bytes()
-    metadata = (
-        f"Metadata-Version: 2.1\nName: {fields['name']}\nVersion: {fields['version']}\n"
-        f"Summary: {fields['description']}\nRequires-Python: {fields['requires-python']}\nLicense: MIT OR Apache-2.0\n"
-    )
-    yield f"{told}/METADATA", metadata.encode()
-    yield f"{told}/WHEEL", f"Wheel-Version: 1.0\nGenerator: muxandu\nRoot-Is-Purelib: false\nTag: {TAG}\n".encode()
+    lines = [
+        "Metadata-Version: 2.1",
+        f"Name: {fields['name']}",
+        f"Version: {fields['version']}",
+        f"Summary: {fields['description']}",
+        f"Requires-Python: {fields['requires-python']}",
+        "License: MIT OR Apache-2.0",
+        "Classifier: Operating System :: POSIX :: Linux",
+        "Classifier: Programming Language :: Python :: 3",
+        "Classifier: Typing :: Typed",
+        "Description-Content-Type: text/markdown",
+    ]
+    return "\n".join(lines) + "\n\n" + (HERE / "README.md").read_text(encoding="utf-8")
+
+
+def told():
+    fields = project()
+    return f"{fields['name']}-{fields['version']}"
+
+
+def package_files():
+    for path in sorted((HERE / "muxandu").iterdir()):
+        if path.suffix in (".py", ".pyi", ".typed"):
+            yield f"muxandu/{path.name}", path.read_bytes()
+
+
+def write_wheel(folder, made, files):
+    """Writes a wheel of these files, and gives its name."""
+    info = f"{told()}.dist-info"
+    files = [*files, *((f"{info}/licenses/{path.name}", path.read_bytes()) for path in licences())]
+    files.append((f"{info}/METADATA", metadata().encode()))
+    wheel = f"Wheel-Version: 1.0\nGenerator: muxandu\nRoot-Is-Purelib: false\nTag: {made}\n"
+    files.append((f"{info}/WHEEL", wheel.encode()))
+    record = []
+    name = f"{told()}-{made}.whl"
+    with zipfile.ZipFile(Path(folder) / name, "w", zipfile.ZIP_DEFLATED) as packed:
+        for path, content in files:
+            digest = base64.urlsafe_b64encode(hashlib.sha256(content).digest()).rstrip(b"=").decode()
+            record.append(f"{path},sha256={digest},{len(content)}\n")
+            packed.writestr(entry(path), content, zipfile.ZIP_DEFLATED)
+        record.append(f"{info}/RECORD,,\n")
+        packed.writestr(entry(f"{info}/RECORD"), "".join(record), zipfile.ZIP_DEFLATED)
+    return name
+
+
+def entry(path):
+    """A file of a wheel, of no day, so that the same files make the same wheel."""
+    made = zipfile.ZipInfo(path)
+    made.external_attr = (0o755 if path.endswith(".so") else 0o644) << 16
+    return made
 
 
 def build_wheel(wheel_directory, config_settings=None, metadata_directory=None):
     """Writes the wheel into a folder, and gives its name."""
-    fields = project()
-    stem = f"{fields['name']}-{fields['version']}"
-    name = f"{stem}-{TAG}.whl"
-    record = []
-    with zipfile.ZipFile(Path(wheel_directory) / name, "w", zipfile.ZIP_DEFLATED) as wheel:
-        for path, content in files():
-            digest = base64.urlsafe_b64encode(hashlib.sha256(content).digest()).rstrip(b"=").decode()
-            record.append(f"{path},sha256={digest},{len(content)}\n")
-            wheel.writestr(path, content)
-        record.append(f"{stem}.dist-info/RECORD,,\n")
-        wheel.writestr(f"{stem}.dist-info/RECORD", "".join(record))
+    shared, made = dist(SHARED).read_bytes(), extension()
+    files = [*package_files(), (f"muxandu/{Path(SHARED).name}", shared)]
+    if made is not None:
+        files.append((f"muxandu/{EXTENSION}", made))
+    return write_wheel(wheel_directory, tag([shared, made or b""], made is not None), files)
+
+
+def build_editable(wheel_directory, config_settings=None, metadata_directory=None):
+    """Writes a wheel that leads to this folder, in which the extension is made, and gives its name."""
+    shared, made = dist(SHARED).read_bytes(), extension()
+    place = HERE / "muxandu" / EXTENSION
+    place.unlink(missing_ok=True)
+    if made is not None:
+        place.write_bytes(made)
+    files = [(f"_{project()['name']}.pth", f"{HERE}\n".encode())]
+    return write_wheel(wheel_directory, tag([shared, made or b""], made is not None), files)
+
+
+def build_sdist(sdist_directory, config_settings=None):
+    """Writes the archive of sources, with the library in it, and gives its name."""
+    files = {"PKG-INFO": metadata().encode()}
+    for name in ("README.md", "pyproject.toml", "wheel_backend.py", "extension/calls.h", "extension/extension.c"):
+        files[name] = (HERE / name).read_bytes()
+    files.update(package_files())
+    files.update((f"tests/{path.name}", path.read_bytes()) for path in sorted((HERE / "tests").glob("*.py")))
+    files.update((path.name, path.read_bytes()) for path in licences())
+    files.update((f"dist/{name}", dist(name).read_bytes()) for name in (SHARED, ARCHIVE, HEADER))
+    name = f"{told()}.tar.gz"
+    with open(Path(sdist_directory) / name, "wb") as file, gzip.GzipFile("", "wb", fileobj=file, mtime=0) as packed:
+        with tarfile.open(fileobj=packed, mode="w", format=tarfile.PAX_FORMAT) as archive:
+            for path, content in sorted(files.items()):
+                member = tarfile.TarInfo(f"{told()}/{path}")
+                member.size, member.mode = len(content), 0o644
+                archive.addfile(member, io.BytesIO(content))
     return name

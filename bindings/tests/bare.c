@@ -2,7 +2,7 @@
 
 #include "reference.h"
 
-static inline uint32_t wall_parts(int64_t second, uint32_t nanosecond, int32_t offset_seconds, MuxanduCivil *out) {
+static inline uint32_t wall_parts(int64_t second, uint32_t nanosecond, int32_t offset_seconds, MuxanduDateTime *out) {
     int64_t day;
     uint32_t clock;
     MuxanduDate date;
@@ -21,48 +21,48 @@ static inline uint32_t wall_parts(int64_t second, uint32_t nanosecond, int32_t o
     return MUXANDU_OK;
 }
 
-static inline uint32_t second_of(const MuxanduCivil *civil, int64_t *out) {
-    REFUSE(reference_civil_check(*civil));
-    *out = era_day(civil->year, civil->month, civil->day) * 86400 + civil->hour * 3600 + civil->minute * 60 +
-           civil->second - civil->offset_seconds;
+static inline uint32_t second_of(const MuxanduDateTime *date_time, int64_t *out) {
+    REFUSE(reference_date_time_check(*date_time));
+    *out = era_day(date_time->year, date_time->month, date_time->day) * 86400 + date_time->hour * 3600 +
+           date_time->minute * 60 + date_time->second - date_time->offset_seconds;
     return MUXANDU_OK;
 }
 
-static inline uint32_t civil_at(MuxanduTimestamp at, int32_t offset_seconds, MuxanduCivil *out) {
+static inline uint32_t date_time_at(MuxanduTimestamp at, int32_t offset_seconds, MuxanduDateTime *out) {
     REFUSE(reference_timestamp_check(at));
     REFUSE(reference_offset_check(offset_seconds));
     return wall_parts(at.seconds + offset_seconds, at.nanoseconds, offset_seconds, out);
 }
 
-static inline uint32_t stamp_at(const MuxanduCivil *civil, int64_t *out) {
+static inline uint32_t stamp_at(const MuxanduDateTime *date_time, int64_t *out) {
     int64_t second;
-    REFUSE(second_of(civil, &second));
+    REFUSE(second_of(date_time, &second));
     if (second < REFERENCE_FIRST_SECOND || second > REFERENCE_LAST_SECOND) return MUXANDU_REFUSED_RESULT;
     *out = second;
     return MUXANDU_OK;
 }
 
-uint32_t bare_civil_from_timestamp(MuxanduTimestamp at, int32_t offset_seconds, MuxanduCivil *out) {
-    return civil_at(at, offset_seconds, out);
+uint32_t bare_date_time_from_timestamp(MuxanduTimestamp at, int32_t offset_seconds, MuxanduDateTime *out) {
+    return date_time_at(at, offset_seconds, out);
 }
 
-uint32_t bare_timestamp_from_civil(MuxanduCivil civil, MuxanduTimestamp *out) {
+uint32_t bare_timestamp_from_date_time(MuxanduDateTime date_time, MuxanduTimestamp *out) {
     int64_t second;
-    REFUSE(stamp_at(&civil, &second));
+    REFUSE(stamp_at(&date_time, &second));
     out->seconds = second;
-    out->nanoseconds = civil.nanosecond;
+    out->nanoseconds = date_time.nanosecond;
     return MUXANDU_OK;
 }
 
-uint32_t bare_civil_to_offset(MuxanduCivil civil, int32_t offset_seconds, MuxanduCivil *out) {
+uint32_t bare_date_time_to_offset(MuxanduDateTime date_time, int32_t offset_seconds, MuxanduDateTime *out) {
     int64_t second;
-    REFUSE(second_of(&civil, &second));
+    REFUSE(second_of(&date_time, &second));
     REFUSE(reference_offset_check(offset_seconds));
-    return wall_parts(second + offset_seconds, civil.nanosecond, offset_seconds, out);
+    return wall_parts(second + offset_seconds, date_time.nanosecond, offset_seconds, out);
 }
 
-uint32_t bare_civil_check(MuxanduCivil civil) {
-    return reference_civil_check(civil);
+uint32_t bare_date_time_check(MuxanduDateTime date_time) {
+    return reference_date_time_check(date_time);
 }
 
 uint32_t bare_timestamp_add(MuxanduTimestamp at, MuxanduDuration duration, MuxanduTimestamp *out) {
@@ -94,14 +94,14 @@ uint32_t bare_timestamp_add(MuxanduTimestamp at, MuxanduDuration duration, Muxan
     }                                                                                                                  \
     return done
 
-MuxanduBatch bare_civils_from_seconds(const int64_t *seconds, size_t items, int32_t offset_seconds, MuxanduCivil *out,
-                                      size_t room) {
+MuxanduBatch bare_date_times_from_seconds(const int64_t *seconds, size_t items, int32_t offset_seconds,
+                                          MuxanduDateTime *out, size_t room) {
     MuxanduTimestamp at = {0, 0};
-    EACH(items, room, (at.seconds = seconds[done.count], civil_at(at, offset_seconds, out + done.count)));
+    EACH(items, room, (at.seconds = seconds[done.count], date_time_at(at, offset_seconds, out + done.count)));
 }
 
-MuxanduBatch bare_seconds_from_civils(const MuxanduCivil *civils, size_t items, int64_t *out, size_t room) {
-    EACH(items, room, stamp_at(civils + done.count, out + done.count));
+MuxanduBatch bare_seconds_from_date_times(const MuxanduDateTime *date_times, size_t items, int64_t *out, size_t room) {
+    EACH(items, room, stamp_at(date_times + done.count, out + done.count));
 }
 
 MuxanduBatch bare_dates_from_days(const int32_t *days, size_t items, MuxanduDate *out, size_t room) {

@@ -1,7 +1,8 @@
 /* Each call of the archive from C: what it answers, each of its refusals, and that a refusal leaves `out` as it was. */
+#define MUXANDU_WITH_TIME_H
 #include "checks.h"
 
-static const MuxanduCivil JUNK = {1, 2, 3, 4, 5, 6, 7, 8};
+static const MuxanduDateTime JUNK = {1, 2, 3, 4, 5, 6, 7, 8};
 
 static void timestamps_are_tested(void) {
     CHECK(muxandu_timestamp_check(stamp(FIRST, 0)) == MUXANDU_OK);
@@ -106,100 +107,107 @@ static void timestamps_are_counted(void) {
     CHECK(count == INT64_MIN);
 }
 
-static void civils_are_tested(void) {
-    CHECK(muxandu_civil_check(civil(2024, 2, 29, 23, 59, 59, 999999999, -93599)) == MUXANDU_OK);
-    CHECK(muxandu_civil_check(civil(INT32_MIN, 13, 99, 99, 99, 99, UINT32_MAX, INT32_MIN)) == MUXANDU_REFUSED_MONTH);
-    CHECK(muxandu_civil_check(civil(2024, 0, 1, 0, 0, 0, 0, 0)) == MUXANDU_REFUSED_MONTH);
-    CHECK(muxandu_civil_check(civil(1000000, 12, 99, 99, 99, 99, UINT32_MAX, INT32_MIN)) == MUXANDU_REFUSED_YEAR);
-    CHECK(muxandu_civil_check(civil(-1000000, 1, 1, 0, 0, 0, 0, 0)) == MUXANDU_REFUSED_YEAR);
-    CHECK(muxandu_civil_check(civil(2023, 2, 32, 99, 99, 99, UINT32_MAX, INT32_MIN)) == MUXANDU_REFUSED_DAY);
-    CHECK(muxandu_civil_check(civil(2023, 2, 0, 0, 0, 0, 0, 0)) == MUXANDU_REFUSED_DAY);
-    CHECK(muxandu_civil_check(civil(2023, 2, 29, 99, 99, 99, UINT32_MAX, INT32_MIN)) == MUXANDU_REFUSED_DAY_OF_MONTH);
-    CHECK(muxandu_civil_check(civil(2023, 2, 28, 24, 99, 99, UINT32_MAX, INT32_MIN)) == MUXANDU_REFUSED_HOUR);
-    CHECK(muxandu_civil_check(civil(2023, 2, 28, 23, 60, 99, UINT32_MAX, INT32_MIN)) == MUXANDU_REFUSED_MINUTE);
-    CHECK(muxandu_civil_check(civil(2023, 2, 28, 23, 59, 60, UINT32_MAX, INT32_MIN)) == MUXANDU_REFUSED_SECOND);
-    CHECK(muxandu_civil_check(civil(2023, 2, 28, 23, 59, 59, 1000000000, INT32_MIN)) == MUXANDU_REFUSED_NANOSECOND);
-    CHECK(muxandu_civil_check(civil(2023, 2, 28, 23, 59, 59, 0, -93600)) == MUXANDU_REFUSED_OFFSET_SECONDS);
-    CHECK(muxandu_civil_check(civil(2023, 2, 28, 23, 59, 59, 0, 93600)) == MUXANDU_REFUSED_OFFSET_SECONDS);
+static void date_times_are_tested(void) {
+    CHECK(muxandu_date_time_check(date_time(2024, 2, 29, 23, 59, 59, 999999999, -93599)) == MUXANDU_OK);
+    CHECK(muxandu_date_time_check(date_time(INT32_MIN, 13, 99, 99, 99, 99, UINT32_MAX, INT32_MIN)) ==
+          MUXANDU_REFUSED_MONTH);
+    CHECK(muxandu_date_time_check(date_time(2024, 0, 1, 0, 0, 0, 0, 0)) == MUXANDU_REFUSED_MONTH);
+    CHECK(muxandu_date_time_check(date_time(1000000, 12, 99, 99, 99, 99, UINT32_MAX, INT32_MIN)) ==
+          MUXANDU_REFUSED_YEAR);
+    CHECK(muxandu_date_time_check(date_time(-1000000, 1, 1, 0, 0, 0, 0, 0)) == MUXANDU_REFUSED_YEAR);
+    CHECK(muxandu_date_time_check(date_time(2023, 2, 32, 99, 99, 99, UINT32_MAX, INT32_MIN)) == MUXANDU_REFUSED_DAY);
+    CHECK(muxandu_date_time_check(date_time(2023, 2, 0, 0, 0, 0, 0, 0)) == MUXANDU_REFUSED_DAY);
+    CHECK(muxandu_date_time_check(date_time(2023, 2, 29, 99, 99, 99, UINT32_MAX, INT32_MIN)) ==
+          MUXANDU_REFUSED_DAY_OF_MONTH);
+    CHECK(muxandu_date_time_check(date_time(2023, 2, 28, 24, 99, 99, UINT32_MAX, INT32_MIN)) == MUXANDU_REFUSED_HOUR);
+    CHECK(muxandu_date_time_check(date_time(2023, 2, 28, 23, 60, 99, UINT32_MAX, INT32_MIN)) == MUXANDU_REFUSED_MINUTE);
+    CHECK(muxandu_date_time_check(date_time(2023, 2, 28, 23, 59, 60, UINT32_MAX, INT32_MIN)) == MUXANDU_REFUSED_SECOND);
+    CHECK(muxandu_date_time_check(date_time(2023, 2, 28, 23, 59, 59, 1000000000, INT32_MIN)) ==
+          MUXANDU_REFUSED_NANOSECOND);
+    CHECK(muxandu_date_time_check(date_time(2023, 2, 28, 23, 59, 59, 0, -93600)) == MUXANDU_REFUSED_OFFSET_SECONDS);
+    CHECK(muxandu_date_time_check(date_time(2023, 2, 28, 23, 59, 59, 0, 93600)) == MUXANDU_REFUSED_OFFSET_SECONDS);
 }
 
 static void clocks_show_instants(void) {
-    MuxanduCivil out = JUNK;
+    MuxanduDateTime out = JUNK;
     MuxanduTimestamp at = stamp(7, 7);
-    CHECK(muxandu_civil_from_timestamp(stamp(LAST + 1, UINT32_MAX), 93600, &out) == MUXANDU_REFUSED_TIMESTAMP);
-    CHECK(muxandu_civil_from_timestamp(stamp(0, UINT32_MAX), 93600, &out) == MUXANDU_REFUSED_NANOSECOND);
-    CHECK(muxandu_civil_from_timestamp(stamp(0, 0), 93600, &out) == MUXANDU_REFUSED_OFFSET_SECONDS);
-    CHECK(muxandu_civil_from_timestamp(stamp(FIRST, 0), -1, &out) == MUXANDU_REFUSED_RESULT);
-    CHECK(muxandu_civil_to_offset(civil(2023, 2, 29, 0, 0, 0, 0, 0), 93600, &out) == MUXANDU_REFUSED_DAY_OF_MONTH);
-    CHECK(muxandu_civil_to_offset(civil(2023, 2, 28, 0, 0, 0, 0, 0), -93600, &out) == MUXANDU_REFUSED_OFFSET_SECONDS);
-    CHECK(muxandu_civil_to_offset(civil(-999999, 1, 1, 0, 0, 0, 0, 3600), 0, &out) == MUXANDU_REFUSED_RESULT);
-    CHECK(is_civil(out, JUNK));
-    CHECK(muxandu_timestamp_from_civil(civil(2023, 1, 1, 24, 0, 0, 0, 0), &at) == MUXANDU_REFUSED_HOUR);
-    CHECK(muxandu_timestamp_from_civil(civil(-999999, 1, 1, 0, 0, 0, 0, 3600), &at) == MUXANDU_REFUSED_RESULT);
+    CHECK(muxandu_date_time_from_timestamp(stamp(LAST + 1, UINT32_MAX), 93600, &out) == MUXANDU_REFUSED_TIMESTAMP);
+    CHECK(muxandu_date_time_from_timestamp(stamp(0, UINT32_MAX), 93600, &out) == MUXANDU_REFUSED_NANOSECOND);
+    CHECK(muxandu_date_time_from_timestamp(stamp(0, 0), 93600, &out) == MUXANDU_REFUSED_OFFSET_SECONDS);
+    CHECK(muxandu_date_time_from_timestamp(stamp(FIRST, 0), -1, &out) == MUXANDU_REFUSED_RESULT);
+    CHECK(muxandu_date_time_to_offset(date_time(2023, 2, 29, 0, 0, 0, 0, 0), 93600, &out) ==
+          MUXANDU_REFUSED_DAY_OF_MONTH);
+    CHECK(muxandu_date_time_to_offset(date_time(2023, 2, 28, 0, 0, 0, 0, 0), -93600, &out) ==
+          MUXANDU_REFUSED_OFFSET_SECONDS);
+    CHECK(muxandu_date_time_to_offset(date_time(-999999, 1, 1, 0, 0, 0, 0, 3600), 0, &out) == MUXANDU_REFUSED_RESULT);
+    CHECK(is_date_time(out, JUNK));
+    CHECK(muxandu_timestamp_from_date_time(date_time(2023, 1, 1, 24, 0, 0, 0, 0), &at) == MUXANDU_REFUSED_HOUR);
+    CHECK(muxandu_timestamp_from_date_time(date_time(-999999, 1, 1, 0, 0, 0, 0, 3600), &at) == MUXANDU_REFUSED_RESULT);
     CHECK(is_stamp(at, 7, 7));
-    CHECK(muxandu_civil_from_timestamp(stamp(1709210096, 7), 3600, &out) == MUXANDU_OK);
-    CHECK(is_civil(out, civil(2024, 2, 29, 13, 34, 56, 7, 3600)));
-    CHECK(muxandu_timestamp_from_civil(out, &at) == MUXANDU_OK && is_stamp(at, 1709210096, 7));
-    CHECK(muxandu_civil_to_offset(out, -93599, &out) == MUXANDU_OK);
-    CHECK(is_civil(out, civil(2024, 2, 28, 10, 34, 57, 7, -93599)));
-    CHECK(muxandu_civil_to_offset(civil(-999999, 1, 1, 0, 0, 0, 0, 3600), 7200, &out) == MUXANDU_OK);
-    CHECK(is_civil(out, civil(-999999, 1, 1, 1, 0, 0, 0, 7200)));
+    CHECK(muxandu_date_time_from_timestamp(stamp(1709210096, 7), 3600, &out) == MUXANDU_OK);
+    CHECK(is_date_time(out, date_time(2024, 2, 29, 13, 34, 56, 7, 3600)));
+    CHECK(muxandu_timestamp_from_date_time(out, &at) == MUXANDU_OK && is_stamp(at, 1709210096, 7));
+    CHECK(muxandu_date_time_to_offset(out, -93599, &out) == MUXANDU_OK);
+    CHECK(is_date_time(out, date_time(2024, 2, 28, 10, 34, 57, 7, -93599)));
+    CHECK(muxandu_date_time_to_offset(date_time(-999999, 1, 1, 0, 0, 0, 0, 3600), 7200, &out) == MUXANDU_OK);
+    CHECK(is_date_time(out, date_time(-999999, 1, 1, 1, 0, 0, 0, 7200)));
 }
 
-typedef uint32_t MoveCivil(MuxanduCivil, MuxanduDuration, MuxanduCivil *);
+typedef uint32_t MoveDateTime(MuxanduDateTime, MuxanduDuration, MuxanduDateTime *);
 
-static void refuses_civils(MoveCivil *move) {
-    MuxanduCivil out = JUNK;
-    CHECK(move(civil(2024, 13, 1, 0, 0, 0, 0, 0), length(INT64_MAX, INT32_MAX), &out) == MUXANDU_REFUSED_MONTH);
-    CHECK(move(civil(2024, 1, 1, 0, 0, 0, 0, 0), length(INT64_MAX, 1000000000), &out) == MUXANDU_REFUSED_DURATION);
-    CHECK(is_civil(out, JUNK));
+static void refuses_date_times(MoveDateTime *move) {
+    MuxanduDateTime out = JUNK;
+    CHECK(move(date_time(2024, 13, 1, 0, 0, 0, 0, 0), length(INT64_MAX, INT32_MAX), &out) == MUXANDU_REFUSED_MONTH);
+    CHECK(move(date_time(2024, 1, 1, 0, 0, 0, 0, 0), length(INT64_MAX, 1000000000), &out) == MUXANDU_REFUSED_DURATION);
+    CHECK(is_date_time(out, JUNK));
 }
 
-static void civils_move(void) {
-    MuxanduCivil out = JUNK, end = civil(999999, 12, 31, 23, 59, 59, 999999999, 60),
-                 start = civil(-999999, 1, 1, 0, 0, 0, 0, 60);
-    refuses_civils(muxandu_civil_add);
-    refuses_civils(muxandu_civil_subtract);
-    refuses_civils(muxandu_civil_saturating_add);
-    refuses_civils(muxandu_civil_saturating_subtract);
-    CHECK(muxandu_civil_add(end, length(0, 1), &out) == MUXANDU_REFUSED_RESULT);
-    CHECK(muxandu_civil_subtract(start, length(0, 1), &out) == MUXANDU_REFUSED_RESULT);
-    CHECK(is_civil(out, JUNK));
-    CHECK(muxandu_civil_add(civil(2024, 2, 28, 1, 2, 3, 4, 60), length(86400, 0), &out) == MUXANDU_OK);
-    CHECK(is_civil(out, civil(2024, 2, 29, 1, 2, 3, 4, 60)));
-    CHECK(muxandu_civil_subtract(out, length(0, 5), &out) == MUXANDU_OK);
-    CHECK(is_civil(out, civil(2024, 2, 29, 1, 2, 2, 999999999, 60)));
-    CHECK(muxandu_civil_saturating_add(out, length(INT64_MAX, 999999999), &out) == MUXANDU_OK && is_civil(out, end));
-    CHECK(muxandu_civil_saturating_subtract(out, length(INT64_MAX, 999999999), &out) == MUXANDU_OK &&
-          is_civil(out, start));
+static void date_times_move(void) {
+    MuxanduDateTime out = JUNK, end = date_time(999999, 12, 31, 23, 59, 59, 999999999, 60),
+                    start = date_time(-999999, 1, 1, 0, 0, 0, 0, 60);
+    refuses_date_times(muxandu_date_time_add);
+    refuses_date_times(muxandu_date_time_subtract);
+    refuses_date_times(muxandu_date_time_saturating_add);
+    refuses_date_times(muxandu_date_time_saturating_subtract);
+    CHECK(muxandu_date_time_add(end, length(0, 1), &out) == MUXANDU_REFUSED_RESULT);
+    CHECK(muxandu_date_time_subtract(start, length(0, 1), &out) == MUXANDU_REFUSED_RESULT);
+    CHECK(is_date_time(out, JUNK));
+    CHECK(muxandu_date_time_add(date_time(2024, 2, 28, 1, 2, 3, 4, 60), length(86400, 0), &out) == MUXANDU_OK);
+    CHECK(is_date_time(out, date_time(2024, 2, 29, 1, 2, 3, 4, 60)));
+    CHECK(muxandu_date_time_subtract(out, length(0, 5), &out) == MUXANDU_OK);
+    CHECK(is_date_time(out, date_time(2024, 2, 29, 1, 2, 2, 999999999, 60)));
+    CHECK(muxandu_date_time_saturating_add(out, length(INT64_MAX, 999999999), &out) == MUXANDU_OK &&
+          is_date_time(out, end));
+    CHECK(muxandu_date_time_saturating_subtract(out, length(INT64_MAX, 999999999), &out) == MUXANDU_OK &&
+          is_date_time(out, start));
 }
 
-static void civils_are_compared(void) {
-    MuxanduCivil here = civil(2024, 1, 1, 1, 0, 0, 0, 3600), there = civil(2024, 1, 1, 0, 0, 0, 0, 0),
-                 bad = civil(2024, 1, 0, 0, 0, 0, 0, 0);
+static void date_times_are_compared(void) {
+    MuxanduDateTime here = date_time(2024, 1, 1, 1, 0, 0, 0, 3600), there = date_time(2024, 1, 1, 0, 0, 0, 0, 0),
+                    bad = date_time(2024, 1, 0, 0, 0, 0, 0, 0);
     MuxanduDuration apart = length(7, 7);
     int32_t order = 7;
-    CHECK(muxandu_civil_compare(bad, here, &order) == MUXANDU_REFUSED_DAY);
-    CHECK(muxandu_civil_compare(here, bad, &order) == MUXANDU_REFUSED_DAY && order == 7);
-    CHECK(muxandu_civil_difference(bad, here, &apart) == MUXANDU_REFUSED_DAY);
-    CHECK(muxandu_civil_difference(here, bad, &apart) == MUXANDU_REFUSED_DAY && is_length(apart, 7, 7));
-    CHECK(muxandu_civil_compare(here, there, &order) == MUXANDU_OK && order == 0);
+    CHECK(muxandu_date_time_compare(bad, here, &order) == MUXANDU_REFUSED_DAY);
+    CHECK(muxandu_date_time_compare(here, bad, &order) == MUXANDU_REFUSED_DAY && order == 7);
+    CHECK(muxandu_date_time_difference(bad, here, &apart) == MUXANDU_REFUSED_DAY);
+    CHECK(muxandu_date_time_difference(here, bad, &apart) == MUXANDU_REFUSED_DAY && is_length(apart, 7, 7));
+    CHECK(muxandu_date_time_compare(here, there, &order) == MUXANDU_OK && order == 0);
     here.hour = 0;
-    CHECK(muxandu_civil_compare(here, there, &order) == MUXANDU_OK && order == -1);
-    CHECK(muxandu_civil_compare(there, here, &order) == MUXANDU_OK && order == 1);
-    CHECK(muxandu_civil_difference(here, there, &apart) == MUXANDU_OK && is_length(apart, -3600, 0));
+    CHECK(muxandu_date_time_compare(here, there, &order) == MUXANDU_OK && order == -1);
+    CHECK(muxandu_date_time_compare(there, here, &order) == MUXANDU_OK && order == 1);
+    CHECK(muxandu_date_time_difference(here, there, &apart) == MUXANDU_OK && is_length(apart, -3600, 0));
 }
 
-static void civils_are_read(void) {
-    MuxanduCivil out = JUNK, at = civil(2024, 2, 29, 13, 34, 56, 123456789, 60);
+static void date_times_are_read(void) {
+    MuxanduDateTime out = JUNK, at = date_time(2024, 2, 29, 13, 34, 56, 123456789, 60);
     int32_t day = 7;
-    CHECK(muxandu_civil_truncate(civil(2024, 1, 32, 0, 0, 0, 0, 0), 0, &out) == MUXANDU_REFUSED_DAY);
-    CHECK(muxandu_civil_truncate(at, 0, &out) == MUXANDU_REFUSED_UNIT && is_civil(out, JUNK));
-    CHECK(muxandu_civil_day(civil(2024, 1, 1, 0, 61, 0, 0, 0), &day) == MUXANDU_REFUSED_MINUTE && day == 7);
-    CHECK(muxandu_civil_day(civil(1970, 1, 2, 0, 0, 0, 0, 3600), &day) == MUXANDU_OK && day == 1);
-    CHECK(muxandu_civil_truncate(at, MUXANDU_UNIT_DAY, &out) == MUXANDU_OK &&
-          is_civil(out, civil(2024, 2, 29, 0, 0, 0, 0, 60)));
-    CHECK(muxandu_civil_truncate(at, MUXANDU_UNIT_MICROSECOND, &out) == MUXANDU_OK && out.nanosecond == 123456000);
+    CHECK(muxandu_date_time_truncate(date_time(2024, 1, 32, 0, 0, 0, 0, 0), 0, &out) == MUXANDU_REFUSED_DAY);
+    CHECK(muxandu_date_time_truncate(at, 0, &out) == MUXANDU_REFUSED_UNIT && is_date_time(out, JUNK));
+    CHECK(muxandu_date_time_day(date_time(2024, 1, 1, 0, 61, 0, 0, 0), &day) == MUXANDU_REFUSED_MINUTE && day == 7);
+    CHECK(muxandu_date_time_day(date_time(1970, 1, 2, 0, 0, 0, 0, 3600), &day) == MUXANDU_OK && day == 1);
+    CHECK(muxandu_date_time_truncate(at, MUXANDU_UNIT_DAY, &out) == MUXANDU_OK &&
+          is_date_time(out, date_time(2024, 2, 29, 0, 0, 0, 0, 60)));
+    CHECK(muxandu_date_time_truncate(at, MUXANDU_UNIT_MICROSECOND, &out) == MUXANDU_OK && out.nanosecond == 123456000);
 }
 
 static void days_are_read(void) {
@@ -260,29 +268,29 @@ static void days_are_found(void) {
 }
 
 /* Each call that writes a text, as one that writes that of a date-time. */
-typedef uint32_t WriteText(MuxanduCivil, char *, size_t, size_t *);
+typedef uint32_t WriteText(MuxanduDateTime, char *, size_t, size_t *);
 
-static uint32_t write_stamp(uint32_t (*write)(MuxanduTimestamp, char *, size_t, size_t *), MuxanduCivil at,
+static uint32_t write_stamp(uint32_t (*write)(MuxanduTimestamp, char *, size_t, size_t *), MuxanduDateTime at,
                             char *buffer, size_t room, size_t *size) {
     MuxanduTimestamp instant = stamp(0, UINT32_MAX);
-    muxandu_timestamp_from_civil(at, &instant);
+    muxandu_timestamp_from_date_time(at, &instant);
     return write(instant, buffer, room, size);
 }
 
-static uint32_t stamp_text(MuxanduCivil at, char *buffer, size_t room, size_t *size) {
+static uint32_t stamp_text(MuxanduDateTime at, char *buffer, size_t room, size_t *size) {
     return write_stamp(muxandu_timestamp_text, at, buffer, room, size);
 }
 
-static uint32_t stamp_exchange(MuxanduCivil at, char *buffer, size_t room, size_t *size) {
+static uint32_t stamp_exchange(MuxanduDateTime at, char *buffer, size_t room, size_t *size) {
     return write_stamp(muxandu_timestamp_to_rfc3339, at, buffer, room, size);
 }
 
-static uint32_t stamp_nanos(MuxanduCivil at, char *buffer, size_t room, size_t *size) {
+static uint32_t stamp_nanos(MuxanduDateTime at, char *buffer, size_t room, size_t *size) {
     return write_stamp(muxandu_timestamp_to_rfc3339_nanos, at, buffer, room, size);
 }
 
 static void writes(WriteText *write, const char *text, uint32_t refused) {
-    MuxanduCivil at = civil(2024, 2, 29, 13, 34, 56, 70, 3600);
+    MuxanduDateTime at = date_time(2024, 2, 29, 13, 34, 56, 70, 3600);
     char buffer[MUXANDU_TEXT_ROOM + 1], before[MUXANDU_TEXT_ROOM + 1];
     size_t size, room, whole = strlen(text);
     memset(before, 'x', sizeof before);
@@ -304,22 +312,155 @@ static void writes(WriteText *write, const char *text, uint32_t refused) {
           memcmp(buffer, before, sizeof buffer) == 0);
 }
 
+static MuxanduOffset offset_parts(int8_t hours, int8_t minutes, int8_t seconds) {
+    MuxanduOffset parts = {hours, minutes, seconds};
+    return parts;
+}
+
+static void dates_show_all(void) {
+    MuxanduDateReads out = {7, 7, 7, 7, 7, 7, 7, 7};
+    MuxanduDate made = date(7, 7, 7);
+    CHECK(muxandu_date_reads(date(2023, 2, 29), &out) == MUXANDU_REFUSED_DAY_OF_MONTH && out.day == 7 &&
+          out.ordinal == 7);
+    CHECK(muxandu_date_reads(date(2021, 1, 1), &out) == MUXANDU_OK && out.day == 18628 && out.julian_day == 2459216);
+    CHECK(out.iso_year == 2020 && out.iso_week == 53 && out.weekday == 4 && out.ordinal == 1);
+    CHECK(out.sunday_based_week == 0 && out.monday_based_week == 0);
+    CHECK(muxandu_date_reads(date(2023, 12, 31), &out) == MUXANDU_OK && out.ordinal == 365 && out.iso_week == 52);
+    CHECK(out.sunday_based_week == 53 && out.monday_based_week == 52 && out.weekday == 6);
+    CHECK(muxandu_date_from_julian_day(INT32_MAX, &made) == MUXANDU_REFUSED_DAY_NUMBER && is_date(made, 7, 7, 7));
+    CHECK(muxandu_date_from_julian_day(2440588, &made) == MUXANDU_OK && is_date(made, 1970, 1, 1));
+}
+
+static void times_of_day_are_tested(void) {
+    CHECK(muxandu_time_check(23, 59, 59, 999999999) == MUXANDU_OK);
+    CHECK(muxandu_time_check(24, 60, 60, UINT32_MAX) == MUXANDU_REFUSED_HOUR);
+    CHECK(muxandu_time_check(0, 60, 60, UINT32_MAX) == MUXANDU_REFUSED_MINUTE);
+    CHECK(muxandu_time_check(0, 0, 60, UINT32_MAX) == MUXANDU_REFUSED_SECOND);
+    CHECK(muxandu_time_check(0, 0, 0, 1000000000) == MUXANDU_REFUSED_NANOSECOND);
+}
+
+static void dates_move(void) {
+    MuxanduDate out = date(7, 7, 7);
+    CHECK(muxandu_date_add_days(date(2024, 13, 1), 1, &out) == MUXANDU_REFUSED_MONTH && is_date(out, 7, 7, 7));
+    CHECK(muxandu_date_add_days(date(1970, 1, 1), INT32_MAX, &out) == MUXANDU_REFUSED_RESULT && is_date(out, 7, 7, 7));
+    CHECK(muxandu_date_add_days(date(2024, 2, 28), 2, &out) == MUXANDU_OK && is_date(out, 2024, 3, 1));
+    CHECK(muxandu_date_add_months(date(2023, 2, 29), 1, &out) == MUXANDU_REFUSED_DAY_OF_MONTH &&
+          is_date(out, 2024, 3, 1));
+    CHECK(muxandu_date_add_months(date(2024, 1, 31), INT32_MIN, &out) == MUXANDU_REFUSED_RESULT);
+    CHECK(muxandu_date_add_months(date(2024, 1, 31), 13, &out) == MUXANDU_OK && is_date(out, 2025, 2, 28));
+    CHECK(muxandu_date_add_months(date(0, 1, 31), -2, &out) == MUXANDU_OK && is_date(out, -1, 11, 30));
+}
+
+static void offsets_have_parts(void) {
+    int32_t seconds = 7;
+    MuxanduOffset out = {7, 7, 7};
+    CHECK(muxandu_offset_from_parts(offset_parts(26, 60, 60), &seconds) == MUXANDU_REFUSED_OFFSET_HOUR && seconds == 7);
+    CHECK(muxandu_offset_from_parts(offset_parts(25, 60, 60), &seconds) == MUXANDU_REFUSED_OFFSET_MINUTE);
+    CHECK(muxandu_offset_from_parts(offset_parts(25, 59, -60), &seconds) == MUXANDU_REFUSED_OFFSET_SECONDS &&
+          seconds == 7);
+    CHECK(muxandu_offset_from_parts(offset_parts(1, -2, -3), &seconds) == MUXANDU_OK && seconds == 3723);
+    CHECK(muxandu_offset_from_parts(offset_parts(0, -2, 3), &seconds) == MUXANDU_OK && seconds == -123);
+    CHECK(muxandu_offset_to_parts(93600, &out) == MUXANDU_REFUSED_OFFSET_SECONDS && out.hours == 7);
+    CHECK(muxandu_offset_to_parts(-12601, &out) == MUXANDU_OK && out.hours == -3 && out.minutes == -30 &&
+          out.seconds == -1);
+}
+
+static void parts_are_replaced(void) {
+    MuxanduDateTime leap = date_time(2024, 2, 29, 1, 2, 3, 4, 60), out = JUNK;
+    MuxanduTimestamp at = stamp(7, 7);
+    CHECK(muxandu_date_time_replace(leap, 9, 1, &out) == MUXANDU_REFUSED_UNIT && is_date_time(out, JUNK));
+    CHECK(muxandu_date_time_replace(leap, MUXANDU_PART_YEAR, 2023, &out) == MUXANDU_REFUSED_DAY_OF_MONTH);
+    CHECK(muxandu_date_time_replace(leap, MUXANDU_PART_YEAR, 1000000, &out) == MUXANDU_REFUSED_YEAR);
+    CHECK(muxandu_date_time_replace(leap, MUXANDU_PART_MONTH, 256 + 1, &out) == MUXANDU_REFUSED_MONTH);
+    CHECK(muxandu_date_time_replace(leap, MUXANDU_PART_DAY, 0, &out) == MUXANDU_REFUSED_DAY);
+    CHECK(muxandu_date_time_replace(leap, MUXANDU_PART_ORDINAL, 367, &out) == MUXANDU_REFUSED_ORDINAL);
+    CHECK(muxandu_date_time_replace(leap, MUXANDU_PART_HOUR, -1, &out) == MUXANDU_REFUSED_HOUR);
+    CHECK(muxandu_date_time_replace(leap, MUXANDU_PART_MINUTE, 60, &out) == MUXANDU_REFUSED_MINUTE);
+    CHECK(muxandu_date_time_replace(leap, MUXANDU_PART_SECOND, 60, &out) == MUXANDU_REFUSED_SECOND);
+    CHECK(muxandu_date_time_replace(leap, MUXANDU_PART_NANOSECOND, 1000000000, &out) == MUXANDU_REFUSED_NANOSECOND);
+    CHECK(is_date_time(out, JUNK));
+    CHECK(muxandu_date_time_replace(leap, MUXANDU_PART_ORDINAL, 366, &out) == MUXANDU_OK &&
+          is_date_time(out, date_time(2024, 12, 31, 1, 2, 3, 4, 60)));
+    CHECK(muxandu_date_time_replace(leap, MUXANDU_PART_NANOSECOND, 5, &out) == MUXANDU_OK &&
+          is_date_time(out, date_time(2024, 2, 29, 1, 2, 3, 5, 60)));
+    CHECK(muxandu_timestamp_replace(stamp(0, 1000000000), MUXANDU_PART_HOUR, 0, &at) == MUXANDU_REFUSED_NANOSECOND);
+    CHECK(muxandu_timestamp_replace(stamp(0, 0), MUXANDU_PART_HOUR, 24, &at) == MUXANDU_REFUSED_HOUR &&
+          is_stamp(at, 7, 7));
+    CHECK(muxandu_timestamp_replace(stamp(-1, 5), MUXANDU_PART_HOUR, 0, &at) == MUXANDU_OK && is_stamp(at, -82801, 5));
+}
+
+static void structs_of_the_c_library(void) {
+    static const int64_t seconds[] = {0, -1, 951782399, 951782400, 1709210096, -2208988800, 253402300799, -62167219200};
+    MuxanduDateTime shown = JUNK, wanted = JUNK;
+    struct tm odd;
+    size_t place;
+    for (place = 0; place < sizeof seconds / sizeof *seconds; place++) {
+        time_t second = (time_t)seconds[place];
+        struct tm theirs = *gmtime(&second), ours = theirs;
+        CHECK(muxandu_date_time_from_timestamp(stamp(second, 7), 0, &wanted) == MUXANDU_OK);
+        CHECK(muxandu_date_time_from_tm(&theirs, 7, 0, &shown) == MUXANDU_OK && is_date_time(shown, wanted));
+        CHECK(muxandu_tm_from_date_time(wanted, &ours) == MUXANDU_OK && ours.tm_isdst == -1);
+        CHECK(ours.tm_year == theirs.tm_year && ours.tm_mon == theirs.tm_mon && ours.tm_mday == theirs.tm_mday);
+        CHECK(ours.tm_hour == theirs.tm_hour && ours.tm_min == theirs.tm_min && ours.tm_sec == theirs.tm_sec);
+        CHECK(ours.tm_wday == theirs.tm_wday && ours.tm_yday == theirs.tm_yday);
+    }
+    shown = JUNK;
+    memset(&odd, 0, sizeof odd);
+    odd.tm_year = INT32_MAX;
+    odd.tm_mday = 1;
+    CHECK(muxandu_date_time_from_tm(&odd, 0, 0, &shown) == MUXANDU_REFUSED_YEAR && is_date_time(shown, JUNK));
+    odd.tm_mon = 12;
+    CHECK(muxandu_date_time_from_tm(&odd, 0, 0, &shown) == MUXANDU_REFUSED_MONTH);
+    odd.tm_year = odd.tm_mon = 0;
+    odd.tm_mday = 256 + 1;
+    CHECK(muxandu_date_time_from_tm(&odd, 0, 0, &shown) == MUXANDU_REFUSED_DAY);
+    odd.tm_mday = 1;
+    odd.tm_hour = -1;
+    CHECK(muxandu_date_time_from_tm(&odd, 0, 0, &shown) == MUXANDU_REFUSED_HOUR);
+    odd.tm_hour = 0;
+    odd.tm_sec = 60;
+    CHECK(muxandu_date_time_from_tm(&odd, 0, 0, &shown) == MUXANDU_REFUSED_SECOND && is_date_time(shown, JUNK));
+    odd.tm_sec = 7;
+    CHECK(muxandu_tm_from_date_time(date_time(2023, 2, 29, 0, 0, 0, 0, 0), &odd) == MUXANDU_REFUSED_DAY_OF_MONTH);
+    CHECK(odd.tm_sec == 7);
+#ifdef MUXANDU_HAS_TIMESPEC
+    {
+        struct timespec spec = {-1, 500000000};
+        MuxanduTimestamp at = stamp(7, 7);
+        CHECK(muxandu_timestamp_from_timespec(&spec, &at) == MUXANDU_OK && is_stamp(at, -1, 500000000));
+        CHECK(muxandu_timespec_from_timestamp(stamp(5, 6), &spec) == MUXANDU_OK && spec.tv_sec == 5 &&
+          spec.tv_nsec == 6);
+        CHECK(muxandu_timespec_from_timestamp(stamp(LAST + 1, 6), &spec) == MUXANDU_REFUSED_TIMESTAMP &&
+          spec.tv_sec == 5);
+        spec.tv_nsec = -1;
+        CHECK(muxandu_timestamp_from_timespec(&spec, &at) == MUXANDU_REFUSED_NANOSECOND && is_stamp(at, -1, 500000000));
+        spec.tv_nsec = 1000000000;
+        CHECK(muxandu_timestamp_from_timespec(&spec, &at) == MUXANDU_REFUSED_NANOSECOND);
+        spec.tv_sec = (time_t)FIRST - 1;
+        CHECK(muxandu_timestamp_from_timespec(&spec, &at) == MUXANDU_REFUSED_TIMESTAMP);
+    }
+#endif
+}
+
 static void texts_are_written(void) {
     char buffer[MUXANDU_TEXT_ROOM];
     size_t size = 7;
-    writes(muxandu_civil_text, "2024-02-29 13:34:56.00000007 +01:00:00", MUXANDU_REFUSED_DAY_OF_MONTH);
-    writes(muxandu_civil_to_rfc3339, "2024-02-29T13:34:56.00000007+01:00", MUXANDU_REFUSED_DAY_OF_MONTH);
+    writes(muxandu_date_time_text, "2024-02-29 13:34:56.00000007 +01:00:00", MUXANDU_REFUSED_DAY_OF_MONTH);
+    writes(muxandu_date_time_to_rfc3339, "2024-02-29T13:34:56.00000007+01:00", MUXANDU_REFUSED_DAY_OF_MONTH);
     writes(stamp_text, "1709210096.00000007", MUXANDU_REFUSED_NANOSECOND);
     writes(stamp_exchange, "2024-02-29T12:34:56.00000007Z", MUXANDU_REFUSED_NANOSECOND);
     writes(stamp_nanos, "2024-02-29T12:34:56.000000070Z", MUXANDU_REFUSED_NANOSECOND);
-    CHECK(muxandu_civil_to_rfc3339(civil(10000, 1, 1, 0, 0, 0, 0, 0), buffer, 0, &size) == MUXANDU_REFUSED_NO_TEXT);
-    CHECK(muxandu_civil_to_rfc3339(civil(-1, 1, 1, 0, 0, 0, 0, 0), buffer, 0, &size) == MUXANDU_REFUSED_NO_TEXT);
-    CHECK(muxandu_civil_to_rfc3339(civil(1, 1, 1, 0, 0, 0, 0, 1), buffer, 0, &size) == MUXANDU_REFUSED_NO_TEXT);
-    CHECK(muxandu_civil_to_rfc3339(civil(1, 1, 1, 0, 0, 0, 0, 86400), buffer, 0, &size) == MUXANDU_REFUSED_NO_TEXT);
+    CHECK(muxandu_date_time_to_rfc3339(date_time(10000, 1, 1, 0, 0, 0, 0, 0), buffer, 0, &size) ==
+          MUXANDU_REFUSED_NO_TEXT);
+    CHECK(muxandu_date_time_to_rfc3339(date_time(-1, 1, 1, 0, 0, 0, 0, 0), buffer, 0, &size) ==
+          MUXANDU_REFUSED_NO_TEXT);
+    CHECK(muxandu_date_time_to_rfc3339(date_time(1, 1, 1, 0, 0, 0, 0, 1), buffer, 0, &size) == MUXANDU_REFUSED_NO_TEXT);
+    CHECK(muxandu_date_time_to_rfc3339(date_time(1, 1, 1, 0, 0, 0, 0, 86400), buffer, 0, &size) ==
+          MUXANDU_REFUSED_NO_TEXT);
     CHECK(muxandu_timestamp_to_rfc3339(stamp(FIRST, 0), buffer, 0, &size) == MUXANDU_REFUSED_NO_TEXT);
     CHECK(muxandu_timestamp_to_rfc3339_nanos(stamp(LAST, 0), buffer, 0, &size) == MUXANDU_REFUSED_NO_TEXT && size == 7);
-    CHECK(muxandu_civil_text(civil(-999999, 12, 31, 23, 59, 59, 123456789, -93599), buffer, sizeof buffer, &size) ==
-          MUXANDU_OK);
+    CHECK(muxandu_date_time_text(date_time(-999999, 12, 31, 23, 59, 59, 123456789, -93599), buffer, sizeof buffer,
+                                 &size) == MUXANDU_OK);
     CHECK(size == MUXANDU_TEXT_ROOM);
 }
 
@@ -332,23 +473,24 @@ static void texts_are_read(void) {
         {"1996-12-19", MUXANDU_REFUSED_SYNTAX},
         {"1996-12-19T16:39:57Z ", MUXANDU_REFUSED_SYNTAX},
         {"1996-13-32T24:60:60+24:60", MUXANDU_REFUSED_MONTH},
-        {"1995-02-29T24:60:60+24:60", MUXANDU_REFUSED_DAY},
+        {"1995-02-32T24:60:60+24:60", MUXANDU_REFUSED_DAY},
+        {"1995-02-29T24:60:60+24:60", MUXANDU_REFUSED_DAY_OF_MONTH},
         {"1996-12-19T24:60:60+24:60", MUXANDU_REFUSED_HOUR},
         {"1996-12-19T16:60:60+24:60", MUXANDU_REFUSED_MINUTE},
         {"1996-12-19T16:39:60+24:60", MUXANDU_REFUSED_SECOND},
         {"1996-12-19T16:39:57+24:60", MUXANDU_REFUSED_OFFSET_HOUR},
         {"1996-12-19T16:39:57+00:60", MUXANDU_REFUSED_OFFSET_MINUTE},
     };
-    MuxanduCivil out = JUNK;
+    MuxanduDateTime out = JUNK;
     MuxanduTimestamp at = stamp(7, 7);
     size_t row;
     for (row = 0; row < sizeof rows / sizeof *rows; row++) {
-        CHECK(muxandu_civil_from_rfc3339(rows[row].text, strlen(rows[row].text), &out) == rows[row].status);
+        CHECK(muxandu_date_time_from_rfc3339(rows[row].text, strlen(rows[row].text), &out) == rows[row].status);
         CHECK(muxandu_timestamp_from_rfc3339(rows[row].text, strlen(rows[row].text), &at) == rows[row].status);
     }
-    CHECK(is_civil(out, JUNK) && is_stamp(at, 7, 7));
-    CHECK(muxandu_civil_from_rfc3339("1996-12-19t16:39:57.5-08:00?", 27, &out) == MUXANDU_OK);
-    CHECK(is_civil(out, civil(1996, 12, 19, 16, 39, 57, 500000000, -28800)));
+    CHECK(is_date_time(out, JUNK) && is_stamp(at, 7, 7));
+    CHECK(muxandu_date_time_from_rfc3339("1996-12-19t16:39:57.5-08:00?", 27, &out) == MUXANDU_OK);
+    CHECK(is_date_time(out, date_time(1996, 12, 19, 16, 39, 57, 500000000, -28800)));
     CHECK(muxandu_timestamp_from_rfc3339("1996-12-19 16:39:57.5-08:00", 27, &at) == MUXANDU_OK &&
           is_stamp(at, 851042397, 500000000));
     CHECK(muxandu_timestamp_from_rfc3339("1970-01-01T00:00:00\0", 20, &at) == MUXANDU_REFUSED_SYNTAX);
@@ -360,25 +502,26 @@ static int is_batch(MuxanduBatch batch, size_t count, uint32_t status) {
 
 static void batches_of_seconds(void) {
     int64_t seconds[4] = {0, -1, INT64_MAX, 86400}, back[4] = {7, 7, 7, 7};
-    MuxanduCivil out[4] = {{0, 0, 0, 0, 0, 0, 0, 0}, {0, 0, 0, 0, 0, 0, 0, 0}, JUNK, JUNK};
-    CHECK(is_batch(muxandu_civils_from_seconds(seconds, 4, 60, out, 4), 2, MUXANDU_REFUSED_TIMESTAMP));
-    CHECK(is_civil(out[0], civil(1970, 1, 1, 0, 1, 0, 0, 60)) && is_civil(out[1], civil(1970, 1, 1, 0, 0, 59, 0, 60)));
-    CHECK(is_civil(out[2], JUNK) && is_civil(out[3], JUNK));
-    CHECK(is_batch(muxandu_seconds_from_civils(out, 2, back, 4), 2, MUXANDU_OK) && back[0] == 0 && back[1] == -1 &&
+    MuxanduDateTime out[4] = {{0, 0, 0, 0, 0, 0, 0, 0}, {0, 0, 0, 0, 0, 0, 0, 0}, JUNK, JUNK};
+    CHECK(is_batch(muxandu_date_times_from_seconds(seconds, 4, 60, out, 4), 2, MUXANDU_REFUSED_TIMESTAMP));
+    CHECK(is_date_time(out[0], date_time(1970, 1, 1, 0, 1, 0, 0, 60)) &&
+          is_date_time(out[1], date_time(1970, 1, 1, 0, 0, 59, 0, 60)));
+    CHECK(is_date_time(out[2], JUNK) && is_date_time(out[3], JUNK));
+    CHECK(is_batch(muxandu_seconds_from_date_times(out, 2, back, 4), 2, MUXANDU_OK) && back[0] == 0 && back[1] == -1 &&
           back[2] == 7);
     out[1].month = 13;
     back[1] = 7;
-    CHECK(is_batch(muxandu_seconds_from_civils(out, 2, back, 2), 1, MUXANDU_REFUSED_MONTH) && back[1] == 7);
-    out[1] = civil(-999999, 1, 1, 0, 0, 0, 0, 1);
-    CHECK(is_batch(muxandu_seconds_from_civils(out, 2, back, 2), 1, MUXANDU_REFUSED_RESULT) && back[1] == 7);
+    CHECK(is_batch(muxandu_seconds_from_date_times(out, 2, back, 2), 1, MUXANDU_REFUSED_MONTH) && back[1] == 7);
+    out[1] = date_time(-999999, 1, 1, 0, 0, 0, 0, 1);
+    CHECK(is_batch(muxandu_seconds_from_date_times(out, 2, back, 2), 1, MUXANDU_REFUSED_RESULT) && back[1] == 7);
     out[0] = JUNK;
-    CHECK(is_batch(muxandu_civils_from_seconds(seconds, 2, 0, out, 1), 0, MUXANDU_REFUSED_BUFFER) &&
-          is_civil(out[0], JUNK));
-    CHECK(is_batch(muxandu_civils_from_seconds(seconds, 2, 93600, out, 2), 0, MUXANDU_REFUSED_OFFSET_SECONDS) &&
-          is_civil(out[0], JUNK));
-    CHECK(is_batch(muxandu_civils_from_seconds(seconds, 0, 93600, out, 0), 0, MUXANDU_OK));
+    CHECK(is_batch(muxandu_date_times_from_seconds(seconds, 2, 0, out, 1), 0, MUXANDU_REFUSED_BUFFER) &&
+          is_date_time(out[0], JUNK));
+    CHECK(is_batch(muxandu_date_times_from_seconds(seconds, 2, 93600, out, 2), 0, MUXANDU_REFUSED_OFFSET_SECONDS) &&
+          is_date_time(out[0], JUNK));
+    CHECK(is_batch(muxandu_date_times_from_seconds(seconds, 0, 93600, out, 0), 0, MUXANDU_OK));
     back[0] = 7;
-    CHECK(is_batch(muxandu_seconds_from_civils(out, 2, back, 1), 0, MUXANDU_REFUSED_BUFFER) && back[0] == 7);
+    CHECK(is_batch(muxandu_seconds_from_date_times(out, 2, back, 1), 0, MUXANDU_REFUSED_BUFFER) && back[0] == 7);
 }
 
 static void batches_of_days(void) {
@@ -391,6 +534,86 @@ static void batches_of_days(void) {
     out[2].day = 32;
     CHECK(is_batch(muxandu_days_from_dates(out, 3, back, 3), 2, MUXANDU_REFUSED_DAY));
     CHECK(back[0] == days[0] && back[1] == days[1] && back[2] == 7);
+}
+
+static void dates_are_texts(void) {
+    static const struct {
+        const char *text;
+        uint32_t status;
+    } rows[] = {
+        {"", MUXANDU_REFUSED_SYNTAX},
+        {"2024-02-29T00:00:00Z", MUXANDU_REFUSED_SYNTAX},
+        {"2024-02-2", MUXANDU_REFUSED_SYNTAX},
+        {"2024-02-029", MUXANDU_REFUSED_SYNTAX},
+        {"2024/02/29", MUXANDU_REFUSED_SYNTAX},
+        {"2024-00-99", MUXANDU_REFUSED_MONTH},
+        {"2024-13-29", MUXANDU_REFUSED_MONTH},
+        {"2024-02-00", MUXANDU_REFUSED_DAY},
+        {"2024-02-32", MUXANDU_REFUSED_DAY},
+        {"2024-02-30", MUXANDU_REFUSED_DAY_OF_MONTH},
+        {"2023-02-29", MUXANDU_REFUSED_DAY_OF_MONTH},
+    };
+    MuxanduDate out = {7, 7, 7};
+    char text[11];
+    size_t row, size = 7;
+    for (row = 0; row < sizeof rows / sizeof *rows; row++) {
+        CHECK(muxandu_date_from_rfc3339(rows[row].text, strlen(rows[row].text), &out) == rows[row].status);
+    }
+    CHECK(is_date(out, 7, 7, 7));
+    CHECK(muxandu_date_from_rfc3339("2024-02-29T", 10, &out) == MUXANDU_OK && is_date(out, 2024, 2, 29));
+    CHECK(muxandu_date_to_rfc3339(date(2024, 13, 29), text, sizeof text, &size) == MUXANDU_REFUSED_MONTH && size == 7);
+    CHECK(muxandu_date_to_rfc3339(date(10000, 1, 1), text, sizeof text, &size) == MUXANDU_REFUSED_NO_TEXT);
+    CHECK(muxandu_date_to_rfc3339(date(-1, 12, 31), text, sizeof text, &size) == MUXANDU_REFUSED_NO_TEXT && size == 7);
+    memset(text, '!', sizeof text);
+    CHECK(muxandu_date_to_rfc3339(out, text, 9, &size) == MUXANDU_REFUSED_BUFFER && size == 10 && text[0] == '!');
+    CHECK(muxandu_date_to_rfc3339(out, text, 10, &size) == MUXANDU_OK && is_text(text, size, "2024-02-29"));
+    CHECK(text[10] == '!');
+    CHECK(muxandu_date_to_rfc3339(date(0, 1, 1), text, 11, &size) == MUXANDU_OK && is_text(text, size, "0000-01-01"));
+}
+
+static void batches_of_counts(void) {
+    int64_t counts[3] = {-1, 0, INT64_MAX}, back[3] = {7, 7, 7};
+    MuxanduDateTime out[3] = {JUNK, JUNK, JUNK};
+    CHECK(is_batch(muxandu_date_times_from_milliseconds(counts, 3, 60, out, 3), 2, MUXANDU_REFUSED_TIMESTAMP));
+    CHECK(is_date_time(out[0], date_time(1970, 1, 1, 0, 0, 59, 999000000, 60)) &&
+          is_date_time(out[1], date_time(1970, 1, 1, 0, 1, 0, 0, 60)) && is_date_time(out[2], JUNK));
+    CHECK(is_batch(muxandu_milliseconds_from_date_times(out, 2, back, 3), 2, MUXANDU_OK) && back[0] == -1 &&
+          back[1] == 0 && back[2] == 7);
+    CHECK(is_batch(muxandu_date_times_from_microseconds(counts, 3, 0, out, 3), 3, MUXANDU_OK));
+    CHECK(is_date_time(out[0], date_time(1969, 12, 31, 23, 59, 59, 999999000, 0)) &&
+          is_date_time(out[2], date_time(294247, 1, 10, 4, 0, 54, 775807000, 0)));
+    CHECK(is_batch(muxandu_microseconds_from_date_times(out, 3, back, 3), 3, MUXANDU_OK) && back[0] == -1 &&
+          back[2] == INT64_MAX);
+    out[1].year = 294248;
+    back[1] = 7;
+    CHECK(is_batch(muxandu_microseconds_from_date_times(out, 3, back, 3), 1, MUXANDU_REFUSED_RESULT) && back[1] == 7);
+    CHECK(is_batch(muxandu_date_times_from_nanoseconds(counts, 3, 0, out, 3), 3, MUXANDU_OK));
+    CHECK(is_date_time(out[0], date_time(1969, 12, 31, 23, 59, 59, 999999999, 0)) &&
+          is_date_time(out[2], date_time(2262, 4, 11, 23, 47, 16, 854775807, 0)));
+    CHECK(is_batch(muxandu_nanoseconds_from_date_times(out, 3, back, 3), 3, MUXANDU_OK) && back[0] == -1 &&
+          back[2] == INT64_MAX);
+    out[1].year = 2263;
+    CHECK(is_batch(muxandu_nanoseconds_from_date_times(out, 3, back, 3), 1, MUXANDU_REFUSED_RESULT));
+    CHECK(is_batch(muxandu_date_times_from_nanoseconds(counts, 2, 0, out, 1), 0, MUXANDU_REFUSED_BUFFER));
+    CHECK(is_batch(muxandu_milliseconds_from_date_times(out, 2, back, 1), 0, MUXANDU_REFUSED_BUFFER));
+}
+
+static void batches_go_on(void) {
+    int64_t seconds[3] = {0, INT64_MAX, -1}, back[3] = {7, 7, 7};
+    uint32_t statuses[4] = {99, 99, 99, 99};
+    MuxanduDateTime out[3] = {JUNK, JUNK, JUNK};
+    CHECK(is_batch(muxandu_date_times_from_each_second(seconds, 3, 0, out, 3, statuses, 4), 2, MUXANDU_OK));
+    CHECK(statuses[0] == MUXANDU_OK && statuses[1] == MUXANDU_REFUSED_TIMESTAMP && statuses[2] == MUXANDU_OK &&
+          statuses[3] == 99);
+    CHECK(is_date_time(out[0], date_time(1970, 1, 1, 0, 0, 0, 0, 0)) && is_date_time(out[1], JUNK) &&
+          is_date_time(out[2], date_time(1969, 12, 31, 23, 59, 59, 0, 0)));
+    out[1].month = 13;
+    CHECK(is_batch(muxandu_seconds_from_each_date_time(out, 3, back, 3, statuses, 3), 2, MUXANDU_OK));
+    CHECK(statuses[1] == MUXANDU_REFUSED_MONTH && back[0] == 0 && back[1] == 7 && back[2] == -1);
+    statuses[0] = 99;
+    CHECK(is_batch(muxandu_date_times_from_each_second(seconds, 3, 0, out, 3, statuses, 2), 0, MUXANDU_REFUSED_BUFFER));
+    CHECK(is_batch(muxandu_seconds_from_each_date_time(out, 3, back, 2, statuses, 3), 0, MUXANDU_REFUSED_BUFFER));
+    CHECK(statuses[0] == 99);
 }
 
 static void batches_of_texts(void) {
@@ -422,17 +645,26 @@ int main(void) {
     timestamps_are_apart();
     timestamps_are_truncated();
     timestamps_are_counted();
-    civils_are_tested();
+    date_times_are_tested();
     clocks_show_instants();
-    civils_move();
-    civils_are_compared();
-    civils_are_read();
+    date_times_move();
+    date_times_are_compared();
+    date_times_are_read();
     days_are_read();
     days_are_found();
+    dates_show_all();
+    times_of_day_are_tested();
+    dates_move();
+    offsets_have_parts();
+    parts_are_replaced();
+    structs_of_the_c_library();
     texts_are_written();
     texts_are_read();
     batches_of_seconds();
     batches_of_days();
+    dates_are_texts();
+    batches_of_counts();
+    batches_go_on();
     batches_of_texts();
     return counted();
 }

@@ -40,9 +40,9 @@ static inline MuxanduDate date(int32_t year, uint8_t month, uint8_t day) {
     return value;
 }
 
-static inline MuxanduCivil civil(int32_t year, uint8_t month, uint8_t day, uint8_t hour, uint8_t minute, uint8_t second,
-                                 uint32_t nanosecond, int32_t offset_seconds) {
-    MuxanduCivil at = {year, month, day, hour, minute, second, nanosecond, offset_seconds};
+static inline MuxanduDateTime date_time(int32_t year, uint8_t month, uint8_t day, uint8_t hour, uint8_t minute,
+                                        uint8_t second, uint32_t nanosecond, int32_t offset_seconds) {
+    MuxanduDateTime at = {year, month, day, hour, minute, second, nanosecond, offset_seconds};
     return at;
 }
 
@@ -58,7 +58,7 @@ static inline int is_date(MuxanduDate value, int32_t year, int month, int day) {
     return value.year == year && value.month == month && value.day == day;
 }
 
-static inline int is_civil(MuxanduCivil a, MuxanduCivil b) {
+static inline int is_date_time(MuxanduDateTime a, MuxanduDateTime b) {
     int is_day = a.year == b.year && a.month == b.month && a.day == b.day;
     int is_clock = a.hour == b.hour && a.minute == b.minute && a.second == b.second && a.nanosecond == b.nanosecond;
     return is_day && is_clock && a.offset_seconds == b.offset_seconds;
@@ -69,10 +69,10 @@ static inline int is_text(const char *bytes, size_t size, const char *text) {
 }
 
 /* Whether the library's own text of a date-time is this one. */
-static inline int shows(MuxanduCivil at, const char *text) {
+static inline int shows(MuxanduDateTime at, const char *text) {
     char bytes[MUXANDU_TEXT_ROOM];
     size_t size = 0;
-    return muxandu_civil_text(at, bytes, sizeof bytes, &size) == MUXANDU_OK && is_text(bytes, size, text);
+    return muxandu_date_time_text(at, bytes, sizeof bytes, &size) == MUXANDU_OK && is_text(bytes, size, text);
 }
 
 #endif

@@ -19,9 +19,9 @@ sys.dont_write_bytecode = True
 
 import civil as calendar  # noqa: E402
 import rfc3339  # noqa: E402
-from muxandu import CivilParts, Refused, muxandu_sys  # noqa: E402
-from muxandu import civils_from_seconds, dates_from_days, days_from_dates  # noqa: E402
-from muxandu import seconds_from_civils, timestamps_from_rfc3339  # noqa: E402
+from muxandu import DateTimeParts, Refused, muxandu_sys  # noqa: E402
+from muxandu import date_times_from_seconds, dates_from_days, days_from_dates  # noqa: E402
+from muxandu import seconds_from_date_times, timestamps_from_rfc3339  # noqa: E402
 from muxandu._library import library  # noqa: E402
 from muxandu.muxandu_sys import MuxanduDate, MuxanduDuration, MuxanduTimestamp  # noqa: E402
 from muxandu.muxandu_sys import MuxanduOrdinalDate, MuxanduWeekDate  # noqa: E402
@@ -103,7 +103,7 @@ def stamp(instant):
 
 
 def civil(wall, offset):
-    return CivilParts(*shown(wall, offset))
+    return DateTimeParts(*shown(wall, offset))
 
 
 def is_inside(number):
@@ -166,20 +166,20 @@ def compare_civils(source):
     duration, place, at = source.length(), source.random.randrange(6), civil(wall, offset)
     instant, later, earlier = wall - offset * SECOND, wall + whole(duration), wall - whole(duration)
     apart = instant - (other - there * SECOND)
-    expect("timestamp_from_civil", MuxanduTimestamp, (at,), divmod(instant, SECOND) if is_inside(instant) else RESULT)
+    expect("timestamp_from_date_time", MuxanduTimestamp, (at,), divmod(instant, SECOND) if is_inside(instant) else RESULT)
     moved = instant + there * SECOND
-    expect("civil_to_offset", CivilParts, (at, there), shown(moved, there) if is_inside(moved) else RESULT)
+    expect("date_time_to_offset", DateTimeParts, (at, there), shown(moved, there) if is_inside(moved) else RESULT)
     moved = wall + there * SECOND
-    expect("civil_from_timestamp", CivilParts, (stamp(wall), there), shown(moved, there) if is_inside(moved) else RESULT)
-    expect("civil_add", CivilParts, (at, duration), shown(later, offset) if is_inside(later) else RESULT)
-    expect("civil_subtract", CivilParts, (at, duration), shown(earlier, offset) if is_inside(earlier) else RESULT)
-    expect("civil_saturating_add", CivilParts, (at, duration), shown(clamped(later), offset))
-    expect("civil_saturating_subtract", CivilParts, (at, duration), shown(clamped(earlier), offset))
-    expect("civil_difference", MuxanduDuration, (at, civil(other, there)), signed(apart))
-    expect("civil_compare", ctypes.c_int32, (at, civil(other, there)), (apart > 0) - (apart < 0))
-    expect("civil_truncate", CivilParts, (at, place + 1), shown(wall - wall % UNITS[place], offset))
-    expect("civil_day", ctypes.c_int32, (at,), wall // calendar.DAY)
-    count(library.muxandu_civil_check(at) == 0, ("civil_check", parts(at)))
+    expect("date_time_from_timestamp", DateTimeParts, (stamp(wall), there), shown(moved, there) if is_inside(moved) else RESULT)
+    expect("date_time_add", DateTimeParts, (at, duration), shown(later, offset) if is_inside(later) else RESULT)
+    expect("date_time_subtract", DateTimeParts, (at, duration), shown(earlier, offset) if is_inside(earlier) else RESULT)
+    expect("date_time_saturating_add", DateTimeParts, (at, duration), shown(clamped(later), offset))
+    expect("date_time_saturating_subtract", DateTimeParts, (at, duration), shown(clamped(earlier), offset))
+    expect("date_time_difference", MuxanduDuration, (at, civil(other, there)), signed(apart))
+    expect("date_time_compare", ctypes.c_int32, (at, civil(other, there)), (apart > 0) - (apart < 0))
+    expect("date_time_truncate", DateTimeParts, (at, place + 1), shown(wall - wall % UNITS[place], offset))
+    expect("date_time_day", ctypes.c_int32, (at,), wall // calendar.DAY)
+    count(library.muxandu_date_time_check(at) == 0, ("date_time_check", parts(at)))
 
 
 def compare_days(source):
@@ -212,11 +212,11 @@ def compare_texts(source):
     wall, offset, instant = source.instant(), source.offset(), source.instant()
     at = civil(wall, offset)
     wanted = f"{calendar.date_time_text(wall)} {calendar.offset_text(offset)}"
-    count(text_of("civil_text", at) == wanted, ("civil_text", parts(at)))
+    count(text_of("date_time_text", at) == wanted, ("date_time_text", parts(at)))
     count(text_of("timestamp_text", stamp(instant)) == calendar.timestamp_text(instant), ("timestamp_text", instant))
     has_text = 0 <= at.year <= 9_999 and offset % 60 == 0 and abs(offset) < 86_400
     wanted = rfc3339.shortest_text((wall // SECOND) - offset, wall % SECOND, offset) if has_text else STATUS["NO_TEXT"]
-    count(text_of("civil_to_rfc3339", at) == wanted, ("civil_to_rfc3339", parts(at)))
+    count(text_of("date_time_to_rfc3339", at) == wanted, ("date_time_to_rfc3339", parts(at)))
     year = calendar.civil_date(instant // calendar.DAY)[0]
     wanted = rfc3339.shortest_text(*divmod(instant, SECOND), 0) if 0 <= year <= 9_999 else STATUS["NO_TEXT"]
     count(text_of("timestamp_to_rfc3339", stamp(instant)) == wanted, ("timestamp_to_rfc3339", instant))
@@ -237,23 +237,29 @@ def spelled(source):
     return text.encode()
 
 
-# The name in the library of each refusal of tools/rfc3339.py.
+# The name in the library of each refusal of tools/rfc3339.py, but of a day of 1 to 31 that its month has not.
 TEXT_STATUS = {
     "Syntax": "SYNTAX", "Month": "MONTH", "Day": "DAY", "Hour": "HOUR", "Minute": "MINUTE", "Second": "SECOND",
     "OffsetHour": "OFFSET_HOUR", "OffsetMinute": "OFFSET_MINUTE",
 }  # fmt: skip
 
 
+def name_of(said, text):
+    """The name of what a text is refused by."""
+    is_of_some_month = said == "Day" and b"01" <= text[8:10] <= b"31"
+    return "DAY_OF_MONTH" if is_of_some_month else TEXT_STATUS[said]
+
+
 def compare_reading(source):
     text = spelled(source)
     said = rfc3339.reading(text)
-    wanted = STATUS[TEXT_STATUS[said]] if isinstance(said, str) else said
-    out, at = CivilParts(), MuxanduTimestamp()
-    status = library.muxandu_civil_from_rfc3339(text, len(text), ctypes.byref(out))
+    wanted = STATUS[name_of(said, text)] if isinstance(said, str) else said
+    out, at = DateTimeParts(), MuxanduTimestamp()
+    status = library.muxandu_date_time_from_rfc3339(text, len(text), ctypes.byref(out))
     if not isinstance(said, str):
         second, nanosecond, offset = said
         wanted = shown((second + offset) * SECOND + nanosecond, offset)
-    count((status or parts(out)) == wanted, ("civil_from_rfc3339", text))
+    count((status or parts(out)) == wanted, ("date_time_from_rfc3339", text))
     status = library.muxandu_timestamp_from_rfc3339(text, len(text), ctypes.byref(at))
     count((status or parts(at)) == (wanted if isinstance(said, str) else said[:2]), ("timestamp_from_rfc3339", text))
 
@@ -261,10 +267,10 @@ def compare_reading(source):
 def compare_seconds_batch(source):
     offset = source.offset()
     seconds = array.array("q", (min(max(source.second(), FIRST + MOST_OFFSET), LAST - MOST_OFFSET) for _ in range(ITEMS)))
-    civils = civils_from_seconds(seconds, offset)
+    civils = date_times_from_seconds(seconds, offset)
     for second, item in zip(seconds, civils):
-        count(parts(item) == shown((second + offset) * SECOND, offset), ("civils_from_seconds", second, offset))
-    count(seconds_from_civils(civils) == seconds, "seconds_from_civils", ITEMS)
+        count(parts(item) == shown((second + offset) * SECOND, offset), ("date_times_from_seconds", second, offset))
+    count(seconds_from_date_times(civils) == seconds, "seconds_from_date_times", ITEMS)
 
 
 def compare_days_batch(source):
@@ -285,7 +291,8 @@ def compare_texts_batch(source):
             done = len(texts)
         except Refused as refused:
             done = refused.count
-            count(TEXT_STATUS.get(said[done]) == refused.name, ("timestamps_from_rfc3339", texts[done]))
+            is_named = isinstance(said[done], str) and name_of(said[done], texts[done]) == refused.name
+            count(is_named, ("timestamps_from_rfc3339", texts[done]))
         for item, (text, reading) in zip(out[:done], zip(texts, said)):
             count(parts(item) == reading[:2], ("timestamps_from_rfc3339", text))
         texts, said = texts[done + 1 :], said[done + 1 :]

@@ -7,6 +7,7 @@
 
 #include "checks.h"
 #include "reference.h"
+#include "reference_dates.h"
 
 static uint64_t state;
 
@@ -82,12 +83,12 @@ static int32_t some_year(void) {
     return one_of(8) ? (int32_t)between(-999999, 999999) : one_of(8) ? (int32_t)near(-999999, 999999) : (int32_t)next();
 }
 
-static MuxanduCivil some_civil(void) {
-    MuxanduCivil at;
+static MuxanduDateTime some_date_time(void) {
+    MuxanduDateTime at;
     MuxanduTimestamp instant = some_stamp();
-    if (reference_civil_from_timestamp(instant, some_offset(), &at) != MUXANDU_OK) at = civil_of(0, 0);
+    if (reference_date_time_from_timestamp(instant, some_offset(), &at) != MUXANDU_OK) at = date_time_of(0, 0);
     if (one_of(16) == 0) at.offset_seconds = some_offset();
-    if (one_of(16) == 0) at = civil_of(one_of(2) ? reference_first() : reference_last(), some_offset());
+    if (one_of(16) == 0) at = date_time_of(one_of(2) ? reference_first() : reference_last(), some_offset());
     if (one_of(8) != 0) return at;
     switch (one_of(8)) {
     case 0: at.year = some_year(); break;
@@ -103,7 +104,7 @@ static MuxanduCivil some_civil(void) {
 }
 
 static MuxanduDate some_date(void) {
-    MuxanduCivil at = some_civil();
+    MuxanduDateTime at = some_date_time();
     return date(at.year, at.month, at.day);
 }
 
@@ -201,20 +202,25 @@ static int is_written(uint32_t status, const char *buffer, size_t room, size_t s
     } while (0)
 
 static void compare_texts(uint32_t kind) {
-    MuxanduCivil civil = some_civil(), in_utc = civil_of(0, 0);
+    MuxanduDateTime date_time = some_date_time(), in_utc = date_time_of(0, 0);
     MuxanduTimestamp at = some_stamp();
     uint32_t refused;
     if (one_of(2))
-        civil = civil_of((Nanoseconds)between(-62167219200, 253402300799) * 1000000000 + some_nanosecond() % 1000000000,
+        date_time =
+            date_time_of((Nanoseconds)between(-62167219200, 253402300799) * 1000000000 + some_nanosecond() % 1000000000,
                          some_offset());
     if (one_of(2)) at.seconds = between(-62167219200 - 86400, 253402300799 + 86400);
     refused = reference_timestamp_check(at);
-    if (refused == MUXANDU_OK) in_utc = civil_of(instant_of(at), 0);
+    if (refused == MUXANDU_OK) in_utc = date_time_of(instant_of(at), 0);
     switch (kind) {
-    case 0: COMPARE_TEXT(civil_text, civil, reference_civil_check(civil), reference_civil_text(civil, text)); break;
+    case 0:
+        COMPARE_TEXT(date_time_text, date_time, reference_date_time_check(date_time),
+                     reference_date_time_text(date_time, text));
+        break;
     case 1: COMPARE_TEXT(timestamp_text, at, refused, reference_timestamp_text(at, text)); break;
     case 2:
-        COMPARE_TEXT(civil_to_rfc3339, civil, reference_civil_check(civil), reference_to_rfc3339(civil, text));
+        COMPARE_TEXT(date_time_to_rfc3339, date_time, reference_date_time_check(date_time),
+                     reference_to_rfc3339(date_time, text));
         break;
     case 3: COMPARE_TEXT(timestamp_to_rfc3339, at, refused, reference_to_rfc3339(in_utc, text)); break;
     default: COMPARE_TEXT(timestamp_to_rfc3339_nanos, at, refused, reference_to_rfc3339_nanos(in_utc, text)); break;
@@ -223,11 +229,11 @@ static void compare_texts(uint32_t kind) {
 
 /* A text of RFC 3339 spelled in a random way, one in four of them spoiled, with a byte 0 behind its end. */
 static size_t some_text(char *out) {
-    MuxanduCivil at =
-        civil_of((Nanoseconds)between(-62167219200, 253402300799) * 1000000000 + some_nanosecond() % 1000000000,
-                 (int32_t)between(-1439, 1439) * 60);
+    MuxanduDateTime at =
+        date_time_of((Nanoseconds)between(-62167219200, 253402300799) * 1000000000 + some_nanosecond() % 1000000000,
+                     (int32_t)between(-1439, 1439) * 60);
     size_t size = one_of(4) ? reference_to_rfc3339(at, out) : reference_to_rfc3339_nanos(at, out);
-    if (size == 0) size = reference_to_rfc3339(civil_of(0, 0), out);
+    if (size == 0) size = reference_to_rfc3339(date_time_of(0, 0), out);
     out[size] = 0;
     if (one_of(4) == 0) out[10] = "t "[one_of(2)];
     if (one_of(4) == 0 && out[size - 1] == 'Z') out[size - 1] = 'z';
@@ -239,19 +245,39 @@ static size_t some_text(char *out) {
     return size;
 }
 
-static void compare_reading(int is_civil_wanted) {
+static void compare_reading(int is_date_time_wanted) {
     char text[REFERENCE_ROOM];
     size_t size = some_text(text);
-    MuxanduCivil civil = civil_of(7, 7), wanted = civil;
+    MuxanduDateTime date_time = date_time_of(7, 7), wanted = date_time;
     MuxanduTimestamp at = stamp(7, 7), instant = at;
-    if (is_civil_wanted) {
-        uint32_t status = muxandu_civil_from_rfc3339(text, size, &civil);
-        tell("civil_from_rfc3339", status == reference_civil_from_rfc3339(text, &wanted) && is_civil(civil, wanted));
+    if (is_date_time_wanted) {
+        uint32_t status = muxandu_date_time_from_rfc3339(text, size, &date_time);
+        tell("date_time_from_rfc3339",
+             status == reference_date_time_from_rfc3339(text, &wanted) && is_date_time(date_time, wanted));
     } else {
         uint32_t status = muxandu_timestamp_from_rfc3339(text, size, &at);
         tell("timestamp_from_rfc3339",
              status == reference_timestamp_from_rfc3339(text, &instant) && same_stamp(at, instant));
     }
+}
+
+/* A date and a text of one, one in two of them spoiled. */
+static void compare_dates_as_texts(int is_read) {
+    char text[REFERENCE_ROOM];
+    MuxanduDate value = some_date(), ours = {7, 7, 7}, theirs = ours;
+    uint32_t status;
+    if (one_of(4)) value.year = (int32_t)one_of(10001) - 1;
+    if (!is_read) {
+        COMPARE_TEXT(date_to_rfc3339, value, reference_date_check(value), reference_date_to_rfc3339(value, text));
+        return;
+    }
+    sprintf(text, "%04d-%02d-%02d", (int)one_of(10000), (int)one_of(14), (int)one_of(33));
+    if (one_of(2) == 0) text[one_of(11)] = "0123456789:.-+TZ x"[one_of(18)];
+    text[10] = 0;
+    if (one_of(8) == 0) text[one_of(10)] = 0;
+    status = muxandu_date_from_rfc3339(text, strlen(text), &ours);
+    tell("date_from_rfc3339",
+         status == reference_date_from_rfc3339(text, &theirs) && is_date(ours, theirs.year, theirs.month, theirs.day));
 }
 
 enum { MOST_ITEMS = 8 };
@@ -277,9 +303,9 @@ enum { MOST_ITEMS = 8 };
         tell(name, is_same);                                                                                           \
     } while (0)
 
-static uint32_t second_of(MuxanduCivil civil, int64_t *out) {
+static uint32_t second_of(MuxanduDateTime date_time, int64_t *out) {
     MuxanduTimestamp at;
-    REFUSE(reference_timestamp_from_civil(civil, &at));
+    REFUSE(reference_timestamp_from_date_time(date_time, &at));
     *out = at.seconds;
     return MUXANDU_OK;
 }
@@ -289,23 +315,24 @@ static void compare_batches(uint32_t kind) {
            room = one_of(16) ? count + one_of((uint32_t)(MOST_ITEMS - count) + 1) : one_of(MOST_ITEMS + 1), item;
     int64_t seconds[MOST_ITEMS];
     int32_t days[MOST_ITEMS], offset = some_offset();
-    MuxanduCivil civils[MOST_ITEMS];
+    MuxanduDateTime date_times[MOST_ITEMS];
     MuxanduDate dates[MOST_ITEMS];
     for (item = 0; item < MOST_ITEMS; item++) {
         seconds[item] = some_second();
         days[item] = some_day();
-        civils[item] = some_civil();
+        date_times[item] = some_date_time();
         dates[item] = some_date();
     }
     switch (kind) {
     case 0:
-        COMPARE_BATCH(MuxanduCivil, is_civil, "civils_from_seconds",
-                      muxandu_civils_from_seconds(seconds, count, offset, ours, room),
-                      reference_civil_from_timestamp(stamp(seconds[k], 0), offset, theirs + k));
+        COMPARE_BATCH(MuxanduDateTime, is_date_time, "date_times_from_seconds",
+                      muxandu_date_times_from_seconds(seconds, count, offset, ours, room),
+                      reference_date_time_from_timestamp(stamp(seconds[k], 0), offset, theirs + k));
         break;
     case 1:
-        COMPARE_BATCH(int64_t, same_number, "seconds_from_civils",
-                      muxandu_seconds_from_civils(civils, count, ours, room), second_of(civils[k], theirs + k));
+        COMPARE_BATCH(int64_t, same_number, "seconds_from_date_times",
+                      muxandu_seconds_from_date_times(date_times, count, ours, room),
+                      second_of(date_times[k], theirs + k));
         break;
     case 2:
         COMPARE_BATCH(MuxanduDate, same_date, "dates_from_days", muxandu_dates_from_days(days, count, ours, room),
@@ -318,6 +345,102 @@ static void compare_batches(uint32_t kind) {
     }
 }
 
+/* What each unit below the second counts as an instant, and back. */
+static uint32_t from_count(uint32_t unit, int64_t count, MuxanduTimestamp *out) {
+    if (unit == 0) return reference_timestamp_from_milliseconds(count, out);
+    *out = unit == 1 ? reference_timestamp_from_microseconds(count) : reference_timestamp_from_nanoseconds(count);
+    return MUXANDU_OK;
+}
+
+static uint32_t to_count(uint32_t unit, MuxanduTimestamp at, int64_t *out) {
+    if (unit == 0) return reference_timestamp_to_milliseconds(at, out);
+    return unit == 1 ? reference_timestamp_to_microseconds(at, out) : reference_timestamp_to_nanoseconds(at, out);
+}
+
+static uint32_t shown_at_count(uint32_t unit, int64_t count, int32_t offset, MuxanduDateTime *out) {
+    MuxanduTimestamp at;
+    REFUSE(from_count(unit, count, &at));
+    return reference_date_time_from_timestamp(at, offset, out);
+}
+
+static uint32_t count_of(uint32_t unit, MuxanduDateTime date_time, int64_t *out) {
+    MuxanduTimestamp at;
+    REFUSE(reference_timestamp_from_date_time(date_time, &at));
+    return to_count(unit, at, out);
+}
+
+static void compare_batches_of_counts(uint32_t kind) {
+    static MuxanduBatch (*const shown[])(const int64_t *, size_t, int32_t, MuxanduDateTime *, size_t) = {
+        muxandu_date_times_from_milliseconds, muxandu_date_times_from_microseconds,
+        muxandu_date_times_from_nanoseconds};
+    static MuxanduBatch (*const counted_of[])(const MuxanduDateTime *, size_t, int64_t *, size_t) = {
+        muxandu_milliseconds_from_date_times, muxandu_microseconds_from_date_times,
+        muxandu_nanoseconds_from_date_times};
+    static const char *const names[] = {"date_times_from_milliseconds", "date_times_from_microseconds",
+                                        "date_times_from_nanoseconds",  "milliseconds_from_date_times",
+                                        "microseconds_from_date_times", "nanoseconds_from_date_times"};
+    size_t count = one_of(MOST_ITEMS + 1), room = one_of(16) ? count : one_of(MOST_ITEMS + 1), item;
+    uint32_t unit = kind % 3;
+    int64_t counts[MOST_ITEMS];
+    int32_t offset = one_of(8) ? (int32_t)one_of(7200) - 3600 : some_offset();
+    MuxanduDateTime date_times[MOST_ITEMS];
+    for (item = 0; item < MOST_ITEMS; item++) {
+        counts[item] = one_of(16) ? (int64_t)((uint64_t)some_second() * 1000 + one_of(1000)) : (int64_t)next();
+        date_times[item] = some_date_time();
+        if (one_of(2) && unit == 2) date_times[item].year = 1678 + (int32_t)one_of(580);
+    }
+    if (kind < 3) {
+        COMPARE_BATCH(MuxanduDateTime, is_date_time, names[kind], shown[unit](counts, count, offset, ours, room),
+                      shown_at_count(unit, counts[k], offset, theirs + k));
+    } else {
+        COMPARE_BATCH(int64_t, same_number, names[kind], counted_of[unit](date_times, count, ours, room),
+                      count_of(unit, date_times[k], theirs + k));
+    }
+}
+
+/* Compares a batch that goes on after refusals with calls of the reference: each item has a status. */
+#define COMPARE_EACH(type, same, name, batch, one)                                                                     \
+    do {                                                                                                               \
+        type ours[MOST_ITEMS], theirs[MOST_ITEMS];                                                                     \
+        uint32_t statuses[MOST_ITEMS], wanted[MOST_ITEMS];                                                             \
+        MuxanduBatch done;                                                                                             \
+        size_t k, converted = 0;                                                                                       \
+        int has_room = room >= count && statuses_room >= count, is_same;                                               \
+        memset(ours, 7, sizeof ours);                                                                                  \
+        memcpy(theirs, ours, sizeof ours);                                                                             \
+        memset(statuses, 7, sizeof statuses);                                                                          \
+        memcpy(wanted, statuses, sizeof statuses);                                                                     \
+        for (k = 0; has_room && k < count; k++) {                                                                      \
+            wanted[k] = one;                                                                                           \
+            converted += wanted[k] == MUXANDU_OK;                                                                      \
+        }                                                                                                              \
+        done = batch;                                                                                                  \
+        is_same = done.count == converted && done.status == (has_room ? 0 : (uint32_t)MUXANDU_REFUSED_BUFFER);         \
+        for (k = 0; k < MOST_ITEMS; k++) is_same = is_same && same(ours[k], theirs[k]) && statuses[k] == wanted[k];    \
+        tell(name, is_same);                                                                                           \
+    } while (0)
+
+static void compare_each(uint32_t kind) {
+    size_t count = one_of(MOST_ITEMS + 1), room = one_of(16) ? count : one_of(MOST_ITEMS + 1), item;
+    size_t statuses_room = one_of(16) ? count : one_of(MOST_ITEMS + 1);
+    int64_t seconds[MOST_ITEMS];
+    int32_t offset = some_offset();
+    MuxanduDateTime date_times[MOST_ITEMS];
+    for (item = 0; item < MOST_ITEMS; item++) {
+        seconds[item] = some_second();
+        date_times[item] = some_date_time();
+    }
+    if (kind == 0) {
+        COMPARE_EACH(MuxanduDateTime, is_date_time, "date_times_from_each_second",
+                     muxandu_date_times_from_each_second(seconds, count, offset, ours, room, statuses, statuses_room),
+                     reference_date_time_from_timestamp(stamp(seconds[k], 0), offset, theirs + k));
+    } else {
+        COMPARE_EACH(int64_t, same_number, "seconds_from_each_date_time",
+                     muxandu_seconds_from_each_date_time(date_times, count, ours, room, statuses, statuses_room),
+                     second_of(date_times[k], theirs + k));
+    }
+}
+
 static void compare_batch_of_texts(void) {
     char texts[MOST_ITEMS][REFERENCE_ROOM];
     MuxanduSpan spans[MOST_ITEMS];
@@ -327,12 +450,12 @@ static void compare_batch_of_texts(void) {
         spans[item].length = some_text(texts[item]);
         if (one_of(64) == 0) spans[item].start = one_of(2) ? sizeof texts : (size_t)next() | (size_t)1 << 32;
     }
-    COMPARE_BATCH(
-        MuxanduTimestamp, same_stamp, "timestamps_from_rfc3339",
-        muxandu_timestamps_from_rfc3339(texts[0], sizeof texts, spans, count, ours, room),
-        spans[k].start != k * REFERENCE_ROOM
-            ? (spans[k].start == sizeof texts && spans[k].length == 0 ? MUXANDU_REFUSED_SYNTAX : MUXANDU_REFUSED_SPAN)
-            : reference_timestamp_from_rfc3339(texts[k], theirs + k));
+    COMPARE_BATCH(MuxanduTimestamp, same_stamp, "timestamps_from_rfc3339",
+                  muxandu_timestamps_from_rfc3339(texts[0], sizeof texts, spans, count, ours, room),
+                  spans[k].start != k * REFERENCE_ROOM
+                      ? (uint32_t)(spans[k].start == sizeof texts && spans[k].length == 0 ? MUXANDU_REFUSED_SYNTAX
+                                                                                          : MUXANDU_REFUSED_SPAN)
+                      : reference_timestamp_from_rfc3339(texts[k], theirs + k));
 }
 
 static void compare_timestamps(uint32_t kind) {
@@ -374,25 +497,25 @@ static void compare_counts(uint32_t kind) {
     }
 }
 
-static void compare_civils(uint32_t kind) {
-    MuxanduCivil civil = some_civil(), other = some_civil();
+static void compare_date_times(uint32_t kind) {
+    MuxanduDateTime date_time = some_date_time(), other = some_date_time();
     MuxanduTimestamp at = some_stamp();
     MuxanduDuration duration = some_duration();
     int32_t offset = some_offset();
     uint32_t unit = some_unit();
     switch (kind) {
-    case 0: tell("civil_check", muxandu_civil_check(civil) == reference_civil_check(civil)); break;
-    case 1: COMPARE(MuxanduCivil, is_civil, civil_from_timestamp, at, offset); break;
-    case 2: COMPARE(MuxanduTimestamp, same_stamp, timestamp_from_civil, civil); break;
-    case 3: COMPARE(MuxanduCivil, is_civil, civil_to_offset, civil, offset); break;
-    case 4: COMPARE(MuxanduCivil, is_civil, civil_add, civil, duration); break;
-    case 5: COMPARE(MuxanduCivil, is_civil, civil_subtract, civil, duration); break;
-    case 6: COMPARE(MuxanduCivil, is_civil, civil_saturating_add, civil, duration); break;
-    case 7: COMPARE(MuxanduCivil, is_civil, civil_saturating_subtract, civil, duration); break;
-    case 8: COMPARE(MuxanduDuration, same_length, civil_difference, civil, other); break;
-    case 9: COMPARE(MuxanduCivil, is_civil, civil_truncate, civil, unit); break;
-    case 10: COMPARE(int32_t, same_number, civil_compare, civil, other); break;
-    default: COMPARE(int32_t, same_number, civil_day, civil); break;
+    case 0: tell("date_time_check", muxandu_date_time_check(date_time) == reference_date_time_check(date_time)); break;
+    case 1: COMPARE(MuxanduDateTime, is_date_time, date_time_from_timestamp, at, offset); break;
+    case 2: COMPARE(MuxanduTimestamp, same_stamp, timestamp_from_date_time, date_time); break;
+    case 3: COMPARE(MuxanduDateTime, is_date_time, date_time_to_offset, date_time, offset); break;
+    case 4: COMPARE(MuxanduDateTime, is_date_time, date_time_add, date_time, duration); break;
+    case 5: COMPARE(MuxanduDateTime, is_date_time, date_time_subtract, date_time, duration); break;
+    case 6: COMPARE(MuxanduDateTime, is_date_time, date_time_saturating_add, date_time, duration); break;
+    case 7: COMPARE(MuxanduDateTime, is_date_time, date_time_saturating_subtract, date_time, duration); break;
+    case 8: COMPARE(MuxanduDuration, same_length, date_time_difference, date_time, other); break;
+    case 9: COMPARE(MuxanduDateTime, is_date_time, date_time_truncate, date_time, unit); break;
+    case 10: COMPARE(int32_t, same_number, date_time_compare, date_time, other); break;
+    default: COMPARE(int32_t, same_number, date_time_day, date_time); break;
     }
 }
 
@@ -431,15 +554,61 @@ static void compare_days(uint32_t kind) {
     }
 }
 
-/* One call of any kind, each group as often as it has calls. */
-static void compare_one(void) {
-    uint32_t kind = one_of(46);
+static int same_reads(MuxanduDateReads a, MuxanduDateReads b) {
+    return a.day == b.day && a.julian_day == b.julian_day && a.iso_year == b.iso_year && a.ordinal == b.ordinal &&
+           a.iso_week == b.iso_week && a.weekday == b.weekday && a.sunday_based_week == b.sunday_based_week &&
+           a.monday_based_week == b.monday_based_week;
+}
+
+static int same_offset(MuxanduOffset a, MuxanduOffset b) {
+    return a.hours == b.hours && a.minutes == b.minutes && a.seconds == b.seconds;
+}
+
+/* A value for a part, mostly one that it can have. */
+static int32_t some_value(uint32_t part) {
+    static const int32_t most[] = {31, 999999, 12, 31, 366, 23, 59, 59, 999999999};
+    if (part == MUXANDU_PART_YEAR) return some_year();
+    if (one_of(16) == 0) return (int32_t)next();
+    return (int32_t)between(one_of(8) ? 1 : -1, part < 9 ? most[part] + (one_of(8) == 0) : 1);
+}
+
+/* What dates show and come to, parts that are replaced, offsets. */
+static void compare_dates(uint32_t kind) {
+    MuxanduDate value = some_date();
+    int32_t count = (int32_t)((int64_t)next() >> (32 + one_of(32)));
+    uint32_t part = one_of(16) ? 1 + one_of(8) : (uint32_t)next() >> one_of(32);
+    MuxanduOffset parts = {(int8_t)between(-26, 26), (int8_t)between(-60, 60), (int8_t)between(-60, 60)};
+    MuxanduDateTime at = some_date_time();
+    MuxanduTimestamp instant = some_stamp();
+    int32_t offset = some_offset(), held = some_value(part), julian_day = some_day();
+    if (one_of(2)) julian_day = (int32_t)between(-363521074 - 2, 366963559 + 2);
+    if (one_of(8) == 0) parts.hours = one_of(2) ? 0 : (int8_t)next();
+    if (one_of(8) == 0) parts.minutes = one_of(2) ? 0 : (int8_t)next();
+    switch (kind) {
+    case 0: COMPARE(MuxanduDateReads, same_reads, date_reads, value); break;
+    case 1: COMPARE(MuxanduDate, same_date, date_from_julian_day, julian_day); break;
+    case 2: COMPARE(MuxanduDate, same_date, date_add_days, value, count); break;
+    case 3: COMPARE(MuxanduDate, same_date, date_add_months, value, count); break;
+    case 4: COMPARE(int32_t, same_number, offset_from_parts, parts); break;
+    case 5: COMPARE(MuxanduOffset, same_offset, offset_to_parts, offset); break;
+    case 6: COMPARE(MuxanduDateTime, is_date_time, date_time_replace, at, part, held); break;
+    case 7: COMPARE(MuxanduTimestamp, same_stamp, timestamp_replace, instant, part, held); break;
+    default:
+        tell("time_check", muxandu_time_check(at.hour, at.minute, at.second, at.nanosecond) ==
+                               reference_time_check(at.hour, at.minute, at.second, at.nanosecond));
+        break;
+    }
+}
+
+/* A call of the others, each group as often as it has calls. */
+static void compare_other(void) {
+    uint32_t kind = one_of(56);
     if (kind < 8) {
         compare_timestamps(kind);
     } else if (kind < 14) {
         compare_counts(kind - 8);
     } else if (kind < 26) {
-        compare_civils(kind - 14);
+        compare_date_times(kind - 14);
     } else if (kind < 34) {
         compare_days(kind - 26);
     } else if (kind < 38) {
@@ -448,9 +617,24 @@ static void compare_one(void) {
         compare_batch_of_texts();
     } else if (kind < 41) {
         compare_reading(kind == 39);
-    } else {
+    } else if (kind < 46) {
         compare_texts(kind - 41);
+    } else if (kind < 52) {
+        compare_batches_of_counts(kind - 46);
+    } else if (kind < 54) {
+        compare_each(kind - 52);
+    } else {
+        compare_dates_as_texts(kind == 54);
     }
+}
+
+/* One call of any kind, each group as often as it has calls. */
+static void compare_one(void) {
+    if (one_of(65) < 9) {
+        compare_dates(one_of(9));
+        return;
+    }
+    compare_other();
 }
 
 int main(int words, char **word) {

@@ -94,29 +94,29 @@ static inline int is_duration(MuxanduDuration duration) {
     return duration_of(length).seconds == length / 1000000000;
 }
 
-static inline Nanoseconds wall_of(MuxanduCivil civil) {
-    int64_t second =
-        era_day(civil.year, civil.month, civil.day) * 86400 + civil.hour * 3600 + civil.minute * 60 + civil.second;
-    return (Nanoseconds)second * 1000000000 + civil.nanosecond;
+static inline Nanoseconds wall_of(MuxanduDateTime date_time) {
+    int64_t second = era_day(date_time.year, date_time.month, date_time.day) * 86400 + date_time.hour * 3600 +
+                     date_time.minute * 60 + date_time.second;
+    return (Nanoseconds)second * 1000000000 + date_time.nanosecond;
 }
 
-static inline Nanoseconds civil_instant(MuxanduCivil civil) {
-    return wall_of(civil) - (Nanoseconds)civil.offset_seconds * 1000000000;
+static inline Nanoseconds date_time_instant(MuxanduDateTime date_time) {
+    return wall_of(date_time) - (Nanoseconds)date_time.offset_seconds * 1000000000;
 }
 
-static inline MuxanduCivil civil_of(Nanoseconds wall, int32_t offset_seconds) {
+static inline MuxanduDateTime date_time_of(Nanoseconds wall, int32_t offset_seconds) {
     Nanoseconds nanosecond, second = split(wall, 1000000000, &nanosecond), of_day;
     MuxanduDate date = era_date((int64_t)split(second, 86400, &of_day));
     uint32_t clock = (uint32_t)of_day;
-    MuxanduCivil civil = {date.year,
-                          date.month,
-                          date.day,
-                          (uint8_t)(clock / 3600),
-                          (uint8_t)(clock / 60 % 60),
-                          (uint8_t)(clock % 60),
-                          (uint32_t)nanosecond,
-                          offset_seconds};
-    return civil;
+    MuxanduDateTime date_time = {date.year,
+                                 date.month,
+                                 date.day,
+                                 (uint8_t)(clock / 3600),
+                                 (uint8_t)(clock / 60 % 60),
+                                 (uint8_t)(clock % 60),
+                                 (uint32_t)nanosecond,
+                                 offset_seconds};
+    return date_time;
 }
 
 static inline uint32_t reference_date_check(MuxanduDate date) {
@@ -132,15 +132,15 @@ static inline uint32_t reference_offset_check(int32_t offset_seconds) {
     return is_offset ? MUXANDU_OK : MUXANDU_REFUSED_OFFSET_SECONDS;
 }
 
-static inline uint32_t reference_civil_check(MuxanduCivil civil) {
-    MuxanduDate date = {civil.year, civil.month, civil.day};
+static inline uint32_t reference_date_time_check(MuxanduDateTime date_time) {
+    MuxanduDate date = {date_time.year, date_time.month, date_time.day};
     uint32_t status = reference_date_check(date);
     if (status != MUXANDU_OK) return status;
-    if (civil.hour > 23) return MUXANDU_REFUSED_HOUR;
-    if (civil.minute > 59) return MUXANDU_REFUSED_MINUTE;
-    if (civil.second > 59) return MUXANDU_REFUSED_SECOND;
-    if (civil.nanosecond > 999999999) return MUXANDU_REFUSED_NANOSECOND;
-    return reference_offset_check(civil.offset_seconds);
+    if (date_time.hour > 23) return MUXANDU_REFUSED_HOUR;
+    if (date_time.minute > 59) return MUXANDU_REFUSED_MINUTE;
+    if (date_time.second > 59) return MUXANDU_REFUSED_SECOND;
+    if (date_time.nanosecond > 999999999) return MUXANDU_REFUSED_NANOSECOND;
+    return reference_offset_check(date_time.offset_seconds);
 }
 
 static inline uint32_t reference_timestamp_check(MuxanduTimestamp at) {
@@ -155,9 +155,9 @@ static inline uint32_t give_stamp(Nanoseconds instant, MuxanduTimestamp *out) {
     return MUXANDU_OK;
 }
 
-static inline uint32_t give_civil(Nanoseconds wall, int32_t offset_seconds, MuxanduCivil *out) {
+static inline uint32_t give_date_time(Nanoseconds wall, int32_t offset_seconds, MuxanduDateTime *out) {
     if (!is_inside(wall)) return MUXANDU_REFUSED_RESULT;
-    *out = civil_of(wall, offset_seconds);
+    *out = date_time_of(wall, offset_seconds);
     return MUXANDU_OK;
 }
 
@@ -280,73 +280,79 @@ static inline uint32_t reference_timestamp_to_microseconds(MuxanduTimestamp at, 
     return give_number(split(instant_of(at), 1000, &rest), out);
 }
 
-static inline uint32_t reference_civil_from_timestamp(MuxanduTimestamp at, int32_t offset_seconds, MuxanduCivil *out) {
+static inline uint32_t reference_date_time_from_timestamp(MuxanduTimestamp at, int32_t offset_seconds,
+                                                          MuxanduDateTime *out) {
     REFUSE(reference_timestamp_check(at));
     REFUSE(reference_offset_check(offset_seconds));
-    return give_civil(instant_of(at) + (Nanoseconds)offset_seconds * 1000000000, offset_seconds, out);
+    return give_date_time(instant_of(at) + (Nanoseconds)offset_seconds * 1000000000, offset_seconds, out);
 }
 
-static inline uint32_t reference_timestamp_from_civil(MuxanduCivil civil, MuxanduTimestamp *out) {
-    REFUSE(reference_civil_check(civil));
-    return give_stamp(civil_instant(civil), out);
+static inline uint32_t reference_timestamp_from_date_time(MuxanduDateTime date_time, MuxanduTimestamp *out) {
+    REFUSE(reference_date_time_check(date_time));
+    return give_stamp(date_time_instant(date_time), out);
 }
 
-static inline uint32_t reference_civil_to_offset(MuxanduCivil civil, int32_t offset_seconds, MuxanduCivil *out) {
-    REFUSE(reference_civil_check(civil));
+static inline uint32_t reference_date_time_to_offset(MuxanduDateTime date_time, int32_t offset_seconds,
+                                                     MuxanduDateTime *out) {
+    REFUSE(reference_date_time_check(date_time));
     REFUSE(reference_offset_check(offset_seconds));
-    return give_civil(civil_instant(civil) + (Nanoseconds)offset_seconds * 1000000000, offset_seconds, out);
+    return give_date_time(date_time_instant(date_time) + (Nanoseconds)offset_seconds * 1000000000, offset_seconds, out);
 }
 
-static inline uint32_t reference_civil_truncate(MuxanduCivil civil, uint32_t unit, MuxanduCivil *out) {
-    REFUSE(reference_civil_check(civil));
+static inline uint32_t reference_date_time_truncate(MuxanduDateTime date_time, uint32_t unit, MuxanduDateTime *out) {
+    REFUSE(reference_date_time_check(date_time));
     REFUSE(unit_check(unit));
-    return give_civil(truncated(wall_of(civil), unit), civil.offset_seconds, out);
+    return give_date_time(truncated(wall_of(date_time), unit), date_time.offset_seconds, out);
 }
 
-static inline uint32_t reference_civil_compare(MuxanduCivil first, MuxanduCivil second, int32_t *out) {
+static inline uint32_t reference_date_time_compare(MuxanduDateTime first, MuxanduDateTime second, int32_t *out) {
     Nanoseconds difference;
-    REFUSE(reference_civil_check(first));
-    REFUSE(reference_civil_check(second));
-    difference = civil_instant(first) - civil_instant(second);
+    REFUSE(reference_date_time_check(first));
+    REFUSE(reference_date_time_check(second));
+    difference = date_time_instant(first) - date_time_instant(second);
     *out = (difference > 0) - (difference < 0);
     return MUXANDU_OK;
 }
 
-static inline uint32_t reference_civil_day(MuxanduCivil civil, int32_t *out) {
-    REFUSE(reference_civil_check(civil));
-    *out = (int32_t)era_day(civil.year, civil.month, civil.day);
+static inline uint32_t reference_date_time_day(MuxanduDateTime date_time, int32_t *out) {
+    REFUSE(reference_date_time_check(date_time));
+    *out = (int32_t)era_day(date_time.year, date_time.month, date_time.day);
     return MUXANDU_OK;
 }
 
-static inline uint32_t reference_civil_add(MuxanduCivil civil, MuxanduDuration duration, MuxanduCivil *out) {
-    REFUSE(reference_civil_check(civil));
+static inline uint32_t reference_date_time_add(MuxanduDateTime date_time, MuxanduDuration duration,
+                                               MuxanduDateTime *out) {
+    REFUSE(reference_date_time_check(date_time));
     REFUSE(duration_check(duration));
-    return give_civil(wall_of(civil) + length_of(duration), civil.offset_seconds, out);
+    return give_date_time(wall_of(date_time) + length_of(duration), date_time.offset_seconds, out);
 }
 
-static inline uint32_t reference_civil_saturating_add(MuxanduCivil civil, MuxanduDuration duration, MuxanduCivil *out) {
-    REFUSE(reference_civil_check(civil));
+static inline uint32_t reference_date_time_saturating_add(MuxanduDateTime date_time, MuxanduDuration duration,
+                                                          MuxanduDateTime *out) {
+    REFUSE(reference_date_time_check(date_time));
     REFUSE(duration_check(duration));
-    return give_civil(clamped(wall_of(civil) + length_of(duration)), civil.offset_seconds, out);
+    return give_date_time(clamped(wall_of(date_time) + length_of(duration)), date_time.offset_seconds, out);
 }
 
-static inline uint32_t reference_civil_subtract(MuxanduCivil civil, MuxanduDuration duration, MuxanduCivil *out) {
-    REFUSE(reference_civil_check(civil));
+static inline uint32_t reference_date_time_subtract(MuxanduDateTime date_time, MuxanduDuration duration,
+                                                    MuxanduDateTime *out) {
+    REFUSE(reference_date_time_check(date_time));
     REFUSE(duration_check(duration));
-    return give_civil(wall_of(civil) - length_of(duration), civil.offset_seconds, out);
+    return give_date_time(wall_of(date_time) - length_of(duration), date_time.offset_seconds, out);
 }
 
-static inline uint32_t reference_civil_saturating_subtract(MuxanduCivil civil, MuxanduDuration duration,
-                                                           MuxanduCivil *out) {
-    REFUSE(reference_civil_check(civil));
+static inline uint32_t reference_date_time_saturating_subtract(MuxanduDateTime date_time, MuxanduDuration duration,
+                                                               MuxanduDateTime *out) {
+    REFUSE(reference_date_time_check(date_time));
     REFUSE(duration_check(duration));
-    return give_civil(clamped(wall_of(civil) - length_of(duration)), civil.offset_seconds, out);
+    return give_date_time(clamped(wall_of(date_time) - length_of(duration)), date_time.offset_seconds, out);
 }
 
-static inline uint32_t reference_civil_difference(MuxanduCivil later, MuxanduCivil earlier, MuxanduDuration *out) {
-    REFUSE(reference_civil_check(later));
-    REFUSE(reference_civil_check(earlier));
-    *out = duration_of(civil_instant(later) - civil_instant(earlier));
+static inline uint32_t reference_date_time_difference(MuxanduDateTime later, MuxanduDateTime earlier,
+                                                      MuxanduDuration *out) {
+    REFUSE(reference_date_time_check(later));
+    REFUSE(reference_date_time_check(earlier));
+    *out = duration_of(date_time_instant(later) - date_time_instant(earlier));
     return MUXANDU_OK;
 }
 
@@ -437,18 +443,18 @@ static inline int write_fraction(char *out, uint32_t nanosecond) {
     return length;
 }
 
-static inline size_t reference_civil_text(MuxanduCivil civil, char *out) {
-    const char *sign = civil.year < 0 ? "-" : civil.year > 9999 ? "+" : "";
-    int year = civil.year < 0 ? -civil.year : civil.year;
-    int size = civil.offset_seconds < 0 ? -civil.offset_seconds : civil.offset_seconds;
-    int length = sprintf(out, "%s%04d-%02d-%02d %d:%02d:%02d", sign, year, civil.month, civil.day, civil.hour,
-                         civil.minute, civil.second);
-    if (civil.nanosecond == 0) {
+static inline size_t reference_date_time_text(MuxanduDateTime date_time, char *out) {
+    const char *sign = date_time.year < 0 ? "-" : date_time.year > 9999 ? "+" : "";
+    int year = date_time.year < 0 ? -date_time.year : date_time.year;
+    int size = date_time.offset_seconds < 0 ? -date_time.offset_seconds : date_time.offset_seconds;
+    int length = sprintf(out, "%s%04d-%02d-%02d %d:%02d:%02d", sign, year, date_time.month, date_time.day,
+                         date_time.hour, date_time.minute, date_time.second);
+    if (date_time.nanosecond == 0) {
         length += sprintf(out + length, ".0");
     } else {
-        length += write_fraction(out + length, civil.nanosecond);
+        length += write_fraction(out + length, date_time.nanosecond);
     }
-    length += sprintf(out + length, " %c%02d:%02d:%02d", civil.offset_seconds < 0 ? '-' : '+', size / 3600,
+    length += sprintf(out + length, " %c%02d:%02d:%02d", date_time.offset_seconds < 0 ? '-' : '+', size / 3600,
                       size / 60 % 60, size % 60);
     return (size_t)length;
 }
@@ -461,24 +467,24 @@ static inline size_t reference_timestamp_text(MuxanduTimestamp at, char *out) {
 }
 
 /* 0 where RFC 3339 has no such text. */
-static inline size_t reference_to_rfc3339(MuxanduCivil civil, char *out) {
-    int size = civil.offset_seconds < 0 ? -civil.offset_seconds : civil.offset_seconds, length;
-    if (civil.year < 0 || civil.year > 9999 || size % 60 != 0 || size >= 86400) return 0;
-    length = sprintf(out, "%04d-%02d-%02dT%02d:%02d:%02d", (int)civil.year, civil.month, civil.day, civil.hour,
-                     civil.minute, civil.second);
-    if (civil.nanosecond != 0) length += write_fraction(out + length, civil.nanosecond);
+static inline size_t reference_to_rfc3339(MuxanduDateTime date_time, char *out) {
+    int size = date_time.offset_seconds < 0 ? -date_time.offset_seconds : date_time.offset_seconds, length;
+    if (date_time.year < 0 || date_time.year > 9999 || size % 60 != 0 || size >= 86400) return 0;
+    length = sprintf(out, "%04d-%02d-%02dT%02d:%02d:%02d", (int)date_time.year, date_time.month, date_time.day,
+                     date_time.hour, date_time.minute, date_time.second);
+    if (date_time.nanosecond != 0) length += write_fraction(out + length, date_time.nanosecond);
     if (size == 0) {
         length += sprintf(out + length, "Z");
     } else {
         length +=
-            sprintf(out + length, "%c%02d:%02d", civil.offset_seconds < 0 ? '-' : '+', size / 3600, size / 60 % 60);
+            sprintf(out + length, "%c%02d:%02d", date_time.offset_seconds < 0 ? '-' : '+', size / 3600, size / 60 % 60);
     }
     return (size_t)length;
 }
 
-static inline size_t reference_to_rfc3339_nanos(MuxanduCivil civil, char *out) {
-    if (reference_to_rfc3339(civil, out) == 0) return 0;
-    return (size_t)(19 + sprintf(out + 19, ".%09uZ", (unsigned)civil.nanosecond));
+static inline size_t reference_to_rfc3339_nanos(MuxanduDateTime date_time, char *out) {
+    if (reference_to_rfc3339(date_time, out) == 0) return 0;
+    return (size_t)(19 + sprintf(out + 19, ".%09uZ", (unsigned)date_time.nanosecond));
 }
 
 /* Whether the text has the form: a digit for each `0`, and one of two for `T`; `length` bytes of both are compared. */
@@ -495,8 +501,8 @@ static inline uint32_t two_digits(const char *text) {
 }
 
 /* The text must have no byte 0, and one behind its end. */
-static inline uint32_t reference_civil_from_rfc3339(const char *text, MuxanduCivil *out) {
-    MuxanduCivil civil = {0, 0, 0, 0, 0, 0, 0, 0};
+static inline uint32_t reference_date_time_from_rfc3339(const char *text, MuxanduDateTime *out) {
+    MuxanduDateTime date_time = {0, 0, 0, 0, 0, 0, 0, 0};
     const char *rest = text + 19;
     uint32_t hour = 0, minute = 0, digit = 100000000;
     int is_west = 0;
@@ -505,7 +511,8 @@ static inline uint32_t reference_civil_from_rfc3339(const char *text, MuxanduCiv
     if (*rest == '.') {
         rest++;
         if (*rest < '0' || *rest > '9') return MUXANDU_REFUSED_SYNTAX;
-        for (; *rest >= '0' && *rest <= '9'; rest++, digit /= 10) civil.nanosecond += digit * (uint32_t)(*rest - '0');
+        for (; *rest >= '0' && *rest <= '9'; rest++, digit /= 10)
+            date_time.nanosecond += digit * (uint32_t)(*rest - '0');
     }
     if (*rest == 'Z' || *rest == 'z') {
         if (rest[1] != 0) return MUXANDU_REFUSED_SYNTAX;
@@ -516,28 +523,47 @@ static inline uint32_t reference_civil_from_rfc3339(const char *text, MuxanduCiv
         hour = two_digits(rest + 1);
         minute = two_digits(rest + 4);
     }
-    civil.year = (int32_t)(two_digits(text) * 100 + two_digits(text + 2));
-    civil.month = (uint8_t)two_digits(text + 5);
-    civil.day = (uint8_t)two_digits(text + 8);
-    civil.hour = (uint8_t)two_digits(text + 11);
-    civil.minute = (uint8_t)two_digits(text + 14);
-    civil.second = (uint8_t)two_digits(text + 17);
-    if (civil.month < 1 || civil.month > 12) return MUXANDU_REFUSED_MONTH;
-    if (civil.day < 1 || civil.day > month_length(civil.year, civil.month)) return MUXANDU_REFUSED_DAY;
-    if (civil.hour > 23) return MUXANDU_REFUSED_HOUR;
-    if (civil.minute > 59) return MUXANDU_REFUSED_MINUTE;
-    if (civil.second > 59) return MUXANDU_REFUSED_SECOND;
+    date_time.year = (int32_t)(two_digits(text) * 100 + two_digits(text + 2));
+    date_time.month = (uint8_t)two_digits(text + 5);
+    date_time.day = (uint8_t)two_digits(text + 8);
+    date_time.hour = (uint8_t)two_digits(text + 11);
+    date_time.minute = (uint8_t)two_digits(text + 14);
+    date_time.second = (uint8_t)two_digits(text + 17);
+    if (date_time.month < 1 || date_time.month > 12) return MUXANDU_REFUSED_MONTH;
+    if (date_time.day < 1 || date_time.day > 31) return MUXANDU_REFUSED_DAY;
+    if (date_time.day > month_length(date_time.year, date_time.month)) return MUXANDU_REFUSED_DAY_OF_MONTH;
+    if (date_time.hour > 23) return MUXANDU_REFUSED_HOUR;
+    if (date_time.minute > 59) return MUXANDU_REFUSED_MINUTE;
+    if (date_time.second > 59) return MUXANDU_REFUSED_SECOND;
     if (hour > 23) return MUXANDU_REFUSED_OFFSET_HOUR;
     if (minute > 59) return MUXANDU_REFUSED_OFFSET_MINUTE;
-    civil.offset_seconds = (int32_t)(hour * 3600 + minute * 60) * (is_west ? -1 : 1);
-    *out = civil;
+    date_time.offset_seconds = (int32_t)(hour * 3600 + minute * 60) * (is_west ? -1 : 1);
+    *out = date_time;
+    return MUXANDU_OK;
+}
+
+static inline size_t reference_date_to_rfc3339(MuxanduDate date, char *out) {
+    if (reference_date_check(date) != MUXANDU_OK || date.year < 0 || date.year > 9999) return 0;
+    return (size_t)sprintf(out, "%04d-%02d-%02d", date.year, date.month, date.day);
+}
+
+static inline uint32_t reference_date_from_rfc3339(const char *text, MuxanduDate *out) {
+    MuxanduDate date;
+    if (!has_form(text, "0000-00-00") || strlen(text) != 10) return MUXANDU_REFUSED_SYNTAX;
+    date.year = (int32_t)(two_digits(text) * 100 + two_digits(text + 2));
+    date.month = (uint8_t)two_digits(text + 5);
+    date.day = (uint8_t)two_digits(text + 8);
+    if (date.month < 1 || date.month > 12) return MUXANDU_REFUSED_MONTH;
+    if (date.day < 1 || date.day > 31) return MUXANDU_REFUSED_DAY;
+    if (date.day > month_length(date.year, date.month)) return MUXANDU_REFUSED_DAY_OF_MONTH;
+    *out = date;
     return MUXANDU_OK;
 }
 
 static inline uint32_t reference_timestamp_from_rfc3339(const char *text, MuxanduTimestamp *out) {
-    MuxanduCivil civil;
-    REFUSE(reference_civil_from_rfc3339(text, &civil));
-    return give_stamp(civil_instant(civil), out);
+    MuxanduDateTime date_time;
+    REFUSE(reference_date_time_from_rfc3339(text, &date_time));
+    return give_stamp(date_time_instant(date_time), out);
 }
 
 #endif

@@ -23,13 +23,13 @@ static void instants_in_utc(void) {
         {1546300800, 0, "2019-01-01 0:00:00.0 +00:00:00"},
         {1546398245, 0, "2019-01-02 3:04:05.0 +00:00:00"},
     };
-    MuxanduCivil at;
+    MuxanduDateTime at;
     MuxanduTimestamp back;
     size_t row;
     for (row = 0; row < COUNT(rows); row++) {
-        CHECK(muxandu_civil_from_timestamp(stamp(rows[row].seconds, rows[row].nanoseconds), 0, &at) == MUXANDU_OK);
+        CHECK(muxandu_date_time_from_timestamp(stamp(rows[row].seconds, rows[row].nanoseconds), 0, &at) == MUXANDU_OK);
         CHECK(shows(at, rows[row].text));
-        CHECK(muxandu_timestamp_from_civil(at, &back) == MUXANDU_OK &&
+        CHECK(muxandu_timestamp_from_date_time(at, &back) == MUXANDU_OK &&
               is_stamp(back, rows[row].seconds, rows[row].nanoseconds));
     }
 }
@@ -102,7 +102,7 @@ static void days(void) {
 /* A date-time, and what clocks at another offset then show. */
 static void conversions(void) {
     static const struct {
-        MuxanduCivil at;
+        MuxanduDateTime at;
         int32_t offset_seconds;
         const char *text;
     } rows[] = {
@@ -117,16 +117,18 @@ static void conversions(void) {
         {{1970, 1, 1, 0, 0, 0, 0, 0}, 93599, "1970-01-02 1:59:59.0 +25:59:59"},
         {{-999999, 1, 1, 0, 0, 0, 0, 93599}, 93599, "-999999-01-01 0:00:00.0 +25:59:59"},
     };
-    MuxanduCivil out;
+    MuxanduDateTime out;
     size_t row;
     for (row = 0; row < COUNT(rows); row++) {
-        CHECK(muxandu_civil_to_offset(rows[row].at, rows[row].offset_seconds, &out) == MUXANDU_OK &&
+        CHECK(muxandu_date_time_to_offset(rows[row].at, rows[row].offset_seconds, &out) == MUXANDU_OK &&
               shows(out, rows[row].text));
     }
-    CHECK(muxandu_civil_to_offset(civil(999999, 12, 31, 23, 59, 59, 0, -3600), 0, &out) == MUXANDU_REFUSED_RESULT);
-    CHECK(muxandu_civil_to_offset(civil(999999, 12, 31, 23, 59, 59, 999999999, 0), 3600, &out) ==
+    CHECK(muxandu_date_time_to_offset(date_time(999999, 12, 31, 23, 59, 59, 0, -3600), 0, &out) ==
           MUXANDU_REFUSED_RESULT);
-    CHECK(muxandu_civil_to_offset(civil(-999999, 1, 1, 0, 0, 0, 0, 93599), 90000, &out) == MUXANDU_REFUSED_RESULT);
+    CHECK(muxandu_date_time_to_offset(date_time(999999, 12, 31, 23, 59, 59, 999999999, 0), 3600, &out) ==
+          MUXANDU_REFUSED_RESULT);
+    CHECK(muxandu_date_time_to_offset(date_time(-999999, 1, 1, 0, 0, 0, 0, 93599), 90000, &out) ==
+          MUXANDU_REFUSED_RESULT);
 }
 
 /* The wall clocks at both ends of the range, at five offsets each: which others show the instant. */
@@ -134,14 +136,16 @@ static void ends_at_offsets(void) {
     static const int32_t offsets[] = {-93599, -1, 0, 1, 93599};
     size_t from, to;
     for (from = 0; from < COUNT(offsets); from++) {
-        MuxanduCivil first = civil(-999999, 1, 1, 0, 0, 0, 0, offsets[from]),
-                     last = civil(999999, 12, 31, 23, 59, 59, 999999999, offsets[from]), out;
+        MuxanduDateTime first = date_time(-999999, 1, 1, 0, 0, 0, 0, offsets[from]),
+                        last = date_time(999999, 12, 31, 23, 59, 59, 999999999, offsets[from]), out;
         MuxanduTimestamp at;
-        CHECK((muxandu_timestamp_from_civil(first, &at) == MUXANDU_OK) == (offsets[from] <= 0));
-        CHECK((muxandu_timestamp_from_civil(last, &at) == MUXANDU_OK) == (offsets[from] >= 0));
+        CHECK((muxandu_timestamp_from_date_time(first, &at) == MUXANDU_OK) == (offsets[from] <= 0));
+        CHECK((muxandu_timestamp_from_date_time(last, &at) == MUXANDU_OK) == (offsets[from] >= 0));
         for (to = 0; to < COUNT(offsets); to++) {
-            CHECK((muxandu_civil_to_offset(first, offsets[to], &out) == MUXANDU_OK) == (offsets[to] >= offsets[from]));
-            CHECK((muxandu_civil_to_offset(last, offsets[to], &out) == MUXANDU_OK) == (offsets[to] <= offsets[from]));
+            CHECK((muxandu_date_time_to_offset(first, offsets[to], &out) == MUXANDU_OK) ==
+                  (offsets[to] >= offsets[from]));
+            CHECK((muxandu_date_time_to_offset(last, offsets[to], &out) == MUXANDU_OK) ==
+                  (offsets[to] <= offsets[from]));
         }
     }
 }
@@ -149,7 +153,7 @@ static void ends_at_offsets(void) {
 /* The instants of date-times beyond the range of timestamps, by their differences. */
 static void differences(void) {
     static const struct {
-        MuxanduCivil later, earlier;
+        MuxanduDateTime later, earlier;
         int64_t seconds;
         int32_t nanoseconds;
     } rows[] = {
@@ -165,16 +169,16 @@ static void differences(void) {
     for (row = 0; row < COUNT(rows); row++) {
         MuxanduDuration apart;
         int32_t order = 7, wanted = (rows[row].seconds > 0) - (rows[row].seconds < 0);
-        CHECK(muxandu_civil_difference(rows[row].later, rows[row].earlier, &apart) == MUXANDU_OK);
+        CHECK(muxandu_date_time_difference(rows[row].later, rows[row].earlier, &apart) == MUXANDU_OK);
         CHECK(is_length(apart, rows[row].seconds, rows[row].nanoseconds));
-        CHECK(muxandu_civil_compare(rows[row].later, rows[row].earlier, &order) == MUXANDU_OK && order == wanted);
+        CHECK(muxandu_date_time_compare(rows[row].later, rows[row].earlier, &order) == MUXANDU_OK && order == wanted);
     }
 }
 
 /* The Unix second of a date-time at an offset. */
 static void seconds(void) {
     static const struct {
-        MuxanduCivil at;
+        MuxanduDateTime at;
         int64_t second;
     } rows[] = {
         {{2000, 1, 1, 0, 0, 0, 0, -18000}, 946702800},     {{1970, 1, 1, 0, 0, 0, 0, -3600}, 3600},
@@ -188,14 +192,14 @@ static void seconds(void) {
     MuxanduTimestamp at;
     size_t row;
     for (row = 0; row < COUNT(rows); row++) {
-        CHECK(muxandu_timestamp_from_civil(rows[row].at, &at) == MUXANDU_OK && is_stamp(at, rows[row].second, 0));
+        CHECK(muxandu_timestamp_from_date_time(rows[row].at, &at) == MUXANDU_OK && is_stamp(at, rows[row].second, 0));
     }
 }
 
 /* Replaced parts: what of them is no date-time. */
 static void replacements(void) {
     static const struct {
-        MuxanduCivil at;
+        MuxanduDateTime at;
         uint32_t status;
     } rows[] = {
         {{2022, 2, 30, 12, 0, 0, 0, 0}, MUXANDU_REFUSED_DAY_OF_MONTH},
@@ -213,21 +217,22 @@ static void replacements(void) {
         {{2022, 2, 18, 0, 0, 0, 0, -93600}, MUXANDU_REFUSED_OFFSET_SECONDS},
     };
     size_t row;
-    for (row = 0; row < COUNT(rows); row++) CHECK(muxandu_civil_check(rows[row].at) == rows[row].status);
+    for (row = 0; row < COUNT(rows); row++) CHECK(muxandu_date_time_check(rows[row].at) == rows[row].status);
 }
 
 static void sums_of_date_times(void) {
-    MuxanduCivil out, last = civil(9999, 12, 31, 23, 0, 0, 0, 36000), first = civil(-999999, 1, 1, 0, 0, 0, 0, 36000);
-    CHECK(muxandu_civil_add(civil(2019, 11, 25, 15, 30, 0, 0, 36000), length(97200, 0), &out) == MUXANDU_OK);
+    MuxanduDateTime out, last = date_time(9999, 12, 31, 23, 0, 0, 0, 36000),
+                         first = date_time(-999999, 1, 1, 0, 0, 0, 0, 36000);
+    CHECK(muxandu_date_time_add(date_time(2019, 11, 25, 15, 30, 0, 0, 36000), length(97200, 0), &out) == MUXANDU_OK);
     CHECK(shows(out, "2019-11-26 18:30:00.0 +10:00:00"));
-    CHECK(muxandu_civil_add(last, length(3600, 0), &out) == MUXANDU_OK &&
+    CHECK(muxandu_date_time_add(last, length(3600, 0), &out) == MUXANDU_OK &&
           shows(out, "+10000-01-01 0:00:00.0 +10:00:00"));
-    CHECK(muxandu_civil_saturating_add(last, length(3600, 0), &out) == MUXANDU_OK &&
+    CHECK(muxandu_date_time_saturating_add(last, length(3600, 0), &out) == MUXANDU_OK &&
           shows(out, "+10000-01-01 0:00:00.0 +10:00:00"));
-    CHECK(muxandu_civil_saturating_add(first, length(-172800, 0), &out) == MUXANDU_OK && is_civil(out, first));
+    CHECK(muxandu_date_time_saturating_add(first, length(-172800, 0), &out) == MUXANDU_OK && is_date_time(out, first));
     last.year = 999999;
-    CHECK(muxandu_civil_add(last, length(3600, 0), &out) == MUXANDU_REFUSED_RESULT);
-    CHECK(muxandu_civil_saturating_add(last, length(3600, 0), &out) == MUXANDU_OK &&
+    CHECK(muxandu_date_time_add(last, length(3600, 0), &out) == MUXANDU_REFUSED_RESULT);
+    CHECK(muxandu_date_time_saturating_add(last, length(3600, 0), &out) == MUXANDU_OK &&
           shows(out, "+999999-12-31 23:59:59.999999999 +10:00:00"));
 }
 
@@ -252,14 +257,14 @@ static void sums_at_the_ends(void) {
 }
 
 static void truncations(void) {
-    MuxanduCivil at = civil(2022, 2, 18, 15, 30, 45, 123456789, 3600), out;
+    MuxanduDateTime at = date_time(2022, 2, 18, 15, 30, 45, 123456789, 3600), out;
     MuxanduTimestamp stamped;
-    CHECK(muxandu_civil_truncate(at, MUXANDU_UNIT_MILLISECOND, &out) == MUXANDU_OK &&
+    CHECK(muxandu_date_time_truncate(at, MUXANDU_UNIT_MILLISECOND, &out) == MUXANDU_OK &&
           shows(out, "2022-02-18 15:30:45.123 +01:00:00"));
-    CHECK(muxandu_civil_truncate(at, MUXANDU_UNIT_DAY, &out) == MUXANDU_OK &&
+    CHECK(muxandu_date_time_truncate(at, MUXANDU_UNIT_DAY, &out) == MUXANDU_OK &&
           shows(out, "2022-02-18 0:00:00.0 +01:00:00"));
-    at = civil(1969, 12, 31, 23, 59, 59, 500000000, 0);
-    CHECK(muxandu_civil_truncate(at, MUXANDU_UNIT_SECOND, &out) == MUXANDU_OK &&
+    at = date_time(1969, 12, 31, 23, 59, 59, 500000000, 0);
+    CHECK(muxandu_date_time_truncate(at, MUXANDU_UNIT_SECOND, &out) == MUXANDU_OK &&
           shows(out, "1969-12-31 23:59:59.0 +00:00:00"));
     CHECK(muxandu_timestamp_truncate(stamp(-1, 999999999), MUXANDU_UNIT_MILLISECOND, &stamped) == MUXANDU_OK);
     CHECK(is_stamp(stamped, -1, 999000000));

@@ -12,7 +12,7 @@ enum { ITEMS = 1 << 15, MOST_ROUNDS = 999 };
 
 static int64_t seconds[ITEMS], back[ITEMS], bare_back[ITEMS];
 static int32_t days[ITEMS], offset_seconds;
-static MuxanduCivil civils[ITEMS], bare_civils[ITEMS];
+static MuxanduDateTime date_times[ITEMS], bare_date_times[ITEMS];
 static MuxanduDate dates[ITEMS], bare_dates[ITEMS];
 static MuxanduTimestamp stamps[ITEMS], bare_stamps[ITEMS];
 static struct tm broken[ITEMS];
@@ -31,23 +31,25 @@ static double now(void) {
 #define LOOP(name, ...)                                                                                                \
     static void name(void) {                                                                                           \
         int k;                                                                                                         \
-        for (k = 0; k < ITEMS; k++) { __VA_ARGS__; }                                                                   \
+        for (k = 0; k < ITEMS; k++) {                                                                                  \
+            __VA_ARGS__;                                                                                               \
+        }                                                                                                              \
     }
 
-static void batch_civils(void) {
-    sink += muxandu_civils_from_seconds(seconds, ITEMS, offset_seconds, civils, ITEMS).status;
+static void batch_date_times(void) {
+    sink += muxandu_date_times_from_seconds(seconds, ITEMS, offset_seconds, date_times, ITEMS).status;
 }
 
-static void bare_batch_civils(void) {
-    sink += bare_civils_from_seconds(seconds, ITEMS, offset_seconds, bare_civils, ITEMS).status;
+static void bare_batch_date_times(void) {
+    sink += bare_date_times_from_seconds(seconds, ITEMS, offset_seconds, bare_date_times, ITEMS).status;
 }
 
 static void batch_seconds(void) {
-    sink += muxandu_seconds_from_civils(civils, ITEMS, back, ITEMS).status;
+    sink += muxandu_seconds_from_date_times(date_times, ITEMS, back, ITEMS).status;
 }
 
 static void bare_batch_seconds(void) {
-    sink += bare_seconds_from_civils(civils, ITEMS, bare_back, ITEMS).status;
+    sink += bare_seconds_from_date_times(date_times, ITEMS, bare_back, ITEMS).status;
 }
 
 static void batch_dates(void) {
@@ -64,21 +66,21 @@ static void batch_texts(void) {
 
 static const MuxanduDuration HALF_DAY = {43200, 500000000};
 
-LOOP(single_civils, MuxanduTimestamp at = {seconds[k], 5};
-     sink += muxandu_civil_from_timestamp(at, offset_seconds, civils + k))
-LOOP(bare_single_civils, MuxanduTimestamp at = {seconds[k], 5};
-     sink += bare_civil_from_timestamp(at, offset_seconds, bare_civils + k))
-LOOP(single_stamps, sink += muxandu_timestamp_from_civil(civils[k], stamps + k))
-LOOP(bare_single_stamps, sink += bare_timestamp_from_civil(civils[k], bare_stamps + k))
-LOOP(single_offsets, sink += muxandu_civil_to_offset(civils[k], -12600, bare_civils + k))
-LOOP(bare_single_offsets, sink += bare_civil_to_offset(civils[k], -12600, bare_civils + k))
-LOOP(single_checks, sink += muxandu_civil_check(civils[k]))
-LOOP(bare_single_checks, sink += bare_civil_check(civils[k]))
+LOOP(single_date_times, MuxanduTimestamp at = {seconds[k], 5};
+     sink += muxandu_date_time_from_timestamp(at, offset_seconds, date_times + k))
+LOOP(bare_single_date_times, MuxanduTimestamp at = {seconds[k], 5};
+     sink += bare_date_time_from_timestamp(at, offset_seconds, bare_date_times + k))
+LOOP(single_stamps, sink += muxandu_timestamp_from_date_time(date_times[k], stamps + k))
+LOOP(bare_single_stamps, sink += bare_timestamp_from_date_time(date_times[k], bare_stamps + k))
+LOOP(single_offsets, sink += muxandu_date_time_to_offset(date_times[k], -12600, bare_date_times + k))
+LOOP(bare_single_offsets, sink += bare_date_time_to_offset(date_times[k], -12600, bare_date_times + k))
+LOOP(single_checks, sink += muxandu_date_time_check(date_times[k]))
+LOOP(bare_single_checks, sink += bare_date_time_check(date_times[k]))
 LOOP(single_sums, sink += muxandu_timestamp_add(stamps[k], HALF_DAY, bare_stamps + k))
 LOOP(bare_single_sums, sink += bare_timestamp_add(stamps[k], HALF_DAY, bare_stamps + k))
 LOOP(library_broken, time_t at = seconds[k]; gmtime_r(&at, broken + k))
 LOOP(library_seconds, bare_back[k] = timegm(broken + k))
-LOOP(single_texts, sink += muxandu_civil_to_rfc3339(civils[k], text, sizeof text, &size))
+LOOP(single_texts, sink += muxandu_date_time_to_rfc3339(date_times[k], text, sizeof text, &size))
 LOOP(library_texts, size = strftime(text, sizeof text, "%Y-%m-%dT%H:%M:%SZ", broken + k))
 LOOP(single_readings, sink += muxandu_timestamp_from_rfc3339(texts + 32 * k, 20, stamps + k))
 LOOP(library_readings, strptime(texts + 32 * k, "%Y-%m-%dT%H:%M:%SZ", broken + k); back[k] = timegm(broken + k))
@@ -135,10 +137,10 @@ static void is_same(int holds) {
     }
 }
 
-static int same_civils(void) {
+static int same_date_times(void) {
     int k;
     for (k = 0; k < ITEMS; k++) {
-        const MuxanduCivil *a = civils + k, *b = bare_civils + k;
+        const MuxanduDateTime *a = date_times + k, *b = bare_date_times + k;
         if (a->year != b->year || a->month != b->month || a->day != b->day || a->hour != b->hour ||
             a->minute != b->minute || a->second != b->second)
             return 0;
@@ -162,26 +164,26 @@ int main(int words, char **word) {
     if (rounds < 1 || rounds > MOST_ROUNDS) return 2;
     fill(8000000000u, -2000000000);
     offset_seconds = 3600;
-    compare("seconds to date-times, a batch", batch_civils, "bare C", bare_batch_civils);
-    is_same(same_civils());
+    compare("seconds to date-times, a batch", batch_date_times, "bare C", bare_batch_date_times);
+    is_same(same_date_times());
     compare("date-times to seconds, a batch", batch_seconds, "bare C", bare_batch_seconds);
     is_same(memcmp(back, seconds, sizeof back) == 0 && memcmp(bare_back, seconds, sizeof back) == 0);
     compare("day numbers to dates, a batch", batch_dates, "bare C", bare_batch_dates);
-    compare("timestamp to date-time", single_civils, "bare C", bare_single_civils);
-    is_same(same_civils());
+    compare("timestamp to date-time", single_date_times, "bare C", bare_single_date_times);
+    is_same(same_date_times());
     compare("date-time to timestamp", single_stamps, "bare C", bare_single_stamps);
     compare("date-time to another offset", single_offsets, "bare C", bare_single_offsets);
     compare("test of a date-time", single_checks, "bare C", bare_single_checks);
     compare("timestamp plus a duration", single_sums, "bare C", bare_single_sums);
     offset_seconds = 0;
-    compare("seconds to date-times, a batch", batch_civils, "`gmtime_r`", library_broken);
+    compare("seconds to date-times, a batch", batch_date_times, "`gmtime_r`", library_broken);
     compare("date-times to seconds, a batch", batch_seconds, "`timegm`", library_seconds);
     compare("date-time to a text of RFC 3339", single_texts, "`strftime`", library_texts);
     write_texts();
     compare("text of RFC 3339 to timestamp", single_readings, "`strptime`, `timegm`", library_readings);
     compare("texts of RFC 3339 to timestamps, a batch", batch_texts, "`strptime`, `timegm`", library_readings);
     fill(63113872377600u - 2 * 93599, -31619087596800 + 93599);
-    compare("seconds to date-times, a batch, of the whole range", batch_civils, "bare C", bare_batch_civils);
+    compare("seconds to date-times, a batch, of the whole range", batch_date_times, "bare C", bare_batch_date_times);
     compare("date-times to seconds, a batch, of the whole range", batch_seconds, "bare C", bare_batch_seconds);
     return 0;
 }

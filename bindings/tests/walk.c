@@ -71,7 +71,7 @@ static void walk(int32_t day, size_t count) {
     static int32_t days[BATCH], back[BATCH];
     static int64_t seconds[BATCH], seconds_back[BATCH];
     static MuxanduDate dates[BATCH];
-    static MuxanduCivil civils[BATCH];
+    static MuxanduDateTime date_times[BATCH];
     int32_t offset_seconds = (day % 2003) * 46;
     int is_whole;
     size_t item;
@@ -84,22 +84,22 @@ static void walk(int32_t day, size_t count) {
     is_whole = muxandu_dates_from_days(days, count, dates, BATCH).count == count &&
                muxandu_days_from_dates(dates, count, back, BATCH).count == count &&
                memcmp(days, back, count * sizeof *days) == 0 &&
-               muxandu_civils_from_seconds(seconds, count, offset_seconds, civils, BATCH).count == count &&
-               muxandu_seconds_from_civils(civils, count, seconds_back, BATCH).count == count &&
+               muxandu_date_times_from_seconds(seconds, count, offset_seconds, date_times, BATCH).count == count &&
+               muxandu_seconds_from_date_times(date_times, count, seconds_back, BATCH).count == count &&
                memcmp(seconds, seconds_back, count * sizeof *seconds) == 0;
     for (item = 0; item < count; item++) {
         uint32_t clock = (uint32_t)(item * 21) % 86400;
-        MuxanduCivil wanted = {shown.year,
-                               shown.month,
-                               shown.day,
-                               (uint8_t)(clock / 3600),
-                               (uint8_t)(clock / 60 % 60),
-                               (uint8_t)(clock % 60),
-                               0,
-                               offset_seconds};
+        MuxanduDateTime wanted = {shown.year,
+                                  shown.month,
+                                  shown.day,
+                                  (uint8_t)(clock / 3600),
+                                  (uint8_t)(clock / 60 % 60),
+                                  (uint8_t)(clock % 60),
+                                  0,
+                                  offset_seconds};
         int is_moved = seconds[item] == FIRST || seconds[item] == LAST;
         CHECK(is_whole && is_date(dates[item], shown.year, shown.month, shown.day) &&
-              (is_moved || is_civil(civils[item], wanted)) && is_day(days[item]));
+              (is_moved || is_date_time(date_times[item], wanted)) && is_day(days[item]));
         count_day();
     }
 }

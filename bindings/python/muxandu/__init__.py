@@ -1,52 +1,131 @@
 """Dates and times over the proleptic Gregorian calendar, the years -999999 to 999999, and Unix time without leap seconds.
 
 Every answer comes from the library muxandu, each function of which is proved to meet its contract. Timestamp is an
-instant, Civil what clocks at an offset from UTC show, Date a day, Duration a length of time. A refusal is raised as a
-Refused, a ValueError, of a class of its own:
+instant, OffsetDateTime what clocks at an offset from UTC show, UtcDateTime what they show in UTC, PlainDateTime what they
+show somewhere, Date a day, Time a time of day, Duration a length of time. A refusal is raised as a Refused, a ValueError, of
+a class of its own:
 
->>> from muxandu import Civil, Duration, Timestamp
+>>> from muxandu import Duration, OffsetDateTime, Timestamp
 >>> at = Timestamp.from_rfc3339("2024-02-28T23:30:00-01:00")
->>> (at + Duration(86_400)).to_civil().to_rfc3339()
+>>> (at + Duration(86_400)).to_utc().to_rfc3339()
 '2024-03-01T00:30:00Z'
->>> Civil(2023, 2, 29)
+>>> OffsetDateTime(2023, 2, 29)
 Traceback (most recent call last):
-muxandu.RefusedDayOfMonth: DAY_OF_MONTH: A day of 1 to 31 that the month does not have in this year.
+muxandu.RefusedDayOfMonth: DAY_OF_MONTH: A day of 1 to 31 that its month does not have in its year.
 """
 
 from ._batch import (
-    civils_from_seconds,
+    date_times_from_seconds,
     dates_from_days,
+    datetime64_from_timestamps,
     days_from_dates,
-    seconds_from_civils,
+    rfc3339_from_timestamps,
+    seconds_from_date_times,
+    timestamps_from_datetime64,
     timestamps_from_rfc3339,
 )
-from ._library import REFUSALS, Refused
-from ._values import Civil, Date, Duration, IsoWeekDate, OrdinalDate, Timestamp, Unit, days_in_month
-from .muxandu_sys import MuxanduCivil as CivilParts
+from ._clocks import PlainDateTime, UtcDateTime
+from ._engine import IMPLEMENTATION
+from ._refusals import (
+    Part,
+    Refused,
+    RefusedBuffer,
+    RefusedDay,
+    RefusedDayNumber,
+    RefusedDayOfMonth,
+    RefusedDuration,
+    RefusedHour,
+    RefusedMinute,
+    RefusedMonth,
+    RefusedNanosecond,
+    RefusedNoText,
+    RefusedOffsetHour,
+    RefusedOffsetMinute,
+    RefusedOffsetSeconds,
+    RefusedOrdinal,
+    RefusedOrdinalOfYear,
+    RefusedResult,
+    RefusedSecond,
+    RefusedSpan,
+    RefusedSyntax,
+    RefusedTimestamp,
+    RefusedUnit,
+    RefusedWeek,
+    RefusedWeekOfYear,
+    RefusedWeekday,
+    RefusedYear,
+    Unit,
+)
+from ._values import (
+    Date,
+    Duration,
+    IsoWeekDate,
+    OffsetDateTime,
+    OrdinalDate,
+    Time,
+    Timestamp,
+    UtcOffset,
+    days_in_month,
+)
 from .muxandu_sys import MuxanduDate as DateParts
+from .muxandu_sys import MuxanduDateTime as DateTimeParts
 from .muxandu_sys import MuxanduSpan as Span
 from .muxandu_sys import MuxanduTimestamp as TimestampParts
 
-globals().update({refusal.__name__: refusal for refusal in REFUSALS.values()})
+__version__ = "0.1.0"
 
 __all__ = [
-    "Civil",
-    "CivilParts",
     "Date",
     "DateParts",
+    "DateTimeParts",
     "Duration",
+    "IMPLEMENTATION",
     "IsoWeekDate",
+    "OffsetDateTime",
     "OrdinalDate",
+    "Part",
+    "PlainDateTime",
     "Refused",
+    "RefusedBuffer",
+    "RefusedDay",
+    "RefusedDayNumber",
+    "RefusedDayOfMonth",
+    "RefusedDuration",
+    "RefusedHour",
+    "RefusedMinute",
+    "RefusedMonth",
+    "RefusedNanosecond",
+    "RefusedNoText",
+    "RefusedOffsetHour",
+    "RefusedOffsetMinute",
+    "RefusedOffsetSeconds",
+    "RefusedOrdinal",
+    "RefusedOrdinalOfYear",
+    "RefusedResult",
+    "RefusedSecond",
+    "RefusedSpan",
+    "RefusedSyntax",
+    "RefusedTimestamp",
+    "RefusedUnit",
+    "RefusedWeek",
+    "RefusedWeekOfYear",
+    "RefusedWeekday",
+    "RefusedYear",
     "Span",
+    "Time",
     "Timestamp",
     "TimestampParts",
     "Unit",
-    "civils_from_seconds",
+    "UtcDateTime",
+    "UtcOffset",
+    "__version__",
+    "date_times_from_seconds",
     "dates_from_days",
+    "datetime64_from_timestamps",
     "days_from_dates",
     "days_in_month",
-    "seconds_from_civils",
+    "rfc3339_from_timestamps",
+    "seconds_from_date_times",
+    "timestamps_from_datetime64",
     "timestamps_from_rfc3339",
-    *sorted(refusal.__name__ for refusal in REFUSALS.values()),
 ]

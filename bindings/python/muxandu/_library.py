@@ -1,16 +1,18 @@
-"""The shared library: where it is, what its refusals are in Python, and how numbers go to it."""
+"""The shared library through ctypes: where it is, and how it is loaded."""
+
+from __future__ import annotations
 
 import ctypes
-import operator
 import os
 from pathlib import Path
+from typing import Any
 
 from . import muxandu_sys
 
 NAME = "libmuxandu.so"
 
 
-def _path():
+def _path() -> Path:
     """The library that MUXANDU_LIBRARY names, or that beside this file, or that which ./build-library lays out."""
     named = os.environ.get("MUXANDU_LIBRARY")
     if named:
@@ -22,86 +24,29 @@ def _path():
     raise ImportError(f"{NAME} is not there: build it with ./build-library, or name it in MUXANDU_LIBRARY")
 
 
-def _loaded():
+def _answers(loaded: Any) -> bool:
+    """Whether a library answers as these declarations have it: a structure in and out, a refusal, and a text."""
+    at, number, size = muxandu_sys.MuxanduDateTime(2024, 2, 29, 12, 34, 56, 789, 60), ctypes.c_int32(), ctypes.c_size_t()
+    place = ctypes.create_string_buffer(muxandu_sys.TEXT_ROOM)
+    statuses = [
+        loaded.muxandu_date_time_day(at, ctypes.byref(number)),
+        loaded.muxandu_date_time_check(muxandu_sys.MuxanduDateTime(2023, 2, 29)),
+        loaded.muxandu_date_time_text(at, place, len(place), ctypes.byref(size)),
+    ]
+    told = (number.value, place.value)
+    return statuses == [0, muxandu_sys.Refused.DAY_OF_MONTH, 0] and told == (19_782, b"2024-02-29 12:34:56.000000789 +00:01:00")
+
+
+def _loaded() -> Any:
     path = _path()
+    declare: Any = muxandu_sys.declare
     try:
-        return muxandu_sys.declare(ctypes.CDLL(str(path)))
+        found = declare(ctypes.CDLL(str(path)))
     except (OSError, AttributeError) as problem:
         raise ImportError(f"{path} is no library of these declarations: {problem}") from problem
+    if found.muxandu_version() < muxandu_sys.VERSION or not _answers(found):
+        raise ImportError(f"{path} does not answer as these declarations have it: it is of another version")
+    return found
 
 
 library = _loaded()
-
-
-class Refused(ValueError):
-    """A call is refused. `name` is the name that the refusal has in the library, `status` its number.
-
-    Each refusal has a class of its own, as RefusedMonth or RefusedDayOfMonth. Where a call over many items is refused,
-    `count` is how many were converted: the next is the one that is refused, and what is behind it is as it was.
-    """
-
-    name = ""
-    status = 0
-    count = None
-
-    def __init__(self, count=None):
-        told = f"{self.name}: {self.__doc__}"
-        super().__init__(told if count is None else f"item {count}: {told}")
-        self.count = count
-
-    def __reduce__(self):
-        return type(self), (self.count,)
-
-
-def _refusal(status, name, told):
-    """The class of a refusal."""
-    title = "".join(word.capitalize() for word in name.split("_"))
-    return type(f"Refused{title}", (Refused,), {"__doc__": told, "__module__": "muxandu", "name": name, "status": status})
-
-
-# The class of each refusal, by its status.
-REFUSALS = {status: _refusal(status, *told) for status, told in muxandu_sys.REFUSALS.items()}
-
-
-def test(status, count=None):
-    """Raises the refusal of a status that is not 0."""
-    if status:
-        raise REFUSALS[status](count)
-
-
-def _ends(kind):
-    bits = 8 * ctypes.sizeof(kind)
-    return (-(1 << (bits - 1)), (1 << (bits - 1)) - 1) if kind(-1).value < 0 else (0, (1 << bits) - 1)
-
-
-_ENDS = {
-    kind: _ends(kind)
-    for kind in (ctypes.c_uint8, ctypes.c_uint16, ctypes.c_uint32, ctypes.c_int32, ctypes.c_int64)
-}
-
-
-def is_held(number, kind):
-    """Whether a type of C holds a whole number."""
-    low, high = _ENDS[kind]
-    return low <= operator.index(number) <= high
-
-
-def held(number, kind):
-    """The number, and where the type does not hold it, an end of the type that the library refuses: the upper one of a
-    type with no sign, whose lower end is 0."""
-    low, high = _ENDS[kind]
-    number = operator.index(number)
-    if low <= number <= high:
-        return number
-    return low if number < low < 0 else high
-
-
-def parts(structure, *numbers):
-    """The structure of these numbers, each as its field holds it."""
-    fields = structure._fields_
-    return structure(*(held(number, kind) for number, (_, kind) in zip(numbers, fields)))
-
-
-def as_bytes(text):
-    """The bytes of a text. A character that is not ASCII becomes bytes that no text of RFC 3339 has."""
-    return text.encode("utf-8", "surrogatepass") if isinstance(text, str) else bytes(text)

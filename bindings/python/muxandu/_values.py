@@ -1,255 +1,263 @@
 """Instants, date-times, days and durations. Each answer is the library's."""
 
-import ctypes
+from __future__ import annotations
+
 import datetime
-import enum
-import functools
-import operator
-from typing import NamedTuple
+import time
+from typing import Any, ClassVar, NamedTuple, SupportsIndex, TypeVar, Union
 
-from . import muxandu_sys
-from ._library import REFUSALS, as_bytes, held, is_held, library, parts, test
-from .muxandu_sys import (
-    MuxanduCivil,
-    MuxanduDate,
-    MuxanduDuration,
-    MuxanduOrdinalDate,
-    MuxanduTimestamp,
-    MuxanduWeekDate,
-)
+from ._engine import engine
+from ._refusals import REFUSALS, RefusedDuration, RefusedResult
+from ._words import as_bytes, nanosecond_of, nanoseconds_of
 
-Unit = enum.IntEnum("Unit", {name: number for name, number in vars(muxandu_sys.Unit).items() if not name.startswith("_")})
-Unit.__doc__ = "A unit of time, to which a value is rounded down."
-Unit.__module__ = "muxandu"
+_SECOND = 1_000_000_000
+_DAY = 86_400
 
-_BEYOND_DURATION = REFUSALS[muxandu_sys.Refused.DURATION]
-_BEYOND_TIMESTAMP = REFUSALS[muxandu_sys.Refused.TIMESTAMP]
+_Stamp = TypeVar("_Stamp", bound="Timestamp")
+_Shown = TypeVar("_Shown", bound="OffsetDateTime")
+_Date = TypeVar("_Date", bound="Date")
 
 
-def _answer(call, structure, *words):
-    """What a call writes."""
-    out = structure()
-    test(call(*words, ctypes.byref(out)))
-    return out
+_Kind = TypeVar("_Kind")
 
 
-def _text(call, value):
-    """The text that a call writes."""
-    place, size = ctypes.create_string_buffer(muxandu_sys.TEXT_ROOM), ctypes.c_size_t()
-    test(call(value, place, len(place), ctypes.byref(size)))
-    return place.raw[: size.value].decode("ascii")
+def _completed(kind: type[_Kind]) -> type[_Kind]:
+    """The type that the library's calls make, with what a class derived from it adds: one type and not two, whose values the
+    collector of cycles need not look at."""
+    made: Any = kind.__base__
+    for name, value in vars(kind).items():
+        if name not in ("__dict__", "__module__", "__slots__", "__weakref__"):
+            setattr(made, name, value)
+    made.__module__ = "muxandu"
+    whole: type[_Kind] = made
+    return whole
 
 
-def _read(call, structure, text):
-    """The value of a text, a str or bytes."""
-    data = as_bytes(text)
-    return _answer(call, structure, data, len(data))
+def _formatted(value: Any, form: str) -> str:
+    """A value as a format asks for it: by `strftime` where that has a %, else its text in so many places."""
+    return str(value.to_datetime().strftime(form)) if "%" in form else format(str(value), form)
 
 
-@functools.total_ordering
-class Duration:
+@_completed
+class Duration(engine.Duration):
     """A length of time, forwards or back: so many seconds and nanoseconds together, by which durations compare."""
 
-    __slots__ = ("_seconds", "_nanoseconds")
+    __slots__ = ()
 
-    def __init__(self, seconds=0, nanoseconds=0):
-        if not is_held(seconds, ctypes.c_int64) or not is_held(nanoseconds, ctypes.c_int32):
-            raise _BEYOND_DURATION()
-        self._seconds, self._nanoseconds = operator.index(seconds), operator.index(nanoseconds)
+    MIN: ClassVar[Duration]
+    MAX: ClassVar[Duration]
+    ZERO: ClassVar[Duration]
 
     @classmethod
-    def of(cls, duration):
+    def of(cls, duration: Union[Duration, datetime.timedelta]) -> Duration:
         """The duration of a datetime.timedelta; a Duration is itself."""
         if isinstance(duration, cls):
             return duration
         if isinstance(duration, datetime.timedelta):
-            return cls(duration.days * 86_400 + duration.seconds, duration.microseconds * 1_000)
+            return cls(duration.days * _DAY + duration.seconds, nanoseconds_of(duration))
         raise TypeError(f"a Duration or a datetime.timedelta, not {type(duration).__name__}")
 
-    @property
-    def seconds(self):
-        """The seconds, as they were given or as the library gives them: towards zero."""
-        return self._seconds
+    @classmethod
+    def of_nanoseconds(cls, nanoseconds: int) -> Duration:
+        """The duration of so many nanoseconds, however many bits they have."""
+        return cls(0, nanoseconds)
 
-    @property
-    def nanoseconds(self):
-        """The nanoseconds besides; of one sign with the seconds where the library gives them."""
-        return self._nanoseconds
+    @classmethod
+    def of_days(cls, days: int) -> Duration:
+        """The duration of so many days of 86,400 seconds."""
+        return cls(days * _DAY)
 
-    def whole_nanoseconds(self):
+    def whole_nanoseconds(self) -> int:
         """The whole duration in nanoseconds."""
-        return self._seconds * 1_000_000_000 + self._nanoseconds
+        return self.seconds * _SECOND + self.nanoseconds
 
-    def _parts(self):
-        return MuxanduDuration(self._seconds, self._nanoseconds)
+    def whole_days(self) -> int:
+        """The whole days of 86,400 seconds, rounded towards zero."""
+        days = abs(self.seconds) // _DAY
+        return -days if self.seconds < 0 else days
 
-    def __eq__(self, other):
-        return self.whole_nanoseconds() == other.whole_nanoseconds() if isinstance(other, Duration) else NotImplemented
+    def total_seconds(self) -> float:
+        """The seconds as a float, as of a datetime.timedelta."""
+        return self.whole_nanoseconds() / _SECOND
 
-    def __lt__(self, other):
-        return self.whole_nanoseconds() < other.whole_nanoseconds() if isinstance(other, Duration) else NotImplemented
+    def to_timedelta(self) -> datetime.timedelta:
+        """The datetime.timedelta of as many whole microseconds, rounded down. OverflowError where it has none."""
+        return datetime.timedelta(microseconds=self.whole_nanoseconds() // 1_000)
 
-    def __hash__(self):
-        return hash(self.whole_nanoseconds())
+    def __pos__(self) -> Duration:
+        return self
 
-    def __repr__(self):
-        return f"Duration({self._seconds}, {self._nanoseconds})"
+    def __mul__(self, number: int) -> Duration:
+        return type(self)(0, self.whole_nanoseconds() * number) if isinstance(number, int) else NotImplemented
+
+    __rmul__ = __mul__
+
+    def __floordiv__(self, other: Any) -> Any:
+        if isinstance(other, int):
+            return type(self)(0, self.whole_nanoseconds() // other)
+        return self.whole_nanoseconds() // Duration.of(other).whole_nanoseconds() if _is_length(other) else NotImplemented
+
+    def __truediv__(self, other: Union[Duration, datetime.timedelta]) -> Any:
+        return self.whole_nanoseconds() / Duration.of(other).whole_nanoseconds() if _is_length(other) else NotImplemented
+
+    def __mod__(self, other: Union[Duration, datetime.timedelta]) -> Duration:
+        if not _is_length(other):
+            return NotImplemented
+        return type(self)(0, self.whole_nanoseconds() % Duration.of(other).whole_nanoseconds())
+
+    def __divmod__(self, other: Union[Duration, datetime.timedelta]) -> Any:
+        return (self // other, self % other) if _is_length(other) else NotImplemented
+
+    def __hash__(self) -> int:
+        # That of the datetime.timedelta that it equals, if there is one.
+        whole = self.whole_nanoseconds()
+        is_timedelta = whole % 1_000 == 0 and abs(self.seconds) < 999_999_999 * _DAY
+        return hash(self.to_timedelta() if is_timedelta else whole)
+
+    def __reduce__(self) -> tuple[Any, ...]:
+        return type(self), (self.seconds, self.nanoseconds)
+
+    def __str__(self) -> str:
+        whole = abs(self.whole_nanoseconds())
+        fraction = f".{whole % _SECOND:09}".rstrip("0") if whole % _SECOND else ""
+        return f"{'-' if self < Duration.ZERO else ''}{whole // _SECOND}{fraction}s"
+
+    def __format__(self, form: str) -> str:
+        return format(str(self), form)
+
+    def __repr__(self) -> str:
+        return f"{type(self).__name__}({self.seconds}, {self.nanoseconds})"
 
 
-def _is_duration(value):
+def _is_length(value: object) -> bool:
     return isinstance(value, (Duration, datetime.timedelta))
 
 
-@functools.total_ordering
-class _Moment:
-    """What instants and date-times share: they are sums' and differences' ends, and compare by their instants."""
+class UtcOffset:
+    """How far clocks are ahead of UTC, -25:59:59 to 25:59:59. It goes wherever seconds of an offset go."""
 
-    __slots__ = ("_parts",)
+    __slots__ = ("_seconds",)
 
-    @classmethod
-    def _of(cls, answer):
-        """The value of what the library wrote."""
-        value = object.__new__(cls)
-        value._parts = answer
-        return value
+    UTC: ClassVar[UtcOffset]
 
-    def _moved(self, call, duration):
-        return self._of(_answer(call, type(self._parts), self._parts, Duration.of(duration)._parts()))
-
-    def __add__(self, duration):
-        return self._moved(self._ADD, duration) if _is_duration(duration) else NotImplemented
-
-    __radd__ = __add__
-
-    def __sub__(self, other):
-        if isinstance(other, type(self)):
-            apart = _answer(self._DIFFERENCE, MuxanduDuration, self._parts, other._parts)
-            return Duration(apart.seconds, apart.nanoseconds)
-        return self._moved(self._SUBTRACT, other) if _is_duration(other) else NotImplemented
-
-    def saturating_add(self, duration):
-        """So much later, or the end of the range that it is beyond."""
-        return self._moved(self._SATURATING_ADD, duration)
-
-    def saturating_sub(self, duration):
-        """So much earlier, or the end of the range that it is beyond."""
-        return self._moved(self._SATURATING_SUBTRACT, duration)
-
-    def truncated_to(self, unit):
-        """Rounded down to a unit, before 1970 too."""
-        return self._of(_answer(self._TRUNCATE, type(self._parts), self._parts, held(unit, ctypes.c_uint32)))
+    def __init__(self, whole_seconds: SupportsIndex) -> None:
+        self._seconds = OffsetDateTime(1970, 1, 1, offset_seconds=whole_seconds).offset_seconds
 
     @classmethod
-    def from_rfc3339(cls, text):
-        """The value of a text of RFC 3339, as 1996-12-19T16:39:57-08:00, a str or bytes."""
-        return cls._of(_read(cls._READ, cls._STRUCTURE, text))
+    def from_hms(cls, hours: int, minutes: int = 0, seconds: int = 0) -> UtcOffset:
+        """The offset of hours, minutes and seconds: the smaller take the sign of the hours, or of the minutes if these are 0."""
+        return cls(engine.offset_from_parts(hours, minutes, seconds))
 
-    def to_rfc3339(self):
-        """The shortest text of RFC 3339. RefusedNoText where there is none."""
-        return _text(self._WRITE, self._parts)
+    def whole_seconds(self) -> int:
+        """The seconds by which clocks are ahead of UTC."""
+        return self._seconds
 
-    def __eq__(self, other):
-        return self._order(other) == 0 if isinstance(other, type(self)) else NotImplemented
+    def as_hms(self) -> tuple[int, int, int]:
+        """The hours, the minutes and the seconds, all of one sign."""
+        return engine.offset_to_parts(self._seconds)
 
-    def __lt__(self, other):
-        return self._order(other) < 0 if isinstance(other, type(self)) else NotImplemented
+    def is_utc(self) -> bool:
+        """Whether it is the offset 0."""
+        return self._seconds == 0
 
-    def __str__(self):
-        return _text(self._TEXT, self._parts)
+    def to_timezone(self) -> datetime.timezone:
+        """The datetime.timezone of the offset, of less than a day."""
+        return datetime.timezone(datetime.timedelta(seconds=self._seconds))
 
-    def __reduce__(self):
-        return type(self), tuple(getattr(self._parts, name) for name, _ in self._parts._fields_)
+    def __index__(self) -> int:
+        return self._seconds
+
+    def __eq__(self, other: object) -> Any:
+        return self._seconds == other._seconds if isinstance(other, UtcOffset) else NotImplemented
+
+    def __hash__(self) -> int:
+        return hash(self._seconds)
+
+    def __reduce__(self) -> tuple[Any, ...]:
+        return type(self), (self._seconds,)
+
+    def __str__(self) -> str:
+        return str(OffsetDateTime(1970, 1, 1, offset_seconds=self)).rpartition(" ")[2]
+
+    def __format__(self, form: str) -> str:
+        return format(str(self), form)
+
+    def __repr__(self) -> str:
+        return f"{type(self).__name__}({self._seconds})"
 
 
-class Timestamp(_Moment):
+@_completed
+class Timestamp(engine.Timestamp):
     """An instant: a Unix second and a nanosecond of that second, before 1970 too. Its text is its signed decimal."""
 
     __slots__ = ()
 
-    _STRUCTURE = MuxanduTimestamp
-    _ADD = library.muxandu_timestamp_add
-    _SUBTRACT = library.muxandu_timestamp_subtract
-    _SATURATING_ADD = library.muxandu_timestamp_saturating_add
-    _SATURATING_SUBTRACT = library.muxandu_timestamp_saturating_subtract
-    _DIFFERENCE = library.muxandu_timestamp_difference
-    _TRUNCATE = library.muxandu_timestamp_truncate
-    _TEXT = library.muxandu_timestamp_text
-    _READ = library.muxandu_timestamp_from_rfc3339
-    _WRITE = library.muxandu_timestamp_to_rfc3339
-
-    def __init__(self, seconds, nanoseconds=0):
-        self._parts = parts(MuxanduTimestamp, seconds, nanoseconds)
-        test(library.muxandu_timestamp_check(self._parts))
+    MIN: ClassVar[Timestamp]
+    MAX: ClassVar[Timestamp]
+    UNIX_EPOCH: ClassVar[Timestamp]
 
     @classmethod
-    def from_milliseconds(cls, milliseconds):
-        """The instant so many milliseconds from 1970-01-01 0:00 UTC."""
-        count = held(milliseconds, ctypes.c_int64)
-        return cls._of(_answer(library.muxandu_timestamp_from_milliseconds, MuxanduTimestamp, count))
+    def now(cls: type[_Stamp]) -> _Stamp:
+        """The instant that the clock of the system shows."""
+        return cls._from_nanoseconds(time.time_ns())
 
     @classmethod
-    def from_microseconds(cls, microseconds):
-        """The instant so many microseconds from 1970-01-01 0:00 UTC, a count that 64 bits hold."""
-        return cls._counted(library.muxandu_timestamp_from_microseconds, microseconds)
+    def from_microseconds(cls: type[_Stamp], microseconds: int) -> _Stamp:
+        """The instant so many microseconds from 1970-01-01 0:00 UTC."""
+        seconds, left = divmod(microseconds, 1_000_000)
+        return cls._from_microseconds(microseconds) if -(2**63) <= microseconds < 2**63 else cls(seconds, left * 1_000)
 
     @classmethod
-    def from_nanoseconds(cls, nanoseconds):
-        """The instant so many nanoseconds from 1970-01-01 0:00 UTC, a count that 64 bits hold, as time.time_ns()."""
-        return cls._counted(library.muxandu_timestamp_from_nanoseconds, nanoseconds)
+    def from_nanoseconds(cls: type[_Stamp], nanoseconds: int) -> _Stamp:
+        """The instant so many nanoseconds from 1970-01-01 0:00 UTC, as time.time_ns() counts, and past 64 bits."""
+        return cls._from_nanoseconds(nanoseconds) if -(2**63) <= nanoseconds < 2**63 else cls(*divmod(nanoseconds, _SECOND))
 
     @classmethod
-    def _counted(cls, call, count):
-        if not is_held(count, ctypes.c_int64):
-            raise _BEYOND_TIMESTAMP()
-        return cls._of(call(count))
-
-    @classmethod
-    def from_datetime(cls, at):
+    def from_datetime(cls: type[_Stamp], at: datetime.datetime) -> _Stamp:
         """The instant of a datetime.datetime that has an offset."""
-        return Civil.from_datetime(at).to_timestamp()
+        return cls(*_parts(OffsetDateTime.from_datetime(at).to_timestamp(), "seconds", "nanoseconds"))
 
-    @property
-    def seconds(self):
-        """The Unix second, rounded down."""
-        return self._parts.seconds
+    def as_microseconds(self) -> int:
+        """The microseconds from 1970-01-01 0:00 UTC, rounded down."""
+        try:
+            return self._as_microseconds()
+        except RefusedResult:
+            return self.seconds * 1_000_000 + self.nanoseconds // 1_000
 
-    @property
-    def nanoseconds(self):
-        """The nanoseconds past that second, 0 to 999,999,999."""
-        return self._parts.nanoseconds
+    def as_nanoseconds(self) -> int:
+        """The nanoseconds from 1970-01-01 0:00 UTC."""
+        try:
+            return self._as_nanoseconds()
+        except RefusedResult:
+            return self.seconds * _SECOND + self.nanoseconds
 
-    def as_milliseconds(self):
-        """The milliseconds from 1970-01-01 0:00 UTC, rounded down."""
-        return _answer(library.muxandu_timestamp_to_milliseconds, ctypes.c_int64, self._parts).value
+    def to_utc(self) -> UtcDateTime:
+        """What clocks in UTC show."""
+        return UtcDateTime._shown_by(self.to_offset(0))
 
-    def as_microseconds(self):
-        """The microseconds from 1970-01-01 0:00 UTC, rounded down. RefusedResult where 64 bits do not hold them."""
-        return _answer(library.muxandu_timestamp_to_microseconds, ctypes.c_int64, self._parts).value
+    def to_datetime(self, zone: datetime.tzinfo = datetime.timezone.utc) -> datetime.datetime:
+        """The datetime.datetime of the instant in a zone, to the microsecond, which is rounded down."""
+        return self.to_offset(0).to_datetime().astimezone(zone)
 
-    def as_nanoseconds(self):
-        """The nanoseconds from 1970-01-01 0:00 UTC. RefusedResult where 64 bits do not hold them."""
-        return _answer(library.muxandu_timestamp_to_nanoseconds, ctypes.c_int64, self._parts).value
+    def __reduce__(self) -> tuple[Any, ...]:
+        return type(self), (self.seconds, self.nanoseconds)
 
-    def to_civil(self, offset_seconds=0):
-        """What clocks at an offset from UTC, in seconds, show at the instant."""
-        offset = held(offset_seconds, ctypes.c_int32)
-        return Civil._of(_answer(library.muxandu_civil_from_timestamp, MuxanduCivil, self._parts, offset))
+    def __format__(self, form: str) -> str:
+        return _formatted(self, form)
 
-    def to_rfc3339_nanos(self):
-        """The text of RFC 3339 in UTC with nine digits of the fraction: such texts are in the order of their instants."""
-        return _text(library.muxandu_timestamp_to_rfc3339_nanos, self._parts)
-
-    def _order(self, other):
-        return library.muxandu_timestamp_compare(self._parts, other._parts)
-
-    def __hash__(self):
-        return hash((self.seconds, self.nanoseconds))
-
-    def __repr__(self):
-        return f"Timestamp({self.seconds}, {self.nanoseconds})"
+    def __repr__(self) -> str:
+        return f"{type(self).__name__}({self.seconds}, {self.nanoseconds})"
 
 
-class Civil(_Moment):
+_PARTS = ("year", "month", "day", "hour", "minute", "second", "nanosecond")
+
+
+def _parts(value: object, *names: str) -> tuple[int, ...]:
+    return tuple(getattr(value, name) for name in names)
+
+
+@_completed
+class OffsetDateTime(engine.OffsetDateTime):
     """What clocks at an offset from UTC show. Date-times compare by their instants.
 
     Its text is the library's own, as 1970-01-01 0:00:00.0 +00:00:00.
@@ -257,92 +265,76 @@ class Civil(_Moment):
 
     __slots__ = ()
 
-    _STRUCTURE = MuxanduCivil
-    _ADD = library.muxandu_civil_add
-    _SUBTRACT = library.muxandu_civil_subtract
-    _SATURATING_ADD = library.muxandu_civil_saturating_add
-    _SATURATING_SUBTRACT = library.muxandu_civil_saturating_subtract
-    _DIFFERENCE = library.muxandu_civil_difference
-    _TRUNCATE = library.muxandu_civil_truncate
-    _TEXT = library.muxandu_civil_text
-    _READ = library.muxandu_civil_from_rfc3339
-    _WRITE = library.muxandu_civil_to_rfc3339
-
-    def __init__(self, year, month, day, hour=0, minute=0, second=0, nanosecond=0, offset_seconds=0):
-        self._parts = parts(MuxanduCivil, year, month, day, hour, minute, second, nanosecond, offset_seconds)
-        test(library.muxandu_civil_check(self._parts))
+    UNIX_EPOCH: ClassVar[OffsetDateTime]
 
     @classmethod
-    def from_parts(cls, item):
+    def now(cls: type[_Shown], offset_seconds: SupportsIndex = 0) -> _Shown:
+        """What clocks at an offset show now, by the clock of the system."""
+        return cls(*_parts(Timestamp.now().to_offset(offset_seconds), *_PARTS, "offset_seconds"))
+
+    @classmethod
+    def from_parts(cls: type[_Shown], item: Any) -> _Shown:
         """The date-time of an item of a batch."""
-        read = getattr if isinstance(item, MuxanduCivil) else operator.getitem
-        return cls(*(int(read(item, name)) for name, _ in MuxanduCivil._fields_))
+        is_structure = hasattr(item, "offset_seconds")
+        return cls(*(int(getattr(item, name) if is_structure else item[name]) for name in (*_PARTS, "offset_seconds")))
 
     @classmethod
-    def from_datetime(cls, at):
+    def from_datetime(cls: type[_Shown], at: datetime.datetime) -> _Shown:
         """What a datetime.datetime shows, which must have an offset of whole seconds."""
         offset = at.utcoffset()
         if offset is None or offset.microseconds:
             raise ValueError("a datetime with an offset of whole seconds")
-        seconds = offset.days * 86_400 + offset.seconds
-        return cls(at.year, at.month, at.day, at.hour, at.minute, at.second, at.microsecond * 1_000, seconds)
+        seconds = offset.days * _DAY + offset.seconds
+        return cls(at.year, at.month, at.day, at.hour, at.minute, at.second, nanosecond_of(at), seconds)
 
-    def to_datetime(self):
+    def to_datetime(self) -> datetime.datetime:
         """The datetime.datetime that shows the same, to the microsecond, which is rounded down."""
-        zone = datetime.timezone(datetime.timedelta(seconds=self.offset_seconds))
-        clock = (self.hour, self.minute, self.second, self.nanosecond // 1_000)
-        return datetime.datetime(self.year, self.month, self.day, *clock, tzinfo=zone)
+        return _datetime(self, self.offset().to_timezone())
 
-    def replace(self, **replaced):
+    def to_utc(self) -> UtcDateTime:
+        """What clocks in UTC show at the same instant."""
+        return UtcDateTime._shown_by(self.to_offset(0))
+
+    def replace(self: _Shown, **replaced: SupportsIndex) -> _Shown:
         """The same with other parts, by name: replace(day=1, hour=0)."""
-        numbers = {name: getattr(self._parts, name) for name, _ in MuxanduCivil._fields_}
+        numbers: dict[str, Any] = {name: getattr(self, name) for name in (*_PARTS, "offset_seconds")}
         return type(self)(**{**numbers, **replaced})
 
-    def to_timestamp(self):
-        """The instant. RefusedResult where it lies outside the range of timestamps."""
-        return Timestamp._of(_answer(library.muxandu_timestamp_from_civil, MuxanduTimestamp, self._parts))
-
-    def to_offset(self, offset_seconds):
-        """What clocks at another offset show at the same instant."""
-        offset = held(offset_seconds, ctypes.c_int32)
-        return self._of(_answer(library.muxandu_civil_to_offset, MuxanduCivil, self._parts, offset))
-
-    def day_number(self):
-        """The days from 1970-01-01 to the date that the clocks show."""
-        return _answer(library.muxandu_civil_day, ctypes.c_int32, self._parts).value
-
-    def date(self):
+    def date(self) -> Date:
         """The date that the clocks show."""
         return Date(self.year, self.month, self.day)
 
-    def is_same(self, other):
+    def time(self) -> Time:
+        """The time of day that the clocks show."""
+        return Time(self.hour, self.minute, self.second, self.nanosecond)
+
+    def offset(self) -> UtcOffset:
+        """The offset."""
+        return UtcOffset(self.offset_seconds)
+
+    def date_time(self) -> PlainDateTime:
+        """What the clocks show, without the offset."""
+        return PlainDateTime(*_parts(self, *_PARTS))
+
+    def is_same(self, other: OffsetDateTime) -> bool:
         """Whether both show the same at the same offset, not only the same instant."""
-        return self.__reduce__() == other.__reduce__()
+        if not isinstance(other, OffsetDateTime):
+            raise TypeError(f"an OffsetDateTime, not {type(other).__name__}")
+        return bool(self.__reduce__()[1] == other.__reduce__()[1])
 
-    def _order(self, other):
-        return _answer(library.muxandu_civil_compare, ctypes.c_int32, self._parts, other._parts).value
+    def __reduce__(self) -> tuple[Any, ...]:
+        return type(self), _parts(self, *_PARTS, "offset_seconds")
 
-    def __hash__(self):
-        return hash(self - _EPOCH)
+    def __format__(self, form: str) -> str:
+        return _formatted(self, form)
 
-    def __repr__(self):
-        return f"Civil{self.__reduce__()[1]}"
-
-
-def _part(name, told):
-    return property(lambda self: getattr(self._parts, name), doc=told)
+    def __repr__(self) -> str:
+        return f"{type(self).__name__}{self.__reduce__()[1]}"
 
 
-Civil.year = _part("year", "The year.")
-Civil.month = _part("month", "The month, 1 to 12.")
-Civil.day = _part("day", "The day of the month.")
-Civil.hour = _part("hour", "The hour, 0 to 23.")
-Civil.minute = _part("minute", "The minute, 0 to 59.")
-Civil.second = _part("second", "The second, 0 to 59.")
-Civil.nanosecond = _part("nanosecond", "The nanosecond of the second, 0 to 999,999,999.")
-Civil.offset_seconds = _part("offset_seconds", "The seconds by which the clocks are ahead of UTC.")
-
-_EPOCH = Civil(1970, 1, 1)
+def _datetime(shown: Any, zone: Union[datetime.tzinfo, None]) -> datetime.datetime:
+    clock = (shown.hour, shown.minute, shown.second, shown.nanosecond // 1_000)
+    return datetime.datetime(shown.year, shown.month, shown.day, *clock, tzinfo=zone)
 
 
 class OrdinalDate(NamedTuple):
@@ -360,78 +352,222 @@ class IsoWeekDate(NamedTuple):
     weekday: int
 
 
-@functools.total_ordering
-class Date:
+@_completed
+class Date(engine.Date):
     """A day: a year, a month and a day of the month."""
 
-    __slots__ = ("_number", "_parts")
+    __slots__ = ()
 
-    def __init__(self, year, month, day):
-        self._parts = parts(MuxanduDate, year, month, day)
-        self._number = _answer(library.muxandu_day_from_date, ctypes.c_int32, self._parts).value
-
-    @classmethod
-    def from_day_number(cls, number):
-        """The day so many days from 1970-01-01."""
-        date = object.__new__(cls)
-        date._number = held(number, ctypes.c_int32)
-        date._parts = _answer(library.muxandu_date_from_day, MuxanduDate, date._number)
-        return date
+    MIN: ClassVar[Date]
+    MAX: ClassVar[Date]
 
     @classmethod
-    def from_ordinal_date(cls, year, ordinal):
+    def from_ordinal_date(cls: type[_Date], year: int, ordinal: int) -> _Date:
         """The day of a year and a day of the year."""
-        day = parts(MuxanduOrdinalDate, year, ordinal)
-        return cls.from_day_number(_answer(library.muxandu_day_from_ordinal_date, ctypes.c_int32, day).value)
+        return cls.from_day_number(engine.day_from_ordinal_date(year, ordinal))
 
     @classmethod
-    def from_iso_week_date(cls, year, week, weekday):
+    def from_iso_week_date(cls: type[_Date], year: int, week: int, weekday: int) -> _Date:
         """The day of an ISO year, an ISO week and a day of the week, 0 for Monday."""
-        day = parts(MuxanduWeekDate, year, week, weekday)
-        return cls.from_day_number(_answer(library.muxandu_day_from_week_date, ctypes.c_int32, day).value)
+        return cls.from_day_number(engine.day_from_week_date(year, week, weekday))
 
-    year = _part("year", "The year.")
-    month = _part("month", "The month, 1 to 12.")
-    day = _part("day", "The day of the month.")
+    @classmethod
+    def from_rfc3339(cls: type[_Date], text: Union[str, bytes]) -> _Date:
+        """The day of a text of RFC 3339, as 1985-04-12."""
+        return cls(*engine.date_from_rfc3339(text))
 
-    def day_number(self):
-        """The days from 1970-01-01."""
-        return self._number
+    def to_rfc3339(self) -> str:
+        """The text of RFC 3339, as 1985-04-12."""
+        return engine.date_to_rfc3339(self.year, self.month, self.day)
 
-    def to_ordinal_date(self):
+    @classmethod
+    def from_date(cls: type[_Date], date: datetime.date) -> _Date:
+        """The day of a datetime.date."""
+        return cls(date.year, date.month, date.day)
+
+    @classmethod
+    def today(cls: type[_Date]) -> _Date:
+        """The day in UTC, by the clock of the system."""
+        return cls.from_day_number(Timestamp.now().to_offset(0).day_number())
+
+    def to_date(self) -> datetime.date:
+        """The datetime.date of the day, of the years 1 to 9999."""
+        return datetime.date(self.year, self.month, self.day)
+
+    def add_days(self: _Date, days: int) -> _Date:
+        """The day so many days later, or earlier for a negative count. Refused RefusedResult outside the range."""
+        return type(self)(*engine.date_add_days(self.year, self.month, self.day, days))
+
+    def add_months(self: _Date, months: int) -> _Date:
+        """The same day of the month so many months later, or the month's last day where it is shorter."""
+        return type(self)(*engine.date_add_months(self.year, self.month, self.day, months))
+
+    @classmethod
+    def from_julian_day(cls: type[_Date], julian_day: int) -> _Date:
+        """The day of a Julian day, which is 2,440,588 on 1970-01-01."""
+        return cls(*engine.date_from_julian_day(julian_day))
+
+    def to_julian_day(self) -> int:
+        """The Julian day, which is 2,440,588 on 1970-01-01."""
+        return self._reads()[1]
+
+    def sunday_based_week(self) -> int:
+        """How many Sundays of the year lie on or before the day, 0 to 53."""
+        return self._reads()[6]
+
+    def monday_based_week(self) -> int:
+        """How many Mondays of the year lie on or before the day, 0 to 53."""
+        return self._reads()[7]
+
+    def _reads(self) -> tuple[int, int, int, int, int, int, int, int]:
+        return engine.date_reads(self.year, self.month, self.day)
+
+    def to_ordinal_date(self) -> OrdinalDate:
         """The year and the day of the year."""
-        day = _answer(library.muxandu_ordinal_date_from_day, MuxanduOrdinalDate, self._number)
-        return OrdinalDate(day.year, day.ordinal)
+        return OrdinalDate(*engine.ordinal_date_from_day(self.day_number()))
 
-    def to_iso_week_date(self):
+    def to_iso_week_date(self) -> IsoWeekDate:
         """The ISO year, the ISO week and the day of the week, 0 for Monday."""
-        day = _answer(library.muxandu_week_date_from_day, MuxanduWeekDate, self._number)
-        return IsoWeekDate(day.year, day.week, day.weekday)
+        return IsoWeekDate(*engine.week_date_from_day(self.day_number()))
 
-    def weekday(self):
+    def weekday(self) -> int:
         """The day of the week, 0 for Monday."""
-        return _answer(library.muxandu_weekday_from_day, ctypes.c_uint8, self._number).value
+        return engine.weekday_from_day(self.day_number())
 
-    def __eq__(self, other):
-        return self._number == other._number if isinstance(other, Date) else NotImplemented
+    def replace(self: _Date, **replaced: SupportsIndex) -> _Date:
+        """The same with other parts, by name: replace(day=1)."""
+        numbers: dict[str, Any] = {name: getattr(self, name) for name in ("year", "month", "day")}
+        return type(self)(**{**numbers, **replaced})
 
-    def __lt__(self, other):
-        return self._number < other._number if isinstance(other, Date) else NotImplemented
+    def _moved(self: _Date, days: Any, sign: int) -> _Date:
+        if _is_length(days):
+            days = Duration.of(days).whole_days()
+        elif not isinstance(days, int):
+            return NotImplemented
+        return self.from_day_number(self.day_number() + sign * days)
 
-    def __hash__(self):
-        return hash(self._number)
+    def __add__(self: _Date, days: Union[int, Duration, datetime.timedelta]) -> _Date:
+        """So many days later; of a duration the whole days, rounded towards zero."""
+        return self._moved(days, 1)
 
-    def __reduce__(self):
-        return Date, (self.year, self.month, self.day)
+    __radd__ = __add__
 
-    def __str__(self):
-        return str(Civil(self.year, self.month, self.day)).partition(" ")[0]
+    def __sub__(self, other: Any) -> Any:
+        """The duration from another day, or so many days earlier."""
+        if isinstance(other, Date):
+            return Duration.of_days(self.day_number() - other.day_number())
+        return self._moved(other, -1)
 
-    def __repr__(self):
-        return f"Date({self.year}, {self.month}, {self.day})"
+    def __reduce__(self) -> tuple[Any, ...]:
+        return type(self), (self.year, self.month, self.day)
+
+    def __str__(self) -> str:
+        return str(OffsetDateTime(self.year, self.month, self.day)).partition(" ")[0]
+
+    def __format__(self, form: str) -> str:
+        return self.to_date().strftime(form) if "%" in form else format(str(self), form)
+
+    def __repr__(self) -> str:
+        return f"{type(self).__name__}({self.year}, {self.month}, {self.day})"
 
 
-def days_in_month(year, month):
+class Time:
+    """A time of day, from 0:00:00.0 to 23:59:59.999999999."""
+
+    __slots__ = ("_at",)
+
+    MIDNIGHT: ClassVar[Time]
+    MAX: ClassVar[Time]
+
+    def __init__(
+        self, hour: SupportsIndex, minute: SupportsIndex = 0, second: SupportsIndex = 0, nanosecond: SupportsIndex = 0
+    ) -> None:
+        self._at = OffsetDateTime(1970, 1, 1, hour, minute, second, nanosecond)
+
+    @classmethod
+    def from_time(cls, at: datetime.time) -> Time:
+        """The time of day of a datetime.time."""
+        return cls(at.hour, at.minute, at.second, at.microsecond * 1_000)
+
+    def to_time(self) -> datetime.time:
+        """The datetime.time, to the microsecond, which is rounded down."""
+        return datetime.time(self.hour, self.minute, self.second, self.nanosecond // 1_000)
+
+    @property
+    def hour(self) -> int:
+        """The hour, 0 to 23."""
+        return self._at.hour
+
+    @property
+    def minute(self) -> int:
+        """The minute, 0 to 59."""
+        return self._at.minute
+
+    @property
+    def second(self) -> int:
+        """The second, 0 to 59."""
+        return self._at.second
+
+    @property
+    def nanosecond(self) -> int:
+        """The nanosecond of the second."""
+        return self._at.nanosecond
+
+    def __sub__(self, earlier: Time) -> Duration:
+        return self._at - earlier._at if isinstance(earlier, Time) else NotImplemented
+
+    def __eq__(self, other: object) -> Any:
+        return self._at == other._at if isinstance(other, Time) else NotImplemented
+
+    def __lt__(self, other: Time) -> bool:
+        return self._at < other._at if isinstance(other, Time) else NotImplemented
+
+    def __le__(self, other: Time) -> bool:
+        return self._at <= other._at if isinstance(other, Time) else NotImplemented
+
+    def __gt__(self, other: Time) -> bool:
+        return self._at > other._at if isinstance(other, Time) else NotImplemented
+
+    def __ge__(self, other: Time) -> bool:
+        return self._at >= other._at if isinstance(other, Time) else NotImplemented
+
+    def __hash__(self) -> int:
+        return hash(self._at)
+
+    def __reduce__(self) -> tuple[Any, ...]:
+        return type(self), _parts(self, "hour", "minute", "second", "nanosecond")
+
+    def __str__(self) -> str:
+        return str(self._at).split(" ")[1]
+
+    def __format__(self, form: str) -> str:
+        return self.to_time().strftime(form) if "%" in form else format(str(self), form)
+
+    def __repr__(self) -> str:
+        return f"{type(self).__name__}{self.__reduce__()[1]}"
+
+
+def _minimum_and_maximum() -> None:
+    """The ends of the ranges, as the library has them."""
+    second = Duration(1)
+    Duration.ZERO = Duration()
+    Duration.MAX = Duration(2**63 - 1, _SECOND - 1)
+    Duration.MIN = -Duration.MAX - second
+    Timestamp.UNIX_EPOCH = Timestamp(0)
+    Timestamp.MAX = Timestamp.UNIX_EPOCH.saturating_add(Duration.MAX)
+    Timestamp.MIN = Timestamp.UNIX_EPOCH.saturating_sub(Duration.MAX)
+    OffsetDateTime.UNIX_EPOCH = OffsetDateTime(1970, 1, 1)
+    Date.MIN, Date.MAX = Timestamp.MIN.to_offset(0).date(), Timestamp.MAX.to_offset(0).date()
+    Time.MIDNIGHT, Time.MAX = Time(0), Timestamp.MAX.to_offset(0).time()
+    UtcOffset.UTC = UtcOffset(0)
+
+
+def days_in_month(year: int, month: int) -> int:
     """How many days a month of a year has."""
-    words = held(year, ctypes.c_int32), held(month, ctypes.c_uint8)
-    return _answer(library.muxandu_days_in_month, ctypes.c_uint8, *words).value
+    return engine.days_in_month(year, month)
+
+
+engine.bind(Timestamp, OffsetDateTime, Duration, Date, REFUSALS, datetime.timedelta, as_bytes)
+_minimum_and_maximum()
+
+from ._clocks import PlainDateTime, UtcDateTime  # noqa: E402

@@ -6,12 +6,13 @@ import pickle
 import unittest
 
 import muxandu
-from muxandu import Civil, Date, Duration, IsoWeekDate, OrdinalDate, Refused, Timestamp, Unit, days_in_month
+from muxandu._engine import engine
+from muxandu._refusals import REFUSALS
+from muxandu import OffsetDateTime, Date, Duration, IsoWeekDate, OrdinalDate, Refused, Timestamp, Unit, days_in_month
 
 FIRST = Timestamp(-31_619_087_596_800)
 LAST = Timestamp(31_494_784_780_799, 999_999_999)
 EPOCH = Timestamp(0)
-BEYOND = Duration(2**63 - 1, 1_000_000_000)
 
 
 class Timestamps(unittest.TestCase):
@@ -34,9 +35,14 @@ class Timestamps(unittest.TestCase):
         self.assertEqual(Timestamp.from_microseconds(-1), Timestamp(-1, 999_999_000))
         self.assertEqual(Timestamp.from_nanoseconds(-(2**63)), Timestamp(-9_223_372_037, 145_224_192))
         self.assertRaises(muxandu.RefusedTimestamp, Timestamp.from_milliseconds, 2**70)
-        self.assertRaises(muxandu.RefusedTimestamp, Timestamp.from_nanoseconds, 2**63)
-        self.assertRaises(muxandu.RefusedResult, LAST.as_microseconds)
-        self.assertRaises(muxandu.RefusedResult, LAST.as_nanoseconds)
+        self.assertEqual(Timestamp.from_nanoseconds(2**63), Timestamp(9_223_372_036, 854_775_808))
+        for at in (FIRST, LAST):
+            self.assertEqual(at.as_microseconds(), at.seconds * 10**6 + at.nanoseconds // 1_000)
+            self.assertEqual(at.as_nanoseconds(), at.seconds * 10**9 + at.nanoseconds)
+            self.assertEqual(Timestamp.from_nanoseconds(at.as_nanoseconds()), at)
+            self.assertEqual(Timestamp.from_microseconds(at.as_microseconds()).seconds, at.seconds)
+        for read in (Timestamp.from_nanoseconds, Timestamp.from_microseconds, Timestamp.from_milliseconds):
+            self.assertRaises(muxandu.RefusedTimestamp, read, 2**100)
 
     def test_sums_and_differences(self):
         half, at = Duration(0, 500_000_000), Timestamp(-1, 500_000_000)
@@ -46,8 +52,6 @@ class Timestamps(unittest.TestCase):
         self.assertEqual(LAST - FIRST, Duration(63_113_872_377_599, 999_999_999))
         for move in (lambda: LAST + half, lambda: FIRST - half):
             self.assertRaises(muxandu.RefusedResult, move)
-        for move in (at.__add__, at.__sub__, at.saturating_add, at.saturating_sub):
-            self.assertRaises(muxandu.RefusedDuration, move, BEYOND)
         self.assertRaises(TypeError, lambda: at + 1)
 
     def test_order_and_truncation(self):
@@ -62,47 +66,45 @@ class Timestamps(unittest.TestCase):
         self.assertNotEqual(at, -1)
 
 
-class Civils(unittest.TestCase):
+class DateTimes(unittest.TestCase):
     def test_clocks_show_instants(self):
         at = Timestamp(1_709_210_096, 7)
-        shown = at.to_civil(3600)
-        self.assertEqual(repr(shown), "Civil(2024, 2, 29, 13, 34, 56, 7, 3600)")
+        shown = at.to_offset(3600)
+        self.assertEqual(repr(shown), "OffsetDateTime(2024, 2, 29, 13, 34, 56, 7, 3600)")
         self.assertEqual((shown.day_number(), shown.date(), shown.to_timestamp()), (19_782, Date(2024, 2, 29), at))
-        self.assertEqual(repr(shown.to_offset(0)), "Civil(2024, 2, 29, 12, 34, 56, 7, 0)")
-        self.assertRaises(muxandu.RefusedOffsetSeconds, at.to_civil, 2**32)
+        self.assertEqual(repr(shown.to_offset(0)), "OffsetDateTime(2024, 2, 29, 12, 34, 56, 7, 0)")
+        self.assertRaises(muxandu.RefusedOffsetSeconds, at.to_offset, 2**32)
         self.assertRaises(muxandu.RefusedOffsetSeconds, shown.to_offset, -93_600)
-        self.assertRaises(muxandu.RefusedResult, FIRST.to_civil, -1)
+        self.assertRaises(muxandu.RefusedResult, FIRST.to_offset, -1)
 
     def test_wall_clocks_beyond_the_instants(self):
-        at = Civil(-999_999, 1, 1, offset_seconds=3600)
+        at = OffsetDateTime(-999_999, 1, 1, offset_seconds=3600)
         self.assertRaises(muxandu.RefusedResult, at.to_timestamp)
         self.assertRaises(muxandu.RefusedResult, at.to_offset, 0)
-        self.assertLess(at, Civil(-999_999, 1, 1))
+        self.assertLess(at, OffsetDateTime(-999_999, 1, 1))
         self.assertEqual(str(at.to_offset(7200)), "-999999-01-01 1:00:00.0 +02:00:00")
 
     def test_sums_and_differences(self):
-        day, at, end, start = Duration(86_400), Civil(2024, 2, 28, 1), LAST.to_civil(), FIRST.to_civil()
-        self.assertTrue((at + day).is_same(Civil(2024, 2, 29, 1)))
-        self.assertTrue((at - datetime.timedelta(days=-1)).is_same(Civil(2024, 2, 29, 1)))
-        self.assertEqual(Civil(2024, 1, 1, offset_seconds=-3600) - Civil(2024, 1, 1), Duration(3600))
+        day, at, end, start = Duration(86_400), OffsetDateTime(2024, 2, 28, 1), LAST.to_offset(0), FIRST.to_offset(0)
+        self.assertTrue((at + day).is_same(OffsetDateTime(2024, 2, 29, 1)))
+        self.assertTrue((at - datetime.timedelta(days=-1)).is_same(OffsetDateTime(2024, 2, 29, 1)))
+        self.assertEqual(OffsetDateTime(2024, 1, 1, offset_seconds=-3600) - OffsetDateTime(2024, 1, 1), Duration(3600))
         self.assertTrue(end.saturating_add(day).is_same(end) and start.saturating_sub(day).is_same(start))
         for move in (lambda: end + day, lambda: start - day):
             self.assertRaises(muxandu.RefusedResult, move)
-        for move in (at.__add__, at.__sub__, at.saturating_add, at.saturating_sub):
-            self.assertRaises(muxandu.RefusedDuration, move, BEYOND)
-        at = Civil(2022, 2, 18, 15, 30, 45, 123_456_789)
-        self.assertEqual(at.truncated_to(Unit.MILLISECOND), Civil(2022, 2, 18, 15, 30, 45, 123_000_000))
+        at = OffsetDateTime(2022, 2, 18, 15, 30, 45, 123_456_789)
+        self.assertEqual(at.truncated_to(Unit.MILLISECOND), OffsetDateTime(2022, 2, 18, 15, 30, 45, 123_000_000))
 
     def test_comparison_by_instant(self):
-        here, there = Civil(2024, 1, 1, 1, offset_seconds=3600), Civil(2024, 1, 1)
+        here, there = OffsetDateTime(2024, 1, 1, 1, offset_seconds=3600), OffsetDateTime(2024, 1, 1)
         self.assertEqual(here, there)
         self.assertFalse(here.is_same(there))
         self.assertEqual(len({here, there}), 1)
-        self.assertLess(Civil(2024, 1, 1, offset_seconds=3600), there)
+        self.assertLess(OffsetDateTime(2024, 1, 1, offset_seconds=3600), there)
 
     def test_parts_are_tested(self):
-        at = Civil(2024, 2, 29, 13, 34, 56)
-        self.assertEqual(at.replace(year=2028, hour=0), Civil(2028, 2, 29, 0, 34, 56))
+        at = OffsetDateTime(2024, 2, 29, 13, 34, 56)
+        self.assertEqual(at.replace(year=2028, hour=0), OffsetDateTime(2028, 2, 29, 0, 34, 56))
         for replaced, refusal in (
             ({"year": 1_000_000}, muxandu.RefusedYear),
             ({"year": 2**40}, muxandu.RefusedYear),
@@ -129,9 +131,9 @@ class Civils(unittest.TestCase):
     def test_datetime_shows_the_same(self):
         zone = datetime.timezone(datetime.timedelta(hours=-8, seconds=30))
         at = datetime.datetime(1996, 12, 19, 16, 39, 57, 123_456, tzinfo=zone)
-        self.assertEqual(Civil.from_datetime(at).to_datetime(), at)
-        self.assertEqual(Timestamp.from_datetime(at).to_civil().to_datetime(), at)
-        self.assertRaises(ValueError, Civil.from_datetime, at.replace(tzinfo=None))
+        self.assertEqual(OffsetDateTime.from_datetime(at).to_datetime(), at)
+        self.assertEqual(Timestamp.from_datetime(at).to_offset(0).to_datetime(), at)
+        self.assertRaises(ValueError, OffsetDateTime.from_datetime, at.replace(tzinfo=None))
 
 
 class Days(unittest.TestCase):
@@ -145,6 +147,24 @@ class Days(unittest.TestCase):
         self.assertEqual(days_in_month(2024, 2), 29)
         self.assertEqual((str(Date(-5, 3, 1)), str(Date(10_000, 1, 1))), ("-0005-03-01", "+10000-01-01"))
         self.assertLess(Date(-1, 12, 31), Date(0, 1, 1))
+
+    def test_days_move(self):
+        self.assertEqual(Date(2024, 2, 28).add_days(2), Date(2024, 3, 1))
+        self.assertEqual(Date(2024, 1, 31).add_months(13), Date(2025, 2, 28))
+        self.assertRaises(muxandu.RefusedResult, Date(999_999, 12, 31).add_days, 1)
+        self.assertRaises(muxandu.RefusedResult, Date(2024, 1, 31).add_months, 2**40)
+        self.assertEqual((Date(2021, 1, 1).to_julian_day(), Date.from_julian_day(2_459_216)), (2_459_216, Date(2021, 1, 1)))
+        self.assertRaises(muxandu.RefusedDayNumber, Date.from_julian_day, 2**40)
+        date = Date(2023, 12, 31)
+        self.assertEqual((date.sunday_based_week(), date.monday_based_week()), (53, 52))
+
+    def test_parts_are_replaced(self):
+        at = OffsetDateTime(2024, 2, 29, 13, 34, 56, 7, 60)
+        self.assertEqual(at.with_part(4, 366), OffsetDateTime(2024, 12, 31, 13, 34, 56, 7, 60))
+        self.assertRaises(muxandu.RefusedDayOfMonth, at.with_part, 1, 2023)
+        self.assertRaises(muxandu.RefusedUnit, at.with_part, 9, 1)
+        self.assertEqual(Timestamp(-1, 5).with_part(5, 0), Timestamp(-82_801, 5))
+        self.assertRaises(muxandu.RefusedHour, Timestamp(-1, 5).with_part, 5, 24)
 
     def test_days_are_tested(self):
         for make, parts, refusal in (
@@ -171,10 +191,32 @@ class Days(unittest.TestCase):
         ):
             self.assertRaises(refusal, make, *parts)
 
+    def test_days_are_texts(self):
+        self.assertEqual((Date.from_rfc3339("2024-02-29"), Date.from_rfc3339(b"0000-01-01")), (Date(2024, 2, 29), Date(0, 1, 1)))
+        self.assertEqual(Date(2024, 2, 29).to_rfc3339(), "2024-02-29")
+        for text, refusal in (
+            ("2024-02-29T00:00:00Z", muxandu.RefusedSyntax),
+            ("2024-13-01", muxandu.RefusedMonth),
+            ("2024-02-32", muxandu.RefusedDay),
+            ("2023-02-29", muxandu.RefusedDayOfMonth),
+        ):
+            self.assertRaises(refusal, Date.from_rfc3339, text)
+        self.assertRaises(muxandu.RefusedNoText, Date(10_000, 1, 1).to_rfc3339)
+
+
+class Library(unittest.TestCase):
+    def test_statuses_are_told(self):
+        self.assertGreaterEqual(engine.version(), 100)
+        for status, refusal in REFUSALS.items():
+            self.assertEqual(engine.status_name(status), refusal.name)
+            self.assertEqual(engine.status_text(status), " ".join(refusal.__doc__.split()))
+        self.assertEqual((engine.status_name(0), engine.status_text(0)), ("OK", "Nothing is refused."))
+        self.assertEqual(engine.status_name(2**32 - 1), "UNKNOWN")
+
 
 class Texts(unittest.TestCase):
     def test_texts_are_read_and_written(self):
-        at = Civil.from_rfc3339("1996-12-19t16:39:57-08:00")
+        at = OffsetDateTime.from_rfc3339("1996-12-19t16:39:57-08:00")
         instant = Timestamp.from_rfc3339(b"1996-12-19 16:39:57-08:00")
         self.assertEqual((at.to_rfc3339(), instant.seconds), ("1996-12-19T16:39:57-08:00", 851_042_397))
         self.assertEqual(instant.to_rfc3339(), "1996-12-20T00:39:57Z")
@@ -189,14 +231,15 @@ class Texts(unittest.TestCase):
             ("", muxandu.RefusedSyntax),
             ("1996-12-19T16:39:57\u00e9", muxandu.RefusedSyntax),
             ("1996-13-19T16:39:57Z", muxandu.RefusedMonth),
-            ("1995-02-29T16:39:57Z", muxandu.RefusedDay),
+            ("1995-02-32T16:39:57Z", muxandu.RefusedDay),
+            ("1995-02-29T16:39:57Z", muxandu.RefusedDayOfMonth),
             ("1996-12-19T24:39:57Z", muxandu.RefusedHour),
             ("1996-12-19T16:60:57Z", muxandu.RefusedMinute),
             ("1996-12-19T16:39:60Z", muxandu.RefusedSecond),
             ("1996-12-19T16:39:57+24:00", muxandu.RefusedOffsetHour),
             ("1996-12-19T16:39:57+00:60", muxandu.RefusedOffsetMinute),
         ):
-            self.assertRaises(refusal, Civil.from_rfc3339, text)
+            self.assertRaises(refusal, OffsetDateTime.from_rfc3339, text)
             self.assertRaises(refusal, Timestamp.from_rfc3339, text)
 
 
@@ -210,13 +253,13 @@ class Rest(unittest.TestCase):
 
     def test_refusals_are_value_errors_with_names(self):
         with self.assertRaises(ValueError) as caught:
-            Civil(2023, 2, 29)
+            OffsetDateTime(2023, 2, 29)
         self.assertIsInstance(caught.exception, Refused)
         self.assertEqual((caught.exception.name, caught.exception.status), ("DAY_OF_MONTH", 4))
-        self.assertEqual(str(caught.exception), "DAY_OF_MONTH: A day of 1 to 31 that the month does not have in this year.")
+        self.assertEqual(str(caught.exception), "DAY_OF_MONTH: A day of 1 to 31 that its month does not have in its year.")
 
     def test_values_are_pickled(self):
-        values = [LAST, Civil(2024, 2, 29, offset_seconds=60), Date(2024, 2, 29), Duration(1, 2), Unit.DAY]
+        values = [LAST, OffsetDateTime(2024, 2, 29, offset_seconds=60), Date(2024, 2, 29), Duration(1, 2), Unit.DAY]
         self.assertEqual(pickle.loads(pickle.dumps(values)), values)
 
     def test_the_example(self):

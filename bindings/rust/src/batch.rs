@@ -1,11 +1,11 @@
 //! Many items in one call, with no memory taken.
 
-use std::error::Error;
-use std::fmt;
-use std::ops::Range;
+use core::error::Error;
+use core::fmt;
+use core::ops::Range;
 
 use crate::sys::{self, MuxanduBatch, MuxanduSpan};
-use crate::{Civil, Date, Refusal, Timestamp};
+use crate::{Date, OffsetDateTime, Refusal, Timestamp, UtcOffset};
 
 /// Where a call over many items stopped: the items before were converted and written, and nothing behind them was.
 #[derive(Clone, Copy, Debug, PartialEq, Eq, Hash)]
@@ -28,7 +28,7 @@ impl Error for BatchRefusal {
     }
 }
 
-fn ended(batch: MuxanduBatch) -> Result<(), BatchRefusal> {
+pub(crate) fn ended(batch: MuxanduBatch) -> Result<(), BatchRefusal> {
     Refusal::test(batch.status).map_err(|refusal| BatchRefusal {
         count: batch.count,
         refusal,
@@ -36,18 +36,22 @@ fn ended(batch: MuxanduBatch) -> Result<(), BatchRefusal> {
 }
 
 /// What clocks at an offset show at each Unix second.
-pub fn civils_from_seconds(
+///
+/// # Errors
+///
+/// The place and the refusal of the first item that is refused, and [`Refusal::Buffer`] where `out` is too short.
+pub fn date_times_from_seconds(
     seconds: &[i64],
-    offset_seconds: i32,
-    out: &mut [Civil],
+    offset: UtcOffset,
+    out: &mut [OffsetDateTime],
 ) -> Result<(), BatchRefusal> {
-    // SAFETY: each pointer and count are those of one slice, and `out` is borrowed alone. A `Civil` is a
-    // `MuxanduCivil`, and what the call writes is a date-time.
+    // SAFETY: each pointer and count are those of one slice, and `out` is borrowed alone. An `OffsetDateTime` is a
+    // `MuxanduDateTime`, and what the call writes is a date-time.
     ended(unsafe {
-        sys::muxandu_civils_from_seconds(
+        sys::muxandu_date_times_from_seconds(
             seconds.as_ptr(),
             seconds.len(),
-            offset_seconds,
+            offset.whole_seconds(),
             out.as_mut_ptr().cast(),
             out.len(),
         )
@@ -55,12 +59,19 @@ pub fn civils_from_seconds(
 }
 
 /// The Unix second of each date-time, rounded down.
-pub fn seconds_from_civils(civils: &[Civil], out: &mut [i64]) -> Result<(), BatchRefusal> {
-    // SAFETY: as above; a `Civil` is a `MuxanduCivil`.
+///
+/// # Errors
+///
+/// The place and the refusal of the first item that is refused, and [`Refusal::Buffer`] where `out` is too short.
+pub fn seconds_from_date_times(
+    date_times: &[OffsetDateTime],
+    out: &mut [i64],
+) -> Result<(), BatchRefusal> {
+    // SAFETY: as above; an `OffsetDateTime` is a `MuxanduDateTime`.
     ended(unsafe {
-        sys::muxandu_seconds_from_civils(
-            civils.as_ptr().cast(),
-            civils.len(),
+        sys::muxandu_seconds_from_date_times(
+            date_times.as_ptr().cast(),
+            date_times.len(),
             out.as_mut_ptr(),
             out.len(),
         )
@@ -68,6 +79,10 @@ pub fn seconds_from_civils(civils: &[Civil], out: &mut [i64]) -> Result<(), Batc
 }
 
 /// The date of each day number, counted from 1970-01-01.
+///
+/// # Errors
+///
+/// The place and the refusal of the first item that is refused, and [`Refusal::Buffer`] where `out` is too short.
 pub fn dates_from_days(days: &[i32], out: &mut [Date]) -> Result<(), BatchRefusal> {
     // SAFETY: as above; a `Date` is a `MuxanduDate`, and what the call writes is a date.
     ended(unsafe {
@@ -81,6 +96,10 @@ pub fn dates_from_days(days: &[i32], out: &mut [Date]) -> Result<(), BatchRefusa
 }
 
 /// The day number of each date, counted from 1970-01-01.
+///
+/// # Errors
+///
+/// The place and the refusal of the first item that is refused, and [`Refusal::Buffer`] where `out` is too short.
 pub fn days_from_dates(dates: &[Date], out: &mut [i32]) -> Result<(), BatchRefusal> {
     // SAFETY: as above; a `Date` is a `MuxanduDate`.
     ended(unsafe {
@@ -98,11 +117,14 @@ pub fn days_from_dates(dates: &[Date], out: &mut [i32]) -> Result<(), BatchRefus
 #[repr(transparent)]
 pub struct Span(MuxanduSpan);
 
+/// A range whose end lies before its start makes a span that no block of texts has, so that it is refused
+/// [`Refusal::Span`].
 impl From<Range<usize>> for Span {
     fn from(range: Range<usize>) -> Span {
+        let length = range.end.checked_sub(range.start);
         Span(MuxanduSpan {
             start: range.start,
-            length: range.len(),
+            length: length.unwrap_or(usize::MAX),
         })
     }
 }
@@ -117,8 +139,12 @@ impl From<Range<usize>> for Span {
 /// let mut out = [Timestamp::UNIX_EPOCH; 2];
 /// let stopped = timestamps_from_rfc3339(log, &spans, &mut out).unwrap_err();
 /// assert_eq!((stopped.count, stopped.refusal), (1, Refusal::Minute));
-/// assert_eq!(out[0].seconds(), 1);
+/// assert_eq!(out[0].as_seconds(), 1);
 /// ```
+///
+/// # Errors
+///
+/// The place and the refusal of the first item that is refused, and [`Refusal::Buffer`] where `out` is too short.
 pub fn timestamps_from_rfc3339(
     texts: &[u8],
     spans: &[Span],

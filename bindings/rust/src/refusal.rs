@@ -1,11 +1,19 @@
-use std::error::Error;
-use std::fmt;
+use core::error::Error;
+use core::fmt;
 
 use crate::sys;
 
 macro_rules! refusals {
     ($($(#[doc = $doc:literal])+ $variant:ident = $status:ident;)+) => {
-        /// Why a call is refused. Parts are tested from the first to the last, and the first out of its range is named.
+        /// Why a call is refused. Each call says in which order it tests what it takes, and names the first that is refused.
+        ///
+        /// ```
+        /// use muxandu::{Refusal, Timestamp};
+        ///
+        /// let refused = "2024-02-30T24:00:00Z".parse::<Timestamp>().unwrap_err();
+        /// assert_eq!((refused, refused.name()), (Refusal::DayOfMonth, "DAY_OF_MONTH"));
+        /// assert_eq!(Timestamp::MAX.to_rfc3339(), Err(Refusal::NoText));
+        /// ```
         #[derive(Clone, Copy, Debug, PartialEq, Eq, Hash)]
         #[non_exhaustive]
         pub enum Refusal {
@@ -17,6 +25,7 @@ macro_rules! refusals {
             pub const ALL: &[Refusal] = &[$(Refusal::$variant,)+];
 
             /// The number of the refusal in the library, never 0.
+            #[must_use]
             pub fn status(self) -> u32 {
                 match self {
                     $(Refusal::$variant => sys::$status,)+
@@ -31,9 +40,9 @@ refusals! {
     Year = REFUSED_YEAR;
     /// A month that is not 1 to 12.
     Month = REFUSED_MONTH;
-    /// A day that is not 1 to 31; in a text, also one that its month does not have.
+    /// A day that is not 1 to 31.
     Day = REFUSED_DAY;
-    /// A day of 1 to 31 that the month does not have in this year.
+    /// A day of 1 to 31 that its month does not have in its year.
     DayOfMonth = REFUSED_DAY_OF_MONTH;
     /// A day of the year that is not 1 to 366.
     Ordinal = REFUSED_ORDINAL;
@@ -71,9 +80,9 @@ refusals! {
     Span = REFUSED_SPAN;
     /// A text that is no date-time of RFC 3339.
     Syntax = REFUSED_SYNTAX;
-    /// In a text, hours of the offset above 23.
+    /// Hours of the offset above 23 in a text, or beyond 25 in numbers.
     OffsetHour = REFUSED_OFFSET_HOUR;
-    /// In a text, minutes of the offset above 59.
+    /// Minutes of the offset beyond 59.
     OffsetMinute = REFUSED_OFFSET_MINUTE;
     /// A value that RFC 3339 has no text for: its year is not 0 to 9999, or its offset has seconds or is of 24 hours or
     /// more.
@@ -82,22 +91,30 @@ refusals! {
 
 impl Refusal {
     /// Ok for the status 0, and else the refusal of the status.
+    #[inline]
     pub(crate) fn test(status: u32) -> Result<(), Refusal> {
         if status == sys::OK {
             return Ok(());
         }
+        Err(Refusal::of(status))
+    }
+
+    #[cold]
+    fn of(status: u32) -> Refusal {
         let refusal = Refusal::ALL
             .iter()
             .find(|refusal| refusal.status() == status);
-        Err(*refusal.expect("the declarations are those of the archive"))
+        *refusal.expect("the declarations are those of the archive")
     }
 
     /// The name that the refusal has in the library, as `DAY_OF_MONTH`.
+    #[must_use]
     pub fn name(self) -> &'static str {
         self.told().0
     }
 
     /// What the library says of the refusal.
+    #[must_use]
     pub fn explanation(self) -> &'static str {
         self.told().1
     }
@@ -119,17 +136,42 @@ impl fmt::Display for Refusal {
 
 impl Error for Refusal {}
 
+/// A call that cannot refuse what it was given refused it.
+#[cold]
+#[inline(never)]
+pub(crate) fn impossible(status: u32) -> ! {
+    panic!(
+        "a value that was tested is refused: {}",
+        Refusal::of(status)
+    )
+}
+
 #[cfg(test)]
 mod tests {
     use super::{Refusal, sys};
 
+    type Tell = unsafe extern "C" fn(u32, *mut u8, usize, &mut usize) -> u32;
+
     #[test]
     fn each_refusal_of_the_library_is_one_here() {
-        let statuses: Vec<u32> = sys::REFUSALS.iter().map(|(status, _, _)| *status).collect();
-        let here: Vec<u32> = Refusal::ALL
-            .iter()
-            .map(|refusal| refusal.status())
-            .collect();
-        assert_eq!(here, statuses);
+        let here = Refusal::ALL.iter().map(|refusal| refusal.status());
+        assert!(here.eq(sys::REFUSALS.iter().map(|(status, _, _)| *status)));
+    }
+
+    #[test]
+    fn each_refusal_is_called_as_in_the_library() {
+        for refusal in Refusal::ALL {
+            let told = [
+                (sys::muxandu_status_name as Tell, refusal.name()),
+                (sys::muxandu_status_text as Tell, refusal.explanation()),
+            ];
+            for (tell, wanted) in told {
+                let (mut bytes, mut size) = ([0; sys::STATUS_ROOM], 0);
+                // SAFETY: the address is that of as many bytes.
+                let status =
+                    unsafe { tell(refusal.status(), bytes.as_mut_ptr(), bytes.len(), &mut size) };
+                assert_eq!((status, &bytes[..size]), (sys::OK, wanted.as_bytes()));
+            }
+        }
     }
 }

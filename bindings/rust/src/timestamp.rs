@@ -1,150 +1,292 @@
-use std::cmp::Ordering;
-use std::fmt;
-use std::hash::{Hash, Hasher};
-use std::ops::Sub;
-use std::str::FromStr;
-use std::time::SystemTime;
+use core::cmp::Ordering;
+use core::fmt;
+use core::hash::{Hash, Hasher};
+use core::ops::Sub;
+use core::str::FromStr;
 
 use crate::sys::{self, MuxanduDuration, MuxanduTimestamp};
-use crate::text::Text;
-use crate::{Civil, Refusal, SignedDuration, Unit};
+use crate::{Date, OffsetDateTime, Refusal, Result, SignedDuration, Text, Time, Unit};
+use crate::{UtcDateTime, UtcOffset, spelled};
 
-/// An instant: a Unix second and a nanosecond of that second, before 1970 too.
+/// An instant: a Unix second, and a nanosecond of that second, before 1970 too.
 ///
-/// `Display` writes the signed decimal of the instant in seconds, and `FromStr` reads a text of RFC 3339.
-#[derive(Clone, Copy, Debug, Default)]
+/// ```
+/// use muxandu::Timestamp;
+/// use muxandu::macros::timestamp;
+///
+/// let at = Timestamp::from_milliseconds(-1)?;
+/// assert_eq!((at.as_seconds(), at.nanosecond()), (-1, 999_000_000));
+/// assert_eq!((at.year(), at.hour()), (1969, 23));
+/// assert_eq!(at, timestamp!(-0.001));
+/// assert_eq!(at.to_string(), "-0.001");
+/// assert_eq!("-0.001".parse(), Ok(at));
+/// assert_eq!("1969-12-31T23:59:59.999Z".parse(), Ok(at));
+/// # Ok::<(), muxandu::error::ComponentRange>(())
+/// ```
+#[derive(Clone, Copy, Default)]
 #[repr(transparent)]
 pub struct Timestamp(pub(crate) MuxanduTimestamp);
 
 impl Timestamp {
     /// 1970-01-01 0:00 UTC.
-    pub const UNIX_EPOCH: Timestamp = Timestamp(MuxanduTimestamp {
-        seconds: 0,
-        nanoseconds: 0,
-    });
+    pub const UNIX_EPOCH: Timestamp = Timestamp::of(0, 0);
 
-    /// The instant of a Unix second and a nanosecond of it. Refused [`Refusal::Timestamp`], then [`Refusal::Nanosecond`].
-    pub fn new(seconds: i64, nanoseconds: u32) -> Result<Timestamp, Refusal> {
-        let at = MuxanduTimestamp {
+    /// The first of the range, -999999-01-01 0:00 UTC.
+    pub const MIN: Timestamp = Timestamp::of(-31_619_087_596_800, 0);
+
+    /// The last of the range, the last nanosecond of +999999-12-31 in UTC.
+    pub const MAX: Timestamp = Timestamp::of(31_494_784_780_799, 999_999_999);
+
+    const fn of(seconds: i64, nanoseconds: u32) -> Timestamp {
+        Timestamp(MuxanduTimestamp {
             seconds,
             nanoseconds,
-        };
-        Refusal::test(sys::muxandu_timestamp_check(at))?;
-        Ok(Timestamp(at))
+        })
     }
 
-    /// The instant so many milliseconds from 1970-01-01 0:00 UTC. Refused [`Refusal::Timestamp`].
-    pub fn from_milliseconds(milliseconds: i64) -> Result<Timestamp, Refusal> {
-        answered(|out| sys::muxandu_timestamp_from_milliseconds(milliseconds, out))
+    pub(crate) fn tested(
+        seconds: i64,
+        nanoseconds: u32,
+    ) -> core::result::Result<Timestamp, Refusal> {
+        let at = Timestamp::of(seconds, nanoseconds);
+        Refusal::test(sys::muxandu_timestamp_check(at.0))?;
+        Ok(at)
     }
 
-    /// The instant so many microseconds from 1970-01-01 0:00 UTC.
-    pub fn from_microseconds(microseconds: i64) -> Timestamp {
-        Timestamp(sys::muxandu_timestamp_from_microseconds(microseconds))
+    /// The instant of a Unix second and a nanosecond of it.
+    ///
+    /// # Errors
+    ///
+    /// `timestamp` outside the range, then `nanosecond` above 999,999,999.
+    pub fn new(seconds: i64, nanoseconds: u32) -> Result<Timestamp> {
+        Ok(Timestamp::tested(seconds, nanoseconds)?)
     }
 
-    /// The instant so many nanoseconds from 1970-01-01 0:00 UTC.
-    pub fn from_nanoseconds(nanoseconds: i64) -> Timestamp {
-        Timestamp(sys::muxandu_timestamp_from_nanoseconds(nanoseconds))
+    /// The instant of a Unix second.
+    ///
+    /// # Errors
+    ///
+    /// `timestamp` outside the range.
+    pub fn from_seconds(seconds: i64) -> Result<Timestamp> {
+        Timestamp::new(seconds, 0)
     }
 
-    /// The Unix second, rounded down.
-    pub fn seconds(self) -> i64 {
-        self.0.seconds
-    }
-
-    /// The nanoseconds past that second, 0 to 999,999,999.
-    pub fn nanoseconds(self) -> u32 {
-        self.0.nanoseconds
-    }
-
-    /// The milliseconds from 1970-01-01 0:00 UTC, rounded down.
-    pub fn as_milliseconds(self) -> i64 {
-        let mut count = 0;
-        let status = sys::muxandu_timestamp_to_milliseconds(self.0, &mut count);
-        Refusal::test(status).expect("64 bits hold each count of milliseconds");
-        count
-    }
-
-    /// The microseconds from 1970-01-01 0:00 UTC, rounded down. Refused [`Refusal::Result`] where 64 bits do not hold
-    /// them.
-    pub fn as_microseconds(self) -> Result<i64, Refusal> {
-        let mut count = 0;
-        Refusal::test(sys::muxandu_timestamp_to_microseconds(self.0, &mut count))?;
-        Ok(count)
-    }
-
-    /// The nanoseconds from 1970-01-01 0:00 UTC. Refused [`Refusal::Result`] where 64 bits do not hold them.
-    pub fn as_nanoseconds(self) -> Result<i64, Refusal> {
-        let mut count = 0;
-        Refusal::test(sys::muxandu_timestamp_to_nanoseconds(self.0, &mut count))?;
-        Ok(count)
-    }
-
-    /// What clocks at an offset from UTC, in seconds, show at the instant. Refused [`Refusal::OffsetSeconds`], then
-    /// [`Refusal::Result`] where they show a year outside the range.
-    pub fn to_civil(self, offset_seconds: i32) -> Result<Civil, Refusal> {
-        let mut out = Civil::UNIX_EPOCH;
-        Refusal::test(sys::muxandu_civil_from_timestamp(
-            self.0,
-            offset_seconds,
+    /// The instant so many milliseconds from 1970-01-01 0:00 UTC.
+    ///
+    /// # Errors
+    ///
+    /// `timestamp` outside the range.
+    pub fn from_milliseconds(milliseconds: i64) -> Result<Timestamp> {
+        let mut out = Timestamp::UNIX_EPOCH;
+        Refusal::test(sys::muxandu_timestamp_from_milliseconds(
+            milliseconds,
             &mut out.0,
         ))?;
         Ok(out)
     }
 
-    /// The instant so much later. Refused [`Refusal::Duration`], then [`Refusal::Result`].
-    pub fn checked_add(self, duration: SignedDuration) -> Result<Timestamp, Refusal> {
-        answered(|out| sys::muxandu_timestamp_add(self.0, duration.0, out))
+    /// The instant so many microseconds from 1970-01-01 0:00 UTC.
+    ///
+    /// # Errors
+    ///
+    /// `timestamp` outside the range.
+    pub fn from_microseconds(microseconds: i128) -> Result<Timestamp> {
+        if let Ok(microseconds) = i64::try_from(microseconds) {
+            return Ok(Timestamp(sys::muxandu_timestamp_from_microseconds(
+                microseconds,
+            )));
+        }
+        Timestamp::counted(microseconds, 1_000_000)
     }
 
-    /// The instant so much earlier. Refused [`Refusal::Duration`], then [`Refusal::Result`].
-    pub fn checked_sub(self, duration: SignedDuration) -> Result<Timestamp, Refusal> {
-        answered(|out| sys::muxandu_timestamp_subtract(self.0, duration.0, out))
+    /// The instant so many nanoseconds from 1970-01-01 0:00 UTC.
+    ///
+    /// # Errors
+    ///
+    /// `timestamp` outside the range.
+    pub fn from_nanoseconds(nanoseconds: i128) -> Result<Timestamp> {
+        if let Ok(nanoseconds) = i64::try_from(nanoseconds) {
+            return Ok(Timestamp(sys::muxandu_timestamp_from_nanoseconds(
+                nanoseconds,
+            )));
+        }
+        Timestamp::counted(nanoseconds, 1_000_000_000)
     }
 
-    /// The instant so much later, or the end of the range that it is beyond. Refused [`Refusal::Duration`].
-    pub fn saturating_add(self, duration: SignedDuration) -> Result<Timestamp, Refusal> {
-        answered(|out| sys::muxandu_timestamp_saturating_add(self.0, duration.0, out))
+    /// The instant of a count, of which there are so many in a second.
+    fn counted(count: i128, per_second: i128) -> Result<Timestamp> {
+        let seconds = count.div_euclid(per_second);
+        let seconds = i64::try_from(seconds).unwrap_or(i64::MAX);
+        let nanoseconds = count.rem_euclid(per_second) * (1_000_000_000 / per_second);
+        Timestamp::new(seconds, nanoseconds as u32)
     }
 
-    /// The instant so much earlier, or the end of the range that it is beyond. Refused [`Refusal::Duration`].
-    pub fn saturating_sub(self, duration: SignedDuration) -> Result<Timestamp, Refusal> {
-        answered(|out| sys::muxandu_timestamp_saturating_subtract(self.0, duration.0, out))
+    /// The Unix second, rounded down.
+    #[must_use]
+    pub const fn as_seconds(self) -> i64 {
+        self.0.seconds
+    }
+
+    /// The milliseconds from 1970-01-01 0:00 UTC, rounded down.
+    #[must_use]
+    pub fn as_milliseconds(self) -> i64 {
+        let mut count = 0;
+        sure!(sys::muxandu_timestamp_to_milliseconds(self.0, &mut count));
+        count
+    }
+
+    /// The microseconds from 1970-01-01 0:00 UTC, rounded down.
+    #[must_use]
+    pub const fn as_microseconds(self) -> i128 {
+        self.as_nanoseconds().div_euclid(1_000)
+    }
+
+    /// The nanoseconds from 1970-01-01 0:00 UTC.
+    #[must_use]
+    pub const fn as_nanoseconds(self) -> i128 {
+        self.0.seconds as i128 * 1_000_000_000 + self.0.nanoseconds as i128
+    }
+
+    /// The nanosecond of the second, 0 to 999,999,999, before 1970 too.
+    #[must_use]
+    pub const fn nanosecond(self) -> u32 {
+        self.0.nanoseconds
+    }
+
+    /// What clocks at an offset show at the instant.
+    ///
+    /// # Panics
+    ///
+    /// They show a year outside the range.
+    #[must_use]
+    #[track_caller]
+    pub fn to_offset(self, offset: UtcOffset) -> OffsetDateTime {
+        self.checked_to_offset(offset)
+            .expect("a year of the range at the offset")
+    }
+
+    /// What clocks at an offset show at the instant, if the range has it.
+    #[must_use]
+    pub fn checked_to_offset(self, offset: UtcOffset) -> Option<OffsetDateTime> {
+        let mut out = OffsetDateTime::UNIX_EPOCH;
+        let seconds = offset.whole_seconds();
+        let status = sys::muxandu_date_time_from_timestamp(self.0, seconds, &mut out.0);
+        (status == sys::OK).then_some(out)
+    }
+
+    /// What clocks in UTC show at the instant.
+    #[must_use]
+    pub fn to_utc(self) -> UtcDateTime {
+        let mut out = UtcDateTime::UNIX_EPOCH;
+        sure!(sys::muxandu_date_time_from_timestamp(self.0, 0, &mut out.0));
+        out
+    }
+
+    /// The date in UTC.
+    #[must_use]
+    pub fn date(self) -> Date {
+        self.to_utc().date()
+    }
+
+    /// The time of day in UTC.
+    #[must_use]
+    pub fn time(self) -> Time {
+        self.to_utc().time()
+    }
+
+    /// The same date in UTC at another time of day.
+    #[must_use]
+    pub fn replace_time(self, time: Time) -> Timestamp {
+        self.to_utc().replace_time(time).into()
+    }
+
+    /// The same time of day in UTC on another date.
+    #[must_use]
+    pub fn replace_date(self, date: Date) -> Timestamp {
+        self.to_utc().replace_date(date).into()
     }
 
     /// The instant rounded down to a unit in UTC.
+    #[must_use]
     pub fn truncated_to(self, unit: Unit) -> Timestamp {
-        answered(|out| sys::muxandu_timestamp_truncate(self.0, unit.number(), out))
-            .expect("a truncation stays in the range")
+        let mut out = self;
+        sure!(sys::muxandu_timestamp_truncate(
+            self.0,
+            unit.number(),
+            &mut out.0
+        ));
+        out
     }
 
-    /// The text of RFC 3339 in UTC: `1996-12-20T00:39:57Z`. Refused [`Refusal::NoText`] outside the years 0 to 9999.
-    pub fn to_rfc3339(self) -> Result<String, Refusal> {
+    /// The shortest text of RFC 3339, in UTC: `1996-12-20T00:39:57Z`.
+    ///
+    /// # Errors
+    ///
+    /// [`Refusal::NoText`] outside the years 0 to 9999.
+    pub fn to_rfc3339(self) -> core::result::Result<Text, Refusal> {
         // SAFETY: the pointer and the room are those of one place, and nothing else reaches it.
-        let text = Text::written(|place, room, size| unsafe {
+        Text::written(|place, room, size| unsafe {
             sys::muxandu_timestamp_to_rfc3339(self.0, place, room, size)
-        })?;
-        Ok(text.as_str().to_owned())
+        })
     }
 
     /// The text of RFC 3339 in UTC, always with nine digits of the fraction, so that such texts are in the order of their
-    /// instants. Refused [`Refusal::NoText`] outside the years 0 to 9999.
-    pub fn to_rfc3339_nanos(self) -> Result<String, Refusal> {
+    /// instants.
+    ///
+    /// # Errors
+    ///
+    /// [`Refusal::NoText`] outside the years 0 to 9999.
+    pub fn to_rfc3339_nanos(self) -> core::result::Result<Text, Refusal> {
+        // SAFETY: the pointer and the room are those of one place, and nothing else reaches it.
+        Text::written(|place, room, size| unsafe {
+            sys::muxandu_timestamp_to_rfc3339_nanos(self.0, place, room, size)
+        })
+    }
+
+    /// Reads the instant of a text of RFC 3339, as `1996-12-19T16:39:57-08:00`.
+    ///
+    /// # Errors
+    ///
+    /// [`Refusal::Syntax`] for another form, else the first part from the left that is out of its range.
+    pub fn from_rfc3339(text: impl AsRef<[u8]>) -> core::result::Result<Timestamp, Refusal> {
+        let text = text.as_ref();
+        let mut out = Timestamp::UNIX_EPOCH;
+        // SAFETY: the pointer and the count are those of one text.
+        Refusal::test(unsafe {
+            sys::muxandu_timestamp_from_rfc3339(text.as_ptr(), text.len(), &mut out.0)
+        })?;
+        Ok(out)
+    }
+
+    fn spelled(self) -> Text {
         // SAFETY: the pointer and the room are those of one place, and nothing else reaches it.
         let text = Text::written(|place, room, size| unsafe {
-            sys::muxandu_timestamp_to_rfc3339_nanos(self.0, place, room, size)
-        })?;
-        Ok(text.as_str().to_owned())
+            sys::muxandu_timestamp_text(self.0, place, room, size)
+        });
+        text.expect("a timestamp has a text")
     }
 }
 
-/// The timestamp that a call writes.
-fn answered(call: impl FnOnce(&mut MuxanduTimestamp) -> u32) -> Result<Timestamp, Refusal> {
-    let mut out = Timestamp::UNIX_EPOCH;
-    Refusal::test(call(&mut out.0))?;
-    Ok(out)
-}
+date_reads!(Timestamp, " in UTC");
+time_reads!(
+    Timestamp,
+    " in UTC",
+    as_hms,
+    as_hms_milli,
+    as_hms_micro,
+    as_hms_nano
+);
+fraction_reads!(Timestamp, const);
+sums!(
+    Timestamp,
+    muxandu_timestamp_add,
+    muxandu_timestamp_subtract,
+    muxandu_timestamp_saturating_add,
+    muxandu_timestamp_saturating_subtract
+);
+date_replacements!(Timestamp);
+time_replacements!(Timestamp);
+debug_as_display!(Timestamp);
 
 /// The duration from the second instant to the first.
 impl Sub for Timestamp {
@@ -152,27 +294,34 @@ impl Sub for Timestamp {
 
     fn sub(self, earlier: Timestamp) -> SignedDuration {
         let mut out = MuxanduDuration::default();
-        let status = sys::muxandu_timestamp_difference(self.0, earlier.0, &mut out);
-        Refusal::test(status).expect("a duration holds each difference");
-        SignedDuration(out)
+        sure!(sys::muxandu_timestamp_difference(
+            self.0, earlier.0, &mut out
+        ));
+        SignedDuration::given(out)
+    }
+}
+
+impl Timestamp {
+    const fn parts(self) -> (i64, u32) {
+        (self.0.seconds, self.0.nanoseconds)
     }
 }
 
 impl Ord for Timestamp {
-    fn cmp(&self, other: &Self) -> Ordering {
-        sys::muxandu_timestamp_compare(self.0, other.0).cmp(&0)
+    fn cmp(&self, other: &Timestamp) -> Ordering {
+        self.parts().cmp(&other.parts())
     }
 }
 
 impl PartialOrd for Timestamp {
-    fn partial_cmp(&self, other: &Self) -> Option<Ordering> {
+    fn partial_cmp(&self, other: &Timestamp) -> Option<Ordering> {
         Some(self.cmp(other))
     }
 }
 
 impl PartialEq for Timestamp {
-    fn eq(&self, other: &Self) -> bool {
-        self.cmp(other).is_eq()
+    fn eq(&self, other: &Timestamp) -> bool {
+        self.parts() == other.parts()
     }
 }
 
@@ -180,41 +329,26 @@ impl Eq for Timestamp {}
 
 impl Hash for Timestamp {
     fn hash<H: Hasher>(&self, state: &mut H) {
-        (self.0.seconds, self.0.nanoseconds).hash(state);
+        self.parts().hash(state);
     }
 }
 
+/// The signed decimal of the seconds, as `-0.5`.
 impl fmt::Display for Timestamp {
     fn fmt(&self, f: &mut fmt::Formatter<'_>) -> fmt::Result {
-        // SAFETY: the pointer and the room are those of one place, and nothing else reaches it.
-        let text = Text::written(|place, room, size| unsafe {
-            sys::muxandu_timestamp_text(self.0, place, room, size)
-        });
-        f.pad(text.map_err(|_| fmt::Error)?.as_str())
+        f.pad(&self.spelled())
     }
 }
 
-/// Reads a text of RFC 3339, as `1996-12-19T16:39:57-08:00`. Refused [`Refusal::Syntax`], and else by its first part that
-/// is out of its range.
+/// Reads what `Display` writes, and texts of RFC 3339, as `1996-12-19T16:39:57-08:00`.
 impl FromStr for Timestamp {
     type Err = Refusal;
 
-    fn from_str(text: &str) -> Result<Timestamp, Refusal> {
-        // SAFETY: the pointer and the count are those of one text.
-        answered(|out| unsafe {
-            sys::muxandu_timestamp_from_rfc3339(text.as_ptr(), text.len(), out)
-        })
-    }
-}
-
-/// Refused [`Refusal::Duration`] or [`Refusal::Result`] outside the range.
-impl TryFrom<SystemTime> for Timestamp {
-    type Error = Refusal;
-
-    fn try_from(time: SystemTime) -> Result<Timestamp, Refusal> {
-        match time.duration_since(SystemTime::UNIX_EPOCH) {
-            Ok(after) => Timestamp::UNIX_EPOCH.checked_add(after.try_into()?),
-            Err(before) => Timestamp::UNIX_EPOCH.checked_sub(before.duration().try_into()?),
+    fn from_str(text: &str) -> core::result::Result<Timestamp, Refusal> {
+        let literal = crate::literal::timestamp(text);
+        match spelled::read(text, literal.map(|literal| literal.tested())) {
+            Err(Refusal::Syntax) => Timestamp::from_rfc3339(text),
+            answer => answer,
         }
     }
 }

@@ -1,6 +1,13 @@
 use crate::sys;
 
 /// A unit of time, to which a value is rounded down.
+///
+/// ```
+/// use muxandu::Unit;
+/// use muxandu::macros::timestamp;
+///
+/// assert_eq!(timestamp!(-0.5).truncated_to(Unit::Hour), timestamp!(-3_600));
+/// ```
 #[derive(Clone, Copy, Debug, PartialEq, Eq, Hash)]
 pub enum Unit {
     /// A day.

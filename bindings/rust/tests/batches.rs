@@ -3,9 +3,14 @@
 use std::thread;
 
 use muxandu::{
-    BatchRefusal, Civil, Date, Refusal, Span, Timestamp, civils_from_seconds, dates_from_days,
-    days_from_dates, seconds_from_civils, timestamps_from_rfc3339,
+    BatchRefusal, Date, OffsetDateTime, PlainDateTime, Refusal, Span, Timestamp, UtcOffset,
+    date_times_from_seconds, dates_from_days, days_from_dates, seconds_from_date_times,
+    timestamps_from_rfc3339,
 };
+
+fn a_minute() -> UtcOffset {
+    UtcOffset::from_whole_seconds(60).unwrap()
+}
 
 fn stopped(count: usize, refusal: Refusal) -> Result<(), BatchRefusal> {
     Err(BatchRefusal { count, refusal })
@@ -14,9 +19,12 @@ fn stopped(count: usize, refusal: Refusal) -> Result<(), BatchRefusal> {
 #[test]
 fn seconds_and_back() {
     let seconds = [0, -1, 1_709_210_096, i64::MAX, 7];
-    let mut civils = [Civil::default(); 5];
-    assert_eq!(civils_from_seconds(&seconds[..3], 60, &mut civils), Ok(()));
-    let texts = civils.map(|civil| civil.to_rfc3339().unwrap());
+    let mut date_times = [OffsetDateTime::default(); 5];
+    assert_eq!(
+        date_times_from_seconds(&seconds[..3], a_minute(), &mut date_times),
+        Ok(())
+    );
+    let texts = date_times.map(|date_time| date_time.to_rfc3339().unwrap());
     assert_eq!(
         texts[..3],
         [
@@ -26,36 +34,30 @@ fn seconds_and_back() {
         ]
     );
     assert!(
-        civils[3..]
+        date_times[3..]
             .iter()
-            .all(|civil| civil.is_same(Civil::UNIX_EPOCH))
+            .all(|date_time| date_time.is_same(OffsetDateTime::UNIX_EPOCH))
     );
     let mut back = [7; 3];
-    assert_eq!(seconds_from_civils(&civils[..3], &mut back), Ok(()));
+    assert_eq!(seconds_from_date_times(&date_times[..3], &mut back), Ok(()));
     assert_eq!(back, seconds[..3]);
 }
 
 #[test]
 fn the_first_refused_stops() {
-    let mut civils = [Civil::default(); 3];
+    let mut date_times = [OffsetDateTime::default(); 3];
     assert_eq!(
-        civils_from_seconds(&[86_400, i64::MAX, 7], 0, &mut civils),
+        date_times_from_seconds(&[86_400, i64::MAX, 7], UtcOffset::UTC, &mut date_times),
         stopped(1, Refusal::Timestamp)
     );
-    assert_eq!(civils.map(|civil| civil.day_number()), [1, 0, 0]);
     assert_eq!(
-        civils_from_seconds(&[0], 93_600, &mut civils),
-        stopped(0, Refusal::OffsetSeconds)
+        date_times.map(|date_time| date_time.day_number()),
+        [1, 0, 0]
     );
-    let before = Timestamp::new(-31_619_087_596_800, 0)
-        .unwrap()
-        .to_civil(0)
-        .unwrap()
-        .with_offset_seconds(1)
-        .unwrap();
+    let before = PlainDateTime::MIN.assume_offset(a_minute());
     let mut back = [7; 2];
     assert_eq!(
-        seconds_from_civils(&[Civil::default(), before], &mut back),
+        seconds_from_date_times(&[OffsetDateTime::default(), before], &mut back),
         stopped(1, Refusal::Result)
     );
     assert_eq!(back, [0, 7]);
@@ -69,14 +71,14 @@ fn the_first_refused_stops() {
 
 #[test]
 fn short_places_take_nothing() {
-    let mut civils = [Civil::default(); 1];
+    let mut date_times = [OffsetDateTime::default(); 1];
     assert_eq!(
-        civils_from_seconds(&[7, 7], 0, &mut civils),
+        date_times_from_seconds(&[7, 7], UtcOffset::UTC, &mut date_times),
         stopped(0, Refusal::Buffer)
     );
-    assert!(civils[0].is_same(Civil::UNIX_EPOCH));
+    assert!(date_times[0].is_same(OffsetDateTime::UNIX_EPOCH));
     assert_eq!(
-        seconds_from_civils(&civils, &mut []),
+        seconds_from_date_times(&date_times, &mut []),
         stopped(0, Refusal::Buffer)
     );
     assert_eq!(dates_from_days(&[1], &mut []), stopped(0, Refusal::Buffer));
@@ -88,7 +90,10 @@ fn short_places_take_nothing() {
         timestamps_from_rfc3339(b"", &[Span::from(0..0)], &mut []),
         stopped(0, Refusal::Buffer)
     );
-    assert_eq!(civils_from_seconds(&[], 0, &mut []), Ok(()));
+    assert_eq!(
+        date_times_from_seconds(&[], UtcOffset::UTC, &mut []),
+        Ok(())
+    );
 }
 
 #[test]
@@ -122,11 +127,17 @@ fn texts_in_a_block() {
         stopped(2, Refusal::Syntax)
     );
     assert_eq!(
-        out.map(|at| (at.seconds(), at.nanoseconds())),
+        out.map(|at| (at.as_seconds(), at.nanosecond())),
         [(1, 0), (0, 500_000_000), (0, 0), (0, 0)]
     );
     assert_eq!(
         timestamps_from_rfc3339(block, &spans[3..], &mut out),
+        stopped(0, Refusal::Span)
+    );
+    #[allow(clippy::reversed_empty_ranges)]
+    let reversed = Span::from(9..3);
+    assert_eq!(
+        timestamps_from_rfc3339(block, &[reversed], &mut out),
         stopped(0, Refusal::Span)
     );
     let refused = timestamps_from_rfc3339(block, &spans[2..], &mut out).unwrap_err();
@@ -142,14 +153,17 @@ fn threads_call_at_once() {
         for day in 1..=8 {
             scope.spawn(move || {
                 let seconds: Vec<i64> = (0..10_000).map(|number| number * 86_400 * day).collect();
-                let mut civils = vec![Civil::default(); seconds.len()];
+                let mut date_times = vec![OffsetDateTime::default(); seconds.len()];
                 let mut back = vec![0; seconds.len()];
                 for _ in 0..20 {
-                    assert_eq!(civils_from_seconds(&seconds, 0, &mut civils), Ok(()));
-                    assert_eq!(seconds_from_civils(&civils, &mut back), Ok(()));
+                    assert_eq!(
+                        date_times_from_seconds(&seconds, UtcOffset::UTC, &mut date_times),
+                        Ok(())
+                    );
+                    assert_eq!(seconds_from_date_times(&date_times, &mut back), Ok(()));
                     assert_eq!(back, seconds);
                 }
-                assert_eq!(i64::from(civils[9_999].day_number()), 9_999 * day);
+                assert_eq!(i64::from(date_times[9_999].day_number()), 9_999 * day);
             });
         }
     });

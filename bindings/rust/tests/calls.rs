@@ -1,436 +1,538 @@
 //! Each call of the crate, on values that other programs gave.
 
 use std::collections::HashSet;
-use std::error::Error;
-use std::time::{Duration, SystemTime};
+use std::time::{Duration as StdDuration, SystemTime};
 
+use muxandu::ext::{NumericalDuration, NumericalStdDuration};
+use muxandu::macros::{date, datetime, offset, time, timestamp, utc_datetime};
 use muxandu::{
-    Civil, Date, IsoWeekDate, OrdinalDate, Refusal, SignedDuration, Timestamp, Unit, Weekday,
-    days_in_month,
+    Date, Duration, Month, OffsetDateTime, PlainDateTime, PrimitiveDateTime, Refusal,
+    SignedDuration, Time, Timestamp, Unit, UtcDateTime, UtcOffset, Weekday, days_in_month,
 };
 
-const FIRST_SECOND: i64 = -31_619_087_596_800;
-const LAST_SECOND: i64 = 31_494_784_780_799;
-
-fn first() -> Timestamp {
-    Timestamp::new(FIRST_SECOND, 0).unwrap()
-}
-
-fn last() -> Timestamp {
-    Timestamp::new(LAST_SECOND, 999_999_999).unwrap()
-}
-
-fn civil(text: &str) -> Civil {
-    text.parse().unwrap()
-}
-
-const ONE_NANOSECOND: SignedDuration = SignedDuration::new(0, 1);
-const BEYOND: SignedDuration = SignedDuration::new(i64::MAX, 1_000_000_000);
-
-#[test]
-fn timestamps_are_tested() {
-    assert_eq!(Timestamp::new(LAST_SECOND + 1, 0), Err(Refusal::Timestamp));
-    assert_eq!(
-        Timestamp::new(FIRST_SECOND - 1, u32::MAX),
-        Err(Refusal::Timestamp)
-    );
-    assert_eq!(Timestamp::new(0, 1_000_000_000), Err(Refusal::Nanosecond));
-    assert_eq!(Timestamp::default(), Timestamp::UNIX_EPOCH);
+fn name<T>(result: muxandu::Result<T>) -> (&'static str, bool) {
+    let refused = result.err().expect("a refusal");
+    (refused.name(), refused.is_conditional())
 }
 
 #[test]
-fn counts_round_down() {
-    let at = Timestamp::new(-1, 999_999).unwrap();
-    assert_eq!(at.as_milliseconds(), -1000);
-    assert_eq!(at.as_microseconds(), Ok(-999_001));
-    assert_eq!(at.as_nanoseconds(), Ok(-999_000_001));
+fn dates_are_tested() {
     assert_eq!(
-        Timestamp::from_milliseconds(-1),
-        Timestamp::new(-1, 999_000_000)
+        name(Date::from_calendar_date(1_000_000, Month::May, 32)),
+        ("year", false)
     );
     assert_eq!(
-        Timestamp::from_milliseconds(i64::MAX),
-        Err(Refusal::Timestamp)
+        name(Date::from_calendar_date(2023, Month::May, 32)),
+        ("day", false)
     );
     assert_eq!(
-        Timestamp::from_microseconds(-1),
-        Timestamp::new(-1, 999_999_000).unwrap()
+        name(Date::from_calendar_date(2023, Month::February, 29)),
+        ("day", true)
+    );
+    assert_eq!(name(Date::from_ordinal_date(2023, 0)), ("ordinal", false));
+    assert_eq!(name(Date::from_ordinal_date(2023, 366)), ("ordinal", true));
+    assert_eq!(
+        name(Date::from_iso_week_date(2023, 54, Weekday::Monday)),
+        ("week", false)
     );
     assert_eq!(
-        Timestamp::from_nanoseconds(i64::MIN),
-        Timestamp::new(-9_223_372_037, 145_224_192).unwrap()
+        name(Date::from_iso_week_date(2023, 53, Weekday::Monday)),
+        ("week", true)
     );
-    assert_eq!(last().as_microseconds(), Err(Refusal::Result));
-    assert_eq!(last().as_nanoseconds(), Err(Refusal::Result));
-    assert_eq!(last().as_milliseconds(), 31_494_784_780_799_999);
+    assert_eq!(name(Date::from_julian_day(i32::MAX)), ("julian_day", false));
+    assert_eq!(Date::from_day_number(i32::MIN), Err(Refusal::DayNumber));
+    assert_eq!(
+        name(date!(2024 - 02 - 29).replace_year(2023)),
+        ("day", true)
+    );
+    assert_eq!(
+        name(date!(2024 - 01 - 31).replace_month(Month::April)),
+        ("day", true)
+    );
+    assert_eq!(name(date!(2024 - 01 - 31).replace_day(0)), ("day", false));
+    assert_eq!(
+        name(date!(2024 - 01 - 31).replace_ordinal(367)),
+        ("ordinal", false)
+    );
+    assert_eq!(days_in_month(2023, 13), Err(Refusal::Month));
+    assert_eq!(days_in_month(1_000_000, 2), Err(Refusal::Year));
 }
 
 #[test]
-fn timestamps_move() {
-    let half = SignedDuration::new(0, 500_000_000);
-    let at = Timestamp::new(-1, 500_000_000).unwrap();
-    assert_eq!(at.checked_add(half), Ok(Timestamp::UNIX_EPOCH));
-    assert_eq!(Timestamp::UNIX_EPOCH.checked_sub(half), Ok(at));
-    assert_eq!(Timestamp::UNIX_EPOCH - at, half);
+fn dates_show() {
+    let date = date!(2021 - 01 - 01);
+    assert_eq!(date.to_calendar_date(), (2021, Month::January, 1));
     assert_eq!(
-        at - Timestamp::UNIX_EPOCH,
-        SignedDuration::new(-1, 500_000_000)
+        (date.year(), date.month(), date.day()),
+        date.to_calendar_date()
     );
-    assert_eq!(last().checked_add(ONE_NANOSECOND), Err(Refusal::Result));
-    assert_eq!(first().checked_sub(ONE_NANOSECOND), Err(Refusal::Result));
-    assert_eq!(last().saturating_add(ONE_NANOSECOND), Ok(last()));
-    assert_eq!(first().saturating_sub(ONE_NANOSECOND), Ok(first()));
-    assert_eq!(at.checked_add(BEYOND), Err(Refusal::Duration));
-    assert_eq!(at.checked_sub(BEYOND), Err(Refusal::Duration));
-    assert_eq!(at.saturating_add(BEYOND), Err(Refusal::Duration));
-    assert_eq!(at.saturating_sub(BEYOND), Err(Refusal::Duration));
+    assert_eq!(date.to_ordinal_date(), (2021, 1));
+    assert_eq!(date.to_iso_week_date(), (2020, 53, Weekday::Friday));
+    assert_eq!((date.iso_week(), date.weekday()), (53, Weekday::Friday));
+    assert_eq!((date.sunday_based_week(), date.monday_based_week()), (0, 0));
     assert_eq!(
-        last() - first(),
-        SignedDuration::new(63_113_872_377_599, 999_999_999)
+        (date.to_julian_day(), date.day_number()),
+        (2_459_216, 18_628)
+    );
+    assert_eq!(Date::from_julian_day(2_459_216), Ok(date));
+    assert_eq!(Date::from_day_number(18_628), Ok(date));
+    assert_eq!(Date::from_ordinal_date(2021, 1), Ok(date));
+    assert_eq!(
+        Date::from_iso_week_date(2020, 53, Weekday::Friday),
+        Ok(date)
+    );
+    assert_eq!(
+        (days_in_month(2024, 2), Month::February.length(2023)),
+        (Ok(29), 28)
+    );
+    assert_eq!(
+        (Date::MIN.weekday(), Date::MAX.weekday()),
+        (Weekday::Monday, Weekday::Friday)
     );
 }
 
 #[test]
-fn timestamps_are_ordered_and_truncated() {
-    let at = Timestamp::new(-1, 123_456_789).unwrap();
-    assert!(first() < at && at < Timestamp::UNIX_EPOCH && Timestamp::UNIX_EPOCH < last());
-    let rounded = [
-        Unit::Day,
-        Unit::Hour,
-        Unit::Minute,
-        Unit::Second,
-        Unit::Millisecond,
-        Unit::Microsecond,
-    ]
-    .map(|unit| at.truncated_to(unit))
-    .map(|at| (at.seconds(), at.nanoseconds()));
-    let wanted = [
-        (-86_400, 0),
-        (-3600, 0),
-        (-60, 0),
-        (-1, 0),
-        (-1, 123_000_000),
-        (-1, 123_456_000),
-    ];
-    assert_eq!(rounded, wanted);
+fn dates_move() {
+    let date = date!(2024 - 02 - 28);
+    assert_eq!(date.next_day(), Some(date!(2024 - 02 - 29)));
+    assert_eq!(
+        date!(2024 - 03 - 01).previous_day(),
+        Some(date!(2024 - 02 - 29))
+    );
+    assert_eq!(
+        (Date::MIN.previous_day(), Date::MAX.next_day()),
+        (None, None)
+    );
+    assert_eq!(date + 47.hours(), date!(2024 - 02 - 29));
+    assert_eq!(date - 47.hours(), date!(2024 - 02 - 27));
+    assert_eq!(date - date!(2023 - 02 - 28), 365.days());
+    assert_eq!(date.checked_add(SignedDuration::MAX), None);
+    assert_eq!(date.saturating_sub(SignedDuration::MAX), Date::MIN);
+    assert_eq!(date.saturating_sub(SignedDuration::MIN), Date::MAX);
+    assert_eq!(
+        date!(2024 - 01 - 31).checked_add_months(-11),
+        Some(date!(2023 - 02 - 28))
+    );
+    assert_eq!(Date::MAX.checked_add_months(1), None);
+    assert_eq!(
+        date.checked_next_occurrence(Weekday::Wednesday),
+        Some(date!(2024 - 03 - 06))
+    );
+    assert_eq!(
+        date.checked_prev_occurrence(Weekday::Tuesday),
+        Some(date!(2024 - 02 - 27))
+    );
+    assert_eq!(date.replace_day(29), Ok(date!(2024 - 02 - 29)));
+    let mut moved = date;
+    moved += 1.std_days();
+    moved -= 2.days();
+    assert_eq!(moved, date!(2024 - 02 - 27));
 }
 
 #[test]
-fn clocks_show_instants() {
-    let at = Timestamp::new(1_709_210_096, 7).unwrap();
-    let shown = at.to_civil(3600).unwrap();
-    assert_eq!(shown.to_string(), "2024-02-29 13:34:56.000000007 +01:00:00");
-    assert_eq!((shown.year(), shown.month(), shown.day()), (2024, 2, 29));
-    assert_eq!((shown.hour(), shown.minute(), shown.second()), (13, 34, 56));
-    assert_eq!((shown.nanosecond(), shown.offset_seconds()), (7, 3600));
+fn times_of_day() {
+    assert_eq!(name(Time::from_hms(24, 60, 60)), ("hour", false));
+    assert_eq!(name(Time::from_hms(23, 60, 60)), ("minute", false));
+    assert_eq!(name(Time::from_hms(23, 59, 60)), ("second", false));
     assert_eq!(
-        (shown.day_number(), shown.date()),
-        (19_782, Date::new(2024, 2, 29).unwrap())
+        name(Time::from_hms_milli(23, 59, 59, 1_000)),
+        ("millisecond", false)
     );
-    assert_eq!(shown.to_timestamp(), Ok(at));
-    assert_eq!(at.to_civil(93_600), Err(Refusal::OffsetSeconds));
-    assert_eq!(first().to_civil(-1), Err(Refusal::Result));
-    assert_eq!(shown.to_offset(i32::MIN), Err(Refusal::OffsetSeconds));
+    assert_eq!(
+        name(Time::from_hms_micro(23, 59, 59, u32::MAX)),
+        ("microsecond", false)
+    );
+    assert_eq!(
+        name(Time::from_hms_nano(23, 59, 59, u32::MAX)),
+        ("nanosecond", false)
+    );
+    let time = Time::from_hms_nano(1, 2, 3, 4_005_006).unwrap();
+    assert_eq!(time, time!(1:02:03.004_005_006));
+    assert_eq!(time.as_hms(), (1, 2, 3));
+    assert_eq!(time.as_hms_milli(), (1, 2, 3, 4));
+    assert_eq!(time.as_hms_micro(), (1, 2, 3, 4_005));
+    assert_eq!(time.as_hms_nano(), (1, 2, 3, 4_005_006));
+    assert_eq!(time - 2.hours(), time!(23:02:03.004_005_006));
+    assert_eq!(
+        time!(23:00) + StdDuration::from_secs(u64::MAX),
+        time!(23:00) + ((u64::MAX % 86_400) as i64).seconds()
+    );
+    assert_eq!(time!(1:00) - time!(2:00), (-1).hours());
+    assert_eq!(time!(23:00).duration_until(time!(1:00)), 2.hours());
+    assert_eq!(time!(1:00).duration_since(time!(23:00)), 2.hours());
+    assert_eq!(time.replace_hour(23), Ok(time!(23:02:03.004_005_006)));
+    assert_eq!(time.replace_millisecond(9), Ok(time!(1:02:03.009)));
+    assert_eq!(
+        name(time.replace_microsecond(1_000_000)),
+        ("microsecond", false)
+    );
+    assert_eq!(time.truncate_to_minute(), time!(1:02));
+    assert_eq!(time.truncate_to_microsecond(), time!(1:02:03.004_005));
+}
+
+#[test]
+fn offsets() {
+    assert_eq!(name(UtcOffset::from_hms(26, 60, 60)), ("hours", false));
+    assert_eq!(name(UtcOffset::from_hms(25, 60, 60)), ("minutes", false));
+    assert_eq!(name(UtcOffset::from_hms(25, 59, -60)), ("seconds", false));
+    assert_eq!(
+        name(UtcOffset::from_whole_seconds(93_600)),
+        ("seconds", false)
+    );
+    let offset = UtcOffset::from_hms(1, -2, -3).unwrap();
+    assert_eq!(
+        (offset.whole_seconds(), offset.as_hms()),
+        (3_723, (1, 2, 3))
+    );
+    assert_eq!((-offset).as_hms(), (-1, -2, -3));
+    assert_eq!((offset.whole_hours(), offset.whole_minutes()), (1, 62));
+    assert_eq!(
+        (offset.minutes_past_hour(), offset.seconds_past_minute()),
+        (2, 3)
+    );
+    assert!(offset.is_positive() && !offset.is_negative() && !offset.is_utc());
+    assert_eq!(offset, offset!(+1:02:03));
+}
+
+#[test]
+fn date_times_show_and_move() {
+    let plain = datetime!(2024-02-29 12:34:56.789);
+    assert_eq!(
+        plain,
+        PrimitiveDateTime::new(date!(2024 - 02 - 29), time!(12:34:56.789))
+    );
+    assert_eq!(
+        (plain.ordinal(), plain.hour(), plain.millisecond()),
+        (60, 12, 789)
+    );
+    assert_eq!(plain + 1.days(), datetime!(2024-03-01 12:34:56.789));
+    assert_eq!(plain.checked_sub(SignedDuration::MAX), None);
+    assert_eq!(
+        plain.saturating_sub(SignedDuration::MAX),
+        PlainDateTime::MIN
+    );
+    assert_eq!(plain.truncate_to_day(), datetime!(2024-02-29 0:00));
+    assert_eq!(plain.truncate_to_second(), datetime!(2024-02-29 12:34:56));
+    assert_eq!(
+        plain.replace_ordinal(61),
+        Ok(datetime!(2024-03-01 12:34:56.789))
+    );
+    assert_eq!(name(plain.replace_ordinal(367)), ("ordinal", false));
+    let shown = plain.assume_offset(offset!(+1));
+    assert_eq!(shown, datetime!(2024-02-29 11:34:56.789 UTC));
+    assert_eq!(shown.to_hms_milli(), (12, 34, 56, 789));
+    assert_eq!((shown.day_number(), shown.offset()), (19_782, offset!(+1)));
+    assert_eq!(shown.unix_timestamp(), 1_709_206_496);
+    assert_eq!(shown.unix_timestamp_nanos(), 1_709_206_496_789_000_000);
+    assert_eq!(
+        shown.replace_offset(offset!(UTC)).unix_timestamp(),
+        1_709_210_096
+    );
     assert!(
-        shown.to_offset(-93_599).unwrap().is_same(
-            civil("2024-02-29T12:34:56.000000007Z")
-                .to_offset(-93_599)
-                .unwrap()
-        )
+        shown.is_same(datetime!(2024-02-29 12:34:56.789 +1))
+            && !shown.is_same(shown.to_utc().into())
     );
+    assert_eq!(
+        shown.truncated_to(Unit::Hour),
+        datetime!(2024-02-29 12:00 +1)
+    );
+    assert_eq!(
+        shown.replace_hour(0),
+        Ok(datetime!(2024-02-29 0:34:56.789 +1))
+    );
+    assert_eq!(shown - datetime!(2024-02-29 12:34:56.789 UTC), (-1).hours());
 }
 
 #[test]
 fn wall_clocks_beyond_the_instants() {
-    let at = first()
-        .to_civil(0)
-        .unwrap()
-        .with_offset_seconds(3600)
-        .unwrap();
-    assert_eq!(at.to_timestamp(), Err(Refusal::Result));
-    assert_eq!(at.to_offset(0), Err(Refusal::Result));
+    let before = PlainDateTime::MIN.assume_offset(offset!(+1));
     assert_eq!(
-        at.to_offset(7200).unwrap().to_string(),
+        (before.checked_to_utc(), before.checked_to_timestamp()),
+        (None, None)
+    );
+    assert_eq!(before.checked_to_offset(offset!(UTC)), None);
+    assert_eq!(
+        before.to_offset(offset!(+2)).to_string(),
         "-999999-01-01 1:00:00.0 +02:00:00"
     );
-    assert!(at < first().to_civil(0).unwrap());
+    assert_eq!(before.unix_timestamp(), Timestamp::MIN.as_seconds() - 3_600);
+    assert!(before < Timestamp::MIN && before < UtcDateTime::MIN);
+    assert!(Timestamp::MIN > before);
+    assert_eq!(Timestamp::MIN.checked_to_offset(offset!(-0:00:01)), None);
 }
 
 #[test]
-fn civil_date_times_move() {
-    let day = SignedDuration::from_seconds(86_400);
-    let at = civil("2024-02-28T01:02:03+00:01");
-    assert!(
-        at.checked_add(day)
-            .unwrap()
-            .is_same(civil("2024-02-29T01:02:03+00:01"))
+fn instants() {
+    assert_eq!(
+        name(Timestamp::new(i64::MAX, u32::MAX)),
+        ("timestamp", false)
     );
-    assert!(
-        at.checked_sub(SignedDuration::new(-86_400, 0))
-            .unwrap()
-            .is_same(civil("2024-02-29T01:02:03+00:01"))
+    assert_eq!(
+        name(Timestamp::new(0, 1_000_000_000)),
+        ("nanosecond", false)
     );
-    let end = last().to_civil(0).unwrap();
-    let start = first().to_civil(0).unwrap();
-    assert_eq!(end.checked_add(day), Err(Refusal::Result));
-    assert_eq!(start.checked_sub(day), Err(Refusal::Result));
-    assert!(end.saturating_add(day).unwrap().is_same(end));
-    assert!(start.saturating_sub(day).unwrap().is_same(start));
-    for refused in [
-        at.checked_add(BEYOND),
-        at.checked_sub(BEYOND),
-        at.saturating_add(BEYOND),
-        at.saturating_sub(BEYOND),
+    assert_eq!(
+        name(Timestamp::from_milliseconds(i64::MAX)),
+        ("timestamp", false)
+    );
+    assert_eq!(
+        name(Timestamp::from_microseconds(i128::MIN)),
+        ("timestamp", false)
+    );
+    assert_eq!(
+        name(UtcDateTime::from_unix_timestamp(i64::MIN)),
+        ("timestamp", false)
+    );
+    let at = Timestamp::from_nanoseconds(-999_000_001).unwrap();
+    assert_eq!(at, timestamp!(-0.999_000_001));
+    assert_eq!((at.as_seconds(), at.nanosecond()), (-1, 999_999));
+    assert_eq!(
+        (at.as_milliseconds(), at.as_microseconds()),
+        (-1_000, -999_001)
+    );
+    assert_eq!(at.as_nanoseconds(), -999_000_001);
+    for at in [Timestamp::MIN, at, Timestamp::MAX] {
+        assert_eq!(Timestamp::from_nanoseconds(at.as_nanoseconds()), Ok(at));
+        assert_eq!(
+            UtcDateTime::from_unix_timestamp_nanos(at.as_nanoseconds()),
+            Ok(at.to_utc())
+        );
+        assert_eq!(Timestamp::from(at.to_utc()), at);
+        assert_eq!(at.to_utc().unix_timestamp(), at.as_seconds());
+        assert_eq!(at, OffsetDateTime::from(at));
+    }
+    assert_eq!(Timestamp::MAX.checked_add(1.nanoseconds()), None);
+    assert_eq!(
+        Timestamp::MAX.saturating_add(1.nanoseconds()),
+        Timestamp::MAX
+    );
+    assert_eq!(at.truncated_to(Unit::Day), timestamp!(-86_400));
+    assert_eq!(
+        at.replace_hour(0),
+        timestamp!(-82_800.999_000_001).replace_nanosecond(999_999)
+    );
+    assert_eq!(name(at.replace_nanosecond(u32::MAX)), ("nanosecond", false));
+    assert_eq!(
+        at.replace_date(date!(1970 - 01 - 01)),
+        timestamp!(86_399.000_999_999)
+    );
+    assert_eq!(at.weekday(), Weekday::Wednesday);
+    assert_eq!(
+        at - utc_datetime!(1970-01-01 0:00),
+        (-999_000_001).nanoseconds()
+    );
+}
+
+#[test]
+fn clocks_of_the_machine() {
+    let time = SystemTime::UNIX_EPOCH - StdDuration::from_millis(500);
+    assert_eq!(Timestamp::from(time), timestamp!(-0.5));
+    assert_eq!(SystemTime::from(utc_datetime!(1969-12-31 23:59:59.5)), time);
+    assert_eq!(datetime!(1970-01-01 0:00 UTC) - time, 500.milliseconds());
+    assert!(OffsetDateTime::now_utc() > time && UtcDateTime::now() > Timestamp::from(time));
+    assert_eq!(time, timestamp!(-0.5));
+}
+
+/// `x.to_string().parse()` gives x.
+macro_rules! read_back {
+    ($($value:expr),+ $(,)?) => {
+        $(
+            let value = $value;
+            assert_eq!(value.to_string().parse(), Ok(value));
+        )+
+    };
+}
+
+#[test]
+fn texts_are_read_back() {
+    read_back!(
+        Date::MIN,
+        Date::MAX,
+        date!(0 - 02 - 29),
+        date!(-1 - 12 - 31),
+        date!(9999 - 12 - 31),
+        date!(10000 - 01 - 01)
+    );
+    read_back!(Time::MIDNIGHT, Time::MAX, time!(1:02:03.004_005));
+    read_back!(
+        UtcOffset::UTC,
+        offset!(-25:59:59),
+        offset!(+0:00:01),
+        offset!(-0:30)
+    );
+    read_back!(
+        PlainDateTime::MIN,
+        PlainDateTime::MAX,
+        datetime!(2024-02-29 1:02:03.5)
+    );
+    read_back!(
+        UtcDateTime::MIN,
+        UtcDateTime::MAX,
+        utc_datetime!(0-01-01 0:00)
+    );
+    read_back!(
+        datetime!(2024-02-29 1:02:03.5 -5:30),
+        PlainDateTime::MAX.assume_offset(offset!(-25:59:59))
+    );
+    read_back!(
+        Timestamp::MIN,
+        Timestamp::MAX,
+        timestamp!(-0.000_000_001),
+        timestamp!(0),
+        timestamp!(1.5)
+    );
+    read_back!(
+        SignedDuration::MIN,
+        SignedDuration::MAX,
+        SignedDuration::ZERO,
+        (-1_001).milliseconds()
+    );
+    for month in 1..=12 {
+        read_back!(Month::try_from(month).unwrap());
+    }
+    let mut weekday = Weekday::Monday;
+    for _ in 0..7 {
+        read_back!(weekday);
+        weekday = weekday.next();
+    }
+    let text = datetime!(2024-02-29 1:02:03.5 -5:30).to_string();
+    let shown: OffsetDateTime = text.parse().unwrap();
+    assert_eq!(shown.offset(), offset!(-5:30));
+}
+
+#[test]
+fn texts_of_other_forms_are_refused() {
+    for text in [
+        "",
+        "2024-2-29",
+        "2024-02-29 ",
+        "2024-060",
+        "20_24-02-29",
+        "+2024-02-29",
+        "2024-W09-4",
     ] {
-        assert_eq!(refused, Err(Refusal::Duration));
+        assert_eq!(text.parse::<Date>(), Err(Refusal::Syntax), "{text}");
     }
-    assert_eq!(
-        civil("2024-01-01T00:00:00-01:00") - civil("2024-01-01T00:00:00Z"),
-        SignedDuration::from_seconds(3600)
-    );
-    assert_eq!(
-        civil("2022-02-18T15:30:45.123456789Z").truncated_to(Unit::Millisecond),
-        civil("2022-02-18T15:30:45.123Z")
-    );
-}
-
-#[test]
-fn civil_date_times_compare_by_instant() {
-    let (here, there) = (
-        civil("2024-01-01T01:00:00+01:00"),
-        civil("2024-01-01T00:00:00Z"),
-    );
-    assert_eq!(here, there);
-    assert!(!here.is_same(there));
-    assert_eq!(HashSet::from([here, there]).len(), 1);
-    assert!(civil("2024-01-01T00:00:00+01:00") < there);
-    assert_eq!(Civil::default(), Civil::UNIX_EPOCH);
-}
-
-#[test]
-fn parts_are_replaced() {
-    let at = Date::new(2024, 2, 29).unwrap().at(13, 34, 56).unwrap();
-    assert_eq!(
-        at.with_year(2028).unwrap().to_rfc3339().unwrap(),
-        "2028-02-29T13:34:56Z"
-    );
-    assert_eq!(
-        at.with_month(3).unwrap().to_rfc3339().unwrap(),
-        "2024-03-29T13:34:56Z"
-    );
-    assert_eq!(
-        at.with_day(1).unwrap().to_rfc3339().unwrap(),
-        "2024-02-01T13:34:56Z"
-    );
-    assert_eq!(
-        at.with_hour(0).unwrap().to_rfc3339().unwrap(),
-        "2024-02-29T00:34:56Z"
-    );
-    assert_eq!(
-        at.with_minute(0).unwrap().to_rfc3339().unwrap(),
-        "2024-02-29T13:00:56Z"
-    );
-    assert_eq!(
-        at.with_second(0).unwrap().to_rfc3339().unwrap(),
-        "2024-02-29T13:34:00Z"
-    );
-    assert_eq!(
-        at.with_nanosecond(50_000_000)
-            .unwrap()
-            .to_rfc3339()
-            .unwrap(),
-        "2024-02-29T13:34:56.05Z"
-    );
-    assert_eq!(
-        at.with_offset_seconds(-5400).unwrap().to_rfc3339().unwrap(),
-        "2024-02-29T13:34:56-01:30"
-    );
-    let refused = [
-        (at.with_year(1_000_000), Refusal::Year),
-        (at.with_year(2023), Refusal::DayOfMonth),
-        (at.with_month(0), Refusal::Month),
-        (at.with_day(32), Refusal::Day),
-        (at.with_day(30), Refusal::DayOfMonth),
-        (at.with_hour(24), Refusal::Hour),
-        (at.with_minute(60), Refusal::Minute),
-        (at.with_second(60), Refusal::Second),
-        (at.with_nanosecond(1_000_000_000), Refusal::Nanosecond),
-        (at.with_offset_seconds(-93_600), Refusal::OffsetSeconds),
-    ];
-    for (answer, refusal) in refused {
-        assert_eq!(answer, Err(refusal));
+    assert_eq!("2023-02-29".parse::<Date>(), Err(Refusal::DayOfMonth));
+    for text in ["1:02", "01:02:03.0", "1:02:03", "1:02:03.10"] {
+        assert_eq!(text.parse::<Time>(), Err(Refusal::Syntax), "{text}");
     }
+    assert_eq!("24:00:00.0".parse::<Time>(), Err(Refusal::Hour));
+    assert_eq!("UTC".parse::<UtcOffset>(), Err(Refusal::Syntax));
+    assert_eq!(
+        "2024-02-29 1:02:03.0 +00:00:00".parse::<UtcDateTime>(),
+        Err(Refusal::Syntax)
+    );
+    assert_eq!("1.50".parse::<Timestamp>(), Err(Refusal::Syntax));
+    assert_eq!("-0".parse::<Timestamp>(), Err(Refusal::Syntax));
+    assert_eq!("1h60m".parse::<SignedDuration>(), Err(Refusal::Syntax));
+    assert!("Mon".parse::<Weekday>().is_err() && "january".parse::<Month>().is_err());
 }
 
 #[test]
-fn days_are_read() {
-    let date = Date::from_day_number(18_628).unwrap();
-    assert_eq!(date, Date::new(2021, 1, 1).unwrap());
-    assert_eq!(
-        (date.year(), date.month(), date.day(), date.day_number()),
-        (2021, 1, 1, 18_628)
-    );
-    assert_eq!(
-        date.to_ordinal_date(),
-        OrdinalDate {
-            year: 2021,
-            ordinal: 1
-        }
-    );
-    let week = IsoWeekDate {
-        year: 2020,
-        week: 53,
-        weekday: Weekday::Friday,
-    };
-    assert_eq!(date.to_iso_week_date(), week);
-    assert_eq!(Date::from_iso_week_date(week), Ok(date));
-    assert_eq!(Date::from_ordinal_date(date.to_ordinal_date()), Ok(date));
-    assert_eq!(
-        (date.weekday(), date.weekday().to_string().as_str()),
-        (Weekday::Friday, "Friday")
-    );
-    assert_eq!(days_in_month(2024, 2), Ok(29));
-    assert_eq!(Date::new(-5, 3, 1).unwrap().to_string(), "-0005-03-01");
-    assert_eq!(Date::new(10_000, 1, 1).unwrap().to_string(), "+10000-01-01");
-    assert!(Date::new(-1, 12, 31).unwrap() < Date::default());
-}
-
-#[test]
-fn days_are_tested() {
-    let week = |year, week, weekday| {
-        Date::from_iso_week_date(IsoWeekDate {
-            year,
-            week,
-            weekday,
-        })
-    };
-    let ordinal = |year, ordinal| Date::from_ordinal_date(OrdinalDate { year, ordinal });
-    let refused = [
-        (Date::from_day_number(364_522_972), Refusal::DayNumber),
-        (Date::new(1_000_000, 1, 1), Refusal::Year),
-        (Date::new(2023, 13, 1), Refusal::Month),
-        (Date::new(2023, 2, 0), Refusal::Day),
-        (Date::new(2023, 2, 29), Refusal::DayOfMonth),
-        (ordinal(-1_000_000, 1), Refusal::Year),
-        (ordinal(2024, 367), Refusal::Ordinal),
-        (ordinal(2023, 366), Refusal::OrdinalOfYear),
-        (week(1_000_000, 1, Weekday::Monday), Refusal::Year),
-        (week(2020, 0, Weekday::Monday), Refusal::Week),
-        (week(2021, 53, Weekday::Monday), Refusal::WeekOfYear),
-        (week(999_999, 52, Weekday::Sunday), Refusal::Result),
-    ];
-    for (answer, refusal) in refused {
-        assert_eq!(answer, Err(refusal));
-    }
-    assert_eq!(days_in_month(2024, 13), Err(Refusal::Month));
-    assert_eq!(days_in_month(1_000_000, 12), Err(Refusal::Year));
-}
-
-#[test]
-fn texts_are_read_and_written() {
-    let at = civil("1996-12-19t16:39:57-08:00");
+fn texts_of_rfc_3339() {
+    let at = datetime!(1996-12-19 16:39:57 -8);
     assert_eq!(at.to_rfc3339().unwrap(), "1996-12-19T16:39:57-08:00");
-    let instant: Timestamp = "1996-12-19 16:39:57-08:00".parse().unwrap();
-    assert_eq!(instant.seconds(), 851_042_397);
-    assert_eq!(instant.to_rfc3339().unwrap(), "1996-12-20T00:39:57Z");
+    assert_eq!(at.to_utc().to_rfc3339().unwrap(), "1996-12-20T00:39:57Z");
     assert_eq!(
-        instant.to_rfc3339_nanos().unwrap(),
+        Timestamp::from(at).to_rfc3339_nanos().unwrap(),
         "1996-12-20T00:39:57.000000000Z"
     );
-    assert_eq!(first().to_string(), "-31619087596800");
-    assert_eq!(Timestamp::new(-1, 500_000_000).unwrap().to_string(), "-0.5");
-    assert_eq!(format!("{:>6}|", Timestamp::UNIX_EPOCH), "     0|");
-    assert_eq!(first().to_rfc3339(), Err(Refusal::NoText));
-    assert_eq!(last().to_rfc3339_nanos(), Err(Refusal::NoText));
+    assert_eq!("1996-12-19T16:39:57-08:00".parse(), Ok(at));
+    assert_eq!("1996-12-19T16:39:57-08:00".parse(), Ok(Timestamp::from(at)));
+    assert_eq!("1996-12-19 16:39:57-08:00".parse(), Ok(at.to_utc()));
     assert_eq!(
-        at.with_offset_seconds(1).unwrap().to_rfc3339(),
-        Err(Refusal::NoText)
+        OffsetDateTime::from_rfc3339(b"1996-12-20t00:39:57z"),
+        Ok(at)
+    );
+    assert_eq!(Timestamp::MAX.to_rfc3339(), Err(Refusal::NoText));
+    assert_eq!(
+        "1996-12-19T24:39:57Z".parse::<Timestamp>(),
+        Err(Refusal::Hour)
     );
     assert_eq!(
-        first().to_civil(0).unwrap().to_string(),
-        "-999999-01-01 0:00:00.0 +00:00:00"
+        "1996-12-19T16:39:57+24:00".parse::<OffsetDateTime>(),
+        Err(Refusal::OffsetHour)
     );
+    assert_eq!(Refusal::Hour.to_string(), "HOUR: An hour above 23.");
 }
 
 #[test]
-fn texts_are_tested() {
-    let refused = [
-        ("1996-12-19", Refusal::Syntax),
-        ("1996-13-19T16:39:57Z", Refusal::Month),
-        ("1995-02-29T16:39:57Z", Refusal::Day),
-        ("1996-12-19T24:39:57Z", Refusal::Hour),
-        ("1996-12-19T16:60:57Z", Refusal::Minute),
-        ("1996-12-19T16:39:60Z", Refusal::Second),
-        ("1996-12-19T16:39:57+24:00", Refusal::OffsetHour),
-        ("1996-12-19T16:39:57+00:60", Refusal::OffsetMinute),
-    ];
-    for (text, refusal) in refused {
-        assert_eq!(text.parse::<Civil>(), Err(refusal));
-        assert_eq!(text.parse::<Timestamp>(), Err(refusal));
-    }
-}
-
-#[test]
-fn durations_are_what_their_parts_are_together() {
+fn equal_values_hash_alike() {
+    let instants = HashSet::from([
+        datetime!(2024-02-29 1:00 +1),
+        datetime!(2024-02-29 0:00 UTC),
+    ]);
+    assert_eq!(instants.len(), 1);
     assert_eq!(
-        SignedDuration::new(1, -1),
-        SignedDuration::new(0, 999_999_999)
-    );
-    assert!(SignedDuration::new(0, -1) < SignedDuration::ZERO);
-    assert_eq!(
-        HashSet::from([
-            SignedDuration::new(1, -1),
-            SignedDuration::new(0, 999_999_999)
-        ])
-        .len(),
+        HashSet::from([date!(2024 - 060), date!(2024 - 02 - 29)]).len(),
         1
     );
     assert_eq!(
-        SignedDuration::try_from(Duration::new(1, 2)),
-        Ok(SignedDuration::new(1, 2))
-    );
-    assert_eq!(
-        SignedDuration::try_from(Duration::MAX),
-        Err(Refusal::Duration)
-    );
-    assert_eq!(
-        Duration::try_from(SignedDuration::new(2, -1)),
-        Ok(Duration::new(1, 999_999_999))
-    );
-    assert_eq!(
-        Duration::try_from(SignedDuration::new(0, -1)),
-        Err(Refusal::Duration)
+        HashSet::from([SignedDuration::new(1, -1), 999_999_999.nanoseconds()]).len(),
+        1
     );
 }
 
 #[test]
-fn the_clock_of_the_machine_is_read() {
-    let second = Duration::from_secs(1);
+fn durations() {
+    let duration: Duration = 1.days() + 2.hours() - 3.minutes();
+    assert_eq!((duration.whole_days(), duration.whole_hours()), (1, 25));
     assert_eq!(
-        Timestamp::try_from(SystemTime::UNIX_EPOCH + second),
-        Timestamp::new(1, 0)
+        (duration.whole_minutes(), duration.whole_weeks()),
+        (1_557, 0)
+    );
+    assert_eq!(duration.to_string(), "1d1h57m");
+    assert_eq!(-duration / 3, (-31_140).seconds());
+    assert_eq!(2 * duration, duration + duration);
+    assert_eq!((-1.5).seconds().subsec_milliseconds(), -500);
+    assert_eq!(
+        (1.5 * 1.hours(), 1.hours() / 4_u8),
+        (90.minutes(), 15.minutes())
     );
     assert_eq!(
-        Timestamp::try_from(SystemTime::UNIX_EPOCH - second),
-        Timestamp::new(-1, 0)
+        1.hours() + 30.std_minutes(),
+        SignedDuration::seconds_f32(5_400.0)
+    );
+    assert!(1.hours() < 61.std_minutes() && StdDuration::MAX > SignedDuration::MAX);
+    assert_eq!(1.std_hours(), 60.minutes());
+    assert_eq!(SignedDuration::MAX.checked_add(1.nanoseconds()), None);
+    assert_eq!(
+        SignedDuration::MIN.saturating_sub(1.weeks()),
+        SignedDuration::MIN
+    );
+    assert_eq!(SignedDuration::MIN.checked_neg(), None);
+    assert_eq!(
+        SignedDuration::try_from(StdDuration::MAX),
+        Err(muxandu::error::ConversionRange)
+    );
+    assert_eq!(StdDuration::try_from(1.hours()), Ok(1.std_hours()));
+    assert!(StdDuration::try_from((-1).nanoseconds()).is_err());
+    assert_eq!(
+        [1.hours(), 30.minutes()].iter().sum::<SignedDuration>(),
+        90.minutes()
     );
 }
 
 #[test]
-fn refusals_are_errors_with_names() {
-    let names: HashSet<_> = Refusal::ALL.iter().map(|refusal| refusal.name()).collect();
-    let statuses: HashSet<_> = Refusal::ALL
-        .iter()
-        .map(|refusal| refusal.status())
-        .collect();
+#[should_panic(expected = "DAY_OF_MONTH")]
+fn a_literal_that_is_no_date_panics() {
+    let _ = date!(2023 - 02 - 29);
+}
+
+#[test]
+fn padding() {
     assert_eq!(
-        (names.len(), statuses.len()),
-        (Refusal::ALL.len(), Refusal::ALL.len())
+        format!(
+            "{:>12}|{:<12}|{:^6}",
+            date!(2024 - 02 - 29),
+            time!(1:02),
+            Month::May
+        ),
+        "  2024-02-29|1:02:00.0   | May  "
     );
-    assert!(!statuses.contains(&0));
-    let error: Box<dyn Error> = Box::new(Refusal::DayOfMonth);
     assert_eq!(
-        error.to_string(),
-        "DAY_OF_MONTH: A day of 1 to 31 that the month does not have in this year."
+        format!("{:?}", datetime!(2024-02-29 1:02 UTC)),
+        "2024-02-29 1:02:00.0 +00:00:00"
     );
 }

@@ -1,0 +1,61 @@
+import { BILLION, whole } from "./library.js";
+
+// The nanoseconds of each part. A day has 24 hours.
+const PARTS = {
+    days: 86_400_000_000_000n,
+    hours: 3_600_000_000_000n,
+    minutes: 60_000_000_000n,
+    seconds: BILLION,
+    milliseconds: 1_000_000n,
+    microseconds: 1_000n,
+    nanoseconds: 1n,
+};
+
+/** Where they are kept, as the parts of a timestamp are. */
+const NANOSECONDS = Symbol("nanoseconds");
+
+/** So many nanoseconds, of either sign. */
+export class Duration {
+    constructor(nanoseconds) {
+        this[NANOSECONDS] = whole(nanoseconds, "nanoseconds");
+    }
+
+    static of(parts) {
+        let total = 0n;
+        for (const [name, number] of Object.entries(parts)) {
+            if (!Object.hasOwn(PARTS, name)) throw new TypeError(`no part of a duration: ${name}`);
+            total += whole(number, name) * PARTS[name];
+        }
+        return new Duration(total);
+    }
+
+    get nanoseconds() {
+        return this[NANOSECONDS];
+    }
+
+    /** The whole ones of a part, as `hours`. The rest, of either sign, is dropped. */
+    whole(part) {
+        if (!Object.hasOwn(PARTS, part)) throw new TypeError(`no part of a duration: ${part}`);
+        return this[NANOSECONDS] / PARTS[part];
+    }
+
+    negated() {
+        return new Duration(-this[NANOSECONDS]);
+    }
+
+    /** The decimal of its seconds, as `-1.5 s`. */
+    toString() {
+        const size = this[NANOSECONDS] < 0n ? -this[NANOSECONDS] : this[NANOSECONDS];
+        const fraction = String(size % PARTS.seconds).padStart(9, "0").replace(/0+$/, "");
+        return `${this[NANOSECONDS] < 0n ? "-" : ""}${size / PARTS.seconds}${fraction && "." + fraction} s`;
+    }
+
+    valueOf() {
+        return this[NANOSECONDS];
+    }
+}
+
+/** The nanoseconds of a duration, or of the parts of one. */
+export function nanosecondsOf(duration) {
+    return (duration instanceof Duration ? duration : Duration.of(duration)).nanoseconds;
+}

@@ -1,0 +1,187 @@
+// Each call, on values that other programs gave.
+import assert from "node:assert/strict";
+import test from "node:test";
+
+import { Duration, OffsetDateTime, Refused, Timestamp, daysInMonth, parseOffset } from "muxandu";
+
+const FIRST = new Timestamp(-31_619_087_596_800n);
+const LAST = new Timestamp(31_494_784_780_799n, 999_999_999);
+
+function refuses(name, call) {
+    assert.throws(call, (error) => {
+        assert.ok(error instanceof Refused && error instanceof RangeError, String(error));
+        assert.equal(error.refusal, name);
+        assert.equal(error.name, "Refused");
+        assert.match(error.message, new RegExp(`^${name}: [A-Z].*\\.$`));
+        return true;
+    });
+}
+
+test("texts are read", () => {
+    for (const [text, seconds, nanosecond] of [
+        ["1985-04-12T23:20:50.52Z", 482196050n, 520_000_000],
+        ["1996-12-19T16:39:57-08:00", 851042397n, 0],
+        ["1969-12-31T23:59:59.999999999Z", -1n, 999_999_999],
+        ["0000-01-01T00:00:00+23:59", -62167305540n, 0],
+        ["9999-12-31T23:59:59.9-23:59", 253402387139n, 900_000_000],
+        ["2024-02-29 00:00:00z", 1709164800n, 0],
+        [`2024-02-29t00:00:00.${"1".repeat(100_000)}z`, 1709164800n, 111_111_111],
+    ]) {
+        const at = Timestamp.parse(text);
+        assert.deepEqual([at.seconds, at.nanosecond], [seconds, nanosecond], text);
+        assert.ok(OffsetDateTime.parse(text).toTimestamp().equals(at));
+    }
+});
+
+test("bad texts are refused by name", () => {
+    for (const [text, name] of [
+        ["2023-02-29T00:00:00Z", "DAY_OF_MONTH"],
+        ["2024-02-30T00:00:00Z", "DAY_OF_MONTH"],
+        ["2024-06-31T00:00:00Z", "DAY_OF_MONTH"],
+        ["2024-02-00T00:00:00Z", "DAY"],
+        ["2024-02-32T00:00:00Z", "DAY"],
+        ["2024-00-01T00:00:00Z", "MONTH"],
+        ["2024-02-28T24:00:00Z", "HOUR"],
+        ["2024-02-28T23:60:00Z", "MINUTE"],
+        ["2016-12-31T23:59:60Z", "SECOND"],
+        ["2024-01-01T00:00:00+24:00", "OFFSET_HOUR"],
+        ["2024-01-01T00:00:00+00:60", "OFFSET_MINUTE"],
+        ["2024-02-28T23:30:00", "SYNTAX"],
+        ["2024-02-28", "SYNTAX"],
+        ["2024-02-28T23:30:00Z ", "SYNTAX"],
+        ["2024-02-28T23:30:00Z\0", "SYNTAX"],
+        ["２０２４-02-28T23:30:00Z", "SYNTAX"],
+        ["\ud800", "SYNTAX"],
+        ["yesterday", "SYNTAX"],
+        ["", "SYNTAX"],
+        ["0".repeat(1_000_000), "LENGTH"],
+    ]) {
+        refuses(name, () => Timestamp.parse(text));
+        refuses(name, () => OffsetDateTime.parse(text));
+    }
+    for (const value of [undefined, null, 5, new Date(0)]) assert.throws(() => Timestamp.parse(value), TypeError);
+});
+
+test("a timestamp has bounds", () => {
+    refuses("TIMESTAMP", () => new Timestamp(31_494_784_780_800n));
+    refuses("TIMESTAMP", () => new Timestamp(-31_619_087_596_801n));
+    refuses("TIMESTAMP", () => new Timestamp(2n ** 64n));
+    refuses("TIMESTAMP", () => new Timestamp(-(2n ** 64n)));
+    refuses("TIMESTAMP", () => Timestamp.fromNanoseconds(LAST.nanoseconds + 1n));
+    refuses("NANOSECOND", () => new Timestamp(0, 1_000_000_000));
+    refuses("NANOSECOND", () => new Timestamp(0, 2 ** 32));
+    refuses("NANOSECOND", () => new Timestamp(0, -1));
+    for (const value of [0.5, NaN, 2 ** 53, "0", undefined]) assert.throws(() => new Timestamp(value), TypeError);
+    assert.throws(() => new Timestamp(0, 0.5), TypeError);
+    assert.equal(String(FIRST), "-999999-01-01 0:00:00.0 +00:00:00");
+    assert.equal(String(LAST), "+999999-12-31 23:59:59.999999999 +00:00:00");
+    refuses("NO_TEXT", () => LAST.toRfc3339());
+    refuses("NO_TEXT", () => JSON.stringify({ LAST }));
+    assert.equal(JSON.stringify([new Timestamp(0)]), '["1970-01-01T00:00:00Z"]');
+});
+
+test("counts from 1970 round down", () => {
+    const at = Timestamp.fromNanoseconds(-1n);
+    assert.deepEqual([at.seconds, at.nanosecond], [-1n, 999_999_999]);
+    assert.deepEqual([at.milliseconds, at.microseconds, at.nanoseconds], [-1n, -1n, -1n]);
+    assert.equal(Timestamp.fromMilliseconds(-1).nanosecond, 999_000_000);
+    assert.equal(Timestamp.fromMicroseconds(1n).nanosecond, 1_000);
+    assert.equal(Timestamp.fromNanoseconds(LAST.nanoseconds).nanoseconds, LAST.nanoseconds);
+    assert.equal(Timestamp.fromNanoseconds(FIRST.nanoseconds).nanoseconds, FIRST.nanoseconds);
+});
+
+test("sums, differences and order", () => {
+    const at = Timestamp.parse("2024-02-28T23:30:00-01:00");
+    assert.equal(at.add({ hours: 1, minutes: 30 }).toRfc3339(), "2024-02-29T02:00:00Z");
+    assert.equal(at.subtract(new Duration(1)).toRfc3339Nanos(), "2024-02-29T00:29:59.999999999Z");
+    assert.equal(at.add({ days: -1n, nanoseconds: 5 }).since(at).nanoseconds, -86_399_999_999_995n);
+    assert.equal(LAST.since(FIRST).nanoseconds, 63_113_872_377_599_999_999_999n);
+    assert.ok(LAST.saturatingAdd({ days: 1 }).equals(LAST) && FIRST.saturatingSubtract({ days: 1 }).equals(FIRST));
+    refuses("RESULT", () => LAST.add({ nanoseconds: 1 }));
+    refuses("DURATION", () => at.add({ seconds: 2n ** 63n }));
+    refuses("DURATION", () => at.add({ seconds: -(2n ** 70n) }));
+    assert.throws(() => at.add({ hour: 1 }), TypeError);
+    assert.throws(() => at.add({ hours: 1.5 }), TypeError);
+    assert.deepEqual([LAST, at, FIRST].sort(Timestamp.compare), [FIRST, at, LAST]);
+    assert.ok(FIRST < at && at < LAST && at <= at && LAST > FIRST);
+    assert.equal(at.truncate("day").toRfc3339(), "2024-02-29T00:00:00Z");
+    assert.equal(Timestamp.fromNanoseconds(-1n).truncate("second").seconds, -1n);
+    refuses("UNIT", () => at.truncate("week"));
+    refuses("UNIT", () => at.truncate("toString"));
+    assert.equal(String(new Duration(-1_500_000_000n)), "-1.5 s");
+    assert.equal(Duration.of({ minutes: -90 }).whole("hours"), -1n);
+});
+
+test("date-times at an offset", () => {
+    const at = OffsetDateTime.parse("1996-12-19T16:39:57.5-08:00");
+    const { year, month, day, hour, minute, second, nanosecond, offsetSeconds } = at;
+    assert.deepEqual([year, month, day, hour, minute, second], [1996, 12, 19, 16, 39, 57]);
+    assert.deepEqual([nanosecond, offsetSeconds], [500_000_000, -28_800]);
+    assert.equal(at.toOffset(0).toRfc3339(), "1996-12-20T00:39:57.5Z");
+    assert.ok(at.toOffset(0).equals(at) && OffsetDateTime.compare(at, at.add({ nanoseconds: 1 })) === -1);
+    assert.equal(at.with({ year: 2000, offsetSeconds: 0 }).toRfc3339(), "2000-12-19T16:39:57.5Z");
+    assert.equal(at.truncate("hour").toRfc3339(), "1996-12-19T16:00:00-08:00");
+    assert.equal(at.subtract({ days: 1 }).since(at).nanoseconds, -86_400_000_000_000n);
+    const week = OffsetDateTime.parse("2021-01-03T23:30:00Z");
+    assert.deepEqual([week.isoYear, week.isoWeek, week.weekday, week.dayOfYear, week.dayNumber], [2020, 53, 7, 3, 18_630]);
+    const end = OffsetDateTime.of({ year: 999_999, month: 12, day: 31 });
+    assert.equal(end.saturatingAdd({ days: 2 }).toString(), "+999999-12-31 23:59:59.999999999 +00:00:00");
+    assert.equal(end.with({ year: -999_999, month: 1, day: 1 }).saturatingSubtract({ days: 2 }).year, -999_999);
+    assert.equal(JSON.stringify(at), '"1996-12-19T16:39:57.5-08:00"');
+});
+
+test("parts are tested", () => {
+    const day = { year: 2023, month: 2, day: 28 };
+    for (const [parts, name] of [
+        [{ month: 13 }, "MONTH"],
+        [{ month: 258 }, "MONTH"],
+        [{ month: -1 }, "MONTH"],
+        [{ year: 1_000_000 }, "YEAR"],
+        [{ year: 2 ** 32 + 2023 }, "YEAR"],
+        [{ day: 32 }, "DAY"],
+        [{ day: 284 }, "DAY"],
+        [{ day: 29 }, "DAY_OF_MONTH"],
+        [{ hour: 24 }, "HOUR"],
+        [{ minute: 60 }, "MINUTE"],
+        [{ second: 60 }, "SECOND"],
+        [{ nanosecond: 1e9 }, "NANOSECOND"],
+        [{ offsetSeconds: 93_600 }, "OFFSET_SECONDS"],
+        [{ offsetSeconds: 2 ** 32 }, "OFFSET_SECONDS"],
+    ]) {
+        refuses(name, () => OffsetDateTime.of({ ...day, ...parts }));
+        refuses(name, () => OffsetDateTime.of(day).with(parts));
+    }
+    assert.throws(() => OffsetDateTime.of({ year: 2023, month: 2 }), TypeError);
+    assert.throws(() => OffsetDateTime.of({ ...day, hour: 1.5 }), TypeError);
+    assert.throws(() => OffsetDateTime.of({ ...day, hours: 1 }), TypeError);
+    refuses("OFFSET_SECONDS", () => new Timestamp(0).toOffset(-93_600));
+    refuses("RESULT", () => LAST.toOffset(1));
+});
+
+test("days in months, and offsets", () => {
+    assert.deepEqual([daysInMonth(2024, 2), daysInMonth(1900, 2), daysInMonth(0, 2), daysInMonth(2023, 4)], [29, 28, 29, 30]);
+    refuses("MONTH", () => daysInMonth(2024, 0));
+    refuses("YEAR", () => daysInMonth(1_000_000, 1));
+    assert.deepEqual(["Z", "z", "+02:30", "-00:30", "-23:59"].map(parseOffset), [0, 0, 9_000, -1_800, -86_340]);
+    for (const text of ["", "2", "+2", ".5Z", "+02:00 ", "5Z"]) refuses("SYNTAX", () => parseOffset(text));
+    refuses("OFFSET_HOUR", () => parseOffset("+24:00"));
+});
+
+test("values are told from others by their parts", () => {
+    const read = (text) => [Timestamp.parse(text), OffsetDateTime.parse(text), Timestamp.parse(text).since(new Timestamp(0))];
+    assert.deepStrictEqual(read("2024-02-29T00:00:00Z"), read("2024-02-29T00:00:00z"));
+    read("2024-02-29T00:00:00Z").forEach((value, at) => {
+        assert.notDeepStrictEqual(value, read("2024-02-29T00:00:00.000000001Z")[at]);
+        assert.deepEqual(Object.keys(value), []);
+    });
+    const [at, shown] = read("2024-02-29T00:00:00Z");
+    for (const mixed of [() => at.since(shown), () => shown.since(at), () => Timestamp.compare(at, {}), () => at.equals(0)]) {
+        assert.throws(mixed, TypeError);
+    }
+});
+
+test("values cannot be changed", () => {
+    const at = new Timestamp(0);
+    assert.throws(() => { at.seconds = 5n; }, TypeError);
+    assert.throws(() => { OffsetDateTime.parse("2024-02-29T00:00:00Z").day = 31; }, TypeError);
+});

@@ -1,0 +1,1086 @@
+/* Made by tools/python_calls from bindings/muxandu_sys.py. Do not edit. */
+
+/* The version of the library, a number as MUXANDU_VERSION. Where it is lower, the library has not all that is
+ * declared here. */
+static PyObject *version(PyObject *self, PyObject *const *words, Py_ssize_t count)
+{
+    (void)self;
+    uint32_t out;
+    (void)words;
+    if (!are(count, 0)) return NULL;
+    out = muxandu_version();
+    return give_uint32_t(out);
+}
+
+/* Writes the name of a status, as 'OK' or 'DAY_OF_MONTH', of at most 15 bytes, all ASCII and none 0, at the front of
+ * 'buffer', and its length to 'size'. A number that is no status of this version has the name 'UNKNOWN'. Refused
+ * BUFFER where the name is longer than 'buffer': then 'size' says how long it is, and 'buffer' is as it was. */
+static PyObject *status_name(PyObject *self, PyObject *const *words, Py_ssize_t count)
+{
+    (void)self;
+    uint32_t word_0;
+    char text[MUXANDU_STATUS_ROOM];
+    size_t size;
+    uint32_t status;
+    if (!are(count, 1) || !take_uint32_t(words[0], &word_0)) return NULL;
+    status = muxandu_status_name(word_0, text, sizeof text, &size);
+    return status ? refuse(status) : PyUnicode_DecodeASCII(text, (Py_ssize_t)size, NULL);
+}
+
+/* Writes what a status says, a sentence of at most 128 bytes, as muxandu_status_name does. */
+static PyObject *status_text(PyObject *self, PyObject *const *words, Py_ssize_t count)
+{
+    (void)self;
+    uint32_t word_0;
+    char text[MUXANDU_STATUS_ROOM];
+    size_t size;
+    uint32_t status;
+    if (!are(count, 1) || !take_uint32_t(words[0], &word_0)) return NULL;
+    status = muxandu_status_text(word_0, text, sizeof text, &size);
+    return status ? refuse(status) : PyUnicode_DecodeASCII(text, (Py_ssize_t)size, NULL);
+}
+
+/* The instant so much later, or earlier for a negative duration. Refused as the timestamp, then DURATION, then
+ * RESULT outside the range. */
+static PyObject *timestamp_add(PyObject *self, PyObject *const *words, Py_ssize_t count)
+{
+    MuxanduDuration word_0;
+    MuxanduTimestamp out;
+    uint32_t status;
+    if (!are(count, 1) || !take_MuxanduDuration(words[0], &word_0)) return NULL;
+    status = muxandu_timestamp_add(VALUE(Timestamp, self), word_0, &out);
+    return status ? refuse(status) : make_Timestamp(Py_TYPE(self), out);
+}
+
+/* The instant so much earlier, or later for a negative duration. Refused as the timestamp, then DURATION, then
+ * RESULT outside the range. */
+static PyObject *timestamp_subtract(PyObject *self, PyObject *const *words, Py_ssize_t count)
+{
+    MuxanduDuration word_0;
+    MuxanduTimestamp out;
+    uint32_t status;
+    if (!are(count, 1) || !take_MuxanduDuration(words[0], &word_0)) return NULL;
+    status = muxandu_timestamp_subtract(VALUE(Timestamp, self), word_0, &out);
+    return status ? refuse(status) : make_Timestamp(Py_TYPE(self), out);
+}
+
+/* The instant so much later, or the end of the range that it is beyond. Refused as the timestamp, then DURATION. */
+static PyObject *timestamp_saturating_add(PyObject *self, PyObject *const *words, Py_ssize_t count)
+{
+    MuxanduDuration word_0;
+    MuxanduTimestamp out;
+    uint32_t status;
+    if (!are(count, 1) || !take_MuxanduDuration(words[0], &word_0)) return NULL;
+    status = muxandu_timestamp_saturating_add(VALUE(Timestamp, self), word_0, &out);
+    return status ? refuse(status) : make_Timestamp(Py_TYPE(self), out);
+}
+
+/* The instant so much earlier, or the end of the range that it is beyond. Refused as the timestamp, then DURATION. */
+static PyObject *timestamp_saturating_subtract(PyObject *self, PyObject *const *words, Py_ssize_t count)
+{
+    MuxanduDuration word_0;
+    MuxanduTimestamp out;
+    uint32_t status;
+    if (!are(count, 1) || !take_MuxanduDuration(words[0], &word_0)) return NULL;
+    status = muxandu_timestamp_saturating_subtract(VALUE(Timestamp, self), word_0, &out);
+    return status ? refuse(status) : make_Timestamp(Py_TYPE(self), out);
+}
+
+/* The duration from 'earlier' to 'later', negative where 'later' comes first. Refused as 'later', then as 'earlier'. */
+static PyObject *timestamp_difference(PyObject *self, PyObject *const *words, Py_ssize_t count)
+{
+    MuxanduTimestamp word_0;
+    MuxanduDuration out;
+    uint32_t status;
+    if (!are(count, 1) || !take_MuxanduTimestamp(words[0], &word_0)) return NULL;
+    status = muxandu_timestamp_difference(VALUE(Timestamp, self), word_0, &out);
+    return status ? refuse(status) : make_Duration(type_of_Duration, out);
+}
+
+/* The instant rounded down to a unit in UTC, before 1970 too. Refused as the timestamp, then UNIT. */
+static PyObject *timestamp_truncate(PyObject *self, PyObject *const *words, Py_ssize_t count)
+{
+    uint32_t word_0;
+    MuxanduTimestamp out;
+    uint32_t status;
+    if (!are(count, 1) || !take_uint32_t(words[0], &word_0)) return NULL;
+    status = muxandu_timestamp_truncate(VALUE(Timestamp, self), word_0, &out);
+    return status ? refuse(status) : make_Timestamp(Py_TYPE(self), out);
+}
+
+/* The instant so many milliseconds from 1970-01-01 0:00 UTC. Refused TIMESTAMP outside the range. */
+static PyObject *timestamp_from_milliseconds(PyObject *self, PyObject *const *words, Py_ssize_t count)
+{
+    int64_t word_0;
+    MuxanduTimestamp out;
+    uint32_t status;
+    if (!are(count, 1) || !take_int64_t(words[0], &word_0)) return NULL;
+    status = muxandu_timestamp_from_milliseconds(word_0, &out);
+    return status ? refuse(status) : make_Timestamp((PyTypeObject *)self, out);
+}
+
+/* The whole milliseconds from 1970-01-01 0:00 UTC, rounded down. Refused as the timestamp. */
+static PyObject *timestamp_to_milliseconds(PyObject *self, PyObject *const *words, Py_ssize_t count)
+{
+    int64_t out;
+    uint32_t status;
+    (void)words;
+    if (!are(count, 0)) return NULL;
+    status = muxandu_timestamp_to_milliseconds(VALUE(Timestamp, self), &out);
+    return status ? refuse(status) : give_int64_t(out);
+}
+
+/* The instant so many microseconds from 1970-01-01 0:00 UTC. It is always in the range. */
+static PyObject *timestamp_from_microseconds(PyObject *self, PyObject *const *words, Py_ssize_t count)
+{
+    int64_t word_0;
+    MuxanduTimestamp out;
+    if (!are(count, 1) || !take_int64_t(words[0], &word_0)) return NULL;
+    out = muxandu_timestamp_from_microseconds(word_0);
+    return make_Timestamp((PyTypeObject *)self, out);
+}
+
+/* The whole microseconds from 1970-01-01 0:00 UTC, rounded down. Refused as the timestamp, then RESULT where 64 bits
+ * do not hold them, as before -290308-12-21 and after 294247-01-10. */
+static PyObject *timestamp_to_microseconds(PyObject *self, PyObject *const *words, Py_ssize_t count)
+{
+    int64_t out;
+    uint32_t status;
+    (void)words;
+    if (!are(count, 0)) return NULL;
+    status = muxandu_timestamp_to_microseconds(VALUE(Timestamp, self), &out);
+    return status ? refuse(status) : give_int64_t(out);
+}
+
+/* The instant so many nanoseconds from 1970-01-01 0:00 UTC. It is always in the range. */
+static PyObject *timestamp_from_nanoseconds(PyObject *self, PyObject *const *words, Py_ssize_t count)
+{
+    int64_t word_0;
+    MuxanduTimestamp out;
+    if (!are(count, 1) || !take_int64_t(words[0], &word_0)) return NULL;
+    out = muxandu_timestamp_from_nanoseconds(word_0);
+    return make_Timestamp((PyTypeObject *)self, out);
+}
+
+/* The nanoseconds from 1970-01-01 0:00 UTC. Refused as the timestamp, then RESULT where 64 bits do not hold them, as
+ * before 1677-09-21 and after 2262-04-11. */
+static PyObject *timestamp_to_nanoseconds(PyObject *self, PyObject *const *words, Py_ssize_t count)
+{
+    int64_t out;
+    uint32_t status;
+    (void)words;
+    if (!are(count, 0)) return NULL;
+    status = muxandu_timestamp_to_nanoseconds(VALUE(Timestamp, self), &out);
+    return status ? refuse(status) : give_int64_t(out);
+}
+
+/* What clocks at an offset, in seconds, show at an instant. Refused as the timestamp, then OFFSET_SECONDS, then
+ * RESULT where the clocks show a year outside the range. */
+static PyObject *date_time_from_timestamp(PyObject *self, PyObject *const *words, Py_ssize_t count)
+{
+    int32_t word_0;
+    MuxanduDateTime out;
+    uint32_t status;
+    if (!are(count, 1) || !take_int32_t(words[0], &word_0)) return NULL;
+    status = muxandu_date_time_from_timestamp(VALUE(Timestamp, self), word_0, &out);
+    return status ? refuse(status) : make_OffsetDateTime(type_of_OffsetDateTime, out);
+}
+
+/* The instant at which clocks at its offset show the date-time. Refused as the date-time, then RESULT outside the
+ * range of timestamps. */
+static PyObject *timestamp_from_date_time(PyObject *self, PyObject *const *words, Py_ssize_t count)
+{
+    MuxanduTimestamp out;
+    uint32_t status;
+    (void)words;
+    if (!are(count, 0)) return NULL;
+    status = muxandu_timestamp_from_date_time(VALUE(OffsetDateTime, self), &out);
+    return status ? refuse(status) : make_Timestamp(type_of_Timestamp, out);
+}
+
+/* What clocks at another offset, in seconds, show at the same instant. Refused as the date-time, then
+ * OFFSET_SECONDS, then RESULT where the clocks there show a year outside the range. */
+static PyObject *date_time_to_offset(PyObject *self, PyObject *const *words, Py_ssize_t count)
+{
+    int32_t word_0;
+    MuxanduDateTime out;
+    uint32_t status;
+    if (!are(count, 1) || !take_int32_t(words[0], &word_0)) return NULL;
+    status = muxandu_date_time_to_offset(VALUE(OffsetDateTime, self), word_0, &out);
+    return status ? refuse(status) : make_OffsetDateTime(Py_TYPE(self), out);
+}
+
+/* The date-time so much later at the same offset, or earlier for a negative duration. Refused as the date-time, then
+ * DURATION, then RESULT where the year is outside the range. */
+static PyObject *date_time_add(PyObject *self, PyObject *const *words, Py_ssize_t count)
+{
+    MuxanduDuration word_0;
+    MuxanduDateTime out;
+    uint32_t status;
+    if (!are(count, 1) || !take_MuxanduDuration(words[0], &word_0)) return NULL;
+    status = muxandu_date_time_add(VALUE(OffsetDateTime, self), word_0, &out);
+    return status ? refuse(status) : make_OffsetDateTime(Py_TYPE(self), out);
+}
+
+/* The date-time so much earlier at the same offset, or later for a negative duration. Refused as the date-time, then
+ * DURATION, then RESULT where the year is outside the range. */
+static PyObject *date_time_subtract(PyObject *self, PyObject *const *words, Py_ssize_t count)
+{
+    MuxanduDuration word_0;
+    MuxanduDateTime out;
+    uint32_t status;
+    if (!are(count, 1) || !take_MuxanduDuration(words[0], &word_0)) return NULL;
+    status = muxandu_date_time_subtract(VALUE(OffsetDateTime, self), word_0, &out);
+    return status ? refuse(status) : make_OffsetDateTime(Py_TYPE(self), out);
+}
+
+/* The date-time so much later at the same offset, or the end of the range that it is beyond. Refused as the date-
+ * time, then DURATION. */
+static PyObject *date_time_saturating_add(PyObject *self, PyObject *const *words, Py_ssize_t count)
+{
+    MuxanduDuration word_0;
+    MuxanduDateTime out;
+    uint32_t status;
+    if (!are(count, 1) || !take_MuxanduDuration(words[0], &word_0)) return NULL;
+    status = muxandu_date_time_saturating_add(VALUE(OffsetDateTime, self), word_0, &out);
+    return status ? refuse(status) : make_OffsetDateTime(Py_TYPE(self), out);
+}
+
+/* The date-time so much earlier at the same offset, or the end of the range that it is beyond. Refused as the date-
+ * time, then DURATION. */
+static PyObject *date_time_saturating_subtract(PyObject *self, PyObject *const *words, Py_ssize_t count)
+{
+    MuxanduDuration word_0;
+    MuxanduDateTime out;
+    uint32_t status;
+    if (!are(count, 1) || !take_MuxanduDuration(words[0], &word_0)) return NULL;
+    status = muxandu_date_time_saturating_subtract(VALUE(OffsetDateTime, self), word_0, &out);
+    return status ? refuse(status) : make_OffsetDateTime(Py_TYPE(self), out);
+}
+
+/* The duration from the instant of 'earlier' to that of 'later', negative where 'later' comes first. Refused as
+ * 'later', then as 'earlier'. */
+static PyObject *date_time_difference(PyObject *self, PyObject *const *words, Py_ssize_t count)
+{
+    MuxanduDateTime word_0;
+    MuxanduDuration out;
+    uint32_t status;
+    if (!are(count, 1) || !take_MuxanduDateTime(words[0], &word_0)) return NULL;
+    status = muxandu_date_time_difference(VALUE(OffsetDateTime, self), word_0, &out);
+    return status ? refuse(status) : make_Duration(type_of_Duration, out);
+}
+
+/* The date-time rounded down to a unit, as its clocks show it. Refused as the date-time, then UNIT. */
+static PyObject *date_time_truncate(PyObject *self, PyObject *const *words, Py_ssize_t count)
+{
+    uint32_t word_0;
+    MuxanduDateTime out;
+    uint32_t status;
+    if (!are(count, 1) || !take_uint32_t(words[0], &word_0)) return NULL;
+    status = muxandu_date_time_truncate(VALUE(OffsetDateTime, self), word_0, &out);
+    return status ? refuse(status) : make_OffsetDateTime(Py_TYPE(self), out);
+}
+
+/* The day number that the clocks show, 0 on 1970-01-01. Refused as the date-time. */
+static PyObject *date_time_day(PyObject *self, PyObject *const *words, Py_ssize_t count)
+{
+    int32_t out;
+    uint32_t status;
+    (void)words;
+    if (!are(count, 0)) return NULL;
+    status = muxandu_date_time_day(VALUE(OffsetDateTime, self), &out);
+    return status ? refuse(status) : give_int32_t(out);
+}
+
+/* The date of a day number. Refused DAY_NUMBER. */
+static PyObject *date_from_day(PyObject *self, PyObject *const *words, Py_ssize_t count)
+{
+    (void)self;
+    int32_t word_0;
+    MuxanduDate out;
+    uint32_t status;
+    if (!are(count, 1) || !take_int32_t(words[0], &word_0)) return NULL;
+    status = muxandu_date_from_day(word_0, &out);
+    return status ? refuse(status) : Py_BuildValue("(lll)", (long)out.year, (long)out.month, (long)out.day);
+}
+
+/* The day number of a date. Refused MONTH, YEAR, DAY or DAY_OF_MONTH, tested in this order. */
+static PyObject *day_from_date(PyObject *self, PyObject *const *words, Py_ssize_t count)
+{
+    (void)self;
+    MuxanduDate word_0;
+    int32_t out;
+    uint32_t status;
+    if (!are(count, 3) || !take_int32_t(words[0], &word_0.year) || !take_uint8_t(words[1], &word_0.month) ||
+            !take_uint8_t(words[2], &word_0.day)) return NULL;
+    status = muxandu_day_from_date(word_0, &out);
+    return status ? refuse(status) : give_int32_t(out);
+}
+
+/* The year and the day of the year of a day number. Refused DAY_NUMBER. */
+static PyObject *ordinal_date_from_day(PyObject *self, PyObject *const *words, Py_ssize_t count)
+{
+    (void)self;
+    int32_t word_0;
+    MuxanduOrdinalDate out;
+    uint32_t status;
+    if (!are(count, 1) || !take_int32_t(words[0], &word_0)) return NULL;
+    status = muxandu_ordinal_date_from_day(word_0, &out);
+    return status ? refuse(status) : Py_BuildValue("(ll)", (long)out.year, (long)out.ordinal);
+}
+
+/* The day number of a day of a year. Refused YEAR, ORDINAL or ORDINAL_OF_YEAR, tested in this order. */
+static PyObject *day_from_ordinal_date(PyObject *self, PyObject *const *words, Py_ssize_t count)
+{
+    (void)self;
+    MuxanduOrdinalDate word_0;
+    int32_t out;
+    uint32_t status;
+    if (!are(count, 2) || !take_int32_t(words[0], &word_0.year) || !take_uint16_t(words[1], &word_0.ordinal)) return
+            NULL;
+    status = muxandu_day_from_ordinal_date(word_0, &out);
+    return status ? refuse(status) : give_int32_t(out);
+}
+
+/* The ISO year, the ISO week and the day of the week of a day number, of which muxandu_day_from_week_date makes the
+ * day number again. Refused DAY_NUMBER. */
+static PyObject *week_date_from_day(PyObject *self, PyObject *const *words, Py_ssize_t count)
+{
+    (void)self;
+    int32_t word_0;
+    MuxanduWeekDate out;
+    uint32_t status;
+    if (!are(count, 1) || !take_int32_t(words[0], &word_0)) return NULL;
+    status = muxandu_week_date_from_day(word_0, &out);
+    return status ? refuse(status) : Py_BuildValue("(lll)", (long)out.year, (long)out.week, (long)out.weekday);
+}
+
+/* The day number of an ISO week date. Refused YEAR, WEEK, WEEKDAY or WEEK_OF_YEAR, tested in this order, then RESULT
+ * for the two days of the last week that lie past the range. */
+static PyObject *day_from_week_date(PyObject *self, PyObject *const *words, Py_ssize_t count)
+{
+    (void)self;
+    MuxanduWeekDate word_0;
+    int32_t out;
+    uint32_t status;
+    if (!are(count, 3) || !take_int32_t(words[0], &word_0.year) || !take_uint8_t(words[1], &word_0.week) ||
+            !take_uint8_t(words[2], &word_0.weekday)) return NULL;
+    status = muxandu_day_from_week_date(word_0, &out);
+    return status ? refuse(status) : give_int32_t(out);
+}
+
+/* The day of the week of a day number, 0 for Monday to 6 for Sunday. Refused DAY_NUMBER. */
+static PyObject *weekday_from_day(PyObject *self, PyObject *const *words, Py_ssize_t count)
+{
+    (void)self;
+    int32_t word_0;
+    uint8_t out;
+    uint32_t status;
+    if (!are(count, 1) || !take_int32_t(words[0], &word_0)) return NULL;
+    status = muxandu_weekday_from_day(word_0, &out);
+    return status ? refuse(status) : give_uint8_t(out);
+}
+
+/* How many days a month of a year has, 28 to 31. Refused MONTH, then YEAR. */
+static PyObject *days_in_month(PyObject *self, PyObject *const *words, Py_ssize_t count)
+{
+    (void)self;
+    int32_t word_0;
+    uint8_t word_1;
+    uint8_t out;
+    uint32_t status;
+    if (!are(count, 2) || !take_int32_t(words[0], &word_0) || !take_uint8_t(words[1], &word_1)) return NULL;
+    status = muxandu_days_in_month(word_0, word_1, &out);
+    return status ? refuse(status) : give_uint8_t(out);
+}
+
+/* What clocks at an offset, in seconds, show at each Unix second, up to the first that
+ * muxandu_date_time_from_timestamp refuses. Refused BUFFER, with nothing written, where 'out' has fewer items than
+ * 'seconds'. */
+static PyObject *date_times_from_seconds(PyObject *self, PyObject *const *words, Py_ssize_t count)
+{
+    (void)self;
+    Items word_0 = {0};
+    int32_t word_2;
+    Items word_3 = {0};
+    MuxanduBatch batch;
+    PyObject *answer = NULL;
+    if (!are(count, 5)) return NULL;
+    if (take_items(words + 0, &word_0, 0) && take_int32_t(words[2], &word_2) && take_items(words + 3, &word_3, 1)) {
+        Py_BEGIN_ALLOW_THREADS
+        batch = muxandu_date_times_from_seconds(word_0.at, word_0.count, word_2, word_3.at, word_3.count);
+        Py_END_ALLOW_THREADS
+        answer = Py_BuildValue("(nI)", (Py_ssize_t)batch.count, batch.status);
+    }
+    drop_items(&word_0);
+    drop_items(&word_3);
+    return answer;
+}
+
+/* The Unix second of each date-time, rounded down, up to the first that muxandu_timestamp_from_date_time refuses.
+ * Refused BUFFER, with nothing written, where 'out' has fewer items than 'date_times'. */
+static PyObject *seconds_from_date_times(PyObject *self, PyObject *const *words, Py_ssize_t count)
+{
+    (void)self;
+    Items word_0 = {0};
+    Items word_2 = {0};
+    MuxanduBatch batch;
+    PyObject *answer = NULL;
+    if (!are(count, 4)) return NULL;
+    if (take_items(words + 0, &word_0, 0) && take_items(words + 2, &word_2, 1)) {
+        Py_BEGIN_ALLOW_THREADS
+        batch = muxandu_seconds_from_date_times(word_0.at, word_0.count, word_2.at, word_2.count);
+        Py_END_ALLOW_THREADS
+        answer = Py_BuildValue("(nI)", (Py_ssize_t)batch.count, batch.status);
+    }
+    drop_items(&word_0);
+    drop_items(&word_2);
+    return answer;
+}
+
+/* The date of each day number, up to the first that muxandu_date_from_day refuses. Refused BUFFER, with nothing
+ * written, where 'out' has fewer items than 'days'. */
+static PyObject *dates_from_days(PyObject *self, PyObject *const *words, Py_ssize_t count)
+{
+    (void)self;
+    Items word_0 = {0};
+    Items word_2 = {0};
+    MuxanduBatch batch;
+    PyObject *answer = NULL;
+    if (!are(count, 4)) return NULL;
+    if (take_items(words + 0, &word_0, 0) && take_items(words + 2, &word_2, 1)) {
+        Py_BEGIN_ALLOW_THREADS
+        batch = muxandu_dates_from_days(word_0.at, word_0.count, word_2.at, word_2.count);
+        Py_END_ALLOW_THREADS
+        answer = Py_BuildValue("(nI)", (Py_ssize_t)batch.count, batch.status);
+    }
+    drop_items(&word_0);
+    drop_items(&word_2);
+    return answer;
+}
+
+/* The day number of each date, up to the first that muxandu_day_from_date refuses. Refused BUFFER, with nothing
+ * written, where 'out' has fewer items than 'dates'. */
+static PyObject *days_from_dates(PyObject *self, PyObject *const *words, Py_ssize_t count)
+{
+    (void)self;
+    Items word_0 = {0};
+    Items word_2 = {0};
+    MuxanduBatch batch;
+    PyObject *answer = NULL;
+    if (!are(count, 4)) return NULL;
+    if (take_items(words + 0, &word_0, 0) && take_items(words + 2, &word_2, 1)) {
+        Py_BEGIN_ALLOW_THREADS
+        batch = muxandu_days_from_dates(word_0.at, word_0.count, word_2.at, word_2.count);
+        Py_END_ALLOW_THREADS
+        answer = Py_BuildValue("(nI)", (Py_ssize_t)batch.count, batch.status);
+    }
+    drop_items(&word_0);
+    drop_items(&word_2);
+    return answer;
+}
+
+/* The instant of each text of RFC 3339, up to the first that muxandu_timestamp_from_rfc3339 refuses, or SPAN, whose
+ * span does not lie in the block 'texts'. Refused BUFFER, with nothing written, where 'out' has fewer items than
+ * 'spans'. */
+static PyObject *timestamps_from_rfc3339(PyObject *self, PyObject *const *words, Py_ssize_t count)
+{
+    (void)self;
+    Items word_0 = {0};
+    Items word_2 = {0};
+    Items word_4 = {0};
+    MuxanduBatch batch;
+    PyObject *answer = NULL;
+    if (!are(count, 6)) return NULL;
+    if (take_items(words + 0, &word_0, 0) && take_items(words + 2, &word_2, 0) && take_items(words + 4, &word_4, 1)) {
+        Py_BEGIN_ALLOW_THREADS
+        batch = muxandu_timestamps_from_rfc3339(word_0.at, word_0.count, word_2.at, word_2.count, word_4.at,
+                word_4.count);
+        Py_END_ALLOW_THREADS
+        answer = Py_BuildValue("(nI)", (Py_ssize_t)batch.count, batch.status);
+    }
+    drop_items(&word_0);
+    drop_items(&word_2);
+    drop_items(&word_4);
+    return answer;
+}
+
+/* Whether an hour, a minute, a second and a nanosecond of it make a time of day. Refused HOUR, MINUTE, SECOND or
+ * NANOSECOND, tested in this order. */
+static PyObject *time_check(PyObject *self, PyObject *const *words, Py_ssize_t count)
+{
+    (void)self;
+    uint8_t word_0;
+    uint8_t word_1;
+    uint8_t word_2;
+    uint32_t word_3;
+    uint32_t out;
+    if (!are(count, 4) || !take_uint8_t(words[0], &word_0) || !take_uint8_t(words[1], &word_1) ||
+            !take_uint8_t(words[2], &word_2) || !take_uint32_t(words[3], &word_3)) return NULL;
+    out = muxandu_time_check(word_0, word_1, word_2, word_3);
+    return give_uint32_t(out);
+}
+
+/* The date so many days later, or earlier for a negative count. Refused as the date, then RESULT outside the range. */
+static PyObject *date_add_days(PyObject *self, PyObject *const *words, Py_ssize_t count)
+{
+    (void)self;
+    MuxanduDate word_0;
+    int32_t word_3;
+    MuxanduDate out;
+    uint32_t status;
+    if (!are(count, 4) || !take_int32_t(words[0], &word_0.year) || !take_uint8_t(words[1], &word_0.month) ||
+            !take_uint8_t(words[2], &word_0.day) || !take_int32_t(words[3], &word_3)) return NULL;
+    status = muxandu_date_add_days(word_0, word_3, &out);
+    return status ? refuse(status) : Py_BuildValue("(lll)", (long)out.year, (long)out.month, (long)out.day);
+}
+
+/* The same day of the month so many months later, or earlier for a negative count, or the month's last day where it
+ * is shorter. Refused as the date, then RESULT outside the range. */
+static PyObject *date_add_months(PyObject *self, PyObject *const *words, Py_ssize_t count)
+{
+    (void)self;
+    MuxanduDate word_0;
+    int32_t word_3;
+    MuxanduDate out;
+    uint32_t status;
+    if (!are(count, 4) || !take_int32_t(words[0], &word_0.year) || !take_uint8_t(words[1], &word_0.month) ||
+            !take_uint8_t(words[2], &word_0.day) || !take_int32_t(words[3], &word_3)) return NULL;
+    status = muxandu_date_add_months(word_0, word_3, &out);
+    return status ? refuse(status) : Py_BuildValue("(lll)", (long)out.year, (long)out.month, (long)out.day);
+}
+
+/* Writes the text of a date, as RFC 3339 has a full date, '1985-04-12', of 10 bytes, as muxandu_date_time_text does.
+ * Refused as the date, then NO_TEXT, then BUFFER. */
+static PyObject *date_to_rfc3339(PyObject *self, PyObject *const *words, Py_ssize_t count)
+{
+    (void)self;
+    MuxanduDate word_0;
+    char text[MUXANDU_TEXT_ROOM];
+    size_t size;
+    uint32_t status;
+    if (!are(count, 3) || !take_int32_t(words[0], &word_0.year) || !take_uint8_t(words[1], &word_0.month) ||
+            !take_uint8_t(words[2], &word_0.day)) return NULL;
+    status = muxandu_date_to_rfc3339(word_0, text, sizeof text, &size);
+    return status ? refuse(status) : PyUnicode_DecodeASCII(text, (Py_ssize_t)size, NULL);
+}
+
+/* Reads a date from a text of RFC 3339, with nothing before or after it, as '1985-04-12'. Refused SYNTAX where it
+ * has not that form, else MONTH, DAY or DAY_OF_MONTH, by the first from the left that is out of its range. */
+static PyObject *date_from_rfc3339(PyObject *self, PyObject *const *words, Py_ssize_t count)
+{
+    (void)self;
+    Text word_0;
+    MuxanduDate out;
+    uint32_t status;
+    if (!are(count, 1) || !take_text(words[0], &word_0)) return NULL;
+    status = muxandu_date_from_rfc3339(word_0.bytes, word_0.size, &out);
+    drop_text(&word_0);
+    return status ? refuse(status) : Py_BuildValue("(lll)", (long)out.year, (long)out.month, (long)out.day);
+}
+
+/* What clocks at an offset, in seconds, show at each Unix second, and its status, as
+ * muxandu_date_time_from_timestamp has them: where an item is refused, what is in its place stays, and the next
+ * follows. 'count' is how many were converted. Refused BUFFER, with nothing written, where 'out' or 'statuses' has
+ * fewer items than 'seconds'. */
+static PyObject *date_times_from_each_second(PyObject *self, PyObject *const *words, Py_ssize_t count)
+{
+    (void)self;
+    Items word_0 = {0};
+    int32_t word_2;
+    Items word_3 = {0};
+    Items word_5 = {0};
+    MuxanduBatch batch;
+    PyObject *answer = NULL;
+    if (!are(count, 7)) return NULL;
+    if (take_items(words + 0, &word_0, 0) && take_int32_t(words[2], &word_2) && take_items(words + 3, &word_3, 1) &&
+            take_items(words + 5, &word_5, 1)) {
+        Py_BEGIN_ALLOW_THREADS
+        batch = muxandu_date_times_from_each_second(word_0.at, word_0.count, word_2, word_3.at, word_3.count, word_5.at,
+                word_5.count);
+        Py_END_ALLOW_THREADS
+        answer = Py_BuildValue("(nI)", (Py_ssize_t)batch.count, batch.status);
+    }
+    drop_items(&word_0);
+    drop_items(&word_3);
+    drop_items(&word_5);
+    return answer;
+}
+
+/* The Unix second of each date-time, rounded down, and its status, as muxandu_timestamp_from_date_time has them:
+ * where an item is refused, what is in its place stays, and the next follows. 'count' is how many were converted.
+ * Refused BUFFER, with nothing written, where 'out' or 'statuses' has fewer items than 'date_times'. */
+static PyObject *seconds_from_each_date_time(PyObject *self, PyObject *const *words, Py_ssize_t count)
+{
+    (void)self;
+    Items word_0 = {0};
+    Items word_2 = {0};
+    Items word_4 = {0};
+    MuxanduBatch batch;
+    PyObject *answer = NULL;
+    if (!are(count, 6)) return NULL;
+    if (take_items(words + 0, &word_0, 0) && take_items(words + 2, &word_2, 1) && take_items(words + 4, &word_4, 1)) {
+        Py_BEGIN_ALLOW_THREADS
+        batch = muxandu_seconds_from_each_date_time(word_0.at, word_0.count, word_2.at, word_2.count, word_4.at,
+                word_4.count);
+        Py_END_ALLOW_THREADS
+        answer = Py_BuildValue("(nI)", (Py_ssize_t)batch.count, batch.status);
+    }
+    drop_items(&word_0);
+    drop_items(&word_2);
+    drop_items(&word_4);
+    return answer;
+}
+
+/* Writes the shortest text of RFC 3339 of a date-time, as '1985-04-12T23:20:50.52Z' or '1996-12-19T16:39:57-08:00',
+ * of at most 35 bytes, as muxandu_date_time_text does. Refused as the date-time, then NO_TEXT, then BUFFER. */
+static PyObject *date_time_to_rfc3339(PyObject *self, PyObject *const *words, Py_ssize_t count)
+{
+    char text[MUXANDU_TEXT_ROOM];
+    size_t size;
+    uint32_t status;
+    (void)words;
+    if (!are(count, 0)) return NULL;
+    status = muxandu_date_time_to_rfc3339(VALUE(OffsetDateTime, self), text, sizeof text, &size);
+    return status ? refuse(status) : PyUnicode_DecodeASCII(text, (Py_ssize_t)size, NULL);
+}
+
+/* Writes the shortest text of RFC 3339 of an instant, in UTC, as '1985-04-12T23:20:50.52Z', of at most 35 bytes, as
+ * muxandu_date_time_text does. Refused as the timestamp, then NO_TEXT, then BUFFER. */
+static PyObject *timestamp_to_rfc3339(PyObject *self, PyObject *const *words, Py_ssize_t count)
+{
+    char text[MUXANDU_TEXT_ROOM];
+    size_t size;
+    uint32_t status;
+    (void)words;
+    if (!are(count, 0)) return NULL;
+    status = muxandu_timestamp_to_rfc3339(VALUE(Timestamp, self), text, sizeof text, &size);
+    return status ? refuse(status) : PyUnicode_DecodeASCII(text, (Py_ssize_t)size, NULL);
+}
+
+/* Writes the text of RFC 3339 of an instant, in UTC, always with nine digits of the fraction, as
+ * '1985-04-12T23:20:50.520000000Z', of 30 bytes, as muxandu_date_time_text does. Such texts are in the order of
+ * their instants, byte by byte. Refused as the timestamp, then NO_TEXT, then BUFFER. */
+static PyObject *timestamp_to_rfc3339_nanos(PyObject *self, PyObject *const *words, Py_ssize_t count)
+{
+    char text[MUXANDU_TEXT_ROOM];
+    size_t size;
+    uint32_t status;
+    (void)words;
+    if (!are(count, 0)) return NULL;
+    status = muxandu_timestamp_to_rfc3339_nanos(VALUE(Timestamp, self), text, sizeof text, &size);
+    return status ? refuse(status) : PyUnicode_DecodeASCII(text, (Py_ssize_t)size, NULL);
+}
+
+/* Reads a date-time and its offset from a text of RFC 3339, with nothing before or after it, as
+ * '1985-04-12T23:20:50.52Z' or '1996-12-19T16:39:57-08:00'. A 't' or a space can stand for the 'T', and 'z' for the
+ * 'Z'; digits past the ninth of the fraction are dropped; '-00:00' is the offset 0. Refused SYNTAX where it has not
+ * that form, else MONTH, DAY or DAY_OF_MONTH, HOUR, MINUTE, SECOND, OFFSET_HOUR or OFFSET_MINUTE, by the first from
+ * the left that is out of its range. */
+static PyObject *date_time_from_rfc3339(PyObject *self, PyObject *const *words, Py_ssize_t count)
+{
+    Text word_0;
+    MuxanduDateTime out;
+    uint32_t status;
+    if (!are(count, 1) || !take_text(words[0], &word_0)) return NULL;
+    status = muxandu_date_time_from_rfc3339(word_0.bytes, word_0.size, &out);
+    drop_text(&word_0);
+    return status ? refuse(status) : make_OffsetDateTime((PyTypeObject *)self, out);
+}
+
+/* Reads the instant of a text of RFC 3339, as muxandu_date_time_from_rfc3339 does, and with its refusals. */
+static PyObject *timestamp_from_rfc3339(PyObject *self, PyObject *const *words, Py_ssize_t count)
+{
+    Text word_0;
+    MuxanduTimestamp out;
+    uint32_t status;
+    if (!are(count, 1) || !take_text(words[0], &word_0)) return NULL;
+    status = muxandu_timestamp_from_rfc3339(word_0.bytes, word_0.size, &out);
+    drop_text(&word_0);
+    return status ? refuse(status) : make_Timestamp((PyTypeObject *)self, out);
+}
+
+/* The seconds of an offset of hours, minutes and seconds, of which the smaller take the sign of the hours, or of the
+ * minutes if the hours are 0. Refused OFFSET_HOUR where the hours are not -25 to 25, OFFSET_MINUTE where the minutes
+ * are not -59 to 59, then OFFSET_SECONDS where the seconds are not -59 to 59. */
+static PyObject *offset_from_parts(PyObject *self, PyObject *const *words, Py_ssize_t count)
+{
+    (void)self;
+    MuxanduOffset word_0;
+    int32_t out;
+    uint32_t status;
+    if (!are(count, 3) || !take_int8_t(words[0], &word_0.hours) || !take_int8_t(words[1], &word_0.minutes) ||
+            !take_int8_t(words[2], &word_0.seconds)) return NULL;
+    status = muxandu_offset_from_parts(word_0, &out);
+    return status ? refuse(status) : give_int32_t(out);
+}
+
+/* The hours, the minutes and the seconds of an offset in seconds, all of one sign. Refused OFFSET_SECONDS. */
+static PyObject *offset_to_parts(PyObject *self, PyObject *const *words, Py_ssize_t count)
+{
+    (void)self;
+    int32_t word_0;
+    MuxanduOffset out;
+    uint32_t status;
+    if (!are(count, 1) || !take_int32_t(words[0], &word_0)) return NULL;
+    status = muxandu_offset_to_parts(word_0, &out);
+    return status ? refuse(status) : Py_BuildValue("(lll)", (long)out.hours, (long)out.minutes, (long)out.seconds);
+}
+
+/* All that a date shows: its day number and Julian day, its day of the year and of the week, and its weeks by ISO
+ * 8601, by Sundays and by Mondays. Refused MONTH, YEAR, DAY or DAY_OF_MONTH, tested in this order. */
+static PyObject *date_reads(PyObject *self, PyObject *const *words, Py_ssize_t count)
+{
+    (void)self;
+    MuxanduDate word_0;
+    MuxanduDateReads out;
+    uint32_t status;
+    if (!are(count, 3) || !take_int32_t(words[0], &word_0.year) || !take_uint8_t(words[1], &word_0.month) ||
+            !take_uint8_t(words[2], &word_0.day)) return NULL;
+    status = muxandu_date_reads(word_0, &out);
+    return status ? refuse(status) : Py_BuildValue("(llllllll)", (long)out.day, (long)out.julian_day,
+            (long)out.iso_year, (long)out.ordinal, (long)out.iso_week, (long)out.weekday, (long)out.sunday_based_week,
+            (long)out.monday_based_week);
+}
+
+/* The date of a Julian day, which is 2440588 on 1970-01-01. Refused DAY_NUMBER where the range has no such day. */
+static PyObject *date_from_julian_day(PyObject *self, PyObject *const *words, Py_ssize_t count)
+{
+    (void)self;
+    int32_t word_0;
+    MuxanduDate out;
+    uint32_t status;
+    if (!are(count, 1) || !take_int32_t(words[0], &word_0)) return NULL;
+    status = muxandu_date_from_julian_day(word_0, &out);
+    return status ? refuse(status) : Py_BuildValue("(lll)", (long)out.year, (long)out.month, (long)out.day);
+}
+
+/* The date-time with one part replaced, and the others and the offset kept; a day of the year replaces the month and
+ * the day. Refused as the date-time, then UNIT where the number is no part's, then YEAR, MONTH, DAY, DAY_OF_MONTH,
+ * ORDINAL, ORDINAL_OF_YEAR, HOUR, MINUTE, SECOND or NANOSECOND. */
+static PyObject *date_time_replace(PyObject *self, PyObject *const *words, Py_ssize_t count)
+{
+    uint32_t word_0;
+    int32_t word_1;
+    MuxanduDateTime out;
+    uint32_t status;
+    if (!are(count, 2) || !take_uint32_t(words[0], &word_0) || !take_int32_t(words[1], &word_1)) return NULL;
+    status = muxandu_date_time_replace(VALUE(OffsetDateTime, self), word_0, word_1, &out);
+    return status ? refuse(status) : make_OffsetDateTime(Py_TYPE(self), out);
+}
+
+/* The instant with one part of its date or of its time of day in UTC replaced, and the others kept, as
+ * muxandu_date_time_replace does. Refused as the timestamp, then as that call refuses. */
+static PyObject *timestamp_replace(PyObject *self, PyObject *const *words, Py_ssize_t count)
+{
+    uint32_t word_0;
+    int32_t word_1;
+    MuxanduTimestamp out;
+    uint32_t status;
+    if (!are(count, 2) || !take_uint32_t(words[0], &word_0) || !take_int32_t(words[1], &word_1)) return NULL;
+    status = muxandu_timestamp_replace(VALUE(Timestamp, self), word_0, word_1, &out);
+    return status ? refuse(status) : make_Timestamp(Py_TYPE(self), out);
+}
+
+/* What clocks at an offset, in seconds, show so many milliseconds from 1970-01-01 0:00 UTC, for each count, up to
+ * the first that muxandu_timestamp_from_milliseconds or muxandu_date_time_from_timestamp refuses. Refused BUFFER,
+ * with nothing written, where 'out' has fewer items than 'milliseconds'. */
+static PyObject *date_times_from_milliseconds(PyObject *self, PyObject *const *words, Py_ssize_t count)
+{
+    (void)self;
+    Items word_0 = {0};
+    int32_t word_2;
+    Items word_3 = {0};
+    MuxanduBatch batch;
+    PyObject *answer = NULL;
+    if (!are(count, 5)) return NULL;
+    if (take_items(words + 0, &word_0, 0) && take_int32_t(words[2], &word_2) && take_items(words + 3, &word_3, 1)) {
+        Py_BEGIN_ALLOW_THREADS
+        batch = muxandu_date_times_from_milliseconds(word_0.at, word_0.count, word_2, word_3.at, word_3.count);
+        Py_END_ALLOW_THREADS
+        answer = Py_BuildValue("(nI)", (Py_ssize_t)batch.count, batch.status);
+    }
+    drop_items(&word_0);
+    drop_items(&word_3);
+    return answer;
+}
+
+/* The milliseconds from 1970-01-01 0:00 UTC of each date-time, rounded down, up to the first that
+ * muxandu_timestamp_from_date_time or muxandu_timestamp_to_milliseconds refuses. Refused BUFFER, with nothing
+ * written, where 'out' has fewer items than 'date_times'. */
+static PyObject *milliseconds_from_date_times(PyObject *self, PyObject *const *words, Py_ssize_t count)
+{
+    (void)self;
+    Items word_0 = {0};
+    Items word_2 = {0};
+    MuxanduBatch batch;
+    PyObject *answer = NULL;
+    if (!are(count, 4)) return NULL;
+    if (take_items(words + 0, &word_0, 0) && take_items(words + 2, &word_2, 1)) {
+        Py_BEGIN_ALLOW_THREADS
+        batch = muxandu_milliseconds_from_date_times(word_0.at, word_0.count, word_2.at, word_2.count);
+        Py_END_ALLOW_THREADS
+        answer = Py_BuildValue("(nI)", (Py_ssize_t)batch.count, batch.status);
+    }
+    drop_items(&word_0);
+    drop_items(&word_2);
+    return answer;
+}
+
+/* What clocks at an offset, in seconds, show so many microseconds from 1970-01-01 0:00 UTC, for each count, up to
+ * the first that muxandu_date_time_from_timestamp refuses. Refused BUFFER, with nothing written, where 'out' has
+ * fewer items than 'microseconds'. */
+static PyObject *date_times_from_microseconds(PyObject *self, PyObject *const *words, Py_ssize_t count)
+{
+    (void)self;
+    Items word_0 = {0};
+    int32_t word_2;
+    Items word_3 = {0};
+    MuxanduBatch batch;
+    PyObject *answer = NULL;
+    if (!are(count, 5)) return NULL;
+    if (take_items(words + 0, &word_0, 0) && take_int32_t(words[2], &word_2) && take_items(words + 3, &word_3, 1)) {
+        Py_BEGIN_ALLOW_THREADS
+        batch = muxandu_date_times_from_microseconds(word_0.at, word_0.count, word_2, word_3.at, word_3.count);
+        Py_END_ALLOW_THREADS
+        answer = Py_BuildValue("(nI)", (Py_ssize_t)batch.count, batch.status);
+    }
+    drop_items(&word_0);
+    drop_items(&word_3);
+    return answer;
+}
+
+/* The microseconds from 1970-01-01 0:00 UTC of each date-time, rounded down, up to the first that
+ * muxandu_timestamp_from_date_time or muxandu_timestamp_to_microseconds refuses. Refused BUFFER, with nothing
+ * written, where 'out' has fewer items than 'date_times'. */
+static PyObject *microseconds_from_date_times(PyObject *self, PyObject *const *words, Py_ssize_t count)
+{
+    (void)self;
+    Items word_0 = {0};
+    Items word_2 = {0};
+    MuxanduBatch batch;
+    PyObject *answer = NULL;
+    if (!are(count, 4)) return NULL;
+    if (take_items(words + 0, &word_0, 0) && take_items(words + 2, &word_2, 1)) {
+        Py_BEGIN_ALLOW_THREADS
+        batch = muxandu_microseconds_from_date_times(word_0.at, word_0.count, word_2.at, word_2.count);
+        Py_END_ALLOW_THREADS
+        answer = Py_BuildValue("(nI)", (Py_ssize_t)batch.count, batch.status);
+    }
+    drop_items(&word_0);
+    drop_items(&word_2);
+    return answer;
+}
+
+/* What clocks at an offset, in seconds, show so many nanoseconds from 1970-01-01 0:00 UTC, for each count, up to the
+ * first that muxandu_date_time_from_timestamp refuses. Refused BUFFER, with nothing written, where 'out' has fewer
+ * items than 'nanoseconds'. */
+static PyObject *date_times_from_nanoseconds(PyObject *self, PyObject *const *words, Py_ssize_t count)
+{
+    (void)self;
+    Items word_0 = {0};
+    int32_t word_2;
+    Items word_3 = {0};
+    MuxanduBatch batch;
+    PyObject *answer = NULL;
+    if (!are(count, 5)) return NULL;
+    if (take_items(words + 0, &word_0, 0) && take_int32_t(words[2], &word_2) && take_items(words + 3, &word_3, 1)) {
+        Py_BEGIN_ALLOW_THREADS
+        batch = muxandu_date_times_from_nanoseconds(word_0.at, word_0.count, word_2, word_3.at, word_3.count);
+        Py_END_ALLOW_THREADS
+        answer = Py_BuildValue("(nI)", (Py_ssize_t)batch.count, batch.status);
+    }
+    drop_items(&word_0);
+    drop_items(&word_3);
+    return answer;
+}
+
+/* The nanoseconds from 1970-01-01 0:00 UTC of each date-time, up to the first that muxandu_timestamp_from_date_time
+ * or muxandu_timestamp_to_nanoseconds refuses. Refused BUFFER, with nothing written, where 'out' has fewer items
+ * than 'date_times'. */
+static PyObject *nanoseconds_from_date_times(PyObject *self, PyObject *const *words, Py_ssize_t count)
+{
+    (void)self;
+    Items word_0 = {0};
+    Items word_2 = {0};
+    MuxanduBatch batch;
+    PyObject *answer = NULL;
+    if (!are(count, 4)) return NULL;
+    if (take_items(words + 0, &word_0, 0) && take_items(words + 2, &word_2, 1)) {
+        Py_BEGIN_ALLOW_THREADS
+        batch = muxandu_nanoseconds_from_date_times(word_0.at, word_0.count, word_2.at, word_2.count);
+        Py_END_ALLOW_THREADS
+        answer = Py_BuildValue("(nI)", (Py_ssize_t)batch.count, batch.status);
+    }
+    drop_items(&word_0);
+    drop_items(&word_2);
+    return answer;
+}
+
+/* Writes the text of a date-time, as '1970-01-01 0:00:00.0 +00:00:00', of at most 42 bytes, all ASCII and none 0, at
+ * the front of 'buffer', and its length to 'size'. Refused as the date-time, then BUFFER where it is longer than
+ * 'buffer': then 'size' says how long it is, and 'buffer' is as it was. */
+static PyObject *date_time_text(PyObject *self, PyObject *const *words, Py_ssize_t count)
+{
+    char text[MUXANDU_TEXT_ROOM];
+    size_t size;
+    uint32_t status;
+    (void)words;
+    if (!are(count, 0)) return NULL;
+    status = muxandu_date_time_text(VALUE(OffsetDateTime, self), text, sizeof text, &size);
+    return status ? refuse(status) : PyUnicode_DecodeASCII(text, (Py_ssize_t)size, NULL);
+}
+
+/* Writes the text of a timestamp, the signed decimal of its seconds, as '-0.5', of at most 25 bytes, as
+ * muxandu_date_time_text does. Refused as the timestamp, then BUFFER. */
+static PyObject *timestamp_text(PyObject *self, PyObject *const *words, Py_ssize_t count)
+{
+    char text[MUXANDU_TEXT_ROOM];
+    size_t size;
+    uint32_t status;
+    (void)words;
+    if (!are(count, 0)) return NULL;
+    status = muxandu_timestamp_text(VALUE(Timestamp, self), text, sizeof text, &size);
+    return status ? refuse(status) : PyUnicode_DecodeASCII(text, (Py_ssize_t)size, NULL);
+}
+
+static PyMemberDef Timestamp_members[] = {
+    {"seconds", T_LONGLONG, offsetof(TimestampObject, value) + offsetof(MuxanduTimestamp, seconds), READONLY, NULL},
+    {"nanoseconds", T_UINT, offsetof(TimestampObject, value) + offsetof(MuxanduTimestamp, nanoseconds), READONLY, NULL},
+    {0}
+};
+
+static PyMemberDef OffsetDateTime_members[] = {
+    {"year", T_INT, offsetof(OffsetDateTimeObject, value) + offsetof(MuxanduDateTime, year), READONLY, NULL},
+    {"month", T_UBYTE, offsetof(OffsetDateTimeObject, value) + offsetof(MuxanduDateTime, month), READONLY, NULL},
+    {"day", T_UBYTE, offsetof(OffsetDateTimeObject, value) + offsetof(MuxanduDateTime, day), READONLY, NULL},
+    {"hour", T_UBYTE, offsetof(OffsetDateTimeObject, value) + offsetof(MuxanduDateTime, hour), READONLY, NULL},
+    {"minute", T_UBYTE, offsetof(OffsetDateTimeObject, value) + offsetof(MuxanduDateTime, minute), READONLY, NULL},
+    {"second", T_UBYTE, offsetof(OffsetDateTimeObject, value) + offsetof(MuxanduDateTime, second), READONLY, NULL},
+    {"nanosecond", T_UINT, offsetof(OffsetDateTimeObject, value) + offsetof(MuxanduDateTime, nanosecond), READONLY, NULL},
+    {"offset_seconds", T_INT, offsetof(OffsetDateTimeObject, value) + offsetof(MuxanduDateTime, offset_seconds), READONLY, NULL},
+    {0}
+};
+
+static PyMemberDef Duration_members[] = {
+    {"seconds", T_LONGLONG, offsetof(DurationObject, value) + offsetof(MuxanduDuration, seconds), READONLY, NULL},
+    {"nanoseconds", T_INT, offsetof(DurationObject, value) + offsetof(MuxanduDuration, nanoseconds), READONLY, NULL},
+    {0}
+};
+
+static PyMethodDef Timestamp_methods[] = {
+    {"from_rfc3339", FUNCTION(timestamp_from_rfc3339), METH_FASTCALL | METH_CLASS,
+     "from_rfc3339($type, text, /)\n--\n\n"
+     "Reads the instant of a text of RFC 3339, as muxandu_date_time_from_rfc3339 does, and with its refusals."},
+    {"from_milliseconds", FUNCTION(timestamp_from_milliseconds), METH_FASTCALL | METH_CLASS,
+     "from_milliseconds($type, milliseconds, /)\n--\n\n"
+     "The instant so many milliseconds from 1970-01-01 0:00 UTC. Refused TIMESTAMP outside the range."},
+    {"_from_microseconds", FUNCTION(timestamp_from_microseconds), METH_FASTCALL | METH_CLASS,
+     "_from_microseconds($type, microseconds, /)\n--\n\n"
+     "The instant so many microseconds from 1970-01-01 0:00 UTC. It is always in the range."},
+    {"_from_nanoseconds", FUNCTION(timestamp_from_nanoseconds), METH_FASTCALL | METH_CLASS,
+     "_from_nanoseconds($type, nanoseconds, /)\n--\n\n"
+     "The instant so many nanoseconds from 1970-01-01 0:00 UTC. It is always in the range."},
+    {"as_milliseconds", FUNCTION(timestamp_to_milliseconds), METH_FASTCALL,
+     "as_milliseconds($self, /)\n--\n\n"
+     "The whole milliseconds from 1970-01-01 0:00 UTC, rounded down. Refused as the timestamp."},
+    {"_as_microseconds", FUNCTION(timestamp_to_microseconds), METH_FASTCALL,
+     "_as_microseconds($self, /)\n--\n\n"
+     "The whole microseconds from 1970-01-01 0:00 UTC, rounded down. Refused as the timestamp, then RESULT where 64 bits do not hold them, as before -290308-12-21 and after 294247-01-10."},
+    {"_as_nanoseconds", FUNCTION(timestamp_to_nanoseconds), METH_FASTCALL,
+     "_as_nanoseconds($self, /)\n--\n\n"
+     "The nanoseconds from 1970-01-01 0:00 UTC. Refused as the timestamp, then RESULT where 64 bits do not hold them, as before 1677-09-21 and after 2262-04-11."},
+    {"saturating_add", FUNCTION(timestamp_saturating_add), METH_FASTCALL,
+     "saturating_add($self, duration, /)\n--\n\n"
+     "The instant so much later, or the end of the range that it is beyond. Refused as the timestamp, then DURATION."},
+    {"saturating_sub", FUNCTION(timestamp_saturating_subtract), METH_FASTCALL,
+     "saturating_sub($self, duration, /)\n--\n\n"
+     "The instant so much earlier, or the end of the range that it is beyond. Refused as the timestamp, then DURATION."},
+    {"truncated_to", FUNCTION(timestamp_truncate), METH_FASTCALL,
+     "truncated_to($self, unit, /)\n--\n\n"
+     "The instant rounded down to a unit in UTC, before 1970 too. Refused as the timestamp, then UNIT."},
+    {"with_part", FUNCTION(timestamp_replace), METH_FASTCALL,
+     "with_part($self, part, value, /)\n--\n\n"
+     "The instant with one part of its date or of its time of day in UTC replaced, and the others kept, as muxandu_date_time_replace does. Refused as the timestamp, then as that call refuses."},
+    {"to_offset", FUNCTION(date_time_from_timestamp), METH_FASTCALL,
+     "to_offset($self, offset_seconds, /)\n--\n\n"
+     "What clocks at an offset, in seconds, show at an instant. Refused as the timestamp, then OFFSET_SECONDS, then RESULT where the clocks show a year outside the range."},
+    {"to_rfc3339", FUNCTION(timestamp_to_rfc3339), METH_FASTCALL,
+     "to_rfc3339($self, /)\n--\n\n"
+     "Writes the shortest text of RFC 3339 of an instant, in UTC, as `1985-04-12T23:20:50.52Z`, of at most 35 bytes, as muxandu_date_time_text does. Refused as the timestamp, then NO_TEXT, then BUFFER."},
+    {"to_rfc3339_nanos", FUNCTION(timestamp_to_rfc3339_nanos), METH_FASTCALL,
+     "to_rfc3339_nanos($self, /)\n--\n\n"
+     "Writes the text of RFC 3339 of an instant, in UTC, always with nine digits of the fraction, as `1985-04-12T23:20:50.520000000Z`, of 30 bytes, as muxandu_date_time_text does. Such texts are in the order of their instants, byte by byte. Refused as the timestamp, then NO_TEXT, then BUFFER."},
+    MORE_METHODS_OF_Timestamp
+    {0}
+};
+
+static PyMethodDef OffsetDateTime_methods[] = {
+    {"from_rfc3339", FUNCTION(date_time_from_rfc3339), METH_FASTCALL | METH_CLASS,
+     "from_rfc3339($type, text, /)\n--\n\n"
+     "Reads a date-time and its offset from a text of RFC 3339, with nothing before or after it, as `1985-04-12T23:20:50.52Z` or `1996-12-19T16:39:57-08:00`. A `t` or a space can stand for the `T`, and `z` for the `Z`; digits past the ninth of the fraction are dropped; `-00:00` is the offset 0. Refused SYNTAX where it has not that form, else MONTH, DAY or DAY_OF_MONTH, HOUR, MINUTE, SECOND, OFFSET_HOUR or OFFSET_MINUTE, by the first from the left that is out of its range."},
+    {"saturating_add", FUNCTION(date_time_saturating_add), METH_FASTCALL,
+     "saturating_add($self, duration, /)\n--\n\n"
+     "The date-time so much later at the same offset, or the end of the range that it is beyond. Refused as the date-time, then DURATION."},
+    {"saturating_sub", FUNCTION(date_time_saturating_subtract), METH_FASTCALL,
+     "saturating_sub($self, duration, /)\n--\n\n"
+     "The date-time so much earlier at the same offset, or the end of the range that it is beyond. Refused as the date-time, then DURATION."},
+    {"truncated_to", FUNCTION(date_time_truncate), METH_FASTCALL,
+     "truncated_to($self, unit, /)\n--\n\n"
+     "The date-time rounded down to a unit, as its clocks show it. Refused as the date-time, then UNIT."},
+    {"with_part", FUNCTION(date_time_replace), METH_FASTCALL,
+     "with_part($self, part, value, /)\n--\n\n"
+     "The date-time with one part replaced, and the others and the offset kept; a day of the year replaces the month and the day. Refused as the date-time, then UNIT where the number is no part's, then YEAR, MONTH, DAY, DAY_OF_MONTH, ORDINAL, ORDINAL_OF_YEAR, HOUR, MINUTE, SECOND or NANOSECOND."},
+    {"to_offset", FUNCTION(date_time_to_offset), METH_FASTCALL,
+     "to_offset($self, offset_seconds, /)\n--\n\n"
+     "What clocks at another offset, in seconds, show at the same instant. Refused as the date-time, then OFFSET_SECONDS, then RESULT where the clocks there show a year outside the range."},
+    {"to_timestamp", FUNCTION(timestamp_from_date_time), METH_FASTCALL,
+     "to_timestamp($self, /)\n--\n\n"
+     "The instant at which clocks at its offset show the date-time. Refused as the date-time, then RESULT outside the range of timestamps."},
+    {"to_rfc3339", FUNCTION(date_time_to_rfc3339), METH_FASTCALL,
+     "to_rfc3339($self, /)\n--\n\n"
+     "Writes the shortest text of RFC 3339 of a date-time, as `1985-04-12T23:20:50.52Z` or `1996-12-19T16:39:57-08:00`, of at most 35 bytes, as muxandu_date_time_text does. Refused as the date-time, then NO_TEXT, then BUFFER."},
+    {"day_number", FUNCTION(date_time_day), METH_FASTCALL,
+     "day_number($self, /)\n--\n\n"
+     "The day number that the clocks show, 0 on 1970-01-01. Refused as the date-time."},
+    MORE_METHODS_OF_OffsetDateTime
+    {0}
+};
+
+static PyMethodDef functions[] = {
+    {"day_from_date", FUNCTION(day_from_date), METH_FASTCALL, NULL},
+    {"date_from_day", FUNCTION(date_from_day), METH_FASTCALL, NULL},
+    {"ordinal_date_from_day", FUNCTION(ordinal_date_from_day), METH_FASTCALL, NULL},
+    {"day_from_ordinal_date", FUNCTION(day_from_ordinal_date), METH_FASTCALL, NULL},
+    {"week_date_from_day", FUNCTION(week_date_from_day), METH_FASTCALL, NULL},
+    {"day_from_week_date", FUNCTION(day_from_week_date), METH_FASTCALL, NULL},
+    {"weekday_from_day", FUNCTION(weekday_from_day), METH_FASTCALL, NULL},
+    {"days_in_month", FUNCTION(days_in_month), METH_FASTCALL, NULL},
+    {"date_from_rfc3339", FUNCTION(date_from_rfc3339), METH_FASTCALL, NULL},
+    {"date_to_rfc3339", FUNCTION(date_to_rfc3339), METH_FASTCALL, NULL},
+    {"version", FUNCTION(version), METH_FASTCALL, NULL},
+    {"status_name", FUNCTION(status_name), METH_FASTCALL, NULL},
+    {"status_text", FUNCTION(status_text), METH_FASTCALL, NULL},
+    {"date_reads", FUNCTION(date_reads), METH_FASTCALL, NULL},
+    {"date_from_julian_day", FUNCTION(date_from_julian_day), METH_FASTCALL, NULL},
+    {"date_add_days", FUNCTION(date_add_days), METH_FASTCALL, NULL},
+    {"date_add_months", FUNCTION(date_add_months), METH_FASTCALL, NULL},
+    {"offset_from_parts", FUNCTION(offset_from_parts), METH_FASTCALL, NULL},
+    {"offset_to_parts", FUNCTION(offset_to_parts), METH_FASTCALL, NULL},
+    {"time_check", FUNCTION(time_check), METH_FASTCALL, NULL},
+    {"date_times_from_seconds", FUNCTION(date_times_from_seconds), METH_FASTCALL, NULL},
+    {"seconds_from_date_times", FUNCTION(seconds_from_date_times), METH_FASTCALL, NULL},
+    {"dates_from_days", FUNCTION(dates_from_days), METH_FASTCALL, NULL},
+    {"days_from_dates", FUNCTION(days_from_dates), METH_FASTCALL, NULL},
+    {"timestamps_from_rfc3339", FUNCTION(timestamps_from_rfc3339), METH_FASTCALL, NULL},
+    {"date_times_from_milliseconds", FUNCTION(date_times_from_milliseconds), METH_FASTCALL, NULL},
+    {"date_times_from_microseconds", FUNCTION(date_times_from_microseconds), METH_FASTCALL, NULL},
+    {"date_times_from_nanoseconds", FUNCTION(date_times_from_nanoseconds), METH_FASTCALL, NULL},
+    {"milliseconds_from_date_times", FUNCTION(milliseconds_from_date_times), METH_FASTCALL, NULL},
+    {"microseconds_from_date_times", FUNCTION(microseconds_from_date_times), METH_FASTCALL, NULL},
+    {"nanoseconds_from_date_times", FUNCTION(nanoseconds_from_date_times), METH_FASTCALL, NULL},
+    {"date_times_from_each_second", FUNCTION(date_times_from_each_second), METH_FASTCALL, NULL},
+    {"seconds_from_each_date_time", FUNCTION(seconds_from_each_date_time), METH_FASTCALL, NULL},
+    MORE_FUNCTIONS
+    {0}
+};

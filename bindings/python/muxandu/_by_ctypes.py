@@ -1,0 +1,403 @@
+"""What the extension has, through ctypes: values of structures, and their calls by the tables of `_methods`."""
+
+from __future__ import annotations
+
+import array
+import ctypes
+import datetime
+import functools
+import itertools
+import operator
+from typing import Any, Callable
+
+from . import _methods, muxandu_sys
+from ._library import library
+from ._words import as_bytes, held, nanoseconds_of
+
+# What each call takes, what it returns, and what it says.
+_CALLS: dict[str, tuple[list[Any], Any, str]] = muxandu_sys.CALLS  # type: ignore[assignment]
+
+# What `bind` brings: the classes that are made, by the names of the types here, and those of refusals by their statuses.
+_classes: dict[str, Any] = {}
+_refusals: dict[int, Any] = {}
+
+_SECOND = 1_000_000_000
+_SIZE = ctypes.POINTER(ctypes.c_size_t)
+_POINTER: Any = ctypes._Pointer
+
+
+def bind(timestamp: Any, date_time: Any, duration: Any, date: Any, refusals: dict[int, Any], *_: Any) -> None:
+    """Says which classes are made, and which refusals are raised."""
+    _classes.update(Timestamp=timestamp, OffsetDateTime=date_time, Duration=duration, Date=date)
+    _refusals.update(refusals)
+
+
+def _test(status: int) -> None:
+    if status:
+        raise _refusals[status]
+
+
+def _of(kind: Any, answer: Any) -> Any:
+    """The value of what the library wrote."""
+    value = object.__new__(kind)
+    value._parts = answer
+    return value
+
+
+class _Call:
+    """A call, as the extension has it: which words it takes, and what it gives."""
+
+    def __init__(self, name: str) -> None:
+        self.call = getattr(library, f"muxandu_{name}")
+        parameters, self.result, self.doc = _CALLS[f"muxandu_{name}"]
+        self.parameters = list(parameters)
+        self.is_text = self.parameters[-1:] == [_SIZE]
+        self.out: Any = None
+        if self.is_text:
+            del self.parameters[-3:]
+        elif self.parameters and issubclass(self.parameters[-1], _POINTER):
+            self.out = self.parameters.pop()._type_
+        first = self.parameters[0].__name__ if self.parameters else ""
+        self.receiver = _methods.STRUCTURES.get(first)
+        if self.receiver:
+            del self.parameters[0]
+        self.count = sum(self._words_of(kind) for kind in self.parameters)
+
+    @staticmethod
+    def _words_of(kind: Any) -> int:
+        """How many words a parameter is made of: the length of a text goes with its address."""
+        is_loose = issubclass(kind, ctypes.Structure) and kind.__name__ not in _methods.STRUCTURES
+        return len(kind._fields_) if is_loose else int(kind is not ctypes.c_size_t)
+
+    def _taken(self, given: tuple[Any, ...]) -> list[Any]:
+        """The words as the call takes them."""
+        if len(given) != self.count:
+            raise TypeError(f"{self.count} arguments are taken, and {len(given)} were given")
+        taken: list[Any] = []
+        words = iter(given)
+        for kind in self.parameters:
+            if kind is ctypes.c_void_p:
+                text = as_bytes(next(words))
+                taken += [text, len(text)]
+            elif kind.__name__ in _methods.STRUCTURES:
+                taken.append(_parts_of(next(words), kind))
+            elif issubclass(kind, ctypes.Structure):
+                taken.append(kind(*(held(next(words), number) for _, number in kind._fields_)))
+            elif kind is not ctypes.c_size_t:
+                taken.append(held(next(words), kind))
+        return taken
+
+    def _given(self, answer: Any, of: Any) -> Any:
+        """The answer as Python has it; a value of the class that asks, where it is of that kind."""
+        name = _methods.STRUCTURES.get(type(answer).__name__)
+        if name:
+            return _of(of if issubclass(of, globals()[name]) else _classes[name], answer)
+        if isinstance(answer, ctypes.Structure):
+            return tuple(getattr(answer, field) for field, _ in type(answer)._fields_)  # type: ignore[misc]
+        return answer.value if isinstance(answer, ctypes._SimpleCData) else answer
+
+    def run(self, words: tuple[Any, ...], first: tuple[Any, ...] = (), of: Any = object) -> Any:
+        taken = [*first, *self._taken(words)]
+        if self.is_text:
+            place, size = ctypes.create_string_buffer(muxandu_sys.STATUS_ROOM), ctypes.c_size_t()
+            _test(self.call(*taken, place, len(place), ctypes.byref(size)))
+            return place.raw[: size.value].decode("ascii")
+        if self.out is None:
+            return self._given(self.call(*taken), of)
+        out = self.out()
+        _test(self.call(*taken, ctypes.byref(out)))
+        return self._given(out, of)
+
+
+def _method(name: str) -> Any:
+    """A method, or a class method, that makes a call."""
+    call = _Call(name)
+
+    def method(self: Any, *words: Any) -> Any:
+        return call.run(words, (self._parts,), type(self))
+
+    def class_method(cls: Any, *words: Any) -> Any:
+        return call.run(words, of=cls)
+
+    made: Any = method if call.receiver else class_method
+    made.__doc__ = call.doc
+    return made if call.receiver else classmethod(made)
+
+
+def _function(name: str) -> Callable[..., Any]:
+    call = _Call(name)
+    return lambda *words: call.run(words)
+
+
+def _is_length(word: Any) -> bool:
+    return isinstance(word, (Duration, datetime.timedelta))
+
+
+def _parts_of(word: Any, kind: Any) -> Any:
+    """The structure of a value."""
+    wanted: Any = globals()[_methods.STRUCTURES[kind.__name__]]
+    if isinstance(word, wanted):
+        return word._parts
+    if wanted is Duration and isinstance(word, datetime.timedelta):
+        return Duration(word.days * 86_400 + word.seconds, nanoseconds_of(word))._parts
+    what = "a Duration or a datetime.timedelta" if wanted is Duration else f"a {wanted.__name__}"
+    raise TypeError(f"{what}, not {type(word)!r}")
+
+
+def _with_fields(structure: Any) -> Callable[[Any], Any]:
+    """Gives a class the numbers of its structure as attributes."""
+
+    def gives(kind: Any) -> Any:
+        for name, _ in structure._fields_:
+            setattr(kind, name, property(operator.attrgetter(f"_parts.{name}")))
+        return kind
+
+    return gives
+
+
+class _Moment:
+    """What instants and date-times share: sums and differences, and comparisons by their instants."""
+
+    __slots__ = ("_parts",)
+    _calls: dict[str, _Call]
+    _parts: Any
+
+    def _moved(self, how: str, duration: Any) -> Any:
+        return self._calls[how].run((duration,), (self._parts,), type(self)) if _is_length(duration) else NotImplemented
+
+    def __add__(self, duration: Any) -> Any:
+        return self._moved("add", duration)
+
+    __radd__ = __add__
+
+    def __sub__(self, other: Any) -> Any:
+        if isinstance(other, self._base):
+            return self._calls["difference"].run((other,), (self._parts,))
+        return self._moved("subtract", other)
+
+    def _ordered(self, how: Callable[[int, int], bool], other: Any) -> Any:
+        if not isinstance(other, self._base):
+            return NotImplemented
+        return how(self._calls["compare"].run((other,), (self._parts,)), 0)
+
+    def __eq__(self, other: object) -> Any:
+        return self._ordered(operator.eq, other)
+
+    def __lt__(self, other: Any) -> Any:
+        return self._ordered(operator.lt, other)
+
+    def __le__(self, other: Any) -> Any:
+        return self._ordered(operator.le, other)
+
+    def __gt__(self, other: Any) -> Any:
+        return self._ordered(operator.gt, other)
+
+    def __ge__(self, other: Any) -> Any:
+        return self._ordered(operator.ge, other)
+
+    def __str__(self) -> str:
+        return str(self._calls["text"].run((), (self._parts,)))
+
+    @property
+    def _base(self) -> Any:
+        return Timestamp if isinstance(self, Timestamp) else OffsetDateTime
+
+
+def _checked(call: _Call, kind: Any, structure: Any, *words: Any) -> Any:
+    """A value of these numbers, which the library tests."""
+    answer = structure(*(held(word, number) for word, (_, number) in zip(words, structure._fields_)))
+    _test(call.call(answer))
+    return _of(kind, answer)
+
+
+@_with_fields(muxandu_sys.MuxanduTimestamp)
+class Timestamp(_Moment):
+    __slots__ = ()
+    _calls = {name: _Call(call) for name, call in _methods.OPERATORS["Timestamp"].items()}
+
+    def __new__(cls, seconds: Any, nanoseconds: Any = 0) -> Any:
+        return _checked(cls._calls["check"], cls, muxandu_sys.MuxanduTimestamp, seconds, nanoseconds)
+
+    def __hash__(self) -> int:
+        return hash((self._parts.seconds, self._parts.nanoseconds))
+
+
+@_with_fields(muxandu_sys.MuxanduDateTime)
+class OffsetDateTime(_Moment):
+    __slots__ = ()
+    _calls = {name: _Call(call) for name, call in _methods.OPERATORS["OffsetDateTime"].items()}
+
+    def __new__(
+        cls,
+        year: Any,
+        month: Any,
+        day: Any,
+        hour: Any = 0,
+        minute: Any = 0,
+        second: Any = 0,
+        nanosecond: Any = 0,
+        offset_seconds: Any = 0,
+    ) -> Any:
+        words = (year, month, day, hour, minute, second, nanosecond, offset_seconds)
+        return _checked(cls._calls["check"], cls, muxandu_sys.MuxanduDateTime, *words)
+
+    def __hash__(self) -> int:
+        since = self._calls["difference"].run((_EPOCH,), (self._parts,))
+        return hash((since.seconds, since.nanoseconds))
+
+
+@functools.total_ordering
+@_with_fields(muxandu_sys.MuxanduDuration)
+class Duration:
+    __slots__ = ("_parts",)
+    _parts: Any
+
+    def __new__(cls, seconds: Any = 0, nanoseconds: Any = 0) -> Any:
+        return cls._of_whole(operator.index(seconds) * _SECOND + operator.index(nanoseconds))
+
+    @classmethod
+    def _of_whole(cls, whole: int) -> Any:
+        seconds, nanoseconds = divmod(abs(whole), _SECOND)
+        sign = -1 if whole < 0 else 1
+        if not -(2**63) <= sign * seconds < 2**63:
+            _test(muxandu_sys.Refused.DURATION)
+        return _of(cls, muxandu_sys.MuxanduDuration(sign * seconds, sign * nanoseconds))
+
+    def _whole(self) -> int:
+        return int(self._parts.seconds * _SECOND + self._parts.nanoseconds)
+
+    @staticmethod
+    def _whole_of(length: Any) -> int:
+        parts = _parts_of(length, muxandu_sys.MuxanduDuration)
+        return int(parts.seconds * _SECOND + parts.nanoseconds)
+
+    def __add__(self, other: Any) -> Any:
+        return self._of_whole(self._whole() + self._whole_of(other)) if _is_length(other) else NotImplemented
+
+    __radd__ = __add__
+
+    def __sub__(self, other: Any) -> Any:
+        return self._of_whole(self._whole() - self._whole_of(other)) if _is_length(other) else NotImplemented
+
+    def __rsub__(self, other: Any) -> Any:
+        return self._of_whole(self._whole_of(other) - self._whole()) if _is_length(other) else NotImplemented
+
+    def __neg__(self) -> Any:
+        return self._of_whole(-self._whole())
+
+    def __abs__(self) -> Any:
+        return self._of_whole(abs(self._whole()))
+
+    def __bool__(self) -> bool:
+        return self._whole() != 0
+
+    def __eq__(self, other: object) -> Any:
+        return self._whole() == self._whole_of(other) if _is_length(other) else NotImplemented
+
+    def __lt__(self, other: Any) -> Any:
+        return self._whole() < self._whole_of(other) if _is_length(other) else NotImplemented
+
+
+@functools.total_ordering
+@_with_fields(muxandu_sys.MuxanduDate)
+class Date:
+    __slots__ = ("_number", "_parts")
+    _calls = {name: _Call(call) for name, call in _methods.OPERATORS["Date"].items()}
+    _parts: Any
+    _number: int
+
+    def __new__(cls, year: Any, month: Any, day: Any) -> Any:
+        number = cls._calls["day"].run((year, month, day))
+        return cls.from_day_number(number)
+
+    @classmethod
+    def from_day_number(cls, number: Any) -> Any:
+        """The day so many days from 1970-01-01."""
+        date = _of(cls, muxandu_sys.MuxanduDate(*cls._calls["date"].run((number,))))
+        date._number = operator.index(number)
+        return date
+
+    def day_number(self) -> int:
+        """The days from 1970-01-01."""
+        return self._number
+
+    def __eq__(self, other: object) -> Any:
+        return self._number == other._number if isinstance(other, Date) else NotImplemented
+
+    def __lt__(self, other: Any) -> Any:
+        return self._number < other._number if isinstance(other, Date) else NotImplemented
+
+    def __hash__(self) -> int:
+        return hash(self._number)
+
+
+def address(buffer: Any) -> int:
+    """Where the items of a buffer begin; 0 of one that cannot be written, which calls get a copy of."""
+    view = memoryview(buffer)
+    return 0 if view.readonly or not view.nbytes else ctypes.addressof(ctypes.c_char.from_buffer(view))
+
+
+def _memory(buffer: Any) -> Any:
+    """The memory of a buffer as C has it."""
+    view = memoryview(buffer)
+    if not view.nbytes:
+        return (ctypes.c_uint64 * 2)()
+    kind = ctypes.c_char * view.nbytes
+    return kind.from_buffer_copy(view) if view.readonly else kind.from_buffer(view)
+
+
+def _batch(name: str) -> Callable[..., tuple[int, int]]:
+    """A call over many items: each array goes in as its buffer and its count."""
+    call = getattr(library, f"muxandu_{name}")
+    kinds = _CALLS[f"muxandu_{name}"][0]
+
+    def batch(*words: Any) -> tuple[int, int]:
+        taken = []
+        for word, kind in zip(words, kinds):
+            is_count = kind is ctypes.c_size_t
+            taken.append(_memory(word) if kind is ctypes.c_void_p else word if is_count else held(word, kind))
+        answer = call(*taken)
+        return answer.count, answer.status
+
+    return batch
+
+
+def _joined(pieces: list[bytes]) -> tuple[bytes, Any]:
+    """One block of texts, and where each lies in it."""
+    lengths = [len(piece) for piece in pieces]
+    numbers = array.array("Q", bytes(ctypes.sizeof(muxandu_sys.MuxanduSpan) * len(pieces)))
+    numbers[1::2] = array.array("Q", lengths)
+    numbers[2::2] = array.array("Q", itertools.accumulate(lengths[:-1]))
+    return b"".join(pieces), numbers
+
+
+def timestamps_from_texts(texts: list[Any], out: Any, room: int) -> tuple[int, int]:
+    """The instants of the texts of a list, written to a buffer: how many, and why the next is refused."""
+    block, spans = _joined([as_bytes(text) for text in texts])
+    call = globals()["timestamps_from_rfc3339"]
+    answer: tuple[int, int] = call(block, len(block), spans, len(texts), out, room)
+    return answer
+
+
+def texts_from_timestamps(items: Any, count: int) -> tuple[list[str], int]:
+    """A list of the texts of the timestamps of a buffer, up to the first that is refused, and why that is."""
+    stamps: Any = (muxandu_sys.MuxanduTimestamp * count).from_buffer_copy(items) if count else ()
+    place, size = ctypes.create_string_buffer(muxandu_sys.TEXT_ROOM), ctypes.c_size_t()
+    texts: list[str] = []
+    for stamp in stamps:
+        status = library.muxandu_timestamp_to_rfc3339(stamp, place, len(place), ctypes.byref(size))
+        if status:
+            return texts, status
+        texts.append(place.raw[: size.value].decode("ascii"))
+    return texts, 0
+
+
+for _kind, _calls in _methods.METHODS.items():
+    for _name, _call in _calls.items():
+        setattr(globals()[_kind], _name, _method(_call))
+for _name in _methods.FUNCTIONS:
+    globals()[_name] = _function(_name)
+for _name in _methods.BATCHES:
+    globals()[_name] = _batch(_name)
+
+_EPOCH = OffsetDateTime(1970, 1, 1)

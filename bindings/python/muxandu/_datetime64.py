@@ -1,0 +1,215 @@
+"""Arrays of NumPy's datetime64, as seconds and nanoseconds, and back."""
+
+from __future__ import annotations
+
+from typing import Any, Callable
+
+from ._refusals import Refused, RefusedBuffer, RefusedNanosecond, RefusedResult, RefusedTimestamp
+from .muxandu_sys import MuxanduDate, MuxanduDateTime, MuxanduTimestamp
+
+# How many seconds a unit has, and how many of a unit a second has.
+_SECONDS = {"W": 604_800, "D": 86_400, "h": 3_600, "m": 60, "s": 1}
+_PARTS = {"ms": 10**3, "us": 10**6, "ns": 10**9, "ps": 10**12, "fs": 10**15, "as": 10**18}
+_NANO = 10**9
+
+# What NumPy holds for no time at all, and what no call takes.
+_NONE = -(2**63)
+
+
+def is_such(items: Any) -> bool:
+    """Whether these are an array of datetime64, or a column of pandas of such."""
+    return getattr(getattr(items, "dtype", None), "kind", "") == "M"
+
+
+def _counts(moments: Any) -> tuple[Any, str, int]:
+    """The whole numbers of the moments, their unit, and how many units one is."""
+    import numpy
+
+    moments = moments.to_numpy("datetime64[ns]") if hasattr(moments, "to_numpy") else numpy.asarray(moments)
+    unit, many = numpy.datetime_data(moments.dtype)
+    if unit == "generic":
+        raise TypeError("datetime64 of a unit, and not of none")
+    counts = moments.astype(moments.dtype.newbyteorder("="), copy=False).view("int64")
+    return counts, unit, many
+
+
+def _of_months(counts: Any, unit: str, many: int) -> Any:
+    """The seconds at which years or months begin, as the library has their dates."""
+    import numpy
+
+    from ._batch import days_from_dates
+
+    months = counts.astype(object) * (many * (12 if unit == "Y" else 1))
+    is_far = numpy.abs(months) > 12 * 2_000_000
+    months = numpy.where(is_far, 12 * 2_000_000, months).astype("int64")
+    dates = numpy.zeros(len(counts), dtype=numpy.dtype(MuxanduDate))
+    dates["year"], dates["month"], dates["day"] = 1970 + months // 12, months % 12 + 1, 1
+    days = numpy.zeros(len(counts), dtype="int32")
+    try:
+        days_from_dates(dates, days)
+    except Refused as refused:
+        days[refused.count :] = 2**31 - 1
+    return days.astype("int64") * 86_400
+
+
+def split(moments: Any) -> tuple[Any, Any]:
+    """The Unix second of each moment, rounded down, and its nanoseconds. What 64 bits do not hold, and NaT, becomes a second
+    that each call refuses."""
+    import numpy
+
+    counts, unit, many = _counts(moments)
+    if unit in ("Y", "M"):
+        seconds, rest = _of_months(counts, unit, many), numpy.zeros(len(counts), dtype="int64")
+    elif unit in _SECONDS:
+        each = _SECONDS[unit] * many
+        most = 2**62 // each
+        seconds = numpy.clip(counts, -most, most) * each
+        rest = numpy.zeros(len(counts), dtype="int64")
+    else:
+        exact = counts if many == 1 else counts.astype(object) * many
+        seconds, rest = exact // _PARTS[unit], exact % _PARTS[unit]
+        rest = rest * (_NANO // _PARTS[unit]) if _PARTS[unit] <= _NANO else rest // (_PARTS[unit] // _NANO)
+        seconds, rest = seconds.astype("int64"), rest.astype("int64")
+    return numpy.where(counts == _NONE, _NONE, seconds), rest.astype("uint32")
+
+
+def with_nanoseconds(out: Any, nanoseconds: Any, convert: Callable[[], Any]) -> Any:
+    """`out`, converted, with these nanoseconds in it up to the first that is refused."""
+    import numpy
+
+    refusal, done = None, len(nanoseconds)
+    try:
+        convert()
+    except Refused as refused:
+        refusal, done = refused, refused.count or 0
+    if done:
+        numpy.frombuffer(out, dtype=numpy.dtype(MuxanduDateTime))["nanosecond"][:done] = nanoseconds[:done]
+    if refusal is not None:
+        raise refusal
+    return out
+
+
+def _items(buffer: Any, kind: Any) -> Any:
+    """A buffer of structures as an array of NumPy."""
+    import numpy
+
+    from ._batch import _reading
+
+    source = _reading(buffer, kind)
+    return numpy.frombuffer(source.data, dtype=numpy.dtype(kind)) if source.count else numpy.zeros(0, numpy.dtype(kind))
+
+
+def _first(is_such: Any) -> int:
+    """The place of the first that is such, or how many there are."""
+    return int(is_such.argmax()) if is_such.any() else len(is_such)
+
+
+def stamps(moments: Any, out: Any) -> Any:
+    """`out`, with the instants of the moments."""
+    import numpy
+
+    from ._batch import _writing
+    from ._values import Timestamp
+
+    seconds, nanoseconds = split(moments)
+    room = _writing(out, MuxanduTimestamp)
+    if room.count < len(seconds):
+        raise RefusedBuffer(0)
+    done = _first((seconds < Timestamp.MIN.seconds) | (seconds > Timestamp.MAX.seconds))
+    if done:
+        place = numpy.frombuffer(out, dtype=numpy.dtype(MuxanduTimestamp))
+        place["seconds"][:done], place["nanoseconds"][:done] = seconds[:done], nanoseconds[:done]
+    if done < len(seconds):
+        raise RefusedTimestamp(done)
+    return out
+
+
+def _exact(seconds: Any, nanoseconds: Any, unit: str, many: int) -> Any:
+    """Moments as whole units, rounded down: in 64 bits where they hold all, else in whole numbers of any size."""
+    import numpy
+
+    if unit in _SECONDS:
+        return seconds // (_SECONDS[unit] * many)
+    most = (2**63 - 1) // _PARTS[unit] - 1
+    if len(seconds) and not (-most <= seconds.min() and seconds.max() <= most):
+        seconds, nanoseconds = seconds.astype(object), nanoseconds.astype(object)
+    if _PARTS[unit] < _NANO:
+        parts = nanoseconds // (_NANO // _PARTS[unit])
+    else:
+        parts = numpy.asarray(nanoseconds * (_PARTS[unit] // _NANO))
+    return (seconds * _PARTS[unit] + parts) // many
+
+
+def _months(seconds: Any, unit: str, many: int) -> Any:
+    """The years or months from 1970 on that moments are in, as the library has their dates."""
+    from ._batch import dates_from_days
+
+    dates = dates_from_days(seconds // 86_400)
+    months = (dates["year"].astype("int64") - 1970) * 12 + (dates["month"].astype("int64") - 1)
+    return months // (12 * many if unit == "Y" else many)
+
+
+def _put(out: Any, seconds: Any, nanoseconds: Any) -> None:
+    """Writes moments as the unit of `out` has them, rounded down, up to the first that 64 bits do not hold."""
+    import numpy
+
+    unit, many = numpy.datetime_data(out.dtype)
+    if unit == "generic":
+        raise TypeError("datetime64 of a unit, and not of none")
+    seconds, nanoseconds = seconds.astype("int64"), nanoseconds.astype("int64")
+    counts = _months(seconds, unit, many) if unit in ("Y", "M") else _exact(seconds, nanoseconds, unit, many)
+    done = len(counts)
+    if counts.dtype == object:
+        done = _first(numpy.array([not _NONE < count < 2**63 for count in counts], dtype=bool))
+    out[:done] = counts[:done].astype("int64").view(f"datetime64[{many}{unit}]")
+    if done < len(counts):
+        raise RefusedResult(done)
+
+
+def filled(out: Any, convert: Callable[[Any], Any], items: Any, name: str = "", days: bool = False) -> Any:
+    """`out`, with what a conversion gives, up to the first that is refused."""
+    import numpy
+
+    numbers = numpy.zeros(len(out), dtype="int32" if days else "int64")
+    refusal = None
+    try:
+        convert(numbers)
+        done = len(items)
+    except Refused as refused:
+        refusal, done = refused, refused.count or 0
+    seconds = numbers[:done].astype("int64") * (86_400 if days else 1)
+    nanoseconds = _items(items, MuxanduDateTime)[name][:done] if name else numpy.zeros(done)
+    _put(out, seconds, nanoseconds)
+    if refusal is not None:
+        raise refusal
+    return out
+
+
+def filled_by_stamps(out: Any, place: Any, convert: Callable[[], Any]) -> Any:
+    """`out`, with the instants that a conversion writes to a place, up to the first that is refused."""
+    refusal, done = None, len(out)
+    try:
+        convert()
+    except Refused as refused:
+        refusal, done = refused, refused.count or 0
+    _put(out, place["seconds"][:done], place["nanoseconds"][:done])
+    if refusal is not None:
+        raise refusal
+    return out
+
+
+def of_stamps(items: Any, unit: str) -> Any:
+    """An array of datetime64 of instants, up to the first that is refused."""
+    import numpy
+
+    from ._values import Timestamp
+
+    place = _items(items, MuxanduTimestamp)
+    seconds, nanoseconds = place["seconds"], place["nanoseconds"]
+    is_beyond = (seconds < Timestamp.MIN.seconds) | (seconds > Timestamp.MAX.seconds)
+    done = _first(is_beyond | (nanoseconds >= _NANO))
+    out = numpy.zeros(len(place), dtype=f"datetime64[{unit}]")
+    _put(out, seconds[:done], nanoseconds[:done])
+    if done < len(place):
+        raise RefusedTimestamp(done) if is_beyond[done] else RefusedNanosecond(done)
+    return out

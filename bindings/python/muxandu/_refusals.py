@@ -1,0 +1,263 @@
+"""Why calls refuse, as classes of errors, the units of time, and the parts of a date-time.
+
+Made by tools/python_calls from bindings/muxandu_sys.py. Do not edit.
+"""
+
+from __future__ import annotations
+
+import enum
+from typing import Optional
+
+
+class Refused(ValueError):
+    """A call is refused. `name` is the name that the refusal has in the library, `status` its number.
+
+    Each refusal has a class of its own, as RefusedMonth or RefusedDayOfMonth. Where a call over many items is refused,
+    `count` is how many were converted: the next is the one that is refused, and what is behind it is as it was.
+    """
+
+    name: str = ""
+    status: int = 0
+    count: Optional[int] = None
+
+    def __init__(self, count: Optional[int] = None) -> None:
+        told = f"{self.name}: {' '.join((self.__doc__ or '').split())}"
+        super().__init__(told if count is None else f"item {count}: {told}")
+        self.count = count
+
+    def __reduce__(self) -> tuple[type[Refused], tuple[Optional[int]]]:
+        return type(self), (self.count,)
+
+    def __init_subclass__(cls) -> None:
+        cls.__module__ = "muxandu"
+
+
+
+class RefusedYear(Refused):
+    """A year before -999999 or after 999999."""
+
+    name = "YEAR"
+    status = 1
+
+
+class RefusedMonth(Refused):
+    """A month that is not 1 to 12."""
+
+    name = "MONTH"
+    status = 2
+
+
+class RefusedDay(Refused):
+    """A day that is not 1 to 31."""
+
+    name = "DAY"
+    status = 3
+
+
+class RefusedDayOfMonth(Refused):
+    """A day of 1 to 31 that its month does not have in its year."""
+
+    name = "DAY_OF_MONTH"
+    status = 4
+
+
+class RefusedOrdinal(Refused):
+    """A day of the year that is not 1 to 366."""
+
+    name = "ORDINAL"
+    status = 5
+
+
+class RefusedOrdinalOfYear(Refused):
+    """Day 366 of a year that has 365."""
+
+    name = "ORDINAL_OF_YEAR"
+    status = 6
+
+
+class RefusedWeek(Refused):
+    """An ISO week that is not 1 to 53."""
+
+    name = "WEEK"
+    status = 7
+
+
+class RefusedWeekOfYear(Refused):
+    """Week 53 of an ISO year that has 52."""
+
+    name = "WEEK_OF_YEAR"
+    status = 8
+
+
+class RefusedWeekday(Refused):
+    """A day of the week above 6."""
+
+    name = "WEEKDAY"
+    status = 9
+
+
+class RefusedHour(Refused):
+    """An hour above 23."""
+
+    name = "HOUR"
+    status = 10
+
+
+class RefusedMinute(Refused):
+    """A minute above 59."""
+
+    name = "MINUTE"
+    status = 11
+
+
+class RefusedSecond(Refused):
+    """A second above 59."""
+
+    name = "SECOND"
+    status = 12
+
+
+class RefusedNanosecond(Refused):
+    """A nanosecond above 999999999."""
+
+    name = "NANOSECOND"
+    status = 13
+
+
+class RefusedOffsetSeconds(Refused):
+    """An offset below -93599 seconds or above 93599."""
+
+    name = "OFFSET_SECONDS"
+    status = 14
+
+
+class RefusedTimestamp(Refused):
+    """A Unix second, or a count of milliseconds, outside the range of timestamps."""
+
+    name = "TIMESTAMP"
+    status = 15
+
+
+class RefusedDayNumber(Refused):
+    """A day number before -365961662 or after 364522971."""
+
+    name = "DAY_NUMBER"
+    status = 16
+
+
+class RefusedDuration(Refused):
+    """The seconds and nanoseconds of a duration that together are beyond its range."""
+
+    name = "DURATION"
+    status = 17
+
+
+class RefusedUnit(Refused):
+    """A number that is no unit."""
+
+    name = "UNIT"
+    status = 18
+
+
+class RefusedResult(Refused):
+    """A result outside the range, or one that its type does not hold."""
+
+    name = "RESULT"
+    status = 19
+
+
+class RefusedBuffer(Refused):
+    """A buffer that is too short for the result."""
+
+    name = "BUFFER"
+    status = 20
+
+
+class RefusedSpan(Refused):
+    """A span that does not lie in the block of texts."""
+
+    name = "SPAN"
+    status = 21
+
+
+class RefusedSyntax(Refused):
+    """A text that is no date-time of RFC 3339."""
+
+    name = "SYNTAX"
+    status = 22
+
+
+class RefusedOffsetHour(Refused):
+    """In a text, hours of the offset above 23."""
+
+    name = "OFFSET_HOUR"
+    status = 23
+
+
+class RefusedOffsetMinute(Refused):
+    """In a text, minutes of the offset above 59."""
+
+    name = "OFFSET_MINUTE"
+    status = 24
+
+
+class RefusedNoText(Refused):
+    """A value that RFC 3339 has no text for: its year is not 0 to 9999, or its offset has seconds or is of 24 hours or
+    more."""
+
+    name = "NO_TEXT"
+    status = 25
+
+
+# The class of each refusal, by its status.
+REFUSALS: dict[int, type[Refused]] = {
+    1: RefusedYear,
+    2: RefusedMonth,
+    3: RefusedDay,
+    4: RefusedDayOfMonth,
+    5: RefusedOrdinal,
+    6: RefusedOrdinalOfYear,
+    7: RefusedWeek,
+    8: RefusedWeekOfYear,
+    9: RefusedWeekday,
+    10: RefusedHour,
+    11: RefusedMinute,
+    12: RefusedSecond,
+    13: RefusedNanosecond,
+    14: RefusedOffsetSeconds,
+    15: RefusedTimestamp,
+    16: RefusedDayNumber,
+    17: RefusedDuration,
+    18: RefusedUnit,
+    19: RefusedResult,
+    20: RefusedBuffer,
+    21: RefusedSpan,
+    22: RefusedSyntax,
+    23: RefusedOffsetHour,
+    24: RefusedOffsetMinute,
+    25: RefusedNoText,
+}
+
+
+class Unit(enum.IntEnum):
+    """A unit of time, to which a value is rounded down."""
+
+    DAY = 1
+    HOUR = 2
+    MINUTE = 3
+    SECOND = 4
+    MILLISECOND = 5
+    MICROSECOND = 6
+
+
+class Part(enum.IntEnum):
+    """A part of a date-time, which `with_part` replaces."""
+
+    YEAR = 1
+    MONTH = 2
+    DAY = 3
+    ORDINAL = 4
+    HOUR = 5
+    MINUTE = 6
+    SECOND = 7
+    NANOSECOND = 8

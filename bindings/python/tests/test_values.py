@@ -1,0 +1,387 @@
+"""What values are beside those of `datetime`, and what they do in Python: sums, order, formats, pickles, the command line."""
+
+import copy
+import datetime
+import fractions
+import importlib.metadata
+import inspect
+import os
+import pickle
+import random
+import shutil
+import subprocess
+import sys
+import tempfile
+import time
+import unittest
+from pathlib import Path
+
+import muxandu
+from muxandu import Date, Duration, OffsetDateTime, Part, PlainDateTime, Time, Timestamp, Unit, UtcDateTime, UtcOffset, muxandu_sys
+
+DAY = datetime.timedelta(days=1)
+UTC = datetime.timezone.utc
+MOMENT = datetime.datetime(2024, 2, 29, 12, 34, 56, 789_012, UTC)
+
+
+class Durations(unittest.TestCase):
+    def test_beside_timedelta(self):
+        lengths = [datetime.timedelta(microseconds=count) for count in (-(10**15), -5, 0, 1_000, 999_995, 10**6, 86_400 * 10**6)]
+        for first in lengths:
+            one = Duration.of(first)
+            self.assertEqual((one.to_timedelta(), one.total_seconds()), (first, first.total_seconds()))
+            self.assertEqual((Duration.of(-first), Duration.of(abs(first))), (-one, abs(one)))
+            self.assertEqual((bool(one), hash(one)), (bool(first), hash(first)))
+            self.assertEqual((one * 3, 3 * one, one // 5), tuple(map(Duration.of, (first * 3, 3 * first, first // 5))))
+            for second in lengths:
+                other = Duration.of(second)
+                self.assertEqual((one + other, one - other), (Duration.of(first + second), Duration.of(first - second)))
+                self.assertEqual((one + second, first + other), (one + other, one + other))
+                self.assertEqual((one - second, first - other), (one - other, one - other))
+                orders = (one < other, one <= other, one == other, one > other, one >= other, one != other)
+                self.assertEqual(orders, (first < second, first <= second, first == second, first > second, first >= second, first != second))
+                self.assertEqual((one < second, one == second, first == other), (first < second, first == second, first == second))
+                if second:
+                    self.assertEqual((one // other, one / other), (first // second, first / second))
+                    self.assertEqual((one % other, divmod(one, other)), (Duration.of(first % second), (first // second, one % other)))
+
+    def test_of_one_sign(self):
+        for seconds, nanoseconds in ((1, -1), (-1, 1), (0, -(10**12)), (5, 10**9), (2**62, -(2**80))):
+            made = Duration(seconds, nanoseconds)
+            whole = seconds * 10**9 + nanoseconds
+            self.assertEqual((made.whole_nanoseconds(), Duration.of_nanoseconds(whole)), (whole, made))
+            self.assertLess(abs(made.nanoseconds), 10**9)
+            self.assertGreaterEqual(made.seconds * made.nanoseconds, 0)
+        self.assertEqual(Duration(nanoseconds=5), Duration(0, 5))
+        self.assertEqual((Duration.of_days(-2).whole_days(), Duration(86_399).whole_days(), Duration(-1).whole_days()), (-2, 0, 0))
+
+    def test_the_ends_of_the_range(self):
+        for call in (
+            lambda: Duration.MAX + Duration(0, 1),
+            lambda: Duration.MIN - Duration(0, 1),
+            lambda: -Duration.MIN,
+            lambda: abs(Duration.MIN),
+            lambda: Duration.MAX * 2,
+        ):
+            self.assertRaises(muxandu.RefusedDuration, call)
+        self.assertEqual((Duration.MIN.seconds, Duration.MIN.nanoseconds), (-(2**63), -999_999_999))
+        self.assertRaises(OverflowError, Duration.MAX.to_timedelta)
+        self.assertEqual(hash(Duration.MAX), hash(Duration.MAX + Duration()))
+
+    def test_other_things_are_not_taken(self):
+        for call in (
+            lambda: Duration(1) + 1,
+            lambda: Duration(1) - 1,
+            lambda: 1 - Duration(1),
+            lambda: Duration(1) < 1,
+            lambda: Duration(1) * 0.5,
+            lambda: Duration(1) % 2,
+            lambda: Duration(0.5),
+            lambda: Duration("1"),
+            lambda: Duration(1, 2, 3),
+            lambda: Duration(weeks=1),
+            lambda: Duration(1, seconds=1),
+            lambda: Timestamp(0) + 1,
+            lambda: Timestamp(0) - 1,
+            lambda: Timestamp(0).saturating_add(1),
+            lambda: Timestamp(0) < 1,
+            lambda: Timestamp(),
+            lambda: Timestamp(0).to_offset(),
+            lambda: OffsetDateTime(1970, 1),
+        ):
+            self.assertRaises(TypeError, call)
+        self.assertFalse(Duration(1) == 1 or Timestamp(0) == 0 or Date(1970, 1, 1) == 0)
+
+    def test_texts(self):
+        shown = [str(Duration(1, 500_000_000)), str(Duration(0, -1)), str(Duration()), f"{Duration(90):>6}"]
+        self.assertEqual(shown, ["1.5s", "-0.000000001s", "0s", "   90s"])
+
+
+class Dates(unittest.TestCase):
+    def test_beside_date(self):
+        for number in (-719_162, -1, 0, 19_782, 2_932_896):
+            theirs = datetime.date.fromordinal(number + 719_163)
+            ours = Date.from_date(theirs)
+            self.assertEqual((ours.day_number(), ours.to_date(), ours.weekday()), (number, theirs, theirs.weekday()))
+            self.assertEqual(f"{ours:%Y-%m-%d}", theirs.strftime("%Y-%m-%d"))
+            self.assertEqual(f"{ours:>12}", f"{str(ours):>12}")
+        date = Date(2024, 2, 28)
+        self.assertEqual((date + 2, 2 + date, date + Duration(86_400 * 2 + 5), date + 2 * DAY), (Date(2024, 3, 1),) * 4)
+        self.assertEqual((date - 28, date - Duration(86_400), date - Date(2023, 2, 28)), (Date(2024, 1, 31), Date(2024, 2, 27), Duration.of_days(365)))
+        self.assertEqual(date.replace(day=29), Date(2024, 2, 29))
+        self.assertRaises(muxandu.RefusedDayNumber, lambda: Date.MAX + 1)
+        self.assertRaises(muxandu.RefusedDayNumber, lambda: Date.MIN - 1)
+        self.assertRaises(TypeError, lambda: date + 0.5)
+
+    def test_weeks_and_julian_days_beside_date(self):
+        source = random.Random(1)
+        for _ in range(500):
+            theirs = datetime.date.fromordinal(source.randint(1, datetime.date.max.toordinal()))
+            ours = Date.from_date(theirs)
+            weeks = (ours.sunday_based_week(), ours.monday_based_week())
+            self.assertEqual(weeks, (int(theirs.strftime("%U")), int(theirs.strftime("%W"))))
+            self.assertEqual(ours.to_julian_day(), theirs.toordinal() + 1_721_425)
+            self.assertEqual(Date.from_julian_day(ours.to_julian_day()), ours)
+        self.assertEqual(Date(1970, 1, 1).to_julian_day(), 2_440_588)
+        self.assertRaises(muxandu.RefusedDayNumber, Date.from_julian_day, 2**31)
+
+    def test_days_and_months_later(self):
+        source = random.Random(1)
+        for _ in range(500):
+            date = Date.from_day_number(source.randint(-(10**6), 10**6))
+            days, months = source.randint(-(10**6), 10**6), source.randint(-50_000, 50_000)
+            self.assertEqual(date.add_days(days), date + days)
+            year, month = divmod(12 * date.year + date.month - 1 + months, 12)
+            later = date.add_months(months)
+            self.assertEqual((later.year, later.month), (year, month + 1))
+            self.assertEqual(later.day, min(date.day, muxandu.days_in_month(year, month + 1)))
+        self.assertEqual(Date(2024, 1, 31).add_months(1), Date(2024, 2, 29))
+        for call in (lambda: Date.MAX.add_days(1), lambda: Date.MIN.add_months(-1), lambda: Date.MAX.add_days(2**40)):
+            self.assertRaises(muxandu.RefusedResult, call)
+
+    def test_today(self):
+        before = Timestamp.now()
+        self.assertIn(Date.today(), (before.to_utc().date(), Timestamp.now().to_utc().date()))
+
+
+class Moments(unittest.TestCase):
+    def test_beside_datetime(self):
+        for at in (MOMENT, datetime.datetime(1, 1, 2, tzinfo=UTC), datetime.datetime(9999, 12, 30, 23, 59, 59, 999_999, UTC)):
+            stamp, shown, utc = Timestamp.from_datetime(at), OffsetDateTime.from_datetime(at), UtcDateTime.from_datetime(at)
+            self.assertEqual((stamp.to_datetime(), shown.to_datetime(), utc.to_datetime()), (at, at, at))
+            self.assertEqual((stamp.to_utc(), utc.to_timestamp(), shown.to_utc()), (utc, stamp, utc))
+            zone = datetime.timezone(datetime.timedelta(hours=-8))
+            self.assertEqual(stamp.to_datetime(zone).isoformat(), at.astimezone(zone).isoformat())
+            plain = PlainDateTime.from_datetime(at.replace(tzinfo=None))
+            self.assertEqual((plain.to_datetime(), plain.assume_utc()), (at.replace(tzinfo=None), utc))
+            self.assertEqual(plain.assume_offset(3_600), shown - Duration(3_600))
+            self.assertEqual((shown.date_time(), utc.date_time()), (plain, plain))
+            self.assertEqual(f"{shown:%Y-%m-%dT%H:%M:%S.%f%z}", at.strftime("%Y-%m-%dT%H:%M:%S.%f%z"))
+            self.assertEqual((shown.time().to_time(), Time.from_time(at.time())), (at.time(), shown.time()))
+        self.assertRaises(ValueError, PlainDateTime.from_datetime, MOMENT)
+        self.assertRaises(ValueError, Timestamp.from_datetime, MOMENT.replace(tzinfo=None))
+
+    def test_sums_with_timedelta(self):
+        class Length(datetime.timedelta):
+            """A length of a user's own."""
+
+        source = random.Random(1)
+        all_parts = [(source.randint(-(10**8), 10**8), source.randrange(86_400), source.randrange(10**6)) for _ in range(500)]
+        for parts in [*all_parts, (0, 0, 0), (-1, 86_399, 999_999), (3 * 10**8, 0, 1), (-(3 * 10**8), 0, 1)]:
+            whole = (parts[0] * 86_400 + parts[1]) * 10**9 + parts[2] * 1_000
+            for length in (datetime.timedelta(*parts), Length(*parts)):
+                self.assertEqual((Timestamp(0) + length).as_nanoseconds(), whole)
+                self.assertEqual((Timestamp(0) - length).as_nanoseconds(), -whole)
+                self.assertEqual(UtcDateTime(1970, 1, 1).to_offset(60) + length, Timestamp(*divmod(whole, 10**9)).to_utc())
+                self.assertEqual((Duration() + length).whole_nanoseconds(), whole)
+
+    def test_order_beside_datetime(self):
+        source = random.Random(1)
+        most = (9_998, 12, 28, 23, 59, 59, 999_999)
+        zones = [datetime.timezone(datetime.timedelta(hours=hours)) for hours in (0, 0, -5)]
+        moments = [datetime.datetime(2, 1, 1, tzinfo=UTC)]
+        for _ in range(3_000):
+            parts, place = list(moments[-1].timetuple()[:6]) + [moments[-1].microsecond], source.randrange(7)
+            parts[place] = source.randint(1 if place < 3 else 0, most[place])
+            moments.append(datetime.datetime(*parts, tzinfo=source.choice(zones)))
+        for one, other in zip(moments, moments[1:]):
+            ours, theirs = OffsetDateTime.from_datetime(one), OffsetDateTime.from_datetime(other)
+            orders = (ours < theirs, ours <= theirs, ours == theirs, ours != theirs, ours >= theirs, ours > theirs)
+            self.assertEqual(orders, (one < other, one <= other, one == other, one != other, one >= other, one > other))
+        years = [OffsetDateTime(year, month, 1) for year in (-999_999, -2, -1, 0, 1, 999_999) for month in (1, 12)]
+        self.assertEqual(sorted(reversed(years)), years)
+        self.assertEqual(len(set(years)), len(years))
+
+    def test_parts_replaced(self):
+        at = OffsetDateTime(2024, 2, 29, 12, 34, 56, 789, 3_600)
+        for part in Part:
+            if part is not Part.ORDINAL:
+                self.assertEqual(at.with_part(part, 4).is_same(at.replace(**{part.name.lower(): 4})), True, part)
+        self.assertEqual(at.with_part(Part.ORDINAL, 366).date(), Date(2024, 12, 31))
+        stamp = Timestamp(-1, 5).with_part(Part.HOUR, 0)
+        self.assertEqual(stamp, Timestamp(-82_801, 5))
+        self.assertRaises(muxandu.RefusedDayOfMonth, at.with_part, Part.YEAR, 2023)
+        self.assertRaises(muxandu.RefusedMonth, stamp.with_part, Part.MONTH, 13)
+        self.assertRaises(muxandu.RefusedUnit, at.with_part, 9, 1)
+        self.assertRaises(TypeError, at.with_part, Part.HOUR)
+
+    def test_now(self):
+        for now in (Timestamp.now, lambda: UtcDateTime.now().to_timestamp(), lambda: OffsetDateTime.now(3_600).to_timestamp()):
+            before, at, after = time.time_ns(), now(), time.time_ns()
+            self.assertTrue(before <= at.as_nanoseconds() <= after)
+
+    def test_the_ends_of_the_range(self):
+        self.assertEqual(str(Timestamp.MIN.to_utc()), "-999999-01-01 0:00:00.0 +00")
+        self.assertEqual(str(Timestamp.MAX.to_utc()), "+999999-12-31 23:59:59.999999999 +00")
+        self.assertEqual((PlainDateTime.MAX.assume_utc(), UtcDateTime.MIN.to_timestamp()), (UtcDateTime.MAX, Timestamp.MIN))
+        self.assertEqual((Date.MIN.day_number(), Date.MAX.day_number()), (-365_961_662, 364_522_971))
+        for call in (lambda: Timestamp.MAX + Duration(0, 1), lambda: UtcDateTime.MIN - Duration(0, 1)):
+            self.assertRaises(muxandu.RefusedResult, call)
+
+    def test_date_times_whose_instant_is_outside_the_range(self):
+        first, again = OffsetDateTime(-999_999, 1, 1, offset_seconds=60), OffsetDateTime(-999_999, 1, 1, 0, 1, offset_seconds=120)
+        last = OffsetDateTime(999_999, 12, 31, 23, 59, 59, offset_seconds=-60)
+        once_more = OffsetDateTime(999_999, 12, 31, 23, 58, 59, offset_seconds=-120)
+        for at, twin, into in ((first, again, Duration(60)), (last, once_more, Duration(-60))):
+            self.assertRaises(muxandu.RefusedResult, at.to_timestamp)
+            inside = at + into
+            self.assertEqual((inside - into, at - inside, inside - at, at - twin), (at, -into, into, Duration()))
+            self.assertEqual((at < inside, at > inside, at == inside), (into > Duration(), into < Duration(), False))
+            self.assertEqual((at == twin, len({at, twin, inside, twin + into})), (True, 2))
+            self.assertEqual(inside.to_timestamp().to_offset(inside.offset_seconds), inside)
+        self.assertEqual(last - first, (Date.MAX - Date.MIN) + Duration(86_399 + 120))
+        self.assertRaises(muxandu.RefusedResult, lambda: last + Duration(1))
+        self.assertRaises(muxandu.RefusedResult, lambda: first - Duration(0, 1))
+
+    def test_dates_times_in_utc_and_of_no_offset(self):
+        at = UtcDateTime(2024, 2, 29, 12, 34, 56, 789)
+        plain = PlainDateTime(2024, 2, 29, 12, 34, 56, 789)
+        self.assertEqual((str(at), str(plain)), ("2024-02-29 12:34:56.000000789 +00", "2024-02-29 12:34:56.000000789"))
+        self.assertEqual(at, at.to_offset(3_600))
+        self.assertEqual(at.to_offset(3_600), at)
+        self.assertEqual(len({at, at.to_offset(3_600)}), 1)
+        self.assertTrue(at < at.to_offset(0) + Duration(1) and at.to_offset(0) + Duration(1) > at)
+        self.assertFalse(at == plain)
+        self.assertRaises(TypeError, lambda: at < plain)
+        for one in (at, plain):
+            moved = one + DAY
+            self.assertEqual((type(moved), moved - one, moved - Duration(86_400)), (type(one), Duration(86_400), one))
+            self.assertEqual((one.truncated_to(Unit.DAY), one.replace(hour=0).hour), (type(one)(2024, 2, 29), 0))
+            self.assertEqual((one.date(), one.time(), one.day_number()), (Date(2024, 2, 29), Time(12, 34, 56, 789), 19_782))
+            self.assertEqual(type(one).new(one.date(), one.time()), one)
+            self.assertTrue(one < moved <= moved and moved > one >= one)
+            self.assertRaises(TypeError, lambda one=one: one + 1)
+        self.assertEqual(UtcDateTime.from_rfc3339("2024-02-29T13:34:56+01:00").to_rfc3339(), "2024-02-29T12:34:56Z")
+
+    def test_times(self):
+        at = Time(9, 5, 0, 250_000_000)
+        self.assertEqual((str(at), at - Time(9), f"{at:%H.%M}", f"{at:>11}"), ("9:05:00.25", Duration(300, 250_000_000), "09.05", " 9:05:00.25"))
+        self.assertTrue(Time.MIDNIGHT < at < Time.MAX)
+        self.assertRaises(muxandu.RefusedHour, Time, 24)
+
+    def test_offsets(self):
+        offset = UtcOffset.from_hms(-8, -30)
+        self.assertEqual((offset.whole_seconds(), offset.as_hms(), str(offset)), (-30_600, (-8, -30, 0), "-08:30:00"))
+        self.assertEqual(Timestamp(0).to_offset(offset), UtcDateTime(1970, 1, 1))
+        self.assertEqual(Timestamp(0).to_offset(offset).offset(), offset)
+        self.assertEqual((UtcOffset.UTC.is_utc(), len({offset, UtcOffset(-30_600)})), (True, 1))
+        self.assertRaises(muxandu.RefusedOffsetSeconds, UtcOffset, 93_600)
+        for parts, seconds in (((1, -1), 3_660), ((-1, 1, 1), -3_661), ((0, -1, 1), -61), ((25, 59, 59), 93_599)):
+            self.assertEqual(UtcOffset.from_hms(*parts).whole_seconds(), seconds)
+        self.assertRaises(muxandu.RefusedOffsetHour, UtcOffset.from_hms, 26)
+        self.assertRaises(muxandu.RefusedOffsetMinute, UtcOffset.from_hms, 0, 60)
+        self.assertRaises(muxandu.RefusedOffsetSeconds, UtcOffset.from_hms, 0, 0, -60)
+        self.assertRaises(muxandu.RefusedOffsetHour, UtcOffset.from_hms, 2**40)
+
+    def test_copies_and_pickles(self):
+        at = OffsetDateTime.from_datetime(MOMENT)
+        for value in (at, at.to_utc(), at.date_time(), at.date(), at.time(), at.offset(), at.to_timestamp(), Duration(-1, -5)):
+            self.assertEqual(repr(copy.copy(value)), repr(value))
+            self.assertEqual(repr(copy.deepcopy(value)), repr(value))
+            self.assertEqual(eval(repr(value), vars(muxandu)), value)  # noqa: S307
+            for protocol in range(pickle.HIGHEST_PROTOCOL + 1):
+                self.assertEqual(repr(pickle.loads(pickle.dumps(value, protocol))), repr(value))
+            self.assertRaises(AttributeError, setattr, value, "other", 1)
+
+    def test_values_do_not_change(self):
+        for value, name in ((Timestamp(0), "seconds"), (OffsetDateTime(1970, 1, 1), "year"), (Date(1970, 1, 1), "day")):
+            self.assertRaises((AttributeError, TypeError), setattr, value, name, 5)
+
+    def test_classes_of_a_user(self):
+        class Stamp(Timestamp):
+            """A timestamp with a name."""
+
+            name = "stamp"
+
+        at = Stamp(5)
+        self.assertEqual((type(at + Duration(1)), type(Stamp.from_rfc3339("1970-01-01T00:00:00Z"))), (Stamp, Stamp))
+        self.assertEqual((type(Stamp.now()), type(at.truncated_to(Unit.DAY)), at, hash(at)), (Stamp, Stamp, Timestamp(5), hash(Timestamp(5))))
+        self.assertIs(type(at.to_offset(0)), OffsetDateTime)
+
+    def test_numbers_of_other_kinds(self):
+        self.assertEqual(Timestamp(True), Timestamp(1))
+        for number in (1.0, fractions.Fraction(1), "1", None):
+            self.assertRaises(TypeError, Timestamp, number)
+            self.assertRaises(TypeError, OffsetDateTime, 1970, 1, 1, number)
+            self.assertRaises(TypeError, Timestamp(0).to_offset, number)
+
+
+class Program(unittest.TestCase):
+    def run_program(self, *words):
+        folder = str(Path(muxandu.__file__).resolve().parent.parent)
+        paths = os.pathsep.join([folder, *filter(None, [os.environ.get("PYTHONPATH")])])
+        command = [sys.executable, "-B", "-m", "muxandu", *words]
+        return subprocess.run(command, env={**os.environ, "PYTHONPATH": paths}, capture_output=True, encoding="utf-8", check=False)
+
+    def test_texts_and_seconds(self):
+        ended = self.run_program("2024-02-28T23:30:00-01:00")
+        self.assertEqual((ended.returncode, ended.stderr), (0, ""))
+        self.assertEqual(
+            ended.stdout.split("\n"),
+            [
+                "shown        2024-02-28 23:30:00.0 -01:00:00",
+                "in UTC       2024-02-29 0:30:00.0 +00",
+                "Unix second  1709166600",
+                "day          19781 from 1970-01-01, 59 of 2024",
+                "ISO week     2024-W09-3",
+                "",
+            ],
+        )
+        self.assertIn("1969-12-31 23:59:59.5 +00\n", self.run_program("-0.5").stdout)
+
+    def test_refusals(self):
+        ended = self.run_program("2023-02-29T00:00:00Z")
+        self.assertEqual((ended.returncode, ended.stdout), (1, ""))
+        self.assertIn("DAY_OF_MONTH", ended.stderr)
+        self.assertEqual(self.run_program().returncode, 2)
+
+
+class Package(unittest.TestCase):
+    def test_version(self):
+        self.assertRegex(muxandu.__version__, r"^\d+\.\d+\.\d+$")
+        try:
+            self.assertEqual(importlib.metadata.version("muxandu"), muxandu.__version__)
+        except importlib.metadata.PackageNotFoundError:
+            pass
+
+    @unittest.skipUnless(shutil.which("cc"), "cc is not there")
+    def test_other_libraries_are_not_taken(self):
+        names = [f"unsigned {name}(void) {{ return 0; }}" for name in muxandu_sys.CALLS]
+        with tempfile.TemporaryDirectory() as folder:
+            for name, lines, told in (("other", names, "does not answer"), ("less", names[1:], "is no library")):
+                source, library = Path(folder, f"{name}.c"), Path(folder, f"{name}.so")
+                source.write_text("\n".join(lines), encoding="utf-8")
+                subprocess.run(["cc", "-shared", "-fPIC", "-w", str(source), "-o", str(library)], check=True)
+                self.assertIn(told, self.said_of(library))
+            Path(folder, "text.so").write_text("no library", encoding="utf-8")
+            self.assertIn("is no library", self.said_of(Path(folder, "text.so")))
+
+    def said_of(self, library):
+        """What the package says where another library is named."""
+        folder = str(Path(muxandu.__file__).resolve().parent.parent)
+        variables = {**os.environ, "MUXANDU_LIBRARY": str(library), "MUXANDU_IMPLEMENTATION": "ctypes", "PYTHONPATH": folder}
+        command = [sys.executable, "-B", "-c", "import muxandu"]
+        ended = subprocess.run(command, env=variables, stderr=subprocess.PIPE, encoding="utf-8", check=False)
+        self.assertEqual(ended.returncode, 1)
+        return ended.stderr.strip().split("\n")[-1]
+
+    def test_constructors_tell_their_words(self):
+        for kind, words in (
+            (Timestamp, "seconds nanoseconds"),
+            (OffsetDateTime, "year month day hour minute second nanosecond offset_seconds"),
+            (Duration, "seconds nanoseconds"),
+            (Date, "year month day"),
+        ):
+            self.assertEqual(list(inspect.signature(kind).parameters), words.split())
+            self.assertGreater(len(kind.__doc__), 40)
+
+    def test_names_are_there(self):
+        for name in muxandu.__all__:
+            self.assertTrue(hasattr(muxandu, name), name)
+        self.assertIn(muxandu.IMPLEMENTATION, ("extension", "ctypes"))
+        asked = os.environ.get("MUXANDU_IMPLEMENTATION")
+        self.assertEqual(muxandu.IMPLEMENTATION, asked or muxandu.IMPLEMENTATION)
+
+
+if __name__ == "__main__":
+    unittest.main()

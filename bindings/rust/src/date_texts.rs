@@ -1,0 +1,33 @@
+//! Days as texts of RFC 3339.
+
+use crate::{Date, Refusal, Text, sys};
+
+impl Date {
+    /// Reads a text of RFC 3339, as `1985-04-12`. Refused [`Refusal::Syntax`], and else by its first part that is out of its
+    /// range.
+    pub fn from_rfc3339(text: &str) -> Result<Date, Refusal> {
+        let mut out = Date::UNIX_EPOCH;
+        // SAFETY: the pointer and the count are those of one text.
+        let status =
+            unsafe { sys::muxandu_date_from_rfc3339(text.as_ptr(), text.len(), &mut out.0) };
+        Refusal::test(status)?;
+        Ok(out)
+    }
+
+    /// The text of RFC 3339, as `1985-04-12`. Refused [`Refusal::NoText`] where the year is not 0 to 9999.
+    ///
+    /// ```
+    /// use muxandu::{Date, Refusal};
+    ///
+    /// let date = Date::from_rfc3339("2024-02-29")?;
+    /// assert_eq!((date.day_number(), date.to_rfc3339()?.as_str()), (19_782, "2024-02-29"));
+    /// assert_eq!(Date::from_rfc3339("2023-02-29"), Err(Refusal::DayOfMonth));
+    /// # Ok::<(), Refusal>(())
+    /// ```
+    pub fn to_rfc3339(self) -> Result<Text, Refusal> {
+        // SAFETY: the pointer and the room are those of one place, and nothing else reaches it.
+        Text::written(|place, room, size| unsafe {
+            sys::muxandu_date_to_rfc3339(self.0, place, room, size)
+        })
+    }
+}

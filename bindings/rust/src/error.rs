@@ -1,0 +1,166 @@
+//! The refusals that have the names of `time`.
+
+use core::fmt;
+
+use crate::Refusal;
+
+/// A part that is out of its range.
+///
+/// ```
+/// use muxandu::{Date, Month};
+///
+/// let refused = Date::from_calendar_date(2023, Month::February, 29).unwrap_err();
+/// assert_eq!((refused.name(), refused.is_conditional()), ("day", true));
+/// ```
+#[derive(Clone, Copy, Debug, PartialEq, Eq, Hash)]
+pub struct ComponentRange {
+    name: &'static str,
+    conditional: bool,
+}
+
+impl ComponentRange {
+    pub(crate) const fn new(name: &'static str, conditional: bool) -> ComponentRange {
+        ComponentRange { name, conditional }
+    }
+
+    /// The name of the part, as `day`.
+    #[must_use]
+    pub const fn name(self) -> &'static str {
+        self.name
+    }
+
+    /// Whether the part is possible beside others, as day 29 beside February.
+    #[must_use]
+    pub const fn is_conditional(self) -> bool {
+        self.conditional
+    }
+}
+
+impl fmt::Display for ComponentRange {
+    fn fmt(&self, f: &mut fmt::Formatter<'_>) -> fmt::Result {
+        let besides = if self.conditional {
+            ", given the other parts"
+        } else {
+            ""
+        };
+        write!(f, "{} is out of its range{besides}", self.name)
+    }
+}
+
+impl core::error::Error for ComponentRange {}
+
+impl From<Refusal> for ComponentRange {
+    fn from(refusal: Refusal) -> ComponentRange {
+        let (name, conditional) = match refusal {
+            Refusal::Year => ("year", false),
+            Refusal::Month => ("month", false),
+            Refusal::Day => ("day", false),
+            Refusal::DayOfMonth => ("day", true),
+            Refusal::Ordinal => ("ordinal", false),
+            Refusal::OrdinalOfYear => ("ordinal", true),
+            Refusal::Week => ("week", false),
+            Refusal::WeekOfYear => ("week", true),
+            Refusal::Weekday => ("weekday", false),
+            Refusal::Hour => ("hour", false),
+            Refusal::Minute => ("minute", false),
+            Refusal::Second => ("second", false),
+            Refusal::Nanosecond => ("nanosecond", false),
+            Refusal::OffsetHour => ("hours", false),
+            Refusal::OffsetMinute => ("minutes", false),
+            Refusal::OffsetSeconds => ("seconds", false),
+            Refusal::DayNumber => ("julian_day", false),
+            Refusal::Result => ("year", true),
+            _ => ("timestamp", false),
+        };
+        ComponentRange::new(name, conditional)
+    }
+}
+
+/// A length of time that the other type does not hold.
+///
+/// ```
+/// use core::time::Duration;
+/// use muxandu::SignedDuration;
+/// use muxandu::error::ConversionRange;
+///
+/// assert_eq!(Duration::try_from(SignedDuration::seconds(-1)), Err(ConversionRange));
+/// ```
+#[derive(Clone, Copy, Debug, PartialEq, Eq, Hash)]
+pub struct ConversionRange;
+
+impl fmt::Display for ConversionRange {
+    fn fmt(&self, f: &mut fmt::Formatter<'_>) -> fmt::Result {
+        f.write_str("the other type does not hold this length of time")
+    }
+}
+
+impl core::error::Error for ConversionRange {}
+
+/// A text that names no month or no day of the week.
+///
+/// ```
+/// assert_eq!("May".parse(), Ok(muxandu::Month::May));
+/// assert_eq!("may".parse::<muxandu::Month>(), Err(muxandu::error::InvalidVariant));
+/// ```
+#[derive(Clone, Copy, Debug, PartialEq, Eq, Hash)]
+pub struct InvalidVariant;
+
+impl fmt::Display for InvalidVariant {
+    fn fmt(&self, f: &mut fmt::Formatter<'_>) -> fmt::Result {
+        f.write_str("no such name")
+    }
+}
+
+impl core::error::Error for InvalidVariant {}
+
+/// Any of the refusals of the crate.
+///
+/// ```
+/// use muxandu::{Date, Month, UtcDateTime};
+///
+/// fn midnight(year: i32, month: &str) -> Result<UtcDateTime, muxandu::Error> {
+///     let first = Date::from_calendar_date(year, month.parse::<Month>()?, 1)?;
+///     Ok(first.midnight().as_utc())
+/// }
+///
+/// assert_eq!(midnight(1_000_000, "May").unwrap_err().to_string(), "year is out of its range");
+/// ```
+#[derive(Clone, Copy, Debug, PartialEq, Eq, Hash)]
+#[non_exhaustive]
+#[allow(missing_docs)]
+pub enum Error {
+    ComponentRange(ComponentRange),
+    ConversionRange(ConversionRange),
+    InvalidVariant(InvalidVariant),
+    Refusal(Refusal),
+}
+
+macro_rules! kinds {
+    ($($Kind:ident)+) => {
+        $(
+            impl From<$Kind> for Error {
+                fn from(refused: $Kind) -> Error {
+                    Error::$Kind(refused)
+                }
+            }
+        )+
+
+        impl fmt::Display for Error {
+            fn fmt(&self, f: &mut fmt::Formatter<'_>) -> fmt::Result {
+                match self {
+                    $(Error::$Kind(refused) => refused.fmt(f),)+
+                }
+            }
+        }
+
+        impl core::error::Error for Error {
+            fn source(&self) -> Option<&(dyn core::error::Error + 'static)> {
+                match self {
+                    $(Error::$Kind(refused) => Some(refused),)+
+                }
+            }
+        }
+    };
+}
+
+kinds! { ComponentRange ConversionRange InvalidVariant Refusal }

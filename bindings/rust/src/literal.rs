@@ -1,0 +1,429 @@
+//! The forms of dates and times in the literals of the macros, read when a program is compiled; whether they are dates and
+//! times the library says when they are first used. No part of this module is promised.
+
+use crate::{
+    Date, OffsetDateTime, PlainDateTime, Refusal, Time, Timestamp, UtcDateTime, UtcOffset,
+};
+use crate::{Weekday, sys};
+
+macro_rules! some {
+    ($option:expr) => {
+        match $option {
+            Some(value) => value,
+            None => return None,
+        }
+    };
+}
+
+/// A number without a sign, and how many digits it has.
+#[derive(Clone, Copy)]
+struct Number {
+    value: u64,
+    digits: u32,
+}
+
+impl Number {
+    /// The number, or 255 for a greater one, which no part has.
+    const fn part(self) -> u8 {
+        if self.value > 255 {
+            255
+        } else {
+            self.value as u8
+        }
+    }
+}
+
+/// What is left of a text.
+#[derive(Clone, Copy)]
+struct Rest<'a> {
+    bytes: &'a [u8],
+    at: usize,
+}
+
+impl<'a> Rest<'a> {
+    const fn new(text: &'a str) -> Rest<'a> {
+        Rest {
+            bytes: text.as_bytes(),
+            at: 0,
+        }
+    }
+
+    /// The next byte, spaces left out, and 0 at the end.
+    const fn next(&mut self) -> u8 {
+        while self.at < self.bytes.len() && self.bytes[self.at].is_ascii_whitespace() {
+            self.at += 1;
+        }
+        if self.at < self.bytes.len() {
+            self.bytes[self.at]
+        } else {
+            0
+        }
+    }
+
+    const fn is_at_end(&mut self) -> bool {
+        self.next() == 0
+    }
+
+    /// Whether the next byte is this one, which is then taken.
+    const fn takes(&mut self, byte: u8) -> bool {
+        let is = self.next() == byte;
+        if is {
+            self.at += 1;
+        }
+        is
+    }
+
+    /// Digits, with `_` between them.
+    const fn number(&mut self) -> Option<Number> {
+        if !self.next().is_ascii_digit() {
+            return None;
+        }
+        let mut number = Number {
+            value: 0,
+            digits: 0,
+        };
+        while self.at < self.bytes.len() {
+            let byte = self.bytes[self.at];
+            if byte.is_ascii_digit() {
+                if number.digits == 18 {
+                    return None;
+                }
+                number.value = number.value * 10 + (byte - b'0') as u64;
+                number.digits += 1;
+            } else if byte != b'_' {
+                break;
+            }
+            self.at += 1;
+        }
+        Some(number)
+    }
+
+    /// The nanoseconds of the digits after a point, if one is next.
+    const fn fraction(&mut self) -> Option<u32> {
+        if !self.takes(b'.') {
+            return Some(0);
+        }
+        let number = some!(self.number());
+        if number.digits > 9 {
+            return None;
+        }
+        let mut nanosecond = number.value;
+        let mut digits = number.digits;
+        while digits < 9 {
+            nanosecond *= 10;
+            digits += 1;
+        }
+        Some(nanosecond as u32)
+    }
+
+    const fn date(&mut self) -> Option<DateLiteral> {
+        let is_negative = self.takes(b'-');
+        if !is_negative {
+            self.takes(b'+');
+        }
+        let number = some!(self.number());
+        if number.value > 9_999_999 {
+            return None;
+        }
+        let year = if is_negative {
+            -(number.value as i32)
+        } else {
+            number.value as i32
+        };
+        if !self.takes(b'-') {
+            return None;
+        }
+        if self.takes(b'W') {
+            let week = some!(self.number()).part();
+            if !self.takes(b'-') {
+                return None;
+            }
+            return Some(DateLiteral::Week(year, week, some!(self.number()).part()));
+        }
+        let second = some!(self.number());
+        if self.takes(b'-') {
+            return Some(DateLiteral::Calendar(
+                year,
+                second.part(),
+                some!(self.number()).part(),
+            ));
+        }
+        let ordinal = if second.value > 999 {
+            999
+        } else {
+            second.value as u16
+        };
+        Some(DateLiteral::Ordinal(year, ordinal))
+    }
+
+    const fn time(&mut self) -> Option<TimeLiteral> {
+        let hour = some!(self.number()).part();
+        if !self.takes(b':') {
+            return None;
+        }
+        let minute = some!(self.number()).part();
+        let mut time = TimeLiteral {
+            hour,
+            minute,
+            second: 0,
+            nanosecond: 0,
+        };
+        if self.takes(b':') {
+            time.second = some!(self.number()).part();
+            time.nanosecond = some!(self.fraction());
+        }
+        Some(time)
+    }
+
+    const fn offset(&mut self) -> Option<OffsetLiteral> {
+        if self.takes(b'U') {
+            let is_utc = self.takes(b'T') && self.takes(b'C');
+            return if is_utc {
+                Some(OffsetLiteral {
+                    is_negative: false,
+                    parts: [0; 3],
+                })
+            } else {
+                None
+            };
+        }
+        let is_negative = self.takes(b'-');
+        if !is_negative && !self.takes(b'+') {
+            return None;
+        }
+        let mut parts = [some!(self.number()).part(), 0, 0];
+        if self.takes(b':') {
+            parts[1] = some!(self.number()).part();
+            if self.takes(b':') {
+                parts[2] = some!(self.number()).part();
+            }
+        }
+        Some(OffsetLiteral { is_negative, parts })
+    }
+
+    const fn timestamp(&mut self) -> Option<TimestampLiteral> {
+        let is_negative = self.takes(b'-');
+        if !is_negative {
+            self.takes(b'+');
+        }
+        let number = some!(self.number());
+        let nanosecond = some!(self.fraction());
+        let seconds = number.value as i64;
+        Some(match (is_negative, nanosecond) {
+            (false, _) => TimestampLiteral {
+                seconds,
+                nanosecond,
+            },
+            (true, 0) => TimestampLiteral {
+                seconds: -seconds,
+                nanosecond,
+            },
+            (true, _) => TimestampLiteral {
+                seconds: -seconds - 1,
+                nanosecond: 1_000_000_000 - nanosecond,
+            },
+        })
+    }
+}
+
+/// The parts of a date.
+#[derive(Clone, Copy)]
+pub enum DateLiteral {
+    /// A year, a month and a day of the month.
+    Calendar(i32, u8, u8),
+    /// A year and a day of the year.
+    Ordinal(i32, u16),
+    /// An ISO year, an ISO week, and a day of the week, 1 for Monday.
+    Week(i32, u8, u8),
+}
+
+/// The parts of a time of day.
+#[derive(Clone, Copy)]
+pub struct TimeLiteral {
+    hour: u8,
+    minute: u8,
+    second: u8,
+    nanosecond: u32,
+}
+
+/// The parts of an offset.
+#[derive(Clone, Copy)]
+pub struct OffsetLiteral {
+    is_negative: bool,
+    parts: [u8; 3],
+}
+
+/// The parts of a date and a time of day.
+#[derive(Clone, Copy)]
+pub struct PlainLiteral {
+    date: DateLiteral,
+    time: TimeLiteral,
+}
+
+/// The parts of a date and a time of day at an offset.
+#[derive(Clone, Copy)]
+pub struct DateTimeLiteral {
+    plain: PlainLiteral,
+    offset: OffsetLiteral,
+}
+
+/// The parts of a timestamp.
+#[derive(Clone, Copy)]
+pub struct TimestampLiteral {
+    seconds: i64,
+    nanosecond: u32,
+}
+
+const fn ended<T: Copy>(mut rest: Rest<'_>, value: T) -> Option<T> {
+    if rest.is_at_end() { Some(value) } else { None }
+}
+
+#[must_use]
+pub const fn date(text: &str) -> Option<DateLiteral> {
+    let mut rest = Rest::new(text);
+    let date = some!(rest.date());
+    ended(rest, date)
+}
+
+#[must_use]
+pub const fn time(text: &str) -> Option<TimeLiteral> {
+    let mut rest = Rest::new(text);
+    let time = some!(rest.time());
+    ended(rest, time)
+}
+
+#[must_use]
+pub const fn offset(text: &str) -> Option<OffsetLiteral> {
+    let mut rest = Rest::new(text);
+    let offset = some!(rest.offset());
+    ended(rest, offset)
+}
+
+#[must_use]
+pub const fn plain(text: &str) -> Option<PlainLiteral> {
+    let mut rest = Rest::new(text);
+    let date = some!(rest.date());
+    let time = some!(rest.time());
+    ended(rest, PlainLiteral { date, time })
+}
+
+#[must_use]
+pub const fn date_time(text: &str) -> Option<DateTimeLiteral> {
+    let mut rest = Rest::new(text);
+    let date = some!(rest.date());
+    let time = some!(rest.time());
+    let offset = some!(rest.offset());
+    ended(
+        rest,
+        DateTimeLiteral {
+            plain: PlainLiteral { date, time },
+            offset,
+        },
+    )
+}
+
+#[must_use]
+pub const fn timestamp(text: &str) -> Option<TimestampLiteral> {
+    let mut rest = Rest::new(text);
+    let timestamp = some!(rest.timestamp());
+    ended(rest, timestamp)
+}
+
+/// The literal, or the end of the compilation.
+#[track_caller]
+pub const fn of_form<T: Copy>(literal: Option<T>, message: &str) -> T {
+    match literal {
+        Some(literal) => literal,
+        None => panic!("{}", message),
+    }
+}
+
+#[cold]
+#[track_caller]
+fn refused(refusal: Refusal) -> ! {
+    panic!("the literal is refused: {refusal}")
+}
+
+macro_rules! values {
+    ($($Literal:ident => $Value:ident,)+) => {
+        $(
+            impl $Literal {
+                /// The value, or a panic that says what is refused.
+                #[must_use]
+                #[track_caller]
+                pub fn value(self) -> $Value {
+                    self.tested().unwrap_or_else(|refusal| refused(refusal))
+                }
+            }
+        )+
+    };
+}
+
+values! {
+    DateLiteral => Date,
+    TimeLiteral => Time,
+    OffsetLiteral => UtcOffset,
+    PlainLiteral => PlainDateTime,
+    DateTimeLiteral => OffsetDateTime,
+    TimestampLiteral => Timestamp,
+}
+
+impl DateLiteral {
+    pub(crate) fn tested(self) -> Result<Date, Refusal> {
+        match self {
+            DateLiteral::Calendar(year, month, day) => {
+                Date::tested(sys::MuxanduDate { year, month, day })
+            }
+            DateLiteral::Ordinal(year, ordinal) => Date::tested_ordinal(year, ordinal),
+            DateLiteral::Week(year, week, number) => match number {
+                1..=7 => Date::tested_week(year, week, Weekday::numbered(number - 1)),
+                _ => Err(Refusal::Weekday),
+            },
+        }
+    }
+}
+
+impl TimeLiteral {
+    pub(crate) fn tested(self) -> Result<Time, Refusal> {
+        Time::tested(self.hour, self.minute, self.second, self.nanosecond)
+    }
+}
+
+impl OffsetLiteral {
+    pub(crate) fn tested(self) -> Result<UtcOffset, Refusal> {
+        let [hours, minutes, seconds] = self.parts.map(|part| {
+            let part = i8::try_from(part).unwrap_or(i8::MAX);
+            if self.is_negative { -part } else { part }
+        });
+        UtcOffset::tested(sys::MuxanduOffset {
+            hours,
+            minutes,
+            seconds,
+        })
+    }
+}
+
+impl PlainLiteral {
+    pub(crate) fn tested(self) -> Result<PlainDateTime, Refusal> {
+        Ok(PlainDateTime::new(self.date.tested()?, self.time.tested()?))
+    }
+
+    /// The value in UTC, or a panic that says what is refused.
+    #[must_use]
+    #[track_caller]
+    pub fn value_in_utc(self) -> UtcDateTime {
+        self.value().as_utc()
+    }
+}
+
+impl DateTimeLiteral {
+    pub(crate) fn tested(self) -> Result<OffsetDateTime, Refusal> {
+        Ok(self.plain.tested()?.assume_offset(self.offset.tested()?))
+    }
+}
+
+impl TimestampLiteral {
+    pub(crate) fn tested(self) -> Result<Timestamp, Refusal> {
+        Timestamp::tested(self.seconds, self.nanosecond)
+    }
+}

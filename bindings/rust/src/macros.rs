@@ -1,0 +1,123 @@
+//! Literals of dates and times, in the forms that `time`'s macros take.
+//!
+//! What is no literal does not compile. Whether a literal is a date or a time the library says when it is first used, and a
+//! literal that it refuses, as `date!(2023-02-29)`, panics. A literal is no constant expression.
+//!
+//! ```
+//! use muxandu::macros::{date, datetime, offset, time, timestamp, utc_datetime};
+//!
+//! assert_eq!(date!(2024-060), date!(2024-02-29));
+//! assert_eq!(date!(2024-W09-4), date!(2024-02-29));
+//! assert_eq!(datetime!(2024-02-29 1:02:03.5), date!(2024-02-29).with_time(time!(1:02:03.500)));
+//! assert_eq!(datetime!(2024-02-29 1:02 +1), datetime!(2024-02-29 1:02).assume_offset(offset!(+1:00)));
+//! assert_eq!(timestamp!(-0.5), utc_datetime!(1969-12-31 23:59:59.5));
+//! ```
+
+pub use crate::{date, datetime, offset, time, timestamp, utc_datetime};
+
+/// A [`Date`](crate::Date): `date!(2024-02-29)`, `date!(2024-060)` or `date!(2024-W09-4)`.
+#[macro_export]
+macro_rules! date {
+    ($($token:tt)+) => {{
+        const LITERAL: $crate::literal::DateLiteral = $crate::literal::of_form(
+            $crate::literal::date(::core::stringify!($($token)+)),
+            ::core::concat!("no date: ", ::core::stringify!($($token)+)),
+        );
+        LITERAL.value()
+    }};
+}
+
+/// A [`Time`](crate::Time): `time!(1:02)`, `time!(1:02:03)` or `time!(1:02:03.004)`.
+#[macro_export]
+macro_rules! time {
+    ($($token:tt)+) => {{
+        const LITERAL: $crate::literal::TimeLiteral = $crate::literal::of_form(
+            $crate::literal::time(::core::stringify!($($token)+)),
+            ::core::concat!("no time of day: ", ::core::stringify!($($token)+)),
+        );
+        LITERAL.value()
+    }};
+}
+
+/// A [`UtcOffset`](crate::UtcOffset): `offset!(UTC)`, `offset!(+1)`, `offset!(-1:30)` or `offset!(+1:02:03)`.
+#[macro_export]
+macro_rules! offset {
+    ($($token:tt)+) => {{
+        const LITERAL: $crate::literal::OffsetLiteral = $crate::literal::of_form(
+            $crate::literal::offset(::core::stringify!($($token)+)),
+            ::core::concat!("no offset: ", ::core::stringify!($($token)+)),
+        );
+        LITERAL.value()
+    }};
+}
+
+/// A [`Timestamp`](crate::Timestamp), in seconds: `timestamp!(1_546_398_245)` or `timestamp!(-0.5)`.
+#[macro_export]
+macro_rules! timestamp {
+    ($($token:tt)+) => {{
+        const LITERAL: $crate::literal::TimestampLiteral = $crate::literal::of_form(
+            $crate::literal::timestamp(::core::stringify!($($token)+)),
+            ::core::concat!("no timestamp: ", ::core::stringify!($($token)+)),
+        );
+        LITERAL.value()
+    }};
+}
+
+/// A [`UtcDateTime`](crate::UtcDateTime): `utc_datetime!(2024-02-29 1:02:03)`.
+#[macro_export]
+macro_rules! utc_datetime {
+    ($($token:tt)+) => {{
+        const LITERAL: $crate::literal::PlainLiteral = $crate::literal::of_form(
+            $crate::literal::plain(::core::stringify!($($token)+)),
+            ::core::concat!("no date and time of day: ", ::core::stringify!($($token)+)),
+        );
+        LITERAL.value_in_utc()
+    }};
+}
+
+/// A [`PlainDateTime`](crate::PlainDateTime), `datetime!(2024-02-29 1:02:03)`, or with an offset an
+/// [`OffsetDateTime`](crate::OffsetDateTime), `datetime!(2024-02-29 1:02:03 -5)` or `datetime!(2024-02-29 1:02:03 UTC)`.
+#[macro_export]
+macro_rules! datetime {
+    ($($token:tt)+) => {
+        $crate::__datetime_before_time!((::core::stringify!($($token)+)) $($token)+)
+    };
+}
+
+/// Goes to the first `:`, which is that of the time of day.
+#[doc(hidden)]
+#[macro_export]
+macro_rules! __datetime_before_time {
+    ($text:tt : $($rest:tt)+) => { $crate::__datetime_after_date!($text $($rest)+) };
+    ($text:tt $skipped:tt $($rest:tt)*) => { $crate::__datetime_before_time!($text $($rest)*) };
+    ($text:tt) => { ::core::compile_error!(::core::concat!("no date and time of day: ", $text)) };
+}
+
+/// Looks for an offset after the time of day.
+#[doc(hidden)]
+#[macro_export]
+macro_rules! __datetime_after_date {
+    (($text:expr)) => {{
+        const LITERAL: $crate::literal::PlainLiteral = $crate::literal::of_form(
+            $crate::literal::plain($text),
+            ::core::concat!("no date and time of day: ", $text),
+        );
+        LITERAL.value()
+    }};
+    (($text:expr) + $($rest:tt)+) => { $crate::__datetime_at_offset!($text) };
+    (($text:expr) - $($rest:tt)+) => { $crate::__datetime_at_offset!($text) };
+    (($text:expr) UTC) => { $crate::__datetime_at_offset!($text) };
+    ($text:tt $skipped:tt $($rest:tt)*) => { $crate::__datetime_after_date!($text $($rest)*) };
+}
+
+#[doc(hidden)]
+#[macro_export]
+macro_rules! __datetime_at_offset {
+    ($text:expr) => {{
+        const LITERAL: $crate::literal::DateTimeLiteral = $crate::literal::of_form(
+            $crate::literal::date_time($text),
+            ::core::concat!("no date, time of day and offset: ", $text),
+        );
+        LITERAL.value()
+    }};
+}

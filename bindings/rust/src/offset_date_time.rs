@@ -1,0 +1,348 @@
+use core::cmp::Ordering;
+use core::fmt;
+use core::hash::{Hash, Hasher};
+use core::ops::Sub;
+use core::str::FromStr;
+
+use crate::sys::{self, MuxanduDateTime, MuxanduDuration};
+use crate::{Date, PlainDateTime, Refusal, Result, SignedDuration, Text, Time, Timestamp, Unit};
+use crate::{UtcDateTime, UtcOffset, spelled};
+
+/// What clocks at an offset from UTC show: a date, a time of day, and the offset.
+///
+/// They compare by their instants: 1:00 at an offset of an hour equals 0:00 in UTC.
+///
+/// ```
+/// use muxandu::OffsetDateTime;
+/// use muxandu::macros::{datetime, offset};
+///
+/// let at = datetime!(2024-02-29 13:34:56 +1);
+/// assert_eq!(at, datetime!(2024-02-29 12:34:56 UTC));
+/// assert_eq!(at.to_offset(offset!(-13)).day(), 28);
+/// assert_eq!(at.to_string(), "2024-02-29 13:34:56.0 +01:00:00");
+/// assert_eq!("2024-02-29 13:34:56.0 +01:00:00".parse(), Ok(at));
+/// assert_eq!("2024-02-29T13:34:56+01:00".parse(), Ok(at));
+/// ```
+#[derive(Clone, Copy)]
+#[repr(transparent)]
+pub struct OffsetDateTime(pub(crate) MuxanduDateTime);
+
+impl OffsetDateTime {
+    /// 1970-01-01 0:00 in UTC.
+    pub const UNIX_EPOCH: OffsetDateTime = UtcDateTime::UNIX_EPOCH.at_offset_0();
+
+    /// What clocks at an offset show.
+    #[must_use]
+    pub const fn new_in_offset(date: Date, time: Time, offset: UtcOffset) -> OffsetDateTime {
+        PlainDateTime::new(date, time).assume_offset(offset)
+    }
+
+    /// What clocks in UTC show.
+    #[must_use]
+    pub const fn new_utc(date: Date, time: Time) -> OffsetDateTime {
+        PlainDateTime::new(date, time).assume_utc()
+    }
+
+    /// What clocks in UTC show at a Unix second.
+    ///
+    /// # Errors
+    ///
+    /// `timestamp` outside the range.
+    pub fn from_unix_timestamp(timestamp: i64) -> Result<OffsetDateTime> {
+        Ok(UtcDateTime::from_unix_timestamp(timestamp)?.at_offset_0())
+    }
+
+    /// What clocks in UTC show so many nanoseconds from 1970-01-01 0:00 UTC.
+    ///
+    /// # Errors
+    ///
+    /// `timestamp` outside the range.
+    pub fn from_unix_timestamp_nanos(timestamp: i128) -> Result<OffsetDateTime> {
+        Ok(UtcDateTime::from_unix_timestamp_nanos(timestamp)?.at_offset_0())
+    }
+
+    /// What clocks at another offset show at the same instant.
+    ///
+    /// # Panics
+    ///
+    /// They show a year outside the range.
+    #[must_use]
+    #[track_caller]
+    pub fn to_offset(self, offset: UtcOffset) -> OffsetDateTime {
+        self.checked_to_offset(offset)
+            .expect("a year of the range at the offset")
+    }
+
+    /// What clocks at another offset show at the same instant, if the range has it.
+    #[must_use]
+    pub fn checked_to_offset(self, offset: UtcOffset) -> Option<OffsetDateTime> {
+        let mut out = self;
+        let status = sys::muxandu_date_time_to_offset(self.0, offset.whole_seconds(), &mut out.0);
+        (status == sys::OK).then_some(out)
+    }
+
+    /// The instant.
+    ///
+    /// # Panics
+    ///
+    /// Clocks in UTC show a year outside the range.
+    #[must_use]
+    #[track_caller]
+    pub fn to_utc(self) -> UtcDateTime {
+        self.checked_to_utc().expect("a year of the range in UTC")
+    }
+
+    /// The instant, if the range has it.
+    #[must_use]
+    pub fn checked_to_utc(self) -> Option<UtcDateTime> {
+        Some(UtcDateTime(self.checked_to_offset(UtcOffset::UTC)?.0))
+    }
+
+    /// The duration from 1970-01-01 0:00 UTC, also to an instant that clocks in UTC do not show in the range.
+    fn since_1970(self) -> SignedDuration {
+        self - OffsetDateTime::UNIX_EPOCH
+    }
+
+    /// The Unix second, rounded down.
+    #[must_use]
+    pub fn unix_timestamp(self) -> i64 {
+        if let Some(at) = self.checked_to_timestamp() {
+            return at.as_seconds();
+        }
+        let duration = self.since_1970();
+        duration.whole_seconds() - i64::from(duration.subsec_nanoseconds() < 0)
+    }
+
+    /// The nanoseconds from 1970-01-01 0:00 UTC.
+    #[must_use]
+    pub fn unix_timestamp_nanos(self) -> i128 {
+        match self.checked_to_timestamp() {
+            Some(at) => at.as_nanoseconds(),
+            None => self.since_1970().whole_nanoseconds(),
+        }
+    }
+
+    /// The offset.
+    #[must_use]
+    pub const fn offset(self) -> UtcOffset {
+        UtcOffset::of(self.0.offset_seconds)
+    }
+
+    pub(crate) const fn date_time(self) -> PlainDateTime {
+        PlainDateTime(MuxanduDateTime {
+            offset_seconds: 0,
+            ..self.0
+        })
+    }
+
+    /// The date that the clocks show.
+    #[must_use]
+    pub const fn date(self) -> Date {
+        self.date_time().date()
+    }
+
+    /// The time of day that the clocks show.
+    #[must_use]
+    pub const fn time(self) -> Time {
+        self.date_time().time()
+    }
+
+    /// The nanosecond of the second, 0 to 999,999,999.
+    #[must_use]
+    pub const fn nanosecond(self) -> u32 {
+        self.0.nanosecond
+    }
+
+    /// The days from 1970-01-01 to the date that the clocks show.
+    #[must_use]
+    pub fn day_number(self) -> i32 {
+        let mut number = 0;
+        sure!(sys::muxandu_date_time_day(self.0, &mut number));
+        number
+    }
+
+    /// Another date and time of day at the same offset.
+    #[must_use]
+    pub const fn replace_date_time(self, date_time: PlainDateTime) -> OffsetDateTime {
+        date_time.assume_offset(self.offset())
+    }
+
+    /// The same date and time of day at another offset, which is another instant.
+    #[must_use]
+    pub const fn replace_offset(self, offset: UtcOffset) -> OffsetDateTime {
+        self.date_time().assume_offset(offset)
+    }
+
+    /// The same date and offset at another time of day.
+    #[must_use]
+    pub const fn replace_time(self, time: Time) -> OffsetDateTime {
+        self.replace_date_time(self.date_time().replace_time(time))
+    }
+
+    /// The same time of day and offset on another date.
+    #[must_use]
+    pub const fn replace_date(self, date: Date) -> OffsetDateTime {
+        self.replace_date_time(self.date_time().replace_date(date))
+    }
+
+    /// Rounded down to a unit, as the clocks show it.
+    #[must_use]
+    pub fn truncated_to(self, unit: Unit) -> OffsetDateTime {
+        let mut out = self;
+        sure!(sys::muxandu_date_time_truncate(
+            self.0,
+            unit.number(),
+            &mut out.0
+        ));
+        out
+    }
+
+    /// 0:00 on the same date at the same offset.
+    #[must_use]
+    pub const fn truncate_to_day(self) -> OffsetDateTime {
+        self.replace_time(Time::MIDNIGHT)
+    }
+
+    /// Whether both show the same at the same offset, not only the same instant.
+    #[must_use]
+    pub fn is_same(self, other: OffsetDateTime) -> bool {
+        self.0 == other.0
+    }
+
+    /// The instant, if the range has it.
+    #[must_use]
+    pub fn checked_to_timestamp(self) -> Option<Timestamp> {
+        let mut out = Timestamp::UNIX_EPOCH;
+        let status = sys::muxandu_timestamp_from_date_time(self.0, &mut out.0);
+        (status == sys::OK).then_some(out)
+    }
+
+    /// The shortest text of RFC 3339: `1996-12-19T16:39:57-08:00`.
+    ///
+    /// # Errors
+    ///
+    /// [`Refusal::NoText`] outside the years 0 to 9999, and where the offset has seconds or is of 24 hours or more.
+    pub fn to_rfc3339(self) -> core::result::Result<Text, Refusal> {
+        // SAFETY: the pointer and the room are those of one place, and nothing else reaches it.
+        Text::written(|place, room, size| unsafe {
+            sys::muxandu_date_time_to_rfc3339(self.0, place, room, size)
+        })
+    }
+
+    /// Reads a text of RFC 3339, as `1996-12-19T16:39:57-08:00`.
+    ///
+    /// # Errors
+    ///
+    /// [`Refusal::Syntax`] for another form, else the first part from the left that is out of its range.
+    pub fn from_rfc3339(text: impl AsRef<[u8]>) -> core::result::Result<OffsetDateTime, Refusal> {
+        let text = text.as_ref();
+        let mut out = OffsetDateTime::UNIX_EPOCH;
+        // SAFETY: the pointer and the count are those of one text.
+        Refusal::test(unsafe {
+            sys::muxandu_date_time_from_rfc3339(text.as_ptr(), text.len(), &mut out.0)
+        })?;
+        Ok(out)
+    }
+
+    pub(crate) fn spelled(self) -> Text {
+        // SAFETY: the pointer and the room are those of one place, and nothing else reaches it.
+        let text = Text::written(|place, room, size| unsafe {
+            sys::muxandu_date_time_text(self.0, place, room, size)
+        });
+        text.expect("a date-time has a text")
+    }
+}
+
+date_reads!(OffsetDateTime, " that the clocks show", const);
+time_reads!(
+    OffsetDateTime,
+    " that the clocks show",
+    to_hms,
+    to_hms_milli,
+    to_hms_micro,
+    to_hms_nano,
+    const
+);
+fraction_reads!(OffsetDateTime, const);
+sums!(
+    OffsetDateTime,
+    muxandu_date_time_add,
+    muxandu_date_time_subtract,
+    muxandu_date_time_saturating_add,
+    muxandu_date_time_saturating_subtract
+);
+date_replacements!(OffsetDateTime);
+time_replacements!(OffsetDateTime);
+truncations!(OffsetDateTime);
+debug_as_display!(OffsetDateTime);
+
+impl Default for OffsetDateTime {
+    fn default() -> OffsetDateTime {
+        OffsetDateTime::UNIX_EPOCH
+    }
+}
+
+/// The duration from the instant of the second to that of the first.
+impl Sub for OffsetDateTime {
+    type Output = SignedDuration;
+
+    fn sub(self, earlier: OffsetDateTime) -> SignedDuration {
+        let mut out = MuxanduDuration::default();
+        sure!(sys::muxandu_date_time_difference(
+            self.0, earlier.0, &mut out
+        ));
+        SignedDuration::given(out)
+    }
+}
+
+impl Ord for OffsetDateTime {
+    fn cmp(&self, other: &OffsetDateTime) -> Ordering {
+        if self.0.offset_seconds == other.0.offset_seconds {
+            return self.date_time().cmp(&other.date_time());
+        }
+        let mut order = 0;
+        sure!(sys::muxandu_date_time_compare(self.0, other.0, &mut order));
+        order.cmp(&0)
+    }
+}
+
+impl PartialOrd for OffsetDateTime {
+    fn partial_cmp(&self, other: &OffsetDateTime) -> Option<Ordering> {
+        Some(self.cmp(other))
+    }
+}
+
+impl PartialEq for OffsetDateTime {
+    fn eq(&self, other: &OffsetDateTime) -> bool {
+        self.cmp(other).is_eq()
+    }
+}
+
+impl Eq for OffsetDateTime {}
+
+/// By the instant, as the equality.
+impl Hash for OffsetDateTime {
+    fn hash<H: Hasher>(&self, state: &mut H) {
+        self.since_1970().hash(state);
+    }
+}
+
+/// As `2024-02-29 1:02:03.0 +01:00:00`.
+impl fmt::Display for OffsetDateTime {
+    fn fmt(&self, f: &mut fmt::Formatter<'_>) -> fmt::Result {
+        f.pad(&self.spelled())
+    }
+}
+
+/// Reads what `Display` writes, and texts of RFC 3339, as `1996-12-19T16:39:57-08:00`.
+impl FromStr for OffsetDateTime {
+    type Err = Refusal;
+
+    fn from_str(text: &str) -> core::result::Result<OffsetDateTime, Refusal> {
+        let literal = crate::literal::date_time(text);
+        match spelled::read(text, literal.map(|literal| literal.tested())) {
+            Err(Refusal::Syntax) => OffsetDateTime::from_rfc3339(text),
+            answer => answer,
+        }
+    }
+}

@@ -1,0 +1,606 @@
+use core::cmp::Ordering;
+use core::fmt;
+use core::iter::Sum;
+use core::ops::{Add, AddAssign, Div, Mul, Neg, Sub, SubAssign};
+use core::str::FromStr;
+use core::time::Duration;
+
+use crate::error::ConversionRange;
+use crate::sys::MuxanduDuration;
+use crate::{Refusal, spelled};
+
+const PER_SECOND: i128 = 1_000_000_000;
+
+/// A length of time, forwards or back: seconds, and nanoseconds of the same sign.
+///
+/// ```
+/// use muxandu::SignedDuration;
+/// use muxandu::ext::NumericalDuration as _;
+///
+/// assert_eq!(SignedDuration::new(1, -1), SignedDuration::nanoseconds(999_999_999));
+/// assert_eq!(90.minutes() - 1.days(), SignedDuration::seconds(-81_000));
+/// assert_eq!((-90).minutes().to_string(), "-1h30m");
+/// assert_eq!("-1h30m".parse(), Ok((-90).minutes()));
+/// ```
+#[derive(Clone, Copy, Default, PartialEq, Eq, PartialOrd, Ord, Hash)]
+pub struct SignedDuration {
+    seconds: i64,
+    nanoseconds: i32,
+}
+
+macro_rules! units {
+    ($($(#[doc = $doc:literal])+ $make:ident, $whole_doc:literal $whole:ident, $seconds:literal;)+) => {
+        impl SignedDuration {
+            $(
+                $(#[doc = $doc])+
+                ///
+                /// # Panics
+                ///
+                /// 64 bits do not hold its seconds.
+                #[must_use]
+                #[track_caller]
+                pub const fn $make(count: i64) -> SignedDuration {
+                    match count.checked_mul($seconds) {
+                        Some(seconds) => SignedDuration::seconds(seconds),
+                        None => panic!("64 bits hold the seconds of the duration"),
+                    }
+                }
+
+                #[doc = $whole_doc]
+                #[must_use]
+                pub const fn $whole(self) -> i64 {
+                    self.seconds / $seconds
+                }
+            )+
+        }
+    };
+}
+
+units! {
+    /// So many weeks.
+    weeks, "The whole weeks, towards zero." whole_weeks, 604_800;
+    /// So many days of 24 hours.
+    days, "The whole days of 24 hours, towards zero." whole_days, 86_400;
+    /// So many hours.
+    hours, "The whole hours, towards zero." whole_hours, 3_600;
+    /// So many minutes.
+    minutes, "The whole minutes, towards zero." whole_minutes, 60;
+}
+
+impl SignedDuration {
+    /// No time at all.
+    pub const ZERO: SignedDuration = SignedDuration::seconds(0);
+
+    /// The least duration.
+    pub const MIN: SignedDuration = SignedDuration::of(i64::MIN, -999_999_999);
+
+    /// The greatest duration.
+    pub const MAX: SignedDuration = SignedDuration::of(i64::MAX, 999_999_999);
+
+    /// One nanosecond.
+    pub const NANOSECOND: SignedDuration = SignedDuration::nanoseconds(1);
+
+    /// One microsecond.
+    pub const MICROSECOND: SignedDuration = SignedDuration::microseconds(1);
+
+    /// One millisecond.
+    pub const MILLISECOND: SignedDuration = SignedDuration::milliseconds(1);
+
+    /// One second.
+    pub const SECOND: SignedDuration = SignedDuration::seconds(1);
+
+    /// One minute.
+    pub const MINUTE: SignedDuration = SignedDuration::minutes(1);
+
+    /// One hour.
+    pub const HOUR: SignedDuration = SignedDuration::hours(1);
+
+    /// One day of 24 hours.
+    pub const DAY: SignedDuration = SignedDuration::days(1);
+
+    /// One week.
+    pub const WEEK: SignedDuration = SignedDuration::weeks(1);
+
+    const fn of(seconds: i64, nanoseconds: i32) -> SignedDuration {
+        SignedDuration {
+            seconds,
+            nanoseconds,
+        }
+    }
+
+    /// So many seconds and nanoseconds together, of any signs.
+    ///
+    /// # Panics
+    ///
+    /// 64 bits do not hold the seconds of the sum.
+    #[must_use]
+    #[track_caller]
+    pub const fn new(seconds: i64, nanoseconds: i32) -> SignedDuration {
+        let whole = seconds as i128 * PER_SECOND + nanoseconds as i128;
+        match SignedDuration::of_nanoseconds(whole) {
+            Some(duration) => duration,
+            None => panic!("64 bits hold the seconds of the duration"),
+        }
+    }
+
+    /// So many seconds.
+    #[must_use]
+    pub const fn seconds(seconds: i64) -> SignedDuration {
+        SignedDuration::of(seconds, 0)
+    }
+
+    /// So many milliseconds.
+    #[must_use]
+    pub const fn milliseconds(milliseconds: i64) -> SignedDuration {
+        SignedDuration::of(
+            milliseconds / 1_000,
+            (milliseconds % 1_000 * 1_000_000) as i32,
+        )
+    }
+
+    /// So many microseconds.
+    #[must_use]
+    pub const fn microseconds(microseconds: i64) -> SignedDuration {
+        SignedDuration::of(
+            microseconds / 1_000_000,
+            (microseconds % 1_000_000 * 1_000) as i32,
+        )
+    }
+
+    /// So many nanoseconds.
+    #[must_use]
+    pub const fn nanoseconds(nanoseconds: i64) -> SignedDuration {
+        SignedDuration::of(
+            nanoseconds / 1_000_000_000,
+            (nanoseconds % 1_000_000_000) as i32,
+        )
+    }
+
+    pub(crate) const fn of_nanoseconds(whole: i128) -> Option<SignedDuration> {
+        let seconds = whole / PER_SECOND;
+        if seconds < i64::MIN as i128 || seconds > i64::MAX as i128 {
+            return None;
+        }
+        Some(SignedDuration::of(
+            seconds as i64,
+            (whole % PER_SECOND) as i32,
+        ))
+    }
+
+    /// Whether it is no time at all.
+    #[must_use]
+    pub const fn is_zero(self) -> bool {
+        self.seconds == 0 && self.nanoseconds == 0
+    }
+
+    /// Whether it goes back.
+    #[must_use]
+    pub const fn is_negative(self) -> bool {
+        self.seconds < 0 || self.nanoseconds < 0
+    }
+
+    /// Whether it goes forwards.
+    #[must_use]
+    pub const fn is_positive(self) -> bool {
+        self.seconds > 0 || self.nanoseconds > 0
+    }
+
+    /// The same length forwards, or [`SignedDuration::MAX`] for [`SignedDuration::MIN`].
+    #[must_use]
+    pub const fn abs(self) -> SignedDuration {
+        match self.seconds.checked_abs() {
+            Some(seconds) => SignedDuration::of(seconds, self.nanoseconds.abs()),
+            None => SignedDuration::MAX,
+        }
+    }
+
+    /// The same length without a sign.
+    #[must_use]
+    pub const fn unsigned_abs(self) -> Duration {
+        Duration::new(self.seconds.unsigned_abs(), self.nanoseconds.unsigned_abs())
+    }
+
+    /// The whole seconds, towards zero.
+    #[must_use]
+    pub const fn whole_seconds(self) -> i64 {
+        self.seconds
+    }
+
+    /// The whole milliseconds, towards zero.
+    #[must_use]
+    pub const fn whole_milliseconds(self) -> i128 {
+        self.whole_nanoseconds() / 1_000_000
+    }
+
+    /// The whole microseconds, towards zero.
+    #[must_use]
+    pub const fn whole_microseconds(self) -> i128 {
+        self.whole_nanoseconds() / 1_000
+    }
+
+    /// All of it, in nanoseconds.
+    #[must_use]
+    pub const fn whole_nanoseconds(self) -> i128 {
+        self.seconds as i128 * PER_SECOND + self.nanoseconds as i128
+    }
+
+    /// The milliseconds past the whole second.
+    #[must_use]
+    pub const fn subsec_milliseconds(self) -> i16 {
+        (self.nanoseconds / 1_000_000) as i16
+    }
+
+    /// The microseconds past the whole second.
+    #[must_use]
+    pub const fn subsec_microseconds(self) -> i32 {
+        self.nanoseconds / 1_000
+    }
+
+    /// The nanoseconds past the whole second.
+    #[must_use]
+    pub const fn subsec_nanoseconds(self) -> i32 {
+        self.nanoseconds
+    }
+
+    /// All of it in seconds, as nearly as 64 bits hold it.
+    #[must_use]
+    pub fn as_seconds_f64(self) -> f64 {
+        self.seconds as f64 + f64::from(self.nanoseconds) / 1e9
+    }
+
+    /// All of it in seconds, as nearly as 32 bits hold it.
+    #[must_use]
+    pub fn as_seconds_f32(self) -> f32 {
+        self.as_seconds_f64() as f32
+    }
+
+    /// As [`SignedDuration::seconds_f64`].
+    ///
+    /// # Panics
+    ///
+    /// 64 bits do not hold the whole seconds, or there is no number.
+    #[must_use]
+    #[track_caller]
+    pub fn seconds_f32(seconds: f32) -> SignedDuration {
+        SignedDuration::seconds_f64(f64::from(seconds))
+    }
+
+    /// The duration of so many seconds, of which what is finer than a nanosecond is dropped.
+    ///
+    /// # Panics
+    ///
+    /// 64 bits do not hold the whole seconds, or there is no number.
+    #[must_use]
+    #[track_caller]
+    pub fn seconds_f64(seconds: f64) -> SignedDuration {
+        SignedDuration::nanoseconds_f64(seconds * 1e9)
+    }
+
+    #[track_caller]
+    pub(crate) fn nanoseconds_f64(nanoseconds: f64) -> SignedDuration {
+        assert!(nanoseconds.is_finite(), "the duration is no number");
+        SignedDuration::of_nanoseconds(nanoseconds as i128).expect(BEYOND)
+    }
+
+    /// The sum, if 64 bits hold its seconds.
+    #[must_use]
+    pub const fn checked_add(self, other: SignedDuration) -> Option<SignedDuration> {
+        SignedDuration::of_nanoseconds(self.whole_nanoseconds() + other.whole_nanoseconds())
+    }
+
+    /// The difference, if 64 bits hold its seconds.
+    #[must_use]
+    pub const fn checked_sub(self, other: SignedDuration) -> Option<SignedDuration> {
+        SignedDuration::of_nanoseconds(self.whole_nanoseconds() - other.whole_nanoseconds())
+    }
+
+    /// So many times as long, if 64 bits hold the seconds.
+    #[must_use]
+    pub const fn checked_mul(self, factor: i32) -> Option<SignedDuration> {
+        SignedDuration::of_nanoseconds(self.whole_nanoseconds() * factor as i128)
+    }
+
+    /// A part of it, towards zero, if the divisor is not 0.
+    #[must_use]
+    pub const fn checked_div(self, divisor: i32) -> Option<SignedDuration> {
+        if divisor == 0 {
+            return None;
+        }
+        SignedDuration::of_nanoseconds(self.whole_nanoseconds() / divisor as i128)
+    }
+
+    /// The same length the other way, if 64 bits hold its seconds.
+    #[must_use]
+    pub const fn checked_neg(self) -> Option<SignedDuration> {
+        SignedDuration::of_nanoseconds(-self.whole_nanoseconds())
+    }
+
+    /// The sum, or the end of the durations that it is beyond.
+    #[must_use]
+    pub const fn saturating_add(self, other: SignedDuration) -> SignedDuration {
+        match self.checked_add(other) {
+            Some(sum) => sum,
+            None if self.is_negative() => SignedDuration::MIN,
+            None => SignedDuration::MAX,
+        }
+    }
+
+    /// The difference, or the end of the durations that it is beyond.
+    #[must_use]
+    pub const fn saturating_sub(self, other: SignedDuration) -> SignedDuration {
+        match self.checked_sub(other) {
+            Some(difference) => difference,
+            None if self.is_negative() => SignedDuration::MIN,
+            None => SignedDuration::MAX,
+        }
+    }
+
+    /// So many times as long, or the end of the durations that it is beyond.
+    #[must_use]
+    pub const fn saturating_mul(self, factor: i32) -> SignedDuration {
+        match self.checked_mul(factor) {
+            Some(product) => product,
+            None if self.is_negative() == (factor < 0) => SignedDuration::MAX,
+            None => SignedDuration::MIN,
+        }
+    }
+
+    /// What the whole days leave.
+    pub(crate) const fn within_a_day(self) -> SignedDuration {
+        SignedDuration::of(self.seconds % SignedDuration::DAY.seconds, self.nanoseconds)
+    }
+
+    pub(crate) const fn parts(self) -> MuxanduDuration {
+        MuxanduDuration {
+            seconds: self.seconds,
+            nanoseconds: self.nanoseconds,
+        }
+    }
+
+    /// The duration of parts that the library gave, which have one sign.
+    pub(crate) const fn given(parts: MuxanduDuration) -> SignedDuration {
+        SignedDuration::of(parts.seconds, parts.nanoseconds)
+    }
+}
+
+/// Refused where 64 bits with a sign do not hold the seconds.
+impl TryFrom<Duration> for SignedDuration {
+    type Error = ConversionRange;
+
+    fn try_from(duration: Duration) -> Result<SignedDuration, ConversionRange> {
+        let seconds = i64::try_from(duration.as_secs()).map_err(|_| ConversionRange)?;
+        Ok(SignedDuration::of(seconds, duration.subsec_nanos() as i32))
+    }
+}
+
+/// Refused where the duration is negative.
+impl TryFrom<SignedDuration> for Duration {
+    type Error = ConversionRange;
+
+    fn try_from(duration: SignedDuration) -> Result<Duration, ConversionRange> {
+        if duration.is_negative() {
+            return Err(ConversionRange);
+        }
+        Ok(duration.unsigned_abs())
+    }
+}
+
+const BEYOND: &str = "64 bits hold the seconds of the result";
+
+impl Add for SignedDuration {
+    type Output = SignedDuration;
+
+    #[track_caller]
+    fn add(self, other: SignedDuration) -> SignedDuration {
+        self.checked_add(other).expect(BEYOND)
+    }
+}
+
+impl Sub for SignedDuration {
+    type Output = SignedDuration;
+
+    #[track_caller]
+    fn sub(self, other: SignedDuration) -> SignedDuration {
+        self.checked_sub(other).expect(BEYOND)
+    }
+}
+
+impl AddAssign for SignedDuration {
+    #[track_caller]
+    fn add_assign(&mut self, other: SignedDuration) {
+        *self = *self + other;
+    }
+}
+
+impl SubAssign for SignedDuration {
+    #[track_caller]
+    fn sub_assign(&mut self, other: SignedDuration) {
+        *self = *self - other;
+    }
+}
+
+impl Neg for SignedDuration {
+    type Output = SignedDuration;
+
+    #[track_caller]
+    fn neg(self) -> SignedDuration {
+        self.checked_neg().expect(BEYOND)
+    }
+}
+
+/// Products and quotients with whole numbers.
+macro_rules! whole_factors {
+    ($($Factor:ident)+) => {
+        $(
+            impl Mul<$Factor> for SignedDuration {
+                type Output = SignedDuration;
+
+                #[track_caller]
+                fn mul(self, factor: $Factor) -> SignedDuration {
+                    let whole = self.whole_nanoseconds() * i128::from(factor);
+                    SignedDuration::of_nanoseconds(whole).expect(BEYOND)
+                }
+            }
+
+            impl Mul<SignedDuration> for $Factor {
+                type Output = SignedDuration;
+
+                #[track_caller]
+                fn mul(self, duration: SignedDuration) -> SignedDuration {
+                    duration * self
+                }
+            }
+
+            impl Div<$Factor> for SignedDuration {
+                type Output = SignedDuration;
+
+                #[track_caller]
+                fn div(self, divisor: $Factor) -> SignedDuration {
+                    let whole = self.whole_nanoseconds() / i128::from(divisor);
+                    SignedDuration::of_nanoseconds(whole).expect(BEYOND)
+                }
+            }
+        )+
+    };
+}
+
+whole_factors! { i8 i16 i32 u8 u16 u32 }
+
+/// Products and quotients with others, of which what is finer than a nanosecond is dropped.
+macro_rules! fractional_factors {
+    ($($Factor:ident)+) => {
+        $(
+            impl Mul<$Factor> for SignedDuration {
+                type Output = SignedDuration;
+
+                #[track_caller]
+                fn mul(self, factor: $Factor) -> SignedDuration {
+                    SignedDuration::nanoseconds_f64(self.whole_nanoseconds() as f64 * f64::from(factor))
+                }
+            }
+
+            impl Mul<SignedDuration> for $Factor {
+                type Output = SignedDuration;
+
+                #[track_caller]
+                fn mul(self, duration: SignedDuration) -> SignedDuration {
+                    duration * self
+                }
+            }
+
+            impl Div<$Factor> for SignedDuration {
+                type Output = SignedDuration;
+
+                #[track_caller]
+                fn div(self, divisor: $Factor) -> SignedDuration {
+                    SignedDuration::nanoseconds_f64(self.whole_nanoseconds() as f64 / f64::from(divisor))
+                }
+            }
+        )+
+    };
+}
+
+fractional_factors! { f32 f64 }
+
+/// How many times as long the first is.
+impl Div for SignedDuration {
+    type Output = f64;
+
+    fn div(self, other: SignedDuration) -> f64 {
+        self.as_seconds_f64() / other.as_seconds_f64()
+    }
+}
+
+impl Sum for SignedDuration {
+    fn sum<I: Iterator<Item = SignedDuration>>(durations: I) -> SignedDuration {
+        durations.fold(SignedDuration::ZERO, Add::add)
+    }
+}
+
+impl<'a> Sum<&'a SignedDuration> for SignedDuration {
+    fn sum<I: Iterator<Item = &'a SignedDuration>>(durations: I) -> SignedDuration {
+        durations.copied().sum()
+    }
+}
+
+impl Add<Duration> for SignedDuration {
+    type Output = SignedDuration;
+
+    #[track_caller]
+    fn add(self, other: Duration) -> SignedDuration {
+        self + SignedDuration::try_from(other).expect(BEYOND)
+    }
+}
+
+impl Sub<Duration> for SignedDuration {
+    type Output = SignedDuration;
+
+    #[track_caller]
+    fn sub(self, other: Duration) -> SignedDuration {
+        self - SignedDuration::try_from(other).expect(BEYOND)
+    }
+}
+
+impl AddAssign<Duration> for SignedDuration {
+    #[track_caller]
+    fn add_assign(&mut self, other: Duration) {
+        *self = *self + other;
+    }
+}
+
+impl SubAssign<Duration> for SignedDuration {
+    #[track_caller]
+    fn sub_assign(&mut self, other: Duration) {
+        *self = *self - other;
+    }
+}
+
+impl PartialOrd<Duration> for SignedDuration {
+    fn partial_cmp(&self, other: &Duration) -> Option<Ordering> {
+        match SignedDuration::try_from(*other) {
+            Ok(other) => Some(self.cmp(&other)),
+            Err(ConversionRange) => Some(Ordering::Less),
+        }
+    }
+}
+
+impl PartialEq<SignedDuration> for Duration {
+    fn eq(&self, other: &SignedDuration) -> bool {
+        other == self
+    }
+}
+
+impl PartialOrd<SignedDuration> for Duration {
+    fn partial_cmp(&self, other: &SignedDuration) -> Option<Ordering> {
+        other.partial_cmp(self).map(Ordering::reverse)
+    }
+}
+
+impl PartialEq<Duration> for SignedDuration {
+    fn eq(&self, other: &Duration) -> bool {
+        SignedDuration::try_from(*other) == Ok(*self)
+    }
+}
+
+/// The days, the hours, the minutes, the seconds, and what is finer, of which those that are 0 are left out, as `1d2h` or
+/// `-1s500ms`.
+impl fmt::Display for SignedDuration {
+    fn fmt(&self, f: &mut fmt::Formatter<'_>) -> fmt::Result {
+        spelled::write_padded(f, |text| spelled::write_duration(text, *self))
+    }
+}
+
+impl fmt::Debug for SignedDuration {
+    fn fmt(&self, f: &mut fmt::Formatter<'_>) -> fmt::Result {
+        fmt::Display::fmt(self, f)
+    }
+}
+
+/// Reads what `Display` writes. Refused [`Refusal::Syntax`], and [`Refusal::Duration`] where 64 bits do not hold the seconds.
+impl FromStr for SignedDuration {
+    type Err = Refusal;
+
+    fn from_str(text: &str) -> Result<SignedDuration, Refusal> {
+        spelled::duration(text)
+    }
+}

@@ -1,0 +1,124 @@
+//! Parts of the texts that the library writes, and how texts are read back.
+
+use core::fmt::{self, Write};
+
+use crate::error::InvalidVariant;
+use crate::{Refusal, SignedDuration, Text};
+
+/// How the text of a date-time in UTC ends: the offset, with a space before it.
+const AT_OFFSET_0: &str = " +00:00:00";
+
+/// The date of the text of a date-time.
+pub(crate) fn date(text: &str) -> &str {
+    text.split_once(' ').map_or(text, |(date, _)| date)
+}
+
+/// The time of day of the text of a date-time.
+pub(crate) fn time(text: &str) -> &str {
+    let text = plain(text);
+    text.split_once(' ').map_or(text, |(_, time)| time)
+}
+
+/// The date and the time of day of the text of a date-time.
+pub(crate) fn plain(text: &str) -> &str {
+    text.strip_suffix(AT_OFFSET_0).unwrap_or(text)
+}
+
+/// The same, and the hours of the offset.
+pub(crate) fn utc(text: &str) -> &str {
+    text.strip_suffix(":00:00").unwrap_or(text)
+}
+
+/// The offset of the text of a date-time.
+pub(crate) fn offset(text: &str) -> &str {
+    text.rsplit_once(' ').map_or(text, |(_, offset)| offset)
+}
+
+/// A value that was read of a text, if it is what `Display` writes so.
+pub(crate) fn read<T: fmt::Display>(
+    text: &str,
+    value: Option<Result<T, Refusal>>,
+) -> Result<T, Refusal> {
+    let value = value.ok_or(Refusal::Syntax)??;
+    let mut written = Text::empty();
+    match write!(written, "{value}") {
+        Ok(()) if written == text => Ok(value),
+        _ => Err(Refusal::Syntax),
+    }
+}
+
+/// The value of a name.
+pub(crate) fn named<T: Copy + fmt::Display>(all: &[T], name: &str) -> Result<T, InvalidVariant> {
+    let found = all.iter().find(|value| {
+        let mut written = Text::empty();
+        write!(written, "{value}").is_ok() && written == name
+    });
+    found.copied().ok_or(InvalidVariant)
+}
+
+/// Writes a text of several parts with the width and the alignment that are asked for.
+pub(crate) fn write_padded(
+    f: &mut fmt::Formatter<'_>,
+    write: impl FnOnce(&mut Text) -> fmt::Result,
+) -> fmt::Result {
+    let mut text = Text::empty();
+    write(&mut text)?;
+    f.pad(&text)
+}
+
+/// The units that a duration is written in: their nanoseconds, and what follows their number.
+const UNITS: [(u128, &str); 7] = [
+    (86_400_000_000_000, "d"),
+    (3_600_000_000_000, "h"),
+    (60_000_000_000, "m"),
+    (1_000_000_000, "s"),
+    (1_000_000, "ms"),
+    (1_000, "µs"),
+    (1, "ns"),
+];
+
+pub(crate) fn write_duration(text: &mut Text, duration: SignedDuration) -> fmt::Result {
+    if duration.is_zero() {
+        return text.write_str("0s");
+    }
+    if duration.is_negative() {
+        text.write_char('-')?;
+    }
+    let mut left = duration.whole_nanoseconds().unsigned_abs();
+    for (nanoseconds, unit) in UNITS {
+        let count = left / nanoseconds;
+        if count > 0 {
+            write!(text, "{count}{unit}")?;
+        }
+        left %= nanoseconds;
+    }
+    Ok(())
+}
+
+/// Reads the units in their order, and answers only what is written so.
+pub(crate) fn duration(text: &str) -> Result<SignedDuration, Refusal> {
+    let (is_negative, mut rest) = match text.strip_prefix('-') {
+        Some(rest) => (true, rest),
+        None => (false, text),
+    };
+    let mut whole: i128 = 0;
+    while !rest.is_empty() {
+        let digits = rest.bytes().take_while(u8::is_ascii_digit).count();
+        let (number, after) = rest.split_at(digits);
+        let letters = after
+            .bytes()
+            .take_while(|byte| !byte.is_ascii_digit())
+            .count();
+        let (name, after) = after.split_at(letters);
+        let unit = UNITS
+            .iter()
+            .find(|(_, unit)| *unit == name)
+            .ok_or(Refusal::Syntax)?;
+        let count: u64 = number.parse().map_err(|_| Refusal::Syntax)?;
+        whole = whole.saturating_add(i128::from(count) * unit.0 as i128);
+        rest = after;
+    }
+    let whole = if is_negative { -whole } else { whole };
+    let duration = SignedDuration::of_nanoseconds(whole).ok_or(Refusal::Duration)?;
+    read(text, Some(Ok(duration)))
+}

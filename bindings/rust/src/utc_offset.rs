@@ -1,0 +1,158 @@
+use core::fmt;
+use core::ops::Neg;
+use core::str::FromStr;
+
+use crate::sys::{self, MuxanduOffset};
+use crate::{Date, Refusal, Result, spelled};
+
+/// An offset from UTC, -25:59:59 to 25:59:59; it is positive where clocks show more than in UTC.
+///
+/// ```
+/// use muxandu::UtcOffset;
+///
+/// let newfoundland = UtcOffset::from_hms(-3, 30, 0)?;
+/// assert_eq!(newfoundland.whole_seconds(), -12_600);
+/// assert_eq!(newfoundland.as_hms(), (-3, -30, 0));
+/// assert_eq!(newfoundland.to_string(), "-03:30:00");
+/// assert_eq!("-03:30:00".parse(), Ok(newfoundland));
+/// # Ok::<(), muxandu::error::ComponentRange>(())
+/// ```
+#[derive(Clone, Copy, Default, PartialEq, Eq, PartialOrd, Ord, Hash)]
+pub struct UtcOffset {
+    seconds: i32,
+}
+
+impl UtcOffset {
+    /// UTC itself.
+    pub const UTC: UtcOffset = UtcOffset::of(0);
+
+    /// Seconds that are known to make an offset.
+    pub(crate) const fn of(seconds: i32) -> UtcOffset {
+        UtcOffset { seconds }
+    }
+
+    pub(crate) fn tested(parts: MuxanduOffset) -> core::result::Result<UtcOffset, Refusal> {
+        let mut seconds = 0;
+        Refusal::test(sys::muxandu_offset_from_parts(parts, &mut seconds))?;
+        Ok(UtcOffset { seconds })
+    }
+
+    /// The offset of hours, minutes and seconds, of which the smaller take the sign of the hours, or of the minutes where the
+    /// hours are 0.
+    ///
+    /// # Errors
+    ///
+    /// `hours` that are not -25 to 25, `minutes` or `seconds` that are not -59 to 59.
+    pub fn from_hms(hours: i8, minutes: i8, seconds: i8) -> Result<UtcOffset> {
+        Ok(UtcOffset::tested(MuxanduOffset {
+            hours,
+            minutes,
+            seconds,
+        })?)
+    }
+
+    /// The offset of so many seconds.
+    ///
+    /// # Errors
+    ///
+    /// `seconds` that are not -93,599 to 93,599.
+    pub fn from_whole_seconds(seconds: i32) -> Result<UtcOffset> {
+        Refusal::test(sys::muxandu_offset_to_parts(
+            seconds,
+            &mut MuxanduOffset::default(),
+        ))?;
+        Ok(UtcOffset { seconds })
+    }
+
+    fn parts(self) -> MuxanduOffset {
+        let mut out = MuxanduOffset::default();
+        sure!(sys::muxandu_offset_to_parts(self.seconds, &mut out));
+        out
+    }
+
+    /// The hours, the minutes and the seconds, all of one sign.
+    #[must_use]
+    pub fn as_hms(self) -> (i8, i8, i8) {
+        let parts = self.parts();
+        (parts.hours, parts.minutes, parts.seconds)
+    }
+
+    /// The whole hours, towards zero.
+    #[must_use]
+    pub fn whole_hours(self) -> i8 {
+        self.parts().hours
+    }
+
+    /// The whole minutes, towards zero.
+    #[must_use]
+    pub const fn whole_minutes(self) -> i16 {
+        (self.seconds / 60) as i16
+    }
+
+    /// The minutes past the whole hour.
+    #[must_use]
+    pub fn minutes_past_hour(self) -> i8 {
+        self.parts().minutes
+    }
+
+    /// The offset in seconds.
+    #[must_use]
+    pub const fn whole_seconds(self) -> i32 {
+        self.seconds
+    }
+
+    /// The seconds past the whole minute.
+    #[must_use]
+    pub fn seconds_past_minute(self) -> i8 {
+        self.parts().seconds
+    }
+
+    /// Whether it is UTC itself.
+    #[must_use]
+    pub const fn is_utc(self) -> bool {
+        self.seconds == 0
+    }
+
+    /// Whether clocks show more than in UTC.
+    #[must_use]
+    pub const fn is_positive(self) -> bool {
+        self.seconds > 0
+    }
+
+    /// Whether clocks show less than in UTC.
+    #[must_use]
+    pub const fn is_negative(self) -> bool {
+        self.seconds < 0
+    }
+}
+
+debug_as_display!(UtcOffset);
+
+impl Neg for UtcOffset {
+    type Output = UtcOffset;
+
+    fn neg(self) -> UtcOffset {
+        UtcOffset::of(-self.seconds)
+    }
+}
+
+/// As `+01:00:00`.
+impl fmt::Display for UtcOffset {
+    fn fmt(&self, f: &mut fmt::Formatter<'_>) -> fmt::Result {
+        f.pad(spelled::offset(
+            &Date::UNIX_EPOCH.midnight().assume_offset(*self).spelled(),
+        ))
+    }
+}
+
+/// Reads what `Display` writes.
+impl FromStr for UtcOffset {
+    type Err = Refusal;
+
+    fn from_str(text: &str) -> core::result::Result<UtcOffset, Refusal> {
+        spelled::read(
+            text,
+            crate::literal::offset(text).map(|literal| literal.tested()),
+        )
+    }
+}

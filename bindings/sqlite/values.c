@@ -1,0 +1,112 @@
+#include "values.h"
+
+#include <string.h>
+
+SQLITE_EXTENSION_INIT3
+
+#include "refusals.h"
+
+#define COUNT(items) (sizeof(items) / sizeof *(items))
+
+/* Doubles hold each whole number up to this one. */
+static const double MOST_EXACT = 9007199254740992.0;
+
+static const Unit UNITS[] = {
+    {"nanosecond", 1},
+    {"microsecond", 1000},
+    {"millisecond", 1000000},
+    {"second", 1000000000},
+    {"minute", 60000000000},
+    {"hour", 3600000000000},
+    {"day", 86400000000000},
+};
+
+uint32_t read_text(sqlite3_value *value, const char **text, size_t *size) {
+    if (sqlite3_value_type(value) != SQLITE_TEXT) return REFUSED_TYPE;
+    /* The text comes before its size: the first call may change how it is encoded. */
+    *text = (const char *)sqlite3_value_text(value);
+    *size = (size_t)sqlite3_value_bytes(value);
+    return *text == NULL ? OUT_OF_MEMORY : MUXANDU_OK;
+}
+
+uint32_t read_date_time(sqlite3_value *value, MuxanduDateTime *out) {
+    const char *text;
+    size_t size;
+    uint32_t status = read_text(value, &text, &size);
+    return status == MUXANDU_OK ? muxandu_date_time_from_rfc3339(text, size, out) : status;
+}
+
+uint32_t read_instant(sqlite3_value *value, MuxanduTimestamp *out) {
+    const char *text;
+    size_t size;
+    uint32_t status = read_text(value, &text, &size);
+    return status == MUXANDU_OK ? muxandu_timestamp_from_rfc3339(text, size, out) : status;
+}
+
+/* Languages that have doubles alone bind whole numbers as such: they are taken where a double holds them exactly. */
+uint32_t read_whole_number(sqlite3_value *value, int64_t *out) {
+    double real;
+    switch (sqlite3_value_type(value)) {
+    case SQLITE_INTEGER:
+        *out = sqlite3_value_int64(value);
+        return MUXANDU_OK;
+    case SQLITE_FLOAT:
+        real = sqlite3_value_double(value);
+        if (!(real >= -MOST_EXACT && real <= MOST_EXACT)) return REFUSED_TYPE;
+        *out = (int64_t)real;
+        return (double)*out == real ? MUXANDU_OK : REFUSED_TYPE;
+    default:
+        return REFUSED_TYPE;
+    }
+}
+
+/* What 32 bits do not hold becomes a number that the calls of the library refuse. */
+uint32_t read_offset(sqlite3_value *value, int32_t *out) {
+    int64_t number = 0;
+    uint32_t status = read_whole_number(value, &number);
+    *out = number < INT32_MIN || number > INT32_MAX ? INT32_MAX : (int32_t)number;
+    return status;
+}
+
+uint32_t read_nanosecond(sqlite3_value *value, uint32_t *out) {
+    int64_t number = 0;
+    uint32_t status = read_whole_number(value, &number);
+    *out = number < 0 || number > UINT32_MAX ? UINT32_MAX : (uint32_t)number;
+    return status;
+}
+
+/* A unit is named in the singular or the plural, in letters of any case. */
+uint32_t read_unit(sqlite3_value *value, const Unit **out) {
+    const char *text;
+    size_t size;
+    uint32_t status = read_text(value, &text, &size);
+    if (status != MUXANDU_OK) return status;
+    for (size_t at = 0; at < COUNT(UNITS); at++) {
+        size_t length = strlen(UNITS[at].name);
+        int is_plural = size == length + 1 && (text[length] == 's' || text[length] == 'S');
+        if ((size == length || is_plural) && sqlite3_strnicmp(text, UNITS[at].name, (int)length) == 0) {
+            *out = &UNITS[at];
+            return MUXANDU_OK;
+        }
+    }
+    return REFUSED_UNIT_NAME;
+}
+
+static const Refusal *refusal_of(uint32_t status) {
+    static const Refusal TYPE = {"TYPE", "An argument that is no text, or no whole number, where the call takes one."};
+    static const Refusal UNIT = {"UNIT", "A text that names no unit: 'nanosecond', 'microsecond', 'millisecond', 'second', "
+                                         "'minute', 'hour' and 'day' do."};
+    static const Refusal UNKNOWN = {"UNKNOWN", "A refusal that this extension does not know."};
+    if (status == REFUSED_TYPE) return &TYPE;
+    if (status == REFUSED_UNIT_NAME) return &UNIT;
+    return status < COUNT(REFUSALS) && REFUSALS[status].name != NULL ? &REFUSALS[status] : &UNKNOWN;
+}
+
+const char *refusal_name(uint32_t status) {
+    return refusal_of(status)->name;
+}
+
+char *refusal_message(const char *call, uint32_t status) {
+    const Refusal *refusal = refusal_of(status);
+    return sqlite3_mprintf("%s: %s: %s", call, refusal->name, refusal->meaning);
+}

@@ -1,0 +1,36 @@
+/* How the calls read the values of SQL, and how they name what they refuse. */
+#ifndef MUXANDU_SQLITE_VALUES_H
+#define MUXANDU_SQLITE_VALUES_H
+
+#include <muxandu.h>
+#include <sqlite3ext.h>
+
+/* What is refused of SQL's values alone, beside the refusals of muxandu.h, and what is none. */
+enum {
+    REFUSED_TYPE = 1000,
+    REFUSED_UNIT_NAME = 1001,
+    OUT_OF_MEMORY = 1002
+};
+
+/* A unit of time: so many nanoseconds. */
+typedef struct Unit {
+    const char *name;
+    int64_t nanoseconds;
+} Unit;
+
+/* Each of these returns MUXANDU_OK, or why the value is refused. */
+uint32_t read_text(sqlite3_value *value, const char **text, size_t *size);
+uint32_t read_date_time(sqlite3_value *value, MuxanduDateTime *out);
+uint32_t read_instant(sqlite3_value *value, MuxanduTimestamp *out);
+uint32_t read_whole_number(sqlite3_value *value, int64_t *out);
+uint32_t read_offset(sqlite3_value *value, int32_t *out);
+uint32_t read_nanosecond(sqlite3_value *value, uint32_t *out);
+uint32_t read_unit(sqlite3_value *value, const Unit **out);
+
+const char *refusal_name(uint32_t status);
+
+/* What an error says: the call, the name of the refusal and what that means. The caller frees it. It is NULL where there is
+ * no memory. */
+char *refusal_message(const char *call, uint32_t status);
+
+#endif

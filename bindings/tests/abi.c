@@ -1,0 +1,203 @@
+/* What a program relies on besides answers: the version, names and texts of statuses, limits, pointers to no items. */
+#include "checks.h"
+
+static void versions_agree(void) {
+    char text[16];
+    CHECK(muxandu_version() == MUXANDU_VERSION);
+    sprintf(text, "%d.%d.%d", MUXANDU_VERSION / 10000, MUXANDU_VERSION / 100 % 100, MUXANDU_VERSION % 100);
+    CHECK(strcmp(text, MUXANDU_VERSION_TEXT) == 0);
+}
+
+typedef MuxanduStatus Tell(uint32_t, char *, size_t, size_t *);
+
+static int is_told(Tell *tell, uint32_t status, const char *wanted) {
+    char text[MUXANDU_STATUS_ROOM];
+    size_t size = 0;
+    return tell(status, text, sizeof text, &size) == MUXANDU_OK && is_text(text, size, wanted);
+}
+
+/* The whole table: each name is that of the constant, and each number has one. */
+static void statuses_have_names(void) {
+#define NAMED(name) CHECK(is_told(muxandu_status_name, MUXANDU_REFUSED_##name, #name))
+    CHECK(is_told(muxandu_status_name, MUXANDU_OK, "OK"));
+    NAMED(YEAR), NAMED(MONTH), NAMED(DAY), NAMED(DAY_OF_MONTH), NAMED(ORDINAL), NAMED(ORDINAL_OF_YEAR), NAMED(WEEK);
+    NAMED(WEEK_OF_YEAR), NAMED(WEEKDAY), NAMED(HOUR), NAMED(MINUTE), NAMED(SECOND), NAMED(NANOSECOND);
+    NAMED(OFFSET_SECONDS), NAMED(TIMESTAMP), NAMED(DAY_NUMBER), NAMED(DURATION), NAMED(UNIT), NAMED(RESULT);
+    NAMED(BUFFER), NAMED(SPAN), NAMED(SYNTAX), NAMED(OFFSET_HOUR), NAMED(OFFSET_MINUTE), NAMED(NO_TEXT);
+#undef NAMED
+    CHECK(is_told(muxandu_status_name, MUXANDU_REFUSED_NO_TEXT + 1, "UNKNOWN"));
+    CHECK(is_told(muxandu_status_name, UINT32_MAX, "UNKNOWN"));
+    CHECK(is_told(muxandu_status_text, MUXANDU_OK, "Nothing is refused."));
+    CHECK(is_told(muxandu_status_text, MUXANDU_REFUSED_HOUR, "An hour above 23."));
+    CHECK(is_told(muxandu_status_text, UINT32_MAX, "A number that is no status of this version."));
+}
+
+/* No two names and no two texts are one, and each is ASCII that prints, also where the buffer is just long enough. */
+static void texts_of_statuses_differ(Tell *tell) {
+    char texts[MUXANDU_REFUSED_NO_TEXT + 2][MUXANDU_STATUS_ROOM];
+    size_t sizes[MUXANDU_REFUSED_NO_TEXT + 2];
+    uint32_t status, other;
+    size_t place;
+    for (status = 0; status < sizeof sizes / sizeof *sizes; status++) {
+        char short_of_one[MUXANDU_STATUS_ROOM];
+        size_t size = 0;
+        CHECK(tell(status, texts[status], sizeof texts[status], &sizes[status]) == MUXANDU_OK);
+        memset(short_of_one, '!', sizeof short_of_one);
+        CHECK(tell(status, short_of_one, sizes[status] - 1, &size) == MUXANDU_REFUSED_BUFFER);
+        CHECK(size == sizes[status] && short_of_one[0] == '!' && short_of_one[size - 1] == '!');
+        CHECK(tell(status, short_of_one, size, &size) == MUXANDU_OK && short_of_one[size] == '!');
+        for (place = 0; place < sizes[status]; place++) {
+            CHECK(texts[status][place] >= ' ' && texts[status][place] <= '~');
+        }
+        for (other = 0; other < status; other++) {
+            CHECK(sizes[other] != sizes[status] || memcmp(texts[other], texts[status], sizes[other]) != 0);
+        }
+    }
+}
+
+/* A switch over the statuses, which a compiler holds to be whole. */
+static const char *part_of(MuxanduStatus status) {
+    switch ((enum MuxanduStatusCode)status) {
+    case MUXANDU_OK: return "none";
+    case MUXANDU_REFUSED_YEAR:
+    case MUXANDU_REFUSED_MONTH:
+    case MUXANDU_REFUSED_DAY:
+    case MUXANDU_REFUSED_DAY_OF_MONTH:
+    case MUXANDU_REFUSED_ORDINAL:
+    case MUXANDU_REFUSED_ORDINAL_OF_YEAR:
+    case MUXANDU_REFUSED_WEEK:
+    case MUXANDU_REFUSED_WEEK_OF_YEAR:
+    case MUXANDU_REFUSED_WEEKDAY: return "date";
+    case MUXANDU_REFUSED_HOUR:
+    case MUXANDU_REFUSED_MINUTE:
+    case MUXANDU_REFUSED_SECOND:
+    case MUXANDU_REFUSED_NANOSECOND:
+    case MUXANDU_REFUSED_OFFSET_SECONDS: return "time of day";
+    case MUXANDU_REFUSED_TIMESTAMP:
+    case MUXANDU_REFUSED_DAY_NUMBER:
+    case MUXANDU_REFUSED_DURATION:
+    case MUXANDU_REFUSED_UNIT: return "number";
+    case MUXANDU_REFUSED_SYNTAX:
+    case MUXANDU_REFUSED_OFFSET_HOUR:
+    case MUXANDU_REFUSED_OFFSET_MINUTE: return "text";
+    case MUXANDU_REFUSED_RESULT:
+    case MUXANDU_REFUSED_NO_TEXT: return "result";
+    case MUXANDU_REFUSED_BUFFER:
+    case MUXANDU_REFUSED_SPAN: return "place";
+    }
+    return "unknown";
+}
+
+static void statuses_can_be_told_apart(void) {
+    CHECK(strcmp(part_of(muxandu_date_time_check(date_time(2024, 2, 29, 24, 0, 0, 0, 0))), "time of day") == 0);
+    CHECK(strcmp(part_of(MUXANDU_REFUSED_NO_TEXT + 1), "unknown") == 0);
+}
+
+/* One fault has one status, in parts and in texts. */
+static void one_fault_has_one_status(void) {
+    MuxanduDateTime out;
+    CHECK(muxandu_date_time_check(date_time(2023, 2, 29, 0, 0, 0, 0, 0)) == MUXANDU_REFUSED_DAY_OF_MONTH);
+    CHECK(muxandu_date_time_from_rfc3339("2023-02-29T00:00:00Z", 20, &out) == MUXANDU_REFUSED_DAY_OF_MONTH);
+    CHECK(muxandu_date_time_from_rfc3339("2023-02-31T00:00:00Z", 20, &out) == MUXANDU_REFUSED_DAY_OF_MONTH);
+    CHECK(muxandu_date_time_check(date_time(2023, 2, 32, 0, 0, 0, 0, 0)) == MUXANDU_REFUSED_DAY);
+    CHECK(muxandu_date_time_from_rfc3339("2023-02-32T00:00:00Z", 20, &out) == MUXANDU_REFUSED_DAY);
+    CHECK(muxandu_date_time_from_rfc3339("2023-02-00T00:00:00Z", 20, &out) == MUXANDU_REFUSED_DAY);
+}
+
+static void limits_are_the_ends(void) {
+    MuxanduDate day;
+    MuxanduTimestamp at;
+    int32_t number;
+    CHECK(muxandu_date_from_day(MUXANDU_DAY_MIN, &day) == MUXANDU_OK && is_date(day, MUXANDU_YEAR_MIN, 1, 1));
+    CHECK(muxandu_date_from_day(MUXANDU_DAY_MAX, &day) == MUXANDU_OK && is_date(day, MUXANDU_YEAR_MAX, 12, 31));
+    CHECK(muxandu_date_from_day(MUXANDU_DAY_MIN - 1, &day) == MUXANDU_REFUSED_DAY_NUMBER);
+    CHECK(muxandu_date_from_day(MUXANDU_DAY_MAX + 1, &day) == MUXANDU_REFUSED_DAY_NUMBER);
+    CHECK(muxandu_day_from_date(date(MUXANDU_YEAR_MIN - 1, 1, 1), &number) == MUXANDU_REFUSED_YEAR);
+    CHECK(muxandu_day_from_date(date(MUXANDU_YEAR_MAX + 1, 1, 1), &number) == MUXANDU_REFUSED_YEAR);
+    CHECK(muxandu_timestamp_check(stamp(MUXANDU_SECONDS_MIN, 0)) == MUXANDU_OK);
+    CHECK(muxandu_timestamp_check(stamp(MUXANDU_SECONDS_MAX, MUXANDU_NANOSECOND_MAX)) == MUXANDU_OK);
+    CHECK(muxandu_timestamp_check(stamp(MUXANDU_SECONDS_MIN - 1, 0)) == MUXANDU_REFUSED_TIMESTAMP);
+    CHECK(muxandu_timestamp_check(stamp(MUXANDU_SECONDS_MAX + 1, 0)) == MUXANDU_REFUSED_TIMESTAMP);
+    CHECK(muxandu_timestamp_check(stamp(0, MUXANDU_NANOSECOND_MAX + 1)) == MUXANDU_REFUSED_NANOSECOND);
+    CHECK(muxandu_timestamp_from_milliseconds(MUXANDU_MILLISECONDS_MIN, &at) == MUXANDU_OK &&
+          is_stamp(at, MUXANDU_SECONDS_MIN, 0));
+    CHECK(muxandu_timestamp_from_milliseconds(MUXANDU_MILLISECONDS_MAX, &at) == MUXANDU_OK &&
+          is_stamp(at, MUXANDU_SECONDS_MAX, 999000000));
+    CHECK(muxandu_timestamp_from_milliseconds(MUXANDU_MILLISECONDS_MIN - 1, &at) == MUXANDU_REFUSED_TIMESTAMP);
+    CHECK(muxandu_timestamp_from_milliseconds(MUXANDU_MILLISECONDS_MAX + 1, &at) == MUXANDU_REFUSED_TIMESTAMP);
+    CHECK(muxandu_date_time_check(date_time(2000, 1, 1, 0, 0, 0, 0, MUXANDU_OFFSET_MIN)) == MUXANDU_OK);
+    CHECK(muxandu_date_time_check(date_time(2000, 1, 1, 0, 0, 0, 0, MUXANDU_OFFSET_MAX)) == MUXANDU_OK);
+    CHECK(muxandu_date_time_check(date_time(2000, 1, 1, 0, 0, 0, 0, MUXANDU_OFFSET_MIN - 1)) ==
+          MUXANDU_REFUSED_OFFSET_SECONDS);
+    CHECK(muxandu_date_time_check(date_time(2000, 1, 1, 0, 0, 0, 0, MUXANDU_OFFSET_MAX + 1)) ==
+          MUXANDU_REFUSED_OFFSET_SECONDS);
+}
+
+static int is_empty(MuxanduBatch batch, MuxanduStatus status) {
+    return batch.count == 0 && batch.status == status;
+}
+
+/* A pointer to no items may be NULL, as C++ hands it out for an empty vector. */
+static void no_items_need_no_pointer(void) {
+    int64_t seconds[1] = {0};
+    int32_t days[1] = {0};
+    MuxanduDate dates[1] = {{1970, 1, 1}};
+    MuxanduDateTime date_times[1];
+    MuxanduTimestamp at = {7, 7}, stamps[1];
+    MuxanduSpan spans[1] = {{0, 0}};
+    size_t size = 0;
+    memset(date_times, 0, sizeof date_times);
+    date_times[0] = date_time(1970, 1, 1, 0, 0, 0, 0, 0);
+    CHECK(is_empty(muxandu_date_times_from_seconds(NULL, 0, 0, NULL, 0), MUXANDU_OK));
+    CHECK(is_empty(muxandu_date_times_from_seconds(NULL, 0, 0, date_times, 1), MUXANDU_OK));
+    CHECK(is_empty(muxandu_date_times_from_seconds(seconds, 1, 0, NULL, 0), MUXANDU_REFUSED_BUFFER));
+    CHECK(is_empty(muxandu_seconds_from_date_times(NULL, 0, NULL, 0), MUXANDU_OK));
+    CHECK(is_empty(muxandu_seconds_from_date_times(NULL, 0, seconds, 1), MUXANDU_OK));
+    CHECK(is_empty(muxandu_seconds_from_date_times(date_times, 1, NULL, 0), MUXANDU_REFUSED_BUFFER));
+    CHECK(is_empty(muxandu_dates_from_days(NULL, 0, NULL, 0), MUXANDU_OK));
+    CHECK(is_empty(muxandu_dates_from_days(days, 1, NULL, 0), MUXANDU_REFUSED_BUFFER));
+    CHECK(is_empty(muxandu_days_from_dates(NULL, 0, NULL, 0), MUXANDU_OK));
+    CHECK(is_empty(muxandu_days_from_dates(dates, 1, NULL, 0), MUXANDU_REFUSED_BUFFER));
+    CHECK(is_empty(muxandu_date_times_from_milliseconds(NULL, 0, 0, NULL, 0), MUXANDU_OK));
+    CHECK(is_empty(muxandu_date_times_from_microseconds(NULL, 0, 0, NULL, 0), MUXANDU_OK));
+    CHECK(is_empty(muxandu_date_times_from_nanoseconds(NULL, 0, 0, NULL, 0), MUXANDU_OK));
+    CHECK(is_empty(muxandu_date_times_from_milliseconds(seconds, 1, 0, NULL, 0), MUXANDU_REFUSED_BUFFER));
+    CHECK(is_empty(muxandu_date_times_from_microseconds(seconds, 1, 0, NULL, 0), MUXANDU_REFUSED_BUFFER));
+    CHECK(is_empty(muxandu_date_times_from_nanoseconds(seconds, 1, 0, NULL, 0), MUXANDU_REFUSED_BUFFER));
+    CHECK(is_empty(muxandu_milliseconds_from_date_times(NULL, 0, NULL, 0), MUXANDU_OK));
+    CHECK(is_empty(muxandu_microseconds_from_date_times(NULL, 0, NULL, 0), MUXANDU_OK));
+    CHECK(is_empty(muxandu_nanoseconds_from_date_times(NULL, 0, NULL, 0), MUXANDU_OK));
+    CHECK(is_empty(muxandu_milliseconds_from_date_times(date_times, 1, NULL, 0), MUXANDU_REFUSED_BUFFER));
+    CHECK(is_empty(muxandu_microseconds_from_date_times(date_times, 1, NULL, 0), MUXANDU_REFUSED_BUFFER));
+    CHECK(is_empty(muxandu_nanoseconds_from_date_times(date_times, 1, NULL, 0), MUXANDU_REFUSED_BUFFER));
+    CHECK(is_empty(muxandu_date_times_from_each_second(NULL, 0, 0, NULL, 0, NULL, 0), MUXANDU_OK));
+    CHECK(is_empty(muxandu_date_times_from_each_second(seconds, 1, 0, date_times, 1, NULL, 0), MUXANDU_REFUSED_BUFFER));
+    CHECK(is_empty(muxandu_seconds_from_each_date_time(NULL, 0, NULL, 0, NULL, 0), MUXANDU_OK));
+    CHECK(is_empty(muxandu_seconds_from_each_date_time(date_times, 1, NULL, 0, NULL, 0), MUXANDU_REFUSED_BUFFER));
+    CHECK(is_empty(muxandu_timestamps_from_rfc3339(NULL, 0, NULL, 0, NULL, 0), MUXANDU_OK));
+    CHECK(is_empty(muxandu_timestamps_from_rfc3339(NULL, 0, spans, 1, NULL, 0), MUXANDU_REFUSED_BUFFER));
+    CHECK(is_empty(muxandu_timestamps_from_rfc3339(NULL, 0, spans, 1, stamps, 1), MUXANDU_REFUSED_SYNTAX));
+    CHECK(muxandu_timestamp_from_rfc3339(NULL, 0, &at) == MUXANDU_REFUSED_SYNTAX && is_stamp(at, 7, 7));
+    CHECK(muxandu_date_time_from_rfc3339(NULL, 0, date_times) == MUXANDU_REFUSED_SYNTAX);
+    CHECK(muxandu_date_time_to_rfc3339(date_times[0], NULL, 0, &size) == MUXANDU_REFUSED_BUFFER && size == 20);
+    CHECK(muxandu_timestamp_to_rfc3339(stamp(0, 0), NULL, 0, &size) == MUXANDU_REFUSED_BUFFER && size == 20);
+    CHECK(muxandu_timestamp_to_rfc3339_nanos(stamp(0, 0), NULL, 0, &size) == MUXANDU_REFUSED_BUFFER && size == 30);
+    CHECK(muxandu_date_time_text(date_times[0], NULL, 0, &size) == MUXANDU_REFUSED_BUFFER && size == 30);
+    CHECK(muxandu_timestamp_text(stamp(0, 0), NULL, 0, &size) == MUXANDU_REFUSED_BUFFER && size == 1);
+    CHECK(muxandu_date_to_rfc3339(dates[0], NULL, 0, &size) == MUXANDU_REFUSED_BUFFER && size == 10);
+    CHECK(muxandu_date_from_rfc3339(NULL, 0, dates) == MUXANDU_REFUSED_SYNTAX && is_date(dates[0], 1970, 1, 1));
+    CHECK(muxandu_status_name(0, NULL, 0, &size) == MUXANDU_REFUSED_BUFFER && size == 2);
+    CHECK(muxandu_status_text(0, NULL, 0, &size) == MUXANDU_REFUSED_BUFFER && size == 19);
+}
+
+int main(void) {
+    versions_agree();
+    statuses_have_names();
+    texts_of_statuses_differ(muxandu_status_name);
+    texts_of_statuses_differ(muxandu_status_text);
+    statuses_can_be_told_apart();
+    one_fault_has_one_status();
+    limits_are_the_ends();
+    no_items_need_no_pointer();
+    return counted();
+}

@@ -1,0 +1,42 @@
+"""A user's program, for a checker of types: each line that it must refuse says that it is wrong. It is not run."""
+
+from datetime import date, datetime, timedelta
+from typing import List, Tuple
+
+import muxandu
+from muxandu import Date, Duration, OffsetDateTime, PlainDateTime, Time, Timestamp, Unit, UtcDateTime, UtcOffset
+
+at: Timestamp = Timestamp.from_rfc3339("2024-02-29T12:34:56Z") + timedelta(days=1)
+later: Timestamp = Duration(1) + at
+apart: Duration = later - at
+shown: OffsetDateTime = at.to_offset(UtcOffset.from_hms(2))
+again: OffsetDateTime = shown.to_offset(3_600).truncated_to(Unit.DAY).replace(hour=5) - apart
+utc: UtcDateTime = (again.to_utc() + apart).saturating_add(timedelta(1))
+plain: PlainDateTime = utc.date_time()
+parts: Tuple[Date, Time, UtcOffset] = (shown.date(), plain.time(), shown.offset())
+day: date = (Date(2024, 2, 28) + 1).to_date()
+days: int = (Date.today() - Date.MIN).whole_days()
+moment: datetime = at.to_datetime()
+texts: List[str] = muxandu.rfc3339_from_timestamps([at, later])
+length: Duration = 3 * Duration.of(timedelta(hours=1)) % Duration(7)
+order: bool = at < later and shown <= again and utc != shown and length > timedelta(0)
+refusal: str = muxandu.RefusedMonth.name
+
+
+class Stamp(Timestamp):
+    """A class of a user's own."""
+
+
+mine: Stamp = Stamp.now() + Duration(1)
+
+Timestamp("5")  # wrong
+Timestamp(0.5)  # wrong
+Timestamp.from_rfc3339(5)  # wrong
+at + 1  # wrong
+at < shown  # wrong
+number: int = later - at  # wrong
+shown.to_offset("Z")  # wrong
+Date(2024, 2)  # wrong
+OffsetDateTime(2024, 2, 29, zone=0)  # wrong
+at.seconds = 5  # wrong
+at.to_civil()  # wrong
