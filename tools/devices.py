@@ -13,7 +13,8 @@ Ended = namedtuple("Ended", "written told status")
 
 
 def run_over(program, source, feed=None, room=None):
-    """Runs the program with this standard input, and with standard output to a file that has room for so many bytes.
+    """Runs the program, a path or a path and its words, with this standard input, and with standard output to a file that has
+    room for so many bytes.
 
     `feed` is called once the program runs. A write past the room of the file fails; where it has none, no write does.
     """
@@ -22,10 +23,11 @@ def run_over(program, source, feed=None, room=None):
         if room is not None:
             resource.setrlimit(resource.RLIMIT_FSIZE, (room, room))
 
+    command = [program] if isinstance(program, str) else program
     with tempfile.TemporaryFile() as sink:
         # The signal of a write past the limit stays ignored, as Python has it, so the write itself fails.
         with subprocess.Popen(
-            [program], stdin=source, stdout=sink, stderr=subprocess.PIPE, preexec_fn=limit, restore_signals=False
+            command, stdin=source, stdout=sink, stderr=subprocess.PIPE, preexec_fn=limit, restore_signals=False
         ) as running:
             try:
                 if feed is not None:

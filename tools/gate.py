@@ -25,6 +25,9 @@ ARCHIVE = "libmuxandu_c.a"
 # The compilers that build a program, by the names that `rt` has for them.
 COMPILERS = ("llvm", "rattle")
 
+# The programs, and the commands that prove, build and run them.
+STARTERS = {"times_bench": ("bench",), "stamps": ("stamps", "check")}
+
 # How much of what a command printed is shown where it failed.
 SHOWN = 3_000
 
@@ -119,24 +122,24 @@ def copy_repository(folder, repository=REPOSITORY):
     return copy
 
 
-def program(folder, compiler):
-    """The path in the folder of times_bench as that compiler builds it."""
-    return os.path.join(folder, f"times_bench_{compiler}")
+def program(folder, compiler, crate):
+    """The path in the folder of the program of a crate as that compiler builds it."""
+    return os.path.join(folder, f"{crate}_{compiler}")
 
 
-def build(folder):
-    """Makes a copy of the repository in the folder, has ./bench prove and build times_bench in it, and then has Rattle's own
-    compiler build it too. What checks kept in the repository comes along, so little is left to do where it is proved."""
+def build(folder, crate):
+    """Makes a copy of the repository in the folder, has the program of a crate proved and built in it, and then has Rattle's
+    own compiler build it too. What checks kept in the repository comes along, so little is left to do where it is proved."""
     print("building a copy of the repository", flush=True)
     copy = copy_repository(folder)
-    if subprocess.run([os.path.join(copy, "bench")], stdin=subprocess.DEVNULL, check=False).returncode != 0:
+    if subprocess.run([os.path.join(copy, STARTERS[crate][0]), *STARTERS[crate][1:]], stdin=subprocess.DEVNULL, check=False).returncode != 0:
         sys.exit("the copy of the repository is not proved and built")
-    crate = os.path.join(copy, "crates", "times_bench")
-    shutil.copy(os.path.join(crate, "out", "times_bench"), program(folder, "llvm"))
-    run = rt(["run", "--backend", "rattle"], crate)
+    place = os.path.join(copy, "crates", crate)
+    shutil.copy(os.path.join(place, "out", crate), program(folder, "llvm", crate))
+    run = rt(["run", "--backend", "rattle"], place)
     if run.returncode != 0:
-        sys.exit(f"Rattle's own compiler does not build times_bench:\n{run.stdout[-SHOWN:]}")
-    shutil.copy(os.path.join(crate, "out", "times_bench"), program(folder, "rattle"))
+        sys.exit(f"Rattle's own compiler does not build {crate}:\n{run.stdout[-SHOWN:]}")
+    shutil.copy(os.path.join(place, "out", crate), program(folder, "rattle", crate))
 
 
 @contextlib.contextmanager
@@ -195,9 +198,9 @@ def prove(root, crate):
 
 
 @contextlib.contextmanager
-def programs():
-    """What times_bench is, and its path: as each compiler builds it, or the one program that `--program PATH` names on the
-    command line. In the gate these are the programs that `rt ci` has proved and built, else those of a copy."""
+def programs(crate="times_bench"):
+    """What the program of a crate is, and its path: as each compiler builds it, or the one program that `--program PATH` names
+    on the command line. In the gate these are the programs that `rt ci` has proved and built, else those of a copy."""
     words = sys.argv[1:]
     if words[:1] == ["--program"] and len(words) == 2:
         yield [(words[1], os.path.abspath(words[1]))]
@@ -207,11 +210,11 @@ def programs():
     shared = os.environ.get(SHARED_FOLDER)
     with contextlib.nullcontext(shared) if shared else own_folder() as folder:
         if not shared:
-            build(folder)
-        lacking = [compiler for compiler in COMPILERS if not os.path.exists(program(folder, compiler))]
+            build(folder, crate)
+        lacking = [compiler for compiler in COMPILERS if not os.path.exists(program(folder, compiler, crate))]
         if lacking:
-            sys.exit(f"there is no times_bench built by {' or '.join(lacking)}")
-        yield [(f"times_bench built by {compiler}", program(folder, compiler)) for compiler in COMPILERS]
+            sys.exit(f"there is no {crate} built by {' or '.join(lacking)}")
+        yield [(f"{crate} built by {compiler}", program(folder, compiler, crate)) for compiler in COMPILERS]
 
 
 def lines_and_answers(tool, *numbers):

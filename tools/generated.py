@@ -1,4 +1,4 @@
-"""Pages that a tool writes from the sources: written, or compared with what stands there."""
+"""Files that a tool writes from the sources: written, or compared with what stands there."""
 
 import difflib
 import os
@@ -7,22 +7,39 @@ import sys
 from gate import REPOSITORY
 
 
-def end(page, text):
-    """Writes the text to the page, or compares the two, as the word on the command line says, and ends the tool."""
+def standing(name):
+    """The text of a file of the repository, or none where it is not there."""
+    path = os.path.join(REPOSITORY, name)
+    if not os.path.exists(path):
+        return ""
+    with open(path, encoding="utf-8") as file:
+        return file.read()
+
+
+def end_all(made):
+    """Writes these texts to the files of these names, or compares the two, as the word on the command line says, and ends
+    the tool."""
     words = sys.argv[1:]
     if words not in (["write"], ["compare"]):
         sys.exit(f"usage: {sys.argv[0]} write|compare")
-    path = os.path.join(REPOSITORY, page)
-    if words == ["write"]:
-        with open(path, "w", encoding="utf-8") as file:
-            file.write(text)
-        sys.exit(0)
-    stands = ""
-    if os.path.exists(path):
-        with open(path, encoding="utf-8") as file:
-            stands = file.read()
-    if stands == text:
-        sys.exit(0)
-    lines = difflib.unified_diff(stands.split("\n"), text.split("\n"), page, "the sources", n=0, lineterm="")
-    print("\n".join(list(lines)[:20]))
-    sys.exit(f"{page} is not in step with the sources: {os.path.relpath(sys.argv[0], os.getcwd())} write")
+    stale = []
+    for name, text in made.items():
+        stands = standing(name)
+        if stands == text:
+            continue
+        if words == ["write"]:
+            with open(os.path.join(REPOSITORY, name), "w", encoding="utf-8") as file:
+                file.write(text)
+            continue
+        lines = difflib.unified_diff(stands.split("\n"), text.split("\n"), name, "the sources", n=0, lineterm="")
+        print("\n".join(list(lines)[:20]))
+        stale.append(name)
+    if stale:
+        tool = os.path.relpath(sys.argv[0], os.getcwd())
+        sys.exit(f"not in step with the sources: {', '.join(stale)}: {tool} write")
+    sys.exit(0)
+
+
+def end(page, text):
+    """As `end_all`, for one file."""
+    end_all({page: text})

@@ -10,7 +10,7 @@ from sources import crate_of
 FOR_CONTRACTS = ("laws.rt", "constants.rt")
 
 # Callers and programs: they have nothing for other crates.
-NO_LIBRARIES = ("uses", "times_bench")
+NO_LIBRARIES = ("uses", "times_bench", "stamps")
 
 BLOCK = re.compile(r"(?P<pub>pub )?(?P<kind>impl|trait)\b(?:<[^{]*?>)? ?(?:(?P<of>\w[\w:]*(?:<[^{]*?>)?) for )?(?P<type>\w+)")
 FUNCTION = re.compile(r"(?P<indent> *)(?P<pub>pub )?(?:pub\(crate\) )?(?:const |unsafe )*fn (?P<name>\w+)")

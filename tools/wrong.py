@@ -52,3 +52,24 @@ def wrong_bodies(folder, names=()):
         files = sorted(os.listdir(inside)) if os.path.isdir(inside) else []
         found += [read(os.path.join(inside, file)) for file in files if file.endswith(".edit")]
     return [wrong for wrong in found if not names or wrong.name in names]
+
+
+def put(folder, texts, wrong):
+    """Puts a wrong body into the texts of files, or says why it cannot be put there."""
+    changed = dict(texts)
+    for file, after, old, new in wrong.changes:
+        if file not in changed:
+            try:
+                with open(os.path.join(folder, file), encoding="utf-8") as source:
+                    changed[file] = source.read()
+            except OSError:
+                return f"there is no file {file}"
+        before, mark, text = changed[file].rpartition(after) if after else ("", "", changed[file])
+        if after and (not mark or after in before):
+            return f"an `after:` text does not stand once in {file}"
+        stands = text.count(old) if old else 0
+        if stands < 1 or stands > 1 and not after:
+            return f"an `old:` text stands {stands} times in {file}"
+        changed[file] = before + mark + text.replace(old, new, 1)
+    texts.update(changed)
+    return None if wrong.changes else "it changes nothing"

@@ -75,8 +75,8 @@ pub fn compare_dates(source: &mut Source, of: &mut Compared) {
     of.same("days_in_month", (year, month), length, Ok(time::util::days_in_year_month(year, month)));
 
     let at = source.at_offset();
-    let day = answered(|out| sys::muxandu_civil_day(shown(at), out));
-    of.same("civil_day", shown(at), day, Ok(at.to_julian_day() - EPOCH));
+    let day = answered(|out| sys::muxandu_date_time_day(shown(at), out));
+    of.same("date_time_day", shown(at), day, Ok(at.to_julian_day() - EPOCH));
 }
 
 pub fn compare_ordinals(source: &mut Source, of: &mut Compared) {

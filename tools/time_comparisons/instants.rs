@@ -26,11 +26,11 @@ pub fn compare_parts(source: &mut Source, of: &mut Compared) {
     let theirs = made(at).map_err(named);
     let checked = answered(|_: &mut ()| sys::muxandu_timestamp_check(at));
     of.same("timestamp_check", at, checked, theirs.map(|_| ()));
-    let civil = answered(|out| sys::muxandu_civil_from_timestamp(at, 0, out));
-    of.same("civil_from_timestamp", at, civil, theirs.map(shown));
-    if let (Ok(civil), Ok(theirs)) = (civil, theirs) {
-        let back = answered(|out| sys::muxandu_timestamp_from_civil(civil, out));
-        of.same("timestamp_from_civil", civil, back, instant(theirs));
+    let date_time = answered(|out| sys::muxandu_date_time_from_timestamp(at, 0, out));
+    of.same("date_time_from_timestamp", at, date_time, theirs.map(shown));
+    if let (Ok(date_time), Ok(theirs)) = (date_time, theirs) {
+        let back = answered(|out| sys::muxandu_timestamp_from_date_time(date_time, out));
+        of.same("timestamp_from_date_time", date_time, back, instant(theirs));
     }
 }
 
@@ -113,14 +113,8 @@ pub fn compare_two(source: &mut Source, of: &mut Compared) {
     of.same("timestamp_compare", (later, earlier), order, sign(first.cmp(&second)));
 }
 
-pub const UNITS: [u32; 6] = [
-    sys::UNIT_DAY,
-    sys::UNIT_HOUR,
-    sys::UNIT_MINUTE,
-    sys::UNIT_SECOND,
-    sys::UNIT_MILLISECOND,
-    sys::UNIT_MICROSECOND,
-];
+pub const UNITS: [u32; 6] =
+    [sys::UNIT_DAY, sys::UNIT_HOUR, sys::UNIT_MINUTE, sys::UNIT_SECOND, sys::UNIT_MILLISECOND, sys::UNIT_MICROSECOND];
 
 /// A date-time rounded down to a unit: 0.3.9 has no call for it, so its time of day is replaced by one of fewer parts.
 pub fn rounded(at: OffsetDateTime, unit: u32) -> OffsetDateTime {

@@ -68,7 +68,8 @@ impl Compared {
             self.state(stated);
         }
         let is_same = foretold == theirs;
-        let of = format_args!("{call} of {input:?}: {ours:?}, and beside it {theirs:?}, where {foretold:?} was foretold");
+        let of =
+            format_args!("{call} of {input:?}: {ours:?}, and beside it {theirs:?}, where {foretold:?} was foretold");
         self.count(is_same, of);
     }
 }
@@ -125,10 +126,7 @@ pub fn compare_marks(
     (status, is_of_some): (u32, bool),
     refusal: ComponentRange,
 ) {
-    let ours = matches!(
-        status,
-        sys::REFUSED_DAY_OF_MONTH | sys::REFUSED_ORDINAL_OF_YEAR | sys::REFUSED_WEEK_OF_YEAR
-    );
+    let ours = matches!(status, sys::REFUSED_DAY_OF_MONTH | sys::REFUSED_ORDINAL_OF_YEAR | sys::REFUSED_WEEK_OF_YEAR);
     if ours != refusal.is_conditional() {
         of.state("0.3.9 calls the range conditional of a day, a day of the year or a week that there never is");
     }
@@ -136,15 +134,15 @@ pub fn compare_marks(
 }
 
 /// What a date-time of `time` shows, which may lie past the range.
-pub fn shown(at: OffsetDateTime) -> sys::MuxanduCivil {
+pub fn shown(at: OffsetDateTime) -> sys::MuxanduDateTime {
     let (year, month, day) = at.to_calendar_date();
     let (hour, minute, second, nanosecond) = at.to_hms_nano();
     let offset_seconds = at.offset().whole_seconds();
-    sys::MuxanduCivil { year, month: month.into(), day, hour, minute, second, nanosecond, offset_seconds }
+    sys::MuxanduDateTime { year, month: month.into(), day, hour, minute, second, nanosecond, offset_seconds }
 }
 
 /// The same, refused past the range: 0.3.9 goes on, and shows the year before the first or after the last.
-pub fn shown_in_range(at: OffsetDateTime) -> Answer<sys::MuxanduCivil> {
+pub fn shown_in_range(at: OffsetDateTime) -> Answer<sys::MuxanduDateTime> {
     if source::is_in_range(at.year()) { Ok(shown(at)) } else { Err("result") }
 }
 

@@ -1,20 +1,20 @@
 //! Date-times at offsets.
 use crate::instants::{UNITS, made, rounded, sign};
 use crate::source::{LONGEST, Source};
-use crate::sys::{self, MuxanduBatch, MuxanduCivil, MuxanduTimestamp};
+use crate::sys::{self, MuxanduBatch, MuxanduDateTime, MuxanduTimestamp};
 use crate::{Answer, Compared, answered, instant, lasting, name, named, shown, shown_in_range};
 use time::{Duration, OffsetDateTime, UtcOffset};
 
 const TOO_LONG: &str = "0.3.9 has no offsets of 24 hours and more";
 
 /// What clocks at an offset show, by `time`: the instant is refused first, then the offset, then what they would show.
-fn at_offset(at: Answer<OffsetDateTime>, offset: i32) -> Answer<MuxanduCivil> {
+fn at_offset(at: Answer<OffsetDateTime>, offset: i32) -> Answer<MuxanduDateTime> {
     let at = at?;
     shown_in_range(at.to_offset(UtcOffset::from_whole_seconds(offset).map_err(named)?))
 }
 
 /// What 0.3.9 answers where we answer so: it refuses offsets of 24 hours and more.
-fn foretold(ours: Answer<MuxanduCivil>, at: Answer<OffsetDateTime>, offset: i32) -> Answer<MuxanduCivil> {
+fn foretold(ours: Answer<MuxanduDateTime>, at: Answer<OffsetDateTime>, offset: i32) -> Answer<MuxanduDateTime> {
     let is_too_long = at.is_ok() && offset.unsigned_abs() > LONGEST.unsigned_abs();
     if is_too_long && offset.unsigned_abs() <= 93_599 { Err("seconds") } else { ours }
 }
@@ -22,32 +22,32 @@ fn foretold(ours: Answer<MuxanduCivil>, at: Answer<OffsetDateTime>, offset: i32)
 pub fn compare_conversions(source: &mut Source, of: &mut Compared) {
     let (stamp, offset) = (source.any_timestamp(), source.any_offset());
     let at = made(stamp).map_err(named);
-    let ours = answered(|out| sys::muxandu_civil_from_timestamp(stamp, offset, out));
+    let ours = answered(|out| sys::muxandu_date_time_from_timestamp(stamp, offset, out));
     let answers = (ours, foretold(ours, at, offset), at_offset(at, offset));
-    of.foretold("civil_from_timestamp", (stamp, offset), TOO_LONG, answers);
+    of.foretold("date_time_from_timestamp", (stamp, offset), TOO_LONG, answers);
 
     let (at, offset) = (source.at_offset(), source.any_offset());
-    let civil = shown(at);
-    let back = answered(|out| sys::muxandu_timestamp_from_civil(civil, out));
-    of.same("timestamp_from_civil", civil, back, instant(at));
-    let ours = answered(|out| sys::muxandu_civil_to_offset(civil, offset, out));
+    let date_time = shown(at);
+    let back = answered(|out| sys::muxandu_timestamp_from_date_time(date_time, out));
+    of.same("timestamp_from_date_time", date_time, back, instant(at));
+    let ours = answered(|out| sys::muxandu_date_time_to_offset(date_time, offset, out));
     let answers = (ours, foretold(ours, Ok(at), offset), at_offset(Ok(at), offset));
-    of.foretold("civil_to_offset", (civil, offset), TOO_LONG, answers);
+    of.foretold("date_time_to_offset", (date_time, offset), TOO_LONG, answers);
 }
 
 pub fn compare_sums(source: &mut Source, of: &mut Compared) {
     let at = source.at_offset();
     let duration = source.duration_from(at);
-    let (civil, lasts) = (shown(at), lasting(duration));
-    let input = (civil, lasts);
-    let added = answered(|out| sys::muxandu_civil_add(civil, lasts, out));
-    of.same("civil_add", input, added, at.checked_add(duration).map(shown).ok_or("result"));
-    let taken = answered(|out| sys::muxandu_civil_subtract(civil, lasts, out));
-    of.same("civil_subtract", input, taken, at.checked_sub(duration).map(shown).ok_or("result"));
-    let nearest = answered(|out| sys::muxandu_civil_saturating_add(civil, lasts, out));
-    of.same("civil_saturating_add", input, nearest, Ok(shown(at.saturating_add(duration))));
-    let nearest = answered(|out| sys::muxandu_civil_saturating_subtract(civil, lasts, out));
-    of.same("civil_saturating_subtract", input, nearest, Ok(shown(at.saturating_sub(duration))));
+    let (date_time, lasts) = (shown(at), lasting(duration));
+    let input = (date_time, lasts);
+    let added = answered(|out| sys::muxandu_date_time_add(date_time, lasts, out));
+    of.same("date_time_add", input, added, at.checked_add(duration).map(shown).ok_or("result"));
+    let taken = answered(|out| sys::muxandu_date_time_subtract(date_time, lasts, out));
+    of.same("date_time_subtract", input, taken, at.checked_sub(duration).map(shown).ok_or("result"));
+    let nearest = answered(|out| sys::muxandu_date_time_saturating_add(date_time, lasts, out));
+    of.same("date_time_saturating_add", input, nearest, Ok(shown(at.saturating_add(duration))));
+    let nearest = answered(|out| sys::muxandu_date_time_saturating_subtract(date_time, lasts, out));
+    of.same("date_time_saturating_subtract", input, nearest, Ok(shown(at.saturating_sub(duration))));
 }
 
 /// A date-time, and another that is often of the same instant or near it.
@@ -66,19 +66,19 @@ fn two(source: &mut Source) -> (OffsetDateTime, OffsetDateTime) {
 pub fn compare_two(source: &mut Source, of: &mut Compared) {
     let (first, second) = two(source);
     let (later, earlier) = (shown(first), shown(second));
-    let lasts = answered(|out| sys::muxandu_civil_difference(later, earlier, out));
-    of.same("civil_difference", (later, earlier), lasts, Ok(lasting(first - second)));
-    let order = answered(|out| sys::muxandu_civil_compare(later, earlier, out));
-    of.same("civil_compare", (later, earlier), order, Ok(sign(first.cmp(&second))));
+    let lasts = answered(|out| sys::muxandu_date_time_difference(later, earlier, out));
+    of.same("date_time_difference", (later, earlier), lasts, Ok(lasting(first - second)));
+    let order = answered(|out| sys::muxandu_date_time_compare(later, earlier, out));
+    of.same("date_time_compare", (later, earlier), order, Ok(sign(first.cmp(&second))));
     let is_same = order.map(|order| order == 0);
-    of.same("civil_compare", (later, earlier), is_same, Ok(first == second));
+    of.same("date_time_compare", (later, earlier), is_same, Ok(first == second));
 }
 
 pub fn compare_truncations(source: &mut Source, of: &mut Compared) {
     let at = source.at_offset();
     for unit in UNITS {
-        let ours = answered(|out| sys::muxandu_civil_truncate(shown(at), unit, out));
-        of.same("civil_truncate", (shown(at), unit), ours, Ok(shown(rounded(at, unit))));
+        let ours = answered(|out| sys::muxandu_date_time_truncate(shown(at), unit, out));
+        of.same("date_time_truncate", (shown(at), unit), ours, Ok(shown(rounded(at, unit))));
     }
 }
 
@@ -104,22 +104,21 @@ pub fn compare_many(source: &mut Source, of: &mut Compared) {
     const COUNT: usize = 4;
     let offset = source.offset();
     let seconds: Vec<i64> = (0..COUNT).map(|_| source.any_second()).collect();
-    let mut civils = vec![MuxanduCivil::default(); COUNT];
+    let mut date_times = vec![MuxanduDateTime::default(); COUNT];
     let batch = unsafe {
-        sys::muxandu_civils_from_seconds(seconds.as_ptr(), COUNT, offset, civils.as_mut_ptr(), COUNT)
+        sys::muxandu_date_times_from_seconds(seconds.as_ptr(), COUNT, offset, date_times.as_mut_ptr(), COUNT)
     };
     let at = |seconds| made(MuxanduTimestamp { seconds, nanoseconds: 0 }).map_err(named);
     let theirs = up_to_refusal(seconds.iter().map(|second| at_offset(at(*second), offset)).collect());
-    of.same("civils_from_seconds", (&seconds, offset), done(batch, civils), theirs);
+    of.same("date_times_from_seconds", (&seconds, offset), done(batch, date_times), theirs);
 
     let held: Vec<OffsetDateTime> = (0..COUNT).map(|_| source.at_offset()).collect();
-    let civils: Vec<MuxanduCivil> = held.iter().map(|at| shown(*at)).collect();
+    let date_times: Vec<MuxanduDateTime> = held.iter().map(|at| shown(*at)).collect();
     let mut seconds = vec![0; COUNT];
-    let batch = unsafe {
-        sys::muxandu_seconds_from_civils(civils.as_ptr(), COUNT, seconds.as_mut_ptr(), COUNT)
-    };
+    let batch =
+        unsafe { sys::muxandu_seconds_from_date_times(date_times.as_ptr(), COUNT, seconds.as_mut_ptr(), COUNT) };
     let theirs = up_to_refusal(held.iter().map(|at| instant(*at).map(|at| at.seconds)).collect());
-    of.same("seconds_from_civils", &civils, done(batch, seconds), theirs);
+    of.same("seconds_from_date_times", &date_times, done(batch, seconds), theirs);
 
     crate::dates::compare_many(source, of);
     crate::texts::compare_many(source, of);

@@ -2,7 +2,7 @@
 use crate::instants::stamp;
 use crate::offsets::{done, up_to_refusal};
 use crate::source::Source;
-use crate::sys::{self, MuxanduCivil, MuxanduSpan, MuxanduTimestamp};
+use crate::sys::{self, MuxanduDateTime, MuxanduSpan, MuxanduTimestamp};
 use crate::{Answer, Compared, answered, instant, name, shown};
 use std::sync::LazyLock;
 use time::error::{Parse, TryFromParsed};
@@ -28,8 +28,8 @@ fn text(call: impl FnOnce(*mut u8, usize, &mut usize) -> u32) -> Answer<String> 
 
 pub fn compare_own(source: &mut Source, of: &mut Compared) {
     let at = source.at_offset();
-    let ours = text(|room, count, size| unsafe { sys::muxandu_civil_text(shown(at), room, count, size) });
-    of.same("civil_text", shown(at), ours, Ok(at.to_string()));
+    let ours = text(|room, count, size| unsafe { sys::muxandu_date_time_text(shown(at), room, count, size) });
+    of.same("date_time_text", shown(at), ours, Ok(at.to_string()));
 }
 
 /// The first and the last second of the years that RFC 3339 has.
@@ -59,22 +59,21 @@ static NANOS: LazyLock<Vec<FormatItem<'static>>> = LazyLock::new(|| {
 
 pub fn compare_written(source: &mut Source, of: &mut Compared) {
     let at = to_write(source);
-    let civil = shown(at);
-    let ours = text(|room, count, size| unsafe { sys::muxandu_civil_to_rfc3339(civil, room, count, size) });
-    of.same("civil_to_rfc3339", civil, ours, at.format(&Rfc3339).map_err(|_| "no text"));
+    let date_time = shown(at);
+    let ours = text(|room, count, size| unsafe { sys::muxandu_date_time_to_rfc3339(date_time, room, count, size) });
+    of.same("date_time_to_rfc3339", date_time, ours, at.format(&Rfc3339).map_err(|_| "no text"));
     let Ok(at) = instant(at).map(|_| at.to_offset(UtcOffset::UTC)) else { return };
     let theirs = at.format(&Rfc3339).map_err(|_| "no text");
     let ours = text(|room, count, size| unsafe { sys::muxandu_timestamp_to_rfc3339(stamp(at), room, count, size) });
     of.same("timestamp_to_rfc3339", stamp(at), ours, theirs.clone());
     let theirs = theirs.map(|_| at.format(&*NANOS).expect("a text of nine digits"));
-    let ours = text(|room, count, size| unsafe {
-        sys::muxandu_timestamp_to_rfc3339_nanos(stamp(at), room, count, size)
-    });
+    let ours =
+        text(|room, count, size| unsafe { sys::muxandu_timestamp_to_rfc3339_nanos(stamp(at), room, count, size) });
     of.same("timestamp_to_rfc3339_nanos", stamp(at), ours, theirs);
 }
 
-fn read(text: &str) -> Answer<MuxanduCivil> {
-    answered(|out| unsafe { sys::muxandu_civil_from_rfc3339(text.as_ptr(), text.len(), out) })
+fn read(text: &str) -> Answer<MuxanduDateTime> {
+    answered(|out| unsafe { sys::muxandu_date_time_from_rfc3339(text.as_ptr(), text.len(), out) })
 }
 
 fn read_instant(text: &str) -> Answer<MuxanduTimestamp> {
@@ -110,18 +109,18 @@ fn refused_offset(text: &str) -> Option<&'static str> {
 }
 
 /// What 0.3.9 reads in place of a second of 60, which it has at the end of a month in UTC alone.
-fn leap_second(text: &str) -> Answer<MuxanduCivil> {
-    let civil = read(&format!("{}59{}", &text[..17], &text[19..]))?;
-    let civil = MuxanduCivil { nanosecond: 999_999_999, ..civil };
-    let last = answered(|out| sys::muxandu_timestamp_from_civil(civil, out))?;
+fn leap_second(text: &str) -> Answer<MuxanduDateTime> {
+    let date_time = read(&format!("{}59{}", &text[..17], &text[19..]))?;
+    let date_time = MuxanduDateTime { nanosecond: 999_999_999, ..date_time };
+    let last = answered(|out| sys::muxandu_timestamp_from_date_time(date_time, out))?;
     let next = MuxanduTimestamp { seconds: last.seconds + 1, nanoseconds: 0 };
-    let next = answered(|out| sys::muxandu_civil_from_timestamp(next, 0, out))?;
+    let next = answered(|out| sys::muxandu_date_time_from_timestamp(next, 0, out))?;
     let is_first_of_month = (next.day, next.hour, next.minute, next.second) == (1, 0, 0, 0);
-    if is_first_of_month { Ok(civil) } else { Err("second") }
+    if is_first_of_month { Ok(date_time) } else { Err("second") }
 }
 
 /// What 0.3.9 reads, from what we read, and why it is another thing.
-fn foretold(text: &str) -> (Answer<MuxanduCivil>, &'static str) {
+fn foretold(text: &str) -> (Answer<MuxanduDateTime>, &'static str) {
     let ours = read(text);
     if text.as_bytes().get(10) == Some(&b' ') {
         return (Err("syntax"), SPACE);
@@ -151,7 +150,7 @@ fn compare_text(of: &mut Compared, text: &str) {
     let ours = read(text);
     let (foretold, stated) = foretold(text);
     let theirs = read_by_time(text);
-    of.foretold("civil_from_rfc3339", text, stated, (ours, foretold, theirs.map(shown)));
+    of.foretold("date_time_from_rfc3339", text, stated, (ours, foretold, theirs.map(shown)));
     if ours == foretold {
         of.same("timestamp_from_rfc3339", text, read_instant(text), theirs.and_then(instant));
     }
@@ -160,28 +159,34 @@ fn compare_text(of: &mut Compared, text: &str) {
 
 /// What we read where 0.3.9 reads another thing: a space as a T, the month of 00 as a month, the first part that is out of its
 /// range, no second of 60, and the offset with its sign.
-fn compare_stated(of: &mut Compared, text: &str, ours: Answer<MuxanduCivil>, theirs: Answer<MuxanduCivil>) {
+fn compare_stated(of: &mut Compared, text: &str, ours: Answer<MuxanduDateTime>, theirs: Answer<MuxanduDateTime>) {
     if text.as_bytes().get(10) == Some(&b' ') {
         let with_t = format!("{}T{}", &text[..10], &text[11..]);
-        of.same("civil_from_rfc3339, as with a T", text, ours, read(&with_t));
+        of.same("date_time_from_rfc3339, as with a T", text, ours, read(&with_t));
         return compare_text(of, &with_t);
     }
     if text.get(5..7) == Some("00") {
         let has_form = read(&format!("{}01{}", &text[..5], &text[7..])) != Err("syntax");
-        return of.same("civil_from_rfc3339, a month of 00", text, ours == Err("month"), has_form);
+        return of.same("date_time_from_rfc3339, a month of 00", text, ours == Err("month"), has_form);
     }
     let names_offset = theirs == Err("offset hour") || theirs == Err("offset minute");
     if names_offset && ours != theirs && ours != Err("syntax") {
         let before = place_of_offset(text).map_or(String::new(), |place| format!("{}Z", &text[..place]));
-        of.same("civil_from_rfc3339, as without the offset", text, ours, read(&before));
+        of.same("date_time_from_rfc3339, as without the offset", text, ours, read(&before));
         return compare_text(of, &before);
     }
     if text.get(17..19) == Some("60") {
-        return of.same("civil_from_rfc3339, a second of 60", text, ours.is_err(), true);
+        return of.same("date_time_from_rfc3339, a second of 60", text, ours.is_err(), true);
     }
-    if let (Ok(civil), Some((_, tail))) = (theirs, zone(text)) {
-        let offset_seconds = if tail.starts_with("-00:") { -civil.offset_seconds } else { civil.offset_seconds };
-        of.same("civil_from_rfc3339, with the sign", text, ours, Ok(MuxanduCivil { offset_seconds, ..civil }));
+    if let (Ok(date_time), Some((_, tail))) = (theirs, zone(text)) {
+        let offset_seconds =
+            if tail.starts_with("-00:") { -date_time.offset_seconds } else { date_time.offset_seconds };
+        of.same(
+            "date_time_from_rfc3339, with the sign",
+            text,
+            ours,
+            Ok(MuxanduDateTime { offset_seconds, ..date_time }),
+        );
     }
 }
 

@@ -1,0 +1,424 @@
+// Every call that the package and `time` 0.3.9 have, by the same text over either: `library` is one of them.
+use std::fmt::Write as _;
+use std::hint::black_box;
+
+use library::error::ComponentRange;
+use library::{Date, Duration, Month, OffsetDateTime, PrimitiveDateTime, Time, UtcOffset, Weekday};
+
+use crate::source::Input;
+
+/// What a call answers.
+type Answers = Vec<i128>;
+
+const MONTHS: [Month; 12] = [
+    Month::January,
+    Month::February,
+    Month::March,
+    Month::April,
+    Month::May,
+    Month::June,
+    Month::July,
+    Month::August,
+    Month::September,
+    Month::October,
+    Month::November,
+    Month::December,
+];
+
+const WEEKDAYS: [Weekday; 7] = [
+    Weekday::Monday,
+    Weekday::Tuesday,
+    Weekday::Wednesday,
+    Weekday::Thursday,
+    Weekday::Friday,
+    Weekday::Saturday,
+    Weekday::Sunday,
+];
+
+fn month(input: &Input) -> Month {
+    MONTHS[usize::from(input.month - 1)]
+}
+
+fn put_text(text: &str, out: &mut Answers) {
+    let mut number = 0_i128;
+    for byte in text.bytes() {
+        number = number.wrapping_mul(257).wrapping_add(i128::from(byte));
+    }
+    out.push(number);
+}
+
+fn put_refusal(refusal: &ComponentRange, out: &mut Answers) {
+    put_text(refusal.name(), out);
+}
+
+/// Answers as numbers.
+trait Put {
+    fn put(&self, out: &mut Answers);
+}
+
+macro_rules! put_numbers {
+    ($($Number:ident)+) => {
+        $(impl Put for $Number {
+            fn put(&self, out: &mut Answers) {
+                out.push(i128::from(*self));
+            }
+        })+
+    };
+}
+
+put_numbers! { i8 u8 i16 u16 i32 u32 i64 i128 bool }
+
+macro_rules! put_parts {
+    ($($Type:ident: $value:ident => $parts:expr;)+) => {
+        $(impl Put for $Type {
+            fn put(&self, out: &mut Answers) {
+                let $value = *self;
+                $parts.put(out);
+            }
+        })+
+    };
+}
+
+put_parts! {
+    Month: value => u8::from(value);
+    Weekday: value => value.number_days_from_monday();
+    Date: value => value.to_calendar_date();
+    Time: value => value.as_hms_nano();
+    UtcOffset: value => value.whole_seconds();
+    Duration: value => (value.whole_seconds(), value.subsec_nanoseconds());
+    PrimitiveDateTime: value => (value.date(), value.time());
+    OffsetDateTime: value => (value.date(), value.time(), value.offset());
+}
+
+macro_rules! put_tuples {
+    ($($($Part:ident $place:tt)+;)+) => {
+        $(impl<$($Part: Put),+> Put for ($($Part,)+) {
+            fn put(&self, out: &mut Answers) {
+                $(self.$place.put(out);)+
+            }
+        })+
+    };
+}
+
+put_tuples! {
+    A 0 B 1;
+    A 0 B 1 C 2;
+    A 0 B 1 C 2 D 3;
+}
+
+impl<T: Put> Put for Option<T> {
+    fn put(&self, out: &mut Answers) {
+        match self {
+            Some(value) => value.put(out),
+            None => out.push(i128::MIN),
+        }
+    }
+}
+
+impl<T: Put> Put for Result<T, ComponentRange> {
+    fn put(&self, out: &mut Answers) {
+        match self {
+            Ok(value) => value.put(out),
+            Err(refusal) => put_refusal(refusal, out),
+        }
+    }
+}
+
+macro_rules! put {
+    ($out:expr, $($value:expr),+ $(,)?) => {
+        $($value.put($out);)+
+    };
+}
+
+/// The reads of the date, which all types have.
+macro_rules! put_date_reads {
+    ($out:expr, $value:expr) => {
+        put!(
+            $out,
+            $value.year(),
+            $value.month(),
+            $value.day(),
+            $value.ordinal(),
+            $value.iso_week(),
+            $value.sunday_based_week(),
+            $value.monday_based_week(),
+            $value.to_calendar_date(),
+            $value.to_ordinal_date(),
+            $value.to_iso_week_date(),
+            $value.weekday(),
+            $value.to_julian_day(),
+        );
+    };
+}
+
+macro_rules! put_time_reads {
+    ($out:expr, $value:expr) => {
+        put!(
+            $out,
+            $value.hour(),
+            $value.minute(),
+            $value.second(),
+            $value.millisecond(),
+            $value.microsecond(),
+            $value.nanosecond(),
+        );
+    };
+}
+
+macro_rules! put_sums {
+    ($out:expr, $value:expr, $duration:expr) => {
+        put!(
+            $out,
+            $value.checked_add($duration),
+            $value.checked_sub($duration),
+            $value.saturating_add($duration),
+            $value.saturating_sub($duration),
+        );
+    };
+}
+
+macro_rules! put_date_replacements {
+    ($out:expr, $value:expr, $input:expr) => {
+        put!(
+            $out,
+            $value.replace_year($input.year),
+            $value.replace_month(month($input)),
+            $value.replace_day($input.day),
+        );
+    };
+}
+
+macro_rules! put_time_replacements {
+    ($out:expr, $value:expr, $input:expr) => {
+        put!(
+            $out,
+            $value.replace_hour($input.clock.0),
+            $value.replace_minute($input.clock.1),
+            $value.replace_second($input.clock.2),
+            $value.replace_millisecond($input.small as u16),
+            $value.replace_microsecond($input.small),
+            $value.replace_nanosecond($input.nanosecond),
+        );
+    };
+}
+
+fn put_display(value: &impl std::fmt::Display, out: &mut Answers) {
+    let mut text = String::with_capacity(64);
+    write!(text, "{value}").unwrap();
+    put_text(&text, out);
+}
+
+fn duration(input: &Input) -> Duration {
+    Duration::new(input.seconds, input.nanoseconds)
+}
+
+/// The answers of a round.
+pub fn answers(input: &Input, out: &mut Answers) {
+    let (hour, minute, second) = input.clock;
+    put!(
+        out,
+        Date::from_calendar_date(input.year, month(input), input.day),
+        Date::from_ordinal_date(input.year, input.ordinal),
+        Date::from_iso_week_date(input.year, input.week, WEEKDAYS[usize::from(input.weekday)]),
+        Date::from_julian_day(input.julian_day),
+        Time::from_hms(hour, minute, second),
+        Time::from_hms_milli(hour, minute, second, input.small as u16),
+        Time::from_hms_micro(hour, minute, second, input.small),
+        Time::from_hms_nano(hour, minute, second, input.nanosecond),
+        UtcOffset::from_whole_seconds(input.offset_seconds),
+        month(input).next(),
+        month(input).previous(),
+        WEEKDAYS[usize::from(input.weekday)].next(),
+        WEEKDAYS[usize::from(input.weekday)].previous(),
+        WEEKDAYS[usize::from(input.weekday)].number_from_sunday(),
+        OffsetDateTime::from_unix_timestamp(input.second),
+    );
+    // 0.3.9 has no offset of 24 hours and more.
+    if input.offset.0.unsigned_abs() < 24 {
+        put!(out, UtcOffset::from_hms(input.offset.0, input.offset.1, input.offset.2));
+    }
+    let duration = duration(input);
+    put!(
+        out,
+        duration,
+        duration.whole_weeks(),
+        duration.whole_days(),
+        duration.whole_hours(),
+        duration.whole_minutes(),
+        duration.whole_milliseconds(),
+        duration.whole_microseconds(),
+        duration.whole_nanoseconds(),
+        duration.subsec_milliseconds(),
+        duration.subsec_microseconds(),
+        duration.is_negative(),
+        duration.abs(),
+        duration.checked_add(Duration::seconds(input.second)),
+        duration.checked_sub(Duration::seconds(input.second)),
+        duration.checked_mul(input.offset_seconds),
+        // 0.3.9 divides seconds and nanoseconds apart, and loses a nanosecond where both leave a rest.
+        Duration::seconds(input.seconds).checked_div(input.offset_seconds),
+        -duration,
+    );
+    let (Ok(date), Ok(time)) = (
+        Date::from_julian_day(input.julian_day),
+        Time::from_hms_nano(hour % 24, minute % 60, second % 60, input.nanosecond % 1_000_000_000),
+    ) else {
+        return;
+    };
+    put_date_reads!(out, date);
+    put!(out, date.next_day(), date.previous_day());
+    put_sums!(out, date, duration);
+    put_date_replacements!(out, date, input);
+    put_display(&date, out);
+    put_time_reads!(out, time);
+    put!(out, time.as_hms(), time.as_hms_milli(), time.as_hms_micro(), time + duration, time - duration);
+    put_time_replacements!(out, time, input);
+    put_display(&time, out);
+
+    let plain = PrimitiveDateTime::new(date, time);
+    put_date_reads!(out, plain);
+    put_time_reads!(out, plain);
+    put_sums!(out, plain, duration);
+    put_date_replacements!(out, plain, input);
+    put_time_replacements!(out, plain, input);
+    put!(out, plain.replace_time(Time::MIDNIGHT), plain.replace_date(Date::MAX));
+    put_display(&plain, out);
+
+    // 0.3.9 keeps the date-time in UTC, so what clocks at an offset show at the ends of the range is not compared.
+    let Ok(at) = OffsetDateTime::from_unix_timestamp(input.second) else { return };
+    let at = at + Duration::nanoseconds(i64::from(input.nanosecond));
+    let offset = UtcOffset::from_whole_seconds(input.offset_seconds).unwrap();
+    let shown = at.to_offset(offset);
+    put!(
+        out,
+        shown,
+        shown.unix_timestamp(),
+        shown.unix_timestamp_nanos(),
+        shown.to_hms(),
+        shown.to_hms_milli(),
+        shown.to_hms_micro(),
+        shown.to_hms_nano(),
+        OffsetDateTime::from_unix_timestamp_nanos(shown.unix_timestamp_nanos()),
+        offset,
+        offset.as_hms(),
+        offset.whole_hours(),
+        offset.whole_minutes(),
+        offset.minutes_past_hour(),
+        offset.seconds_past_minute(),
+        offset.is_negative(),
+    );
+    put_date_reads!(out, shown);
+    put_time_reads!(out, shown);
+    put_date_replacements!(out, shown, input);
+    put_time_replacements!(out, shown, input);
+    if input.seconds.unsigned_abs() < 100_000_000_000 || input.seconds.unsigned_abs() > 100_000_000_000_000 {
+        put_sums!(out, shown, duration);
+    }
+    put!(
+        out,
+        shown.replace_time(time),
+        // 0.3.9 takes what clocks in UTC show, which is right from the offset 0 alone.
+        at.replace_offset(offset),
+        shown == at,
+        shown < at + Duration::seconds(i64::from(input.offset_seconds)),
+        shown - (at - Duration::seconds(input.seconds % 1_000_000_000)),
+    );
+    put_display(&shown, out);
+    put_display(&offset, out);
+}
+
+/// Values that loops go over.
+pub struct Data {
+    inputs: Vec<Input>,
+    dates: Vec<Date>,
+    times: Vec<Time>,
+    plain: Vec<PrimitiveDateTime>,
+    shown: Vec<OffsetDateTime>,
+    offsets: Vec<UtcOffset>,
+    durations: Vec<Duration>,
+}
+
+impl Data {
+    pub fn new(inputs: &[Input]) -> Data {
+        let dates: Vec<Date> = inputs.iter().map(|input| Date::from_julian_day(input.julian_day).unwrap()).collect();
+        let times: Vec<Time> = inputs
+            .iter()
+            .map(|input| Time::from_hms_nano(input.clock.0, input.clock.1, input.clock.2, input.nanosecond).unwrap())
+            .collect();
+        let plain: Vec<PrimitiveDateTime> =
+            dates.iter().zip(&times).map(|(date, time)| PrimitiveDateTime::new(*date, *time)).collect();
+        let offsets: Vec<UtcOffset> =
+            inputs.iter().map(|input| UtcOffset::from_whole_seconds(input.offset_seconds).unwrap()).collect();
+        let shown = plain.iter().zip(&offsets).map(|(plain, offset)| plain.assume_offset(*offset)).collect();
+        let durations = inputs.iter().map(|input| Duration::new(input.seconds % 100_000_000, input.nanoseconds)).collect();
+        Data { inputs: inputs.to_vec(), dates, times, plain, shown, offsets, durations }
+    }
+}
+
+macro_rules! loops {
+    ($($name:literal: $data:ident, $at:ident, $($item:ident of $field:ident),+ => $answer:expr;)+) => {
+        /// A name and a loop for each call.
+        pub const LOOPS: &[(&str, fn(&Data) -> u64)] = &[
+            $(($name, |$data: &Data| {
+                for $at in 0..$data.inputs.len() {
+                    $(let $item = black_box(&$data.$field[$at]);)+
+                    _ = black_box($answer);
+                }
+                $data.inputs.len() as u64
+            }),)+
+        ];
+    };
+}
+
+/// The place after, for the second of two values.
+fn after(at: usize) -> usize {
+    (at + 1) & 4_095
+}
+
+loops! {
+    "`Date::from_calendar_date`": data, at, input of inputs => Date::from_calendar_date(input.year, MONTHS[usize::from(input.month - 1)], input.day);
+    "`Date::from_ordinal_date`": data, at, input of inputs => Date::from_ordinal_date(input.year, input.ordinal);
+    "`Date::from_iso_week_date`": data, at, input of inputs => Date::from_iso_week_date(input.year, input.week, WEEKDAYS[usize::from(input.weekday)]);
+    "`Date::from_julian_day`": data, at, input of inputs => Date::from_julian_day(input.julian_day);
+    "`year`": data, at, date of dates => date.year();
+    "`to_calendar_date`": data, at, date of dates => date.to_calendar_date();
+    "`ordinal`": data, at, date of dates => date.ordinal();
+    "`weekday`": data, at, date of dates => date.weekday();
+    "`to_iso_week_date`": data, at, date of dates => date.to_iso_week_date();
+    "`sunday_based_week`": data, at, date of dates => date.sunday_based_week();
+    "`to_julian_day`": data, at, date of dates => date.to_julian_day();
+    "`next_day`": data, at, date of dates => date.next_day();
+    "`Date::checked_add`": data, at, date of dates, duration of durations => date.checked_add(*duration);
+    "`Date - Date`": data, at, date of dates => *date - data.dates[after(at)];
+    "`Date < Date`": data, at, date of dates => *date < data.dates[after(at)];
+    "`Date::replace_year`": data, at, date of dates => date.replace_year(2024);
+    "`Date` written": data, at, date of dates => date.to_string();
+    "`Time::from_hms_nano`": data, at, input of inputs => Time::from_hms_nano(input.clock.0, input.clock.1, input.clock.2, input.nanosecond);
+    "`Time::as_hms_nano`": data, at, time of times => time.as_hms_nano();
+    "`Time + Duration`": data, at, time of times, duration of durations => *time + *duration;
+    "`Time - Time`": data, at, time of times => *time - data.times[after(at)];
+    "`Time` written": data, at, time of times => time.to_string();
+    "`UtcOffset::from_hms`": data, at, input of inputs => UtcOffset::from_hms(input.offset.0, input.offset.1, input.offset.2);
+    "`UtcOffset::from_whole_seconds`": data, at, input of inputs => UtcOffset::from_whole_seconds(input.offset_seconds);
+    "`UtcOffset::as_hms`": data, at, offset of offsets => offset.as_hms();
+    "`PlainDateTime::checked_add`": data, at, plain of plain, duration of durations => plain.checked_add(*duration);
+    "`PlainDateTime::saturating_sub`": data, at, plain of plain, duration of durations => plain.saturating_sub(*duration);
+    "`PlainDateTime - PlainDateTime`": data, at, plain of plain => *plain - data.plain[after(at)];
+    "`PlainDateTime < PlainDateTime`": data, at, plain of plain => *plain < data.plain[after(at)];
+    "`PlainDateTime::replace_hour`": data, at, plain of plain => plain.replace_hour(12);
+    "`PlainDateTime` written": data, at, plain of plain => plain.to_string();
+    "`OffsetDateTime::from_unix_timestamp`": data, at, input of inputs => OffsetDateTime::from_unix_timestamp(input.second);
+    "`from_unix_timestamp_nanos`": data, at, input of inputs => OffsetDateTime::from_unix_timestamp_nanos(i128::from(input.second) * 1_000_000_000 + 7);
+    "`unix_timestamp`": data, at, shown of shown => shown.unix_timestamp();
+    "`unix_timestamp_nanos`": data, at, shown of shown => shown.unix_timestamp_nanos();
+    "`to_offset`": data, at, shown of shown, offset of offsets => shown.to_offset(*offset);
+    "`to_offset(UTC)`": data, at, shown of shown => shown.to_offset(UtcOffset::UTC);
+    "`OffsetDateTime`: `to_calendar_date`, `to_hms`": data, at, shown of shown => (shown.to_calendar_date(), shown.to_hms());
+    "`OffsetDateTime::weekday`": data, at, shown of shown => shown.weekday();
+    "`OffsetDateTime::checked_add`": data, at, shown of shown, duration of durations => shown.checked_add(*duration);
+    "`OffsetDateTime - OffsetDateTime`": data, at, shown of shown => *shown - data.shown[after(at)];
+    "`OffsetDateTime < OffsetDateTime`": data, at, shown of shown => *shown < data.shown[after(at)];
+    "`OffsetDateTime == OffsetDateTime`": data, at, shown of shown => *shown == data.shown[after(at)];
+    "`OffsetDateTime::replace_year`": data, at, shown of shown => shown.replace_year(2024);
+    "`OffsetDateTime` written": data, at, shown of shown => shown.to_string();
+}

@@ -1,0 +1,165 @@
+// What the page must say, in a browser by its fields and its table, and elsewhere by the functions that fill them. It stands
+// after the page's own script. The last line is 'N passed, M failed'.
+
+const RANDOM_INSTANTS = 100_000;
+
+// What is typed, and the rows that must come: of the instant and of what is refused.
+const ROWS = [
+    [
+        ["2024-02-28T23:30:00-01:00", "+02:00", "2024-03-01T00:00:00Z"],
+        "In UTC=2024-02-29T00:30:00Z|At the offset=2024-02-29T02:30:00+02:00|Unix seconds=1709166600|Day of the week=Thursday" +
+            "|ISO week=2024-W09-4|Day of the year=60|To the other=23:30:00 before it, -84600 s",
+    ],
+    [
+        ["0", "-00:30", ""],
+        "In UTC=1970-01-01T00:00:00Z|At the offset=1969-12-31T23:30:00-00:30|Unix seconds=0|Day of the week=Wednesday" +
+            "|ISO week=1970-W01-3|Day of the year=365",
+    ],
+    [
+        ["-0.5", "Z", "0"],
+        "In UTC=1969-12-31T23:59:59.5Z|At the offset=1969-12-31T23:59:59.5Z|Unix seconds=-0.5|Day of the week=Wednesday" +
+            "|ISO week=1970-W01-3|Day of the year=365|To the other=00:00:00.5 before it, -0.5 s",
+    ],
+    [
+        [" 2021-01-03T23:30:00.000000001Z ", "+05:45", "2020-12-28T00:00:00Z"],
+        "In UTC=2021-01-03T23:30:00.000000001Z|At the offset=2021-01-04T05:15:00.000000001+05:45" +
+            "|Unix seconds=1609716600.000000001|Day of the week=Monday|ISO week=2021-W01-1|Day of the year=4" +
+            "|To the other=6 days 23:30:00.000000001 after it, 603000.000000001 s|JavaScript's Date=2021-01-03T23:30:00.000Z",
+    ],
+    [
+        ["253402300800", "+14:00", "253402300800.0"],
+        "In UTC=+10000-01-01 0:00:00.0 +00:00:00|At the offset=+10000-01-01 14:00:00.0 +14:00:00|Unix seconds=253402300800" +
+            "|Day of the week=Saturday|ISO week=9999-W52-6|Day of the year=1|To the other=the same instant",
+    ],
+    [
+        ["31494784780799.999999999", "-12:00", ""],
+        "In UTC=+999999-12-31 23:59:59.999999999 +00:00:00|At the offset=+999999-12-31 11:59:59.999999999 -12:00:00" +
+            "|Unix seconds=31494784780799.999999999|Day of the week=Friday|ISO week=999999-W52-5|Day of the year=365",
+    ],
+    [
+        ["-31619087596800", "Z", "31494784780799"],
+        "In UTC=-999999-01-01 0:00:00.0 +00:00:00|At the offset=-999999-01-01 0:00:00.0 +00:00:00|Unix seconds=-31619087596800" +
+            "|Day of the week=Monday|ISO week=-999999-W01-1|Day of the year=1" +
+            "|To the other=730484633 days 23:59:59 before it, -63113872377599 s",
+    ],
+    [["2023-02-29T12:00:00Z", "Z", ""], "at DAY_OF_MONTH|JavaScript's Date=2023-03-01T12:00:00.000Z"],
+    [["2024-02-28T24:00:00Z", "Z", ""], "at HOUR|JavaScript's Date=2024-02-29T00:00:00.000Z"],
+    [["2016-12-31T23:59:60Z", "Z", ""], "at SECOND"],
+    [["2024-13-01T00:00:00Z", "Z", ""], "at MONTH"],
+    [["2024-01-01T00:61:00Z", "Z", ""], "at MINUTE"],
+    [["2024-01-01T00:00:00+00:60", "Z", ""], "at OFFSET_MINUTE"],
+    [["yesterday", "Z", ""], "at SYNTAX"],
+    [["", "Z", ""], "at SYNTAX"],
+    [["99999999999999999999", "Z", ""], "at TIMESTAMP"],
+    [["31494784780800", "Z", ""], "at TIMESTAMP"],
+    [["-31619087596801", "Z", ""], "at TIMESTAMP"],
+    [["31494784780799", "+00:01", ""], "offset RESULT"],
+    [["-31619087596800", "-00:01", ""], "offset RESULT"],
+    [["0", "+24:00", ""], "offset OFFSET_HOUR"],
+    [["0", "2", ""], "offset SYNTAX"],
+    [["0", "", ""], "offset SYNTAX"],
+    [["0", "Z", "2024-02-30T00:00:00Z"], "other DAY_OF_MONTH"],
+    [["0", "Z", "<b>x</b>"], "other SYNTAX"],
+];
+
+const isPage = typeof document !== "undefined";
+const told = [];
+let passed = 0, failed = 0;
+
+function count(problem) {
+    if (problem === null) passed++;
+    else if (failed++ < 20) told.push(problem);
+}
+
+/** What the page shows, once this is typed. */
+function shownByFields(typed) {
+    const fields = ["at", "offset", "other"].map((id) => document.getElementById(id));
+    fields.forEach((field, at) => {
+        field.value = typed[at];
+    });
+    fields[0].dispatchEvent(new Event("input"));
+    const lines = [...document.querySelectorAll("tbody tr")];
+    const rows = lines.map((line) => [...line.cells].map((cell) => cell.textContent).join("="));
+    const wrong = fields.filter((field) => field.getAttribute("aria-invalid") === "true");
+    const refused = document.getElementById("refused");
+    if (refused.hidden !== (wrong.length === 0) || document.getElementById("times").hidden === refused.hidden) return "neither";
+    if (refused.hidden && document.querySelectorAll("svg line").length < 2) return "no picture";
+    return [...wrong.map((field) => `${field.id} ${refused.firstChild.textContent}`), ...rows].join("|");
+}
+
+/** The same by the functions alone. */
+function shownByFunctions(typed) {
+    const [text, offset, other] = typed.map((field) => field.trim());
+    const joined = (rows) => rows.map(([name, value]) => `${name}=${value}`);
+    try {
+        return joined(answers(text, offset, other).rows).join("|");
+    } catch (error) {
+        const { name, rows } = refusal(error, text);
+        return [`${error.field} ${name}`, ...joined(rows)].join("|");
+    }
+}
+
+for (const [typed, wanted] of ROWS) {
+    const shown = (isPage ? shownByFields : shownByFunctions)(typed);
+    count(shown === wanted ? null : `${typed}: ${shown}, and not ${wanted}`);
+}
+
+// A link holds what was typed, and the fields have it again; each example shows something.
+if (isPage) {
+    const typed = ["2024-02-29T00:00:00.5+02:00", "+05:45", "0"];
+    shownByFields(typed);
+    const kept = new URLSearchParams(document.getElementById("link").hash.slice(1));
+    count(["at", "offset", "other"].every((id, at) => kept.get(id) === typed[at]) ? null : `the link holds ${kept}`);
+    const fields = FIELDS.map((id) => document.getElementById(id)), values = () => fields.map((field) => field.value);
+    const { hash } = document.getElementById("link");
+    shownByFields(["0", "Z", ""]);
+    location.hash = hash;
+    restore(fields);
+    count(values().every((value, at) => value === typed[at]) ? null : `the fields have ${values()}`);
+    const buttons = [...document.querySelectorAll("#examples button")];
+    const refused = document.getElementById("refused"), tbody = document.querySelector("tbody");
+    buttons.forEach((button) => {
+        button.click();
+        count(tbody.rows.length > 0 || !refused.hidden ? null : `${button.textContent}: nothing is shown`);
+    });
+}
+
+let state = 7n;
+
+function random(least, most) {
+    state = (state * 6364136223846793005n + 1442695040888963407n) & ((1n << 64n) - 1n);
+    return least + Math.floor((Number(state >> 11n) / 2 ** 53) * (most - least + 1));
+}
+
+/** Where the page and `Date` differ on an instant, if they do. */
+function beside(second, minutes) {
+    const sign = minutes < 0 ? "-" : "+", size = Math.abs(minutes);
+    const offset = `${sign}${two(Math.floor(size / 60))}:${two(size % 60)}`;
+    const { rows, there } = answers(String(second), offset, "");
+    const wall = new Date((second + minutes * 60) * 1000), start = new Date(0);
+    start.setUTCFullYear(wall.getUTCFullYear(), 0, 1);
+    const { year, month, day, hour, minute, second: shownSecond, dayOfYear, weekday } = there;
+    const parts = [year, month, day, hour, minute, shownSecond, dayOfYear, weekday % 7];
+    const wanted = [
+        wall.getUTCFullYear(), wall.getUTCMonth() + 1, wall.getUTCDate(), wall.getUTCHours(), wall.getUTCMinutes(),
+        wall.getUTCSeconds(), Math.floor((wall - start) / 86_400_000) + 1, wall.getUTCDay(),
+    ];
+    const utc = new Date(second * 1000).toISOString().replace(".000Z", "Z");
+    const isSame = parts.every((part, at) => part === wanted[at]) && (utc.length > 20 || rows[0][1] === utc);
+    return isSame ? null : `${second} at ${offset}: ${parts}, and not ${wanted}; ${rows[0][1]}, and not ${utc}`;
+}
+
+for (let round = 0; round < RANDOM_INSTANTS; round++) {
+    const second = round % 2 ? random(-62_167_219_200, 253_402_300_799) : random(-8.639e12, 8.639e12);
+    count(beside(second, random(-1_439, 1_439)));
+}
+
+const end = [...told, `${passed} passed, ${failed} failed`].join("\n");
+if (isPage) {
+    const checked = document.createElement("pre");
+    checked.id = "checked";
+    checked.textContent = end;
+    document.body.append(checked);
+} else {
+    console.log(end);
+}

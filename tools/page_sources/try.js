@@ -1,0 +1,268 @@
+import { Timestamp } from "../../bindings/js/timestamp.js";
+import { parseOffset } from "../../bindings/js/offset_date_time.js";
+import { Refused } from "../../bindings/js/refused.js";
+import { PROVED_MODULE } from "../../bindings/js/module.js";
+
+const WEEKDAYS = ["Monday", "Tuesday", "Wednesday", "Thursday", "Friday", "Saturday", "Sunday"];
+const MONTHS = ["Jan", "Feb", "Mar", "Apr", "May", "Jun", "Jul", "Aug", "Sep", "Oct", "Nov", "Dec"];
+
+const EXAMPLES = [
+    ["a leap day", "2024-02-28T23:30:00-01:00", "+02:00", "2024-03-01T00:00:00Z"],
+    ["no such day", "2023-02-29T12:00:00Z", "+02:00", ""],
+    ["the first second", "0", "-00:30", ""],
+    ["a leap second", "2016-12-31T23:59:60Z", "Z", ""],
+    ["week 53", "2021-01-03T23:30:00.000000001Z", "+05:45", "2020-12-28T00:00:00Z"],
+    ["year 10000", "253402300800", "+14:00", ""],
+    ["the last nanosecond", "31494784780799.999999999", "-12:00", ""],
+];
+
+/** The instant of what was typed: a Unix second, with a fraction or without, or a text of RFC 3339. */
+function instantOf(text) {
+    const number = /^([+-]?)(\d+)(?:\.(\d{1,9}))?$/.exec(text);
+    if (!number) return Timestamp.parse(text);
+    const nanoseconds = BigInt(number[2]) * 1_000_000_000n + BigInt((number[3] ?? "").padEnd(9, "0"));
+    return Timestamp.fromNanoseconds(number[1] === "-" ? -nanoseconds : nanoseconds);
+}
+
+const two = (number) => String(number).padStart(2, "0");
+
+/** A duration in days, hours, minutes and seconds. */
+function lengthText(duration) {
+    const size = duration.nanoseconds < 0n ? -duration.nanoseconds : duration.nanoseconds;
+    const seconds = size / 1_000_000_000n, days = seconds / 86_400n;
+    const clock = [seconds / 3_600n % 24n, seconds / 60n % 60n, seconds % 60n].map(two).join(":");
+    const fraction = String(size % 1_000_000_000n).padStart(9, "0").replace(/0+$/, "");
+    return `${days === 0n ? "" : days === 1n ? "1 day " : `${days} days `}${clock}${fraction && "." + fraction}`;
+}
+
+function differenceText(at, other) {
+    const difference = at.since(other);
+    if (difference.nanoseconds === 0n) return "the same instant";
+    return `${lengthText(difference)} ${difference.nanoseconds > 0n ? "after" : "before"} it, ${difference}`;
+}
+
+function secondsText(at) {
+    const { nanoseconds } = at, size = nanoseconds < 0n ? -nanoseconds : nanoseconds;
+    const fraction = String(size % 1_000_000_000n).padStart(9, "0").replace(/0+$/, "");
+    return `${nanoseconds < 0n ? "-" : ""}${size / 1_000_000_000n}${fraction && "." + fraction}`;
+}
+
+/** What JavaScript's own `Date` makes of a text, where that is something else. */
+function dateText(text, at) {
+    if (/^[+-]?\d+(?:\.\d*)?$/.test(text)) return null;
+    const time = Date.parse(text);
+    if (Number.isNaN(time)) return at === null ? null : "no date";
+    if (at !== null && BigInt(time) * 1_000_000n === at.nanoseconds) return null;
+    return new Date(time).toISOString();
+}
+
+/** What is refused of the field of that id, or the result. */
+function reading(field, read) {
+    try {
+        return read();
+    } catch (error) {
+        if (error instanceof Refused) throw Object.assign(error, { field });
+        throw error;
+    }
+}
+
+/** What the page says: the instant, what clocks at the offset show, and the rows of the table. */
+export function answers(text, offset, other) {
+    const at = reading("at", () => instantOf(text));
+    const there = reading("offset", () => at.toOffset(parseOffset(offset)));
+    const second = other === "" ? null : reading("other", () => instantOf(other));
+    const date = dateText(text, at);
+    const rows = [
+        ["In UTC", at.toString(), "utc"],
+        ["At the offset", there.toString(), "there"],
+        ["Unix seconds", secondsText(at)],
+        ["Day of the week", WEEKDAYS[there.weekday - 1]],
+        ["ISO week", `${there.isoYear}-W${two(there.isoWeek)}-${there.weekday}`],
+        ["Day of the year", String(there.dayOfYear)],
+    ];
+    if (second) rows.push(["To the other", differenceText(at, second)]);
+    if (date !== null) rows.push(["JavaScript's Date", date]);
+    return { at, there, second, rows };
+}
+
+/** What the page says of what it refuses. */
+export function refusal(error, text) {
+    const date = error.field === "at" ? dateText(text, null) : null;
+    const rows = date === null ? [] : [["JavaScript's Date", date]];
+    return { name: error.refusal, meaning: error.message.slice(error.refusal.length + 2), rows };
+}
+
+// The picture: a day around the instant, as clocks in UTC show it, and above it as those at the offset do.
+
+const HALF = 12n * 3_600_000_000_000n;
+
+/** Each of these hours of the clocks in the picture: where it is, from -1 to 1, and what they show. */
+function hoursAround(shown, step) {
+    const found = [];
+    for (let hour = -48; hour <= 48; hour += step) {
+        try {
+            const then = shown.truncate("day").add({ hours: hour }), past = then.since(shown).nanoseconds;
+            if (past >= -HALF && past <= HALF) found.push({ at: Number(past) / Number(HALF), then });
+        } catch (error) {
+            if (!(error instanceof Refused)) throw error;
+        }
+    }
+    return found;
+}
+
+const clockText = (shown) => `${two(shown.hour)}:${two(shown.minute)}:${two(shown.second)}`;
+const dayText = (shown) => `${WEEKDAYS[shown.weekday - 1].slice(0, 3)} ${shown.day} ${MONTHS[shown.month - 1]}`;
+
+function drawn(name, attributes, text = "") {
+    const element = document.createElementNS("http://www.w3.org/2000/svg", name);
+    for (const [key, value] of Object.entries(attributes)) element.setAttribute(key, value);
+    element.textContent = text;
+    return element;
+}
+
+/** The edges of the days in the picture, from -1 to 1: midnights, and where it or the range of the library ends. */
+function edgesAround(shown) {
+    const ends = [shown.saturatingSubtract({ nanoseconds: HALF }), shown.saturatingAdd({ nanoseconds: HALF })];
+    const [first, last] = ends.map((end) => Number(end.since(shown).nanoseconds) / Number(HALF));
+    const midnights = hoursAround(shown, 24).map((midnight) => midnight.at);
+    return [first, ...midnights.filter((at) => at > first && at < last), last];
+}
+
+/** The name of the day between two edges, in the wider part of it beside the line in the middle, if there is room for it. */
+function drawName(svg, shown, start, end, middle, y) {
+    const hour = hoursAround(shown, 1).find(({ at }) => at >= start && at < end);
+    if (!hour) return;
+    const [from, to] = start + end < 0 ? [start, Math.min(end, 0)] : [Math.max(start, 0), end];
+    const name = dayText(hour.then), names = [`${name} ${hour.then.year}`, name], scale = middle - 14;
+    const text = names.find((each) => (to - from) * scale > 7 * each.length + 6);
+    if (text) svg.append(drawn("text", { x: middle + ((from + to) / 2) * scale, y }, text));
+}
+
+/** The days that clocks show on one side of the line of time, and their hours. */
+function drawClocks(svg, shown, kind, width, line, isAbove) {
+    const middle = width / 2, place = (at) => middle + at * (middle - 14), toward = isAbove ? -1 : 1;
+    const top = isAbove ? line - 62 : line + 34, edges = edgesAround(shown);
+    edges.slice(1).forEach((end, day) => {
+        const start = edges[day], isItsDay = start <= 0 && (end > 0 || day === edges.length - 2);
+        const fill = `var(--${kind}-${isItsDay ? "day" : "other"})`;
+        svg.append(drawn("rect", { x: place(start), y: top, width: place(end) - place(start), height: 28, fill }));
+        drawName(svg, shown, start, end, middle, top + 18);
+    });
+    for (const hour of hoursAround(shown, width < 480 ? 6 : 3)) {
+        const x = place(hour.at);
+        svg.append(drawn("line", { x1: x, x2: x, y1: line, y2: line + toward * 8, stroke: `var(--${kind})` }));
+        if (Math.abs(x - middle) > 12) {
+            svg.append(drawn("text", { x, y: line + (isAbove ? -14 : 24), class: "quiet" }, two(hour.then.hour)));
+        }
+    }
+}
+
+/** Draws both clocks on one line of time. */
+function draw(place, { at, there, second }) {
+    const width = Math.max(place.clientWidth, 280), line = 98, height = 2 * line;
+    const utc = at.toOffset(0), middle = width / 2;
+    const told = `${clockText(utc)} in UTC is ${clockText(there)} at the offset`;
+    const svg = drawn("svg", { viewBox: `0 0 ${width} ${height}`, height, role: "img", "aria-label": told });
+    svg.append(drawn("line", { x1: 14, x2: width - 14, y1: line, y2: line, stroke: "var(--quiet)" }));
+    drawClocks(svg, utc, "utc", width, line, true);
+    drawClocks(svg, there, "there", width, line, false);
+    svg.append(drawn("line", { x1: middle, x2: middle, y1: 22, y2: height - 22, stroke: "var(--ink)", "stroke-width": 2 }));
+    svg.append(drawn("text", { x: middle, y: 15, class: "utc" }, `${clockText(utc)} UTC`));
+    svg.append(drawn("text", { x: middle, y: height - 8, class: "there" }, `${clockText(there)} at the offset`));
+    if (second) {
+        const past = second.since(at).nanoseconds;
+        const x = middle + (Number(past) / Number(HALF)) * (middle - 14), ends = { y1: 30, y2: height - 30 };
+        if (past >= -HALF && past <= HALF) {
+            svg.append(drawn("line", { x1: x, x2: x, ...ends, stroke: "var(--ink)", "stroke-dasharray": "4 3" }));
+        }
+    }
+    place.replaceChildren(svg);
+}
+
+const FIELDS = ["at", "offset", "other"];
+
+function fill(tbody, rows) {
+    tbody.replaceChildren();
+    for (const [name, value, kind = ""] of rows) {
+        const row = tbody.insertRow(), head = document.createElement("th");
+        row.className = kind;
+        head.scope = "row";
+        head.textContent = name;
+        row.append(head);
+        row.insertCell().textContent = value;
+    }
+}
+
+/** Shows what the fields say, and keeps it in the address. */
+function show(fields) {
+    const [text, offset, other] = fields.map((field) => field.value.trim());
+    const refused = document.getElementById("refused"), times = document.getElementById("times");
+    const tbody = document.querySelector("tbody");
+    let wrong = null;
+    try {
+        const answer = answers(text, offset, other);
+        fill(tbody, answer.rows);
+        times.hidden = false;
+        draw(times, answer);
+    } catch (error) {
+        if (!(error instanceof Refused)) throw error;
+        const { name, meaning, rows } = refusal(error, text);
+        const bold = document.createElement("b");
+        bold.textContent = name;
+        refused.replaceChildren(bold, ` ${meaning}`);
+        fill(tbody, rows);
+        times.hidden = true;
+        wrong = error.field;
+    }
+    refused.hidden = wrong === null;
+    for (const field of fields) field.setAttribute("aria-invalid", String(field.id === wrong));
+    keep(fields);
+}
+
+function keep(fields) {
+    const typed = fields.filter((field) => field.value).map((field) => [field.id, field.value.trim()]);
+    const address = `#${new URLSearchParams(typed)}`;
+    document.getElementById("link").href = address;
+    try {
+        history.replaceState(null, "", address);
+    } catch {
+        // where a browser holds no history for a page, the link has it
+    }
+}
+
+/** Fills the fields from the address, or with the first example. */
+function restore(fields) {
+    const kept = new URLSearchParams(location.hash.slice(1));
+    const others = kept.has("at") ? ["", "Z", ""] : EXAMPLES[0].slice(1);
+    fields.forEach((field, at) => {
+        field.value = kept.get(field.id) ?? others[at];
+    });
+}
+
+function start() {
+    const fields = FIELDS.map((id) => document.getElementById(id));
+    for (const field of fields) field.addEventListener("input", () => show(fields));
+    document.querySelector("form").addEventListener("submit", (event) => event.preventDefault());
+    for (const [name, ...values] of EXAMPLES) {
+        const button = document.createElement("button");
+        button.type = "button";
+        button.textContent = name;
+        button.addEventListener("click", () => {
+            fields.forEach((field, at) => {
+                field.value = values[at];
+            });
+            show(fields);
+        });
+        document.getElementById("examples").append(button);
+    }
+    addEventListener("hashchange", () => {
+        restore(fields);
+        show(fields);
+    });
+    addEventListener("resize", () => show(fields));
+    document.getElementById("size").textContent = `the proved module: SHA-256 ${PROVED_MODULE.slice(0, 16)}…`;
+    restore(fields);
+    show(fields);
+}
+
+if (typeof document !== "undefined") start();

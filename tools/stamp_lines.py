@@ -1,0 +1,208 @@
+"""Lines that begin with stamps of RFC 3339, and what `stamps` makes of them: by Python's `re` and `datetime`, nanoseconds by
+hand."""
+
+import random
+import re
+from datetime import datetime, timedelta
+
+FORM = re.compile(
+    rb"(\d{4})-(\d\d)-(\d\d)[Tt ](\d\d):(\d\d):(\d\d)(?:\.(\d+))?(?:([Zz])|([+-])(\d\d):(\d\d))"
+)
+
+# The most bytes of a stamp.
+LONGEST = 1_024
+
+EPOCH = datetime(2000, 1, 1)
+EPOCH_SECONDS = 946_684_800
+SECONDS_OF_400_YEARS = 146_097 * 86_400
+NANOS = 1_000_000_000
+
+PARTS = ("month", "day", "hour", "minute", "second", "offset hour", "offset minute")
+
+
+def second_of(year, month, day, hour, minute, second):
+    """The Unix second of a wall clock in UTC, of any year: `datetime` has no year 0, so 400 years are shifted."""
+    shifts = 1 if year < 1 else 0
+    span = datetime(year + 400 * shifts, month, day, hour, minute, second) - EPOCH
+    return EPOCH_SECONDS + span.days * 86_400 + span.seconds - shifts * SECONDS_OF_400_YEARS
+
+
+def days_of(year, month):
+    """The days of a month."""
+    following = (year, month + 1) if month < 12 else (year + 1, 1)
+    first = second_of(year, month, 1, 0, 0, 0)
+    # The year 10000 is not one of `datetime`; December has 31 days anyway.
+    return 31 if month == 12 else (second_of(*following, 1, 0, 0, 0) - first) // 86_400
+
+
+def stamp_of(line):
+    """The instant in nanoseconds and the length of the stamp in front, or why there is none: None, or the name of a part."""
+    found = FORM.match(line[:LONGEST])
+    if not found:
+        return None
+    year, month, day, hour, minute, second = (int(found[k]) for k in range(1, 7))
+    fraction = int(((found[7] or b"") + b"000000000")[:9])
+    hours, minutes = (0, 0) if found[8] else (int(found[10]), int(found[11]))
+    tests = (
+        1 <= month <= 12,
+        1 <= month <= 12 and 1 <= day <= days_of(year, month),
+        hour <= 23,
+        minute <= 59,
+        second <= 59,
+        hours <= 23,
+        minutes <= 59,
+    )
+    for name, holds in zip(PARTS, tests):
+        if not holds:
+            return name
+    sign = -1 if found[9] == b"-" else 1
+    instant = second_of(year, month, day, hour, minute, second) - sign * (hours * 3_600 + minutes * 60)
+    return instant * NANOS + fraction, found.end()
+
+
+def wall_text(wall):
+    """The text of a wall clock in nanoseconds without an offset, with nine digits; None outside the years 0 to 9999."""
+    seconds, nanos = divmod(wall, NANOS)
+    shifts = 0
+    if seconds < -62_135_596_800:
+        seconds, shifts = seconds + SECONDS_OF_400_YEARS, 1
+    if seconds < -62_135_596_800 or seconds > 253_402_300_799:
+        return None
+    at = EPOCH + timedelta(seconds=seconds - EPOCH_SECONDS)
+    year = at.year - 400 * shifts
+    if year < 0:
+        return None
+    return f"{year:04}-{at.month:02}-{at.day:02}T{at.hour:02}:{at.minute:02}:{at.second:02}.{nanos:09}".encode()
+
+
+def text_at(instant, offset):
+    """The text of an instant at an offset of so many minutes."""
+    wall = wall_text(instant + offset * 60 * NANOS)
+    if wall is None:
+        return None
+    if offset == 0:
+        return wall + b"Z"
+    return wall + f"{'-' if offset < 0 else '+'}{abs(offset) // 60:02}:{abs(offset) % 60:02}".encode()
+
+
+def unix_text(instant):
+    """The Unix seconds with nine digits."""
+    seconds, nanos = divmod(abs(instant), NANOS)
+    return f"{'-' if instant < 0 else ''}{seconds}.{nanos:09}".encode()
+
+
+STYLES = {
+    "utc": lambda instant, _: text_at(instant, 0),
+    "at": text_at,
+    "unix": lambda instant, _: unix_text(instant),
+}
+
+
+def offset_of(text):
+    """The minutes of an offset."""
+    if text == "Z":
+        return 0
+    return (-1 if text[0] == "-" else 1) * (int(text[1:3]) * 60 + int(text[4:6]))
+
+
+def result_of(words, data):
+    """What `stamps` writes for an input, and the line that it tells of on standard error, if there is one."""
+    word, is_strict = words[0], words[-1] == "--strict"
+    lines = data.split(b"\n")
+    written = []
+    last = None
+    goes_on = word == "until"
+    bound = stamp_of(words[1].encode())[0] if word in ("since", "until") else None
+    offset = offset_of(words[1]) if word == "at" else 0
+
+    def told(number, cause):
+        return b"".join(written), f"stamps: line {number}: {cause}\n".encode()
+
+    for number, line in enumerate(lines, 1):
+        end = b"\n" if number < len(lines) else b""
+        if not line and not end:
+            break
+        stamp = stamp_of(line)
+        is_read = isinstance(stamp, tuple)
+        cause = None if is_read else "no stamp" if stamp is None else f"{stamp} is out of range"
+        if word in STYLES:
+            text = STYLES[word](stamp[0], offset) if is_read else None
+            if text is None:
+                if is_strict:
+                    return told(number, cause or "its instant has no text")
+                written.append(line + end)
+            else:
+                written.append(text + line[stamp[1] :] + end)
+        elif word == "check":
+            if is_read:
+                if last is not None and stamp[0] < last:
+                    return told(number, "earlier than the one before")
+                last = stamp[0]
+            elif stamp is not None:
+                return told(number, cause)
+        else:
+            if is_read:
+                goes_on = (stamp[0] >= bound) == (word == "since")
+            if goes_on:
+                written.append(line + end)
+    return b"".join(written), b""
+
+
+def stamp_text(rng, second, nanos):
+    """One of the texts of an instant."""
+    offset = rng.choice((0, 0, 330, -480, 60, -210, 1_439, -1_439))
+    wall = wall_text((second + offset * 60) * NANOS)
+    body = wall[:19]
+    digits = rng.choice((0, 0, 3, 6, 9, 12))
+    if digits:
+        body += b"." + (b"%09d" % nanos + b"000")[:digits]
+    if offset == 0 and rng.random() < 0.8:
+        zone = rng.choice((b"Z", b"Z", b"z"))
+    else:
+        zone = b"%c%02d:%02d" % (b"-"[0] if offset < 0 else b"+"[0], abs(offset) // 60, abs(offset) % 60)
+    return body[:10] + rng.choice((b"T", b"T", b"T", b"t", b" ")) + body[11:] + zone
+
+
+ODD = (
+    b"",
+    b"    at Main.run(Main.java:12)",
+    b"2024-02-30T00:00:00Z no such day",
+    b"2023-13-01T00:00:00Z",
+    b"2024-06-30T23:59:60Z a leap second",
+    b"2024-06-30T24:00:00Z",
+    b"2024-06-30T12:00:00+24:00",
+    b"2024-06-30T12:00:00+05:60",
+    b"2024-06-30T12:00:00.Z",
+    b"2024-06-30T12:00:00",
+    b"2024-06-30T12:00:00+0530",
+    b"0000-01-01T00:00:00+00:01 before the year 0 in UTC",
+    b"9999-12-31T23:59:59.999999999-00:01 after the year 9999 in UTC",
+    b"0000-02-29T12:00:00Z",
+    b"1969-12-31T23:59:59.5Z half a second before 1970",
+    b"2024-06-30T12:00:00.1234567899Z ten digits",
+    b"2024-06-30T12:00:00ZZ and Z",
+    b"\xff\xfe no text",
+)
+
+
+def lines_of(seed, count, is_ordered=False):
+    """So many lines: mostly stamps at mixed offsets, some with other fronts, some long; in the order of time, and refused by
+    none, where that is asked."""
+    rng = random.Random(seed)
+    second = 1_700_000_000
+    lines = []
+    for _ in range(count):
+        second += rng.randrange(3) if is_ordered else rng.randrange(-20_000, 20_000)
+        kind = rng.random()
+        if kind < 0.06 and not is_ordered:
+            lines.append(rng.choice(ODD))
+        elif kind < 0.12:
+            lines.append(b"    at line %d" % rng.randrange(1_000))
+        else:
+            rest = b" [worker-%d] GET /items/%d took %d ms" % (rng.randrange(8), rng.randrange(10_000), rng.randrange(500))
+            lines.append(stamp_text(rng, second, rng.randrange(NANOS) if not is_ordered else 0) + rest)
+        if kind > 0.9995 and not is_ordered:
+            lines[-1] += b" long" * rng.choice((195, 200, 300, 20_000))
+        if kind < 0.0003 and not is_ordered:
+            lines[-1] = b"2024-06-30T12:00:00." + b"1" * rng.choice((1_002, 1_003, 1_004, 2_000)) + b"Z long stamp"
+    return b"\n".join(lines) + (b"\n" if seed % 2 == 0 else b"")
