@@ -5,7 +5,7 @@ use Rattle.std.specs.List.{list_all}
 use Rattle.std.specs.Prelude.{IsAscii, codes}
 use Rattle.calendar_values.specs.Parts.{part_name}
 use Rattle.calendar_values.specs.declared.component_range.Part.{Part}
-use Rattle.calendar_values.specs.declared.component_range.Part.TheVariants.{Year, Month, Day, Ordinal, JulianDay, Hour, Minute, Second, Millisecond}
+use Rattle.calendar_values.specs.declared.component_range.Part.TheVariants.{Year, Month, Day, Ordinal, Week, JulianDay, Hour, Minute, Second, Millisecond}
 use Rattle.calendar_values.specs.declared.component_range.Part.TheVariants.{Microsecond, Nanosecond, Hours, Minutes, Seconds, OffsetSeconds, Timestamp}
 use Rattle.calendar_values.specs.declared.component_range.Part.TheVariants.{Milliseconds, Microseconds, Nanoseconds}
 
@@ -26,6 +26,7 @@ part_name-short Year = short (codes "year") refl refl
 part_name-short Month = short (codes "month") refl refl
 part_name-short Day = short (codes "day") refl refl
 part_name-short Ordinal = short (codes "ordinal") refl refl
+part_name-short Week = short (codes "week") refl refl
 part_name-short JulianDay = short (codes "julian_day") refl refl
 part_name-short Hour = short (codes "hour") refl refl
 part_name-short Minute = short (codes "minute") refl refl

@@ -4,7 +4,9 @@ use Rattle.calendar_values.specs.Calendar.{epoch_julian_day, is_leap_year, days_
 use Rattle.calendar_values.specs.Clock.{nanos_per_microsecond, nanos_per_millisecond, clock_of_parts, IsTimeOfDay}
 use Rattle.calendar_values.specs.Outcomes.{Outcome}
 use Rattle.calendar_values.specs.Range.{first_year, last_year, first_day, last_day, is_outside, IsDay}
-use Rattle.calendar_values.specs.Refusals.{Refusal, IsDateOfRange, IsOrdinalDateOfRange, date_refusal, ordinal_refusal, clock_refusal, outright_refusal}
+use Rattle.calendar_values.specs.Refusals.{Refusal, IsDateOfRange, IsOrdinalDateOfRange, IsIsoWeekDateOfRange}
+use Rattle.calendar_values.specs.Refusals.{date_refusal, ordinal_refusal, iso_week_date_refusal, clock_refusal, outright_refusal}
+use Rattle.calendar_values.specs.Weeks.{weeks_in_year, day_of_iso_week_date}
 
 -- the day of a year, a month and a day of the month, or the refusal of one of them
 unfoldable pub calendar_date : ℤ → ℕ → ℕ → Result ℤ Refusal
@@ -34,6 +36,22 @@ ordinal_date_outcome y ordinal = record {
   value = day_of_ordinal_date y ordinal;
   refusal = ordinal_refusal y ordinal;
   answer = ordinal_date y ordinal;
+}
+
+-- the day of an ISO year, an ISO week and a day of the week, or the refusal of the year or the week
+unfoldable pub iso_week_date : ℤ → ℕ → ℕ → Result ℤ Refusal
+iso_week_date y week weekday =
+    if is_outside first_year last_year y || ((week == 0 || nat_lt (weeks_in_year y) week)
+    || is_outside first_day last_day (day_of_iso_week_date y week weekday)) then Err (iso_week_date_refusal y week)
+    else Ok (day_of_iso_week_date y week weekday)
+
+-- what an ISO year, an ISO week and a day of the week come to
+abbrev pub iso_week_date_outcome : ℤ → ℕ → ℕ → Outcome ℤ
+iso_week_date_outcome y week weekday = record {
+  fits = IsIsoWeekDateOfRange y week weekday;
+  value = day_of_iso_week_date y week weekday;
+  refusal = iso_week_date_refusal y week;
+  answer = iso_week_date y week weekday;
 }
 
 -- the day of a Julian day, or its refusal

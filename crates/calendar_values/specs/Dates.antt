@@ -38,6 +38,12 @@ pub record ShowsDate (y : ℤ) (m d : ℕ) (n : ℤ) : Type 0 where
   pub month : month_of n ≡ m
   pub day : day_of_month_of n ≡ d
 
+-- the day shows this ISO year, ISO week and day of the week
+pub record ShowsIsoWeekDate (y : ℤ) (w d : ℕ) (n : ℤ) : Type 0 where
+  pub year : iso_year_of n ≡ y
+  pub week : iso_week_of n ≡ w
+  pub weekday : weekday_of n ≡ d
+
 -- the day shows this year and day of the year
 pub record ShowsOrdinalDate (y : ℤ) (o : ℕ) (n : ℤ) : Type 0 where
   pub year : year_of n ≡ y

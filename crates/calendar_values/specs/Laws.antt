@@ -3,7 +3,7 @@ use Rattle.std.specs.Prelude.{◌≡◌, ◌↔◌, ℕ, ◌*◌, ◌<◌, ◌�
 use Rattle.calendar_values.specs.Calendar.{days_in_year, year_start, year_of, ordinal_of, month_of, day_of_month_of, day_of_calendar_date, day_of_ordinal_date}
 use Rattle.calendar_values.specs.Calendar.{IsInYear, IsCalendarDate, IsOrdinalDate}
 use Rattle.calendar_values.specs.Clock.{IsClock, Shows, hour_of, minute_of, second_of, nanosecond_of, nanos_per_millisecond, nanos_per_microsecond}
-use Rattle.calendar_values.specs.Constructors.{calendar_date_outcome, ordinal_date_outcome, julian_date_outcome}
+use Rattle.calendar_values.specs.Constructors.{calendar_date_outcome, ordinal_date_outcome, iso_week_date_outcome, julian_date_outcome}
 use Rattle.calendar_values.specs.Constructors.{hms_outcome, hms_milli_outcome, hms_micro_outcome, hms_nano_outcome}
 use Rattle.calendar_values.specs.Offsets.{offset_outcome, offset_seconds_outcome}
 use Rattle.calendar_values.specs.Outcomes.{IsOneAnswer}
@@ -80,6 +80,7 @@ TruncationIsGreatestMultiple = (unit c : ℕ) → 0 < unit → IsGreatestMultipl
 pub record OutcomesAreAnswers : Type 0 where
   pub calendar_date : (y : ℤ) (m d : ℕ) → IsOneAnswer (calendar_date_outcome y m d)
   pub ordinal_date : (y : ℤ) (o : ℕ) → IsOneAnswer (ordinal_date_outcome y o)
+  pub iso_week_date : (y : ℤ) (w d : ℕ) → IsOneAnswer (iso_week_date_outcome y w d)
   pub julian_date : (j : ℤ) → IsOneAnswer (julian_date_outcome j)
   pub hms : (h m s : ℕ) → IsOneAnswer (hms_outcome h m s)
   pub hms_milli : (h m s milli : ℕ) → IsOneAnswer (hms_milli_outcome h m s milli)

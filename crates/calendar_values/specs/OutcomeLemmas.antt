@@ -1,18 +1,20 @@
 -- What a call comes to that may refuse is one answer: by a test, put in its place, and so for each constructor and replacement.
-use Rattle.std.proofs.Common.{◌≡◌, ◌↔◌, ℕ, ◌≤◌, ◌==◌, ◌||◌, Bool, true, false, cond, refl, ap, arith, List, Result, Ok, Err, OkIff, IfErr, nat_lt}
-use Rattle.std.proofs.Common.{ℤ, pos, neg_ℤ, ◌-ℤ◌}
+use Rattle.std.proofs.Common.{◌≡◌, ◌↔◌, ℕ, ◌≤◌, ◌<◌, ◌==◌, ◌||◌, Bool, true, false, cond, refl, ap, arith, codes, List, Result, Ok, Err, OkIff, IfErr, nat_lt}
+use Rattle.std.proofs.Common.{ℤ, ◌≤ℤ◌, pos, neg_ℤ, ◌-ℤ◌}
 use Rattle.std.proofs.lemmas.Bool.Decides.{nat_tests}
 use Rattle.std.proofs.lemmas.Int.{ints}
 use Rattle.calendar_values.specs.Calendar.{epoch_julian_day, is_leap_year, days_in_year, days_in_month, day_of_calendar_date, day_of_ordinal_date}
 use Rattle.calendar_values.specs.Calendar.{year_of, month_of, day_of_month_of}
 use Rattle.calendar_values.specs.Clock.{clock_of_parts, IsTimeOfDay}
 use Rattle.calendar_values.specs.Constructors.{calendar_date, calendar_date_outcome, ordinal_date, ordinal_date_outcome, julian_date, julian_date_outcome}
-use Rattle.calendar_values.specs.Constructors.{clock_with, clock_outcome}
+use Rattle.calendar_values.specs.Constructors.{clock_with, clock_outcome, iso_week_date, iso_week_date_outcome}
 use Rattle.calendar_values.specs.Offsets.{least_offset, greatest_offset, AreOffsetParts, IsOffset, offset_refusal, seconds_of_signed_parts}
 use Rattle.calendar_values.specs.Offsets.{offset_of_parts, offset_outcome, offset_of_seconds, offset_seconds_outcome}
 use Rattle.calendar_values.specs.Outcomes.{Outcome, Gives, IsOneAnswer, answer_within, within, at_most}
-use Rattle.calendar_values.specs.Range.{first_year, last_year, first_day, last_day, is_outside, IsDay}
-use Rattle.calendar_values.specs.Refusals.{Refusal, IsDateOfRange, IsOrdinalDateOfRange, date_refusal, ordinal_refusal, clock_refusal, outright_refusal}
+use Rattle.calendar_values.specs.Range.{first_year, last_year, first_day, last_day, is_outside, IsDay, IsYear}
+use Rattle.calendar_values.specs.Refusals.{Refusal, IsDateOfRange, IsOrdinalDateOfRange, IsIsoWeekDateOfRange}
+use Rattle.calendar_values.specs.Refusals.{date_refusal, ordinal_refusal, iso_week_date_refusal, clock_refusal, outright_refusal, conditional_refusal}
+use Rattle.calendar_values.specs.Weeks.{weeks_in_year, day_of_iso_week_date}
 use Rattle.calendar_values.specs.Replacements.{month_outcome, day_outcome, ordinal_outcome}
 use Rattle.calendar_values.specs.CalendarDateLemmas.{IsCalendarDate-of, days_in_month_bounds}
 use Rattle.calendar_values.specs.DayLemmas.{IsYear-year_of}
@@ -50,6 +52,60 @@ unfolding ordinal_date
 IsOneAnswer-ordinal_date y o =
     IsOneAnswer-tested (IsOrdinalDateOfRange y o) (is_outside first_year last_year y || ((o == 0) || nat_lt (days_in_year y) o))
     (day_of_ordinal_date y o) (ordinal_refusal y o) (λ f. grind (arith, nat_tests, ints)) (λ t. grind (arith, nat_tests, ints))
+
+pub IsOneAnswer-iso_week_date : (y : ℤ) (w d : ℕ) → IsOneAnswer (iso_week_date_outcome y w d)
+unfolding iso_week_date
+IsOneAnswer-iso_week_date y w d =
+    IsOneAnswer-tested (IsIsoWeekDateOfRange y w d)
+    (is_outside first_year last_year y || (((w == 0) || nat_lt (weeks_in_year y) w) || is_outside first_day last_day (day_of_iso_week_date y w d)))
+    (day_of_iso_week_date y w d) (iso_week_date_refusal y w) (λ f. grind (arith, nat_tests, ints)) (λ t. grind (arith, nat_tests, ints))
+
+-- the same of an answer that was found
+Gives-answer : {T : Type 0} (outcome : Outcome T) (answer : Result T Refusal) → answer ≡ outcome.answer → IsOneAnswer outcome → Gives answer outcome
+Gives-answer outcome answer e h = rw e h
+
+iso_week_date-tested : (y : ℤ) (w d : ℕ) (outside weeks past : Bool) → is_outside first_year last_year y ≡ outside
+    → ((w == 0) || nat_lt (weeks_in_year y) w) ≡ weeks → is_outside first_day last_day (day_of_iso_week_date y w d) ≡ past
+    → iso_week_date y w d ≡ cond (outside || (weeks || past)) (Err (iso_week_date_refusal y w)) (Ok (day_of_iso_week_date y w d))
+unfolding iso_week_date
+iso_week_date-tested y w d outside weeks past e f g = rw (e, f, g) refl
+
+inside_range : (first last n : ℤ) → first ≤ℤ n → n ≤ℤ last → is_outside first last n ≡ false
+inside_range first last n low high = grind (arith, ints)
+
+week_inside : (w most : ℕ) → 1 ≤ w → w ≤ most → ((w == 0) || nat_lt most w) ≡ false
+week_inside w most first last = grind (arith, nat_tests)
+
+-- a week that no year has
+pub Gives-week : (y : ℤ) (w d : ℕ) → IsYear y → ((w == 0) || nat_lt 53 w) ≡ true → weeks_in_year y ≤ 53
+    → Gives (Err (outright_refusal (codes "week"))) (iso_week_date_outcome y w d)
+Gives-week y w d year out most =
+    let inside = inside_range first_year last_year y year.0 year.1 in
+    let weeks : ((w == 0) || nat_lt (weeks_in_year y) w) ≡ true = grind (arith, nat_tests) in
+    Gives-answer (iso_week_date_outcome y w d) _ (rw (iso_week_date-tested y w d false true _ inside weeks refl, inside, out) refl)
+    (IsOneAnswer-iso_week_date y w d)
+
+-- a day, or one past the range
+pub Gives-day : (y n : ℤ) (w d : ℕ) → IsYear y → 1 ≤ w → w ≤ weeks_in_year y → IsDay n → n ≡ day_of_iso_week_date y w d
+    → Gives (Ok n) (iso_week_date_outcome y w d)
+Gives-day y n w d year first last day e =
+    let weeks = week_inside w (weeks_in_year y) first last in
+    let inside = inside_range first_year last_year y year.0 year.1 in
+    let here = rw e at (inside_range first_day last_day n day.0 day.1) in
+    Gives-answer (iso_week_date_outcome y w d) _ (rw (iso_week_date-tested y w d false false false inside weeks here, e) refl)
+    (IsOneAnswer-iso_week_date y w d)
+
+pub Gives-day_past : (y n : ℤ) (w d : ℕ) → IsYear y → 1 ≤ w → w ≤ weeks_in_year y → w ≤ 53 → ¬ IsDay n → n ≡ day_of_iso_week_date y w d
+    → Gives (Err (conditional_refusal (codes "year"))) (iso_week_date_outcome y w d)
+Gives-day_past y n w d year first last most past e =
+    let there : ¬ IsDay (day_of_iso_week_date y w d) = rw e at past in
+    let inside = inside_range first_year last_year y year.0 year.1 in
+    let weeks = week_inside w (weeks_in_year y) first last in
+    let week = week_inside w 53 first most in
+    let after : nat_lt (weeks_in_year y) w ≡ false = grind (arith, nat_tests) in
+    let here : is_outside first_day last_day (day_of_iso_week_date y w d) ≡ true = grind (arith, ints) in
+    Gives-answer (iso_week_date_outcome y w d) _ (rw (iso_week_date-tested y w d false false true inside weeks here, inside, week, after) refl)
+    (IsOneAnswer-iso_week_date y w d)
 
 pub IsOneAnswer-julian_date : (j : ℤ) → IsOneAnswer (julian_date_outcome j)
 unfolding julian_date

@@ -3,7 +3,7 @@ use Rattle.std.specs.Prelude.{◌≡◌, ℕ, Bool, List, [], ◌∷◌, codes, 
 use Rattle.std.specs.List.{list_any}
 use Rattle.std.specs.Cmp.Lexicographic.{pointwise}
 use Rattle.calendar_values.specs.declared.component_range.Part.{Part}
-use Rattle.calendar_values.specs.declared.component_range.Part.TheVariants.{Year, Month, Day, Ordinal, JulianDay, Hour, Minute, Second, Millisecond}
+use Rattle.calendar_values.specs.declared.component_range.Part.TheVariants.{Year, Month, Day, Ordinal, Week, JulianDay, Hour, Minute, Second, Millisecond}
 use Rattle.calendar_values.specs.declared.component_range.Part.TheVariants.{Microsecond, Nanosecond, Hours, Minutes, Seconds, OffsetSeconds, Timestamp}
 use Rattle.calendar_values.specs.declared.component_range.Part.TheVariants.{Milliseconds, Microseconds, Nanoseconds}
 
@@ -12,6 +12,7 @@ part_name Year = codes "year"
 part_name Month = codes "month"
 part_name Day = codes "day"
 part_name Ordinal = codes "ordinal"
+part_name Week = codes "week"
 part_name JulianDay = codes "julian_day"
 part_name Hour = codes "hour"
 part_name Minute = codes "minute"
@@ -31,8 +32,8 @@ part_name Nanoseconds = codes "nanoseconds"
 -- all parts
 abbrev pub all_parts : List Part
 all_parts =
-    Year ∷ Month ∷ Day ∷ Ordinal ∷ JulianDay ∷ Hour ∷ Minute ∷ Second ∷ Millisecond ∷ Microsecond ∷ Nanosecond ∷ Hours ∷ Minutes ∷ Seconds ∷ OffsetSeconds ∷
-    Timestamp ∷ Milliseconds ∷ Microseconds ∷ Nanoseconds ∷ []
+    Year ∷ Month ∷ Day ∷ Ordinal ∷ Week ∷ JulianDay ∷ Hour ∷ Minute ∷ Second ∷ Millisecond ∷ Microsecond ∷ Nanosecond ∷ Hours ∷ Minutes ∷ Seconds ∷
+    OffsetSeconds ∷ Timestamp ∷ Milliseconds ∷ Microseconds ∷ Nanoseconds ∷ []
 
 -- this is the name of the part
 abbrev pub is_name_of : List ℕ → Part → Bool
@@ -51,6 +52,7 @@ part_named-part_name Year = refl
 part_named-part_name Month = refl
 part_named-part_name Day = refl
 part_named-part_name Ordinal = refl
+part_named-part_name Week = refl
 part_named-part_name JulianDay = refl
 part_named-part_name Hour = refl
 part_named-part_name Minute = refl

@@ -1,7 +1,7 @@
 -- Days of the week, ISO 8601 weeks, and weeks counted by their Sundays or Mondays.
-use Rattle.std.specs.Prelude.{ℕ, zero, suc, ◌+◌, ◌==◌, if◌then◌else◌, ℤ, pos, ◌+ℤ◌, ◌-ℤ◌, unsigned_abs}
+use Rattle.std.specs.Prelude.{ℕ, zero, suc, ◌+◌, ◌-◌, ◌*◌, ◌==◌, if◌then◌else◌, ℤ, pos, ◌+ℤ◌, ◌-ℤ◌, unsigned_abs}
 use Rattle.std.specs.Int.{int_rem_euclid}
-use Rattle.calendar_values.specs.Calendar.{year_start, year_of, ordinal_of}
+use Rattle.calendar_values.specs.Calendar.{days_in_year, year_start, year_of, ordinal_of}
 
 -- the day of the week of a day, 0 for Monday to 6 for Sunday: day 0 is a Thursday
 unfoldable pub weekday_of : ℤ → ℕ
@@ -28,6 +28,18 @@ count_weekday_of_year weekday n = count_weekday weekday (year_start (year_of n))
 -- the ISO week: week 1 has the first Thursday of the ISO year
 abbrev pub iso_week_of : ℤ → ℕ
 iso_week_of n = count_weekday_of_year 3 (thursday_of n)
+
+-- a year has as many ISO weeks as Thursdays
+abbrev pub weeks_in_year : ℤ → ℕ
+weeks_in_year y = count_weekday 3 (year_start y) (days_in_year y)
+
+-- the Monday of the week of a day
+abbrev pub monday_of : ℤ → ℤ
+monday_of n = n -ℤ pos (weekday_of n)
+
+-- the day of an ISO week date: week 1 is that of 4 January
+abbrev pub day_of_iso_week_date : ℤ → ℕ → ℕ → ℤ
+day_of_iso_week_date y week weekday = monday_of (year_start y +ℤ pos 3) +ℤ pos ((week - 1) * 7) +ℤ pos weekday
 
 -- the week by Sundays: how many Sundays of the year lie on or before the day
 abbrev pub sunday_week_of : ℤ → ℕ

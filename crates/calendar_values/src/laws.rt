@@ -1,6 +1,8 @@
 //! Laws of the definitions that the contracts cite: each function here proves one, for every year,
 //! day and clock, and does nothing when it is called.
-ghost use Rattle.calendar_values.specs.Laws.{YearsFollow, YearIsUnique, CalendarDatesAreDays, OrdinalDatesAreDays, RangeIsWholeYears, ReplacementsKeepTheRest, ClockReplacementsKeepTheRest, TruncationIsGreatestMultiple, OutcomesAreAnswers, WeekdaysRepeat};
+ghost use Rattle.calendar_values.specs.Laws.{YearsFollow, YearIsUnique, CalendarDatesAreDays, OrdinalDatesAreDays, RangeIsWholeYears};
+ghost use Rattle.calendar_values.specs.Laws.{ReplacementsKeepTheRest, ClockReplacementsKeepTheRest, TruncationIsGreatestMultiple, OutcomesAreAnswers};
+ghost use Rattle.calendar_values.specs.Laws.{WeekdaysRepeat};
 
 /// 1970 begins on day 0, and each year begins after the days of the year before.
 pub fn years_follow()

@@ -1,6 +1,7 @@
 //! Durations, which may be negative.
 ghost use Rattle.std.specs.Prelude.{◌≡◌, ℤ, pos, ◌≤◌, ◌*ℤ◌, unsigned_abs};
-ghost use Rattle.calendar_values.specs.Clock.{nanos_per_microsecond, nanos_per_millisecond, nanos_per_second, nanos_per_minute, nanos_per_hour, nanos_per_day, nanos_per_week};
+ghost use Rattle.calendar_values.specs.Clock.{nanos_per_microsecond, nanos_per_millisecond, nanos_per_second, nanos_per_minute, nanos_per_hour};
+ghost use Rattle.calendar_values.specs.Clock.{nanos_per_day, nanos_per_week};
 ghost use Rattle.calendar_values.specs.Durations.{IsDuration, IsDurationParts, duration_of_parts, whole_seconds_of, subsec_nanoseconds_of, whole_days_of};
 
 use crate::units::{NANOS_PER_SECOND, SECONDS_PER_DAY, SECONDS_PER_HOUR, SECONDS_PER_MINUTE};

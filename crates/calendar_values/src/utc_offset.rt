@@ -1,6 +1,7 @@
 //! Offsets from UTC.
 ghost use Rattle.std.specs.Prelude.{◌≡◌, ℤ, unsigned_abs, ◌<◌, ◌≤◌};
-ghost use Rattle.calendar_values.specs.Offsets.{IsOffsetParts, seconds_of_parts, offset_hours_of, offset_minutes_of, offset_seconds_of, with_sign_of, offset_outcome, offset_seconds_outcome};
+ghost use Rattle.calendar_values.specs.Offsets.{IsOffsetParts, seconds_of_parts, offset_hours_of, offset_minutes_of, offset_seconds_of, with_sign_of};
+ghost use Rattle.calendar_values.specs.Offsets.{offset_outcome, offset_seconds_outcome};
 ghost use Rattle.calendar_values.specs.Outcomes.{Gives};
 
 use crate::component_range::ComponentRange;

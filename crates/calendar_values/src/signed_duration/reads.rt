@@ -1,6 +1,7 @@
 //! What a duration is made of.
 ghost use Rattle.std.specs.Prelude.{◌≡◌, ℤ, pos, ◌≤◌, ◌↔◌, IsTrue, ◌<ℤ◌, unsigned_abs};
-ghost use Rattle.calendar_values.specs.Durations.{IsDuration, IsDurationParts, duration_of_parts, whole_seconds_of, subsec_nanoseconds_of, whole_minutes_of, whole_hours_of, whole_days_of, whole_weeks_of};
+ghost use Rattle.calendar_values.specs.Durations.{IsDuration, IsDurationParts, duration_of_parts, whole_seconds_of, subsec_nanoseconds_of};
+ghost use Rattle.calendar_values.specs.Durations.{whole_minutes_of, whole_hours_of, whole_days_of, whole_weeks_of};
 
 use crate::SignedDuration;
 use crate::units::{SECONDS_PER_DAY, SECONDS_PER_HOUR, SECONDS_PER_MINUTE, SECONDS_PER_WEEK};

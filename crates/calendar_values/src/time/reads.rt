@@ -1,6 +1,7 @@
 //! What a time of day shows.
 ghost use Rattle.std.specs.Prelude.{◌≡◌, ◌+◌, ◌-◌, ◌*◌, ◌/◌, ◌<◌, ◌≤◌};
-ghost use Rattle.calendar_values.specs.Clock.{IsClock, IsTimeOfDay, nanos_per_second, nanos_per_millisecond, nanos_per_microsecond, hour_of, minute_of, second_of, millisecond_of, microsecond_of, nanosecond_of};
+ghost use Rattle.calendar_values.specs.Clock.{IsClock, IsTimeOfDay, nanos_per_second, nanos_per_millisecond, nanos_per_microsecond, hour_of};
+ghost use Rattle.calendar_values.specs.Clock.{minute_of, second_of, millisecond_of, microsecond_of, nanosecond_of};
 
 use crate::Time;
 use crate::units::NANOS_PER_SECOND;

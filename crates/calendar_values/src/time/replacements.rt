@@ -1,8 +1,10 @@
 //! Times of day with a part replaced, or truncated to a unit of time.
 ghost use Rattle.std.specs.Prelude.{◌≡◌, ◌+◌, ◌-◌, ◌*◌, ◌/◌, ◌%◌, ◌<◌, ◌≤◌, IfOk};
-ghost use Rattle.calendar_values.specs.Clock.{nanos_per_hour, nanos_per_minute, nanos_per_second, nanos_per_millisecond, nanos_per_microsecond, hour_of, minute_of, second_of, nanosecond_of, Shows};
+ghost use Rattle.calendar_values.specs.Clock.{nanos_per_hour, nanos_per_minute, nanos_per_second, nanos_per_millisecond, nanos_per_microsecond};
+ghost use Rattle.calendar_values.specs.Clock.{hour_of, minute_of, second_of, nanosecond_of, Shows};
 ghost use Rattle.calendar_values.specs.Outcomes.{Gives};
-ghost use Rattle.calendar_values.specs.Replacements.{hour_outcome, minute_outcome, second_outcome, millisecond_outcome, microsecond_outcome, nanosecond_outcome};
+ghost use Rattle.calendar_values.specs.Replacements.{hour_outcome, minute_outcome, second_outcome, millisecond_outcome, microsecond_outcome};
+ghost use Rattle.calendar_values.specs.Replacements.{nanosecond_outcome};
 ghost use Rattle.calendar_values.specs.Truncations.{multiple_below};
 
 use crate::{ComponentRange, Time};

@@ -1,6 +1,6 @@
 //! Dates, beside tables of days counted one at a time.
 use super::is;
-use calendar_values::{ComponentRange, Date, Month, SignedDuration};
+use calendar_values::{ComponentRange, Date, Month, SignedDuration, Weekday};
 use std::hash::{DefaultHasher, Hash, Hasher};
 use std::test::Fail;
 use std::time::Duration;
@@ -122,11 +122,54 @@ fn weeks_are_those_of_another_calendar(rt: HostRuntime) -> Result<(), Fail> {
         let shown = date.weekday();
         is(&rt, date.to_iso_week_date(), (year, week, shown));
         is(&rt, date.iso_week(), week);
+        is(&rt, Date::from_iso_week_date(year, week, shown), Ok(date));
         is(&rt, shown.number_days_from_monday(), weekday);
         let weeks = (date.sunday_based_week(), date.monday_based_week());
         is(&rt, weeks, (by_sundays, by_mondays));
     }
     Ok(())
+}
+
+#[test]
+fn week_dates_have_the_days_of_another_calendar(rt: HostRuntime) {
+    // As Python's `date.fromisocalendar` has them.
+    for (year, week, weekday, wanted) in [
+        (2020, 53, Weekday::Friday, date(2021, 1, 1)),
+        (2015, 53, Weekday::Sunday, date(2016, 1, 3)),
+        (2026, 53, Weekday::Thursday, date(2026, 12, 31)),
+        (2021, 1, Weekday::Monday, date(2021, 1, 4)),
+        (2025, 1, Weekday::Monday, date(2024, 12, 30)),
+    ] {
+        is(&rt, Date::from_iso_week_date(year, week, weekday), wanted);
+    }
+    // The range begins on a Monday, and ends on a Friday.
+    for (year, week, weekday, wanted) in [
+        (-999_999, 1, Weekday::Monday, Date::MIN),
+        (999_999, 52, Weekday::Friday, Date::MAX),
+    ] {
+        is(
+            &rt,
+            Date::from_iso_week_date(year, week, weekday),
+            Ok(wanted),
+        );
+    }
+}
+
+#[test]
+fn week_dates_out_of_the_range_are_refused(rt: HostRuntime) {
+    for (year, week, weekday, name, conditional) in [
+        (1_000_000, 1, Weekday::Monday, "year", false),
+        (-1_000_000, 0, Weekday::Monday, "year", false),
+        (2020, 0, Weekday::Monday, "week", false),
+        (2020, 54, Weekday::Monday, "week", false),
+        (2021, 53, Weekday::Monday, "week", true),
+        (999_999, 53, Weekday::Monday, "week", true),
+        (999_999, 52, Weekday::Saturday, "year", true),
+        (999_999, 52, Weekday::Sunday, "year", true),
+    ] {
+        let wanted = Err(ComponentRange::new(name, conditional));
+        is(&rt, Date::from_iso_week_date(year, week, weekday), wanted);
+    }
 }
 
 #[test]

@@ -1,7 +1,7 @@
 use Rattle.std.proofs.Common.{◌↔◌, ℕ, ◌*◌, ◌≤◌, codes, arith}
 use Rattle.calendar_values.specs.Calendar.{month_of, day_of_month_of}
 use Rattle.calendar_values.specs.OutcomeLemmas.{IsOneAnswer-calendar_date, IsOneAnswer-ordinal_date, IsOneAnswer-julian_date, IsOneAnswer-clock}
-use Rattle.calendar_values.specs.OutcomeLemmas.{IsOneAnswer-offset, IsOneAnswer-offset_seconds, IsOneAnswer-at_most}
+use Rattle.calendar_values.specs.OutcomeLemmas.{IsOneAnswer-offset, IsOneAnswer-offset_seconds, IsOneAnswer-at_most, IsOneAnswer-iso_week_date}
 use Rattle.calendar_values.specs.OutcomeLemmas.{IsOneAnswer-month, IsOneAnswer-day, IsOneAnswer-ordinal}
 use Rattle.calendar_values.proofs.laws.outcomes_are_answers.Goals as goal
 
@@ -16,6 +16,7 @@ pub returns : goal.returns
 returns c = record {
   calendar_date = IsOneAnswer-calendar_date;
   ordinal_date = IsOneAnswer-ordinal_date;
+  iso_week_date = IsOneAnswer-iso_week_date;
   julian_date = IsOneAnswer-julian_date;
   hms = λ h m s. IsOneAnswer-clock h m s (codes "second") 59 s 0 (λ f. (λ g. omega arith, λ g. f));
   hms_milli = λ h m s n. IsOneAnswer-clock h m s (codes "millisecond") 999 n _ (λ f. milliseconds n);
