@@ -2,7 +2,9 @@
 //! and every duration, and does nothing when it is called.
 ghost use Rattle.std.specs.Prelude.{◌≡◌, ◌↔◌};
 ghost use Rattle.calendar_values.specs.WallClock.{IsWallClock};
-ghost use Rattle.plain_times.specs.Laws.{DifferencesUndoSums, DifferencesLeadBack, ReplacementsKeepTheRest, ReplacedPartsReadAsGiven, TruncationsRoundDown, TruncationsRoundDownOnce, PackedNumbersKeepTheOrder, SumsAssociate, SaturatingSumsKeepTheOrder, OutcomesAreAnswers};
+ghost use Rattle.plain_times.specs.Laws.{DifferencesUndoSums, DifferencesLeadBack, ReplacementsKeepTheRest, ReplacedPartsReadAsGiven};
+ghost use Rattle.plain_times.specs.Laws.{TruncationsRoundDown, TruncationsRoundDownOnce, PackedNumbersKeepTheOrder, SumsAssociate};
+ghost use Rattle.plain_times.specs.Laws.{SaturatingSumsKeepTheOrder, OutcomesAreAnswers};
 
 use crate::PlainDateTime;
 use std::hash::Hash;

@@ -2,7 +2,9 @@
 //! so they are those of [`plain_times::laws`]. Each function does nothing when it is called.
 ghost use Rattle.std.specs.Prelude.{◌≡◌, ◌↔◌};
 ghost use Rattle.calendar_values.specs.WallClock.{IsWallClock};
-ghost use Rattle.plain_times.specs.Laws.{DifferencesUndoSums, DifferencesLeadBack, ReplacementsKeepTheRest, ReplacedPartsReadAsGiven, TruncationsRoundDown, TruncationsRoundDownOnce, SumsAssociate, SaturatingSumsKeepTheOrder, OutcomesAreAnswers};
+ghost use Rattle.plain_times.specs.Laws.{DifferencesUndoSums, DifferencesLeadBack, ReplacementsKeepTheRest, ReplacedPartsReadAsGiven};
+ghost use Rattle.plain_times.specs.Laws.{TruncationsRoundDown, TruncationsRoundDownOnce, SumsAssociate, SaturatingSumsKeepTheOrder};
+ghost use Rattle.plain_times.specs.Laws.{OutcomesAreAnswers};
 ghost use Rattle.calendar_values.specs.Outcomes.{IsOneAnswer};
 ghost use Rattle.utc_times.specs.UnixTime.{instant_outcome};
 
