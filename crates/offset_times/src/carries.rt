@@ -6,7 +6,8 @@ ghost use Rattle.calendar_values.specs.Calendar.{days_in_year, IsOrdinalDate, da
 ghost use Rattle.calendar_values.specs.Clock.{IsClock};
 ghost use Rattle.calendar_values.specs.Range.{IsYear};
 ghost use Rattle.calendar_values.specs.WallClock.{wall_clock, wall_day, wall_time};
-ghost use Rattle.offset_times.specs.Carries.{minutes_carried, hours_carried, days_carried, carried_second, carried_minute, carried_hour, carried_clock, IsWithin, CarriesWithin};
+ghost use Rattle.offset_times.specs.Carries.{minutes_carried, hours_carried, days_carried, carried_second, carried_minute, carried_hour};
+ghost use Rattle.offset_times.specs.Carries.{carried_clock, IsWithin, CarriesWithin};
 ghost use Rattle.offset_times.specs.Local.{instant_of, shown_at};
 
 use crate::OffsetDateTime;
@@ -72,22 +73,22 @@ fn parts_at(at: PlainDateTime, from: UtcOffset, to: UtcOffset) -> (i32, u16, Tim
     ensures carried { result.2 ≡ carried_clock (wall_time at) from to }
     ensures within { CarriesWithin 2 2 3 (wall_time at) from to }
 {
-    let (time, days) = moved_time(at.time(), from, to);
+    let (time, days) = carried_time(at.time(), from, to);
     let (year, ordinal) = at.date().to_ordinal_date();
-    let (year, ordinal) = days_later(year, ordinal, days);
+    let (year, ordinal) = ordinal_date_after(year, ordinal, days);
     (year, ordinal, time)
 }
 
 // The time of day that clocks at `to` show when clocks at `from` show this, and the days between the two.
 #[tactic(auto, unfolding(crate::specs::Carries::carried_clock))]
-fn moved_time(time: Time, from: UtcOffset, to: UtcOffset) -> (Time, i8)
+fn carried_time(time: Time, from: UtcOffset, to: UtcOffset) -> (Time, i8)
     ensures clock { result.0 ≡ carried_clock time from to }
     ensures days { result.1 ≡ days_carried time from to }
     ensures within { CarriesWithin 2 2 3 time from to }
 {
-    let (second, minutes) = moved_second(time, from, to);
-    let (minute, hours) = moved_minute(time, from, to, minutes);
-    let (hour, days) = moved_hour(time, from, to, hours);
+    let (second, minutes) = carried_second(time, from, to);
+    let (minute, hours) = carried_minute(time, from, to, minutes);
+    let (hour, days) = carried_hour(time, from, to, hours);
     (
         Time::at_hms_nano(hour, minute, second, time.nanosecond()),
         days,
@@ -96,7 +97,7 @@ fn moved_time(time: Time, from: UtcOffset, to: UtcOffset) -> (Time, i8)
 
 // The second that clocks at `to` show, and the minutes that go out of it.
 #[tactic(auto, using(crate::proofs::CarryLemmas::IsWithin_abs))]
-fn moved_second(time: Time, from: UtcOffset, to: UtcOffset) -> (u8, i8)
+fn carried_second(time: Time, from: UtcOffset, to: UtcOffset) -> (u8, i8)
     ensures second { result.0 ≡ carried_second time from to }
     ensures minutes { result.1 ≡ minutes_carried time from to }
     ensures below { result.0 < 60 }
@@ -112,7 +113,7 @@ fn moved_second(time: Time, from: UtcOffset, to: UtcOffset) -> (u8, i8)
 
 // The minute that clocks at `to` show, with the minutes that go into it, and the hours that go out of it.
 #[tactic(auto, using(crate::proofs::CarryLemmas::IsWithin_abs))]
-fn moved_minute(time: Time, from: UtcOffset, to: UtcOffset, minutes: i8) -> (u8, i8)
+fn carried_minute(time: Time, from: UtcOffset, to: UtcOffset, minutes: i8) -> (u8, i8)
     requires minutes { minutes ≡ minutes_carried time from to }
     requires few { IsWithin 2 minutes }
     ensures minute { result.0 ≡ carried_minute time from to }
@@ -130,7 +131,7 @@ fn moved_minute(time: Time, from: UtcOffset, to: UtcOffset, minutes: i8) -> (u8,
 
 // The hour that clocks at `to` show, with the hours that go into it, and the days that go out of it.
 #[tactic(auto, using(crate::proofs::CarryLemmas::IsWithin_abs))]
-fn moved_hour(time: Time, from: UtcOffset, to: UtcOffset, hours: i8) -> (u8, i8)
+fn carried_hour(time: Time, from: UtcOffset, to: UtcOffset, hours: i8) -> (u8, i8)
     requires hours { hours ≡ hours_carried time from to }
     requires few { IsWithin 2 hours }
     ensures hour { result.0 ≡ carried_hour time from to }
@@ -171,28 +172,28 @@ fn carry_day(hour: u8, from: i8, to: i8, carried: i8) -> (u8, i8)
 
 // A second, a minute or an hour moved from one offset to another, with what is carried into it, and 240 more:
 // four times 60 and ten times 24, so that it is not negative.
-fn lifted_part(part: u8, from: i8, to: i8, carried: i8) -> u16
+fn lifted_part(part: u8, from: i8, to: i8, carried: i8) -> u32
     requires part { part < 60 }
     requires from { IsWithin 59 from }
     requires to { IsWithin 59 to }
     requires carried { IsWithin 2 carried }
     ensures { pos result ≡ pos part +ℤ to -ℤ from +ℤ carried +ℤ pos 240 }
 {
-    (moved_part(part, from, to) + carried as i16 + 240) as u16
+    (moved_part(part, from, to) + carried as i32 + 240) as u32
 }
 
 // A second, a minute or an hour moved from one offset to another.
-fn moved_part(part: u8, from: i8, to: i8) -> i16
+fn moved_part(part: u8, from: i8, to: i8) -> i32
     requires part { part < 60 }
     requires from { IsWithin 59 from }
     requires to { IsWithin 59 to }
     ensures { result ≡ pos part +ℤ to -ℤ from }
 {
-    part as i16 + to as i16 - from as i16
+    part as i32 + to as i32 - from as i32
 }
 
 // The day that comes so many days later: at most three, so that it lies in the same year or in one beside it.
-fn days_later(year: i32, ordinal: u16, days: i8) -> (i32, u16)
+fn ordinal_date_after(year: i32, ordinal: u16, days: i8) -> (i32, u16)
     requires year { IsYear year }
     requires date { IsOrdinalDate year ordinal }
     requires days { IsWithin 3 days }

@@ -2,7 +2,8 @@
 //! offset and duration, and does nothing when it is called.
 ghost use Rattle.std.specs.Prelude.{◌≡◌};
 ghost use Rattle.std.specs.Ordering.{int_eq, int_cmp};
-ghost use Rattle.offset_times.specs.Laws.{ConversionsCompose, OwnOffsetStays, DifferencesUndoSums, DifferencesLeadBack, TruncationsRoundDownOnce, SumsKeepTheOrder, ReplacedPartsReadAsGiven, SumsAssociate, OutcomesAreAnswers};
+ghost use Rattle.offset_times.specs.Laws.{ConversionsCompose, OwnOffsetStays, DifferencesUndoSums, DifferencesLeadBack, TruncationsRoundDownOnce};
+ghost use Rattle.offset_times.specs.Laws.{SumsKeepTheOrder, ReplacedPartsReadAsGiven, SumsAssociate, OutcomesAreAnswers};
 ghost use Rattle.offset_times.specs.Local.{instant_of, IsLocal};
 ghost use Rattle.plain_times.specs.Laws.{ReplacementsKeepTheRest};
 

@@ -17,7 +17,7 @@ mod texts;
 mod unix_time;
 mod with_utc;
 
-pub(crate) use conversions::in_range;
+pub(crate) use conversions::date_time_if_any;
 
 /// A date and a time of day, from those of [`PlainDateTime::MIN`] to those of [`PlainDateTime::MAX`], that
 /// clocks at an offset from UTC show. Its instant may lie outside that range, in UTC: such a value compares,

@@ -4,7 +4,7 @@ ghost use Rattle.calendar_values.specs.WallClock.{IsWallClock};
 ghost use Rattle.offset_times.specs.Local.{instant_of, shown_at, local_at};
 
 use crate::carries::utc_to_offset_raw;
-use crate::offset_date_time::in_range;
+use crate::offset_date_time::date_time_if_any;
 use crate::{Assume, OffsetDateTime};
 use calendar_values::UtcOffset;
 use utc_times::UtcDateTime;
@@ -41,6 +41,6 @@ impl ToOffset for UtcDateTime {
             return Some(OffsetDateTime::from(self));
         }
         let (year, ordinal, time) = utc_to_offset_raw(self, offset);
-        Some(in_range(year, ordinal, time)?.assume_offset(offset))
+        Some(date_time_if_any(year, ordinal, time)?.assume_offset(offset))
     }
 }

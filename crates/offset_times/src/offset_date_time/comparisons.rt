@@ -29,7 +29,7 @@ impl OffsetDateTime {
     fn sign_after(self, other: OffsetDateTime) -> i64
         ensures { int_cmp result (pos 0) ≡ int_cmp (instant_of self) (instant_of other) }
     {
-        let days = self.days_after(other);
+        let days = self.rough_days_from(other);
         if days < -4 || days > 4 {
             return days;
         }
@@ -78,12 +78,12 @@ impl OffsetDateTime {
 
     // The days from the other date to this one, as if each year had 366.
     #[inline(always)]
-    fn days_after(self, other: OffsetDateTime) -> i64
+    fn rough_days_from(self, other: OffsetDateTime) -> i64
         ensures later { pos 4 <ℤ result → instant_of other <ℤ instant_of self }
         ensures earlier { result <ℤ neg_ℤ (pos 4) → instant_of self <ℤ instant_of other }
     {
         let day = self.date_time().to_ordinal_date();
-        days_apart(day, other.date_time().to_ordinal_date())
+        rough_days(day, other.date_time().to_ordinal_date())
     }
 }
 
@@ -97,17 +97,15 @@ fn sign_of_parts_after(at: (i32, u16, Time), other: (i32, u16, Time)) -> i64
 {
     let (year, ordinal, time) = at;
     let (other_year, other_ordinal, other_time) = other;
-    let days = days_apart((year, ordinal), (other_year, other_ordinal));
-    if days == 0 {
-        time.nanosecond_of_day() as i64 - other_time.nanosecond_of_day() as i64
-    } else {
-        days
-    }
+    let days = rough_days((year, ordinal), (other_year, other_ordinal));
+    // Told before the days are looked at, so that no branch waits for them.
+    let nanoseconds = time.nanosecond_of_day() as i64 - other_time.nanosecond_of_day() as i64;
+    if days == 0 { nanoseconds } else { days }
 }
 
 // The days from the second day to the first, as if each year had 366.
 #[inline(always)]
-fn days_apart(day: (i32, u16), other: (i32, u16)) -> i64
+fn rough_days(day: (i32, u16), other: (i32, u16)) -> i64
     ensures { result ≡ (day.0 -ℤ other.0) *ℤ pos 366 +ℤ pos day.1 -ℤ pos other.1 }
 {
     let (year, ordinal) = day;

@@ -34,7 +34,7 @@ impl OffsetDateTime {
             return Some(self);
         }
         let (year, ordinal, time) = to_offset_raw(self, offset);
-        Some(in_range(year, ordinal, time)?.assume_offset(offset))
+        Some(date_time_if_any(year, ordinal, time)?.assume_offset(offset))
     }
 
     /// The same instant in UTC, which must lie in the range: where the `time` crate panics, the caller has
@@ -54,12 +54,12 @@ impl OffsetDateTime {
             return Some(self.date_time().as_utc());
         }
         let (year, ordinal, time) = to_utc_raw(self);
-        Some(in_range(year, ordinal, time)?.as_utc())
+        Some(date_time_if_any(year, ordinal, time)?.as_utc())
     }
 }
 
 // The day of the year and the time of day, if the range has them.
-pub(crate) fn in_range(year: i32, ordinal: u16, time: Time) -> Option<PlainDateTime>
+pub(crate) fn date_time_if_any(year: i32, ordinal: u16, time: Time) -> Option<PlainDateTime>
     requires date { IsOrdinalDate year ordinal }
     requires clock { IsClock time }
     ensures { SomeIff result (IsWallClock (wall_clock (day_of_ordinal_date year ordinal) time))

@@ -4,7 +4,11 @@ ghost use Rattle.calendar_values.specs.Clock.{nanos_per_day, nanos_per_hour, nan
 ghost use Rattle.calendar_values.specs.Month.{month_number};
 ghost use Rattle.calendar_values.specs.Outcomes.{Gives, within};
 ghost use Rattle.calendar_values.specs.WallClock.{wall_clock, wall_day, wall_time};
-ghost use Rattle.plain_times.specs.Replacements.{with_date, with_time, ReplacesDate, ReplacesTime, wall_year_outcome, wall_month_outcome, wall_day_outcome, wall_ordinal_outcome, wall_hour_outcome, wall_minute_outcome, wall_second_outcome, wall_millisecond_outcome, wall_microsecond_outcome, wall_nanosecond_outcome, ShowsYear, ShowsMonth, ShowsDay, ShowsOrdinal, ShowsHour, ShowsMinute, ShowsSecond, ShowsMillisecond, ShowsMicrosecond, ShowsNanosecond};
+ghost use Rattle.plain_times.specs.Replacements.{with_date, with_time, ReplacesDate, ReplacesTime, wall_year_outcome, wall_month_outcome};
+ghost use Rattle.plain_times.specs.Replacements.{wall_day_outcome, wall_ordinal_outcome, wall_hour_outcome, wall_minute_outcome, wall_second_outcome};
+ghost use Rattle.plain_times.specs.Replacements.{wall_millisecond_outcome, wall_microsecond_outcome, wall_nanosecond_outcome, ShowsYear, ShowsMonth};
+ghost use Rattle.plain_times.specs.Replacements.{ShowsDay, ShowsOrdinal, ShowsHour, ShowsMinute, ShowsSecond, ShowsMillisecond, ShowsMicrosecond};
+ghost use Rattle.plain_times.specs.Replacements.{ShowsNanosecond};
 ghost use Rattle.plain_times.specs.Truncations.{TruncatesTo};
 ghost use Rattle.offset_times.specs.Local.{wall_at, at_offset_of, local_multiple_below, offset_nanos, instant_of, SameOffset};
 

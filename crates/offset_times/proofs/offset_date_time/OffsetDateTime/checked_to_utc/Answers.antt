@@ -5,11 +5,11 @@ use Rattle.offset_times.specs.Local.{instant_of}
 use Rattle.offset_times.specs.InstantLemmas.{instant_of-in_utc}
 use Rattle.offset_times.proofs.offset_date_time.OffsetDateTime.checked_to_utc.Goals as goal
 
-pub returns-in_err-in_range : goal.returns-in_err-in_range
-returns-in_err-in_range c =
+pub returns-in_err-date_time_if_any : goal.returns-in_err-date_time_if_any
+returns-in_err-date_time_if_any c =
     let shown : wall_clock (day_of_ordinal_date (to_z w32 (of_z w32 c.to_utc_raw-year.result.0)) c.to_utc_raw-year.result.1) c.to_utc_raw-year.result.2 ≡
     instant_of c.args.self = search rules in
-    rw c.from_residual.ensures (λ in_range. c.in_err-in_range.ensures (subst (λ (w : ℤ). IsWallClock w) (sym shown) in_range))
+    rw c.from_residual.ensures (λ in_range. c.in_err-date_time_if_any.ensures (subst (λ (w : ℤ). IsWallClock w) (sym shown) in_range))
 
 pub returns-then-is_utc : goal.returns-then-is_utc
 returns-then-is_utc c =
@@ -23,4 +23,4 @@ pub returns : goal.returns
 returns c =
     let shown : wall_clock (day_of_ordinal_date (to_z w32 (of_z w32 c.to_utc_raw-year.result.0)) c.to_utc_raw-year.result.1) c.to_utc_raw-year.result.2 ≡
     instant_of c.args.self = search rules in
-    (subst (λ (w : ℤ). IsWallClock w) shown c.in_ok-in_range.ensures.0, c.as_utc-2.ensures ∙ c.in_ok-in_range.ensures.1 ∙ shown)
+    (subst (λ (w : ℤ). IsWallClock w) shown c.in_ok-date_time_if_any.ensures.0, c.as_utc-2.ensures ∙ c.in_ok-date_time_if_any.ensures.1 ∙ shown)

@@ -5,26 +5,26 @@ use Rattle.offset_times.proofs.offset_date_time.comparisons.sign_of_parts_after.
 
 pub returns-then-days-eq0 : goal.returns-then-days-eq0
 returns-then-days-eq0 c =
-    let days = c.days_apart-days.result in
+    let days = c.rough_days-days.result in
     let back : to_z w64 (of_z w64 days) ≡ days = search rules in
     let none : days ≡ pos 0 = sym back ∙ ap (to_z w64) c.if-days-eq0.true in
     let year : to_z w32 (of_z w32 c.args.at.0) ≡ c.args.at.0 = search rules in
     let other_year : to_z w32 (of_z w32 c.args.other.0) ≡ c.args.other.0 = search rules in
     let first = c.nanosecond_of_day.result in
-    let second = c.nanosecond_of_day-then-days-eq0.result in
+    let second = c.nanosecond_of_day-2.result in
     let apart : to_z w64 (of_z w64 (to_z w64 first -ℤ to_z w64 second)) ≡ pos first -ℤ pos second = omega (arith, signed_casts) in
     let clocks : pos first -ℤ pos second ≡ pos c.args.at.2 -ℤ pos c.args.other.2 =
-    rw (c.nanosecond_of_day.ensures.value, c.nanosecond_of_day-then-days-eq0.ensures.value) in
+    rw (c.nanosecond_of_day.ensures.value, c.nanosecond_of_day-2.ensures.value) in
     ap (λ (s : ℤ). int_cmp s (pos 0)) (apart ∙ clocks)
     ∙ int_cmp-clocks days c.args.at.0 c.args.other.0 c.args.at.1 c.args.other.1 c.args.at.2 c.args.other.2 c.requires.parts c.requires.other_parts
-    (rw (year, other_year) at c.days_apart-days.ensures) none
+    (rw (year, other_year) at c.rough_days-days.ensures) none
 
 pub returns-else-days-eq0 : goal.returns-else-days-eq0
 returns-else-days-eq0 c =
-    let days = c.days_apart-days.result in
+    let days = c.rough_days-days.result in
     let back : to_z w64 (of_z w64 days) ≡ days = search rules in
     let year : to_z w32 (of_z w32 c.args.at.0) ≡ c.args.at.0 = search rules in
     let other_year : to_z w32 (of_z w32 c.args.other.0) ≡ c.args.other.0 = search rules in
     ap (λ (s : ℤ). int_cmp s (pos 0)) back
     ∙ int_cmp-days days c.args.at.0 c.args.other.0 c.args.at.1 c.args.other.1 c.args.at.2 c.args.other.2 c.requires.parts c.requires.other_parts
-    (rw (year, other_year) at c.days_apart-days.ensures) (λ none. c.if-days-eq0.false (ap (of_z w64) none))
+    (rw (year, other_year) at c.rough_days-days.ensures) (λ none. c.if-days-eq0.false (ap (of_z w64) none))

@@ -21,11 +21,11 @@ returns-then-is_utc-clause-value c =
       made ∙ ap (λ (w : ℤ). local_in_utc w) (sym shown) ∙ ap (λ (o : ℤ). wall_at (shown_at instant c.args.offset) o) (sym utc),
     )
 
-pub returns-in_err-in_range-clause-value : goal.returns-in_err-in_range-clause-value
-returns-in_err-in_range-clause-value c =
+pub returns-in_err-date_time_if_any-clause-value : goal.returns-in_err-date_time_if_any-clause-value
+returns-in_err-date_time_if_any-clause-value c =
     let shown : wall_clock (day_of_ordinal_date (to_z w32 (of_z w32 c.utc_to_offset_raw-year.result.0)) c.utc_to_offset_raw-year.result.1)
     c.utc_to_offset_raw-year.result.2 ≡ shown_at c.args.self c.args.offset = search rules in
-    rw c.from_residual.ensures (λ in_range. c.in_err-in_range.ensures (subst (λ (w : ℤ). IsWallClock w) (sym shown) in_range))
+    rw c.from_residual.ensures (λ in_range. c.in_err-date_time_if_any.ensures (subst (λ (w : ℤ). IsWallClock w) (sym shown) in_range))
 
 pub returns-clause-instant : goal.returns-clause-instant
 returns-clause-instant c =
@@ -36,6 +36,6 @@ pub returns-clause-value : goal.returns-clause-value
 returns-clause-value c =
     let shown : wall_clock (day_of_ordinal_date (to_z w32 (of_z w32 c.utc_to_offset_raw-year.result.0)) c.utc_to_offset_raw-year.result.1)
     c.utc_to_offset_raw-year.result.2 ≡ shown_at c.args.self c.args.offset = search rules in (
-      subst (λ (w : ℤ). IsWallClock w) shown c.in_ok-in_range.ensures.0,
-      c.assume_offset.ensures.value ∙ ap (λ (w : ℤ). wall_at w c.args.offset) (c.in_ok-in_range.ensures.1 ∙ shown),
+      subst (λ (w : ℤ). IsWallClock w) shown c.in_ok-date_time_if_any.ensures.0,
+      c.assume_offset.ensures.value ∙ ap (λ (w : ℤ). wall_at w c.args.offset) (c.in_ok-date_time_if_any.ensures.1 ∙ shown),
     )

@@ -1,7 +1,7 @@
 use Rattle.std.proofs.Common.{arith}
 use Rattle.calendar_values.specs.SignedArith.{signed_arith}
 use Rattle.offset_times.specs.Carries.{carried_second, minutes_carried}
-use Rattle.offset_times.proofs.carries.moved_second.Goals as goal
+use Rattle.offset_times.proofs.carries.carried_second.Goals as goal
 
 pub returns-clause-second : goal.returns-clause-second
 unfolding carried_second

@@ -3,7 +3,7 @@ use Rattle.calendar_values.specs.Calendar.{year_of, ordinal_of}
 use Rattle.calendar_values.specs.SignedArith.{signed_casts}
 use Rattle.calendar_values.specs.WallClock.{wall_day}
 use Rattle.offset_times.proofs.InstantOrderLemmas.{later_by_dates}
-use Rattle.offset_times.proofs.offset_date_time.OffsetDateTime.days_after.Goals as goal
+use Rattle.offset_times.proofs.offset_date_time.OffsetDateTime.rough_days_from.Goals as goal
 
 pub returns-clause-later : goal.returns-clause-later
 returns-clause-later c = λ far.

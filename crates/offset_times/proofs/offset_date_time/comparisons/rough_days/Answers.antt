@@ -1,6 +1,6 @@
 use Rattle.std.proofs.Common.{◌≡◌, rules, arith, to_z, of_z, w32}
 use Rattle.calendar_values.specs.SignedArith.{signed_casts}
-use Rattle.offset_times.proofs.offset_date_time.comparisons.days_apart.Goals as goal
+use Rattle.offset_times.proofs.offset_date_time.comparisons.rough_days.Goals as goal
 
 pub returns : goal.returns
 returns c =

@@ -1,7 +1,7 @@
 use Rattle.std.proofs.Common.{arith}
 use Rattle.calendar_values.specs.SignedArith.{signed_arith}
 use Rattle.offset_times.specs.Carries.{carried_hour, days_carried}
-use Rattle.offset_times.proofs.carries.moved_hour.Goals as goal
+use Rattle.offset_times.proofs.carries.carried_hour.Goals as goal
 
 pub returns-clause-hour : goal.returns-clause-hour
 unfolding carried_hour

@@ -4,7 +4,7 @@ use Rattle.calendar_values.specs.DayLemmas.{IsDay-ordinal_date}
 use Rattle.calendar_values.specs.WallClock.{wall_clock}
 use Rattle.calendar_values.specs.WallClockLemmas.{IsWallClock-wall_clock}
 use Rattle.offset_times.proofs.LocalLemmas.{IsYear-wall_clock}
-use Rattle.offset_times.proofs.offset_date_time.conversions.in_range.Goals as goal
+use Rattle.offset_times.proofs.offset_date_time.conversions.date_time_if_any.Goals as goal
 
 pub returns-in-Ok : goal.returns-in-Ok
 returns-in-Ok c =

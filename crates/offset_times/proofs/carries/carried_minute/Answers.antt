@@ -1,7 +1,7 @@
 use Rattle.std.proofs.Common.{arith}
 use Rattle.calendar_values.specs.SignedArith.{signed_arith}
 use Rattle.offset_times.specs.Carries.{carried_minute, hours_carried}
-use Rattle.offset_times.proofs.carries.moved_minute.Goals as goal
+use Rattle.offset_times.proofs.carries.carried_minute.Goals as goal
 
 pub returns-clause-minute : goal.returns-clause-minute
 unfolding carried_minute

@@ -2,7 +2,7 @@ use Rattle.std.proofs.Common.{◌≡◌, arith, rules, to_z-of_z, pos, ◌+ℤ�
 use Rattle.calendar_values.specs.SignedArith.{signed_casts}
 use Rattle.calendar_values.specs.YearLemmas.{year_start-next, days_in_year_bounds}
 use Rattle.offset_times.proofs.NextYearLemmas.{year_start-previous, year_before, year_after}
-use Rattle.offset_times.proofs.carries.days_later.Goals as goal
+use Rattle.offset_times.proofs.carries.ordinal_date_after.Goals as goal
 
 pub returns-then-moved-lt1-clause-day : goal.returns-then-moved-lt1-clause-day
 returns-then-moved-lt1-clause-day c =
