@@ -1,5 +1,6 @@
 //! Logs: timestamps in the order of time.
-ghost use Rattle.std.specs.Prelude.{◌≡◌, ◌<◌, ◌↔◌, ◌⊎◌, ◌≤ℤ◌, ℤ, [], All, Contains, IfNone, IfOk, IfSome, IsNone, IsTrue, IsPermutation, IsSorted, IsSortedByKey, OnOk, OnErr, length};
+ghost use Rattle.std.specs.Prelude.{◌≡◌, ◌<◌, ◌↔◌, ◌⊎◌, ◌≤ℤ◌, ℤ, [], All, Contains, IfNone, IfOk, IfSome, IsNone, IsTrue, IsPermutation, IsSorted};
+ghost use Rattle.std.specs.Prelude.{IsSortedByKey, OnOk, OnErr, length};
 ghost use Rattle.std.specs.List.{HoldsAt};
 ghost use Rattle.std.specs.List.Sorted.{IsStrictlySortedBy, IsStableByKey};
 ghost use Rattle.std.specs.Ordering.{int_cmp};

@@ -9,7 +9,8 @@ ghost use Rattle.std.specs.Int.{IsInRange};
 ghost use Rattle.calendar_values.specs.Calendar.{is_leap_year, year_of, ordinal_of, day_of_ordinal_date};
 ghost use Rattle.calendar_values.specs.Range.{IsDay};
 ghost use Rattle.calendar_values.specs.Refusals.{IsOrdinalDateOfRange};
-ghost use Rattle.stamp_times.specs.Reciprocal.{shifted_day, IsShiftedDay, century_of, century_fraction_of, julian_count, IsJulianCount, julian_year_of, julian_year_fraction_of, years_of, step_year, step_leap, step_ordinal};
+ghost use Rattle.stamp_times.specs.Reciprocal.{shifted_day, IsShiftedDay, century_of, century_fraction_of, julian_count, IsJulianCount};
+ghost use Rattle.stamp_times.specs.Reciprocal.{julian_year_of, julian_year_fraction_of, years_of, step_year, step_leap, step_ordinal};
 
 // Days and years are counted from the year 0 by so many spans of 400 years, and from there to 1970.
 const ERAS: i32 = 5_949;

@@ -5,7 +5,8 @@ ghost use Rattle.std.specs.Result.{result_map_both};
 ghost use Rattle.std.proofs.Common.{refl};
 ghost use Rattle.calendar_values.specs.WallClock.{wall_day, wall_time, IsWallClock};
 ghost use Rattle.offset_times.specs.Local.{instant_of, shown_at, local_at};
-ghost use Rattle.stamp_times.specs.Counter.{date_part_of, clock_part_of, instant_after_shift, instant_after_replacement, Shifts, Saturates, IsReplaceable, ShowsReplaced};
+ghost use Rattle.stamp_times.specs.Counter.{date_part_of, clock_part_of, instant_after_shift, instant_after_replacement, Shifts, Saturates};
+ghost use Rattle.stamp_times.specs.Counter.{IsReplaceable, ShowsReplaced};
 
 use crate::Timestamp;
 use crate::runs::calls::{ClockPart, ClockRead, DatePart, DateRead, Replace, Shift};

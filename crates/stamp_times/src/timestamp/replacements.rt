@@ -5,7 +5,11 @@ ghost use Rattle.calendar_values.specs.Month.{month_number};
 ghost use Rattle.calendar_values.specs.Outcomes.{Gives};
 ghost use Rattle.calendar_values.specs.Range.{IsDay};
 ghost use Rattle.calendar_values.specs.WallClock.{wall_clock, wall_time};
-ghost use Rattle.plain_times.specs.Replacements.{with_time, ReplacesDate, ReplacesTime, wall_year_outcome, wall_month_outcome, wall_day_outcome, wall_ordinal_outcome, wall_hour_outcome, wall_minute_outcome, wall_second_outcome, wall_millisecond_outcome, wall_microsecond_outcome, wall_nanosecond_outcome, ShowsYear, ShowsMonth, ShowsDay, ShowsOrdinal, ShowsHour, ShowsMinute, ShowsSecond, ShowsMillisecond, ShowsMicrosecond, ShowsNanosecond};
+ghost use Rattle.plain_times.specs.Replacements.{with_time, ReplacesDate, ReplacesTime, wall_year_outcome, wall_month_outcome, wall_day_outcome};
+ghost use Rattle.plain_times.specs.Replacements.{wall_ordinal_outcome, wall_hour_outcome, wall_minute_outcome, wall_second_outcome};
+ghost use Rattle.plain_times.specs.Replacements.{wall_millisecond_outcome, wall_microsecond_outcome, wall_nanosecond_outcome, ShowsYear, ShowsMonth};
+ghost use Rattle.plain_times.specs.Replacements.{ShowsDay, ShowsOrdinal, ShowsHour, ShowsMinute, ShowsSecond, ShowsMillisecond, ShowsMicrosecond};
+ghost use Rattle.plain_times.specs.Replacements.{ShowsNanosecond};
 
 use crate::Timestamp;
 use calendar_values::units::SECONDS_PER_DAY;
@@ -17,7 +21,7 @@ impl Timestamp {
     pub fn replace_time(self, time: Time) -> Timestamp
         ensures { ReplacesTime self time result }
     {
-        on_day(self.day_number(), time.second_of_day(), time.nanosecond())
+        instant_on_day(self.day_number(), time.second_of_day(), time.nanosecond())
     }
 
     /// The same time of day in UTC on another date.
@@ -25,7 +29,7 @@ impl Timestamp {
     pub fn replace_date(self, date: Date) -> Timestamp
         ensures { ReplacesDate self date result }
     {
-        on_day(
+        instant_on_day(
             date.days_since_epoch(),
             self.second_of_day(),
             self.nanosecond(),
@@ -146,7 +150,7 @@ impl Timestamp {
 
 // The instant of a day, a second of the day and a nanosecond of the second.
 #[tactic(auto, using(crate::proofs::HeldInstantLemmas::counts))]
-fn on_day(day: i32, second: u32, nanosecond: u32) -> Timestamp
+fn instant_on_day(day: i32, second: u32, nanosecond: u32) -> Timestamp
     requires day { IsDay day }
     requires second { second < 86_400 }
     requires nanosecond { nanosecond < nanos_per_second }

@@ -18,7 +18,7 @@ impl Timestamp {
         ensures { SomeIff result (IsWallClock (self +ℤ duration)) (self +ℤ duration) }
     {
         let seconds = self.as_seconds().checked_add(duration.whole_seconds())?;
-        from_sum(seconds, self.nanosecond(), duration.subsec_nanoseconds())
+        carried(seconds, self.nanosecond(), duration.subsec_nanoseconds())
     }
 
     /// The instant so much earlier, or later for a negative duration. None outside the range.
@@ -26,7 +26,7 @@ impl Timestamp {
         ensures { SomeIff result (IsWallClock (self -ℤ duration)) (self -ℤ duration) }
     {
         let seconds = self.as_seconds().checked_sub(duration.whole_seconds())?;
-        from_sum(seconds, self.nanosecond(), -duration.subsec_nanoseconds())
+        carried(seconds, self.nanosecond(), -duration.subsec_nanoseconds())
     }
 
     /// The instant so much later. None outside the range.
@@ -35,7 +35,7 @@ impl Timestamp {
             (self +ℤ pos (as_nanos duration)) }
     {
         let seconds = self.as_seconds().checked_add_unsigned(duration.as_secs())?;
-        from_sum(seconds, self.nanosecond(), duration.subsec_nanos() as i32)
+        carried(seconds, self.nanosecond(), duration.subsec_nanos() as i32)
     }
 
     /// The instant so much earlier. None outside the range.
@@ -44,7 +44,7 @@ impl Timestamp {
             (self -ℤ pos (as_nanos duration)) }
     {
         let seconds = self.as_seconds().checked_sub_unsigned(duration.as_secs())?;
-        from_sum(
+        carried(
             seconds,
             self.nanosecond(),
             -(duration.subsec_nanos() as i32),
@@ -82,7 +82,7 @@ impl Timestamp {
 
 // The instant of a second and a nanosecond of that second, less than a second later or earlier, if the
 // range has it.
-fn from_sum(seconds: i64, nanosecond: u32, change: i32) -> Option<Timestamp>
+fn carried(seconds: i64, nanosecond: u32, change: i32) -> Option<Timestamp>
     requires nanosecond { nanosecond < nanos_per_second }
     requires change { unsigned_abs change < nanos_per_second }
     ensures { let sum = instant_of_parts seconds nanosecond +ℤ change in

@@ -17,4 +17,4 @@ returns c =
     let here = instant_of_parts-of c.args.self in
     let sum = duration_of_parts-of c.args.duration in
     let seconds = c.in_ok-seconds.ensures in
-    IsWallClock-same _ _ _ c.from_sum.ensures (omega (arith, signed_casts))
+    IsWallClock-same _ _ _ c.carried.ensures (omega (arith, signed_casts))

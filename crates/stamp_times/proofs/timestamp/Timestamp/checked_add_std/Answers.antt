@@ -7,8 +7,8 @@ use Rattle.stamp_times.proofs.timestamp.Timestamp.checked_add_std.Goals as goal
 pub overflow_cast-subsec_nanos : goal.overflow_cast-subsec_nanos
 overflow_cast-subsec_nanos c = omega (arith, signed_casts)
 
-pub from_sum-requires-clause-change : goal.from_sum-requires-clause-change
-from_sum-requires-clause-change c = omega (arith, signed_casts)
+pub carried-requires-clause-change : goal.carried-requires-clause-change
+carried-requires-clause-change c = omega (arith, signed_casts)
 
 pub returns-in_err-seconds : goal.returns-in_err-seconds
 returns-in_err-seconds c =
@@ -19,4 +19,4 @@ pub returns : goal.returns
 returns c =
     let here = instant_of_parts-of c.args.self in
     let seconds = c.in_ok-seconds.ensures in
-    IsWallClock-same _ _ _ c.from_sum.ensures (omega (arith, signed_casts))
+    IsWallClock-same _ _ _ c.carried.ensures (omega (arith, signed_casts))

@@ -8,4 +8,4 @@ pub returns : goal.returns
 returns c =
     let here = instant_of_parts-of c.args.self in
     let seconds = c.in_ok-seconds.ensures in
-    IsWallClock-same _ _ _ c.from_sum.ensures (omega (arith, signed_casts))
+    IsWallClock-same _ _ _ c.carried.ensures (omega (arith, signed_casts))

@@ -8,7 +8,7 @@ use Rattle.stamp_times.proofs.timestamp.Timestamp.replace_date.Goals as goal
 pub returns : goal.returns
 unfolding with_date
 returns c =
-    let value : c.on_day.result ≡ with_date c.args.self c.args.date = first_of (search rules, grind (arith, common_steps)) in
+    let value : c.instant_on_day.result ≡ with_date c.args.self c.args.date = first_of (search rules, grind (arith, common_steps)) in
     record {
       value = value;
       date = ap wall_day value ∙ wall_day-with_date c.args.self c.args.date;

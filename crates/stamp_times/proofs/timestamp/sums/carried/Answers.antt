@@ -1,7 +1,7 @@
 use Rattle.std.proofs.Common.{arith}
 use Rattle.calendar_values.specs.SignedArith.{signed_casts}
 use Rattle.stamp_times.proofs.TimestampSumLemmas.{IsWallClock-same}
-use Rattle.stamp_times.proofs.timestamp.sums.from_sum.Goals as goal
+use Rattle.stamp_times.proofs.timestamp.sums.carried.Goals as goal
 
 pub returns-in_ok-checked_sub : goal.returns-in_ok-checked_sub
 returns-in_ok-checked_sub c = IsWallClock-same _ _ _ c.from_parts.ensures (omega (arith, signed_casts, c.in_ok-checked_sub.ensures))
