@@ -1,11 +1,10 @@
 -- The bytes that a function of `reading` tests together, as the steps read them one by one.
-use Rattle.std.proofs.Common.{◌≡◌, ℕ, ◌+◌, ◌-◌, ◌*◌, ◌≤◌, ◌<◌, ◌&&◌, Bool, true, false, List, [], ◌∷◌, length, take, drop, get_or, Some, None, refl, sym, arith}
-use Rattle.std.proofs.Common.{nat_eq, Option, ◌⊎◌, inl, inr, length-drop}
-use Rattle.std.specs.Prelude.{◌||◌, if◌then◌else◌}
+use Rattle.std.proofs.Common.{◌≡◌, ℕ, ◌+◌, ◌-◌, ◌*◌, ◌≤◌, ◌&&◌, Bool, true, false, List, [], ◌∷◌, length, take, drop, get_or, Some, None, refl, sym, arith}
+use Rattle.std.proofs.Common.{length-drop}
 use Rattle.std.proofs.lemmas.Bool.Decides.{nat_tests}
 use Rattle.std.proofs.lemmas.List.{take_all}
 use Rattle.std.specs.Char.{is_ascii_digit}
-use Rattle.rfc3339.specs.Reading.{◌>>=◌, digit_at, two_digits_at, year_at, part_at, ended, zone_at}
+use Rattle.rfc3339.specs.Reading.{digit_at, two_digits_at, year_at}
 
 -- what follows the first bytes
 pub take-rest : (k : ℕ) (text : List ℕ) → take (length text - k) (drop k text) ≡ drop k text

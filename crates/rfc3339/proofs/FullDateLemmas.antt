@@ -1,10 +1,10 @@
 -- Days as texts: what is read has the form, what has the form is read, and what was written means what was written.
-use Rattle.std.proofs.Common.{◌≡◌, ℕ, ◌+◌, ◌<◌, ◌≤◌, List, [], ◌∷◌, append_assoc, append-nil, Option, Some, None, refl, sym, ap, subst, ◌∙◌, arith}
-use Rattle.std.proofs.Common.{ℤ, pos, unsigned_abs, Bool, ◌==◌, ◌||◌, nat_lt, Result, Ok}
+use Rattle.std.proofs.Common.{◌≡◌, ℕ, ◌≤◌, List, [], ◌∷◌, append_assoc, append-nil, Some, refl, subst, arith}
+use Rattle.std.proofs.Common.{ℤ, unsigned_abs, ◌==◌, ◌||◌, nat_lt, Ok}
 use Rattle.std.specs.Prelude.{false}
 use Rattle.std.proofs.lemmas.Bool.Decides.{nat_tests}
 use Rattle.std.proofs.lemmas.Option.{same_Some}
-use Rattle.calendar_values.specs.Calendar.{is_leap_year, days_in_month, year_of, month_of, day_of_month_of}
+use Rattle.calendar_values.specs.Calendar.{is_leap_year, year_of, month_of, day_of_month_of}
 use Rattle.calendar_values.specs.CalendarDateLemmas.{IsCalendarDate-of, day_of_calendar_date-of, days_in_month_bounds}
 use Rattle.calendar_values.specs.Digits.{last_digits}
 use Rattle.calendar_values.specs.SignedArith.{signed_arith, one_part}

@@ -1,10 +1,10 @@
 -- How long texts in UTC are.
-use Rattle.std.proofs.Common.{◌≡◌, ℕ, ◌+◌, ◌≤◌, inl, inr, nat_eq, ◌++◌, length, length-append, ℤ, arith}
+use Rattle.std.proofs.Common.{ℕ, ◌≤◌, inl, inr, nat_eq, length, length-append, ℤ, arith}
 use Rattle.std.specs.Prelude.{codes}
 use Rattle.std.proofs.lemmas.Bool.{cases_Bool}
 use Rattle.calendar_values.specs.Clock.{nanosecond_of}
 use Rattle.calendar_values.specs.DigitCountLemmas.{length-last_digits, length-fraction_digits}
-use Rattle.calendar_values.specs.Digits.{last_digits, fraction_digits}
+use Rattle.calendar_values.specs.Digits.{fraction_digits}
 use Rattle.calendar_values.specs.WallClock.{wall_time}
 use Rattle.offset_times.specs.Local.{local_in_utc}
 use Rattle.stamp_times.specs.Texts.{fraction_text}

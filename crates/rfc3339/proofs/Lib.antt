@@ -1,8 +1,12 @@
 mod ByteLemmas
+mod DigitOrderLemmas
+mod DigitTextLemmas
 pub mod FrontLemmas
 mod RangeLemmas
 pub mod FullDateLemmas
+pub mod LeapLemmas
 pub mod LengthLemmas
+mod ShortestLemmas
 pub mod TextOrderLemmas
 pub mod UnixLemmas
 pub mod WriteLemmas

@@ -1,5 +1,5 @@
 -- The first number that is out of its range: the tests of the ranges, from left to right.
-use Rattle.std.proofs.Common.{◌≡◌, ℕ, ◌<◌, ◌≤◌, Bool, true, false, nat_eq, nat_lt, refl, arith, Result, Ok, Err, ℤ, pos, to_z, w32}
+use Rattle.std.proofs.Common.{◌≡◌, ℕ, ◌<◌, ◌≤◌, Bool, true, false, nat_eq, nat_lt, refl, arith, Err, ℤ, pos, to_z, w32}
 use Rattle.std.specs.Prelude.{◌||◌}
 use Rattle.std.proofs.lemmas.Bool.Decides.{nat_tests}
 use Rattle.calendar_values.specs.Calendar.{is_leap_year, days_in_month}

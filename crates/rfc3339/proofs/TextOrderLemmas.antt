@@ -26,7 +26,7 @@ use Rattle.rfc3339.specs.WrittenDigitLemmas.{HasDigits}
 -- ---- digits
 
 -- the last digits are compared where the numbers before them are the same
-digits_order : (k m n : ℕ) (xs ys : List ℕ) → HasDigits k m → HasDigits k n
+pub digits_order : (k m n : ℕ) (xs ys : List ℕ) → HasDigits k m → HasDigits k n
     → slice_cmp nat_cmp (last_digits k m ++ xs) (last_digits k n ++ ys) ≡ ordering_then (nat_cmp m n) (slice_cmp nat_cmp xs ys)
 unfolding last_digits
 digits_order zero m n xs ys a b = rw (a, b) refl
@@ -35,7 +35,7 @@ digits_order (suc k) m n xs ys a b =
 
 -- ---- dates
 
-int_cases : (a b : ℤ) → (a <ℤ b) ⊎ ((a ≡ b) ⊎ (b <ℤ a))
+pub int_cases : (a b : ℤ) → (a <ℤ b) ⊎ ((a ≡ b) ⊎ (b <ℤ a))
 int_cases a b = grind (arith, signed_arith)
 
 months-add : (b : Bool) (m k : ℕ) → days_in_months b m ≤ days_in_months b (k + m)
@@ -52,12 +52,12 @@ month-later b (suc m) later first h =
     let after : later - 1 ≡ later - 1 - suc m + suc m = omega arith in rw (before, after) (months-add b (suc m) (later - 1 - suc m))
 
 -- the order of the years, the months and the days of the month
-abbrev date_cmp : ℤ → ℤ → Ordering → Ordering
+abbrev pub date_cmp : ℤ → ℤ → Ordering → Ordering
 date_cmp m n rest =
     ordering_then (nat_cmp (unsigned_abs (year_of m)) (unsigned_abs (year_of n)))
     (ordering_then (nat_cmp (month_of m) (month_of n)) (ordering_then (nat_cmp (day_of_month_of m) (day_of_month_of n)) rest))
 
-date_order : (m n : ℤ) (rest : Ordering) → pos 0 ≤ℤ year_of m → pos 0 ≤ℤ year_of n → m <ℤ n → date_cmp m n rest ≡ Less
+pub date_order : (m n : ℤ) (rest : Ordering) → pos 0 ≤ℤ year_of m → pos 0 ≤ℤ year_of n → m <ℤ n → date_cmp m n rest ≡ Less
 date_order m n rest p q less =
     let y = year_is (year_of m) p in
     let z = year_is (year_of n) q in

@@ -1,6 +1,6 @@
 -- A day as a text of RFC 3339 (`full-date` of section 5.6): a year of four digits, a month and a day of the month.
 use Rattle.std.specs.Prelude.{◌≡◌, ℕ, ◌<◌, ◌==◌, ◌||◌, nat_lt, List, ◌++◌, codes, if◌then◌else◌, ℤ, pos, ◌≤ℤ◌, unsigned_abs}
-use Rattle.std.specs.Prelude.{Option, Some, None, Result, Ok, Err}
+use Rattle.std.specs.Prelude.{Option, Result, Ok, Err}
 use Rattle.calendar_values.specs.Calendar.{is_leap_year, days_in_month, day_of_calendar_date, year_of, month_of, day_of_month_of}
 use Rattle.calendar_values.specs.Digits.{last_digits}
 use Rattle.rfc3339.specs.Reading.{◌>>=◌, year_at, part_at, ended}

@@ -3,11 +3,13 @@ pub mod Front
 pub mod Form
 pub mod FullDates
 pub mod Meaning
+pub mod LeapSeconds
 pub mod Texts
 pub mod UnixTexts
 pub mod Refusals
 pub mod Laws
 pub mod LengthLaws
+pub mod DigitLaws
 pub mod FieldDigitLemmas
 pub mod FormLemmas
 pub mod FractionLemmas

@@ -1,6 +1,7 @@
 //! Laws of the texts: each function here proves one, and does nothing when it is called.
 ghost use Rattle.rfc3339.specs.Laws.{TextsHaveOneReading, ReadingsAreOfTheForm, WrittenTextsReadBack, TextsTellValues};
 ghost use Rattle.rfc3339.specs.Laws.{FixedTextsHaveOneWidth, FixedTextsKeepTheOrder};
+ghost use Rattle.rfc3339.specs.DigitLaws.{TextsOfDigitsTruncate, TextsOfDigitsKeepTheOrder};
 
 /// A text spells one list of parts at most.
 pub fn texts_have_one_reading()
@@ -30,4 +31,14 @@ pub fn fixed_texts_have_one_width()
 /// The texts of fixed width compare, byte by byte, as their instants do.
 pub fn fixed_texts_keep_the_order()
     ensures { FixedTextsKeepTheOrder }
+{}
+
+/// A text of so many digits is read as the date-time truncated to the last of them.
+pub fn texts_of_digits_truncate()
+    ensures { TextsOfDigitsTruncate }
+{}
+
+/// The texts of so many digits at one offset compare, byte by byte, as the date-times truncated to the last of them do.
+pub fn texts_of_digits_keep_the_order()
+    ensures { TextsOfDigitsKeepTheOrder }
 {}

@@ -4,6 +4,7 @@
 mod front;
 mod full_dates;
 pub mod laws;
+mod leap;
 pub mod length_laws;
 mod parse;
 mod parts;
@@ -16,9 +17,10 @@ mod write_unix;
 
 pub use front::{parse_rfc3339_front, parse_rfc3339_offset};
 pub use full_dates::{date_from_rfc3339, date_to_rfc3339};
+pub use leap::parse_rfc3339_leap;
 pub use parse::parse_rfc3339;
 pub use parts::Parts;
 pub use refusal::{Component, TextRefusal};
 pub use texts::Rfc3339;
-pub use write_fixed::{to_rfc3339_nanos, to_rfc3339_nanos_at};
+pub use write_fixed::{to_rfc3339_digits, to_rfc3339_nanos, to_rfc3339_nanos_at};
 pub use write_unix::to_unix_nanos;

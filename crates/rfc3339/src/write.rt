@@ -3,7 +3,7 @@ ghost use Rattle.std.specs.Prelude.{◌≡◌, ◌≤◌, ◌<◌, ◌+◌, ◌+
 ghost use Rattle.calendar_values.specs.Digits.{last_digits, text_capacity};
 ghost use Rattle.calendar_values.specs.Offsets.{IsOffsetParts, seconds_of_parts};
 ghost use Rattle.stamp_times.specs.Texts.{fraction_text};
-ghost use Rattle.rfc3339.specs.Texts.{HasText, time_offset_text, rfc3339_text, text_with, fraction_with};
+ghost use Rattle.rfc3339.specs.Texts.{HasText, time_offset_text, rfc3339_text, text_with, fraction_of_digits, fraction_with};
 
 use calendar_values::Text;
 use offset_times::OffsetDateTime;
@@ -13,13 +13,13 @@ pub(crate) fn text_of(at: OffsetDateTime) -> Option<Text>
     ensures text { SomeIff result (HasText at) (rfc3339_text at) }
     ensures length { IfSome result (λ text. length text ≤ 35) }
 {
-    text_with(at, false)
+    text_with(at, None)
 }
 
-// The text of RFC 3339, if there is one: with nine digits of the fraction, or with those that it takes.
+// The text of RFC 3339, if there is one: with so many digits of the fraction, or with those that it takes.
 #[inline(always)]
-pub(crate) fn text_with(at: OffsetDateTime, has_nine_digits: bool) -> Option<Text>
-    ensures text { SomeIff result (HasText at) (text_with has_nine_digits at) }
+pub(crate) fn text_with(at: OffsetDateTime, digits: Option<u8>) -> Option<Text>
+    ensures text { SomeIff result (HasText at) (text_with digits at) }
     ensures length { IfSome result (λ text. length text ≤ 35) }
 {
     let (date, time, offset) = at.parts();
@@ -33,7 +33,7 @@ pub(crate) fn text_with(at: OffsetDateTime, has_nine_digits: bool) -> Option<Tex
     push_date(&mut text, year as u32, u8::from(month), day);
     text.push(b'T');
     push_clock(&mut text, hour, minute, second);
-    push_digits(&mut text, nanosecond, has_nine_digits);
+    push_digits(&mut text, nanosecond, digits);
     push_offset(&mut text, hours, minutes);
     Some(text)
 }
@@ -77,18 +77,33 @@ fn push_fraction(text: &mut Text, nanosecond: u32)
     }
 }
 
-// Adds the fraction, of nine digits or of those that it takes.
+// Adds the fraction, of so many digits or of those that it takes.
 #[inline(always)]
-fn push_digits(text: &mut Text, nanosecond: u32, has_nine_digits: bool)
+fn push_digits(text: &mut Text, nanosecond: u32, digits: Option<u8>)
     requires { length text.old + 10 ≤ text_capacity }
-    ensures value { text.new ≡ text.old ++ fraction_with has_nine_digits nanosecond }
+    ensures value { text.new ≡ text.old ++ fraction_with digits nanosecond }
     ensures length { length text.new ≤ length text.old + 10 }
 {
-    if has_nine_digits {
-        push_whole_fraction(text, nanosecond);
-    } else {
-        push_fraction(text, nanosecond);
+    match digits {
+        None => push_fraction(text, nanosecond),
+        Some(digits) => push_first_digits(text, nanosecond, digits),
     }
+}
+
+// Adds the point and the first of the nine digits, so many, or nothing for none.
+#[inline(never)]
+fn push_first_digits(text: &mut Text, nanosecond: u32, digits: u8)
+    requires { length text.old + 10 ≤ text_capacity }
+    ensures value { text.new ≡ text.old ++ fraction_of_digits digits nanosecond }
+    ensures length { length text.new ≤ length text.old + 10 }
+{
+    if digits == 0 {
+        return;
+    }
+    let mut nine = Text::new();
+    push_nine_digits(&mut nine, nanosecond);
+    text.push(b'.');
+    text.push_bytes(&nine.as_bytes()[..(digits as usize).min(9)]);
 }
 
 // Adds the point and nine digits.

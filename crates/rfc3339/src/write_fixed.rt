@@ -1,6 +1,6 @@
 //! Texts of fixed width written.
 ghost use Rattle.std.specs.Prelude.{◌≡◌, ◌≤◌, length, SomeIff, IfSome};
-ghost use Rattle.rfc3339.specs.Texts.{HasFixedText, fixed_text, HasText, fixed_text_at};
+ghost use Rattle.rfc3339.specs.Texts.{HasFixedText, fixed_text, HasText, fixed_text_at, digits_text};
 
 use crate::write::{push_clock, push_date, push_whole_fraction, text_with};
 use calendar_values::Text;
@@ -35,5 +35,16 @@ pub fn to_rfc3339_nanos_at(at: OffsetDateTime) -> Option<Text>
     ensures text { SomeIff result (HasText at) (fixed_text_at at) }
     ensures length { IfSome result (λ text. length text ≤ 35) }
 {
-    text_with(at, true)
+    text_with(at, Some(9))
+}
+
+/// The text at an offset with so many digits of the fraction, 0 to 9, and nine where more are asked for: of three digits
+/// `1985-04-13T04:50:50.520+05:30`, and of none `1985-04-13T04:50:50+05:30`. What lies past them is left out, which rounds
+/// down ([`laws::texts_of_digits_truncate`](crate::laws::texts_of_digits_truncate)). None where
+/// [`Rfc3339::to_rfc3339`](crate::Rfc3339::to_rfc3339) has no text.
+pub fn to_rfc3339_digits(at: OffsetDateTime, digits: u8) -> Option<Text>
+    ensures text { SomeIff result (HasText at) (digits_text digits at) }
+    ensures length { IfSome result (λ text. length text ≤ 35) }
+{
+    text_with(at, Some(digits))
 }

@@ -3,8 +3,11 @@ use std::fmt::Debug;
 use std::process::Abort;
 
 mod dates;
+mod digits;
 mod fronts;
+mod leap;
 mod places;
+mod shortest;
 mod texts;
 
 // Ends the test unless what is shown is what is wanted.
