@@ -1,7 +1,8 @@
 //! The words of a run.
 ghost use Rattle.std.specs.Prelude.{◌≡◌, ◌≤◌, length, OnSome};
 ghost use Rattle.std.specs.Str.{bytes_eq};
-ghost use Rattle.times_bench.specs.CallWords.{entry_of, date_reads, clock_reads, read_of, call_with, shift_with, replace_with, date_part_with, clock_part_with, parse_duration, parse_time, parse_month, parse_date, call_of};
+ghost use Rattle.times_bench.specs.CallWords.{entry_of, date_reads, clock_reads, read_of, call_with, shift_with, replace_with, date_part_with};
+ghost use Rattle.times_bench.specs.CallWords.{clock_part_with, parse_duration, parse_time, parse_month, parse_date, call_of};
 ghost use Rattle.times_bench.specs.Words.{arguments_of};
 
 use super::numbers::{parse_i32, parse_i64, parse_u8, parse_u16, parse_u32};

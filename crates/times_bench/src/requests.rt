@@ -96,7 +96,7 @@ fn parse_instant(words: &[u8]) -> Option<(i64, u32, Option<&[u8]>)>
 }
 
 // What a word of a run or of a chain reads as.
-trait Item: Copy {
+trait LineWord: Copy {
     ghost reading: { List ℕ → Option Self };
 
     fn read(word: &[u8]) -> Option<Self>
@@ -104,7 +104,7 @@ trait Item: Copy {
         ensures three_bytes { OnSome result (3 ≤ length word.now) };
 }
 
-impl Item for Call {
+impl LineWord for Call {
     ghost reading = { call_of };
 
     fn read(word: &[u8]) -> Option<Call> {
@@ -112,7 +112,7 @@ impl Item for Call {
     }
 }
 
-impl Item for Step {
+impl LineWord for Step {
     ghost reading = { step_of };
 
     fn read(word: &[u8]) -> Option<Step> {
@@ -121,7 +121,7 @@ impl Item for Step {
 }
 
 // Puts the items of words into the table, in the place of those there, if all of the words read.
-fn read_items<T: Item>(words: Option<&[u8]>, items: &mut Table<T, MOST_WORDS>) -> Option<()>
+fn read_items<T: LineWord>(words: Option<&[u8]>, items: &mut Table<T, MOST_WORDS>) -> Option<()>
     requires { bytes_left words < 1024 }
     ensures { option_map (λ _. items.new) result ≡ all_of T.reading (words_left words.entry) }
 {

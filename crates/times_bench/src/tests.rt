@@ -81,6 +81,46 @@ fn answers_many_lines(rt: HostRuntime) -> Result<(), Fail> {
     Ok(())
 }
 
+/// Seconds of so many digits that they are read in another way each, and their texts.
+const NUMBERS: [(&str, &str); 11] = [
+    ("1", "1970-01-01 0:00:01.0 +00"),
+    ("1234567", "1970-01-15 6:56:07.0 +00"),
+    ("12345678", "1970-05-23 21:21:18.0 +00"),
+    ("123456789", "1973-11-29 21:33:09.0 +00"),
+    ("123456789012", "5882-03-11 0:30:12.0 +00"),
+    ("12345678901234", "+393188-12-28 2:20:34.0 +00"),
+    ("-12345678", "1969-08-11 2:38:42.0 +00"),
+    ("-1234567890", "1930-11-18 0:28:30.0 +00"),
+    ("000000012345678", "1970-05-23 21:21:18.0 +00"),
+    ("000000000000000001", "1970-01-01 0:00:01.0 +00"),
+    ("123456789012345678", "refused timestamp"),
+];
+
+#[test]
+fn answers_numbers_of_any_length(rt: HostRuntime) -> Result<(), Fail> {
+    for (number, answer) in NUMBERS {
+        let line = format!(in rt.alloc(); "unix {number}")?;
+        let wanted = format!(in rt.alloc(); "{answer}\n")?;
+        let page = answered(rt.alloc(), line.as_bytes())?;
+        assert_eq!(rt; page.as_slice(), wanted.as_bytes(), "at {number}");
+    }
+    Ok(())
+}
+
+#[test]
+fn answers_numbers_with_another_character(rt: HostRuntime) -> Result<(), Fail> {
+    // The characters before `0` and after `9`, and some whose low bits are those of a digit.
+    for character in [b'/', b':', b'p', 0xb1, 0] {
+        for place in 0..10usize {
+            let mut line = *b"unix 1234567890";
+            line[5 + place] = character;
+            let page = answered(rt.alloc(), &line)?;
+            assert_eq!(rt; page.as_slice(), b"bad line\n".as_slice(), "at {place}");
+        }
+    }
+    Ok(())
+}
+
 /// A text that is read a few bytes a call. One call fails, and the calls after it work.
 #[derive(Drop)]
 struct Tape<'a> {

@@ -5,7 +5,7 @@ use Rattle.times_bench.proofs.requests.read_items.Given as goal
 
 abbrev pub invariant-words : goal.invariant-words
 invariant-words g l =
-    let read = g.T.Item.reading in
+    let read = g.T.LineWord.reading in
     record {
       so_far : AllSoFar read (all_of read (words_left l.words)) l.items (words_left l.left);
       room : 4 * length l.items + room_left l.left ≤ 1024;
