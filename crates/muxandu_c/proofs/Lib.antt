@@ -3,5 +3,6 @@ mod ApartLemmas
 mod BatchLemmas
 mod CarriedDurationLemmas
 mod DayDigitLemmas
+mod TextBatchLemmas
 mod ValuesLemmas
 mod WeekDateLemmas

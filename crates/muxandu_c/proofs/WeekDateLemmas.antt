@@ -198,3 +198,6 @@ day_from_week_date-of v year january_4 december_31 monday last answer made m l f
     rw (week_tested v.week low high, weekday_tested v.weekday weekday) refl in
     rw (m, l) at made ∙ sym tested ∙ after (date_value v.year 12 31) (after_days v january_4) december_31 (rw y at second)
     ∙ after (date_value v.year 1 4) (λ (j : ℤ). and_then (date_value v.year 12 31) (after_days v j)) january_4 (rw y at first)
+
+-- the day of the week of a number
+pub ruleset weekdays = (signed_arith, weekday_of-parts)

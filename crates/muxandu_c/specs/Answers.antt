@@ -47,13 +47,14 @@ refused_part r =
     else (if is_named r (codes "month") then refused.Month
     else (if is_named r (codes "day") then (if r.conditional then refused.DayOfMonth else refused.Day)
     else (if is_named r (codes "ordinal") then (if r.conditional then refused.OrdinalOfYear else refused.Ordinal)
+    else (if is_named r (codes "week") then (if r.conditional then refused.WeekOfYear else refused.Week)
     else (if is_named r (codes "hour") then refused.Hour
     else (if is_named r (codes "minute") then refused.Minute
     else (if is_named r (codes "second") then refused.Second
     else (if is_named r (codes "nanosecond") || is_named r (codes "nanoseconds") then refused.Nanosecond
     else (if is_named r (codes "offset_seconds") then refused.OffsetSeconds
     else (if is_named r (codes "julian_day") then refused.DayNumber
-    else refused.Timestamp)))))))))
+    else refused.Timestamp))))))))))
 
 -- a refused day: it is none of any month, or none of its month
 abbrev pub refused_day : ℕ → Refused

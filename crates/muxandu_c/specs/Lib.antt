@@ -3,6 +3,7 @@ pub mod Batches
 pub mod Clocks
 pub mod DateSums
 pub mod DateTexts
+pub mod DigitTexts
 pub mod EachBatches
 pub mod Exchange
 pub mod OffsetParts
@@ -10,5 +11,6 @@ pub mod PartsReplaced
 pub mod Reads
 pub mod StatusTexts
 pub mod SubsecondBatches
+pub mod TextBatches
 pub mod Values
 pub mod WeekDates

@@ -11,7 +11,7 @@ ghost use Rattle.muxandu_c.specs.declared.refused.Refused.TheVariants as refused
 use crate::date_times::date_time_from_timestamp;
 use crate::days::{date_from_day, day_from_date};
 use crate::exchange::timestamp_from_rfc3339;
-use crate::parts::{instant, read_date_time};
+use crate::parts::{instant_of_date_time, read_date_time};
 use crate::refused::{Refused, status};
 use crate::values::{MuxanduBatch, MuxanduDate, MuxanduDateTime, MuxanduSpan, MuxanduTimestamp};
 
@@ -124,7 +124,7 @@ impl Conversion<MuxanduDateTime, i64> for ToSecond {
     #[inline(always)]
     fn convert(self, item: MuxanduDateTime) -> Result<i64, Refused> {
         let at = read_date_time(item)?;
-        Ok(instant(at, item.offset_seconds)?.as_seconds())
+        Ok(instant_of_date_time(at, item.offset_seconds)?.as_seconds())
     }
 }
 

@@ -9,9 +9,9 @@ ghost use Rattle.muxandu_c.specs.Values.{date_time_add, date_time_saturating_add
 ghost use Rattle.muxandu_c.specs.Values.{date_time_difference, date_time_truncate, date_time_compare, date_time_day};
 
 use crate::parts::{
-    apart, at_offset, checked_offset, date_time_of, day_of, difference, duration_of, in_unit,
-    instant, read_date_time, read_duration, read_timestamp, sign, sum, timestamp_of, to_offset,
-    wall_of, wall_parts,
+    apart, checked_difference, checked_offset, checked_sum, date_time_of, day_of, duration_of,
+    in_unit, instant_of_date_time, read_date_time, read_duration, read_timestamp, shown_as_if_utc,
+    sign, timestamp_of, to_offset, wall_of, wall_parts,
 };
 use crate::refused::{Refused, answer, status_of};
 use crate::unit::read_unit;
@@ -36,7 +36,7 @@ pub(crate) fn date_time_from_timestamp(
 {
     let at = read_timestamp(at)?;
     let offset_seconds = checked_offset(offset_seconds)?;
-    Ok(wall_parts(at_offset(at, offset_seconds)?, offset_seconds))
+    Ok(wall_parts(shown_as_if_utc(at, offset_seconds)?, offset_seconds))
 }
 
 /// What clocks at an offset, in seconds, show at an instant. Refused as the timestamp, then OFFSET_SECONDS, then RESULT
@@ -59,7 +59,7 @@ pub(crate) fn timestamp_from_date_time(
     ensures { result ≡ timestamp_from_date_time date_time }
 {
     let at = read_date_time(date_time)?;
-    Ok(timestamp_of(instant(at, date_time.offset_seconds)?))
+    Ok(timestamp_of(instant_of_date_time(at, date_time.offset_seconds)?))
 }
 
 /// The instant at which clocks at its offset show the date-time. Refused as the date-time, then RESULT outside the range
@@ -121,7 +121,7 @@ fn date_time_add(
     ensures { result ≡ date_time_add date_time duration }
 {
     let at = read_date_time(date_time)?;
-    let wall = sum(wall_of(at), read_duration(duration)?)?;
+    let wall = checked_sum(wall_of(at), read_duration(duration)?)?;
     Ok(wall_parts(wall, date_time.offset_seconds))
 }
 
@@ -146,7 +146,7 @@ fn date_time_subtract(
     ensures { result ≡ date_time_subtract date_time duration }
 {
     let at = read_date_time(date_time)?;
-    let wall = difference(wall_of(at), read_duration(duration)?)?;
+    let wall = checked_difference(wall_of(at), read_duration(duration)?)?;
     Ok(wall_parts(wall, date_time.offset_seconds))
 }
 

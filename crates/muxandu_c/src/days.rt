@@ -1,6 +1,7 @@
 //! Day numbers, 0 on 1970-01-01, and the dates that they stand for.
 ghost use Rattle.std.specs.Prelude.{◌≡◌, IfOk, Ok, ◌≤◌, ◌-◌, ◌*◌, pos, ◌+ℤ◌, ◌-ℤ◌, ◌≤ℤ◌};
-ghost use Rattle.calendar_values.specs.Range.{first_day, last_day};
+ghost use Rattle.calendar_values.specs.Range.{IsDay, first_day, last_day};
+ghost use Rattle.calendar_values.specs.Weeks.{weekday_of};
 ghost use Rattle.muxandu_c.specs.Answers.{status_of, written};
 ghost use Rattle.muxandu_c.specs.Values.{date_from_day, day_from_date};
 ghost use Rattle.muxandu_c.specs.Values.{ordinal_date_from_day, day_from_ordinal_date};
@@ -168,10 +169,20 @@ pub extern "C" fn muxandu_day_from_week_date(date: MuxanduWeekDate, out: &mut i3
     answer(day_from_week_date(date), out)
 }
 
+// The day of the week of a day number.
+#[tactic(auto, using(crate::proofs::WeekDateLemmas::weekdays))]
+fn weekday_of(day: i32) -> u8
+    requires { IsDay day }
+    ensures { result ≡ weekday_of day }
+{
+    (day + 3).rem_euclid(7) as u8
+}
+
 fn weekday_from_day(day: i32) -> Result<u8, Refused>
     ensures { result ≡ weekday_from_day day }
 {
-    Ok(read_day(day)?.weekday().number_days_from_monday())
+    read_day(day)?;
+    Ok(weekday_of(day))
 }
 
 /// The day of the week of a day number, 0 for Monday to 6 for Sunday. Refused DAY_NUMBER.

@@ -175,7 +175,7 @@ fn is_some_day(tens: u8, units: u8) -> bool
     }
 }
 
-fn date_time_from_rfc3339(text: &[u8]) -> Result<MuxanduDateTime, Refused>
+pub(crate) fn date_time_from_rfc3339(text: &[u8]) -> Result<MuxanduDateTime, Refused>
     ensures spelled { (p : Parts) → IsDateTime text.now p → result ≡ date_time_spelled p }
     ensures syntax { ((p : Parts) × IsDateTime text.now p) ⊎ (result ≡ Err refused.Syntax) }
 {

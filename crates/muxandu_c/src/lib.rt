@@ -8,6 +8,7 @@ mod date_sums;
 mod date_texts;
 mod date_times;
 mod days;
+mod digit_texts;
 mod each_batches;
 mod exchange;
 pub mod limits;
@@ -20,6 +21,7 @@ mod status_texts;
 mod subsecond_batches;
 #[cfg(test)]
 mod tests;
+mod text_batches;
 mod texts;
 mod timestamps;
 pub mod unit;

@@ -116,11 +116,14 @@ pub(crate) fn timestamp_of(at: Timestamp) -> MuxanduTimestamp
 // The instant of a date-time at an offset of so many seconds, if the range has it.
 #[tactic(auto, unfolding(offset_times::specs::Local::instant_of))]
 #[inline(always)]
-pub(crate) fn instant(at: OffsetDateTime, offset_seconds: i32) -> Result<Timestamp, Refused>
+pub(crate) fn instant_of_date_time(
+    at: OffsetDateTime,
+    offset_seconds: i32,
+) -> Result<Timestamp, Refused>
     requires { at.offset ≡ offset_seconds }
     ensures { result ≡ in_range (instant_of at) }
 {
-    difference(wall_of(at), seconds_of(offset_seconds))
+    checked_difference(wall_of(at), seconds_of(offset_seconds))
 }
 
 // The duration of its parts together. Most have less than a second of nanoseconds, and carry none.
@@ -187,15 +190,15 @@ fn seconds_of(offset_seconds: i32) -> SignedDuration
 // What clocks at an offset of so many seconds show at an instant, as clocks in UTC show it, if the range has
 // it.
 #[inline(always)]
-pub(crate) fn at_offset(at: Timestamp, offset_seconds: i32) -> Result<Timestamp, Refused>
+pub(crate) fn shown_as_if_utc(at: Timestamp, offset_seconds: i32) -> Result<Timestamp, Refused>
     ensures { result ≡ in_range (shown_at at offset_seconds) }
 {
-    sum(at, seconds_of(offset_seconds))
+    checked_sum(at, seconds_of(offset_seconds))
 }
 
 // The instant so much later, if the range has it.
 #[inline(always)]
-pub(crate) fn sum(at: Timestamp, duration: SignedDuration) -> Result<Timestamp, Refused>
+pub(crate) fn checked_sum(at: Timestamp, duration: SignedDuration) -> Result<Timestamp, Refused>
     ensures { result ≡ in_range (at +ℤ duration) }
 {
     match at.checked_add(duration) {
@@ -206,7 +209,10 @@ pub(crate) fn sum(at: Timestamp, duration: SignedDuration) -> Result<Timestamp, 
 
 // The instant so much earlier, if the range has it.
 #[inline(always)]
-pub(crate) fn difference(at: Timestamp, duration: SignedDuration) -> Result<Timestamp, Refused>
+pub(crate) fn checked_difference(
+    at: Timestamp,
+    duration: SignedDuration,
+) -> Result<Timestamp, Refused>
     ensures { result ≡ in_range (at -ℤ duration) }
 {
     match at.checked_sub(duration) {
@@ -235,7 +241,7 @@ pub(crate) fn to_offset(at: OffsetDateTime, from: i32, to: i32) -> Result<Timest
     requires to { IsOffset to }
     ensures { result ≡ in_range (shown_at (instant_of at) to) }
 {
-    sum(wall_of(at), seconds_of(to - from))
+    checked_sum(wall_of(at), seconds_of(to - from))
 }
 
 // The date of a day number.

@@ -60,7 +60,8 @@ pub extern "C" fn muxandu_date_reads(date: MuxanduDate, out: &mut MuxanduDateRea
 fn date_from_julian_day(julian_day: i32) -> Result<MuxanduDate, Refused>
     ensures { result ≡ date_from_julian_day julian_day }
 {
-    Ok(date_of(day_of(Date::from_julian_day(julian_day)?)))
+    Date::from_julian_day(julian_day)?;
+    Ok(date_of(julian_day - 2_440_588))
 }
 
 /// The date of a Julian day, which is 2440588 on 1970-01-01. Refused DAY_NUMBER where the range has no such day.

@@ -84,6 +84,13 @@ impl From<ComponentRange> for Refused {
                     Refused::Ordinal
                 }
             }
+            Part::Week => {
+                if refusal.is_conditional() {
+                    Refused::WeekOfYear
+                } else {
+                    Refused::Week
+                }
+            }
             Part::Hour => Refused::Hour,
             Part::Minute => Refused::Minute,
             Part::Second => Refused::Second,

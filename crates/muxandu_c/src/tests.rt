@@ -16,6 +16,7 @@ use crate::days::{
     muxandu_day_from_week_date, muxandu_days_in_month, muxandu_ordinal_date_from_day,
     muxandu_week_date_from_day, muxandu_weekday_from_day,
 };
+use crate::digit_texts::muxandu_date_time_to_rfc3339_digits;
 use crate::exchange::{
     muxandu_date_time_from_rfc3339, muxandu_date_time_to_rfc3339, muxandu_timestamp_from_rfc3339,
     muxandu_timestamp_to_rfc3339, muxandu_timestamp_to_rfc3339_nanos,
@@ -23,6 +24,7 @@ use crate::exchange::{
 use crate::offsets::{MuxanduOffset, muxandu_offset_from_parts, muxandu_offset_to_parts};
 use crate::reads::{MuxanduDateReads, muxandu_date_from_julian_day, muxandu_date_reads};
 use crate::replacements::{muxandu_date_time_replace, muxandu_timestamp_replace};
+use crate::text_batches::muxandu_date_times_from_rfc3339;
 use crate::texts::{muxandu_date_time_text, muxandu_timestamp_text};
 use crate::timestamps::{
     muxandu_timestamp_add, muxandu_timestamp_check, muxandu_timestamp_compare,
@@ -323,9 +325,9 @@ fn week_dates(rt: HostRuntime) {
 
 // The status of a call that writes a text, and the length that it tells.
 macro_rules! told {
-    ($call:ident($argument:expr), $buffer:expr) => {{
+    ($call:ident($($argument:expr),*), $buffer:expr) => {{
         let mut size = 7;
-        let status = $call($argument, $buffer, &mut size);
+        let status = $call($($argument,)* $buffer, &mut size);
         (status, size)
     }};
 }
@@ -377,6 +379,10 @@ fn texts_of_exchange(rt: HostRuntime) {
         (
             told!(muxandu_date_time_to_rfc3339(odd), &mut buffer),
             (25, 7),
+        ),
+        (
+            told!(muxandu_date_time_to_rfc3339_digits(west, 3), &mut buffer),
+            (0, 29),
         ),
         (
             told!(muxandu_timestamp_to_rfc3339(half), &mut buffer),
@@ -532,6 +538,14 @@ fn texts_of_a_block(rt: HostRuntime) {
     assert_eq!(rt; (stamps[0].seconds, stamps[1].seconds), (1, 1));
     let batch = muxandu_timestamps_from_rfc3339(block, &[first, first], &mut stamps[..1]);
     assert_eq!(rt; (batch.count, batch.status), (0, 20));
+    let there = midnight(1996, 12, 19, 1);
+    let mut shown = [there, there];
+    let batch = muxandu_date_times_from_rfc3339(block, &[first, second], &mut shown);
+    assert_eq!(rt; (batch.count, batch.status), (1, 12));
+    assert_eq!(rt;
+        (shown[0].second, shown[0].offset_seconds, shown[1].year),
+        (1, 0, 1996)
+    );
 }
 
 #[test]

@@ -11,7 +11,8 @@ ghost use Rattle.muxandu_c.specs.Values.{count_in_range, in_64_bits};
 ghost use Rattle.stamp_times.specs.Instants.{instant_of_parts, instant_of_milliseconds, instant_of_microseconds};
 
 use crate::parts::{
-    difference, duration_of, read_duration, read_timestamp, sign, sum, timestamp_of, utc_in_unit,
+    checked_difference, checked_sum, duration_of, read_duration, read_timestamp, sign,
+    timestamp_of, utc_in_unit,
 };
 use crate::refused::{Refused, answer, status_of};
 use crate::unit::read_unit;
@@ -53,7 +54,7 @@ fn timestamp_add(
     ensures { result ≡ timestamp_add at duration }
 {
     let at = read_timestamp(at)?;
-    Ok(timestamp_of(sum(at, read_duration(duration)?)?))
+    Ok(timestamp_of(checked_sum(at, read_duration(duration)?)?))
 }
 
 /// The instant so much later, or earlier for a negative duration. Refused as the timestamp, then DURATION, then RESULT
@@ -77,7 +78,7 @@ fn timestamp_subtract(
     ensures { result ≡ timestamp_subtract at duration }
 {
     let at = read_timestamp(at)?;
-    Ok(timestamp_of(difference(at, read_duration(duration)?)?))
+    Ok(timestamp_of(checked_difference(at, read_duration(duration)?)?))
 }
 
 /// The instant so much earlier, or later for a negative duration. Refused as the timestamp, then DURATION, then RESULT

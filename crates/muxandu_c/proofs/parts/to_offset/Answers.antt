@@ -8,4 +8,4 @@ unfolding instant_of
 returns c =
     let moved : c.wall_of.result +ℤ c.seconds_of.result ≡ shown_at (instant_of c.args.at) c.args.to =
     omega (arith, signed_arith, c.wall_of.ensures, c.requires.from, c.requires.to) in
-    rw (← moved) c.sum.ensures
+    rw (← moved) c.checked_sum.ensures

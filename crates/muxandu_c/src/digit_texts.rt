@@ -1,0 +1,51 @@
+//! Texts of RFC 3339 of so many digits.
+ghost use Rattle.std.specs.Prelude.{◌≡◌, ◌≤◌, length, IfOk};
+ghost use Rattle.muxandu_c.specs.Answers.{status_of, written};
+ghost use Rattle.muxandu_c.specs.Answers.{written_over, text_if_room, length_of_answer};
+ghost use Rattle.muxandu_c.specs.DigitTexts.{rfc3339_of_digits, date_time_to_rfc3339_digits};
+
+use crate::parts::read_date_time;
+use crate::refused::Refused;
+use crate::texts::put;
+use crate::values::MuxanduDateTime;
+use calendar_values::Text;
+use offset_times::OffsetDateTime;
+use rfc3339::to_rfc3339_digits;
+
+fn rfc3339_of_digits(at: OffsetDateTime, digits: u8) -> Result<Text, Refused>
+    ensures value { result ≡ rfc3339_of_digits digits at }
+    ensures room { IfOk result (λ text. length text ≤ 35) }
+{
+    match to_rfc3339_digits(at, digits) {
+        Some(text) => Ok(text),
+        None => Err(Refused::NoText),
+    }
+}
+
+fn date_time_to_rfc3339_digits(date_time: MuxanduDateTime, digits: u8) -> Result<Text, Refused>
+    ensures value { result ≡ date_time_to_rfc3339_digits digits date_time }
+    ensures room { IfOk result (λ text. length text ≤ 35) }
+{
+    rfc3339_of_digits(read_date_time(date_time)?, digits)
+}
+
+/// Writes the text of RFC 3339 of a date-time with so many digits of the fraction, 0 to 9, and nine where more are asked
+/// for, as `1985-04-12T23:20:50.520Z` of three, of at most 35 bytes, as muxandu_date_time_text does: what lies past them is
+/// left out. Refused as the date-time, then NO_TEXT, then BUFFER.
+#[unsafe(no_mangle)]
+pub extern "C" fn muxandu_date_time_to_rfc3339_digits(
+    date_time: MuxanduDateTime,
+    digits: u8,
+    buffer: &mut [u8],
+    size: &mut usize,
+) -> u32
+    ensures status { result ≡
+        status_of (text_if_room (date_time_to_rfc3339_digits digits date_time) buffer.old) }
+    ensures written { buffer.new ≡ written_over
+        (text_if_room (date_time_to_rfc3339_digits digits date_time) buffer.old) buffer.old }
+    ensures size { size.new ≡
+        written (length_of_answer (date_time_to_rfc3339_digits digits date_time)) size.old }
+    ensures room { IfOk (date_time_to_rfc3339_digits digits date_time) (λ text. length text ≤ 35) }
+{
+    put(date_time_to_rfc3339_digits(date_time, digits), buffer, size)
+}

@@ -1,0 +1,56 @@
+//! Many texts of a block in one call.
+ghost use Rattle.std.specs.Prelude.{◌≡◌, ◌++◌, length, drop};
+ghost use Rattle.muxandu_c.specs.Batches.{batch_values, batch_status};
+ghost use Rattle.muxandu_c.specs.TextBatches.{date_time_at, date_time_read};
+
+use crate::batches::{Conversion, convert_all};
+use crate::exchange::date_time_from_rfc3339;
+use crate::refused::Refused;
+use crate::values::{MuxanduBatch, MuxanduDateTime, MuxanduSpan};
+
+#[derive(Clone, Copy)]
+struct FromTexts<'a> {
+    texts: &'a [u8],
+}
+
+impl Conversion<MuxanduSpan, MuxanduDateTime> for FromTexts<'_> {
+    ghost value_of = { λ conversion span. date_time_at conversion.texts.now span };
+
+    fn convert(self, item: MuxanduSpan) -> Result<MuxanduDateTime, Refused> {
+        date_time_in(self.texts, item)
+    }
+}
+
+// The date-time of the text of a span.
+fn date_time_in(texts: &[u8], span: MuxanduSpan) -> Result<MuxanduDateTime, Refused>
+    ensures { result ≡ date_time_at texts.now span }
+{
+    if span.start > texts.len() || span.length > texts.len() - span.start {
+        return Err(Refused::Span);
+    }
+    date_time_of_text(&texts[span.start..span.start + span.length])
+}
+
+fn date_time_of_text(text: &[u8]) -> Result<MuxanduDateTime, Refused>
+    ensures { result ≡ date_time_read text.now }
+{
+    date_time_from_rfc3339(text)
+}
+
+/// The date-time and the offset of each text of RFC 3339, up to the first that muxandu_date_time_from_rfc3339 refuses, or
+/// SPAN, whose span does not lie in the block `texts`. Refused BUFFER, with nothing written, where `out` has fewer items
+/// than `spans`.
+#[unsafe(no_mangle)]
+pub extern "C" fn muxandu_date_times_from_rfc3339(
+    texts: &[u8],
+    spans: &[MuxanduSpan],
+    out: &mut [MuxanduDateTime],
+) -> MuxanduBatch
+    ensures count { result.count ≡
+        length (batch_values (date_time_at texts.now) out.old spans.now) }
+    ensures status { result.status ≡ batch_status (date_time_at texts.now) out.old spans.now }
+    ensures written { out.new ≡ batch_values (date_time_at texts.now) out.old spans.now
+        ++ drop result.count out.old }
+{
+    convert_all(FromTexts { texts }, spans, out)
+}
