@@ -1,11 +1,12 @@
 //! Days that are counted.
 #![tactic(auto, using(calendar_values::specs::Constants::constants, calendar_values::specs::WeekLemmas::weekdays, calendar_values::specs::MonthNumberLemmas::months))]
 
-ghost use Rattle.std.specs.Prelude.{◌≡◌, ◌↔◌, ◌<◌, ◌≤◌, ◌+◌, ◌+ℤ◌, ◌-ℤ◌, ◌*ℤ◌, ◌≤ℤ◌, ◌<ℤ◌, pos, IfSome, IsTrue};
+ghost use Rattle.std.specs.Prelude.{◌≡◌, ◌↔◌, ◌<◌, ◌≤◌, ◌+◌, ◌+ℤ◌, ◌-ℤ◌, ◌*ℤ◌, ◌≤ℤ◌, ◌<ℤ◌, pos, IfSome, IsTrue, SomeIff};
 ghost use Rattle.calendar_values.specs.Calendar.{days_in_month, is_leap_year, year_of, month_of, day_of_month_of};
 ghost use Rattle.calendar_values.specs.Clock.{hour_of, minute_of};
+ghost use Rattle.calendar_values.specs.Range.{IsDay};
 ghost use Rattle.calendar_values.specs.Weekday.{weekday_number};
-ghost use Rattle.calendar_values.specs.Weeks.{weekday_of};
+ghost use Rattle.calendar_values.specs.Weeks.{iso_week_of, iso_year_of, weekday_of};
 
 use calendar_values::{Date, Month, SignedDuration, Time, Weekday, days_in_month};
 
@@ -29,6 +30,15 @@ pub fn first_of_its_month(date: Date) -> Date
     ensures month { month_of result ≡ month_of date }
 {
     date.replace_day(1).unwrap()
+}
+
+/// The Monday of an ISO week, or None for a week that the year has not, and for a year outside the range.
+pub fn monday_of_week(year: i32, week: u8) -> Option<Date>
+    ensures year { IfSome result (λ monday. iso_year_of monday ≡ year) }
+    ensures week { IfSome result (λ monday. iso_week_of monday ≡ week) }
+    ensures weekday { IfSome result (λ monday. weekday_of monday ≡ 0) }
+{
+    Date::from_iso_week_date(year, week, Weekday::Monday).ok()
 }
 
 /// The first day of a year, or None for a year outside the range.
@@ -106,6 +116,14 @@ pub fn a_week_later(date: Date) -> Option<Date>
     ensures weekday { IfSome result (λ later. weekday_of later ≡ weekday_of date) }
 {
     date.checked_add_days(7)
+}
+
+/// The same day of the next week, by a duration, exactly where the range has it.
+pub fn next_week(date: Date) -> Option<Date>
+    ensures value { let next = date +ℤ pos 7 in SomeIff result (IsDay next) next }
+    ensures weekday { IfSome result (λ next. weekday_of next ≡ weekday_of date) }
+{
+    date.checked_add(SignedDuration::weeks(1))
 }
 
 /// The days that the month of the date still has after it.

@@ -1,7 +1,8 @@
 //! A log in the order of instants.
 #![tactic(auto, using(calendar_values::specs::Constants::constants, stamp_times::specs::LogLemmas::without_repeats))]
 
-ghost use Rattle.std.specs.Prelude.{◌≡◌, ◌↔◌, ◌-ℤ◌, ◌<ℤ◌, ℤ, All, IsSortedByKey, true, ◌++◌, [], ◌∷◌, Contains, IfOk, IfSome, IsPermutation, IsSorted, IsTrue, OnOk, if◌then◌else◌};
+ghost use Rattle.std.specs.Prelude.{◌≡◌, ◌↔◌, ◌-ℤ◌, ◌<ℤ◌, ℤ, All, IsSortedByKey, true, ◌++◌, [], ◌∷◌, Contains, IfOk, IfSome, IsPermutation};
+ghost use Rattle.std.specs.Prelude.{IsSorted, IsTrue, OnOk, if◌then◌else◌};
 ghost use Rattle.std.specs.List.{HoldsAt};
 ghost use Rattle.std.specs.List.Sorted.{IsStrictlySortedBy};
 ghost use Rattle.std.specs.Ordering.{int_cmp};

@@ -1,7 +1,7 @@
 //! Days that come each month or each year: a month that is too short has its last day in their place.
 #![tactic(auto, using(calendar_values::specs::Constants::constants, plain_times::specs::MonthLemmas::month_days))]
 
-ghost use Rattle.std.specs.Prelude.{◌≡◌, ◌≤◌, ◌+ℤ◌, ◌-ℤ◌, pos, min, IfOk, IfSome, SomeIff, neg_ℤ, ◌≤ℤ◌};
+ghost use Rattle.std.specs.Prelude.{◌≡◌, ◌≤◌, ◌+◌, ◌+ℤ◌, ◌-ℤ◌, pos, min, IfOk, IfSome, SomeIff, neg_ℤ, ◌≤ℤ◌};
 ghost use Rattle.calendar_values.specs.Calendar.{days_in_month, is_leap_year, year_of, month_of, day_of_month_of};
 ghost use Rattle.calendar_values.specs.Month.{month_number};
 ghost use Rattle.calendar_values.specs.Range.{IsYear};
@@ -68,6 +68,19 @@ pub fn a_month_later(date: Date) -> Option<Date>
 {
     let first = next_month(date)?;
     Some(day_in_month_of(first, date.day()))
+}
+
+/// The same day of the next month, or its last day, by the number of the month: the 13th is January. Refused `year` past
+/// the range.
+#[tactic(auto, using(calendar_values::specs::Constants::constants, plain_times::specs::MonthLemmas::month_days, calendar_values::specs::MonthNumberLemmas::months))]
+pub fn same_day_next_month(date: Date) -> Result<Date, ComponentRange>
+    ensures { IfOk result (λ due. due ≡
+        months.same_day_or_last (year_of date) (month_of date + 1) (day_of_month_of date)) }
+{
+    match Month::from_number(u8::from(date.month()) + 1) {
+        Ok(next) => day_or_last(date.year(), next, date.day()),
+        Err(_) => day_or_last(year_after(date), Month::January, date.day()),
+    }
 }
 
 /// The number of the month of a date, counted from January of the year 0.

@@ -81,3 +81,12 @@ pub fn put_back_at(first: OffsetDateTime, second: OffsetDateTime) -> Option<Offs
 {
     first.checked_sub(first - second)
 }
+
+/// What was noted by clocks of another offset than was written down, put at that offset: the clocks stay, and the
+/// instant is that of the clocks there.
+pub fn noted_at(noted: OffsetDateTime, offset: UtcOffset) -> OffsetDateTime
+    ensures clocks { result.wall ≡ noted.wall }
+    ensures instant { instant_of result ≡ noted.wall -ℤ offset_nanos offset }
+{
+    noted.replace_offset(offset)
+}

@@ -1,10 +1,11 @@
 //! Conversions and calls that come as lists.
-ghost use Rattle.std.specs.Prelude.{◌≡◌, ◌≤◌, ◌+ℤ◌, ◌++◌, pos, IfOk, IfSome, length, vec_len};
+ghost use Rattle.std.specs.Prelude.{◌≡◌, ◌≤◌, ◌+ℤ◌, ◌∷◌, ◌++◌, pos, IfOk, IfSome, length, vec_len};
 ghost use Rattle.calendar_values.specs.Clock.{nanos_per_day};
 ghost use Rattle.calendar_values.specs.WallClock.{IsWallClock};
 ghost use Rattle.offset_times.specs.Local.{instant_of};
-ghost use Rattle.stamp_times.specs.Counter.{last_instant};
+ghost use Rattle.stamp_times.specs.Counter.{last_instant, replies, reply};
 ghost use Rattle.stamp_times.specs.Travel.{held_instant, held_after};
+ghost use Rattle.stamp_times.specs.declared.runs.calls.Reply.TheVariants.{Refused};
 
 use calendar_values::{SignedDuration, UtcOffset};
 use offset_times::OffsetDateTime;
@@ -64,6 +65,37 @@ pub fn led_by_both(
     let (_, between) = run(alloc, start, first)?;
     let (_, end) = run(alloc, between, rest)?;
     Ok(end)
+}
+
+/// The replies to calls, and those to others from where the first end: together those to all of them.
+pub fn replies_to_both(
+    alloc: Global,
+    start: Timestamp,
+    first: &[Call],
+    rest: &[Call],
+) -> Result<(Vec<Reply>, Vec<Reply>), AllocError>
+    ensures { IfOk result (λ both.
+        both.0.items ++ both.1.items ≡ replies start (first.now ++ rest.now)) }
+{
+    stamp_times::laws::runs_compose();
+    let (of_first, between) = run(alloc, start, first)?;
+    let (of_rest, _) = run(alloc, between, rest)?;
+    Ok((of_first, of_rest))
+}
+
+/// Where calls lead, also with a sum in their midst that is refused: it need not be made.
+pub fn led_without(
+    alloc: Global,
+    start: Timestamp,
+    first: &[Call],
+    refused: Call,
+    rest: &[Call],
+) -> Result<Timestamp, AllocError>
+    ensures { reply (last_instant start first.now) refused ≡ Refused → IfOk result (λ end.
+        end ≡ last_instant start (first.now ++ (refused ∷ rest.now))) }
+{
+    stamp_times::laws::refused_calls_change_nothing();
+    led_by_both(alloc, start, first, rest)
 }
 
 /// Where a day forward and a day back lead: to where they began.

@@ -2,7 +2,7 @@ use crate::audit::Audit;
 use crate::periods::Period;
 use crate::{
     audit, batches, billing, constants, daily, days, exchange, expiry, invoices, log, meeting,
-    midnight, milliseconds, moments, offsets, periods, replays, reports, retry, timeouts,
+    midnight, milliseconds, moments, months, offsets, periods, replays, reports, retry, timeouts,
 };
 use calendar_values::{ComponentRange, Date, Month, SignedDuration, Time, UtcOffset, Weekday};
 use offset_times::OffsetDateTime;
@@ -110,6 +110,7 @@ fn callers_at_offsets_are_called(rt: HostRuntime) -> Result<(), Fail> {
         offsets::put_back_at(local(0, 1)?, local(0, -5)?),
         Some(shown)
     );
+    assert_eq!(rt; offsets::noted_at(local(0, 1)?, UtcOffset::UTC), local(3_600, 0)?);
 
     Ok(())
 }
@@ -172,6 +173,38 @@ fn billing_is_called(rt: HostRuntime) -> Result<(), Fail> {
         Date::from_calendar_date(2024, Month::February, 29)
     );
 
+    Ok(())
+}
+
+#[test]
+fn months_are_counted_on(rt: HostRuntime) -> Result<(), Fail> {
+    let january = Date::from_calendar_date(2024, Month::January, 31)?;
+    let leap_day = Date::from_calendar_date(2024, Month::February, 29)?;
+    let december = Date::from_calendar_date(2023, Month::December, 31)?;
+    assert_eq!(rt; months::a_month_later(january), Some(leap_day));
+    assert_eq!(rt; months::same_day_next_month(january), Ok(leap_day));
+    assert_eq!(rt; months::same_day_next_month(december), Ok(january));
+    assert_eq!(rt; months::months_between(leap_day, december), -2);
+    assert_eq!(rt;
+        months::billing_day(2024, Month::February, 30),
+        Ok(leap_day)
+    );
+    assert_eq!(rt;
+        months::a_year_later(leap_day),
+        Some(Date::from_calendar_date(2025, Month::February, 28)?)
+    );
+    Ok(())
+}
+
+#[test]
+fn weeks_are_counted_on(rt: HostRuntime) -> Result<(), Fail> {
+    let monday = Date::from_calendar_date(2024, Month::February, 26)?;
+    let friday = Date::from_calendar_date(2024, Month::March, 1)?;
+    let next_monday = Date::from_calendar_date(2024, Month::March, 4)?;
+    assert_eq!(rt; days::monday_of(friday), Some(monday));
+    assert_eq!(rt; days::next_working_day(friday), Some(next_monday));
+    assert_eq!(rt; days::next_week(monday), Some(next_monday));
+    assert_eq!(rt; days::days_left_in_its_month(monday), 3);
     Ok(())
 }
 
@@ -247,6 +280,11 @@ fn callers_of_what_replacements_show_are_called(rt: HostRuntime) -> Result<(), F
     );
     assert_eq!(rt; days::first_of_year(1970), Some(Date::UNIX_EPOCH));
     assert_eq!(rt; days::first_of_year(1_000_000), None);
+    assert_eq!(rt;
+        days::monday_of_week(1970, 1),
+        Some(Date::from_julian_day(2_440_585)?)
+    );
+    assert_eq!(rt; days::monday_of_week(2021, 53), None);
     assert_eq!(rt; days::weekday_weeks_later(leap_day, -3), Weekday::Thursday);
     assert_eq!(rt;
         days::at_half_past(Time::MIDNIGHT),
@@ -276,7 +314,23 @@ fn callers_of_sums_in_order_are_called(rt: HostRuntime) -> Result<(), Fail> {
     let shift = [Call::Shift(Shift::CheckedAdd(second))];
     let end = replays::led_by_both(alloc, epoch, &shift, &shift)?;
     assert_eq!(rt; end, Timestamp::from_seconds(2)?);
+    let (one, other) = replays::replies_to_both(alloc, epoch, &shift, &shift)?;
+    assert!(rt; one.len() == 1 && other.len() == 1);
+    let refused = Call::Shift(Shift::CheckedSub(second));
+    let end = replays::led_without(alloc, Timestamp::MIN, &[], refused, &shift)?;
+    assert_eq!(rt; Timestamp::MIN.checked_add(second), Some(end));
     let both = replays::converted_by_both(Held::Stamp(epoch), &[Step::ToUtc], &[Step::ToStamp]);
     assert!(rt; both.is_some());
+    assert_eq!(rt;
+        timeouts::both_extended(local(0, 1)?, local(5, 2)?, second),
+        Some((local(1, 1)?, local(6, 2)?))
+    );
+    let (first, later) = timeouts::both_put_off(
+        OffsetDateTime::from(utc(0)?),
+        OffsetDateTime::from(UtcDateTime::MAX),
+        second,
+    );
+    assert_eq!(rt; first, local(1, 0)?);
+    assert_eq!(rt; later, OffsetDateTime::from(UtcDateTime::MAX));
     Ok(())
 }

@@ -1,9 +1,35 @@
 //! Values of the definitions, from Python's `datetime`, ISO 8601 and RFC 3339: a wrong definition would not have them. The
 //! functions are there for their contracts.
-#![tactic(auto, using(std::proofs::lemmas::Fmt::decimal_digit), unfolding(calendar_values::specs::Calendar::days_from_1970, calendar_values::specs::Calendar::days_until_1970, calendar_values::specs::Calendar::days_of_years, calendar_values::specs::Calendar::year_start, calendar_values::specs::Calendar::days_in_months, calendar_values::specs::Calendar::last_month_begun, calendar_values::specs::Calendar::month_of_ordinal, calendar_values::specs::Calendar::day_of_ordinal, calendar_values::specs::Calendar::year_after_1970, calendar_values::specs::Calendar::year_before_1970, calendar_values::specs::Calendar::year_of, calendar_values::specs::Calendar::ordinal_of, stamp_times::specs::Numbered::month_numbered, stamp_times::specs::Numbered::weekday_numbered, calendar_values::specs::Weeks::weekday_of, calendar_values::specs::Weeks::count_weekday, calendar_values::specs::Constructors::calendar_date, calendar_values::specs::Constructors::ordinal_date, calendar_values::specs::Constructors::clock_with, calendar_values::specs::WallClock::wall_day, calendar_values::specs::WallClock::wall_time, plain_times::specs::Replacements::with_date, plain_times::specs::Replacements::with_time, utc_times::specs::UnixTime::instant_or_refusal, plain_times::specs::Sums::wall_clock_if_any, plain_times::specs::Sums::nearest_wall_clock, offset_times::specs::Local::instant_of, stamp_times::specs::Refusals::timestamp_of_parts, calendar_values::specs::Digits::last_digits, calendar_values::specs::Digits::fraction_digits, rfc3339::specs::Form::fraction_value, calendar_values::specs::Texts::year_digits, calendar_values::specs::Texts::date_text, calendar_values::specs::Texts::offset_text, calendar_values::specs::Texts::time_text, stamp_times::specs::Texts::fraction_text, stamp_times::specs::Texts::seconds_text, stamp_times::specs::Texts::timestamp_text, rfc3339::specs::Texts::time_offset_text, rfc3339::specs::Texts::rfc3339_text, rfc3339::specs::Texts::fixed_text, rfc3339::specs::Meaning::meaning))]
+#![tactic(auto, using(std::proofs::lemmas::Fmt::decimal_digit), unfolding(
+// the first days of years
+calendar_values::specs::Calendar::days_from_1970, calendar_values::specs::Calendar::days_until_1970, calendar_values::specs::Calendar::days_of_years, calendar_values::specs::Calendar::year_start,
+// months and their days
+calendar_values::specs::Calendar::days_in_months, calendar_values::specs::Calendar::last_month_begun,
+// of a day of the year
+calendar_values::specs::Calendar::month_of_ordinal, calendar_values::specs::Calendar::day_of_ordinal,
+// the year of a day
+calendar_values::specs::Calendar::year_after_1970, calendar_values::specs::Calendar::year_before_1970, calendar_values::specs::Calendar::year_of, calendar_values::specs::Calendar::ordinal_of,
+// weeks, and what has a number
+calendar_values::specs::Weeks::weekday_of, calendar_values::specs::Weeks::count_weekday, stamp_times::specs::Numbered::month_numbered, stamp_times::specs::Numbered::weekday_numbered,
+// parts that make a date or a time of day
+calendar_values::specs::Constructors::calendar_date, calendar_values::specs::Constructors::ordinal_date, calendar_values::specs::Constructors::clock_with,
+// wall clocks
+calendar_values::specs::WallClock::wall_day, calendar_values::specs::WallClock::wall_time, plain_times::specs::Replacements::with_date, plain_times::specs::Replacements::with_time,
+// sums and instants
+plain_times::specs::Sums::wall_clock_if_any, plain_times::specs::Sums::nearest_wall_clock, offset_times::specs::Local::instant_of, utc_times::specs::UnixTime::instant_or_refusal,
+// timestamps
+stamp_times::specs::Refusals::timestamp_of_parts, stamp_times::specs::Texts::fraction_text, stamp_times::specs::Texts::seconds_text, stamp_times::specs::Texts::timestamp_text,
+// digits
+calendar_values::specs::Digits::last_digits, calendar_values::specs::Digits::fraction_digits, rfc3339::specs::Form::fraction_value, calendar_values::specs::Texts::year_digits,
+// texts of dates, times of day and offsets
+calendar_values::specs::Texts::date_text, calendar_values::specs::Texts::time_text, calendar_values::specs::Texts::offset_text,
+// texts of RFC 3339
+rfc3339::specs::Texts::time_offset_text, rfc3339::specs::Texts::rfc3339_text, rfc3339::specs::Texts::fixed_text, rfc3339::specs::Meaning::meaning))]
 
 ghost use Rattle.std.specs.Prelude.{◌≡◌, pos, neg_ℤ, true, false, codes, Some, None, Ok, Err, [], ◌∷◌};
-ghost use Rattle.calendar_values.specs.Calendar.{divides, is_leap_year, year_length, days_in_year, days_from_1970, days_until_1970, year_start, days_in_month, days_in_months, days_before_month, day_of_calendar_date, day_of_ordinal_date, year_of, ordinal_of, month_of, day_of_month_of, month_of_ordinal, day_of_ordinal, julian_day_of};
+ghost use Rattle.calendar_values.specs.Calendar.{divides, is_leap_year, year_length, days_in_year, days_from_1970, days_until_1970, year_start};
+ghost use Rattle.calendar_values.specs.Calendar.{days_in_month, days_in_months, days_before_month, day_of_calendar_date, day_of_ordinal_date};
+ghost use Rattle.calendar_values.specs.Calendar.{year_of, ordinal_of, month_of, day_of_month_of, month_of_ordinal, day_of_ordinal, julian_day_of};
 ghost use Rattle.calendar_values.specs.Clock.{clock_of_parts, hour_of, minute_of, second_of, nanosecond_of, microsecond_of, millisecond_of};
 ghost use Rattle.calendar_values.specs.Digits.{last_digits, fraction_digits};
 ghost use Rattle.calendar_values.specs.Durations.{duration_of_parts};
@@ -11,7 +37,8 @@ ghost use Rattle.calendar_values.specs.Month.{month_number};
 ghost use Rattle.calendar_values.specs.Offsets.{seconds_of_parts};
 ghost use Rattle.calendar_values.specs.Constructors.{calendar_date, ordinal_date, clock_time_nano};
 ghost use Rattle.calendar_values.specs.Refusals.{conditional_refusal, outright_refusal};
-ghost use Rattle.calendar_values.specs.Replacements.{year_outcome, month_outcome, day_outcome, ordinal_outcome, hour_outcome, minute_outcome, second_outcome, millisecond_outcome, microsecond_outcome, nanosecond_outcome};
+ghost use Rattle.calendar_values.specs.Replacements.{year_outcome, month_outcome, day_outcome, ordinal_outcome, hour_outcome, minute_outcome};
+ghost use Rattle.calendar_values.specs.Replacements.{second_outcome, millisecond_outcome, microsecond_outcome, nanosecond_outcome};
 ghost use Rattle.calendar_values.specs.Texts.{year_text, date_text, time_text, offset_text};
 ghost use Rattle.calendar_values.specs.WallClock.{wall_clock, wall_day, wall_time, last_wall_clock, first_wall_clock};
 ghost use Rattle.calendar_values.specs.Weeks.{weekday_of, thursday_of, iso_year_of, iso_week_of, count_weekday, sunday_week_of, monday_week_of};
