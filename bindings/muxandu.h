@@ -539,6 +539,13 @@ MuxanduStatus muxandu_date_to_rfc3339(MuxanduDate date, char *MUXANDU_RESTRICT b
 MuxanduStatus muxandu_date_from_rfc3339(const char *MUXANDU_RESTRICT text, size_t text_count,
                                         MuxanduDate *MUXANDU_RESTRICT out);
 
+/* Writes the text of RFC 3339 of a date-time with so many digits of the fraction, 0 to 9, and nine where more are
+ * asked for, as '1985-04-12T23:20:50.520Z' of three, of at most 35 bytes, as muxandu_date_time_text does: what lies
+ * past them is left out. Refused as the date-time, then NO_TEXT, then BUFFER. */
+MuxanduStatus muxandu_date_time_to_rfc3339_digits(MuxanduDateTime date_time, uint8_t digits,
+                                                  char *MUXANDU_RESTRICT buffer, size_t buffer_count,
+                                                  size_t *MUXANDU_RESTRICT size);
+
 /* What clocks at an offset, in seconds, show at each Unix second, and its status, as
  * muxandu_date_time_from_timestamp has them: where an item is refused, what is in its place stays, and the next
  * follows. 'count' is how many were converted. Refused BUFFER, with nothing written, where 'out' or 'statuses' has
@@ -649,6 +656,13 @@ MuxanduBatch muxandu_date_times_from_nanoseconds(const int64_t *MUXANDU_RESTRICT
 MuxanduBatch muxandu_nanoseconds_from_date_times(const MuxanduDateTime *MUXANDU_RESTRICT date_times,
                                                  size_t date_times_count, int64_t *MUXANDU_RESTRICT out,
                                                  size_t out_count);
+
+/* The date-time and the offset of each text of RFC 3339, up to the first that muxandu_date_time_from_rfc3339
+ * refuses, or SPAN, whose span does not lie in the block 'texts'. Refused BUFFER, with nothing written, where 'out'
+ * has fewer items than 'spans'. */
+MuxanduBatch muxandu_date_times_from_rfc3339(const char *MUXANDU_RESTRICT texts, size_t texts_count,
+                                             const MuxanduSpan *MUXANDU_RESTRICT spans, size_t spans_count,
+                                             MuxanduDateTime *MUXANDU_RESTRICT out, size_t out_count);
 
 /* Writes the text of a date-time, as '1970-01-01 0:00:00.0 +00:00:00', of at most 42 bytes, all ASCII and none 0, at
  * the front of 'buffer', and its length to 'size'. Refused as the date-time, then BUFFER where it is longer than

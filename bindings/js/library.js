@@ -117,7 +117,12 @@ function getBy(status, get) {
 
 /** The calls of timestamps, each of which is `{ seconds, nanosecond }`; durations are nanoseconds. */
 export const timestamps = {
-    check: (at) => accept(calls.muxandu_timestamp_check(putTimestamp(FIRST, at))),
+    /** Its parts as the memory holds them, read before the call, which may change what lies there. */
+    checked(at) {
+        const place = putTimestamp(FIRST, at), nanosecond = view.getUint32(FIRST + 8, true);
+        accept(calls.muxandu_timestamp_check(place));
+        return { seconds: at.seconds, nanosecond };
+    },
     compare: (one, other) => calls.muxandu_timestamp_compare(putTimestamp(FIRST, one), putTimestamp(SECOND, other)),
     add: (at, nanoseconds) => moved(calls.muxandu_timestamp_add, at, nanoseconds),
     subtract: (at, nanoseconds) => moved(calls.muxandu_timestamp_subtract, at, nanoseconds),
@@ -143,7 +148,12 @@ function moved(call, at, nanoseconds) {
 
 /** The calls of what clocks at an offset show, likewise. */
 export const clocks = {
-    check: (at) => accept(calls.muxandu_date_time_check(putClocks(FIRST, at))),
+    /** Likewise. */
+    checked(at) {
+        const place = putClocks(FIRST, at), parts = getClocks(FIRST);
+        accept(calls.muxandu_date_time_check(place));
+        return parts;
+    },
     compare(one, other) {
         const places = [putClocks(FIRST, one), putClocks(SECOND, other)];
         return getBy(calls.muxandu_date_time_compare(...places, out), (place) => view.getInt32(place, true));

@@ -32,8 +32,7 @@ export class OffsetDateTime {
 
     constructor(parts) {
         if (parts === KNOWN) return;
-        this[PARTS_OF_DATE_TIME] = partsOver(MIDNIGHT_IN_UTC, parts);
-        clocks.check(this[PARTS_OF_DATE_TIME]);
+        this[PARTS_OF_DATE_TIME] = clocks.checked(partsOver(MIDNIGHT_IN_UTC, parts));
     }
 
     static of(parts) {

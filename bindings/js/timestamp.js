@@ -30,8 +30,7 @@ export class Timestamp {
 
     constructor(seconds, nanosecond = 0) {
         if (seconds === KNOWN) return;
-        this[PARTS_OF_TIMESTAMP] = { seconds: whole(seconds, "seconds"), nanosecond };
-        timestamps.check(this[PARTS_OF_TIMESTAMP]);
+        this[PARTS_OF_TIMESTAMP] = timestamps.checked({ seconds: whole(seconds, "seconds"), nanosecond });
     }
 
     static fromMilliseconds(milliseconds) {

@@ -66,6 +66,8 @@ def compiler_words(folder):
     if compiler is None or not (Path(headers) / "Python.h").is_file():
         return None, f"there is no {'cc' if compiler is None else headers + '/Python.h'}"
     flags = ["-shared", "-fPIC", "-O2", "-std=c11", "-Wall", "-Wextra", "-Werror", "-Wl,--exclude-libs,ALL", "-Wl,-z,now"]
+    # A loader that knows this mark refuses the extension by name on a processor that the archive is not for.
+    flags += ["-Wl,-z,x86-64-v2"] if platform.machine() == "x86_64" else []
     flags += os.environ.get("CFLAGS", "").split()
     source = HERE / "extension" / "extension.c"
     words = [compiler, *flags, f"-I{headers}", f"-I{dist(HEADER).parent}", str(source), str(dist(ARCHIVE))]

@@ -83,20 +83,29 @@ static int close_cursor(sqlite3_vtab_cursor *base) {
     return SQLITE_OK;
 }
 
-/* Has the text, and the offset where one is given, passed to 'filter'. A plan in which they are not known yet is none. */
-static int plan(sqlite3_vtab *base, sqlite3_index_info *info) {
-    int places[ARGUMENTS] = {-1, -1}, passed = 0;
+/* What a plan says to 'filter'. */
+enum { TEXT_IS_PASSED, TEXT_IS_MISSING };
+
+/* Has the text, and the offset where one is given, passed to 'filter'. A plan in which one of them is not known yet is none;
+ * one with no text at all is the last that SQLite takes: it weighs such plans for parts of a condition too. */
+static int plan(sqlite3_vtab *table, sqlite3_index_info *info) {
+    int places[ARGUMENTS] = {-1, -1}, are_unknown[ARGUMENTS] = {0, 0}, passed = 0;
+    (void)table;
     for (int at = 0; at < info->nConstraint; at++) {
         int argument = info->aConstraint[at].iColumn - PARTS;
         if (argument < 0 || info->aConstraint[at].op != SQLITE_INDEX_CONSTRAINT_EQ) continue;
-        if (!info->aConstraint[at].usable) return SQLITE_CONSTRAINT;
-        places[argument] = at;
+        if (info->aConstraint[at].usable) places[argument] = at;
+        else are_unknown[argument] = 1;
+    }
+    for (int argument = 0; argument < ARGUMENTS; argument++) {
+        if (places[argument] < 0 && are_unknown[argument]) return SQLITE_CONSTRAINT;
     }
     if (places[0] < 0) {
-        sqlite3_free(base->zErrMsg);
-        base->zErrMsg = sqlite3_mprintf("%s: the text is missing", ((Table *)base)->form->name);
-        return SQLITE_ERROR;
+        info->idxNum = TEXT_IS_MISSING;
+        info->estimatedCost = 1e99;
+        return SQLITE_OK;
     }
+    info->idxNum = TEXT_IS_PASSED;
     for (int argument = 0; argument < ARGUMENTS; argument++) {
         if (places[argument] < 0) continue;
         info->aConstraintUsage[places[argument]].argvIndex = ++passed;
@@ -155,10 +164,15 @@ static int filter(sqlite3_vtab_cursor *base, int number, const char *text, int c
     Cursor *cursor = (Cursor *)base;
     const Form *form = ((Table *)base->pVtab)->form;
     uint32_t status;
-    (void)number, (void)text;
+    (void)text;
     free_arguments(cursor);
     cursor->is_past_the_row = 0;
     cursor->has_parts = 0;
+    if (number == TEXT_IS_MISSING) {
+        sqlite3_free(base->pVtab->zErrMsg);
+        base->pVtab->zErrMsg = sqlite3_mprintf("%s: the text is missing", form->name);
+        return base->pVtab->zErrMsg == NULL ? SQLITE_NOMEM : SQLITE_ERROR;
+    }
     for (int at = 0; at < count; at++) {
         if (sqlite3_value_type(values[at]) == SQLITE_NULL) return SQLITE_OK;
     }

@@ -177,9 +177,13 @@ static void no_items_need_no_pointer(void) {
     CHECK(is_empty(muxandu_timestamps_from_rfc3339(NULL, 0, NULL, 0, NULL, 0), MUXANDU_OK));
     CHECK(is_empty(muxandu_timestamps_from_rfc3339(NULL, 0, spans, 1, NULL, 0), MUXANDU_REFUSED_BUFFER));
     CHECK(is_empty(muxandu_timestamps_from_rfc3339(NULL, 0, spans, 1, stamps, 1), MUXANDU_REFUSED_SYNTAX));
+    CHECK(is_empty(muxandu_date_times_from_rfc3339(NULL, 0, NULL, 0, NULL, 0), MUXANDU_OK));
+    CHECK(is_empty(muxandu_date_times_from_rfc3339(NULL, 0, spans, 1, NULL, 0), MUXANDU_REFUSED_BUFFER));
+    CHECK(is_empty(muxandu_date_times_from_rfc3339(NULL, 0, spans, 1, date_times, 1), MUXANDU_REFUSED_SYNTAX));
     CHECK(muxandu_timestamp_from_rfc3339(NULL, 0, &at) == MUXANDU_REFUSED_SYNTAX && is_stamp(at, 7, 7));
     CHECK(muxandu_date_time_from_rfc3339(NULL, 0, date_times) == MUXANDU_REFUSED_SYNTAX);
     CHECK(muxandu_date_time_to_rfc3339(date_times[0], NULL, 0, &size) == MUXANDU_REFUSED_BUFFER && size == 20);
+    CHECK(muxandu_date_time_to_rfc3339_digits(date_times[0], 3, NULL, 0, &size) == MUXANDU_REFUSED_BUFFER && size == 24);
     CHECK(muxandu_timestamp_to_rfc3339(stamp(0, 0), NULL, 0, &size) == MUXANDU_REFUSED_BUFFER && size == 20);
     CHECK(muxandu_timestamp_to_rfc3339_nanos(stamp(0, 0), NULL, 0, &size) == MUXANDU_REFUSED_BUFFER && size == 30);
     CHECK(muxandu_date_time_text(date_times[0], NULL, 0, &size) == MUXANDU_REFUSED_BUFFER && size == 30);

@@ -7,7 +7,8 @@ A buffer is of structures or numbers of any kind: in another order, of another b
 packed, of bits, nested; it begins anywhere, goes by steps forwards and back, can be read-only, and lies over the place of the
 results or apart from it. A call must take what its documentation says, and refuse all else with a TypeError or a ValueError
 and write nothing. The reader knows where each number lies from how the buffer was made, reads the bytes before the call, and
-counts dates by tools/civil.py. Where NumPy is there, half of the kinds are its own.
+counts dates by tools/civil.py. Where NumPy is there, half of the kinds are its own, and arrays of its datetime64, of each unit,
+go in and out.
 
 The package is that of the sources, or with MUXANDU_INSTALLED that which is installed. The last line is 'N passed, M failed', a
 call each.
@@ -75,6 +76,7 @@ DATE_TIMES = (
 )
 STAMPS = ((("seconds", "i8", 0), ("nanoseconds", "u4", 8)), 16)
 SPANS = ((("start", "u8", 0), ("length", "u8", 8)), 16)
+STATUSES = ((("", "u4", 0),), 4)
 
 CONVERTED = ("i2", "u2", "i4", "u4", "i8", "u8")
 MOST_ITEMS = 5
@@ -232,9 +234,12 @@ class Place:
         begin = first if step > 0 else first + last * kind.size
         self.starts = [begin + step * kind.size * item for item in range(self.count)]
         self.is_read_only = source.random() < (0.05 if is_out else 0.2)
+        is_array = not isinstance(view, memoryview)
         self.is_side_by_side = step == 1 or self.count <= 1
         self.first = self.starts[0] if self.starts else first
-        self.view = view.toreadonly() if self.is_read_only else view
+        if self.is_read_only and is_array:
+            view.flags.writeable = False
+        self.view = view.toreadonly() if self.is_read_only and not is_array else view
 
     def is_even(self, size):
         address = ctypes.addressof(ctypes.c_char.from_buffer(self.memory))
@@ -285,7 +290,7 @@ def some_values(source):
     day = source.choice((source.randint(FIRST_DAY, LAST_DAY), source.randint(-20_000, 40_000)))
     year, month, of_month = calendar.civil_date(day)
     values = {
-        "": day * source.choice((1, 86_400)),
+        "": day * source.choice((1, 86_400, 86_400, 86_400 * 10**3, 86_400 * 10**6)),
         "year": year,
         "month": month,
         "day": of_month,
@@ -300,11 +305,44 @@ def some_values(source):
     return values
 
 
+def date_time_of_parts(parts):
+    """What shows a count of parts of a second, of which each second has so many."""
+
+    def plain(values):
+        second, left = divmod(values[""], parts)
+        shown = date_time_of_second({"": second})
+        return None if shown is None else {**shown, "nanosecond": left * (10**9 // parts)}
+
+    return plain
+
+
+def parts_of_date_time(parts):
+    def plain(values):
+        second = second_of_date_time(values)
+        whole = None if second is None else second[""] * parts + values["nanosecond"] * parts // 10**9
+        return {"": whole} if whole is not None and -(2**63) <= whole < 2**63 else None
+
+    return plain
+
+
+AT_UTC = {"offset_seconds": 0}
 CALLS = (
-    (muxandu.date_times_from_seconds, SECONDS, DATE_TIMES, date_time_of_second, {"offset_seconds": 0}),
+    (muxandu.date_times_from_seconds, SECONDS, DATE_TIMES, date_time_of_second, AT_UTC),
     (muxandu.seconds_from_date_times, DATE_TIMES, SECONDS, second_of_date_time, {}),
+    (muxandu.date_times_from_milliseconds, SECONDS, DATE_TIMES, date_time_of_parts(10**3), AT_UTC),
+    (muxandu.milliseconds_from_date_times, DATE_TIMES, SECONDS, parts_of_date_time(10**3), {}),
+    (muxandu.date_times_from_microseconds, SECONDS, DATE_TIMES, date_time_of_parts(10**6), AT_UTC),
+    (muxandu.microseconds_from_date_times, DATE_TIMES, SECONDS, parts_of_date_time(10**6), {}),
+    (muxandu.date_times_from_nanoseconds, SECONDS, DATE_TIMES, date_time_of_parts(10**9), AT_UTC),
+    (muxandu.nanoseconds_from_date_times, DATE_TIMES, SECONDS, parts_of_date_time(10**9), {}),
     (muxandu.dates_from_days, DAYS, DATES, date_of_day, {}),
     (muxandu.days_from_dates, DATES, DAYS, day_of_date, {}),
+)
+
+
+EACH = (
+    (muxandu.date_times_from_each_second, SECONDS, DATE_TIMES, date_time_of_second, AT_UTC),
+    (muxandu.seconds_from_each_date_time, DATE_TIMES, SECONDS, second_of_date_time, {}),
 )
 
 
@@ -382,6 +420,63 @@ def compare_conversion(source, kinds):
     count(problem, call.__name__, place.told(), out.told(), f"over: {is_over}")
 
 
+def lie_over_each_other(first, second):
+    """Whether two places, whose items lie side by side, have a byte in common."""
+    if first.memory is not second.memory or not first.count or not second.count:
+        return False
+    ends = [place.first + place.count * place.kind.size for place in (first, second)]
+    return first.first < ends[1] and second.first < ends[0]
+
+
+def judged_each(call, words, items, out, statuses, is_refused):
+    """The same of a call that goes on after an item that is refused, and says of each whether it is."""
+    places = (out, statuses)
+    before = [bytes(place.memory) for place in places]
+    try:
+        result = call(*words)
+        error = None
+    except Exception as caught:  # noqa: BLE001
+        result, error = None, caught
+    after = [bytes(place.memory) for place in places]
+    if is_refused is None and min(out.count, statuses.count) < len(items):
+        is_refused = muxandu.RefusedBuffer
+    if is_refused is not None:
+        if type(error) is not is_refused:
+            return f"must be a {is_refused.__name__}, not {error!r}"
+        return None if after == before else "it wrote, and refused"
+    if error is not None or result[0] is not words[-2] or result[1] is not words[-1]:
+        return f"must be converted, not {error!r}"
+    kept = [bytearray(memory) for memory in after]
+    for item, start, told in zip(items, out.starts, statuses.starts):
+        if (statuses.kind.read(after[1], told)[""] != 0) != (item is None):
+            return f"{item} must have another status"
+        if item is not None and out.kind.read(after[0], start) != item:
+            return f"must be {item}, not {out.kind.read(after[0], start)}"
+        written = [(statuses, told)] + [(out, start)] * (item is not None)
+        for memory, whole, place in zip(kept, before, places):
+            for other, at in written:
+                if other.memory is place.memory:
+                    memory[at : at + other.kind.size] = whole[at : at + other.kind.size]
+    return None if list(map(bytes, kept)) == before else "it wrote beside its items"
+
+
+def compare_each(source, kinds):
+    call, given, made, plain, more = source.choice(EACH)
+    memories = [bytearray(source.randbytes(ROOM)) for _ in range(3)]
+    place = Place(source, source.choice(kinds[given]), memories[0])
+    for start in place.starts:
+        if source.random() < 0.8:
+            place.kind.write(place.memory, start, some_values(source))
+    out = Place(source, source.choice(kinds[made]), memories[source.choice((0, 1))], is_out=True)
+    statuses = Place(source, source.choice(kinds[STATUSES]), memories[source.choice((0, 1, 2))], is_out=True)
+    refused = refusal_of_source(place, given) or refusal_of_out(out, made) or refusal_of_out(statuses, STATUSES)
+    refused = refused or (ValueError if lie_over_each_other(out, statuses) else None)
+    items = [] if refused else [plain(place.kind.read(place.memory, start)) for start in place.starts]
+    words = [place.view, *more.values(), out.view, statuses.view]
+    problem = judged_each(call, words, items, out, statuses, refused)
+    count(problem, call.__name__, place.told(), out.told(), statuses.told())
+
+
 def text_and_meaning(source):
     second = source.randint(-62_167_219_200, 253_402_300_799)
     text = rfc3339.shortest_text(second, source.choice((0, source.randrange(10**9))), 0).encode()
@@ -413,19 +508,138 @@ def compare_texts(source, kinds):
     count(problem, "timestamps_from_rfc3339", spans.told(), out.told(), str(text))
 
 
+# How many attoseconds the units of datetime64 have; months have none.
+ATTOSECONDS = {"W": 604_800, "D": 86_400, "h": 3_600, "m": 60, "s": 1}
+ATTOSECONDS = {unit: seconds * 10**18 for unit, seconds in ATTOSECONDS.items()}
+ATTOSECONDS.update({"ms": 10**15, "us": 10**12, "ns": 10**9, "ps": 10**6, "fs": 10**3, "as": 1})
+MONTHS = {"Y": 12, "M": 1}
+
+# What NumPy holds for no time at all.
+NOT_A_TIME = -(2**63)
+
+
+class MomentKind(Kind):
+    """Arrays of datetime64 of so many of a unit."""
+
+    def __init__(self, unit, many, order):
+        dtype = numpy.dtype(f"{'<' if order == 'little' else '>'}M8[{many}{unit}]")
+
+        def made(memory, at, count):
+            return numpy.frombuffer(memory, dtype, count, at)
+
+        super().__init__([("", "i8", 0)], 8, order, made, f"NumPy {dtype}")
+        self.unit, self.many = unit, many
+
+    def stamp(self, count):
+        """The second and the nanosecond of a count, rounded down, or None where that is no instant."""
+        if count == NOT_A_TIME:
+            return None
+        if self.unit in MONTHS:
+            years, month = divmod(count * self.many * MONTHS[self.unit], 12)
+            is_near = calendar.FIRST_YEAR <= 1970 + years <= calendar.LAST_YEAR
+            return (calendar.day_number(1970 + years, month + 1, 1) * 86_400, 0) if is_near else None
+        second, nanosecond = divmod(count * self.many * ATTOSECONDS[self.unit] // 10**9, 10**9)
+        return (second, nanosecond) if calendar.FIRST_SECOND <= second <= calendar.LAST_SECOND else None
+
+    def count_of(self, second, nanosecond):
+        """The count that an instant becomes, rounded down, or None where 64 bits do not hold it."""
+        if self.unit in MONTHS:
+            year, month, _ = calendar.civil_date(second // 86_400)
+            return {"": (12 * (year - 1970) + month - 1) // (self.many * MONTHS[self.unit])}
+        count = (second * 10**9 + nanosecond) * 10**9 // (self.many * ATTOSECONDS[self.unit])
+        return {"": count} if -(2**63) < count < 2**63 else None
+
+
+def some_moments(source):
+    unit = source.choice((*ATTOSECONDS, *MONTHS))
+    return MomentKind(unit, source.choice((1, 1, 7)), NATIVE if source.random() < 0.8 else OTHER)
+
+
+def shown_at(second, nanosecond):
+    return {**date_time_of_second({"": second}), "nanosecond": nanosecond}
+
+
+MOMENT_CALLS = (
+    (muxandu.date_times_from_seconds, DATE_TIMES, shown_at, [0]),
+    (muxandu.dates_from_days, DATES, lambda second, _: date_of_day({"": second // 86_400}), []),
+    (muxandu.timestamps_from_datetime64, STAMPS, lambda *parts: dict(zip(("seconds", "nanoseconds"), parts)), []),
+    (muxandu.date_times_from_each_second, DATE_TIMES, shown_at, [0]),
+)
+
+
+def compare_moments(source, kinds):
+    """Arrays of datetime64 as what goes in."""
+    call, made, plain, more = source.choice(MOMENT_CALLS)
+    kind, memories = some_moments(source), [bytearray(source.randbytes(ROOM)) for _ in range(2)]
+    place = Place(source, kind, memories[0])
+    for start in place.starts:
+        second = source.choice((source.randint(-(10**10), 10**10), source.randint(calendar.FIRST_SECOND, calendar.LAST_SECOND)))
+        count_of = kind.count_of(second, source.randrange(10**9))
+        count_of = {"": NOT_A_TIME} if source.random() < 0.05 else count_of
+        if count_of and source.random() < 0.95:
+            kind.write(place.memory, start, count_of)
+    out = Place(source, source.choice(kinds[made]), source.choice(memories), is_out=True)
+    refused = refusal_of_out(out, made)
+    stamps = [kind.stamp(kind.read(place.memory, start)[""]) for start in place.starts]
+    items = [None if stamp is None else plain(*stamp) for stamp in stamps]
+    words = [place.view, *more, out.view]
+    if call is muxandu.date_times_from_each_second:
+        statuses = Place(source, kind_of_number("u4", NATIVE), bytearray(ROOM), is_out=True)
+        refused = refused or refusal_of_out(statuses, STATUSES)
+        problem = judged_each(call, [*words, statuses.view], items, out, statuses, refused)
+    else:
+        problem = judged(call, words, [] if refused else items, out, refused, made, out.count)
+    count(problem, call.__name__, place.told(), out.told())
+
+
+def compare_out_of_moments(source, kinds):
+    """Arrays of datetime64 as `out`."""
+    memory, kind = bytearray(source.randbytes(ROOM)), some_moments(source)
+    if source.random() < 0.4:
+        pairs = [text_and_meaning(source) for _ in range(source.randrange(MOST_ITEMS))]
+        call, given = muxandu.timestamps_from_rfc3339, [text for text, _ in pairs]
+        stamps = [meaning and (meaning["seconds"], meaning["nanoseconds"]) for _, meaning in pairs]
+        told = str(given)
+    else:
+        call, wanted = source.choice(((muxandu.seconds_from_date_times, DATE_TIMES), (muxandu.days_from_dates, DATES)))
+        exact = [kind for kind in kinds[wanted] if kind.is_exactly(wanted)]
+        place = Place(source, source.choice(exact), memory)
+        for start in place.starts:
+            place.kind.write(memory, start, some_values(source))
+        read = [place.kind.read(memory, start) for start in place.starts]
+        if wanted is DATE_TIMES:
+            found = [second_of_date_time(values) for values in read]
+            stamps = [second and (second[""], values["nanosecond"]) for second, values in zip(found, read)]
+        else:
+            stamps = [day and (day[""] * 86_400, 0) for day in map(day_of_date, read)]
+        given, told = place.view, place.told()
+    out = Place(source, kind, source.choice((memory, bytearray(source.randbytes(ROOM)))), is_out=True)
+    items = [stamp and kind.count_of(*stamp) for stamp in stamps]
+    refused = TypeError if out.is_read_only else None
+    words = [given, None, out.view] if call is muxandu.timestamps_from_rfc3339 else [given, out.view]
+    count(judged(call, words, items, out, refused, None, out.count), call.__name__, told, out.told())
+
+
 def main():
     numbers = [int(word) for word in sys.argv[1:]]
     calls, seed = (*numbers, *(20_000, 1)[len(numbers) :])
     source = random.Random(seed)
     variety = min(max(calls // 50, 100), 3_000)
-    wanted = (SECONDS, DAYS, DATES, DATE_TIMES, STAMPS, SPANS)
+    wanted = (SECONDS, DAYS, DATES, DATE_TIMES, STAMPS, SPANS, STATUSES)
     kinds = {each: [some_kind(source, each) for _ in range(variety)] for each in wanted}
     for each in wanted:
         exact = [kind for kind in kinds[each] if kind.is_exactly(each)]
         kinds[each] += [source.choice(exact) for _ in range(2 * variety)]
     for _ in range(calls):
-        if source.random() < 0.2:
+        chosen = source.random()
+        if chosen < 0.2:
             compare_texts(source, kinds)
+        elif chosen < 0.35:
+            compare_each(source, kinds)
+        elif chosen < 0.45 and numpy:
+            compare_moments(source, kinds)
+        elif chosen < 0.5 and numpy:
+            compare_out_of_moments(source, kinds)
         else:
             compare_conversion(source, kinds)
     with_numpy = "with" if numpy else "without"

@@ -289,6 +289,18 @@ static uint32_t stamp_nanos(MuxanduDateTime at, char *buffer, size_t room, size_
     return write_stamp(muxandu_timestamp_to_rfc3339_nanos, at, buffer, room, size);
 }
 
+static uint32_t eight_digits(MuxanduDateTime at, char *buffer, size_t room, size_t *size) {
+    return muxandu_date_time_to_rfc3339_digits(at, 8, buffer, room, size);
+}
+
+static uint32_t no_digits(MuxanduDateTime at, char *buffer, size_t room, size_t *size) {
+    return muxandu_date_time_to_rfc3339_digits(at, 0, buffer, room, size);
+}
+
+static uint32_t many_digits(MuxanduDateTime at, char *buffer, size_t room, size_t *size) {
+    return muxandu_date_time_to_rfc3339_digits(at, 255, buffer, room, size);
+}
+
 static void writes(WriteText *write, const char *text, uint32_t refused) {
     MuxanduDateTime at = date_time(2024, 2, 29, 13, 34, 56, 70, 3600);
     char buffer[MUXANDU_TEXT_ROOM + 1], before[MUXANDU_TEXT_ROOM + 1];
@@ -447,6 +459,9 @@ static void texts_are_written(void) {
     size_t size = 7;
     writes(muxandu_date_time_text, "2024-02-29 13:34:56.00000007 +01:00:00", MUXANDU_REFUSED_DAY_OF_MONTH);
     writes(muxandu_date_time_to_rfc3339, "2024-02-29T13:34:56.00000007+01:00", MUXANDU_REFUSED_DAY_OF_MONTH);
+    writes(no_digits, "2024-02-29T13:34:56+01:00", MUXANDU_REFUSED_DAY_OF_MONTH);
+    writes(eight_digits, "2024-02-29T13:34:56.00000007+01:00", MUXANDU_REFUSED_DAY_OF_MONTH);
+    writes(many_digits, "2024-02-29T13:34:56.000000070+01:00", MUXANDU_REFUSED_DAY_OF_MONTH);
     writes(stamp_text, "1709210096.00000007", MUXANDU_REFUSED_NANOSECOND);
     writes(stamp_exchange, "2024-02-29T12:34:56.00000007Z", MUXANDU_REFUSED_NANOSECOND);
     writes(stamp_nanos, "2024-02-29T12:34:56.000000070Z", MUXANDU_REFUSED_NANOSECOND);
@@ -456,6 +471,8 @@ static void texts_are_written(void) {
           MUXANDU_REFUSED_NO_TEXT);
     CHECK(muxandu_date_time_to_rfc3339(date_time(1, 1, 1, 0, 0, 0, 0, 1), buffer, 0, &size) == MUXANDU_REFUSED_NO_TEXT);
     CHECK(muxandu_date_time_to_rfc3339(date_time(1, 1, 1, 0, 0, 0, 0, 86400), buffer, 0, &size) ==
+          MUXANDU_REFUSED_NO_TEXT);
+    CHECK(muxandu_date_time_to_rfc3339_digits(date_time(1, 1, 1, 0, 0, 0, 0, 1), 3, buffer, 0, &size) ==
           MUXANDU_REFUSED_NO_TEXT);
     CHECK(muxandu_timestamp_to_rfc3339(stamp(FIRST, 0), buffer, 0, &size) == MUXANDU_REFUSED_NO_TEXT);
     CHECK(muxandu_timestamp_to_rfc3339_nanos(stamp(LAST, 0), buffer, 0, &size) == MUXANDU_REFUSED_NO_TEXT && size == 7);
@@ -638,6 +655,26 @@ static void batches_of_texts(void) {
           is_stamp(out[1], 0, 500000000));
 }
 
+static void batches_of_texts_at_offsets(void) {
+    const char *texts = "1970-01-01T00:00:01Z,1970-01-01T01:00:00.5+01:00";
+    MuxanduSpan spans[2] = {{0, 20}, {21, 27}};
+    MuxanduDateTime out[2] = {JUNK, JUNK};
+    CHECK(is_batch(muxandu_date_times_from_rfc3339(texts, 48, spans, 2, out, 1), 0, MUXANDU_REFUSED_BUFFER) &&
+          is_date_time(out[0], JUNK));
+    CHECK(is_batch(muxandu_date_times_from_rfc3339(texts, 47, spans, 2, out, 2), 1, MUXANDU_REFUSED_SPAN));
+    CHECK(is_date_time(out[0], date_time(1970, 1, 1, 0, 0, 1, 0, 0)) && is_date_time(out[1], JUNK));
+    spans[1].start = SIZE_MAX;
+    CHECK(is_batch(muxandu_date_times_from_rfc3339(texts, 48, spans, 2, out, 2), 1, MUXANDU_REFUSED_SPAN));
+    spans[1].start = 48;
+    spans[1].length = 0;
+    CHECK(is_batch(muxandu_date_times_from_rfc3339(texts, 48, spans, 2, out, 2), 1, MUXANDU_REFUSED_SYNTAX) &&
+          is_date_time(out[1], JUNK));
+    spans[1].start = 21;
+    spans[1].length = 27;
+    CHECK(is_batch(muxandu_date_times_from_rfc3339(texts, 48, spans, 2, out, 2), 2, MUXANDU_OK) &&
+          is_date_time(out[1], date_time(1970, 1, 1, 1, 0, 0, 500000000, 3600)));
+}
+
 int main(void) {
     timestamps_are_tested();
     timestamps_compare();
@@ -666,5 +703,6 @@ int main(void) {
     batches_of_counts();
     batches_go_on();
     batches_of_texts();
+    batches_of_texts_at_offsets();
     return counted();
 }

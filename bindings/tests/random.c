@@ -201,6 +201,11 @@ static int is_written(uint32_t status, const char *buffer, size_t room, size_t s
         tell(#call, is_written(status, buffer, room, size, refusal, text, wanted));                                    \
     } while (0)
 
+/* The digits that the next text has, and the call with them. */
+static uint8_t digits_of_texts;
+#define muxandu_date_time_to_rfc3339_digits(value, buffer, room, size)                                                 \
+    muxandu_date_time_to_rfc3339_digits(value, digits_of_texts, buffer, room, size)
+
 static void compare_texts(uint32_t kind) {
     MuxanduDateTime date_time = some_date_time(), in_utc = date_time_of(0, 0);
     MuxanduTimestamp at = some_stamp();
@@ -223,6 +228,12 @@ static void compare_texts(uint32_t kind) {
                      reference_to_rfc3339(date_time, text));
         break;
     case 3: COMPARE_TEXT(timestamp_to_rfc3339, at, refused, reference_to_rfc3339(in_utc, text)); break;
+    case 4: {
+        digits_of_texts = (uint8_t)one_of(one_of(8) ? 11 : 256);
+        COMPARE_TEXT(date_time_to_rfc3339_digits, date_time, reference_date_time_check(date_time),
+                     reference_to_rfc3339_digits(date_time, digits_of_texts, text));
+        break;
+    }
     default: COMPARE_TEXT(timestamp_to_rfc3339_nanos, at, refused, reference_to_rfc3339_nanos(in_utc, text)); break;
     }
 }
@@ -458,6 +469,21 @@ static void compare_batch_of_texts(void) {
                       : reference_timestamp_from_rfc3339(texts[k], theirs + k));
 }
 
+static void compare_batch_of_texts_at_offsets(void) {
+    char texts[MOST_ITEMS][REFERENCE_ROOM];
+    MuxanduSpan spans[MOST_ITEMS];
+    size_t count = one_of(MOST_ITEMS + 1), room = one_of(16) ? count : one_of(MOST_ITEMS + 1), item;
+    for (item = 0; item < MOST_ITEMS; item++) {
+        spans[item].start = item * REFERENCE_ROOM;
+        spans[item].length = some_text(texts[item]);
+        if (one_of(64) == 0) spans[item].start = sizeof texts + 1;
+    }
+    COMPARE_BATCH(MuxanduDateTime, is_date_time, "date_times_from_rfc3339",
+                  muxandu_date_times_from_rfc3339(texts[0], sizeof texts, spans, count, ours, room),
+                  spans[k].start == sizeof texts + 1 ? (uint32_t)MUXANDU_REFUSED_SPAN
+                                                     : reference_date_time_from_rfc3339(texts[k], theirs + k));
+}
+
 static void compare_timestamps(uint32_t kind) {
     MuxanduTimestamp at = some_stamp(), other = some_stamp();
     MuxanduDuration duration = some_duration();
@@ -602,7 +628,7 @@ static void compare_dates(uint32_t kind) {
 
 /* A call of the others, each group as often as it has calls. */
 static void compare_other(void) {
-    uint32_t kind = one_of(56);
+    uint32_t kind = one_of(58);
     if (kind < 8) {
         compare_timestamps(kind);
     } else if (kind < 14) {
@@ -617,20 +643,22 @@ static void compare_other(void) {
         compare_batch_of_texts();
     } else if (kind < 41) {
         compare_reading(kind == 39);
-    } else if (kind < 46) {
+    } else if (kind < 47) {
         compare_texts(kind - 41);
-    } else if (kind < 52) {
-        compare_batches_of_counts(kind - 46);
-    } else if (kind < 54) {
-        compare_each(kind - 52);
+    } else if (kind < 53) {
+        compare_batches_of_counts(kind - 47);
+    } else if (kind < 55) {
+        compare_each(kind - 53);
+    } else if (kind == 55) {
+        compare_batch_of_texts_at_offsets();
     } else {
-        compare_dates_as_texts(kind == 54);
+        compare_dates_as_texts(kind == 56);
     }
 }
 
 /* One call of any kind, each group as often as it has calls. */
 static void compare_one(void) {
-    if (one_of(65) < 9) {
+    if (one_of(67) < 9) {
         compare_dates(one_of(9));
         return;
     }

@@ -487,6 +487,19 @@ static inline size_t reference_to_rfc3339_nanos(MuxanduDateTime date_time, char 
     return (size_t)(19 + sprintf(out + 19, ".%09uZ", (unsigned)date_time.nanosecond));
 }
 
+static inline size_t reference_to_rfc3339_digits(MuxanduDateTime date_time, unsigned digits, char *out) {
+    char whole[16];
+    size_t length;
+    sprintf(whole, ".%09u", (unsigned)date_time.nanosecond);
+    whole[digits == 0 ? 0 : digits > 9 ? 10 : digits + 1] = 0;
+    date_time.nanosecond = 0;
+    length = reference_to_rfc3339(date_time, out);
+    if (length == 0) return 0;
+    memmove(out + 19 + strlen(whole), out + 19, length - 19);
+    memcpy(out + 19, whole, strlen(whole));
+    return length + strlen(whole);
+}
+
 /* Whether the text has the form: a digit for each `0`, and one of two for `T`; `length` bytes of both are compared. */
 static inline int has_form(const char *text, const char *form) {
     for (; *form != 0; text++, form++) {

@@ -15,6 +15,8 @@ static int32_t days[ITEMS], offset_seconds;
 static MuxanduDateTime date_times[ITEMS], bare_date_times[ITEMS];
 static MuxanduDate dates[ITEMS], bare_dates[ITEMS];
 static MuxanduTimestamp stamps[ITEMS], bare_stamps[ITEMS];
+static MuxanduDuration differences[ITEMS];
+static int32_t orders[ITEMS];
 static struct tm broken[ITEMS];
 static MuxanduSpan spans[ITEMS];
 static char texts[ITEMS * 32], text[MUXANDU_TEXT_ROOM];
@@ -78,6 +80,10 @@ LOOP(single_checks, sink += muxandu_date_time_check(date_times[k]))
 LOOP(bare_single_checks, sink += bare_date_time_check(date_times[k]))
 LOOP(single_sums, sink += muxandu_timestamp_add(stamps[k], HALF_DAY, bare_stamps + k))
 LOOP(bare_single_sums, sink += bare_timestamp_add(stamps[k], HALF_DAY, bare_stamps + k))
+LOOP(date_time_sums, sink += muxandu_date_time_add(date_times[k], HALF_DAY, bare_date_times + k))
+LOOP(date_time_differences, sink += muxandu_date_time_difference(date_times[k], date_times[k ^ 1], differences + k))
+LOOP(date_time_orders, sink += muxandu_date_time_compare(date_times[k], date_times[k ^ 1], orders + k))
+LOOP(stamp_hours, sink += muxandu_timestamp_truncate(stamps[k], MUXANDU_UNIT_HOUR, bare_stamps + k))
 LOOP(library_broken, time_t at = seconds[k]; gmtime_r(&at, broken + k))
 LOOP(library_seconds, bare_back[k] = timegm(broken + k))
 LOOP(single_texts, sink += muxandu_date_time_to_rfc3339(date_times[k], text, sizeof text, &size))
@@ -175,6 +181,10 @@ int main(int words, char **word) {
     compare("date-time to another offset", single_offsets, "bare C", bare_single_offsets);
     compare("test of a date-time", single_checks, "bare C", bare_single_checks);
     compare("timestamp plus a duration", single_sums, "bare C", bare_single_sums);
+    compare("date-time plus a duration", date_time_sums, "timestamp plus a duration", single_sums);
+    compare("difference of date-times", date_time_differences, "timestamp plus a duration", single_sums);
+    compare("order of date-times", date_time_orders, "timestamp plus a duration", single_sums);
+    compare("timestamp rounded down to an hour", stamp_hours, "timestamp plus a duration", single_sums);
     offset_seconds = 0;
     compare("seconds to date-times, a batch", batch_date_times, "`gmtime_r`", library_broken);
     compare("date-times to seconds, a batch", batch_seconds, "`timegm`", library_seconds);

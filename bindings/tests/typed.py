@@ -18,6 +18,7 @@ day: date = (Date(2024, 2, 28) + 1).to_date()
 days: int = (Date.today() - Date.MIN).whole_days()
 moment: datetime = at.to_datetime()
 texts: List[str] = muxandu.rfc3339_from_timestamps([at, later])
+each, statuses = muxandu.date_times_from_each_second([0, 1], UtcOffset.UTC)
 length: Duration = 3 * Duration.of(timedelta(hours=1)) % Duration(7)
 order: bool = at < later and shown <= again and utc != shown and length > timedelta(0)
 refusal: str = muxandu.RefusedMonth.name
@@ -40,3 +41,4 @@ Date(2024, 2)  # wrong
 OffsetDateTime(2024, 2, 29, zone=0)  # wrong
 at.seconds = 5  # wrong
 at.to_civil()  # wrong
+one, two, three = muxandu.seconds_from_each_date_time([shown])  # wrong

@@ -180,6 +180,17 @@ test("values are told from others by their parts", () => {
     }
 });
 
+test("zeros have no sign, and parts are copied", () => {
+    const parts = { year: -0, month: 1, day: 1, hour: -0, nanosecond: -0, offsetSeconds: -0 };
+    const plain = OffsetDateTime.of({ year: 0, month: 1, day: 1 });
+    assert.deepStrictEqual(OffsetDateTime.of(parts), plain);
+    assert.deepStrictEqual(plain.with({ minute: -0 }), plain);
+    assert.deepStrictEqual(new Timestamp(-0, -0), new Timestamp(0));
+    const made = OffsetDateTime.of(parts);
+    parts.year = 1;
+    assert.equal(made.year, 0);
+});
+
 test("values cannot be changed", () => {
     const at = new Timestamp(0);
     assert.throws(() => { at.seconds = 5n; }, TypeError);

@@ -579,6 +579,20 @@ static PyObject *date_from_rfc3339(PyObject *self, PyObject *const *words, Py_ss
     return status ? refuse(status) : Py_BuildValue("(lll)", (long)out.year, (long)out.month, (long)out.day);
 }
 
+/* Writes the text of RFC 3339 of a date-time with so many digits of the fraction, 0 to 9, and nine where more are
+ * asked for, as '1985-04-12T23:20:50.520Z' of three, of at most 35 bytes, as muxandu_date_time_text does: what lies
+ * past them is left out. Refused as the date-time, then NO_TEXT, then BUFFER. */
+static PyObject *date_time_to_rfc3339_digits(PyObject *self, PyObject *const *words, Py_ssize_t count)
+{
+    uint8_t word_0;
+    char text[MUXANDU_TEXT_ROOM];
+    size_t size;
+    uint32_t status;
+    if (!are(count, 1) || !take_uint8_t(words[0], &word_0)) return NULL;
+    status = muxandu_date_time_to_rfc3339_digits(VALUE(OffsetDateTime, self), word_0, text, sizeof text, &size);
+    return status ? refuse(status) : PyUnicode_DecodeASCII(text, (Py_ssize_t)size, NULL);
+}
+
 /* What clocks at an offset, in seconds, show at each Unix second, and its status, as
  * muxandu_date_time_from_timestamp has them: where an item is refused, what is in its place stays, and the next
  * follows. 'count' is how many were converted. Refused BUFFER, with nothing written, where 'out' or 'statuses' has
@@ -917,6 +931,31 @@ static PyObject *nanoseconds_from_date_times(PyObject *self, PyObject *const *wo
     return answer;
 }
 
+/* The date-time and the offset of each text of RFC 3339, up to the first that muxandu_date_time_from_rfc3339
+ * refuses, or SPAN, whose span does not lie in the block 'texts'. Refused BUFFER, with nothing written, where 'out'
+ * has fewer items than 'spans'. */
+static PyObject *date_times_from_rfc3339(PyObject *self, PyObject *const *words, Py_ssize_t count)
+{
+    (void)self;
+    Items word_0 = {0};
+    Items word_2 = {0};
+    Items word_4 = {0};
+    MuxanduBatch batch;
+    PyObject *answer = NULL;
+    if (!are(count, 6)) return NULL;
+    if (take_items(words + 0, &word_0, 0) && take_items(words + 2, &word_2, 0) && take_items(words + 4, &word_4, 1)) {
+        Py_BEGIN_ALLOW_THREADS
+        batch = muxandu_date_times_from_rfc3339(word_0.at, word_0.count, word_2.at, word_2.count, word_4.at,
+                word_4.count);
+        Py_END_ALLOW_THREADS
+        answer = Py_BuildValue("(nI)", (Py_ssize_t)batch.count, batch.status);
+    }
+    drop_items(&word_0);
+    drop_items(&word_2);
+    drop_items(&word_4);
+    return answer;
+}
+
 /* Writes the text of a date-time, as '1970-01-01 0:00:00.0 +00:00:00', of at most 42 bytes, all ASCII and none 0, at
  * the front of 'buffer', and its length to 'size'. Refused as the date-time, then BUFFER where it is longer than
  * 'buffer': then 'size' says how long it is, and 'buffer' is as it was. */
@@ -1040,6 +1079,9 @@ static PyMethodDef OffsetDateTime_methods[] = {
     {"to_rfc3339", FUNCTION(date_time_to_rfc3339), METH_FASTCALL,
      "to_rfc3339($self, /)\n--\n\n"
      "Writes the shortest text of RFC 3339 of a date-time, as `1985-04-12T23:20:50.52Z` or `1996-12-19T16:39:57-08:00`, of at most 35 bytes, as muxandu_date_time_text does. Refused as the date-time, then NO_TEXT, then BUFFER."},
+    {"to_rfc3339_digits", FUNCTION(date_time_to_rfc3339_digits), METH_FASTCALL,
+     "to_rfc3339_digits($self, digits, /)\n--\n\n"
+     "Writes the text of RFC 3339 of a date-time with so many digits of the fraction, 0 to 9, and nine where more are asked for, as `1985-04-12T23:20:50.520Z` of three, of at most 35 bytes, as muxandu_date_time_text does: what lies past them is left out. Refused as the date-time, then NO_TEXT, then BUFFER."},
     {"day_number", FUNCTION(date_time_day), METH_FASTCALL,
      "day_number($self, /)\n--\n\n"
      "The day number that the clocks show, 0 on 1970-01-01. Refused as the date-time."},
@@ -1073,6 +1115,7 @@ static PyMethodDef functions[] = {
     {"dates_from_days", FUNCTION(dates_from_days), METH_FASTCALL, NULL},
     {"days_from_dates", FUNCTION(days_from_dates), METH_FASTCALL, NULL},
     {"timestamps_from_rfc3339", FUNCTION(timestamps_from_rfc3339), METH_FASTCALL, NULL},
+    {"date_times_from_rfc3339", FUNCTION(date_times_from_rfc3339), METH_FASTCALL, NULL},
     {"date_times_from_milliseconds", FUNCTION(date_times_from_milliseconds), METH_FASTCALL, NULL},
     {"date_times_from_microseconds", FUNCTION(date_times_from_microseconds), METH_FASTCALL, NULL},
     {"date_times_from_nanoseconds", FUNCTION(date_times_from_nanoseconds), METH_FASTCALL, NULL},

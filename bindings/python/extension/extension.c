@@ -48,7 +48,8 @@ static PyTypeObject *type_of_Timestamp, *type_of_OffsetDateTime, *type_of_Durati
  * a text that is neither str nor bytes. */
 static PyObject *refusals, *timedelta, *as_bytes;
 
-static PyObject *name_days, *name_seconds, *name_microseconds, *name_nanoseconds, *second_nanoseconds;
+static PyObject *name_days, *name_seconds, *name_microseconds, *name_nanoseconds;
+static PyObject *second_nanoseconds, *half_of_whole;
 
 /* A refusal is raised. */
 static PyObject *refuse(uint32_t status)
@@ -187,25 +188,28 @@ static inline __int128 nanoseconds_of(MuxanduDuration duration)
     return duration.seconds * NANOSECONDS + duration.nanoseconds;
 }
 
-/* Numbers that 64 bits do not hold: their seconds and their nanoseconds anew. */
+/* Numbers that 64 bits do not hold: all the nanoseconds, in two halves. */
 static int take_long_duration(PyObject *seconds, PyObject *nanoseconds, MuxanduDuration *out)
 {
-    int is_taken = 0, beyond_seconds, beyond;
-    PyObject *product = PyNumber_Multiply(seconds, second_nanoseconds);
-    PyObject *whole = product ? PyNumber_Add(product, nanoseconds) : NULL;
-    PyObject *both = whole ? PyNumber_Divmod(whole, second_nanoseconds) : NULL;
-    if (both) {
-        int64_t first = PyLong_AsLongLongAndOverflow(PyTuple_GetItem(both, 0), &beyond_seconds);
-        int64_t second = PyLong_AsLongLongAndOverflow(PyTuple_GetItem(both, 1), &beyond);
-        if (beyond_seconds) {
+    int is_taken = 0, beyond;
+    PyObject *first = PyNumber_Index(seconds), *second = first ? PyNumber_Index(nanoseconds) : NULL;
+    PyObject *product = second ? PyNumber_Multiply(first, second_nanoseconds) : NULL;
+    PyObject *whole = product ? PyNumber_Add(product, second) : NULL;
+    PyObject *upper = whole ? PyNumber_Rshift(whole, half_of_whole) : NULL;
+    if (upper) {
+        int64_t high = PyLong_AsLongLongAndOverflow(upper, &beyond);
+        uint64_t low = PyLong_AsUnsignedLongLongMask(whole);
+        if (beyond) {
             refuse(MUXANDU_REFUSED_DURATION);
         } else {
-            is_taken = put_nanoseconds(first * NANOSECONDS + second, out);
+            is_taken = put_nanoseconds((__int128)((unsigned __int128)high << 64 | low), out);
         }
     }
+    Py_XDECREF(first);
+    Py_XDECREF(second);
     Py_XDECREF(product);
     Py_XDECREF(whole);
-    Py_XDECREF(both);
+    Py_XDECREF(upper);
     return is_taken;
 }
 
@@ -404,6 +408,20 @@ static PyObject *date_from_day_number(PyObject *, PyObject *);
 
 #include "calls.h"
 
+/* Makes bytes of what else a list has as texts, before anything is written, which may lie over them. */
+static int copy_texts(PyObject *texts, Py_ssize_t size)
+{
+    Py_ssize_t place;
+    for (place = 0; place < size; place++) {
+        PyObject *text = PyList_GetItem(texts, place);
+        if (!text) return 0;
+        if (PyUnicode_Check(text) || PyBytes_Check(text)) continue;
+        text = PyObject_CallFunctionObjArgs(as_bytes, text, NULL);
+        if (!text || PyList_SetItem(texts, place, text) < 0) return 0;
+    }
+    return 1;
+}
+
 /* The instants of the texts of a list, written to a buffer that has room for them: how many, and why the next is refused. */
 static PyObject *timestamps_from_texts(PyObject *self, PyObject *const *words, Py_ssize_t count)
 {
@@ -413,7 +431,7 @@ static PyObject *timestamps_from_texts(PyObject *self, PyObject *const *words, P
     (void)self;
     if (!are(count, 3)) return NULL;
     size = PyList_Size(words[0]);
-    if (size < 0 || !take_items(words + 1, &out, 1)) return NULL;
+    if (size < 0 || !copy_texts(words[0], size) || !take_items(words + 1, &out, 1)) return NULL;
     if ((size_t)size > out.count) status = MUXANDU_REFUSED_BUFFER;
     while (!status && done < size) {
         Text text;
@@ -800,6 +818,7 @@ PyMODINIT_FUNC PyInit__extension(void)
     name_microseconds = PyUnicode_InternFromString("microseconds");
     name_nanoseconds = PyUnicode_InternFromString("nanoseconds");
     second_nanoseconds = PyLong_FromLong(1000000000);
+    half_of_whole = PyLong_FromLong(64);
     for (place = 0; place < sizeof bases / sizeof *bases; place++) {
         *bases[place] = (PyTypeObject *)PyType_FromSpec(&specs[place]);
         if (!*bases[place] || PyModule_AddType(made, *bases[place]) < 0) return NULL;

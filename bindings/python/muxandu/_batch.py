@@ -11,16 +11,26 @@ from __future__ import annotations
 
 import array
 import ctypes
+import operator
 from typing import Any, Callable, Optional
 
 from . import _buffers, _datetime64
 from ._engine import engine
-from ._refusals import REFUSALS
+from ._refusals import REFUSALS, Refused
 from ._values import Date, OffsetDateTime, Timestamp
-from ._words import held
+from ._words import as_bytes, held
 from .muxandu_sys import MuxanduDate, MuxanduDateTime, MuxanduSpan, MuxanduTimestamp
 
-_CODES: dict[Any, str] = {ctypes.c_int32: "i", ctypes.c_int64: "q"}
+_CODES: dict[Any, str] = {ctypes.c_int32: "i", ctypes.c_uint32: "I", ctypes.c_int64: "q"}
+
+_NANO = 10**9
+
+# The calls over datetime64 of parts of a second, by its unit.
+_OF_PARTS = {
+    "ms": engine.date_times_from_milliseconds,
+    "us": engine.date_times_from_microseconds,
+    "ns": engine.date_times_from_nanoseconds,
+}
 
 # The letters of whole numbers that are converted, by their size and whether they have a sign. Bytes are no numbers: they are
 # texts.
@@ -30,18 +40,20 @@ _CONVERTED = {(2, True): "h", (4, True): "i", (8, True): "q", (2, False): "H", (
 def _is_buffer(items: Any) -> bool:
     try:
         memoryview(items)
-    except TypeError:
+    # NumPy raises ValueError where its items have no format, as those of datetime64.
+    except (TypeError, ValueError):
         return False
     return True
 
 
 def _as_array(items: Any) -> Any:
-    """What can be an array of NumPy, as a column of pandas can, as that."""
-    if _is_buffer(items) or not hasattr(items, "__array__"):
+    """What can be an array of NumPy, as a column of pandas can, as that; an array of objects as a list of them."""
+    if not hasattr(items, "__array__"):
         return items
     import numpy
 
-    return numpy.asarray(items)
+    found = numpy.asarray(items)
+    return list(found) if found.dtype == object and found.ndim == 1 else found
 
 
 def _is_like_numpy(items: Any) -> bool:
@@ -65,10 +77,13 @@ class _Items:
         """Whether it begins where an item may begin."""
         return self.at % ctypes.alignment(self.kind) == 0
 
-    def apart_from(self, place: _Items) -> Any:
+    def is_apart_from(self, place: _Items) -> bool:
+        """Whether it has no byte in common with another."""
+        return self.end <= place.at or place.end <= self.at
+
+    def apart_from(self, *places: _Items) -> Any:
         """What is read, copied where what is written has a byte in common with it."""
-        is_apart = self.end <= place.at or place.end <= self.at
-        return self.data if is_apart else memoryview(self.data).tobytes()
+        return self.data if all(map(self.is_apart_from, places)) else memoryview(self.data).tobytes()
 
 
 def _reading(items: Any, kind: Any) -> _Items:
@@ -111,9 +126,10 @@ def __getattr__(name: str) -> Any:
     return globals()[kind] * int(count)
 
 
-def _numbers(numbers: Any, kind: Any) -> Any:
-    """Numbers as a buffer of the kind: those of a sequence, or of a buffer of other sizes, are copied, each as the type
-    holds it."""
+def _loose(numbers: Any, kind: Any) -> Any:
+    """The numbers of a sequence, or of a buffer of other sizes, as a list; a buffer of the kind, or of none that is converted,
+    is itself."""
+    numbers = _as_array(numbers)
     if _is_buffer(numbers):
         view = _buffers.row(numbers)
         fields = _buffers.fields_of(view)
@@ -121,12 +137,20 @@ def _numbers(numbers: Any, kind: Any) -> Any:
         if letter is None or fields == _buffers.wanted(kind):
             return numbers
         plain: Any = memoryview(view.tobytes())
-        numbers = plain.cast(letter)
-    return array.array(_CODES[kind], [held(number, kind) for number in numbers])
+        return plain.cast(letter).tolist()
+    return [operator.index(number) for number in numbers]
+
+
+def _numbers(numbers: Any, kind: Any) -> Any:
+    """Numbers as a buffer of the kind: those of a sequence, or of a buffer of other sizes, are copied, each as the type
+    holds it."""
+    found = _loose(numbers, kind)
+    return array.array(_CODES[kind], [held(number, kind) for number in found]) if isinstance(found, list) else found
 
 
 def _structures(values: Any, kind: Any, of: Any) -> Any:
     """Structures as a buffer: those of a sequence of values are copied."""
+    values = _as_array(values)
     if _is_buffer(values):
         return values
     values = list(values)
@@ -148,16 +172,61 @@ def _converted(call: Callable[..., tuple[int, int]], items: Any, given: Any, mad
     return out
 
 
+def _shown(call: Callable[..., tuple[int, int]], counts: Any, offset_seconds: Any, out: Any, like: Any) -> Any:
+    """What clocks at an offset show at each count of seconds, or of parts of a second."""
+    items, offset = _numbers(counts, ctypes.c_int64), held(offset_seconds, ctypes.c_int32)
+    return _converted(call, items, ctypes.c_int64, MuxanduDateTime, out, like, offset)
+
+
+def _shown_by_parts(call: Callable[..., tuple[int, int]], parts: int, counts: Any, offset_seconds: Any, out: Any) -> Any:
+    """The same of parts of a second of which the range has more than 64 bits hold: where they do not hold all counts, by their
+    seconds and what is left of each."""
+    found = _loose(counts, ctypes.c_int64)
+    if not isinstance(found, list) or all(-(2**63) <= count < 2**63 for count in found):
+        return _shown(call, found, offset_seconds, out, counts)
+    seconds = array.array("q", [held(count // parts, ctypes.c_int64) for count in found])
+    if out is None:
+        out = _room(len(found), MuxanduDateTime, _is_like_numpy(counts))
+    refusal, done = None, len(found)
+    try:
+        _shown(engine.date_times_from_seconds, seconds, offset_seconds, out, counts)
+    except Refused as refused:
+        refusal, done = refused, refused.count or 0
+    items: Any = (MuxanduDateTime * done).from_buffer(_writing(out, MuxanduDateTime).data) if done else ()
+    for item, count in zip(items, found):
+        item.nanosecond = count % parts * (_NANO // parts)
+    if refusal is not None:
+        raise refusal
+    return out
+
+
 def date_times_from_seconds(seconds: Any, offset_seconds: Any = 0, out: Any = None) -> Any:
     """What clocks at an offset show at each Unix second: items of DateTimeParts, of which OffsetDateTime.from_parts makes
     values. Of datetime64 also the nanoseconds are kept."""
-    if _datetime64.is_such(seconds):
-        whole, nanoseconds = _datetime64.split(seconds)
-        if out is None:
-            out = _room(len(whole), MuxanduDateTime, True)
-        return _datetime64.with_nanoseconds(out, nanoseconds, lambda: date_times_from_seconds(whole, offset_seconds, out))
-    items, offset = _numbers(_as_array(seconds), ctypes.c_int64), held(offset_seconds, ctypes.c_int32)
-    return _converted(engine.date_times_from_seconds, items, ctypes.c_int64, MuxanduDateTime, out, seconds, offset)
+    if not _datetime64.is_such(seconds):
+        return _shown(engine.date_times_from_seconds, seconds, offset_seconds, out, seconds)
+    counts, unit = _datetime64.counts_of_parts(seconds)
+    if unit in _OF_PARTS:
+        return _shown(_OF_PARTS[unit], counts, offset_seconds, out, counts)
+    whole, nanoseconds = _datetime64.split(seconds)
+    if out is None:
+        out = _room(len(whole), MuxanduDateTime, True)
+    return _datetime64.with_nanoseconds(out, nanoseconds, lambda: date_times_from_seconds(whole, offset_seconds, out))
+
+
+def date_times_from_milliseconds(milliseconds: Any, offset_seconds: Any = 0, out: Any = None) -> Any:
+    """What clocks at an offset show so many milliseconds from 1970-01-01 0:00 UTC, for each count: items of DateTimeParts."""
+    return _shown(engine.date_times_from_milliseconds, milliseconds, offset_seconds, out, milliseconds)
+
+
+def date_times_from_microseconds(microseconds: Any, offset_seconds: Any = 0, out: Any = None) -> Any:
+    """What clocks at an offset show so many microseconds from 1970-01-01 0:00 UTC, for each count: items of DateTimeParts."""
+    return _shown_by_parts(engine.date_times_from_microseconds, 10**6, microseconds, offset_seconds, out)
+
+
+def date_times_from_nanoseconds(nanoseconds: Any, offset_seconds: Any = 0, out: Any = None) -> Any:
+    """What clocks at an offset show so many nanoseconds from 1970-01-01 0:00 UTC, for each count: items of DateTimeParts."""
+    return _shown_by_parts(engine.date_times_from_nanoseconds, _NANO, nanoseconds, offset_seconds, out)
 
 
 def seconds_from_date_times(date_times: Any, out: Any = None) -> Any:
@@ -169,12 +238,74 @@ def seconds_from_date_times(date_times: Any, out: Any = None) -> Any:
     return _converted(engine.seconds_from_date_times, items, MuxanduDateTime, ctypes.c_int64, out, date_times)
 
 
+def _counted(call: Callable[..., tuple[int, int]], date_times: Any, out: Any) -> Any:
+    """The parts of a second from 1970-01-01 0:00 UTC of each date-time."""
+    items = _structures(date_times, MuxanduDateTime, OffsetDateTime)
+    return _converted(call, items, MuxanduDateTime, ctypes.c_int64, out, date_times)
+
+
+def milliseconds_from_date_times(date_times: Any, out: Any = None) -> Any:
+    """The milliseconds from 1970-01-01 0:00 UTC of each date-time, rounded down."""
+    return _counted(engine.milliseconds_from_date_times, date_times, out)
+
+
+def microseconds_from_date_times(date_times: Any, out: Any = None) -> Any:
+    """The microseconds from 1970-01-01 0:00 UTC of each date-time, rounded down. RefusedResult where 64 bits do not hold
+    them."""
+    return _counted(engine.microseconds_from_date_times, date_times, out)
+
+
+def nanoseconds_from_date_times(date_times: Any, out: Any = None) -> Any:
+    """The nanoseconds from 1970-01-01 0:00 UTC of each date-time. RefusedResult where 64 bits do not hold them."""
+    return _counted(engine.nanoseconds_from_date_times, date_times, out)
+
+
+def _each_converted(
+    call: Callable[..., tuple[int, int]], items: Any, given: Any, made: Any, out: Any, statuses: Any, like: Any, *words: int
+) -> tuple[Any, Any]:
+    """`out` and `statuses`, with what the call makes of each item and why it refuses it, or new arrays."""
+    source = _reading(items, given)
+    if out is None:
+        out = _room(source.count, made, _is_like_numpy(like))
+    if statuses is None:
+        statuses = _room(source.count, ctypes.c_uint32, _is_like_numpy(like))
+    place, told = _writing(out, made), _writing(statuses, ctypes.c_uint32)
+    if not place.is_apart_from(told):
+        raise ValueError("`out` and `statuses` must not lie over each other")
+    read = source.apart_from(place, told)
+    done, status = call(read, source.count, *words, place.data, place.count, told.data, told.count)
+    _test(status, done)
+    return out, statuses
+
+
+def date_times_from_each_second(
+    seconds: Any, offset_seconds: Any = 0, out: Any = None, statuses: Any = None
+) -> tuple[Any, Any]:
+    """What clocks at an offset show at each Unix second, and the status of each: 0, or the `status` of its refusal. Where one
+    is refused, what is in its place stays, and the next follows. Of datetime64 also the nanoseconds are kept."""
+    if not _datetime64.is_such(seconds):
+        items, offset = _numbers(seconds, ctypes.c_int64), held(offset_seconds, ctypes.c_int32)
+        call = engine.date_times_from_each_second
+        return _each_converted(call, items, ctypes.c_int64, MuxanduDateTime, out, statuses, seconds, offset)
+    whole, nanoseconds = _datetime64.split(seconds)
+    shown, told = date_times_from_each_second(whole, offset_seconds, out, statuses)
+    _datetime64.put_nanoseconds(shown, nanoseconds, told)
+    return shown, told
+
+
+def seconds_from_each_date_time(date_times: Any, out: Any = None, statuses: Any = None) -> tuple[Any, Any]:
+    """The Unix second of each date-time, rounded down, and the status of each, in the same way."""
+    items = _structures(date_times, MuxanduDateTime, OffsetDateTime)
+    call = engine.seconds_from_each_date_time
+    return _each_converted(call, items, MuxanduDateTime, ctypes.c_int64, out, statuses, date_times)
+
+
 def dates_from_days(days: Any, out: Any = None) -> Any:
     """The date of each day number, counted from 1970-01-01: items of DateParts."""
     if _datetime64.is_such(days):
         whole, _ = _datetime64.split(days)
         return dates_from_days(whole // 86_400, out)
-    items = _numbers(_as_array(days), ctypes.c_int32)
+    items = _numbers(days, ctypes.c_int32)
     return _converted(engine.dates_from_days, items, ctypes.c_int32, MuxanduDate, out, days)
 
 
@@ -186,14 +317,8 @@ def days_from_dates(dates: Any, out: Any = None) -> Any:
     return _converted(engine.days_from_dates, items, MuxanduDate, ctypes.c_int32, out, dates)
 
 
-def timestamps_from_rfc3339(texts: Any, spans: Any = None, out: Any = None) -> Any:
-    """The instant of each text of RFC 3339: items of TimestampParts.
-
-    The texts are a sequence of str or bytes, or one block of bytes, of which a buffer of Spans says where each text lies.
-    """
-    if _datetime64.is_such(out):
-        stamps = _room(len(out), MuxanduTimestamp, True)
-        return _datetime64.filled_by_stamps(out, stamps, lambda: timestamps_from_rfc3339(texts, spans, stamps))
+def _stamps_of_texts(texts: Any, spans: Any, out: Any) -> tuple[Any, int]:
+    """`out`, or a new array, with the instants of texts, and how many there are."""
     if spans is None:
         if isinstance(texts, (str, bytes, bytearray, memoryview)):
             raise TypeError("a sequence of texts, or a block of bytes and the spans of its texts")
@@ -203,7 +328,7 @@ def timestamps_from_rfc3339(texts: Any, spans: Any = None, out: Any = None) -> A
         place = _writing(out, MuxanduTimestamp)
         done, status = engine.timestamps_from_texts(each, place.data, place.count)
         _test(status, done)
-        return out
+        return out, done
     if isinstance(texts, str):
         raise TypeError("a block of bytes, not a str")
     block, where = _reading(texts, ctypes.c_uint8), _reading(spans, MuxanduSpan)
@@ -212,6 +337,41 @@ def timestamps_from_rfc3339(texts: Any, spans: Any = None, out: Any = None) -> A
     place = _writing(out, MuxanduTimestamp)
     first, second = block.apart_from(place), where.apart_from(place)
     done, status = engine.timestamps_from_rfc3339(first, block.count, second, where.count, place.data, place.count)
+    _test(status, done)
+    return out, done
+
+
+def timestamps_from_rfc3339(texts: Any, spans: Any = None, out: Any = None) -> Any:
+    """The instant of each text of RFC 3339: items of TimestampParts.
+
+    The texts are a sequence of str or bytes, or one block of bytes, of which a buffer of Spans says where each text lies.
+    """
+    if not _datetime64.is_such(out):
+        return _stamps_of_texts(texts, spans, out)[0]
+    stamps = _room(len(out), MuxanduTimestamp, True)
+    return _datetime64.filled_by_stamps(out, stamps, lambda: _stamps_of_texts(texts, spans, stamps)[1])
+
+
+def date_times_from_rfc3339(texts: Any, spans: Any = None, out: Any = None) -> Any:
+    """The date-time and the offset of each text of RFC 3339: items of DateTimeParts, of which OffsetDateTime.from_parts makes
+    values. The texts are as timestamps_from_rfc3339 takes them."""
+    if spans is None:
+        if isinstance(texts, (str, bytes, bytearray, memoryview)):
+            raise TypeError("a sequence of texts, or a block of bytes and the spans of its texts")
+        each = [as_bytes(text) for text in texts]
+        texts, spans = b"".join(each), (MuxanduSpan * len(each))()
+        start = 0
+        for span, text in zip(spans, each):
+            span.start, span.length = start, len(text)
+            start += len(text)
+    if isinstance(texts, str):
+        raise TypeError("a block of bytes, not a str")
+    block, where = _reading(texts, ctypes.c_uint8), _reading(spans, MuxanduSpan)
+    if out is None:
+        out = _room(where.count, MuxanduDateTime, _is_like_numpy(spans))
+    place = _writing(out, MuxanduDateTime)
+    first, second = block.apart_from(place), where.apart_from(place)
+    done, status = engine.date_times_from_rfc3339(first, block.count, second, where.count, place.data, place.count)
     _test(status, done)
     return out
 

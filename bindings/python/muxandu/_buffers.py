@@ -123,7 +123,10 @@ def _told(fields: tuple[Field, ...]) -> str:
 
 def row(items: Any) -> memoryview:
     """The buffer of one row of items."""
-    view = memoryview(items)
+    try:
+        view = memoryview(items)
+    except ValueError as problem:
+        raise TypeError(f"a buffer of whole numbers or of structures, not {type(items).__name__}: {problem}") from None
     if view.ndim != 1:
         raise TypeError(f"one row of items, not an array of {view.ndim} dimensions")
     return view

@@ -8,7 +8,8 @@ from __future__ import annotations
 import datetime
 from typing import Any, ClassVar, SupportsIndex, TypeVar, Union
 
-from ._values import _PARTS, Date, Duration, OffsetDateTime, Time, Timestamp, UtcOffset, _datetime, _formatted, _parts
+from ._values import _PARTS, Date, Duration, OffsetDateTime, Time, Timestamp, UtcOffset
+from ._values import _datetime, _formatted, _is_length, _parts
 from ._words import nanosecond_of
 
 _Self = TypeVar("_Self", bound="_Clock")
@@ -116,10 +117,10 @@ class _Clock:
     __radd__ = __add__
 
     def __sub__(self, other: Any) -> Any:
-        if isinstance(other, type(self)):
-            return self._at - other._at
-        moved: Any = self._at.__sub__(other)
-        return moved if moved is NotImplemented else self._shown_by(moved)
+        at = self._other(other)
+        if at is not None:
+            return self._at - at
+        return self._shown_by(self._at - other) if _is_length(other) else NotImplemented
 
     def _other(self, other: object) -> Any:
         """The date-time that another is compared by, or None where it is of another kind."""
@@ -236,6 +237,9 @@ class UtcDateTime(_Clock):
     def date_time(self) -> PlainDateTime:
         """What the clocks show, without the offset."""
         return PlainDateTime._shown_by(self._at)
+
+    def __rsub__(self, other: Any) -> Any:
+        return other - self._at if isinstance(other, OffsetDateTime) else NotImplemented
 
     def _other(self, other: object) -> Any:
         return other if isinstance(other, OffsetDateTime) else super()._other(other)

@@ -12,8 +12,9 @@ _SECONDS = {"W": 604_800, "D": 86_400, "h": 3_600, "m": 60, "s": 1}
 _PARTS = {"ms": 10**3, "us": 10**6, "ns": 10**9, "ps": 10**12, "fs": 10**15, "as": 10**18}
 _NANO = 10**9
 
-# What NumPy holds for no time at all, and what no call takes.
+# What NumPy holds for no time at all, and another second that no call takes.
 _NONE = -(2**63)
+_BEYOND = 2**62
 
 
 def is_such(items: Any) -> bool:
@@ -25,31 +26,61 @@ def _counts(moments: Any) -> tuple[Any, str, int]:
     """The whole numbers of the moments, their unit, and how many units one is."""
     import numpy
 
-    moments = moments.to_numpy("datetime64[ns]") if hasattr(moments, "to_numpy") else numpy.asarray(moments)
-    unit, many = numpy.datetime_data(moments.dtype)
-    if unit == "generic":
-        raise TypeError("datetime64 of a unit, and not of none")
-    counts = moments.astype(moments.dtype.newbyteorder("="), copy=False).view("int64")
+    if hasattr(moments, "to_numpy") and not isinstance(moments.dtype, numpy.dtype):
+        # A column of pandas with a time zone, whose instants are those in UTC.
+        moments = moments.to_numpy(f"datetime64[{getattr(moments.dtype, 'unit', 'ns')}]")
+    moments = numpy.asarray(moments)
+    unit, many = _unit_of_row(moments)
+    counts = numpy.ascontiguousarray(moments, moments.dtype.newbyteorder("=")).view("int64")
     return counts, unit, many
 
 
+def _unit_of_row(moments: Any) -> tuple[str, int]:
+    """The unit of one row of moments, and how many units one is."""
+    import numpy
+
+    if moments.ndim != 1:
+        raise TypeError(f"one row of datetime64, not an array of {moments.ndim} dimensions")
+    unit, many = numpy.datetime_data(moments.dtype)
+    if unit == "generic":
+        raise TypeError("datetime64 of a unit, and not of none")
+    return unit, many
+
+
+def counts_of_parts(moments: Any) -> tuple[Any, str]:
+    """The whole numbers of the moments and their unit, as calls over parts of a second take them; the unit is empty where
+    one is some of that, or where one is no time at all, which calls do not know."""
+    counts, unit, many = _counts(moments)
+    return counts, unit if many == 1 and not (counts == _NONE).any() else ""
+
+
+def _test_out(out: Any) -> None:
+    """Raises TypeError where results cannot be written to an `out` of datetime64."""
+    import numpy
+
+    if not isinstance(out, numpy.ndarray):
+        raise TypeError(f"an `out` of datetime64 is an array of NumPy, not {type(out).__name__}")
+    _unit_of_row(out)
+    if not out.flags.writeable:
+        raise TypeError("`out` cannot be written")
+
+
 def _of_months(counts: Any, unit: str, many: int) -> Any:
-    """The seconds at which years or months begin, as the library has their dates."""
+    """The seconds at which years or months begin, as the library has their dates; a second that each call refuses for those
+    outside its years."""
     import numpy
 
     from ._batch import days_from_dates
+    from ._values import Date
 
     months = counts.astype(object) * (many * (12 if unit == "Y" else 1))
-    is_far = numpy.abs(months) > 12 * 2_000_000
-    months = numpy.where(is_far, 12 * 2_000_000, months).astype("int64")
+    first, last = 12 * (Date.MIN.year - 1970), 12 * (Date.MAX.year - 1970) + 11
+    is_here = ((months >= first) & (months <= last)).astype(bool)
+    months = numpy.where(is_here, months, 0).astype("int64")
     dates = numpy.zeros(len(counts), dtype=numpy.dtype(MuxanduDate))
     dates["year"], dates["month"], dates["day"] = 1970 + months // 12, months % 12 + 1, 1
-    days = numpy.zeros(len(counts), dtype="int32")
-    try:
-        days_from_dates(dates, days)
-    except Refused as refused:
-        days[refused.count :] = 2**31 - 1
-    return days.astype("int64") * 86_400
+    days = days_from_dates(dates, numpy.zeros(len(counts), dtype="int32"))
+    return numpy.where(is_here, days.astype("int64") * 86_400, _BEYOND)
 
 
 def split(moments: Any) -> tuple[Any, Any]:
@@ -87,6 +118,16 @@ def with_nanoseconds(out: Any, nanoseconds: Any, convert: Callable[[], Any]) -> 
     if refusal is not None:
         raise refusal
     return out
+
+
+def put_nanoseconds(out: Any, nanoseconds: Any, statuses: Any) -> None:
+    """Writes these nanoseconds to the date-times of `out` that are not refused."""
+    import numpy
+
+    if len(nanoseconds):
+        is_shown = numpy.frombuffer(statuses, dtype="uint32")[: len(nanoseconds)] == 0
+        place = numpy.frombuffer(out, dtype=numpy.dtype(MuxanduDateTime))[: len(nanoseconds)]
+        place["nanosecond"][is_shown] = nanoseconds[is_shown]
 
 
 def _items(buffer: Any, kind: Any) -> Any:
@@ -154,8 +195,6 @@ def _put(out: Any, seconds: Any, nanoseconds: Any) -> None:
     import numpy
 
     unit, many = numpy.datetime_data(out.dtype)
-    if unit == "generic":
-        raise TypeError("datetime64 of a unit, and not of none")
     seconds, nanoseconds = seconds.astype("int64"), nanoseconds.astype("int64")
     counts = _months(seconds, unit, many) if unit in ("Y", "M") else _exact(seconds, nanoseconds, unit, many)
     done = len(counts)
@@ -170,6 +209,7 @@ def filled(out: Any, convert: Callable[[Any], Any], items: Any, name: str = "", 
     """`out`, with what a conversion gives, up to the first that is refused."""
     import numpy
 
+    _test_out(out)
     numbers = numpy.zeros(len(out), dtype="int32" if days else "int64")
     refusal = None
     try:
@@ -185,11 +225,12 @@ def filled(out: Any, convert: Callable[[Any], Any], items: Any, name: str = "", 
     return out
 
 
-def filled_by_stamps(out: Any, place: Any, convert: Callable[[], Any]) -> Any:
-    """`out`, with the instants that a conversion writes to a place, up to the first that is refused."""
-    refusal, done = None, len(out)
+def filled_by_stamps(out: Any, place: Any, convert: Callable[[], int]) -> Any:
+    """`out`, with as many instants as a conversion writes to a place, up to the first that is refused."""
+    _test_out(out)
+    refusal = None
     try:
-        convert()
+        done = convert()
     except Refused as refused:
         refusal, done = refused, refused.count or 0
     _put(out, place["seconds"][:done], place["nanoseconds"][:done])
@@ -209,6 +250,7 @@ def of_stamps(items: Any, unit: str) -> Any:
     is_beyond = (seconds < Timestamp.MIN.seconds) | (seconds > Timestamp.MAX.seconds)
     done = _first(is_beyond | (nanoseconds >= _NANO))
     out = numpy.zeros(len(place), dtype=f"datetime64[{unit}]")
+    _test_out(out)
     _put(out, seconds[:done], nanoseconds[:done])
     if done < len(place):
         raise RefusedTimestamp(done) if is_beyond[done] else RefusedNanosecond(done)

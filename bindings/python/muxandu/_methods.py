@@ -37,6 +37,7 @@ METHODS = {
         "to_offset": "date_time_to_offset",
         "to_timestamp": "timestamp_from_date_time",
         "to_rfc3339": "date_time_to_rfc3339",
+        "to_rfc3339_digits": "date_time_to_rfc3339_digits",
         "day_number": "date_time_day",
     },
 }
@@ -93,6 +94,7 @@ BATCHES = (
     "dates_from_days",
     "days_from_dates",
     "timestamps_from_rfc3339",
+    "date_times_from_rfc3339",
     "date_times_from_milliseconds",
     "date_times_from_microseconds",
     "date_times_from_nanoseconds",

@@ -3,6 +3,7 @@
 from __future__ import annotations
 
 import datetime
+import operator
 import time
 from typing import Any, ClassVar, NamedTuple, SupportsIndex, TypeVar, Union
 
@@ -65,7 +66,7 @@ class Duration(engine.Duration):
     @classmethod
     def of_days(cls, days: int) -> Duration:
         """The duration of so many days of 86,400 seconds."""
-        return cls(days * _DAY)
+        return cls(operator.index(days) * _DAY)
 
     def whole_nanoseconds(self) -> int:
         """The whole duration in nanoseconds."""
@@ -204,13 +205,15 @@ class Timestamp(engine.Timestamp):
     @classmethod
     def from_microseconds(cls: type[_Stamp], microseconds: int) -> _Stamp:
         """The instant so many microseconds from 1970-01-01 0:00 UTC."""
-        seconds, left = divmod(microseconds, 1_000_000)
-        return cls._from_microseconds(microseconds) if -(2**63) <= microseconds < 2**63 else cls(seconds, left * 1_000)
+        count = operator.index(microseconds)
+        seconds, left = divmod(count, 1_000_000)
+        return cls._from_microseconds(count) if -(2**63) <= count < 2**63 else cls(seconds, left * 1_000)
 
     @classmethod
     def from_nanoseconds(cls: type[_Stamp], nanoseconds: int) -> _Stamp:
         """The instant so many nanoseconds from 1970-01-01 0:00 UTC, as time.time_ns() counts, and past 64 bits."""
-        return cls._from_nanoseconds(nanoseconds) if -(2**63) <= nanoseconds < 2**63 else cls(*divmod(nanoseconds, _SECOND))
+        count = operator.index(nanoseconds)
+        return cls._from_nanoseconds(count) if -(2**63) <= count < 2**63 else cls(*divmod(count, _SECOND))
 
     @classmethod
     def from_datetime(cls: type[_Stamp], at: datetime.datetime) -> _Stamp:
@@ -276,7 +279,7 @@ class OffsetDateTime(engine.OffsetDateTime):
     def from_parts(cls: type[_Shown], item: Any) -> _Shown:
         """The date-time of an item of a batch."""
         is_structure = hasattr(item, "offset_seconds")
-        return cls(*(int(getattr(item, name) if is_structure else item[name]) for name in (*_PARTS, "offset_seconds")))
+        return cls(*(getattr(item, name) if is_structure else item[name] for name in (*_PARTS, "offset_seconds")))
 
     @classmethod
     def from_datetime(cls: type[_Shown], at: datetime.datetime) -> _Shown:

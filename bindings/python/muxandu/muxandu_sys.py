@@ -614,6 +614,11 @@ CALLS = {
         ctypes.c_uint32,
         "Reads a date from a text of RFC 3339, with nothing before or after it, as `1985-04-12`. Refused SYNTAX where it has not that form, else MONTH, DAY or DAY_OF_MONTH, by the first from the left that is out of its range.",
     ),
+    "muxandu_date_time_to_rfc3339_digits": (
+        [MuxanduDateTime, ctypes.c_uint8, ctypes.c_void_p, ctypes.c_size_t, ctypes.POINTER(ctypes.c_size_t)],
+        ctypes.c_uint32,
+        "Writes the text of RFC 3339 of a date-time with so many digits of the fraction, 0 to 9, and nine where more are asked for, as `1985-04-12T23:20:50.520Z` of three, of at most 35 bytes, as muxandu_date_time_text does: what lies past them is left out. Refused as the date-time, then NO_TEXT, then BUFFER.",
+    ),
     "muxandu_date_times_from_each_second": (
         [ctypes.c_void_p, ctypes.c_size_t, ctypes.c_int32, ctypes.c_void_p, ctypes.c_size_t, ctypes.c_void_p, ctypes.c_size_t],
         MuxanduBatch,
@@ -708,6 +713,11 @@ CALLS = {
         [ctypes.c_void_p, ctypes.c_size_t, ctypes.c_void_p, ctypes.c_size_t],
         MuxanduBatch,
         "The nanoseconds from 1970-01-01 0:00 UTC of each date-time, up to the first that muxandu_timestamp_from_date_time or muxandu_timestamp_to_nanoseconds refuses. Refused BUFFER, with nothing written, where `out` has fewer items than `date_times`.",
+    ),
+    "muxandu_date_times_from_rfc3339": (
+        [ctypes.c_void_p, ctypes.c_size_t, ctypes.c_void_p, ctypes.c_size_t, ctypes.c_void_p, ctypes.c_size_t],
+        MuxanduBatch,
+        "The date-time and the offset of each text of RFC 3339, up to the first that muxandu_date_time_from_rfc3339 refuses, or SPAN, whose span does not lie in the block `texts`. Refused BUFFER, with nothing written, where `out` has fewer items than `spans`.",
     ),
     "muxandu_date_time_text": (
         [MuxanduDateTime, ctypes.c_void_p, ctypes.c_size_t, ctypes.POINTER(ctypes.c_size_t)],

@@ -175,6 +175,15 @@ class Places(unittest.TestCase):
             block = memoryview(memory)[16:56]
             stamps = muxandu.timestamps_from_rfc3339(block, (Span * 2)((0, 20), (20, 20)), out)
             self.assertEqual([item.seconds for item in stamps], [1, 1])
+            memory[16:56] = text + text
+            each = [block[:20], block[20:]]
+            self.assertEqual([item.seconds for item in muxandu.timestamps_from_rfc3339(each, out=out)], [1, 1])
+
+    def test_a_list_with_no_text_in_it_writes_nothing(self):
+        out = (TimestampParts * 2)((7, 7), (7, 7))
+        before = bytes(out)
+        self.assertRaises(TypeError, muxandu.timestamps_from_rfc3339, ["1970-01-01T00:00:01Z", None], out=out)
+        self.assertEqual(bytes(out), before)
 
 
 class Texts(unittest.TestCase):
@@ -227,7 +236,7 @@ class Rest(unittest.TestCase):
 
     def test_pickles_of_batches(self):
         for items in (muxandu.dates_from_days([0, 1]), muxandu.date_times_from_seconds([0, 1, 2])):
-            for protocol in range(2, pickle.HIGHEST_PROTOCOL + 1):
+            for protocol in range(pickle.HIGHEST_PROTOCOL + 1):
                 back = pickle.loads(pickle.dumps(items, protocol))
                 self.assertEqual((type(back), bytes(back)), (type(items), bytes(items)))
 

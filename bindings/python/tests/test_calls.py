@@ -221,6 +221,8 @@ class Texts(unittest.TestCase):
         self.assertEqual((at.to_rfc3339(), instant.seconds), ("1996-12-19T16:39:57-08:00", 851_042_397))
         self.assertEqual(instant.to_rfc3339(), "1996-12-20T00:39:57Z")
         self.assertEqual(instant.to_rfc3339_nanos(), "1996-12-20T00:39:57.000000000Z")
+        self.assertEqual(at.to_rfc3339_digits(3), "1996-12-19T16:39:57.000-08:00")
+        self.assertEqual(at.replace(nanosecond=999_999_999).to_rfc3339_digits(0), "1996-12-19T16:39:57-08:00")
         self.assertEqual((str(Timestamp(-1, 500_000_000)), str(FIRST)), ("-0.5", "-31619087596800"))
         self.assertEqual(str(at), "1996-12-19 16:39:57.0 -08:00:00")
         for write in (FIRST.to_rfc3339, LAST.to_rfc3339_nanos, at.replace(offset_seconds=1).to_rfc3339):

@@ -5,7 +5,7 @@ import random
 import unittest
 
 import muxandu
-from muxandu import Date, DateParts, DateTimeParts, Duration, OffsetDateTime, PlainDateTime, Timestamp, TimestampParts
+from muxandu import Date, DateParts, DateTimeParts, Duration, OffsetDateTime, PlainDateTime, Span, Timestamp, TimestampParts
 
 HAS_NUMPY = importlib.util.find_spec("numpy") is not None
 HAS_PANDAS = importlib.util.find_spec("pandas") is not None
@@ -94,6 +94,66 @@ class Moments(unittest.TestCase):
             muxandu.timestamps_from_rfc3339([texts[0], "2024"], out=out)
         self.assertEqual((caught.exception.count, out.view("int64").tolist()), (1, [1_709_210_096, 0]))
 
+    def test_behind_the_results_out_is_as_it_was(self):
+        import numpy
+
+        text = "1970-01-01T00:00:05Z"
+        for words in (([text],), (text.encode(), (Span * 1)((0, 20)))):
+            out = numpy.full(3, 7, dtype="int64").view("datetime64[s]")
+            muxandu.timestamps_from_rfc3339(*words, out=out)
+            self.assertEqual(out.view("int64").tolist(), [5, 7, 7])
+        out = numpy.full(2, 7, dtype="int64").view("datetime64[D]")
+        muxandu.days_from_dates([Date(1970, 1, 3)], out)
+        self.assertEqual(out.view("int64").tolist(), [2, 7])
+        out = numpy.full(2, 7, dtype="int64").view("datetime64[ms]")
+        muxandu.seconds_from_date_times([OffsetDateTime(1970, 1, 1, nanosecond=5_999_999)], out)
+        self.assertEqual(out.view("int64").tolist(), [5, 7])
+
+    def test_rows_alone(self):
+        import numpy
+
+        texts, dates = ["1970-01-01T00:00:05Z"] * 2, [Date(1970, 1, 3)] * 2
+        for shape in ((1, 1), (2, 1), (1, 2), (2, 2), ()):
+            array = numpy.full(shape, 7, dtype="int64").view("datetime64[s]")
+            for call in (
+                muxandu.date_times_from_seconds,
+                muxandu.date_times_from_each_second,
+                muxandu.dates_from_days,
+                muxandu.timestamps_from_datetime64,
+                muxandu.rfc3339_from_timestamps,
+                lambda array: muxandu.timestamps_from_rfc3339(texts, out=array),
+                lambda array: muxandu.days_from_dates(dates, array),
+                lambda array: muxandu.seconds_from_date_times([OffsetDateTime(1970, 1, 1)] * 2, array),
+            ):
+                self.assertRaises(TypeError, call, array)
+            self.assertTrue((array.view("int64") == 7).all())
+        out = numpy.full(2, 7, dtype="int64").view("datetime64[s]")
+        out.flags.writeable = False
+        self.assertRaises(TypeError, muxandu.timestamps_from_rfc3339, texts, out=out)
+        for moments in (out, numpy.zeros(2, dtype="timedelta64[s]")):
+            for call in (muxandu.days_from_dates, muxandu.seconds_from_date_times, muxandu.date_times_from_milliseconds):
+                self.assertRaises(TypeError, call, moments)
+        for call, items in ((muxandu.date_times_from_seconds, [0]), (muxandu.dates_from_days, [0])):
+            with self.assertRaises(TypeError) as caught:
+                call(items, out=numpy.zeros(2, dtype="datetime64[s]"))
+            self.assertIn("a buffer of whole numbers or of structures", str(caught.exception))
+
+    def test_each_moment(self):
+        import numpy
+
+        for unit in ("s", "ms", "7us", "ns"):
+            array = numpy.array([5, -(2**63), -1], dtype="int64").view(f"datetime64[{unit}]")
+            shown, statuses = muxandu.date_times_from_each_second(array, 60)
+            self.assertEqual(statuses.tolist(), [0, muxandu.RefusedTimestamp.status, 0])
+            wanted = muxandu.date_times_from_seconds(array[::2], 60)
+            self.assertEqual(shown[::2].tolist(), wanted.tolist())
+            self.assertEqual(shown[1].tolist(), (0,) * 8)
+        for unit, far in (("Y", 998_030), ("M", 12 * 998_030), ("7M", 2**61), ("Y", -(2**63)), ("3Y", 2**62)):
+            array = numpy.array([0, far, 3], dtype="int64").view(f"datetime64[{unit}]")
+            shown, statuses = muxandu.date_times_from_each_second(array)
+            self.assertEqual((statuses == 0).tolist(), [True, False, True], unit)
+            self.assertEqual(shown[::2].tolist(), muxandu.date_times_from_seconds(array[::2]).tolist())
+
     def test_texts_written(self):
         import numpy
 
@@ -134,6 +194,11 @@ class Columns(unittest.TestCase):
         self.assertEqual(muxandu.rfc3339_from_timestamps(instants), ["2024-02-29T12:34:56.789Z", column[1]])
         self.assertEqual(muxandu.date_times_from_seconds(instants)["hour"].tolist(), [12, 23])
         self.assertEqual(muxandu.timestamps_from_rfc3339(column)["seconds"].tolist(), [1_709_210_096, -1])
+        there = instants.dt.tz_convert("Asia/Tokyo")
+        self.assertEqual(muxandu.rfc3339_from_timestamps(there), muxandu.rfc3339_from_timestamps(instants))
+        shown, statuses = muxandu.date_times_from_each_second(there.reindex([0, 1, 2]))
+        self.assertEqual((shown["hour"].tolist(), statuses.tolist()), ([12, 23, 0], [0, 0, muxandu.RefusedTimestamp.status]))
+        self.assertRaises(TypeError, muxandu.timestamps_from_rfc3339, column, out=pandas.Series(out))
 
     def test_values_of_pandas(self):
         import pandas
@@ -150,6 +215,9 @@ class Columns(unittest.TestCase):
 
         self.assertEqual(muxandu.date_times_from_seconds(pandas.Series([0, 86_400]))["day"].tolist(), [1, 2])
         self.assertEqual(muxandu.dates_from_days(pandas.Series([0, 1]))["day"].tolist(), [1, 2])
+        self.assertEqual(muxandu.date_times_from_seconds(pandas.Series([0, 86_400], dtype="Int64"))["day"].tolist(), [1, 2])
+        for column in (pandas.Series([0, None], dtype="Int64"), pandas.Series([0.0]), pandas.Series(["0"]), pandas.Series([[0]])):
+            self.assertRaises(TypeError, muxandu.date_times_from_seconds, column)
         for lacking in (None, float("nan"), pandas.NA):
             self.assertRaises(TypeError, muxandu.timestamps_from_rfc3339, pandas.Series(["1970-01-01T00:00:00Z", lacking]))
 

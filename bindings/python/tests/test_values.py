@@ -46,7 +46,8 @@ class Durations(unittest.TestCase):
                     self.assertEqual((one % other, divmod(one, other)), (Duration.of(first % second), (first // second, one % other)))
 
     def test_of_one_sign(self):
-        for seconds, nanoseconds in ((1, -1), (-1, 1), (0, -(10**12)), (5, 10**9), (2**62, -(2**80))):
+        ends = ((-(2**63) - 1, 32), (2**63, -1), (-(2**63) - 2, 2 * 10**9 - 1))
+        for seconds, nanoseconds in ((1, -1), (-1, 1), (0, -(10**12)), (5, 10**9), (2**62, -(2**80)), *ends):
             made = Duration(seconds, nanoseconds)
             whole = seconds * 10**9 + nanoseconds
             self.assertEqual((made.whole_nanoseconds(), Duration.of_nanoseconds(whole)), (whole, made))
@@ -241,6 +242,11 @@ class Moments(unittest.TestCase):
         self.assertEqual(at.to_offset(3_600), at)
         self.assertEqual(len({at, at.to_offset(3_600)}), 1)
         self.assertTrue(at < at.to_offset(0) + Duration(1) and at.to_offset(0) + Duration(1) > at)
+        there = OffsetDateTime(2024, 2, 29, 12, 34, 56, 790, 3_600)
+        self.assertEqual((at - there, there - at), (Duration(3_599, 999_999_999), Duration(-3_599, -999_999_999)))
+        for first, second in ((plain, there), (there, plain), (at, plain), (plain, at), (at, Timestamp(0)), (Timestamp(0), at)):
+            self.assertRaises(TypeError, lambda first=first, second=second: first - second)
+            self.assertRaises(TypeError, lambda first=first, second=second: first + second)
         self.assertFalse(at == plain)
         self.assertRaises(TypeError, lambda: at < plain)
         for one in (at, plain):

@@ -2,14 +2,15 @@
 #![cfg(feature = "std")]
 
 use core::cmp::Ordering;
-use core::ops::Sub;
-use std::time::SystemTime;
+use core::ops::{Add, AddAssign, Sub, SubAssign};
+use std::time::{Instant, SystemTime};
 
 use crate::{OffsetDateTime, SignedDuration, Timestamp, UtcDateTime};
 
 impl Timestamp {
     /// The instant that the clock of the machine shows.
     #[must_use]
+    #[inline]
     pub fn now() -> Timestamp {
         SystemTime::now().into()
     }
@@ -18,6 +19,7 @@ impl Timestamp {
 impl UtcDateTime {
     /// What the clock of the machine shows, in UTC.
     #[must_use]
+    #[inline]
     pub fn now() -> UtcDateTime {
         SystemTime::now().into()
     }
@@ -26,6 +28,7 @@ impl UtcDateTime {
 impl OffsetDateTime {
     /// What the clock of the machine shows, at the offset 0.
     #[must_use]
+    #[inline]
     pub fn now_utc() -> OffsetDateTime {
         SystemTime::now().into()
     }
@@ -36,6 +39,7 @@ impl OffsetDateTime {
 /// The time lies outside the range.
 impl From<SystemTime> for Timestamp {
     #[track_caller]
+    #[inline]
     fn from(time: SystemTime) -> Timestamp {
         match time.duration_since(SystemTime::UNIX_EPOCH) {
             Ok(after) => Timestamp::UNIX_EPOCH + after,
@@ -49,6 +53,7 @@ impl From<SystemTime> for Timestamp {
 /// A time of the system does not hold the instant.
 impl From<Timestamp> for SystemTime {
     #[track_caller]
+    #[inline]
     fn from(at: Timestamp) -> SystemTime {
         let duration = at - Timestamp::UNIX_EPOCH;
         if duration.is_negative() {
@@ -67,6 +72,7 @@ macro_rules! of_system {
             /// The time lies outside the range.
             impl From<SystemTime> for $Type {
                 #[track_caller]
+                #[inline]
                 fn from(time: SystemTime) -> $Type {
                     Timestamp::from(time).into()
                 }
@@ -77,6 +83,7 @@ macro_rules! of_system {
             /// A time of the system does not hold the instant.
             impl From<$Type> for SystemTime {
                 #[track_caller]
+                #[inline]
                 fn from(at: $Type) -> SystemTime {
                     Timestamp::from(at).into()
                 }
@@ -91,24 +98,28 @@ macro_rules! compared_with_system {
     ($($Type:ident)+) => {
         $(
             impl PartialEq<SystemTime> for $Type {
+                #[inline]
                 fn eq(&self, other: &SystemTime) -> bool {
                     *self == $Type::from(*other)
                 }
             }
 
             impl PartialEq<$Type> for SystemTime {
+                #[inline]
                 fn eq(&self, other: &$Type) -> bool {
                     $Type::from(*self) == *other
                 }
             }
 
             impl PartialOrd<SystemTime> for $Type {
+                #[inline]
                 fn partial_cmp(&self, other: &SystemTime) -> Option<Ordering> {
                     self.partial_cmp(&$Type::from(*other))
                 }
             }
 
             impl PartialOrd<$Type> for SystemTime {
+                #[inline]
                 fn partial_cmp(&self, other: &$Type) -> Option<Ordering> {
                     $Type::from(*self).partial_cmp(other)
                 }
@@ -117,6 +128,7 @@ macro_rules! compared_with_system {
             impl Sub<SystemTime> for $Type {
                 type Output = SignedDuration;
 
+                #[inline]
                 fn sub(self, earlier: SystemTime) -> SignedDuration {
                     self - $Type::from(earlier)
                 }
@@ -125,6 +137,7 @@ macro_rules! compared_with_system {
             impl Sub<$Type> for SystemTime {
                 type Output = SignedDuration;
 
+                #[inline]
                 fn sub(self, earlier: $Type) -> SignedDuration {
                     $Type::from(self) - earlier
                 }
@@ -134,3 +147,58 @@ macro_rules! compared_with_system {
 }
 
 compared_with_system! { Timestamp UtcDateTime OffsetDateTime }
+
+/// Times of the machine's clocks, later or earlier.
+macro_rules! moved {
+    ($($Clock:ident)+) => {
+        $(
+            /// # Panics
+            ///
+            /// The clock does not hold the time.
+            impl Add<SignedDuration> for $Clock {
+                type Output = $Clock;
+
+                #[track_caller]
+                fn add(self, duration: SignedDuration) -> $Clock {
+                    if duration.is_negative() {
+                        self - duration.unsigned_abs()
+                    } else {
+                        self + duration.unsigned_abs()
+                    }
+                }
+            }
+
+            /// # Panics
+            ///
+            /// The clock does not hold the time.
+            impl Sub<SignedDuration> for $Clock {
+                type Output = $Clock;
+
+                #[track_caller]
+                fn sub(self, duration: SignedDuration) -> $Clock {
+                    if duration.is_negative() {
+                        self + duration.unsigned_abs()
+                    } else {
+                        self - duration.unsigned_abs()
+                    }
+                }
+            }
+
+            impl AddAssign<SignedDuration> for $Clock {
+                #[track_caller]
+                fn add_assign(&mut self, duration: SignedDuration) {
+                    *self = *self + duration;
+                }
+            }
+
+            impl SubAssign<SignedDuration> for $Clock {
+                #[track_caller]
+                fn sub_assign(&mut self, duration: SignedDuration) {
+                    *self = *self - duration;
+                }
+            }
+        )+
+    };
+}
+
+moved! { SystemTime Instant }

@@ -12,15 +12,20 @@ use crate::Refusal;
 /// let refused = Date::from_calendar_date(2023, Month::February, 29).unwrap_err();
 /// assert_eq!((refused.name(), refused.is_conditional()), ("day", true));
 /// ```
-#[derive(Clone, Copy, Debug, PartialEq, Eq, Hash)]
+#[derive(Clone, Copy, PartialEq, Eq, Hash)]
 pub struct ComponentRange {
     name: &'static str,
-    conditional: bool,
+    /// 0 or 1. A `bool` has values to spare, in which a `Result` would keep whether it is an `Err`: it would be written as
+    /// one byte and read as part of eight, for which a processor waits.
+    conditional: u8,
 }
 
 impl ComponentRange {
     pub(crate) const fn new(name: &'static str, conditional: bool) -> ComponentRange {
-        ComponentRange { name, conditional }
+        ComponentRange {
+            name,
+            conditional: conditional as u8,
+        }
     }
 
     /// The name of the part, as `day`.
@@ -32,18 +37,27 @@ impl ComponentRange {
     /// Whether the part is possible beside others, as day 29 beside February.
     #[must_use]
     pub const fn is_conditional(self) -> bool {
-        self.conditional
+        self.conditional != 0
     }
 }
 
 impl fmt::Display for ComponentRange {
     fn fmt(&self, f: &mut fmt::Formatter<'_>) -> fmt::Result {
-        let besides = if self.conditional {
+        let besides = if self.is_conditional() {
             ", given the other parts"
         } else {
             ""
         };
         write!(f, "{} is out of its range{besides}", self.name)
+    }
+}
+
+impl fmt::Debug for ComponentRange {
+    fn fmt(&self, f: &mut fmt::Formatter<'_>) -> fmt::Result {
+        f.debug_struct("ComponentRange")
+            .field("name", &self.name)
+            .field("conditional", &self.is_conditional())
+            .finish()
     }
 }
 

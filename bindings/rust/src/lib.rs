@@ -1,8 +1,9 @@
 //! Dates and times over the proleptic Gregorian calendar, the years -999999 to 999999, under the names of the crate `time`.
 //!
-//! Every answer comes from the library muxandu, each function of which is proved to meet its contract; this crate gives its
-//! calls the types of Rust. A program over `time` changes `use time::` into `use muxandu::`. What differs: a value is never
-//! made in a constant expression, since a call of the library is no `const fn`, and there are no format descriptions.
+//! What days, dates and instants are comes from the library muxandu, each function of which is proved to meet its contract;
+//! this crate gives its calls the types of Rust, and has the arithmetic of durations and the forms of literals besides. A
+//! program over `time` changes `use time::` into `use muxandu::`. What differs: a function that calls the library is no
+//! `const fn`, and there are no format descriptions.
 //!
 //! [`PlainDateTime`] is a date and a time of day, [`UtcDateTime`] and [`Timestamp`] are instants, and [`OffsetDateTime`] is
 //! what clocks at an offset from UTC show. What a value holds has been tested, so reads cannot fail.
@@ -59,8 +60,8 @@ mod utc_offset;
 mod weekday;
 
 pub use batch::{
-    BatchRefusal, Span, date_times_from_seconds, dates_from_days, days_from_dates,
-    seconds_from_date_times, timestamps_from_rfc3339,
+    BatchRefusal, Span, date_times_from_rfc3339, date_times_from_seconds, dates_from_days,
+    days_from_dates, seconds_from_date_times, timestamps_from_rfc3339,
 };
 pub use count_batches::{
     Answer, date_times_from_each_second, date_times_from_microseconds,

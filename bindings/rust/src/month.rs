@@ -49,30 +49,35 @@ impl Month {
     ];
 
     /// The month of a number that a value holds, 1 to 12.
+    #[inline]
     pub(crate) const fn numbered(number: u8) -> Month {
         Month::ALL[(number - 1) as usize]
     }
 
     /// The month before, December before January.
     #[must_use]
+    #[inline]
     pub const fn previous(self) -> Month {
         self.nth_prev(1)
     }
 
     /// The month after, January after December.
     #[must_use]
+    #[inline]
     pub const fn next(self) -> Month {
         self.nth_next(1)
     }
 
     /// The month so many months later.
     #[must_use]
+    #[inline]
     pub const fn nth_next(self, n: u8) -> Month {
         Month::ALL[(self as usize - 1 + n as usize) % 12]
     }
 
     /// The month so many months earlier.
     #[must_use]
+    #[inline]
     pub const fn nth_prev(self, n: u8) -> Month {
         Month::ALL[(self as usize + 11 - (n % 12) as usize) % 12]
     }
@@ -84,12 +89,14 @@ impl Month {
     /// The year is not -999999 to 999999.
     #[must_use]
     #[track_caller]
+    #[inline]
     pub fn length(self, year: i32) -> u8 {
         days_in_month(year, self as u8).expect("a year of the range")
     }
 }
 
 impl From<Month> for u8 {
+    #[inline]
     fn from(month: Month) -> u8 {
         month as u8
     }
@@ -99,6 +106,7 @@ impl From<Month> for u8 {
 impl TryFrom<u8> for Month {
     type Error = ComponentRange;
 
+    #[inline]
     fn try_from(number: u8) -> Result<Month, ComponentRange> {
         let place = usize::from(number).wrapping_sub(1);
         Month::ALL

@@ -4,7 +4,7 @@ use core::hash::{Hash, Hasher};
 use core::ops::Sub;
 use core::str::FromStr;
 
-use crate::sys::{self, MuxanduDateTime, MuxanduDuration};
+use crate::sys::{self, MuxanduDate, MuxanduDateTime};
 use crate::{Date, OffsetDateTime, Refusal, SignedDuration, Text, Time, Unit};
 use crate::{UtcDateTime, UtcOffset, spelled};
 
@@ -33,12 +33,14 @@ impl PlainDateTime {
 
     /// A date and a time of day.
     #[must_use]
+    #[inline]
     pub const fn new(date: Date, time: Time) -> PlainDateTime {
+        let MuxanduDate { year, month, day } = date.held();
         let (hour, minute, second, nanosecond) = time.as_hms_nano();
         PlainDateTime(MuxanduDateTime {
-            year: date.0.year,
-            month: date.0.month,
-            day: date.0.day,
+            year,
+            month,
+            day,
             hour,
             minute,
             second,
@@ -49,24 +51,28 @@ impl PlainDateTime {
 
     /// The date.
     #[must_use]
+    #[inline]
     pub const fn date(self) -> Date {
         Date::of(self.0.year, self.0.month, self.0.day)
     }
 
     /// The time of day.
     #[must_use]
+    #[inline]
     pub const fn time(self) -> Time {
         Time::of(self.0.hour, self.0.minute, self.0.second, self.0.nanosecond)
     }
 
     /// The nanosecond of the second, 0 to 999,999,999.
     #[must_use]
+    #[inline]
     pub const fn nanosecond(self) -> u32 {
         self.0.nanosecond
     }
 
     /// What clocks at an offset show so.
     #[must_use]
+    #[inline]
     pub const fn assume_offset(self, offset: UtcOffset) -> OffsetDateTime {
         let offset_seconds = offset.whole_seconds();
         OffsetDateTime(MuxanduDateTime {
@@ -77,28 +83,33 @@ impl PlainDateTime {
 
     /// What clocks in UTC show so, at the offset 0.
     #[must_use]
+    #[inline]
     pub const fn assume_utc(self) -> OffsetDateTime {
         OffsetDateTime(self.0)
     }
 
     /// The instant at which clocks in UTC show it.
     #[must_use]
+    #[inline]
     pub const fn as_utc(self) -> UtcDateTime {
         UtcDateTime(self.0)
     }
 
     /// The same date at another time of day.
     #[must_use]
+    #[inline]
     pub const fn replace_time(self, time: Time) -> PlainDateTime {
         PlainDateTime::new(self.date(), time)
     }
 
     /// The same time of day on another date.
     #[must_use]
+    #[inline]
     pub const fn replace_date(self, date: Date) -> PlainDateTime {
         PlainDateTime::new(date, self.time())
     }
 
+    #[inline]
     pub(crate) fn truncated_to(self, unit: Unit) -> PlainDateTime {
         let mut out = self;
         sure!(sys::muxandu_date_time_truncate(
@@ -111,8 +122,20 @@ impl PlainDateTime {
 
     /// 0:00 on the same date.
     #[must_use]
+    #[inline]
     pub const fn truncate_to_day(self) -> PlainDateTime {
         self.replace_time(Time::MIDNIGHT)
+    }
+
+    /// How long after an earlier one it is, less so many seconds.
+    #[inline]
+    pub(crate) fn after(self, earlier: PlainDateTime, less: i32) -> SignedDuration {
+        let days = self.date() - earlier.date();
+        let seconds = self.time().second_of_day() - earlier.time().second_of_day() - less;
+        SignedDuration::of_one_sign(
+            days.whole_seconds() + i64::from(seconds),
+            self.nanosecond() as i32 - earlier.nanosecond() as i32,
+        )
     }
 
     pub(crate) fn spelled(self) -> Text {
@@ -120,6 +143,7 @@ impl PlainDateTime {
     }
 
     /// All that it is, in the order of its parts.
+    #[inline]
     const fn parts(self) -> (i32, u8, u8, (u8, u8, u8, u32)) {
         (
             self.0.year,
@@ -157,28 +181,28 @@ debug_as_display!(PlainDateTime);
 impl Sub for PlainDateTime {
     type Output = SignedDuration;
 
+    #[inline]
     fn sub(self, earlier: PlainDateTime) -> SignedDuration {
-        let mut out = MuxanduDuration::default();
-        sure!(sys::muxandu_date_time_difference(
-            self.0, earlier.0, &mut out
-        ));
-        SignedDuration::given(out)
+        self.after(earlier, 0)
     }
 }
 
 impl Ord for PlainDateTime {
+    #[inline]
     fn cmp(&self, other: &PlainDateTime) -> Ordering {
         self.parts().cmp(&other.parts())
     }
 }
 
 impl PartialOrd for PlainDateTime {
+    #[inline]
     fn partial_cmp(&self, other: &PlainDateTime) -> Option<Ordering> {
         Some(self.cmp(other))
     }
 }
 
 impl PartialEq for PlainDateTime {
+    #[inline]
     fn eq(&self, other: &PlainDateTime) -> bool {
         self.0 == other.0
     }
@@ -187,6 +211,7 @@ impl PartialEq for PlainDateTime {
 impl Eq for PlainDateTime {}
 
 impl Hash for PlainDateTime {
+    #[inline]
     fn hash<H: Hasher>(&self, state: &mut H) {
         self.parts().hash(state);
     }

@@ -16,72 +16,84 @@ macro_rules! date_reads {
         impl $Type {
             #[doc = concat!("The year", $where, ".")]
             #[must_use]
+            #[inline]
             pub $($constant)? fn year(self) -> i32 {
                 self.date().year()
             }
 
             #[doc = concat!("The month", $where, ".")]
             #[must_use]
+            #[inline]
             pub $($constant)? fn month(self) -> $crate::Month {
                 self.date().month()
             }
 
             #[doc = concat!("The day of the month", $where, ", 1 to 31.")]
             #[must_use]
+            #[inline]
             pub $($constant)? fn day(self) -> u8 {
                 self.date().day()
             }
 
             #[doc = concat!("The day of the year", $where, ", 1 to 366.")]
             #[must_use]
+            #[inline]
             pub fn ordinal(self) -> u16 {
                 self.date().ordinal()
             }
 
             #[doc = concat!("The ISO week", $where, ", 1 to 53.")]
             #[must_use]
+            #[inline]
             pub fn iso_week(self) -> u8 {
                 self.date().iso_week()
             }
 
             #[doc = concat!("How many Sundays of the year", $where, " lie on or before the day, 0 to 53.")]
             #[must_use]
+            #[inline]
             pub fn sunday_based_week(self) -> u8 {
                 self.date().sunday_based_week()
             }
 
             #[doc = concat!("How many Mondays of the year", $where, " lie on or before the day, 0 to 53.")]
             #[must_use]
+            #[inline]
             pub fn monday_based_week(self) -> u8 {
                 self.date().monday_based_week()
             }
 
             #[doc = concat!("The year, the month and the day of the month", $where, ".")]
             #[must_use]
+            #[inline]
             pub $($constant)? fn to_calendar_date(self) -> (i32, $crate::Month, u8) {
                 self.date().to_calendar_date()
             }
 
             #[doc = concat!("The year and the day of the year", $where, ".")]
             #[must_use]
+            #[inline]
             pub fn to_ordinal_date(self) -> (i32, u16) {
                 self.date().to_ordinal_date()
             }
 
             #[doc = concat!("The ISO year, the ISO week and the day of the week", $where, ".")]
             #[must_use]
+            #[inline]
             pub fn to_iso_week_date(self) -> (i32, u8, $crate::Weekday) {
                 self.date().to_iso_week_date()
             }
 
             #[doc = concat!("The day of the week", $where, ".")]
             #[must_use]
+            #[inline]
             pub fn weekday(self) -> $crate::Weekday {
                 self.date().weekday()
             }
 
             #[doc = concat!("The Julian day", $where, ".")]
             #[must_use]
+            #[inline]
             pub fn to_julian_day(self) -> i32 {
                 self.date().to_julian_day()
             }
@@ -95,42 +107,49 @@ macro_rules! time_reads {
         impl $Type {
             #[doc = concat!("The hour, the minute and the second", $where, ".")]
             #[must_use]
+            #[inline]
             pub $($constant)? fn $hms(self) -> (u8, u8, u8) {
                 self.time().as_hms()
             }
 
             #[doc = concat!("The hour, the minute, the second and the millisecond of it", $where, ".")]
             #[must_use]
+            #[inline]
             pub $($constant)? fn $milli(self) -> (u8, u8, u8, u16) {
                 self.time().as_hms_milli()
             }
 
             #[doc = concat!("The hour, the minute, the second and the microsecond of it", $where, ".")]
             #[must_use]
+            #[inline]
             pub $($constant)? fn $micro(self) -> (u8, u8, u8, u32) {
                 self.time().as_hms_micro()
             }
 
             #[doc = concat!("The hour, the minute, the second and the nanosecond of it", $where, ".")]
             #[must_use]
+            #[inline]
             pub $($constant)? fn $nano(self) -> (u8, u8, u8, u32) {
                 self.time().as_hms_nano()
             }
 
             #[doc = concat!("The hour", $where, ", 0 to 23.")]
             #[must_use]
+            #[inline]
             pub $($constant)? fn hour(self) -> u8 {
                 self.time().hour()
             }
 
             #[doc = concat!("The minute", $where, ", 0 to 59.")]
             #[must_use]
+            #[inline]
             pub $($constant)? fn minute(self) -> u8 {
                 self.time().minute()
             }
 
             #[doc = concat!("The second", $where, ", 0 to 59.")]
             #[must_use]
+            #[inline]
             pub $($constant)? fn second(self) -> u8 {
                 self.time().second()
             }
@@ -144,12 +163,14 @@ macro_rules! fraction_reads {
         impl $Type {
             /// The millisecond of the second, 0 to 999.
             #[must_use]
+            #[inline]
             pub $($constant)? fn millisecond(self) -> u16 {
                 (self.nanosecond() / 1_000_000) as u16
             }
 
             /// The microsecond of the second, 0 to 999,999.
             #[must_use]
+            #[inline]
             pub $($constant)? fn microsecond(self) -> u32 {
                 self.nanosecond() / 1_000
             }
@@ -163,6 +184,7 @@ macro_rules! sums {
         impl $Type {
             /// So much later, if the range has it.
             #[must_use]
+            #[inline]
             pub fn checked_add(self, duration: $crate::SignedDuration) -> Option<$Type> {
                 let mut out = self;
                 let status = $crate::sys::$add(self.0, duration.parts(), &mut out.0);
@@ -171,6 +193,7 @@ macro_rules! sums {
 
             /// So much earlier, if the range has it.
             #[must_use]
+            #[inline]
             pub fn checked_sub(self, duration: $crate::SignedDuration) -> Option<$Type> {
                 let mut out = self;
                 let status = $crate::sys::$subtract(self.0, duration.parts(), &mut out.0);
@@ -179,6 +202,7 @@ macro_rules! sums {
 
             /// So much later, or the end of the range that it is beyond.
             #[must_use]
+            #[inline]
             pub fn saturating_add(self, duration: $crate::SignedDuration) -> $Type {
                 let mut out = self;
                 sure!($crate::sys::$saturating_add(
@@ -191,6 +215,7 @@ macro_rules! sums {
 
             /// So much earlier, or the end of the range that it is beyond.
             #[must_use]
+            #[inline]
             pub fn saturating_sub(self, duration: $crate::SignedDuration) -> $Type {
                 let mut out = self;
                 sure!($crate::sys::$saturating_subtract(
@@ -216,6 +241,7 @@ macro_rules! sum_operators {
             type Output = $Type;
 
             #[track_caller]
+            #[inline]
             fn add(self, duration: $crate::SignedDuration) -> $Type {
                 self.checked_add(duration).expect("the range has the sum")
             }
@@ -228,6 +254,7 @@ macro_rules! sum_operators {
             type Output = $Type;
 
             #[track_caller]
+            #[inline]
             fn sub(self, duration: $crate::SignedDuration) -> $Type {
                 self.checked_sub(duration)
                     .expect("the range has the difference")
@@ -238,6 +265,7 @@ macro_rules! sum_operators {
 
         impl core::ops::AddAssign<$crate::SignedDuration> for $Type {
             #[track_caller]
+            #[inline]
             fn add_assign(&mut self, duration: $crate::SignedDuration) {
                 *self = *self + duration;
             }
@@ -245,6 +273,7 @@ macro_rules! sum_operators {
 
         impl core::ops::SubAssign<$crate::SignedDuration> for $Type {
             #[track_caller]
+            #[inline]
             fn sub_assign(&mut self, duration: $crate::SignedDuration) {
                 *self = *self - duration;
             }
@@ -262,6 +291,7 @@ macro_rules! std_operators {
             type Output = $Type;
 
             #[track_caller]
+            #[inline]
             fn add(self, duration: core::time::Duration) -> $Type {
                 self + $crate::SignedDuration::try_from(duration).expect("the range has the sum")
             }
@@ -274,6 +304,7 @@ macro_rules! std_operators {
             type Output = $Type;
 
             #[track_caller]
+            #[inline]
             fn sub(self, duration: core::time::Duration) -> $Type {
                 self - $crate::SignedDuration::try_from(duration)
                     .expect("the range has the difference")
@@ -282,6 +313,7 @@ macro_rules! std_operators {
 
         impl core::ops::AddAssign<core::time::Duration> for $Type {
             #[track_caller]
+            #[inline]
             fn add_assign(&mut self, duration: core::time::Duration) {
                 *self = *self + duration;
             }
@@ -289,6 +321,7 @@ macro_rules! std_operators {
 
         impl core::ops::SubAssign<core::time::Duration> for $Type {
             #[track_caller]
+            #[inline]
             fn sub_assign(&mut self, duration: core::time::Duration) {
                 *self = *self - duration;
             }
@@ -305,6 +338,7 @@ macro_rules! date_replacements {
             /// # Errors
             ///
             /// `year`, or `day` conditionally for 29 February in a year that has none.
+            #[inline]
             pub fn replace_year(self, year: i32) -> $crate::Result<$Type> {
                 Ok(self.replace_date(self.date().replace_year(year)?))
             }
@@ -314,6 +348,7 @@ macro_rules! date_replacements {
             /// # Errors
             ///
             /// `day`, conditionally, where the month does not have it.
+            #[inline]
             pub fn replace_month(self, month: $crate::Month) -> $crate::Result<$Type> {
                 Ok(self.replace_date(self.date().replace_month(month)?))
             }
@@ -323,6 +358,7 @@ macro_rules! date_replacements {
             /// # Errors
             ///
             /// `day`, conditionally for one of 1 to 31.
+            #[inline]
             pub fn replace_day(self, day: u8) -> $crate::Result<$Type> {
                 Ok(self.replace_date(self.date().replace_day(day)?))
             }
@@ -332,6 +368,7 @@ macro_rules! date_replacements {
             /// # Errors
             ///
             /// `ordinal`, conditionally for 366.
+            #[inline]
             pub fn replace_ordinal(self, ordinal: u16) -> $crate::Result<$Type> {
                 Ok(self.replace_date(self.date().replace_ordinal(ordinal)?))
             }
@@ -348,6 +385,7 @@ macro_rules! time_replacements {
             /// # Errors
             ///
             /// `hour` above 23.
+            #[inline]
             pub fn replace_hour(self, hour: u8) -> $crate::Result<$Type> {
                 Ok(self.replace_time(self.time().replace_hour(hour)?))
             }
@@ -357,6 +395,7 @@ macro_rules! time_replacements {
             /// # Errors
             ///
             /// `minute` above 59.
+            #[inline]
             pub fn replace_minute(self, minute: u8) -> $crate::Result<$Type> {
                 Ok(self.replace_time(self.time().replace_minute(minute)?))
             }
@@ -366,6 +405,7 @@ macro_rules! time_replacements {
             /// # Errors
             ///
             /// `second` above 59.
+            #[inline]
             pub fn replace_second(self, second: u8) -> $crate::Result<$Type> {
                 Ok(self.replace_time(self.time().replace_second(second)?))
             }
@@ -375,6 +415,7 @@ macro_rules! time_replacements {
             /// # Errors
             ///
             /// `millisecond` above 999.
+            #[inline]
             pub fn replace_millisecond(self, millisecond: u16) -> $crate::Result<$Type> {
                 Ok(self.replace_time(self.time().replace_millisecond(millisecond)?))
             }
@@ -384,6 +425,7 @@ macro_rules! time_replacements {
             /// # Errors
             ///
             /// `microsecond` above 999,999.
+            #[inline]
             pub fn replace_microsecond(self, microsecond: u32) -> $crate::Result<$Type> {
                 Ok(self.replace_time(self.time().replace_microsecond(microsecond)?))
             }
@@ -393,6 +435,7 @@ macro_rules! time_replacements {
             /// # Errors
             ///
             /// `nanosecond` above 999,999,999.
+            #[inline]
             pub fn replace_nanosecond(self, nanosecond: u32) -> $crate::Result<$Type> {
                 Ok(self.replace_time(self.time().replace_nanosecond(nanosecond)?))
             }
@@ -406,30 +449,35 @@ macro_rules! truncations {
         impl $Type {
             /// The start of the hour.
             #[must_use]
+            #[inline]
             pub fn truncate_to_hour(self) -> $Type {
                 self.truncated_to($crate::Unit::Hour)
             }
 
             /// The start of the minute.
             #[must_use]
+            #[inline]
             pub fn truncate_to_minute(self) -> $Type {
                 self.truncated_to($crate::Unit::Minute)
             }
 
             /// The start of the second.
             #[must_use]
+            #[inline]
             pub fn truncate_to_second(self) -> $Type {
                 self.truncated_to($crate::Unit::Second)
             }
 
             /// The start of the millisecond.
             #[must_use]
+            #[inline]
             pub fn truncate_to_millisecond(self) -> $Type {
                 self.truncated_to($crate::Unit::Millisecond)
             }
 
             /// The start of the microsecond.
             #[must_use]
+            #[inline]
             pub fn truncate_to_microsecond(self) -> $Type {
                 self.truncated_to($crate::Unit::Microsecond)
             }

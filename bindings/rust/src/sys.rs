@@ -506,6 +506,10 @@ unsafe extern "C" {
     /// Reads a date from a text of RFC 3339, with nothing before or after it, as `1985-04-12`. Refused SYNTAX where it has
     /// not that form, else MONTH, DAY or DAY_OF_MONTH, by the first from the left that is out of its range.
     pub unsafe fn muxandu_date_from_rfc3339(text: *const u8, text_count: usize, out: &mut MuxanduDate) -> u32;
+    /// Writes the text of RFC 3339 of a date-time with so many digits of the fraction, 0 to 9, and nine where more are asked
+    /// for, as `1985-04-12T23:20:50.520Z` of three, of at most 35 bytes, as muxandu_date_time_text does: what lies past them is
+    /// left out. Refused as the date-time, then NO_TEXT, then BUFFER.
+    pub unsafe fn muxandu_date_time_to_rfc3339_digits(date_time: MuxanduDateTime, digits: u8, buffer: *mut u8, buffer_count: usize, size: &mut usize) -> u32;
     /// What clocks at an offset, in seconds, show at each Unix second, and its status, as muxandu_date_time_from_timestamp
     /// has them: where an item is refused, what is in its place stays, and the next follows. `count` is how many were
     /// converted. Refused BUFFER, with nothing written, where `out` or `statuses` has fewer items than `seconds`.
@@ -574,6 +578,10 @@ unsafe extern "C" {
     /// muxandu_timestamp_from_date_time or muxandu_timestamp_to_nanoseconds refuses. Refused BUFFER, with nothing written, where
     /// `out` has fewer items than `date_times`.
     pub unsafe fn muxandu_nanoseconds_from_date_times(date_times: *const MuxanduDateTime, date_times_count: usize, out: *mut i64, out_count: usize) -> MuxanduBatch;
+    /// The date-time and the offset of each text of RFC 3339, up to the first that muxandu_date_time_from_rfc3339 refuses, or
+    /// SPAN, whose span does not lie in the block `texts`. Refused BUFFER, with nothing written, where `out` has fewer items
+    /// than `spans`.
+    pub unsafe fn muxandu_date_times_from_rfc3339(texts: *const u8, texts_count: usize, spans: *const MuxanduSpan, spans_count: usize, out: *mut MuxanduDateTime, out_count: usize) -> MuxanduBatch;
     /// Writes the text of a date-time, as `1970-01-01 0:00:00.0 +00:00:00`, of at most 42 bytes, all ASCII and none 0, at
     /// the front of `buffer`, and its length to `size`. Refused as the date-time, then BUFFER where it is longer than
     /// `buffer`: then `size` says how long it is, and `buffer` is as it was.

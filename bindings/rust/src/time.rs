@@ -35,6 +35,7 @@ impl Time {
     pub const MAX: Time = Time::of(23, 59, 59, 999_999_999);
 
     /// Parts that are known to make a time of day.
+    #[inline]
     pub(crate) const fn of(hour: u8, minute: u8, second: u8, nanosecond: u32) -> Time {
         Time {
             hour,
@@ -44,6 +45,7 @@ impl Time {
         }
     }
 
+    #[inline]
     pub(crate) fn tested(
         hour: u8,
         minute: u8,
@@ -59,6 +61,7 @@ impl Time {
     /// # Errors
     ///
     /// `hour`, `minute` or `second`, the first that is out of its range.
+    #[inline]
     pub fn from_hms(hour: u8, minute: u8, second: u8) -> Result<Time> {
         Ok(Time::tested(hour, minute, second, 0)?)
     }
@@ -68,10 +71,10 @@ impl Time {
     /// # Errors
     ///
     /// `hour`, `minute`, `second` or `millisecond`, the first that is out of its range.
+    #[inline]
     pub fn from_hms_milli(hour: u8, minute: u8, second: u8, millisecond: u16) -> Result<Time> {
         let nanosecond = u32::from(millisecond).saturating_mul(1_000_000);
-        Time::tested(hour, minute, second, nanosecond)
-            .map_err(|refusal| finer(refusal, "millisecond"))
+        Time::tested(hour, minute, second, nanosecond).map_err(in_milliseconds)
     }
 
     /// The hour, the minute, the second and the microsecond of it.
@@ -79,10 +82,10 @@ impl Time {
     /// # Errors
     ///
     /// `hour`, `minute`, `second` or `microsecond`, the first that is out of its range.
+    #[inline]
     pub fn from_hms_micro(hour: u8, minute: u8, second: u8, microsecond: u32) -> Result<Time> {
         let nanosecond = microsecond.saturating_mul(1_000);
-        Time::tested(hour, minute, second, nanosecond)
-            .map_err(|refusal| finer(refusal, "microsecond"))
+        Time::tested(hour, minute, second, nanosecond).map_err(in_microseconds)
     }
 
     /// The hour, the minute, the second and the nanosecond of it.
@@ -90,54 +93,63 @@ impl Time {
     /// # Errors
     ///
     /// `hour`, `minute`, `second` or `nanosecond`, the first that is out of its range.
+    #[inline]
     pub fn from_hms_nano(hour: u8, minute: u8, second: u8, nanosecond: u32) -> Result<Time> {
         Ok(Time::tested(hour, minute, second, nanosecond)?)
     }
 
     /// The hour, 0 to 23.
     #[must_use]
+    #[inline]
     pub const fn hour(self) -> u8 {
         self.hour
     }
 
     /// The minute, 0 to 59.
     #[must_use]
+    #[inline]
     pub const fn minute(self) -> u8 {
         self.minute
     }
 
     /// The second, 0 to 59.
     #[must_use]
+    #[inline]
     pub const fn second(self) -> u8 {
         self.second
     }
 
     /// The nanosecond of the second, 0 to 999,999,999.
     #[must_use]
+    #[inline]
     pub const fn nanosecond(self) -> u32 {
         self.nanosecond
     }
 
     /// The hour, the minute and the second.
     #[must_use]
+    #[inline]
     pub const fn as_hms(self) -> (u8, u8, u8) {
         (self.hour, self.minute, self.second)
     }
 
     /// The hour, the minute, the second and the millisecond of it.
     #[must_use]
+    #[inline]
     pub const fn as_hms_milli(self) -> (u8, u8, u8, u16) {
         (self.hour, self.minute, self.second, self.millisecond())
     }
 
     /// The hour, the minute, the second and the microsecond of it.
     #[must_use]
+    #[inline]
     pub const fn as_hms_micro(self) -> (u8, u8, u8, u32) {
         (self.hour, self.minute, self.second, self.microsecond())
     }
 
     /// The hour, the minute, the second and the nanosecond of it.
     #[must_use]
+    #[inline]
     pub const fn as_hms_nano(self) -> (u8, u8, u8, u32) {
         (self.hour, self.minute, self.second, self.nanosecond)
     }
@@ -147,6 +159,7 @@ impl Time {
     /// # Errors
     ///
     /// `hour` above 23.
+    #[inline]
     pub fn replace_hour(self, hour: u8) -> Result<Time> {
         Time::from_hms_nano(hour, self.minute, self.second, self.nanosecond)
     }
@@ -156,6 +169,7 @@ impl Time {
     /// # Errors
     ///
     /// `minute` above 59.
+    #[inline]
     pub fn replace_minute(self, minute: u8) -> Result<Time> {
         Time::from_hms_nano(self.hour, minute, self.second, self.nanosecond)
     }
@@ -165,6 +179,7 @@ impl Time {
     /// # Errors
     ///
     /// `second` above 59.
+    #[inline]
     pub fn replace_second(self, second: u8) -> Result<Time> {
         Time::from_hms_nano(self.hour, self.minute, second, self.nanosecond)
     }
@@ -174,6 +189,7 @@ impl Time {
     /// # Errors
     ///
     /// `millisecond` above 999.
+    #[inline]
     pub fn replace_millisecond(self, millisecond: u16) -> Result<Time> {
         Time::from_hms_milli(self.hour, self.minute, self.second, millisecond)
     }
@@ -183,6 +199,7 @@ impl Time {
     /// # Errors
     ///
     /// `microsecond` above 999,999.
+    #[inline]
     pub fn replace_microsecond(self, microsecond: u32) -> Result<Time> {
         Time::from_hms_micro(self.hour, self.minute, self.second, microsecond)
     }
@@ -192,12 +209,14 @@ impl Time {
     /// # Errors
     ///
     /// `nanosecond` above 999,999,999.
+    #[inline]
     pub fn replace_nanosecond(self, nanosecond: u32) -> Result<Time> {
         Time::from_hms_nano(self.hour, self.minute, self.second, nanosecond)
     }
 
     /// The duration from this time of day on to the next other, which may be on the next day.
     #[must_use]
+    #[inline]
     pub fn duration_until(self, other: Time) -> SignedDuration {
         let ahead = other - self;
         if ahead.is_negative() {
@@ -209,33 +228,63 @@ impl Time {
 
     /// The duration from the last other on to this time of day, which may have been on the day before.
     #[must_use]
+    #[inline]
     pub fn duration_since(self, other: Time) -> SignedDuration {
         other.duration_until(self)
     }
 
+    #[inline]
     const fn on_a_day(self) -> PlainDateTime {
         PlainDateTime::new(Date::UNIX_EPOCH, self)
     }
 
+    #[inline]
     fn truncated_to(self, unit: Unit) -> Time {
         self.on_a_day().truncated_to(unit).time()
     }
 
-    /// The time of day so much later, on this day or another.
-    fn later(self, duration: SignedDuration) -> Time {
-        (self.on_a_day() + duration.within_a_day()).time()
+    /// The whole seconds from 0:00 on.
+    #[inline]
+    pub(crate) const fn second_of_day(self) -> i32 {
+        (self.hour as i32 * 60 + self.minute as i32) * 60 + self.second as i32
     }
 
-    /// The time of day so much earlier, on this day or another.
-    fn earlier(self, duration: SignedDuration) -> Time {
-        (self.on_a_day() - duration.within_a_day()).time()
+    /// The nanoseconds from 0:00 on.
+    #[inline]
+    const fn since_midnight(self) -> i64 {
+        self.second_of_day() as i64 * 1_000_000_000 + self.nanosecond as i64
+    }
+
+    /// The time of day so many nanoseconds after 0:00, or before it for a negative number, on this day or another.
+    #[inline]
+    const fn at_nanosecond(nanoseconds: i64) -> Time {
+        let nanoseconds = nanoseconds.rem_euclid(86_400_000_000_000);
+        let seconds = (nanoseconds / 1_000_000_000) as u32;
+        Time::of(
+            (seconds / 3_600) as u8,
+            (seconds / 60 % 60) as u8,
+            (seconds % 60) as u8,
+            (nanoseconds % 1_000_000_000) as u32,
+        )
     }
 }
 
-/// The name of what is refused, where the nanosecond was given in another unit.
-fn finer(refusal: Refusal, unit: &'static str) -> ComponentRange {
+/// What is refused, where the nanosecond was given in milliseconds.
+#[cold]
+#[inline(never)]
+fn in_milliseconds(refusal: Refusal) -> ComponentRange {
     match refusal {
-        Refusal::Nanosecond => ComponentRange::new(unit, false),
+        Refusal::Nanosecond => ComponentRange::new("millisecond", false),
+        _ => refusal.into(),
+    }
+}
+
+/// What is refused, where the nanosecond was given in microseconds.
+#[cold]
+#[inline(never)]
+fn in_microseconds(refusal: Refusal) -> ComponentRange {
+    match refusal {
+        Refusal::Nanosecond => ComponentRange::new("microsecond", false),
         _ => refusal.into(),
     }
 }
@@ -248,8 +297,9 @@ debug_as_display!(Time);
 impl core::ops::Add<SignedDuration> for Time {
     type Output = Time;
 
+    #[inline]
     fn add(self, duration: SignedDuration) -> Time {
-        self.later(duration)
+        Time::at_nanosecond(self.since_midnight() + duration.within_a_day())
     }
 }
 
@@ -257,38 +307,40 @@ impl core::ops::Add<SignedDuration> for Time {
 impl Sub<SignedDuration> for Time {
     type Output = Time;
 
+    #[inline]
     fn sub(self, duration: SignedDuration) -> Time {
-        self.earlier(duration)
+        Time::at_nanosecond(self.since_midnight() - duration.within_a_day())
     }
 }
 
 impl core::ops::AddAssign<SignedDuration> for Time {
+    #[inline]
     fn add_assign(&mut self, duration: SignedDuration) {
         *self = *self + duration;
     }
 }
 
 impl core::ops::SubAssign<SignedDuration> for Time {
+    #[inline]
     fn sub_assign(&mut self, duration: SignedDuration) {
         *self = *self - duration;
     }
 }
 
-/// What the whole days of std's duration leave.
-fn within_a_day(duration: core::time::Duration) -> SignedDuration {
-    let day = SignedDuration::DAY.whole_seconds().unsigned_abs();
-    SignedDuration::new(
-        (duration.as_secs() % day) as i64,
-        duration.subsec_nanos() as i32,
-    )
+/// The nanoseconds that the whole days of std's duration leave.
+#[inline]
+fn within_a_day(duration: core::time::Duration) -> i64 {
+    let seconds = (duration.as_secs() % 86_400) as i64;
+    seconds * 1_000_000_000 + i64::from(duration.subsec_nanos())
 }
 
 /// The time of day so much later, on this day or another.
 impl core::ops::Add<core::time::Duration> for Time {
     type Output = Time;
 
+    #[inline]
     fn add(self, duration: core::time::Duration) -> Time {
-        self.later(within_a_day(duration))
+        Time::at_nanosecond(self.since_midnight() + within_a_day(duration))
     }
 }
 
@@ -296,18 +348,21 @@ impl core::ops::Add<core::time::Duration> for Time {
 impl Sub<core::time::Duration> for Time {
     type Output = Time;
 
+    #[inline]
     fn sub(self, duration: core::time::Duration) -> Time {
-        self.earlier(within_a_day(duration))
+        Time::at_nanosecond(self.since_midnight() - within_a_day(duration))
     }
 }
 
 impl core::ops::AddAssign<core::time::Duration> for Time {
+    #[inline]
     fn add_assign(&mut self, duration: core::time::Duration) {
         *self = *self + duration;
     }
 }
 
 impl core::ops::SubAssign<core::time::Duration> for Time {
+    #[inline]
     fn sub_assign(&mut self, duration: core::time::Duration) {
         *self = *self - duration;
     }
@@ -317,30 +372,35 @@ impl core::ops::SubAssign<core::time::Duration> for Time {
 impl Sub for Time {
     type Output = SignedDuration;
 
+    #[inline]
     fn sub(self, earlier: Time) -> SignedDuration {
-        self.on_a_day() - earlier.on_a_day()
+        SignedDuration::nanoseconds(self.since_midnight() - earlier.since_midnight())
     }
 }
 
 impl Default for Time {
+    #[inline]
     fn default() -> Time {
         Time::MIDNIGHT
     }
 }
 
 impl Ord for Time {
+    #[inline]
     fn cmp(&self, other: &Time) -> Ordering {
         self.as_hms_nano().cmp(&other.as_hms_nano())
     }
 }
 
 impl PartialOrd for Time {
+    #[inline]
     fn partial_cmp(&self, other: &Time) -> Option<Ordering> {
         Some(self.cmp(other))
     }
 }
 
 impl PartialEq for Time {
+    #[inline]
     fn eq(&self, other: &Time) -> bool {
         self.as_hms_nano() == other.as_hms_nano()
     }
@@ -349,6 +409,7 @@ impl PartialEq for Time {
 impl Eq for Time {}
 
 impl Hash for Time {
+    #[inline]
     fn hash<H: Hasher>(&self, state: &mut H) {
         self.as_hms_nano().hash(state);
     }
@@ -370,5 +431,28 @@ impl FromStr for Time {
             text,
             crate::literal::time(text).map(|literal| literal.tested()),
         )
+    }
+}
+
+#[cfg(test)]
+mod tests {
+    use super::Time;
+    use crate::sys;
+
+    #[test]
+    fn each_second_of_the_day_is_that_of_the_library() {
+        for seconds in -86_400..2 * 86_400 {
+            let at = sys::MuxanduTimestamp {
+                seconds,
+                nanoseconds: 999_999_999,
+            };
+            let mut shown = sys::MuxanduDateTime::default();
+            assert_eq!(sys::muxandu_date_time_from_timestamp(at, 0, &mut shown), 0);
+            let wanted = Time::of(shown.hour, shown.minute, shown.second, shown.nanosecond);
+            let nanoseconds = seconds * 1_000_000_000 + 999_999_999;
+            assert_eq!(Time::at_nanosecond(nanoseconds), wanted);
+            let past_midnight = nanoseconds.rem_euclid(86_400_000_000_000);
+            assert_eq!(wanted.since_midnight(), past_midnight);
+        }
     }
 }

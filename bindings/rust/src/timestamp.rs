@@ -37,6 +37,7 @@ impl Timestamp {
     /// The last of the range, the last nanosecond of +999999-12-31 in UTC.
     pub const MAX: Timestamp = Timestamp::of(31_494_784_780_799, 999_999_999);
 
+    #[inline]
     const fn of(seconds: i64, nanoseconds: u32) -> Timestamp {
         Timestamp(MuxanduTimestamp {
             seconds,
@@ -44,6 +45,7 @@ impl Timestamp {
         })
     }
 
+    #[inline]
     pub(crate) fn tested(
         seconds: i64,
         nanoseconds: u32,
@@ -58,6 +60,7 @@ impl Timestamp {
     /// # Errors
     ///
     /// `timestamp` outside the range, then `nanosecond` above 999,999,999.
+    #[inline]
     pub fn new(seconds: i64, nanoseconds: u32) -> Result<Timestamp> {
         Ok(Timestamp::tested(seconds, nanoseconds)?)
     }
@@ -67,6 +70,7 @@ impl Timestamp {
     /// # Errors
     ///
     /// `timestamp` outside the range.
+    #[inline]
     pub fn from_seconds(seconds: i64) -> Result<Timestamp> {
         Timestamp::new(seconds, 0)
     }
@@ -76,6 +80,7 @@ impl Timestamp {
     /// # Errors
     ///
     /// `timestamp` outside the range.
+    #[inline]
     pub fn from_milliseconds(milliseconds: i64) -> Result<Timestamp> {
         let mut out = Timestamp::UNIX_EPOCH;
         Refusal::test(sys::muxandu_timestamp_from_milliseconds(
@@ -90,6 +95,7 @@ impl Timestamp {
     /// # Errors
     ///
     /// `timestamp` outside the range.
+    #[inline]
     pub fn from_microseconds(microseconds: i128) -> Result<Timestamp> {
         if let Ok(microseconds) = i64::try_from(microseconds) {
             return Ok(Timestamp(sys::muxandu_timestamp_from_microseconds(
@@ -104,6 +110,7 @@ impl Timestamp {
     /// # Errors
     ///
     /// `timestamp` outside the range.
+    #[inline]
     pub fn from_nanoseconds(nanoseconds: i128) -> Result<Timestamp> {
         if let Ok(nanoseconds) = i64::try_from(nanoseconds) {
             return Ok(Timestamp(sys::muxandu_timestamp_from_nanoseconds(
@@ -114,6 +121,7 @@ impl Timestamp {
     }
 
     /// The instant of a count, of which there are so many in a second.
+    #[inline]
     fn counted(count: i128, per_second: i128) -> Result<Timestamp> {
         let seconds = count.div_euclid(per_second);
         let seconds = i64::try_from(seconds).unwrap_or(i64::MAX);
@@ -123,12 +131,14 @@ impl Timestamp {
 
     /// The Unix second, rounded down.
     #[must_use]
+    #[inline]
     pub const fn as_seconds(self) -> i64 {
         self.0.seconds
     }
 
     /// The milliseconds from 1970-01-01 0:00 UTC, rounded down.
     #[must_use]
+    #[inline]
     pub fn as_milliseconds(self) -> i64 {
         let mut count = 0;
         sure!(sys::muxandu_timestamp_to_milliseconds(self.0, &mut count));
@@ -137,18 +147,21 @@ impl Timestamp {
 
     /// The microseconds from 1970-01-01 0:00 UTC, rounded down.
     #[must_use]
+    #[inline]
     pub const fn as_microseconds(self) -> i128 {
-        self.as_nanoseconds().div_euclid(1_000)
+        self.0.seconds as i128 * 1_000_000 + (self.0.nanoseconds / 1_000) as i128
     }
 
     /// The nanoseconds from 1970-01-01 0:00 UTC.
     #[must_use]
+    #[inline]
     pub const fn as_nanoseconds(self) -> i128 {
         self.0.seconds as i128 * 1_000_000_000 + self.0.nanoseconds as i128
     }
 
     /// The nanosecond of the second, 0 to 999,999,999, before 1970 too.
     #[must_use]
+    #[inline]
     pub const fn nanosecond(self) -> u32 {
         self.0.nanoseconds
     }
@@ -160,6 +173,7 @@ impl Timestamp {
     /// They show a year outside the range.
     #[must_use]
     #[track_caller]
+    #[inline]
     pub fn to_offset(self, offset: UtcOffset) -> OffsetDateTime {
         self.checked_to_offset(offset)
             .expect("a year of the range at the offset")
@@ -167,6 +181,7 @@ impl Timestamp {
 
     /// What clocks at an offset show at the instant, if the range has it.
     #[must_use]
+    #[inline]
     pub fn checked_to_offset(self, offset: UtcOffset) -> Option<OffsetDateTime> {
         let mut out = OffsetDateTime::UNIX_EPOCH;
         let seconds = offset.whole_seconds();
@@ -176,6 +191,7 @@ impl Timestamp {
 
     /// What clocks in UTC show at the instant.
     #[must_use]
+    #[inline]
     pub fn to_utc(self) -> UtcDateTime {
         let mut out = UtcDateTime::UNIX_EPOCH;
         sure!(sys::muxandu_date_time_from_timestamp(self.0, 0, &mut out.0));
@@ -184,30 +200,35 @@ impl Timestamp {
 
     /// The date in UTC.
     #[must_use]
+    #[inline]
     pub fn date(self) -> Date {
         self.to_utc().date()
     }
 
     /// The time of day in UTC.
     #[must_use]
+    #[inline]
     pub fn time(self) -> Time {
         self.to_utc().time()
     }
 
     /// The same date in UTC at another time of day.
     #[must_use]
+    #[inline]
     pub fn replace_time(self, time: Time) -> Timestamp {
         self.to_utc().replace_time(time).into()
     }
 
     /// The same time of day in UTC on another date.
     #[must_use]
+    #[inline]
     pub fn replace_date(self, date: Date) -> Timestamp {
         self.to_utc().replace_date(date).into()
     }
 
     /// The instant rounded down to a unit in UTC.
     #[must_use]
+    #[inline]
     pub fn truncated_to(self, unit: Unit) -> Timestamp {
         let mut out = self;
         sure!(sys::muxandu_timestamp_truncate(
@@ -223,6 +244,7 @@ impl Timestamp {
     /// # Errors
     ///
     /// [`Refusal::NoText`] outside the years 0 to 9999.
+    #[inline]
     pub fn to_rfc3339(self) -> core::result::Result<Text, Refusal> {
         // SAFETY: the pointer and the room are those of one place, and nothing else reaches it.
         Text::written(|place, room, size| unsafe {
@@ -236,6 +258,7 @@ impl Timestamp {
     /// # Errors
     ///
     /// [`Refusal::NoText`] outside the years 0 to 9999.
+    #[inline]
     pub fn to_rfc3339_nanos(self) -> core::result::Result<Text, Refusal> {
         // SAFETY: the pointer and the room are those of one place, and nothing else reaches it.
         Text::written(|place, room, size| unsafe {
@@ -248,6 +271,7 @@ impl Timestamp {
     /// # Errors
     ///
     /// [`Refusal::Syntax`] for another form, else the first part from the left that is out of its range.
+    #[inline]
     pub fn from_rfc3339(text: impl AsRef<[u8]>) -> core::result::Result<Timestamp, Refusal> {
         let text = text.as_ref();
         let mut out = Timestamp::UNIX_EPOCH;
@@ -292,6 +316,7 @@ debug_as_display!(Timestamp);
 impl Sub for Timestamp {
     type Output = SignedDuration;
 
+    #[inline]
     fn sub(self, earlier: Timestamp) -> SignedDuration {
         let mut out = MuxanduDuration::default();
         sure!(sys::muxandu_timestamp_difference(
@@ -302,24 +327,28 @@ impl Sub for Timestamp {
 }
 
 impl Timestamp {
+    #[inline]
     const fn parts(self) -> (i64, u32) {
         (self.0.seconds, self.0.nanoseconds)
     }
 }
 
 impl Ord for Timestamp {
+    #[inline]
     fn cmp(&self, other: &Timestamp) -> Ordering {
         self.parts().cmp(&other.parts())
     }
 }
 
 impl PartialOrd for Timestamp {
+    #[inline]
     fn partial_cmp(&self, other: &Timestamp) -> Option<Ordering> {
         Some(self.cmp(other))
     }
 }
 
 impl PartialEq for Timestamp {
+    #[inline]
     fn eq(&self, other: &Timestamp) -> bool {
         self.parts() == other.parts()
     }
@@ -328,6 +357,7 @@ impl PartialEq for Timestamp {
 impl Eq for Timestamp {}
 
 impl Hash for Timestamp {
+    #[inline]
     fn hash<H: Hasher>(&self, state: &mut H) {
         self.parts().hash(state);
     }

@@ -26,6 +26,7 @@ pub enum Unit {
 
 impl Unit {
     /// The number of the unit in the library.
+    #[inline]
     pub(crate) fn number(self) -> u32 {
         match self {
             Unit::Day => sys::UNIT_DAY,

@@ -37,6 +37,7 @@ impl UtcDateTime {
 
     /// The instant at which clocks in UTC show a date and a time of day.
     #[must_use]
+    #[inline]
     pub const fn new(date: Date, time: Time) -> UtcDateTime {
         PlainDateTime::new(date, time).as_utc()
     }
@@ -46,6 +47,7 @@ impl UtcDateTime {
     /// # Errors
     ///
     /// `timestamp` outside the range.
+    #[inline]
     pub fn from_unix_timestamp(timestamp: i64) -> Result<UtcDateTime> {
         let at = MuxanduTimestamp {
             seconds: timestamp,
@@ -61,18 +63,21 @@ impl UtcDateTime {
     /// # Errors
     ///
     /// `timestamp` outside the range.
+    #[inline]
     pub fn from_unix_timestamp_nanos(timestamp: i128) -> Result<UtcDateTime> {
         Ok(Timestamp::from_nanoseconds(timestamp)?.to_utc())
     }
 
     /// The Unix second, rounded down.
     #[must_use]
+    #[inline]
     pub fn unix_timestamp(self) -> i64 {
         Timestamp::from(self).as_seconds()
     }
 
     /// The nanoseconds from 1970-01-01 0:00.
     #[must_use]
+    #[inline]
     pub fn unix_timestamp_nanos(self) -> i128 {
         Timestamp::from(self).as_nanoseconds()
     }
@@ -84,60 +89,71 @@ impl UtcDateTime {
     /// They show a year outside the range.
     #[must_use]
     #[track_caller]
+    #[inline]
     pub fn to_offset(self, offset: UtcOffset) -> OffsetDateTime {
         self.at_offset_0().to_offset(offset)
     }
 
     /// What clocks at an offset show at the instant, if the range has it.
     #[must_use]
+    #[inline]
     pub fn checked_to_offset(self, offset: UtcOffset) -> Option<OffsetDateTime> {
         self.at_offset_0().checked_to_offset(offset)
     }
 
+    #[inline]
     pub(crate) const fn at_offset_0(self) -> OffsetDateTime {
         OffsetDateTime(self.0)
     }
 
+    #[inline]
     pub(crate) const fn as_plain(self) -> PlainDateTime {
         PlainDateTime(self.0)
     }
 
     /// The date.
     #[must_use]
+    #[inline]
     pub const fn date(self) -> Date {
         self.as_plain().date()
     }
 
     /// The time of day.
     #[must_use]
+    #[inline]
     pub const fn time(self) -> Time {
         self.as_plain().time()
     }
 
     /// The nanosecond of the second, 0 to 999,999,999.
     #[must_use]
+    #[inline]
     pub const fn nanosecond(self) -> u32 {
         self.0.nanosecond
     }
 
     /// The same date at another time of day.
     #[must_use]
+    #[inline]
     pub const fn replace_time(self, time: Time) -> UtcDateTime {
         self.as_plain().replace_time(time).as_utc()
     }
 
     /// The same time of day on another date.
     #[must_use]
+    #[inline]
     pub const fn replace_date(self, date: Date) -> UtcDateTime {
         self.as_plain().replace_date(date).as_utc()
     }
 
+    #[inline]
     fn truncated_to(self, unit: Unit) -> UtcDateTime {
         self.as_plain().truncated_to(unit).as_utc()
     }
 
     /// 0:00 on the same date.
     #[must_use]
+    #[inline]
     pub const fn truncate_to_day(self) -> UtcDateTime {
         self.as_plain().truncate_to_day().as_utc()
     }
@@ -147,6 +163,7 @@ impl UtcDateTime {
     /// # Errors
     ///
     /// [`Refusal::NoText`] outside the years 0 to 9999.
+    #[inline]
     pub fn to_rfc3339(self) -> core::result::Result<Text, Refusal> {
         self.at_offset_0().to_rfc3339()
     }
@@ -179,24 +196,28 @@ debug_as_display!(UtcDateTime);
 impl Sub for UtcDateTime {
     type Output = SignedDuration;
 
+    #[inline]
     fn sub(self, earlier: UtcDateTime) -> SignedDuration {
         self.as_plain() - earlier.as_plain()
     }
 }
 
 impl Ord for UtcDateTime {
+    #[inline]
     fn cmp(&self, other: &UtcDateTime) -> Ordering {
         self.as_plain().cmp(&other.as_plain())
     }
 }
 
 impl PartialOrd for UtcDateTime {
+    #[inline]
     fn partial_cmp(&self, other: &UtcDateTime) -> Option<Ordering> {
         Some(self.cmp(other))
     }
 }
 
 impl PartialEq for UtcDateTime {
+    #[inline]
     fn eq(&self, other: &UtcDateTime) -> bool {
         self.0 == other.0
     }
@@ -205,6 +226,7 @@ impl PartialEq for UtcDateTime {
 impl Eq for UtcDateTime {}
 
 impl Hash for UtcDateTime {
+    #[inline]
     fn hash<H: Hasher>(&self, state: &mut H) {
         self.as_plain().hash(state);
     }

@@ -2,6 +2,7 @@ use core::fmt;
 use core::ops::Neg;
 use core::str::FromStr;
 
+use crate::error::ComponentRange;
 use crate::sys::{self, MuxanduOffset};
 use crate::{Date, Refusal, Result, spelled};
 
@@ -27,10 +28,12 @@ impl UtcOffset {
     pub const UTC: UtcOffset = UtcOffset::of(0);
 
     /// Seconds that are known to make an offset.
+    #[inline]
     pub(crate) const fn of(seconds: i32) -> UtcOffset {
         UtcOffset { seconds }
     }
 
+    #[inline]
     pub(crate) fn tested(parts: MuxanduOffset) -> core::result::Result<UtcOffset, Refusal> {
         let mut seconds = 0;
         Refusal::test(sys::muxandu_offset_from_parts(parts, &mut seconds))?;
@@ -43,6 +46,7 @@ impl UtcOffset {
     /// # Errors
     ///
     /// `hours` that are not -25 to 25, `minutes` or `seconds` that are not -59 to 59.
+    #[inline]
     pub fn from_hms(hours: i8, minutes: i8, seconds: i8) -> Result<UtcOffset> {
         Ok(UtcOffset::tested(MuxanduOffset {
             hours,
@@ -56,71 +60,78 @@ impl UtcOffset {
     /// # Errors
     ///
     /// `seconds` that are not -93,599 to 93,599.
-    pub fn from_whole_seconds(seconds: i32) -> Result<UtcOffset> {
-        Refusal::test(sys::muxandu_offset_to_parts(
-            seconds,
-            &mut MuxanduOffset::default(),
-        ))?;
-        Ok(UtcOffset { seconds })
-    }
-
-    fn parts(self) -> MuxanduOffset {
-        let mut out = MuxanduOffset::default();
-        sure!(sys::muxandu_offset_to_parts(self.seconds, &mut out));
-        out
+    #[inline]
+    pub const fn from_whole_seconds(seconds: i32) -> Result<UtcOffset> {
+        if seconds < sys::OFFSET_MIN || seconds > sys::OFFSET_MAX {
+            return Err(ComponentRange::new("seconds", false));
+        }
+        Ok(UtcOffset::of(seconds))
     }
 
     /// The hours, the minutes and the seconds, all of one sign.
     #[must_use]
-    pub fn as_hms(self) -> (i8, i8, i8) {
-        let parts = self.parts();
-        (parts.hours, parts.minutes, parts.seconds)
+    #[inline]
+    pub const fn as_hms(self) -> (i8, i8, i8) {
+        let minutes = self.seconds / 60;
+        (
+            (minutes / 60) as i8,
+            (minutes % 60) as i8,
+            (self.seconds - minutes * 60) as i8,
+        )
     }
 
     /// The whole hours, towards zero.
     #[must_use]
-    pub fn whole_hours(self) -> i8 {
-        self.parts().hours
+    #[inline]
+    pub const fn whole_hours(self) -> i8 {
+        (self.seconds / 3_600) as i8
     }
 
     /// The whole minutes, towards zero.
     #[must_use]
+    #[inline]
     pub const fn whole_minutes(self) -> i16 {
         (self.seconds / 60) as i16
     }
 
     /// The minutes past the whole hour.
     #[must_use]
-    pub fn minutes_past_hour(self) -> i8 {
-        self.parts().minutes
+    #[inline]
+    pub const fn minutes_past_hour(self) -> i8 {
+        (self.seconds / 60 % 60) as i8
     }
 
     /// The offset in seconds.
     #[must_use]
+    #[inline]
     pub const fn whole_seconds(self) -> i32 {
         self.seconds
     }
 
     /// The seconds past the whole minute.
     #[must_use]
-    pub fn seconds_past_minute(self) -> i8 {
-        self.parts().seconds
+    #[inline]
+    pub const fn seconds_past_minute(self) -> i8 {
+        (self.seconds % 60) as i8
     }
 
     /// Whether it is UTC itself.
     #[must_use]
+    #[inline]
     pub const fn is_utc(self) -> bool {
         self.seconds == 0
     }
 
     /// Whether clocks show more than in UTC.
     #[must_use]
+    #[inline]
     pub const fn is_positive(self) -> bool {
         self.seconds > 0
     }
 
     /// Whether clocks show less than in UTC.
     #[must_use]
+    #[inline]
     pub const fn is_negative(self) -> bool {
         self.seconds < 0
     }
@@ -131,6 +142,7 @@ debug_as_display!(UtcOffset);
 impl Neg for UtcOffset {
     type Output = UtcOffset;
 
+    #[inline]
     fn neg(self) -> UtcOffset {
         UtcOffset::of(-self.seconds)
     }
@@ -154,5 +166,36 @@ impl FromStr for UtcOffset {
             text,
             crate::literal::offset(text).map(|literal| literal.tested()),
         )
+    }
+}
+
+#[cfg(test)]
+mod tests {
+    use super::{UtcOffset, sys};
+
+    #[test]
+    fn the_parts_of_each_offset_are_those_of_the_library() {
+        for seconds in sys::OFFSET_MIN - 2..=sys::OFFSET_MAX + 2 {
+            let mut parts = sys::MuxanduOffset::default();
+            let status = sys::muxandu_offset_to_parts(seconds, &mut parts);
+            let offset = UtcOffset::from_whole_seconds(seconds);
+            assert_eq!(offset.is_ok(), status == sys::OK, "{seconds}");
+            let Ok(offset) = offset else {
+                assert_eq!(status, sys::REFUSED_OFFSET_SECONDS);
+                continue;
+            };
+            let (hours, minutes, seconds) = offset.as_hms();
+            assert_eq!(
+                (offset.whole_hours(), offset.minutes_past_hour()),
+                (hours, minutes)
+            );
+            assert_eq!(offset.seconds_past_minute(), seconds);
+            let here = sys::MuxanduOffset {
+                hours,
+                minutes,
+                seconds,
+            };
+            assert_eq!(here, parts);
+        }
     }
 }

@@ -37,54 +37,63 @@ impl Weekday {
     ];
 
     /// The day of a number that the library gives, 0 to 6.
+    #[inline]
     pub(crate) const fn numbered(number: u8) -> Weekday {
         Weekday::ALL[number as usize]
     }
 
     /// The day before, Sunday before Monday.
     #[must_use]
+    #[inline]
     pub const fn previous(self) -> Weekday {
         self.nth_prev(1)
     }
 
     /// The day after, Monday after Sunday.
     #[must_use]
+    #[inline]
     pub const fn next(self) -> Weekday {
         self.nth_next(1)
     }
 
     /// The day so many days later.
     #[must_use]
+    #[inline]
     pub const fn nth_next(self, n: u8) -> Weekday {
         Weekday::ALL[(self as usize + n as usize) % 7]
     }
 
     /// The day so many days earlier.
     #[must_use]
+    #[inline]
     pub const fn nth_prev(self, n: u8) -> Weekday {
         Weekday::ALL[(self as usize + 7 - (n % 7) as usize) % 7]
     }
 
     /// 1 for Monday to 7 for Sunday.
     #[must_use]
+    #[inline]
     pub const fn number_from_monday(self) -> u8 {
         self.number_days_from_monday() + 1
     }
 
     /// 1 for Sunday to 7 for Saturday.
     #[must_use]
+    #[inline]
     pub const fn number_from_sunday(self) -> u8 {
         self.number_days_from_sunday() + 1
     }
 
     /// 0 for Monday to 6 for Sunday.
     #[must_use]
+    #[inline]
     pub const fn number_days_from_monday(self) -> u8 {
         self as u8
     }
 
     /// 0 for Sunday to 6 for Saturday.
     #[must_use]
+    #[inline]
     pub const fn number_days_from_sunday(self) -> u8 {
         self.next() as u8
     }

@@ -70,6 +70,33 @@ fn the_first_refused_stops() {
 }
 
 #[test]
+fn many_dates() {
+    let mut days: Vec<i32> = (-500..500).collect();
+    let mut dates = vec![Date::MAX; 1_001];
+    assert_eq!(dates_from_days(&days, &mut dates), Ok(()));
+    assert!(
+        days.iter()
+            .zip(&dates)
+            .all(|(day, date)| date.day_number() == *day)
+    );
+    assert_eq!(dates[1_000], Date::MAX);
+    let mut back = vec![7; 1_001];
+    assert_eq!(days_from_dates(&dates[..1_000], &mut back), Ok(()));
+    assert_eq!((&back[..1_000], back[1_000]), (&days[..], 7));
+    days[777] = i32::MAX;
+    dates.fill(Date::MIN);
+    assert_eq!(
+        dates_from_days(&days, &mut dates),
+        stopped(777, Refusal::DayNumber)
+    );
+    assert_eq!((dates[776].day_number(), dates[777]), (276, Date::MIN));
+    assert_eq!(
+        days_from_dates(&dates, &mut back[..1_000]),
+        stopped(0, Refusal::Buffer)
+    );
+}
+
+#[test]
 fn short_places_take_nothing() {
     let mut date_times = [OffsetDateTime::default(); 1];
     assert_eq!(

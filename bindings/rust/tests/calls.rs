@@ -331,6 +331,14 @@ fn clocks_of_the_machine() {
     assert_eq!(datetime!(1970-01-01 0:00 UTC) - time, 500.milliseconds());
     assert!(OffsetDateTime::now_utc() > time && UtcDateTime::now() > Timestamp::from(time));
     assert_eq!(time, timestamp!(-0.5));
+    let mut moved = time + (-1.5).seconds();
+    assert_eq!(moved, timestamp!(-2));
+    moved -= 1.days();
+    moved += 1.hours();
+    assert_eq!(moved, timestamp!(-82_802));
+    assert_eq!(moved - (-82_802).seconds(), SystemTime::UNIX_EPOCH);
+    let began = std::time::Instant::now();
+    assert_eq!(began + 1.seconds() - 1.seconds(), began);
 }
 
 /// `x.to_string().parse()` gives x.
@@ -487,6 +495,16 @@ fn durations() {
     assert_eq!(2 * duration, duration + duration);
     assert_eq!((-1.5).seconds().subsec_milliseconds(), -500);
     assert_eq!(
+        SignedDuration::seconds_f64(123_456_789.125),
+        SignedDuration::new(123_456_789, 125_000_000)
+    );
+    assert!(std::panic::catch_unwind(|| SignedDuration::seconds_f64(f64::NAN)).is_err());
+    assert!(std::panic::catch_unwind(|| SignedDuration::seconds_f64(1e19)).is_err());
+    assert_eq!(
+        SignedDuration::seconds_f64(-(2_f64.powi(63))).whole_seconds(),
+        i64::MIN
+    );
+    assert_eq!(
         (1.5 * 1.hours(), 1.hours() / 4_u8),
         (90.minutes(), 15.minutes())
     );
@@ -507,6 +525,20 @@ fn durations() {
         Err(muxandu::error::ConversionRange)
     );
     assert_eq!(StdDuration::try_from(1.hours()), Ok(1.std_hours()));
+    assert_eq!(1.std_hours() + (-2).hours(), (-1).hours());
+    assert_eq!(1.std_hours() - 2.hours(), (-1).hours());
+    let mut length = 1.std_hours();
+    length += (-30).minutes();
+    length -= (-1).minutes();
+    assert_eq!(length, 31.minutes());
+    let mut signed = 3.hours();
+    signed *= -2;
+    signed /= 0.5;
+    assert_eq!(signed, (-12).hours());
+    assert_eq!(
+        (1.hours() / 2.std_hours(), 1.std_hours() / (-2).hours()),
+        (0.5, -0.5)
+    );
     assert!(StdDuration::try_from((-1).nanoseconds()).is_err());
     assert_eq!(
         [1.hours(), 30.minutes()].iter().sum::<SignedDuration>(),
