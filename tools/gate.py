@@ -22,6 +22,9 @@ BESIDE, PROVED, UNPROVED = "beside", "proved", "unproved"
 # The library for C in that folder, once it is proved and built.
 ARCHIVE = "libmuxandu_c.a"
 
+# What `rt ci` has printed so far, in that folder.
+CI_LOG = "rt.log"
+
 # The compilers that build a program, by the names that `rt` has for them.
 COMPILERS = ("llvm", "rattle")
 
@@ -136,7 +139,8 @@ def build(folder, crate):
         sys.exit("the copy of the repository is not proved and built")
     place = os.path.join(copy, "crates", crate)
     shutil.copy(os.path.join(place, "out", crate), program(folder, "llvm", crate))
-    run = rt(["run", "--backend", "rattle"], place)
+    words = STARTERS[crate][1:]
+    run = rt(["run", "--backend", "rattle", *(["--", *words] if words else [])], place)
     if run.returncode != 0:
         sys.exit(f"Rattle's own compiler does not build {crate}:\n{run.stdout[-SHOWN:]}")
     shutil.copy(os.path.join(place, "out", crate), program(folder, "rattle", crate))
@@ -148,6 +152,11 @@ def own_folder():
     signal.signal(signal.SIGTERM, lambda *_: sys.exit("asked to end"))
     with tempfile.TemporaryDirectory(prefix="gate-") as folder:
         yield folder
+
+
+def proof_of(crate):
+    """The file that tools/proved_copy leaves in the folder that the steps share, once that crate is proved."""
+    return f"{PROVED}_{crate}"
 
 
 def wait_for(folder, name):
@@ -181,13 +190,13 @@ def is_test(crate):
     return crate.endswith("_tests")
 
 
-def prove(root, crate):
-    """Proves a crate of that repository, unless it is one of tests, and keeps what the check keeps; a library is built too.
-    Ends the step where it is not proved."""
+def prove(root, crate, is_built=False):
+    """Proves a crate of that repository, unless it is one of tests, and keeps what the check keeps; a library is built too,
+    unless it is built elsewhere. Ends the step where it is not proved."""
     if is_test(crate):
         return
     folder = os.path.join(root, "crates", crate)
-    is_library = crate != "uses" and not os.path.exists(os.path.join(folder, "src", "main.rt"))
+    is_library = crate != "uses" and not is_built and not os.path.exists(os.path.join(folder, "src", "main.rt"))
     # a library that was built by its statements alone has kept nothing
     for word in ("lib", "check") if is_library else ("check",):
         if word == "check" and is_library and os.path.exists(os.path.join(folder, "out", "incremental")):

@@ -63,16 +63,23 @@ def is_public_module(path, files):
     return True
 
 
-def doc_above(lines, number):
-    """The doc comment that ends above a line, as one text; attributes may stand between."""
-    found = []
+def above(lines, number):
+    """The lines of the doc comment that ends above a line, and the attributes that stand there too."""
+    doc, attributes = [], []
     for line in reversed(lines[:number]):
         text = line.strip()
         if text.startswith("///"):
-            found.append(text[3:].strip())
-        elif not text.startswith("#["):
+            doc.insert(0, text[3:].strip())
+        elif text.startswith("#["):
+            attributes.insert(0, text)
+        else:
             break
-    return "\n".join(reversed(found))
+    return doc, attributes
+
+
+def doc_above(lines, number):
+    """The doc comment that ends above a line, as one text; attributes may stand between."""
+    return "\n".join(above(lines, number)[0])
 
 
 def head_from(lines, number):

@@ -231,6 +231,8 @@ pub fn answers(input: &Input, out: &mut Answers) {
         WEEKDAYS[usize::from(input.weekday)].next(),
         WEEKDAYS[usize::from(input.weekday)].previous(),
         WEEKDAYS[usize::from(input.weekday)].number_from_sunday(),
+        WEEKDAYS[usize::from(input.weekday)].number_from_monday(),
+        WEEKDAYS[usize::from(input.weekday)].number_days_from_sunday(),
         OffsetDateTime::from_unix_timestamp(input.second),
     );
     // 0.3.9 has no offset of 24 hours and more.
@@ -258,6 +260,19 @@ pub fn answers(input: &Input, out: &mut Answers) {
         // 0.3.9 divides seconds and nanoseconds apart, and loses a nanosecond where both leave a rest.
         Duration::seconds(input.seconds).checked_div(input.offset_seconds),
         -duration,
+        duration.is_zero(),
+        duration.is_positive(),
+        duration.saturating_add(Duration::seconds(input.second)),
+        duration.saturating_sub(Duration::seconds(input.second)),
+        duration.saturating_mul(input.offset_seconds),
+        duration.subsec_nanoseconds(),
+        duration.as_seconds_f64().to_bits() as i64,
+        Duration::seconds_f64(input.second as f64 / f64::from(input.offset_seconds | 1)),
+        Duration::seconds(input.second) * (f64::from(input.nanoseconds) / 1e9),
+        duration / f64::from(input.offset_seconds | 1),
+        duration < Duration::seconds(input.seconds),
+        std::time::Duration::try_from(duration).map(|duration| duration.as_nanos() as i128).ok(),
+        duration == std::time::Duration::new(input.seconds.unsigned_abs(), input.nanoseconds.unsigned_abs()),
     );
     let (Ok(date), Ok(time)) = (
         Date::from_julian_day(input.julian_day),
@@ -267,11 +282,29 @@ pub fn answers(input: &Input, out: &mut Answers) {
     };
     put_date_reads!(out, date);
     put!(out, date.next_day(), date.previous_day());
+    put!(
+        out,
+        date.midnight(),
+        date.with_time(time),
+        date.with_hms(hour, minute, second),
+        date.with_hms_milli(hour, minute, second, input.small as u16),
+        date.with_hms_micro(hour, minute, second, input.small),
+        date.with_hms_nano(hour, minute, second, input.nanosecond),
+    );
+    let std_duration = std::time::Duration::new(input.seconds.unsigned_abs() % 1_000_000_000, input.small % 1_000_000_000);
+    put!(out, time + std_duration, time - std_duration);
+    // Away from the ends of the range, where 0.3.9 does not hold all that clocks at an offset show.
+    let other = Date::from_ordinal_date(input.year.clamp(-999_000, 999_000), 1).unwrap();
+    let inner = date.year().abs() < 999_900;
+    put!(out, date - other, other - date, date < other, date == other, other + std_duration, other - std_duration);
     put_sums!(out, date, duration);
     put_date_replacements!(out, date, input);
     put_display(&date, out);
     put_time_reads!(out, time);
     put!(out, time.as_hms(), time.as_hms_milli(), time.as_hms_micro(), time + duration, time - duration);
+    let second_time = Time::from_hms_nano(second % 24, hour % 60, minute % 60, input.small % 1_000_000_000).unwrap();
+    // 0.3.9 gives seconds and nanoseconds of two signs.
+    put!(out, (time - second_time).whole_nanoseconds(), (second_time - time).whole_nanoseconds(), time < second_time);
     put_time_replacements!(out, time, input);
     put_display(&time, out);
 
@@ -283,6 +316,16 @@ pub fn answers(input: &Input, out: &mut Answers) {
     put_time_replacements!(out, plain, input);
     put!(out, plain.replace_time(Time::MIDNIGHT), plain.replace_date(Date::MAX));
     put_display(&plain, out);
+    let midnight = other.midnight();
+    put!(out, plain - midnight, midnight - plain, plain < midnight, plain == midnight);
+    put!(out, midnight + std_duration, midnight - std_duration, plain.assume_utc());
+    if inner {
+        let offset = UtcOffset::from_whole_seconds(input.offset_seconds).unwrap();
+        let shown = plain.assume_offset(offset);
+        put!(out, shown, shown.unix_timestamp_nanos(), shown - midnight.assume_utc(), shown < midnight.assume_utc());
+        put!(out, shown + std_duration, shown - std_duration, shown.replace_date_time(midnight), shown.replace_date(other));
+        put!(out, shown == plain.assume_utc(), shown.to_offset(UtcOffset::UTC), shown.date(), shown.time(), shown.offset());
+    }
 
     // 0.3.9 keeps the date-time in UTC, so what clocks at an offset show at the ends of the range is not compared.
     let Ok(at) = OffsetDateTime::from_unix_timestamp(input.second) else { return };
@@ -306,6 +349,8 @@ pub fn answers(input: &Input, out: &mut Answers) {
         offset.minutes_past_hour(),
         offset.seconds_past_minute(),
         offset.is_negative(),
+        offset.is_utc(),
+        (-offset).whole_seconds(),
     );
     put_date_reads!(out, shown);
     put_time_reads!(out, shown);
@@ -383,29 +428,72 @@ loops! {
     "`year`": data, at, date of dates => date.year();
     "`to_calendar_date`": data, at, date of dates => date.to_calendar_date();
     "`ordinal`": data, at, date of dates => date.ordinal();
+    "`to_ordinal_date`": data, at, date of dates => date.to_ordinal_date();
     "`weekday`": data, at, date of dates => date.weekday();
     "`to_iso_week_date`": data, at, date of dates => date.to_iso_week_date();
+    "`iso_week`": data, at, date of dates => date.iso_week();
     "`sunday_based_week`": data, at, date of dates => date.sunday_based_week();
+    "`monday_based_week`": data, at, date of dates => date.monday_based_week();
     "`to_julian_day`": data, at, date of dates => date.to_julian_day();
     "`next_day`": data, at, date of dates => date.next_day();
+    "`previous_day`": data, at, date of dates => date.previous_day();
     "`Date::checked_add`": data, at, date of dates, duration of durations => date.checked_add(*duration);
+    "`Date::checked_sub`": data, at, date of dates, duration of durations => date.checked_sub(*duration);
+    "`Date::saturating_add`": data, at, date of dates, duration of durations => date.saturating_add(*duration);
+    "`Date::saturating_sub`": data, at, date of dates, duration of durations => date.saturating_sub(*duration);
     "`Date - Date`": data, at, date of dates => *date - data.dates[after(at)];
     "`Date < Date`": data, at, date of dates => *date < data.dates[after(at)];
     "`Date::replace_year`": data, at, date of dates => date.replace_year(2024);
+    "`Date::replace_month`": data, at, date of dates => date.replace_month(Month::March);
+    "`Date::replace_day`": data, at, date of dates => date.replace_day(28);
+    "`Date::with_time`": data, at, date of dates, time of times => date.with_time(*time);
+    "`Date::with_hms`": data, at, date of dates, input of inputs => date.with_hms(input.clock.0, input.clock.1, input.clock.2);
     "`Date` written": data, at, date of dates => date.to_string();
     "`Time::from_hms_nano`": data, at, input of inputs => Time::from_hms_nano(input.clock.0, input.clock.1, input.clock.2, input.nanosecond);
+    "`Time::from_hms`": data, at, input of inputs => Time::from_hms(input.clock.0, input.clock.1, input.clock.2);
+    "`Time::from_hms_milli`": data, at, input of inputs => Time::from_hms_milli(input.clock.0, input.clock.1, input.clock.2, input.small as u16);
+    "`Time::from_hms_micro`": data, at, input of inputs => Time::from_hms_micro(input.clock.0, input.clock.1, input.clock.2, input.small);
     "`Time::as_hms_nano`": data, at, time of times => time.as_hms_nano();
+    "`Time::as_hms_milli`": data, at, time of times => time.as_hms_milli();
+    "`Time < Time`": data, at, time of times => *time < data.times[after(at)];
+    "`Time::replace_hour`": data, at, time of times => time.replace_hour(12);
+    "`Time::replace_millisecond`": data, at, time of times => time.replace_millisecond(7);
     "`Time + Duration`": data, at, time of times, duration of durations => *time + *duration;
+    "`Time - Duration`": data, at, time of times, duration of durations => *time - *duration;
     "`Time - Time`": data, at, time of times => *time - data.times[after(at)];
     "`Time` written": data, at, time of times => time.to_string();
     "`UtcOffset::from_hms`": data, at, input of inputs => UtcOffset::from_hms(input.offset.0, input.offset.1, input.offset.2);
     "`UtcOffset::from_whole_seconds`": data, at, input of inputs => UtcOffset::from_whole_seconds(input.offset_seconds);
     "`UtcOffset::as_hms`": data, at, offset of offsets => offset.as_hms();
+    "`UtcOffset::whole_hours`": data, at, offset of offsets => offset.whole_hours();
+    "`UtcOffset` written": data, at, offset of offsets => offset.to_string();
+    "`Duration::new`": data, at, input of inputs => Duration::new(input.seconds, input.nanoseconds);
+    "`Duration + Duration`": data, at, duration of durations => *duration + data.durations[after(at)];
+    "`Duration::checked_sub`": data, at, duration of durations => duration.checked_sub(data.durations[after(at)]);
+    "`Duration * i32`": data, at, duration of durations => *duration * 7;
+    "`Duration / i32`": data, at, duration of durations => *duration / 7;
+    "`whole_days`": data, at, duration of durations => duration.whole_days();
+    "`whole_milliseconds`": data, at, duration of durations => duration.whole_milliseconds();
+    "`Duration < Duration`": data, at, duration of durations => *duration < data.durations[after(at)];
+    "`PlainDateTime::new`": data, at, date of dates, time of times => PrimitiveDateTime::new(*date, *time);
+    "`PlainDateTime`: `date`, `time`": data, at, plain of plain => (plain.date(), plain.time());
+    "`PlainDateTime::ordinal`": data, at, plain of plain => plain.ordinal();
+    "`PlainDateTime::weekday`": data, at, plain of plain => plain.weekday();
+    "`PlainDateTime::to_iso_week_date`": data, at, plain of plain => plain.to_iso_week_date();
+    "`PlainDateTime::to_julian_day`": data, at, plain of plain => plain.to_julian_day();
+    "`PlainDateTime::assume_offset`": data, at, plain of plain, offset of offsets => plain.assume_offset(*offset);
+    "`PlainDateTime::assume_utc`": data, at, plain of plain => plain.assume_utc();
     "`PlainDateTime::checked_add`": data, at, plain of plain, duration of durations => plain.checked_add(*duration);
+    "`PlainDateTime::checked_sub`": data, at, plain of plain, duration of durations => plain.checked_sub(*duration);
+    "`PlainDateTime::saturating_add`": data, at, plain of plain, duration of durations => plain.saturating_add(*duration);
     "`PlainDateTime::saturating_sub`": data, at, plain of plain, duration of durations => plain.saturating_sub(*duration);
     "`PlainDateTime - PlainDateTime`": data, at, plain of plain => *plain - data.plain[after(at)];
     "`PlainDateTime < PlainDateTime`": data, at, plain of plain => *plain < data.plain[after(at)];
     "`PlainDateTime::replace_hour`": data, at, plain of plain => plain.replace_hour(12);
+    "`PlainDateTime::replace_year`": data, at, plain of plain => plain.replace_year(2024);
+    "`PlainDateTime::replace_day`": data, at, plain of plain => plain.replace_day(28);
+    "`PlainDateTime::replace_nanosecond`": data, at, plain of plain => plain.replace_nanosecond(7);
+    "`PlainDateTime`: `replace_date`, `replace_time`": data, at, plain of plain, date of dates, time of times => plain.replace_date(*date).replace_time(*time);
     "`PlainDateTime` written": data, at, plain of plain => plain.to_string();
     "`OffsetDateTime::from_unix_timestamp`": data, at, input of inputs => OffsetDateTime::from_unix_timestamp(input.second);
     "`from_unix_timestamp_nanos`": data, at, input of inputs => OffsetDateTime::from_unix_timestamp_nanos(i128::from(input.second) * 1_000_000_000 + 7);
@@ -414,11 +502,24 @@ loops! {
     "`to_offset`": data, at, shown of shown, offset of offsets => shown.to_offset(*offset);
     "`to_offset(UTC)`": data, at, shown of shown => shown.to_offset(UtcOffset::UTC);
     "`OffsetDateTime`: `to_calendar_date`, `to_hms`": data, at, shown of shown => (shown.to_calendar_date(), shown.to_hms());
+    "`OffsetDateTime::hour`": data, at, shown of shown => shown.hour();
+    "`OffsetDateTime::nanosecond`": data, at, shown of shown => shown.nanosecond();
+    "`OffsetDateTime::offset`": data, at, shown of shown => shown.offset();
+    "`OffsetDateTime`: `date`, `time`": data, at, shown of shown => (shown.date(), shown.time());
+    "`OffsetDateTime::ordinal`": data, at, shown of shown => shown.ordinal();
+    "`OffsetDateTime::iso_week`": data, at, shown of shown => shown.iso_week();
+    "`OffsetDateTime::to_julian_day`": data, at, shown of shown => shown.to_julian_day();
     "`OffsetDateTime::weekday`": data, at, shown of shown => shown.weekday();
     "`OffsetDateTime::checked_add`": data, at, shown of shown, duration of durations => shown.checked_add(*duration);
+    "`OffsetDateTime::checked_sub`": data, at, shown of shown, duration of durations => shown.checked_sub(*duration);
+    "`OffsetDateTime::saturating_add`": data, at, shown of shown, duration of durations => shown.saturating_add(*duration);
     "`OffsetDateTime - OffsetDateTime`": data, at, shown of shown => *shown - data.shown[after(at)];
     "`OffsetDateTime < OffsetDateTime`": data, at, shown of shown => *shown < data.shown[after(at)];
     "`OffsetDateTime == OffsetDateTime`": data, at, shown of shown => *shown == data.shown[after(at)];
     "`OffsetDateTime::replace_year`": data, at, shown of shown => shown.replace_year(2024);
+    "`OffsetDateTime::replace_hour`": data, at, shown of shown => shown.replace_hour(12);
+    "`OffsetDateTime::replace_time`": data, at, shown of shown, time of times => shown.replace_time(*time);
+    "`OffsetDateTime::replace_date`": data, at, shown of shown, date of dates => shown.replace_date(*date);
+    "`OffsetDateTime::replace_offset`": data, at, shown of shown, offset of offsets => shown.replace_offset(*offset);
     "`OffsetDateTime` written": data, at, shown of shown => shown.to_string();
 }

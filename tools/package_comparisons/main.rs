@@ -56,18 +56,20 @@ fn least(best: &mut f64, items: usize, run: impl FnOnce() -> u64) {
     *best = best.min(began.elapsed().as_nanos() as f64 / items as f64);
 }
 
+/// Each round goes through all calls, so that the least times of each are of the whole run.
 fn measure(rounds: u64) {
     let mut source = Source::new(1);
     let inputs: Vec<Input> = (0..4_096).map(|_| source.plain_input()).collect();
     let (ours, theirs) = (ours::Data::new(&inputs), theirs::Data::new(&inputs));
-    for (place, (name, mine)) in ours::LOOPS.iter().enumerate() {
-        let other = theirs::LOOPS[place].1;
-        let (mut one, mut two) = (f64::MAX, f64::MAX);
-        for _ in 0..rounds {
-            least(&mut one, inputs.len(), || mine(&ours));
-            least(&mut two, inputs.len(), || other(&theirs));
+    let mut best = vec![(f64::MAX, f64::MAX); ours::LOOPS.len()];
+    for _ in 0..rounds {
+        for (place, (one, other)) in best.iter_mut().enumerate() {
+            least(one, inputs.len(), || ours::LOOPS[place].1(&ours));
+            least(other, inputs.len(), || theirs::LOOPS[place].1(&theirs));
         }
-        println!("{name}|{one:.2}|{two:.2}");
+    }
+    for ((name, _), (one, other)) in ours::LOOPS.iter().zip(best) {
+        println!("{name}|{one:.2}|{other:.2}");
     }
 }
 

@@ -84,7 +84,7 @@ function shownByFields(typed) {
     const refused = document.getElementById("refused");
     if (refused.hidden !== (wrong.length === 0) || document.getElementById("times").hidden === refused.hidden) return "neither";
     if (refused.hidden && document.querySelectorAll("svg line").length < 2) return "no picture";
-    return [...wrong.map((field) => `${field.id} ${refused.firstChild.textContent}`), ...rows].join("|");
+    return [...wrong.map((field) => `${field.id} ${refused.querySelector("b").textContent}`), ...rows].join("|");
 }
 
 /** The same by the functions alone. */
@@ -104,24 +104,52 @@ for (const [typed, wanted] of ROWS) {
     count(shown === wanted ? null : `${typed}: ${shown}, and not ${wanted}`);
 }
 
-// A link holds what was typed, and the fields have it again; each example shows something.
+const LINKS = [
+    ["2024-02-29T00:00:00.5+02:00", "+05:45", "0"],
+    ["2024-02-29 00:00:00z", "-00:30", ""],
+    ["a&b=c#d%e+f", "Z", "é <b>"],
+    ["", "", ""],
+];
+
+// Addresses as they may be written by hand or by other programs, and what the fields then have.
+const ADDRESSES = [
+    ["#at=2024-02-29T00%3A00%3A00%2B02%3A00&offset=%2B05%3A45", ["2024-02-29T00:00:00+02:00", "+05:45", ""]],
+    ["#at=0", ["0", "Z", ""]],
+    ["#elsewhere", EXAMPLES[0].slice(1)],
+];
+
+// A link holds what was typed, and the fields have it again; each example shows something, and what is wrong is told aloud.
 if (isPage) {
-    const typed = ["2024-02-29T00:00:00.5+02:00", "+05:45", "0"];
-    shownByFields(typed);
-    const kept = new URLSearchParams(document.getElementById("link").hash.slice(1));
-    count(["at", "offset", "other"].every((id, at) => kept.get(id) === typed[at]) ? null : `the link holds ${kept}`);
-    const fields = FIELDS.map((id) => document.getElementById(id)), values = () => fields.map((field) => field.value);
-    const { hash } = document.getElementById("link");
-    shownByFields(["0", "Z", ""]);
-    location.hash = hash;
-    restore(fields);
-    count(values().every((value, at) => value === typed[at]) ? null : `the fields have ${values()}`);
-    const buttons = [...document.querySelectorAll("#examples button")];
+    const fields = FIELDS.map((id) => document.getElementById(id)), link = document.getElementById("link");
+    const restored = (hash, wanted) => {
+        location.hash = hash;
+        restore(fields);
+        const values = fields.map((field) => field.value);
+        count(values.every((value, at) => value === wanted[at]) ? null : `after ${hash} the fields have ${values}`);
+    };
+    for (const typed of LINKS) {
+        shownByFields(typed);
+        const { hash } = link;
+        count(location.hash === hash ? null : `the address has ${location.hash}, and the link ${hash}`);
+        shownByFields(["0", "Z", "1"]);
+        restored(hash, typed);
+    }
+    for (const [hash, wanted] of ADDRESSES) restored(hash, wanted);
     const refused = document.getElementById("refused"), tbody = document.querySelector("tbody");
-    buttons.forEach((button) => {
+    for (const button of document.querySelectorAll("#examples button")) {
         button.click();
         count(tbody.rows.length > 0 || !refused.hidden ? null : `${button.textContent}: nothing is shown`);
-    });
+    }
+    shownByFields(["0", "+24:00", ""]);
+    const told = document.getElementById("said").textContent;
+    count(/^At the offset ?OFFSET_HOUR /.test(told) ? null : `what is told aloud is ${told}`);
+    shownByFields(["0", "+01:00", "1"]);
+    const name = document.querySelector("svg").getAttribute("aria-label");
+    count(name === "00:00:00 in UTC is 01:00:00 at the offset" ? null : `the picture is called ${name}`);
+    const isAsked = await fetch("data:,x").then(() => true, () => false);
+    count(isAsked ? "the page may ask something of a network" : null);
+    const isWithin = document.documentElement.scrollWidth <= innerWidth;
+    count(isWithin ? null : `the page is ${document.documentElement.scrollWidth} wide`);
 }
 
 let state = 7n;

@@ -6,6 +6,7 @@ import { PROVED_MODULE } from "../../bindings/js/module.js";
 const WEEKDAYS = ["Monday", "Tuesday", "Wednesday", "Thursday", "Friday", "Saturday", "Sunday"];
 const MONTHS = ["Jan", "Feb", "Mar", "Apr", "May", "Jun", "Jul", "Aug", "Sep", "Oct", "Nov", "Dec"];
 
+/** What is typed for each example, in all fields. */
 const EXAMPLES = [
     ["a leap day", "2024-02-28T23:30:00-01:00", "+02:00", "2024-03-01T00:00:00Z"],
     ["no such day", "2023-02-29T12:00:00Z", "+02:00", ""],
@@ -15,6 +16,13 @@ const EXAMPLES = [
     ["year 10000", "253402300800", "+14:00", ""],
     ["the last nanosecond", "31494784780799.999999999", "-12:00", ""],
 ];
+
+/** What the clock of this machine shows, and its offset, as an example is. */
+function now() {
+    const at = Timestamp.now().truncate("second"), minutes = -new Date().getTimezoneOffset(), size = Math.abs(minutes);
+    const offset = `${minutes < 0 ? "-" : "+"}${two(Math.floor(size / 60))}:${two(size % 60)}`;
+    return [String(at.seconds), minutes === 0 ? "Z" : offset, ""];
+}
 
 /** The instant of what was typed: a Unix second, with a fraction or without, or a text of RFC 3339. */
 function instantOf(text) {
@@ -76,20 +84,28 @@ export function answers(text, offset, other) {
         ["In UTC", at.toString(), "utc"],
         ["At the offset", there.toString(), "there"],
         ["Unix seconds", secondsText(at)],
-        ["Day of the week", WEEKDAYS[there.weekday - 1]],
-        ["ISO week", `${there.isoYear}-W${two(there.isoWeek)}-${there.weekday}`],
-        ["Day of the year", String(there.dayOfYear)],
+        ["Day of the week", WEEKDAYS[there.weekday - 1], "there"],
+        ["ISO week", `${there.isoYear}-W${two(there.isoWeek)}-${there.weekday}`, "there"],
+        ["Day of the year", String(there.dayOfYear), "there"],
     ];
     if (second) rows.push(["To the other", differenceText(at, second)]);
     if (date !== null) rows.push(["JavaScript's Date", date]);
     return { at, there, second, rows };
 }
 
+/** The form of what each field takes. */
+const FORMS = {
+    at: "It takes a text such as 2024-02-28T23:30:00-01:00, or seconds from 1970, such as -0.5.",
+    offset: "It takes Z, or hours and minutes such as +02:00.",
+};
+FORMS.other = FORMS.at;
+
 /** What the page says of what it refuses. */
 export function refusal(error, text) {
     const date = error.field === "at" ? dateText(text, null) : null;
     const rows = date === null ? [] : [["JavaScript's Date", date]];
-    return { name: error.refusal, meaning: error.message.slice(error.refusal.length + 2), rows };
+    const meaning = error.refusal === "SYNTAX" ? FORMS[error.field] : error.message.slice(error.refusal.length + 2);
+    return { name: error.refusal, meaning, rows };
 }
 
 // The picture: a day around the instant, as clocks in UTC show it, and above it as those at the offset do.
@@ -146,36 +162,44 @@ function drawClocks(svg, shown, kind, width, line, isAbove) {
         const start = edges[day], isItsDay = start <= 0 && (end > 0 || day === edges.length - 2);
         const fill = `var(--${kind}-${isItsDay ? "day" : "other"})`;
         svg.append(drawn("rect", { x: place(start), y: top, width: place(end) - place(start), height: 28, fill }));
+        if (day > 0) {
+            const x = place(start), stroke = `var(--${kind})`;
+            svg.append(drawn("line", { x1: x, x2: x, y1: top, y2: top + 28, stroke }));
+        }
         drawName(svg, shown, start, end, middle, top + 18);
     });
     for (const hour of hoursAround(shown, width < 480 ? 6 : 3)) {
         const x = place(hour.at);
         svg.append(drawn("line", { x1: x, x2: x, y1: line, y2: line + toward * 8, stroke: `var(--${kind})` }));
-        if (Math.abs(x - middle) > 12) {
+        if (Math.abs(x - middle) > 14) {
             svg.append(drawn("text", { x, y: line + (isAbove ? -14 : 24), class: "quiet" }, two(hour.then.hour)));
         }
     }
 }
 
+/** Marks the other instant, so many nanoseconds past the one in the middle, if it lies in the picture: behind the days. */
+function drawOther(svg, past, middle, height) {
+    if (past === 0n || past < -HALF || past > HALF) return;
+    const x = middle + (Number(past) / Number(HALF)) * (middle - 14), side = past < 0n ? -1 : 1;
+    svg.append(drawn("line", { x1: x, x2: x, y1: 22, y2: height - 30, stroke: "var(--ink)", "stroke-dasharray": "4 3" }));
+    // its name stands clear of the time in the middle, and of the edge
+    const away = Math.min(Math.max(Math.abs(x - middle), 82), middle - 28);
+    svg.append(drawn("text", { x: middle + side * away, y: 15, class: "quiet" }, "the other"));
+}
+
 /** Draws both clocks on one line of time. */
 function draw(place, { at, there, second }) {
-    const width = Math.max(place.clientWidth, 280), line = 98, height = 2 * line;
+    const width = Math.max(place.clientWidth, 160), line = 98, height = 2 * line;
     const utc = at.toOffset(0), middle = width / 2;
     const told = `${clockText(utc)} in UTC is ${clockText(there)} at the offset`;
-    const svg = drawn("svg", { viewBox: `0 0 ${width} ${height}`, height, role: "img", "aria-label": told });
+    const svg = drawn("svg", { viewBox: `0 0 ${width} ${height}`, width, height, role: "img", "aria-label": told });
     svg.append(drawn("line", { x1: 14, x2: width - 14, y1: line, y2: line, stroke: "var(--quiet)" }));
+    if (second) drawOther(svg, second.since(at).nanoseconds, middle, height);
     drawClocks(svg, utc, "utc", width, line, true);
     drawClocks(svg, there, "there", width, line, false);
     svg.append(drawn("line", { x1: middle, x2: middle, y1: 22, y2: height - 22, stroke: "var(--ink)", "stroke-width": 2 }));
     svg.append(drawn("text", { x: middle, y: 15, class: "utc" }, `${clockText(utc)} UTC`));
     svg.append(drawn("text", { x: middle, y: height - 8, class: "there" }, `${clockText(there)} at the offset`));
-    if (second) {
-        const past = second.since(at).nanoseconds;
-        const x = middle + (Number(past) / Number(HALF)) * (middle - 14), ends = { y1: 30, y2: height - 30 };
-        if (past >= -HALF && past <= HALF) {
-            svg.append(drawn("line", { x1: x, x2: x, ...ends, stroke: "var(--ink)", "stroke-dasharray": "4 3" }));
-        }
-    }
     place.replaceChildren(svg);
 }
 
@@ -207,21 +231,32 @@ function show(fields) {
     } catch (error) {
         if (!(error instanceof Refused)) throw error;
         const { name, meaning, rows } = refusal(error, text);
-        const bold = document.createElement("b");
+        const bold = document.createElement("b"), where = document.createElement("span");
         bold.textContent = name;
-        refused.replaceChildren(bold, ` ${meaning}`);
+        where.textContent = `${labelOf(fields.find((field) => field.id === error.field))} `;
+        refused.replaceChildren(where, bold, ` ${meaning}`);
         fill(tbody, rows);
         times.hidden = true;
         wrong = error.field;
     }
     refused.hidden = wrong === null;
     for (const field of fields) field.setAttribute("aria-invalid", String(field.id === wrong));
+    const told = wrong === null ? times.firstChild.getAttribute("aria-label") : refused.textContent;
+    document.getElementById("said").textContent = told;
     keep(fields);
 }
 
+const labelOf = (field) => field.parentElement.firstChild.textContent;
+
+/** What is typed, for an address: a plus sign is one, and a space is none. */
+function addressOf(fields) {
+    const typed = fields.map((field) => [field.id, field.value.trim()]).filter(([id, value]) => value || id !== "other");
+    const text = String(new URLSearchParams(typed));
+    return `#${text.replaceAll("+", "%20").replaceAll("%2B", "+").replaceAll("%3A", ":")}`;
+}
+
 function keep(fields) {
-    const typed = fields.filter((field) => field.value).map((field) => [field.id, field.value.trim()]);
-    const address = `#${new URLSearchParams(typed)}`;
+    const address = addressOf(fields);
     document.getElementById("link").href = address;
     try {
         history.replaceState(null, "", address);
@@ -232,8 +267,8 @@ function keep(fields) {
 
 /** Fills the fields from the address, or with the first example. */
 function restore(fields) {
-    const kept = new URLSearchParams(location.hash.slice(1));
-    const others = kept.has("at") ? ["", "Z", ""] : EXAMPLES[0].slice(1);
+    const kept = new URLSearchParams(location.hash.slice(1).replaceAll("+", "%2B"));
+    const others = FIELDS.some((id) => kept.has(id)) ? ["", "Z", ""] : EXAMPLES[0].slice(1);
     fields.forEach((field, at) => {
         field.value = kept.get(field.id) ?? others[at];
     });
@@ -243,13 +278,14 @@ function start() {
     const fields = FIELDS.map((id) => document.getElementById(id));
     for (const field of fields) field.addEventListener("input", () => show(fields));
     document.querySelector("form").addEventListener("submit", (event) => event.preventDefault());
-    for (const [name, ...values] of EXAMPLES) {
+    for (const [name, ...values] of [...EXAMPLES, ["now"]]) {
         const button = document.createElement("button");
         button.type = "button";
         button.textContent = name;
         button.addEventListener("click", () => {
+            const typed = name === "now" ? now() : values;
             fields.forEach((field, at) => {
-                field.value = values[at];
+                field.value = typed[at];
             });
             show(fields);
         });
