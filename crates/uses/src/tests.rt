@@ -110,7 +110,10 @@ fn callers_at_offsets_are_called(rt: HostRuntime) -> Result<(), Fail> {
         offsets::put_back_at(local(0, 1)?, local(0, -5)?),
         Some(shown)
     );
-    assert_eq!(rt; offsets::noted_at(local(0, 1)?, UtcOffset::UTC), local(3_600, 0)?);
+    assert_eq!(rt;
+        offsets::noted_at(local(0, 1)?, UtcOffset::UTC),
+        local(3_600, 0)?
+    );
 
     Ok(())
 }
