@@ -33,7 +33,6 @@ IsOneAnswer-at_most limit name part value =
 placed : {S T : Type 0} (put : S → T) (answer : Result S Refusal) (fits : Type 0) (value : S) (refusal : Refusal) → OkIff answer fits value
     → IfErr answer (λ r. r ≡ refusal)
     → IsOneAnswer (record { fits = fits; value = put value; refusal = refusal; answer = answer_within put answer })
-unfolding answer_within
 placed put (Ok x) fits value refusal given refused = record { value = (given.0, ap put given.1); refused = tt; equation = refl }
 placed put (Err r) fits value refusal given refused = record { value = given; refused = refused; equation = refl }
 

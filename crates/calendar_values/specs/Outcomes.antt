@@ -30,7 +30,7 @@ at_most limit name part value = record {
 }
 
 -- an accepted value put in its place, or the refusal
-unfoldable pub answer_within : {S T : Type 0} → (S → T) → Result S Refusal → Result T Refusal
+abbrev pub answer_within : {S T : Type 0} → (S → T) → Result S Refusal → Result T Refusal
 answer_within put (Ok value) = Ok (put value)
 answer_within put (Err refusal) = Err refusal
 

@@ -1,5 +1,5 @@
 -- The range of the library: the years -999999 to 999999.
-use Rattle.std.specs.Prelude.{◌||◌, ℤ, pos, neg_ℤ, ◌≤ℤ◌, int_lt, Bool}
+use Rattle.std.specs.Prelude.{◌||◌, ℤ, pos, neg_ℤ, ◌≤ℤ◌, int_lt, Bool, Option, SomeIff}
 
 -- the first year and the last
 abbrev pub first_year : ℤ
@@ -23,6 +23,10 @@ IsYear y = (first_year ≤ℤ y) × (y ≤ℤ last_year)
 -- a day of the range
 abbrev pub IsDay : ℤ → Type 0
 IsDay n = (first_day ≤ℤ n) × (n ≤ℤ last_day)
+
+-- the result is Some exactly where the range has this day, and then it
+abbrev pub SomeDay : Option ℤ → ℤ → Type 0
+SomeDay result n = SomeIff result (IsDay n) n
 
 -- the number lies before the first or after the last
 abbrev pub is_outside : ℤ → ℤ → ℤ → Bool

@@ -1,5 +1,5 @@
 -- A clock that is moved from one offset to another by carries is the clock that its nanoseconds give.
-use Rattle.std.proofs.Common.{◌≡◌, ℕ, ◌<◌, ◌≤◌, arith, ◌∙◌, ap, ℤ, pos, ◌+ℤ◌, ◌-ℤ◌, ◌*ℤ◌, unsigned_abs}
+use Rattle.std.proofs.Common.{◌≡◌, ℕ, ◌<◌, ◌≤◌, arith, sym, ◌∙◌, ap, ℤ, pos, ◌+ℤ◌, ◌-ℤ◌, ◌*ℤ◌, unsigned_abs, FitsSigned, w8, of_z, to_z, to_z-of_z}
 use Rattle.calendar_values.specs.Clock.{IsClock, hour_of, minute_of, second_of}
 use Rattle.calendar_values.specs.ClockLemmas.{clock_of_parts-of, IsTimeOfDay-of}
 use Rattle.calendar_values.specs.Offsets.{IsOffset, offset_hours_of, offset_minutes_of, offset_seconds_of}
@@ -25,6 +25,18 @@ pub Carried-of : (c : ℕ) (from to : ℤ) → Carried c from to (carried_hour c
     (carried_second c from to) (days_carried c from to) (hours_carried c from to) (minutes_carried c from to)
 unfolding minutes_carried hours_carried days_carried carried_second carried_minute carried_hour
 Carried-of c from to = omega (arith, signed_arith)
+
+-- numbers of a byte are the same where their bits are
+same_of_bits : (x y : ℤ) → FitsSigned w8 x → FitsSigned w8 y → of_z w8 x ≡ of_z w8 y → x ≡ y
+same_of_bits x y f g e = sym (to_z-of_z f) ∙ ap (to_z w8) e ∙ to_z-of_z g
+
+-- where the seconds of both offsets are the same, the second stays, and it carries no minute
+pub second-stays : (c : ℕ) (from to x y : ℤ) → x ≡ offset_seconds_of from → y ≡ offset_seconds_of to → unsigned_abs x ≤ 59 → unsigned_abs y ≤ 59 →
+    of_z w8 x ≡ of_z w8 y → (carried_second c from to ≡ second_of c) × (minutes_carried c from to ≡ pos 0)
+unfolding carried_second minutes_carried
+second-stays c from to x y e f h k same =
+    let seconds = same_of_bits x y (omega (arith, signed_arith)) (omega (arith, signed_arith)) same in
+    omega (arith, signed_arith)
 
 -- the carries keep the moment: the day and the clock, moved by the difference of the offsets
 wall_clock-carried : (n : ℤ) (c : ℕ) (from to : ℤ) → wall_clock (n +ℤ days_carried c from to) (carried_clock c from to) ≡ wall_clock n c +ℤ

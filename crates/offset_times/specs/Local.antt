@@ -1,5 +1,5 @@
 -- A wall clock at an offset from UTC, and its instant.
-use Rattle.std.specs.Prelude.{◌≡◌, ℕ, ℤ, pos, ◌+ℤ◌, ◌-ℤ◌, ◌*ℤ◌}
+use Rattle.std.specs.Prelude.{◌≡◌, ℕ, ℤ, pos, ◌+ℤ◌, ◌-ℤ◌, ◌*ℤ◌, Option, SomeIff}
 use Rattle.calendar_values.specs.Clock.{nanos_per_second}
 use Rattle.calendar_values.specs.Offsets.{IsOffset}
 use Rattle.calendar_values.specs.WallClock.{IsWallClock}
@@ -29,6 +29,10 @@ shown_at instant o = instant +ℤ offset_nanos o
 -- an instant at an offset
 abbrev pub local_at : ℤ → ℤ → Local
 local_at instant o = record { wall = shown_at instant o; offset = o }
+
+-- the result is Some exactly where clocks at an offset show a wall clock of the range at an instant, and then that instant there
+abbrev pub ShownAt : Option Local → ℤ → ℤ → Type 0
+ShownAt result instant o = SomeIff result (IsWallClock (shown_at instant o)) (local_at instant o)
 
 -- a wall clock at an offset
 abbrev pub wall_at : ℤ → ℤ → Local

@@ -18,6 +18,7 @@ use utc_times::UtcDateTime;
 /// The year, the day of the year and the time of day that clocks at the offset show at the instant of a
 /// date-time. The second, the minute and the hour carry at most 2, 2 and 3, either way, into the minute, the
 /// hour and the day.
+#[inline(always)]
 pub fn to_offset_raw(at: OffsetDateTime, offset: UtcOffset) -> (i32, u16, Time)
     ensures date { IsOrdinalDate result.0 result.1 }
     ensures clock { IsClock result.2 }
@@ -65,6 +66,7 @@ pub fn utc_to_offset_raw(at: UtcDateTime, offset: UtcOffset) -> (i32, u16, Time)
 }
 
 // The day of the year and the time of day that clocks at `to` show when clocks at `from` show these.
+#[inline(always)]
 fn parts_at(at: PlainDateTime, from: UtcOffset, to: UtcOffset) -> (i32, u16, Time)
     ensures date { IsOrdinalDate result.0 result.1 }
     ensures clock { IsClock result.2 }
@@ -80,6 +82,7 @@ fn parts_at(at: PlainDateTime, from: UtcOffset, to: UtcOffset) -> (i32, u16, Tim
 }
 
 // The time of day that clocks at `to` show when clocks at `from` show this, and the days between the two.
+#[inline(always)]
 #[tactic(auto, unfolding(crate::specs::Carries::carried_clock))]
 fn carried_time(time: Time, from: UtcOffset, to: UtcOffset) -> (Time, i8)
     ensures clock { result.0 ≡ carried_clock time from to }
@@ -103,12 +106,12 @@ fn carried_second(time: Time, from: UtcOffset, to: UtcOffset) -> (u8, i8)
     ensures below { result.0 < 60 }
     ensures within { IsWithin 2 result.1 }
 {
-    carry_sixty(
-        time.second(),
-        from.seconds_past_minute(),
-        to.seconds_past_minute(),
-        0,
-    )
+    let (from, to) = (from.seconds_past_minute(), to.seconds_past_minute());
+    // As where both are offsets of whole minutes.
+    if from == to {
+        return (time.second(), 0);
+    }
+    carry_sixty(time.second(), from, to, 0)
 }
 
 // The minute that clocks at `to` show, with the minutes that go into it, and the hours that go out of it.

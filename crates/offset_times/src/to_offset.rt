@@ -1,7 +1,7 @@
 //! Conversions from UTC to an offset.
-ghost use Rattle.std.specs.Prelude.{◌≡◌, IfSome, SomeIff, ℤ};
+ghost use Rattle.std.specs.Prelude.{◌≡◌, IfSome, ℤ};
 ghost use Rattle.calendar_values.specs.WallClock.{IsWallClock};
-ghost use Rattle.offset_times.specs.Local.{instant_of, shown_at, local_at};
+ghost use Rattle.offset_times.specs.Local.{instant_of, shown_at, local_at, ShownAt};
 
 use crate::carries::utc_to_offset_raw;
 use crate::offset_date_time::date_time_if_any;
@@ -23,8 +23,7 @@ pub trait ToOffset {
 
     /// The same instant at an offset. None where the clocks there show a date outside the range.
     fn checked_to_offset(self, offset: UtcOffset) -> Option<OffsetDateTime>
-        ensures value { SomeIff result (IsWallClock (shown_at (instant_shown self) offset))
-            (local_at (instant_shown self) offset) }
+        ensures value { ShownAt result (instant_shown self) offset }
         ensures instant { IfSome result (λ at. instant_of at ≡ instant_shown self) };
 }
 

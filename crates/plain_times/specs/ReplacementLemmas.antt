@@ -30,13 +30,11 @@ wall_time-with_time w c clock = wall_time-wall_clock (wall_day w) c clock
 
 -- an accepted replacement shows the date that was accepted
 pub wall_day-accepted : (w v : ℤ) (r : Result ℤ Refusal) → answer_within (with_date w) r ≡ Ok v → r ≡ Ok (wall_day v)
-unfolding answer_within
 wall_day-accepted w v (Ok n) e = let same : with_date w n ≡ v = cc in ap Ok (sym (wall_day-with_date w n) ∙ ap wall_day same)
 wall_day-accepted w v (Err refusal) e = absurd cc
 
 -- or the time of day
 pub wall_time-accepted : (w v : ℤ) (r : Result ℕ Refusal) → ((c : ℕ) → r ≡ Ok c → IsClock c) → answer_within (with_time w) r ≡ Ok v → r ≡ Ok (wall_time v)
-unfolding answer_within
 wall_time-accepted w v (Ok c) clock e = let same : with_time w c ≡ v = cc in ap Ok (sym (wall_time-with_time w c (clock c refl)) ∙ ap wall_time same)
 wall_time-accepted w v (Err refusal) clock e = absurd cc
 

@@ -13,9 +13,7 @@ Gives-instant name v i within e =
 
 -- what a part gives is put in its place, and its refusal is the refusal of the whole
 pub Gives-accepted : {S T : Type 0} (put : S → T) (outcome : Outcome S) (v : S) → Gives (Ok v) outcome → Gives (Ok (put v)) (within put outcome)
-unfolding answer_within
 Gives-accepted put outcome v h = record { value = (h.value.0, ap put h.value.1); refused = tt; equation = ap (answer_within put) h.equation }
 
 pub Gives-refused : {S T : Type 0} (put : S → T) (outcome : Outcome S) (r : Refusal) → Gives (Err r) outcome → Gives (Err r) (within put outcome)
-unfolding answer_within
 Gives-refused put outcome r h = record { value = h.value; refused = h.refused; equation = ap (answer_within put) h.equation }

@@ -1,10 +1,10 @@
 -- What a run of calls replies: a counter of nanoseconds, read by counted days. It knows no type of instants.
-use Rattle.std.specs.Prelude.{◌≡◌, ℕ, List, [], ◌∷◌, ℤ, ◌+ℤ◌, ◌-ℤ◌, Option, Some, None, SomeIff, Result, Ok, Err, ⊤}
+use Rattle.std.specs.Prelude.{◌≡◌, ℕ, List, [], ◌∷◌, ℤ, ◌+ℤ◌, ◌-ℤ◌, Option, Some, None, Result, Ok, Err, ⊤}
 use Rattle.calendar_values.specs.Calendar.{year_of, month_of, day_of_month_of, ordinal_of, julian_day_of}
 use Rattle.calendar_values.specs.Clock.{hour_of, minute_of, second_of, millisecond_of, microsecond_of, nanosecond_of}
 use Rattle.calendar_values.specs.Month.{month_number}
 use Rattle.calendar_values.specs.Refusals.{Refusal}
-use Rattle.calendar_values.specs.WallClock.{wall_day, wall_time, IsWallClock}
+use Rattle.calendar_values.specs.WallClock.{wall_day, wall_time, SomeInRange}
 use Rattle.calendar_values.specs.Weeks.{iso_year_of, iso_week_of, sunday_week_of, monday_week_of, weekday_of}
 use Rattle.offset_times.specs.Local.{shown_at}
 use Rattle.plain_times.specs.Replacements.{with_date, with_time, wall_year_outcome, wall_month_outcome, wall_day_outcome, wall_ordinal_outcome}
@@ -72,8 +72,8 @@ instant_after_shift i (SaturatingSub d) = Some (nearest_wall_clock (i -ℤ d))
 
 -- a checked sum or difference is given exactly where the range has it, and a saturating one always is
 abbrev pub Shifts : ℤ → Shift → Option ℤ → Type 0
-Shifts i (CheckedAdd d) sum = SomeIff sum (IsWallClock (i +ℤ d)) (i +ℤ d)
-Shifts i (CheckedSub d) sum = SomeIff sum (IsWallClock (i -ℤ d)) (i -ℤ d)
+Shifts i (CheckedAdd d) sum = SomeInRange sum (i +ℤ d)
+Shifts i (CheckedSub d) sum = SomeInRange sum (i -ℤ d)
 Shifts i (SaturatingAdd d) sum = sum ≡ Some (nearest_wall_clock (i +ℤ d))
 Shifts i (SaturatingSub d) sum = sum ≡ Some (nearest_wall_clock (i -ℤ d))
 

@@ -2,7 +2,7 @@
 -- others end: laws of all instants, each proved by a function of `src/laws.rt`.
 use Rattle.std.specs.Prelude.{◌≡◌, ◌≢◌, ℕ, ◌+◌, List, ◌∷◌, ◌++◌, length, codes, ℤ, Option, Some, None, option_map}
 use Rattle.calendar_values.specs.Clock.{clock_of_parts, hour_of, minute_of, second_of}
-use Rattle.calendar_values.specs.WallClock.{wall_time, unix_seconds_of, IsWallClock}
+use Rattle.calendar_values.specs.WallClock.{wall_time, unix_seconds_of, IsInstant}
 use Rattle.calendar_values.specs.Refusals.{Refusal}
 use Rattle.plain_times.specs.Replacements.{with_time}
 use Rattle.utc_times.specs.UnixTime.{instant_of_second}
@@ -28,10 +28,10 @@ NanosecondsKeepTheSecond = (i : ℤ) (n : ℕ)
 
 -- no two instants of the range have one text, no fraction ends in a zero, and no text is `-0`
 pub record TextsTellInstants : Type 0 where
-  pub distinct : (i j : ℤ) → IsWallClock i → IsWallClock j → timestamp_text i ≡ timestamp_text j → i ≡ j
-  pub no_zero_ends_a_fraction : (i : ℤ) (whole digits front : List ℕ) → IsWallClock i
+  pub distinct : (i j : ℤ) → IsInstant i → IsInstant j → timestamp_text i ≡ timestamp_text j → i ≡ j
+  pub no_zero_ends_a_fraction : (i : ℤ) (whole digits front : List ℕ) → IsInstant i
       → timestamp_text i ≡ whole ++ codes "." ++ digits → digits ≢ front ++ codes "0"
-  pub no_negative_zero : (i : ℤ) → IsWallClock i → timestamp_text i ≢ codes "-0"
+  pub no_negative_zero : (i : ℤ) → IsInstant i → timestamp_text i ≢ codes "-0"
 
 -- calls after calls: the others go on from where the first end
 pub record RunsCompose : Type 0 where

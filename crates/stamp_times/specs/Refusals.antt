@@ -4,7 +4,7 @@ use Rattle.calendar_values.specs.Clock.{nanos_per_second}
 use Rattle.calendar_values.specs.Outcomes.{Outcome}
 use Rattle.calendar_values.specs.Range.{is_outside}
 use Rattle.calendar_values.specs.Refusals.{Refusal, outright_refusal}
-use Rattle.calendar_values.specs.WallClock.{first_wall_clock, last_wall_clock, IsWallClock}
+use Rattle.calendar_values.specs.WallClock.{first_wall_clock, last_wall_clock, IsInstant}
 use Rattle.utc_times.specs.UnixTime.{instant_of_second}
 use Rattle.stamp_times.specs.Instants.{instant_of_parts}
 
@@ -23,7 +23,7 @@ timestamp_of_parts s n =
 -- what a second and a nanosecond of it come to
 abbrev pub timestamp_outcome : ℤ → ℕ → Outcome ℤ
 timestamp_outcome s n = record {
-  fits = IsWallClock (instant_of_second s) × (n < nanos_per_second);
+  fits = IsInstant (instant_of_second s) × (n < nanos_per_second);
   value = instant_of_parts s n;
   refusal = parts_refusal s;
   answer = timestamp_of_parts s n;

@@ -1,7 +1,7 @@
 //! Many timestamps at once.
 ghost use Rattle.std.specs.Prelude.{◌≡◌, ◌<◌, IfNone, IfOk, IfSome, [], length, map, take, IsOk};
 ghost use Rattle.std.specs.List.{HoldsAt};
-ghost use Rattle.calendar_values.specs.WallClock.{IsWallClock};
+ghost use Rattle.calendar_values.specs.WallClock.{IsInstant};
 ghost use Rattle.utc_times.specs.UnixTime.{instant_of_second};
 
 use crate::Timestamp;
@@ -26,7 +26,7 @@ impl Timestamp {
             batch.stamps.items ≡ map instant_of_second (take place seconds.now))) }
         ensures refused { IfOk result (λ batch.
             IfSome batch.refused (λ place. (place < length seconds.now)
-            × HoldsAt (λ second. ¬ IsWallClock (instant_of_second second)) seconds.now place)) }
+            × HoldsAt (λ second. ¬ IsInstant (instant_of_second second)) seconds.now place)) }
         ensures none { seconds.now ≡ [] → IsOk result }
     {
         let mut stamps = Vec::with_capacity(alloc, seconds.len())?;

@@ -1,7 +1,7 @@
 //! Chains of conversions.
 ghost use Rattle.std.specs.Prelude.{◌≡◌, ◌<◌, None, Some, SomeIff, IfOk, IfErr, length, take};
-ghost use Rattle.calendar_values.specs.WallClock.{IsWallClock};
-ghost use Rattle.offset_times.specs.Local.{shown_at, local_at};
+ghost use Rattle.calendar_values.specs.WallClock.{IsWallClock, SomeInRange};
+ghost use Rattle.offset_times.specs.Local.{shown_at, local_at, ShownAt};
 ghost use Rattle.stamp_times.specs.Travel.{held_instant, shown_by, held_by, stop_index, held_after};
 
 use crate::chains::steps::{Held, Step, StoppedAt};
@@ -53,7 +53,7 @@ fn held_by(held: Held, step: Step) -> Option<Held>
 
 // The instant as a date-time in UTC. None where its date there is out of the range.
 fn in_utc(held: Held) -> Option<UtcDateTime>
-    ensures { SomeIff result (IsWallClock (held_instant held)) (held_instant held) }
+    ensures { SomeInRange result (held_instant held) }
 {
     match held {
         Held::Stamp(stamp) => Some(stamp.to_utc()),
@@ -68,8 +68,7 @@ fn in_utc(held: Held) -> Option<UtcDateTime>
 
 // The instant as a date-time at an offset. None where its date there is out of the range.
 fn held_at_offset(held: Held, offset: UtcOffset) -> Option<OffsetDateTime>
-    ensures { let i = held_instant held in SomeIff result (IsWallClock (shown_at i offset))
-        (local_at i offset) }
+    ensures { let i = held_instant held in ShownAt result i offset }
 {
     match held {
         Held::Stamp(stamp) => stamp.at_offset(offset),

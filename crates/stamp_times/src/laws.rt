@@ -4,7 +4,7 @@ ghost use Rattle.std.specs.Ordering.{int_eq, int_cmp};
 ghost use Rattle.plain_times.specs.Laws.{DifferencesUndoSums, DifferencesLeadBack, ReplacedPartsReadAsGiven, ReplacementsKeepTheRest, SumsAssociate};
 ghost use Rattle.plain_times.specs.Laws.{SaturatingSumsKeepTheOrder, OutcomesAreAnswers};
 ghost use Rattle.calendar_values.specs.Outcomes.{IsOneAnswer};
-ghost use Rattle.calendar_values.specs.WallClock.{IsWallClock};
+ghost use Rattle.calendar_values.specs.WallClock.{IsInstant};
 ghost use Rattle.stamp_times.specs.Refusals.{timestamp_outcome};
 ghost use Rattle.utc_times.specs.UnixTime.{instant_outcome};
 ghost use Rattle.stamp_times.specs.Laws.{CountsReadAsGiven, NanosecondsKeepTheSecond, TextsTellInstants, RunsCompose, RefusedCallsChangeNothing, ChainsCompose};
@@ -33,7 +33,7 @@ pub fn compared_by_instant()
 
 /// Timestamps feed a hasher the same exactly where they are the same.
 pub fn hashed_by_instant()
-    ensures { (x y : _) → IsWallClock x → IsWallClock y →
+    ensures { (x y : _) → IsInstant x → IsInstant y →
         (⟦<Timestamp as Hash>⟧.hash_input x ≡ ⟦<Timestamp as Hash>⟧.hash_input y) ↔ (x ≡ y) }
 {}
 

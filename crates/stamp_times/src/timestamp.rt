@@ -1,7 +1,7 @@
 //! An instant by its Unix seconds.
 ghost use Rattle.std.specs.Prelude.{◌≡◌, codes};
 ghost use Rattle.calendar_values.specs.Outcomes.{Gives};
-ghost use Rattle.calendar_values.specs.WallClock.{IsWallClock, unix_seconds_of};
+ghost use Rattle.calendar_values.specs.WallClock.{unix_seconds_of, IsInstant};
 ghost use Rattle.utc_times.specs.UnixTime.{instant_of_second, instant_outcome};
 ghost use Rattle.stamp_times.specs.Refusals.{timestamp_outcome};
 ghost use Rattle.stamp_times.specs.Instants.{instant_of_milliseconds, instant_of_microseconds, unix_milliseconds_of, unix_microseconds_of};
@@ -44,7 +44,7 @@ pub struct Timestamp {
 impl Model for Timestamp {
     ghost use Rattle.std.specs.Prelude.{ℤ, ◌<◌};
     ghost use Rattle.calendar_values.specs.Clock.{nanos_per_second};
-    ghost use Rattle.calendar_values.specs.WallClock.{IsWallClock, unix_seconds_of};
+    ghost use Rattle.calendar_values.specs.WallClock.{IsInstant, unix_seconds_of};
     ghost use Rattle.stamp_times.specs.Instants.{instant_of_parts, unix_nanosecond_of};
     ghost use Rattle.stamp_times.specs.TimestampLemmas.{unix_seconds_of-parts, unix_nanosecond_of-parts};
 
@@ -52,7 +52,7 @@ impl Model for Timestamp {
 
     ghost view = { λ at. instant_of_parts at.seconds at.nanosecond };
 
-    ghost invariant = { λ at. IsWallClock (instant_of_parts at.seconds at.nanosecond) ×
+    ghost invariant = { λ at. IsInstant (instant_of_parts at.seconds at.nanosecond) ×
         (at.nanosecond < nanos_per_second) };
 
     ghost inverse = { λ i. record {
@@ -174,7 +174,7 @@ impl Timestamp {
     #[tactic(auto, using(crate::proofs::HeldInstantLemmas::fields))]
     pub fn as_seconds(self) -> i64
         ensures value { result ≡ unix_seconds_of self }
-        ensures self_in_range { IsWallClock self }
+        ensures self_in_range { IsInstant self }
     {
         self.seconds
     }
@@ -183,7 +183,7 @@ impl Timestamp {
     #[tactic(auto, using(crate::proofs::HeldInstantLemmas::counts))]
     pub fn as_milliseconds(self) -> i64
         ensures value { result ≡ unix_milliseconds_of self }
-        ensures self_in_range { IsWallClock self }
+        ensures self_in_range { IsInstant self }
     {
         self.seconds * 1_000 + (self.nanosecond / 1_000_000) as i64
     }
@@ -192,7 +192,7 @@ impl Timestamp {
     #[tactic(auto, using(crate::proofs::HeldInstantLemmas::counts))]
     pub fn as_microseconds(self) -> i128
         ensures value { result ≡ unix_microseconds_of self }
-        ensures self_in_range { IsWallClock self }
+        ensures self_in_range { IsInstant self }
     {
         self.seconds as i128 * 1_000_000 + (self.nanosecond / 1_000) as i128
     }
@@ -201,7 +201,7 @@ impl Timestamp {
     #[tactic(auto, using(crate::proofs::HeldInstantLemmas::counts))]
     pub fn as_nanoseconds(self) -> i128
         ensures value { result ≡ self }
-        ensures self_in_range { IsWallClock self }
+        ensures self_in_range { IsInstant self }
     {
         self.seconds as i128 * NANOS_PER_SECOND as i128 + self.nanosecond as i128
     }

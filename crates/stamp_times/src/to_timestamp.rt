@@ -1,6 +1,6 @@
 //! Date-times at an offset as timestamps.
-ghost use Rattle.std.specs.Prelude.{◌≡◌, ℤ, SomeIff};
-ghost use Rattle.calendar_values.specs.WallClock.{IsWallClock};
+ghost use Rattle.std.specs.Prelude.{◌≡◌, ℤ};
+ghost use Rattle.calendar_values.specs.WallClock.{SomeInRange, IsInstant};
 ghost use Rattle.offset_times.specs.Local.{instant_of};
 
 use crate::Timestamp;
@@ -14,12 +14,12 @@ pub trait ToTimestamp {
     /// The timestamp of the instant, which must lie in the range: where the `time` crate panics, the caller
     /// has to show that, or asks [`ToTimestamp::checked_to_timestamp`].
     fn to_timestamp(self) -> Timestamp
-        requires { IsWallClock (instant_told self) }
+        requires { IsInstant (instant_told self) }
         ensures { result ≡ instant_told self };
 
     /// The timestamp of the instant. None outside the range.
     fn checked_to_timestamp(self) -> Option<Timestamp>
-        ensures { SomeIff result (IsWallClock (instant_told self)) (instant_told self) };
+        ensures { SomeInRange result (instant_told self) };
 }
 
 impl ToTimestamp for OffsetDateTime {

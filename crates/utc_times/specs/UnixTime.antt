@@ -4,7 +4,7 @@ use Rattle.calendar_values.specs.Clock.{nanos_per_second}
 use Rattle.calendar_values.specs.Outcomes.{Outcome}
 use Rattle.calendar_values.specs.Range.{is_outside}
 use Rattle.calendar_values.specs.Refusals.{Refusal, outright_refusal}
-use Rattle.calendar_values.specs.WallClock.{first_wall_clock, last_wall_clock, IsWallClock}
+use Rattle.calendar_values.specs.WallClock.{first_wall_clock, last_wall_clock, IsInstant}
 
 -- the instant of a Unix second
 abbrev pub instant_of_second : ℤ → ℤ
@@ -18,7 +18,7 @@ instant_or_refusal name instant =
 -- what the count of an instant, under this name, comes to
 abbrev pub instant_outcome : List ℕ → ℤ → Outcome ℤ
 instant_outcome name instant = record {
-  fits = IsWallClock instant;
+  fits = IsInstant instant;
   value = instant;
   refusal = outright_refusal name;
   answer = instant_or_refusal name instant;

@@ -2,10 +2,10 @@
 use Rattle.std.proofs.Common.{List, ℕ, ◌≡◌, sym, ap, ◌∙◌, arith, ℤ, ◌<ℤ◌, Result, Ok, Err, OkIff, IfErr}
 use Rattle.std.proofs.lemmas.Int.{by_lt_z, ints}
 use Rattle.calendar_values.specs.Refusals.{Refusal, outright_refusal}
-use Rattle.calendar_values.specs.WallClock.{first_wall_clock, last_wall_clock, IsWallClock}
+use Rattle.calendar_values.specs.WallClock.{first_wall_clock, last_wall_clock, IsInstant}
 use Rattle.utc_times.specs.UnixTime.{instant_or_refusal}
 
-pub instant_or_refusal-in : (name : List ℕ) (i : ℤ) → IsWallClock i → instant_or_refusal name i ≡ Ok i
+pub instant_or_refusal-in : (name : List ℕ) (i : ℤ) → IsInstant i → instant_or_refusal name i ≡ Ok i
 unfolding instant_or_refusal
 instant_or_refusal-in name i h = grind (arith, ints)
 
@@ -18,7 +18,7 @@ unfolding instant_or_refusal
 instant_or_refusal-after name i high = grind (arith, ints)
 
 -- an answer that is the instant exactly where the range has it, and else this refusal
-pub OkIff-instant : (name : List ℕ) (r : Result ℤ Refusal) (i : ℤ) → OkIff r (IsWallClock i) i →
+pub OkIff-instant : (name : List ℕ) (r : Result ℤ Refusal) (i : ℤ) → OkIff r (IsInstant i) i →
     IfErr r (λ refusal. refusal ≡ outright_refusal name) → r ≡ instant_or_refusal name i
 OkIff-instant name (Ok x) i h refused = ap Ok h.1 ∙ sym (instant_or_refusal-in name i h.0)
 OkIff-instant name (Err refusal) i h refused =
@@ -29,5 +29,5 @@ OkIff-instant name (Err refusal) i h refused =
     (λ last. absurd (h (first, last))))
 
 -- the same answer for an equal number
-pub OkIff-same : (r : Result ℤ Refusal) (i j : ℤ) → OkIff r (IsWallClock i) i → i ≡ j → OkIff r (IsWallClock j) j
+pub OkIff-same : (r : Result ℤ Refusal) (i j : ℤ) → OkIff r (IsInstant i) i → i ≡ j → OkIff r (IsInstant j) j
 OkIff-same r i j h e = rw (← e) h

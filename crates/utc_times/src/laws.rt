@@ -1,11 +1,11 @@
 //! Laws of the definitions that the contracts cite: an instant of the range is counted as a wall clock in UTC,
 //! so they are those of [`plain_times::laws`]. Each function does nothing when it is called.
 ghost use Rattle.std.specs.Prelude.{◌≡◌, ◌↔◌};
-ghost use Rattle.calendar_values.specs.WallClock.{IsWallClock};
 ghost use Rattle.plain_times.specs.Laws.{DifferencesUndoSums, DifferencesLeadBack, ReplacementsKeepTheRest, ReplacedPartsReadAsGiven};
 ghost use Rattle.plain_times.specs.Laws.{TruncationsRoundDown, TruncationsRoundDownOnce, SumsAssociate, SaturatingSumsKeepTheOrder};
 ghost use Rattle.plain_times.specs.Laws.{OutcomesAreAnswers};
 ghost use Rattle.calendar_values.specs.Outcomes.{IsOneAnswer};
+ghost use Rattle.calendar_values.specs.WallClock.{IsInstant};
 ghost use Rattle.utc_times.specs.UnixTime.{instant_outcome};
 
 use crate::UtcDateTime;
@@ -55,7 +55,7 @@ pub fn truncations_round_down_once()
 
 /// As [`plain_times::laws::hashed_by_wall_clock`].
 pub fn hashed_by_instant()
-    ensures { (x y : _) → IsWallClock x → IsWallClock y →
+    ensures { (x y : _) → IsInstant x → IsInstant y →
         (⟦<UtcDateTime as Hash>⟧.hash_input x ≡ ⟦<UtcDateTime as Hash>⟧.hash_input y) ↔ (x ≡ y) }
 {
     plain_times::laws::hashed_by_wall_clock()

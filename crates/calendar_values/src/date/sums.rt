@@ -1,8 +1,9 @@
 //! The dates before and after a date, and sums of a date and a duration.
-ghost use Rattle.std.specs.Prelude.{◌+◌, ◌<◌, ℤ, pos, ◌+ℤ◌, ◌-ℤ◌, ◌/◌, Some, SomeIff};
+ghost use Rattle.std.specs.Prelude.{◌+◌, ◌<◌, ℤ, pos, ◌+ℤ◌, ◌-ℤ◌, ◌/◌, Some};
 ghost use Rattle.std.specs.Duration.{as_nanos};
 ghost use Rattle.calendar_values.specs.Clock.{nanos_per_day};
 ghost use Rattle.calendar_values.specs.Durations.{whole_days_of};
+ghost use Rattle.calendar_values.specs.Range.{SomeDay};
 
 use crate::range::{FIRST_DAY, FIRST_YEAR, LAST_DAY, LAST_YEAR};
 use crate::units::SECONDS_PER_DAY;
@@ -14,11 +15,10 @@ const DAYS_OF_RANGE: i64 = LAST_DAY as i64 - FIRST_DAY as i64;
 
 impl Date {
     ghost use Rattle.calendar_values.specs.Calendar.{days_in_year};
-    ghost use Rattle.calendar_values.specs.Range.{IsDay};
 
     /// The next date, or None at the last.
     pub fn next_day(self) -> Option<Date>
-        ensures { SomeIff result (IsDay (self +ℤ pos 1)) (self +ℤ pos 1) }
+        ensures { SomeDay result (self +ℤ pos 1) }
     {
         if self.ordinal < days_in_year(self.year) {
             return Some(Date {
@@ -37,7 +37,7 @@ impl Date {
 
     /// The date before, or None at the first.
     pub fn previous_day(self) -> Option<Date>
-        ensures { SomeIff result (IsDay (self -ℤ pos 1)) (self -ℤ pos 1) }
+        ensures { SomeDay result (self -ℤ pos 1) }
     {
         if self.ordinal > 1 {
             return Some(Date {
@@ -58,8 +58,7 @@ impl Date {
     /// The date so many whole days later, or earlier for a negative duration, whose days are rounded
     /// towards zero. None outside the range.
     pub fn checked_add(self, duration: SignedDuration) -> Option<Date>
-        ensures { SomeIff result (IsDay (self +ℤ whole_days_of duration))
-            (self +ℤ whole_days_of duration) }
+        ensures { SomeDay result (self +ℤ whole_days_of duration) }
     {
         self.checked_add_days(duration.whole_days())
     }
@@ -68,16 +67,14 @@ impl Date {
     /// towards zero. None outside the range.
     #[tactic(auto, using(crate::specs::SignedArith::signed_arith))]
     pub fn checked_sub(self, duration: SignedDuration) -> Option<Date>
-        ensures { SomeIff result (IsDay (self -ℤ whole_days_of duration))
-            (self -ℤ whole_days_of duration) }
+        ensures { SomeDay result (self -ℤ whole_days_of duration) }
     {
         self.checked_add_days(-duration.whole_days())
     }
 
     /// The date so many whole days later. None outside the range.
     pub fn checked_add_std(self, duration: Duration) -> Option<Date>
-        ensures { SomeIff result (IsDay (self +ℤ pos (as_nanos duration / nanos_per_day)))
-            (self +ℤ pos (as_nanos duration / nanos_per_day)) }
+        ensures { SomeDay result (self +ℤ pos (as_nanos duration / nanos_per_day)) }
     {
         self.checked_add_days((duration.as_secs() / SECONDS_PER_DAY as u64) as i64)
     }
@@ -85,15 +82,14 @@ impl Date {
     /// The date so many whole days earlier. None outside the range.
     #[tactic(auto, using(crate::specs::SignedArith::signed_casts))]
     pub fn checked_sub_std(self, duration: Duration) -> Option<Date>
-        ensures { SomeIff result (IsDay (self -ℤ pos (as_nanos duration / nanos_per_day)))
-            (self -ℤ pos (as_nanos duration / nanos_per_day)) }
+        ensures { SomeDay result (self -ℤ pos (as_nanos duration / nanos_per_day)) }
     {
         self.checked_add_days(-((duration.as_secs() / SECONDS_PER_DAY as u64) as i64))
     }
 
     /// The date so many days later, or earlier for a negative number. None outside the range.
     pub fn checked_add_days(self, days: i64) -> Option<Date>
-        ensures { SomeIff result (IsDay (self +ℤ days)) (self +ℤ days) }
+        ensures { SomeDay result (self +ℤ days) }
     {
         let ordinal = self.ordinal as i64;
         if days < -DAYS_OF_RANGE || days > DAYS_OF_RANGE {

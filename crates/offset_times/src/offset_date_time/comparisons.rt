@@ -10,7 +10,7 @@ ghost use Rattle.plain_times.specs.Packed.{IsParts, packed_wall_clock, wall_cloc
 
 use crate::OffsetDateTime;
 use crate::carries::{to_offset_raw, to_utc_raw};
-use calendar_values::{Time, UtcOffset};
+use calendar_values::UtcOffset;
 use plain_times::packed;
 use std::cmp::Ordering;
 use std::hash::{Hash, Hasher};
@@ -36,36 +36,46 @@ impl OffsetDateTime {
         self.sign_of_shown_after(other)
     }
 
-    // The sign by what clocks at the offset of this one show at both instants.
+    // The sign by what clocks at the offset of this one show at both instants: the own wall clock of the other,
+    // if it has the same offset.
     #[inline(always)]
     fn sign_of_shown_after(self, other: OffsetDateTime) -> i64
+        ensures { int_cmp result (pos 0) ≡ int_cmp (instant_of self) (instant_of other) }
+    {
+        if self.offset() == other.offset() {
+            return sign_of_parts_after(self.raw(), other.raw());
+        }
+        self.sign_converted_after(other)
+    }
+
+    // The same by a conversion. No other call has it in line, so that a comparison stays short.
+    #[inline(never)]
+    fn sign_converted_after(self, other: OffsetDateTime) -> i64
         ensures { int_cmp result (pos 0) ≡ int_cmp (instant_of self) (instant_of other) }
     {
         sign_of_parts_after(self.raw(), other.shown_raw(self.offset()))
     }
 
-    // What clocks at the offset show then, at the own one without a conversion: the year, the day of the year
-    // and the time of day, which are told of a date outside the range too.
+    // What clocks at the offset show then: the year, the day of the year and the nanosecond of the day, which
+    // are told of a date outside the range too.
     #[inline(always)]
-    fn shown_raw(self, offset: UtcOffset) -> (i32, u16, Time)
+    fn shown_raw(self, offset: UtcOffset) -> (i32, u16, u64)
         ensures parts { IsParts result.0 result.1 result.2 }
         ensures shown { wall_clock_of_parts result.0 result.1 result.2 ≡
             shown_at (instant_of self) offset }
     {
-        if self.offset() == offset {
-            return self.raw();
-        }
-        to_offset_raw(self, offset)
+        let (year, ordinal, time) = to_offset_raw(self, offset);
+        (year, ordinal, time.nanosecond_of_day())
     }
 
-    // The year, the day of the year and the time of day of the wall clock.
+    // The year, the day of the year and the nanosecond of the day of the wall clock.
     #[inline(always)]
-    fn raw(self) -> (i32, u16, Time)
+    fn raw(self) -> (i32, u16, u64)
         ensures parts { IsParts result.0 result.1 result.2 }
         ensures shown { wall_clock_of_parts result.0 result.1 result.2 ≡ self.wall }
     {
         let (year, ordinal) = self.to_ordinal_date();
-        (year, ordinal, self.time())
+        (year, ordinal, self.time().nanosecond_of_day())
     }
 
     // What clocks in UTC show then, in one number, which is told of an instant outside the range too.
@@ -89,17 +99,17 @@ impl OffsetDateTime {
 
 // A number of the sign of the time from the second wall clock to the first.
 #[inline(always)]
-fn sign_of_parts_after(at: (i32, u16, Time), other: (i32, u16, Time)) -> i64
+fn sign_of_parts_after(at: (i32, u16, u64), other: (i32, u16, u64)) -> i64
     requires parts { IsParts at.0 at.1 at.2 }
     requires other_parts { IsParts other.0 other.1 other.2 }
     ensures { int_cmp result (pos 0) ≡ int_cmp (wall_clock_of_parts at.0 at.1 at.2)
         (wall_clock_of_parts other.0 other.1 other.2) }
 {
-    let (year, ordinal, time) = at;
-    let (other_year, other_ordinal, other_time) = other;
+    let (year, ordinal, nanosecond) = at;
+    let (other_year, other_ordinal, other_nanosecond) = other;
     let days = rough_days((year, ordinal), (other_year, other_ordinal));
     // Told before the days are looked at, so that no branch waits for them.
-    let nanoseconds = time.nanosecond_of_day() as i64 - other_time.nanosecond_of_day() as i64;
+    let nanoseconds = nanosecond as i64 - other_nanosecond as i64;
     if days == 0 { nanoseconds } else { days }
 }
 

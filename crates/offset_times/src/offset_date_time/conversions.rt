@@ -1,9 +1,9 @@
 //! Conversions to another offset, and to UTC.
-ghost use Rattle.std.specs.Prelude.{◌≡◌, IfSome, SomeIff};
+ghost use Rattle.std.specs.Prelude.{◌≡◌, IfSome};
 ghost use Rattle.calendar_values.specs.Calendar.{day_of_ordinal_date, IsOrdinalDate};
 ghost use Rattle.calendar_values.specs.Clock.{IsClock};
-ghost use Rattle.calendar_values.specs.WallClock.{wall_clock, IsWallClock};
-ghost use Rattle.offset_times.specs.Local.{instant_of, shown_at, local_at};
+ghost use Rattle.calendar_values.specs.WallClock.{wall_clock, IsWallClock, SomeInRange, IsInstant};
+ghost use Rattle.offset_times.specs.Local.{instant_of, shown_at, local_at, ShownAt};
 
 use crate::carries::{to_offset_raw, to_utc_raw};
 use crate::{Assume, OffsetDateTime};
@@ -26,8 +26,7 @@ impl OffsetDateTime {
     /// The same instant at another offset. None where the clocks there show a date outside the range;
     /// whether the date in UTC lies in it does not matter.
     pub fn checked_to_offset(self, offset: UtcOffset) -> Option<OffsetDateTime>
-        ensures value { SomeIff result (IsWallClock (shown_at (instant_of self) offset))
-            (local_at (instant_of self) offset) }
+        ensures value { ShownAt result (instant_of self) offset }
         ensures instant { IfSome result (λ at. instant_of at ≡ instant_of self) }
     {
         if self.offset() == offset {
@@ -40,7 +39,7 @@ impl OffsetDateTime {
     /// The same instant in UTC, which must lie in the range: where the `time` crate panics, the caller has
     /// to show that, or asks [`OffsetDateTime::checked_to_utc`].
     pub fn to_utc(self) -> UtcDateTime
-        requires { IsWallClock (instant_of self) }
+        requires { IsInstant (instant_of self) }
         ensures { result ≡ instant_of self }
     {
         self.checked_to_utc().unwrap()
@@ -48,7 +47,7 @@ impl OffsetDateTime {
 
     /// The same instant in UTC. None outside the range.
     pub fn checked_to_utc(self) -> Option<UtcDateTime>
-        ensures { SomeIff result (IsWallClock (instant_of self)) (instant_of self) }
+        ensures { SomeInRange result (instant_of self) }
     {
         if self.offset().is_utc() {
             return Some(self.date_time().as_utc());
@@ -62,8 +61,7 @@ impl OffsetDateTime {
 pub(crate) fn date_time_if_any(year: i32, ordinal: u16, time: Time) -> Option<PlainDateTime>
     requires date { IsOrdinalDate year ordinal }
     requires clock { IsClock time }
-    ensures { SomeIff result (IsWallClock (wall_clock (day_of_ordinal_date year ordinal) time))
-        (wall_clock (day_of_ordinal_date year ordinal) time) }
+    ensures { SomeInRange result (wall_clock (day_of_ordinal_date year ordinal) time) }
 {
     match Date::from_ordinal_date(year, ordinal) {
         Ok(date) => Some(PlainDateTime::new(date, time)),

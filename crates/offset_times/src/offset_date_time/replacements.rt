@@ -55,7 +55,6 @@ impl OffsetDateTime {
     }
 
     /// As [`Date::replace_year`], of the day of the wall clock, with the time of day and the offset kept.
-    #[tactic(auto, unfolding(calendar_values::specs::Outcomes::answer_within))]
     pub fn replace_year(self, year: i32) -> Result<OffsetDateTime, ComponentRange>
         ensures value { let w = self.wall in
             Gives result (within (at_offset_of self) (wall_year_outcome w year)) }
@@ -66,7 +65,6 @@ impl OffsetDateTime {
     }
 
     /// As [`Date::replace_month`], of the day of the wall clock, with the time of day and the offset kept.
-    #[tactic(auto, unfolding(calendar_values::specs::Outcomes::answer_within))]
     pub fn replace_month(self, month: Month) -> Result<OffsetDateTime, ComponentRange>
         ensures value { let w = self.wall in
             Gives result (within (at_offset_of self) (wall_month_outcome w (month_number month))) }
@@ -77,7 +75,6 @@ impl OffsetDateTime {
     }
 
     /// As [`Date::replace_day`], of the day of the wall clock, with the time of day and the offset kept.
-    #[tactic(auto, unfolding(calendar_values::specs::Outcomes::answer_within))]
     pub fn replace_day(self, day: u8) -> Result<OffsetDateTime, ComponentRange>
         ensures value { let w = self.wall in
             Gives result (within (at_offset_of self) (wall_day_outcome w day)) }
@@ -88,7 +85,6 @@ impl OffsetDateTime {
     }
 
     /// As [`Date::replace_ordinal`], of the day of the wall clock, with the time of day and the offset kept.
-    #[tactic(auto, unfolding(calendar_values::specs::Outcomes::answer_within))]
     pub fn replace_ordinal(self, ordinal: u16) -> Result<OffsetDateTime, ComponentRange>
         ensures value { let w = self.wall in
             Gives result (within (at_offset_of self) (wall_ordinal_outcome w ordinal)) }
@@ -114,7 +110,6 @@ impl OffsetDateTime {
     }
 
     /// As [`Time::replace_hour`], of the time of day of the wall clock, with the date and the offset kept.
-    #[tactic(auto, unfolding(calendar_values::specs::Outcomes::answer_within))]
     pub fn replace_hour(self, hour: u8) -> Result<OffsetDateTime, ComponentRange>
         ensures value { let w = self.wall in
             Gives result (within (at_offset_of self) (wall_hour_outcome w hour)) }
@@ -137,7 +132,6 @@ impl OffsetDateTime {
     }
 
     /// As [`Time::replace_minute`], of the time of day of the wall clock, with the date and the offset kept.
-    #[tactic(auto, unfolding(calendar_values::specs::Outcomes::answer_within))]
     pub fn replace_minute(self, minute: u8) -> Result<OffsetDateTime, ComponentRange>
         ensures value { let w = self.wall in
             Gives result (within (at_offset_of self) (wall_minute_outcome w minute)) }
@@ -160,7 +154,6 @@ impl OffsetDateTime {
     }
 
     /// As [`Time::replace_second`], of the time of day of the wall clock, with the date and the offset kept.
-    #[tactic(auto, unfolding(calendar_values::specs::Outcomes::answer_within))]
     pub fn replace_second(self, second: u8) -> Result<OffsetDateTime, ComponentRange>
         ensures value { let w = self.wall in
             Gives result (within (at_offset_of self) (wall_second_outcome w second)) }
@@ -184,7 +177,6 @@ impl OffsetDateTime {
 
     /// As [`Time::replace_millisecond`], of the time of day of the wall clock, with the date and the offset
     /// kept.
-    #[tactic(auto, unfolding(calendar_values::specs::Outcomes::answer_within))]
     pub fn replace_millisecond(self, millisecond: u16) -> Result<OffsetDateTime, ComponentRange>
         ensures value { let w = self.wall in
             Gives result (within (at_offset_of self) (wall_millisecond_outcome w millisecond)) }
@@ -208,7 +200,6 @@ impl OffsetDateTime {
 
     /// As [`Time::replace_microsecond`], of the time of day of the wall clock, with the date and the offset
     /// kept.
-    #[tactic(auto, unfolding(calendar_values::specs::Outcomes::answer_within))]
     pub fn replace_microsecond(self, microsecond: u32) -> Result<OffsetDateTime, ComponentRange>
         ensures value { let w = self.wall in
             Gives result (within (at_offset_of self) (wall_microsecond_outcome w microsecond)) }
@@ -232,7 +223,6 @@ impl OffsetDateTime {
 
     /// As [`Time::replace_nanosecond`], of the time of day of the wall clock, with the date and the offset
     /// kept.
-    #[tactic(auto, unfolding(calendar_values::specs::Outcomes::answer_within))]
     pub fn replace_nanosecond(self, nanosecond: u32) -> Result<OffsetDateTime, ComponentRange>
         ensures value { let w = self.wall in
             Gives result (within (at_offset_of self) (wall_nanosecond_outcome w nanosecond)) }

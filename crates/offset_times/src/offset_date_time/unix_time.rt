@@ -13,7 +13,6 @@ use utc_times::{AsUtc, UtcDateTime};
 impl OffsetDateTime {
     /// The instant of a Unix second, in UTC. Refused `timestamp` before that of [`UtcDateTime::MIN`] or after
     /// that of [`UtcDateTime::MAX`].
-    #[tactic(auto, unfolding(calendar_values::specs::Outcomes::answer_within))]
     pub fn from_unix_timestamp(timestamp: i64) -> Result<OffsetDateTime, ComponentRange>
         ensures value { let i = instant_of_second timestamp in
             Gives result (within local_in_utc (instant_outcome (codes "timestamp") i)) }
@@ -24,7 +23,6 @@ impl OffsetDateTime {
 
     /// The instant so many nanoseconds from 1970-01-01 0:00 UTC, in UTC. Refused `timestamp` before
     /// [`UtcDateTime::MIN`] or after [`UtcDateTime::MAX`].
-    #[tactic(auto, unfolding(calendar_values::specs::Outcomes::answer_within))]
     pub fn from_unix_timestamp_nanos(timestamp: i128) -> Result<OffsetDateTime, ComponentRange>
         ensures value { Gives result
             (within local_in_utc (instant_outcome (codes "timestamp") timestamp)) }

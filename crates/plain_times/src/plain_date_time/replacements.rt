@@ -32,7 +32,6 @@ impl PlainDateTime {
     }
 
     /// As [`Date::replace_year`] of the date, with the time of day kept.
-    #[tactic(auto, unfolding(calendar_values::specs::Outcomes::answer_within))]
     pub fn replace_year(self, year: i32) -> Result<PlainDateTime, ComponentRange>
         ensures value { Gives result (wall_year_outcome self year) }
         ensures shown { IfOk result (ShowsYear self year) }
@@ -41,7 +40,6 @@ impl PlainDateTime {
     }
 
     /// As [`Date::replace_month`] of the date, with the time of day kept.
-    #[tactic(auto, unfolding(calendar_values::specs::Outcomes::answer_within))]
     pub fn replace_month(self, month: Month) -> Result<PlainDateTime, ComponentRange>
         ensures value { Gives result (wall_month_outcome self (month_number month)) }
         ensures shown { IfOk result (ShowsMonth self (month_number month)) }
@@ -50,7 +48,6 @@ impl PlainDateTime {
     }
 
     /// As [`Date::replace_day`] of the date, with the time of day kept.
-    #[tactic(auto, unfolding(calendar_values::specs::Outcomes::answer_within))]
     pub fn replace_day(self, day: u8) -> Result<PlainDateTime, ComponentRange>
         ensures value { Gives result (wall_day_outcome self day) }
         ensures shown { IfOk result (ShowsDay self day) }
@@ -59,7 +56,6 @@ impl PlainDateTime {
     }
 
     /// As [`Date::replace_ordinal`] of the date, with the time of day kept.
-    #[tactic(auto, unfolding(calendar_values::specs::Outcomes::answer_within))]
     pub fn replace_ordinal(self, ordinal: u16) -> Result<PlainDateTime, ComponentRange>
         ensures value { Gives result (wall_ordinal_outcome self ordinal) }
         ensures shown { IfOk result (ShowsOrdinal self ordinal) }
@@ -79,7 +75,7 @@ impl PlainDateTime {
     }
 
     /// As [`Time::replace_hour`] of the time of day, with the date kept.
-    #[tactic(auto, using(crate::specs::ReplacementLemmas::times), unfolding(calendar_values::specs::Outcomes::answer_within))]
+    #[tactic(auto, using(crate::specs::ReplacementLemmas::times))]
     pub fn replace_hour(self, hour: u8) -> Result<PlainDateTime, ComponentRange>
         ensures value { Gives result (wall_hour_outcome self hour) }
         ensures shown { IfOk result (ShowsHour self hour) }
@@ -96,7 +92,7 @@ impl PlainDateTime {
     }
 
     /// As [`Time::replace_minute`] of the time of day, with the date kept.
-    #[tactic(auto, using(crate::specs::ReplacementLemmas::times), unfolding(calendar_values::specs::Outcomes::answer_within))]
+    #[tactic(auto, using(crate::specs::ReplacementLemmas::times))]
     pub fn replace_minute(self, minute: u8) -> Result<PlainDateTime, ComponentRange>
         ensures value { Gives result (wall_minute_outcome self minute) }
         ensures shown { IfOk result (ShowsMinute self minute) }
@@ -113,7 +109,7 @@ impl PlainDateTime {
     }
 
     /// As [`Time::replace_second`] of the time of day, with the date kept.
-    #[tactic(auto, using(crate::specs::ReplacementLemmas::times), unfolding(calendar_values::specs::Outcomes::answer_within))]
+    #[tactic(auto, using(crate::specs::ReplacementLemmas::times))]
     pub fn replace_second(self, second: u8) -> Result<PlainDateTime, ComponentRange>
         ensures value { Gives result (wall_second_outcome self second) }
         ensures shown { IfOk result (ShowsSecond self second) }
@@ -130,7 +126,7 @@ impl PlainDateTime {
     }
 
     /// As [`Time::replace_millisecond`] of the time of day, with the date kept.
-    #[tactic(auto, using(crate::specs::ReplacementLemmas::times), unfolding(calendar_values::specs::Outcomes::answer_within))]
+    #[tactic(auto, using(crate::specs::ReplacementLemmas::times))]
     pub fn replace_millisecond(self, millisecond: u16) -> Result<PlainDateTime, ComponentRange>
         ensures value { Gives result (wall_millisecond_outcome self millisecond) }
         ensures shown { IfOk result (ShowsMillisecond self millisecond) }
@@ -147,7 +143,7 @@ impl PlainDateTime {
     }
 
     /// As [`Time::replace_microsecond`] of the time of day, with the date kept.
-    #[tactic(auto, using(crate::specs::ReplacementLemmas::times), unfolding(calendar_values::specs::Outcomes::answer_within))]
+    #[tactic(auto, using(crate::specs::ReplacementLemmas::times))]
     pub fn replace_microsecond(self, microsecond: u32) -> Result<PlainDateTime, ComponentRange>
         ensures value { Gives result (wall_microsecond_outcome self microsecond) }
         ensures shown { IfOk result (ShowsMicrosecond self microsecond) }
@@ -164,7 +160,7 @@ impl PlainDateTime {
     }
 
     /// As [`Time::replace_nanosecond`] of the time of day, with the date kept.
-    #[tactic(auto, using(crate::specs::ReplacementLemmas::times), unfolding(calendar_values::specs::Outcomes::answer_within))]
+    #[tactic(auto, using(crate::specs::ReplacementLemmas::times))]
     pub fn replace_nanosecond(self, nanosecond: u32) -> Result<PlainDateTime, ComponentRange>
         ensures value { Gives result (wall_nanosecond_outcome self nanosecond) }
         ensures shown { IfOk result (ShowsNanosecond self nanosecond) }

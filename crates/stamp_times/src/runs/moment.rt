@@ -1,10 +1,10 @@
 //! What instants of every type have in common.
-ghost use Rattle.std.specs.Prelude.{◌≡◌, ℤ, option_map, IfSome, SomeIff, IfOk, IsOk};
+ghost use Rattle.std.specs.Prelude.{◌≡◌, ℤ, option_map, IfSome, IfOk, IsOk};
 ghost use Rattle.std.specs.Ordering.{int_eq, int_cmp};
 ghost use Rattle.std.specs.Result.{result_map_both};
 ghost use Rattle.std.proofs.Common.{refl};
-ghost use Rattle.calendar_values.specs.WallClock.{wall_day, wall_time, IsWallClock};
-ghost use Rattle.offset_times.specs.Local.{instant_of, shown_at, local_at};
+ghost use Rattle.calendar_values.specs.WallClock.{wall_day, wall_time, IsInstant};
+ghost use Rattle.offset_times.specs.Local.{instant_of, shown_at, local_at, ShownAt};
 ghost use Rattle.stamp_times.specs.Counter.{date_part_of, clock_part_of, instant_after_shift, instant_after_replacement, Shifts, Saturates};
 ghost use Rattle.stamp_times.specs.Counter.{IsReplaceable, ShowsReplaced};
 
@@ -47,13 +47,12 @@ pub trait Moment: Copy + Eq + Ord + Hash {
     fn parts(self) -> (Date, Time)
         ensures date { result.0 ≡ wall_day (instant self) }
         ensures time { result.1 ≡ wall_time (instant self) }
-        ensures self_in_range { IsWallClock (instant self) };
+        ensures self_in_range { IsInstant (instant self) };
 
     /// What clocks at the offset show at the instant, with the offset, as
     /// [`ToOffset::checked_to_offset`]. None where that is out of the range.
     fn at_offset(self, offset: UtcOffset) -> Option<OffsetDateTime>
-        ensures value { SomeIff result (IsWallClock (shown_at (instant self) offset))
-            (local_at (instant self) offset) }
+        ensures value { ShownAt result (instant self) offset }
         ensures instant { IfSome result (λ at. instant_of at ≡ instant self) };
 
     /// Values are equal exactly where their instants are.

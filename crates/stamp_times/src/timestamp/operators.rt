@@ -1,7 +1,7 @@
 //! Sums and differences by operators.
 ghost use Rattle.std.specs.Prelude.{◌≡◌, pos, ◌+ℤ◌, ◌-ℤ◌};
 ghost use Rattle.std.specs.Duration.{as_nanos};
-ghost use Rattle.calendar_values.specs.WallClock.{IsWallClock};
+ghost use Rattle.calendar_values.specs.WallClock.{IsInstant};
 
 use crate::Timestamp;
 use calendar_values::SignedDuration;
@@ -11,7 +11,7 @@ use std::time::Duration;
 impl Add<SignedDuration> for Timestamp {
     type Output = Timestamp;
 
-    ghost can_add = { λ at duration. IsWallClock (at +ℤ duration) };
+    ghost can_add = { λ at duration. IsInstant (at +ℤ duration) };
 
     ghost add_gives = { λ at duration sum. sum ≡ at +ℤ duration };
 
@@ -21,7 +21,7 @@ impl Add<SignedDuration> for Timestamp {
 }
 
 impl AddAssign<SignedDuration> for Timestamp {
-    ghost can_add_assign = { λ at duration. IsWallClock (at +ℤ duration) };
+    ghost can_add_assign = { λ at duration. IsInstant (at +ℤ duration) };
 
     ghost add_assign_gives = { λ at duration sum. sum ≡ at +ℤ duration };
 
@@ -33,7 +33,7 @@ impl AddAssign<SignedDuration> for Timestamp {
 impl Add<Duration> for Timestamp {
     type Output = Timestamp;
 
-    ghost can_add = { λ at duration. IsWallClock (at +ℤ pos (as_nanos duration)) };
+    ghost can_add = { λ at duration. IsInstant (at +ℤ pos (as_nanos duration)) };
 
     ghost add_gives = { λ at duration sum. sum ≡ at +ℤ pos (as_nanos duration) };
 
@@ -43,7 +43,7 @@ impl Add<Duration> for Timestamp {
 }
 
 impl AddAssign<Duration> for Timestamp {
-    ghost can_add_assign = { λ at duration. IsWallClock (at +ℤ pos (as_nanos duration)) };
+    ghost can_add_assign = { λ at duration. IsInstant (at +ℤ pos (as_nanos duration)) };
 
     ghost add_assign_gives = { λ at duration sum. sum ≡ at +ℤ pos (as_nanos duration) };
 
@@ -55,7 +55,7 @@ impl AddAssign<Duration> for Timestamp {
 impl Sub<SignedDuration> for Timestamp {
     type Output = Timestamp;
 
-    ghost can_sub = { λ at duration. IsWallClock (at -ℤ duration) };
+    ghost can_sub = { λ at duration. IsInstant (at -ℤ duration) };
 
     ghost sub_gives = { λ at duration difference. difference ≡ at -ℤ duration };
 
@@ -65,7 +65,7 @@ impl Sub<SignedDuration> for Timestamp {
 }
 
 impl SubAssign<SignedDuration> for Timestamp {
-    ghost can_sub_assign = { λ at duration. IsWallClock (at -ℤ duration) };
+    ghost can_sub_assign = { λ at duration. IsInstant (at -ℤ duration) };
 
     ghost sub_assign_gives = { λ at duration difference. difference ≡ at -ℤ duration };
 
@@ -77,7 +77,7 @@ impl SubAssign<SignedDuration> for Timestamp {
 impl Sub<Duration> for Timestamp {
     type Output = Timestamp;
 
-    ghost can_sub = { λ at duration. IsWallClock (at -ℤ pos (as_nanos duration)) };
+    ghost can_sub = { λ at duration. IsInstant (at -ℤ pos (as_nanos duration)) };
 
     ghost sub_gives = { λ at duration difference. difference ≡ at -ℤ pos (as_nanos duration) };
 
@@ -87,7 +87,7 @@ impl Sub<Duration> for Timestamp {
 }
 
 impl SubAssign<Duration> for Timestamp {
-    ghost can_sub_assign = { λ at duration. IsWallClock (at -ℤ pos (as_nanos duration)) };
+    ghost can_sub_assign = { λ at duration. IsInstant (at -ℤ pos (as_nanos duration)) };
 
     ghost sub_assign_gives = { λ at duration difference.
         difference ≡ at -ℤ pos (as_nanos duration) };

@@ -7,7 +7,7 @@ ghost use Rattle.calendar_values.specs.Clock.{second_of, millisecond_of, microse
 ghost use Rattle.calendar_values.specs.Dates.{IsCalendarDateOf, IsOrdinalDateOf, IsIsoWeekDateOf};
 ghost use Rattle.calendar_values.specs.Month.{month_number};
 ghost use Rattle.calendar_values.specs.Range.{IsDay, IsYear};
-ghost use Rattle.calendar_values.specs.WallClock.{wall_day, wall_time, IsWallClock};
+ghost use Rattle.calendar_values.specs.WallClock.{wall_day, wall_time, IsInstant};
 ghost use Rattle.calendar_values.specs.Weekday.{weekday_number};
 ghost use Rattle.calendar_values.specs.Weeks.{iso_week_of, sunday_week_of, monday_week_of, weekday_of};
 
@@ -41,7 +41,7 @@ impl Timestamp {
     /// The date.
     pub fn date(self) -> Date
         ensures value { result ≡ wall_day self }
-        ensures self_in_range { IsWallClock self }
+        ensures self_in_range { IsInstant self }
     {
         let (year, _, ordinal) = year_leap_ordinal(self.day_number());
         Date::at_ordinal_date(year, ordinal)
@@ -50,7 +50,7 @@ impl Timestamp {
     /// The time of day.
     pub fn time(self) -> Time
         ensures value { result ≡ wall_time self }
-        ensures self_in_range { IsWallClock self }
+        ensures self_in_range { IsInstant self }
     {
         Time::at_second_of_day(self.second_of_day(), self.nanosecond())
     }
@@ -155,7 +155,7 @@ impl Timestamp {
     /// As [`Date::to_julian_day`], of the day in UTC.
     pub fn to_julian_day(self) -> i32
         ensures value { result ≡ julian_day_of (wall_day self) }
-        ensures self_in_range { IsWallClock self }
+        ensures self_in_range { IsInstant self }
     {
         self.day_number() + EPOCH_JULIAN_DAY
     }

@@ -45,7 +45,6 @@ impl Timestamp {
     }
 
     /// As [`Date::replace_month`], of the day in UTC, with the time of day kept.
-    #[tactic(auto, unfolding(calendar_values::specs::Outcomes::answer_within))]
     pub fn replace_month(self, month: Month) -> Result<Timestamp, ComponentRange>
         ensures value { Gives result (wall_month_outcome self (month_number month)) }
         ensures shown { IfOk result (ShowsMonth self (month_number month)) }
@@ -54,7 +53,6 @@ impl Timestamp {
     }
 
     /// As [`Date::replace_day`], of the day in UTC, with the time of day kept.
-    #[tactic(auto, unfolding(calendar_values::specs::Outcomes::answer_within))]
     pub fn replace_day(self, day: u8) -> Result<Timestamp, ComponentRange>
         ensures value { Gives result (wall_day_outcome self day) }
         ensures shown { IfOk result (ShowsDay self day) }
@@ -63,7 +61,6 @@ impl Timestamp {
     }
 
     /// As [`Date::replace_ordinal`], of the day in UTC, with the time of day kept.
-    #[tactic(auto, unfolding(calendar_values::specs::Outcomes::answer_within))]
     pub fn replace_ordinal(self, ordinal: u16) -> Result<Timestamp, ComponentRange>
         ensures value { Gives result (wall_ordinal_outcome self ordinal) }
         ensures shown { IfOk result (ShowsOrdinal self ordinal) }
@@ -72,7 +69,7 @@ impl Timestamp {
     }
 
     /// As [`Time::replace_hour`], of the time of day in UTC, with the date kept.
-    #[tactic(auto, using(plain_times::specs::ReplacementLemmas::times), unfolding(calendar_values::specs::Outcomes::answer_within))]
+    #[tactic(auto, using(plain_times::specs::ReplacementLemmas::times))]
     pub fn replace_hour(self, hour: u8) -> Result<Timestamp, ComponentRange>
         ensures value { Gives result (wall_hour_outcome self hour) }
         ensures shown { IfOk result (ShowsHour self hour) }
@@ -81,7 +78,7 @@ impl Timestamp {
     }
 
     /// As [`Time::replace_minute`], of the time of day in UTC, with the date kept.
-    #[tactic(auto, using(plain_times::specs::ReplacementLemmas::times), unfolding(calendar_values::specs::Outcomes::answer_within))]
+    #[tactic(auto, using(plain_times::specs::ReplacementLemmas::times))]
     pub fn replace_minute(self, minute: u8) -> Result<Timestamp, ComponentRange>
         ensures value { Gives result (wall_minute_outcome self minute) }
         ensures shown { IfOk result (ShowsMinute self minute) }
@@ -90,7 +87,7 @@ impl Timestamp {
     }
 
     /// As [`Time::replace_second`], of the time of day in UTC, with the date kept.
-    #[tactic(auto, using(plain_times::specs::ReplacementLemmas::times), unfolding(calendar_values::specs::Outcomes::answer_within))]
+    #[tactic(auto, using(plain_times::specs::ReplacementLemmas::times))]
     pub fn replace_second(self, second: u8) -> Result<Timestamp, ComponentRange>
         ensures value { Gives result (wall_second_outcome self second) }
         ensures shown { IfOk result (ShowsSecond self second) }
@@ -100,7 +97,6 @@ impl Timestamp {
 
     /// As [`Time::replace_millisecond`], of the time of day in UTC, with the date kept: the Unix second is
     /// kept, before 1970 too.
-    #[tactic(auto, unfolding(calendar_values::specs::Outcomes::answer_within))]
     pub fn replace_millisecond(self, millisecond: u16) -> Result<Timestamp, ComponentRange>
         ensures value { Gives result (wall_millisecond_outcome self millisecond) }
         ensures shown { IfOk result (ShowsMillisecond self millisecond) }
@@ -113,7 +109,6 @@ impl Timestamp {
 
     /// As [`Time::replace_microsecond`], of the time of day in UTC, with the date kept: the Unix second is
     /// kept, before 1970 too.
-    #[tactic(auto, unfolding(calendar_values::specs::Outcomes::answer_within))]
     pub fn replace_microsecond(self, microsecond: u32) -> Result<Timestamp, ComponentRange>
         ensures value { Gives result (wall_microsecond_outcome self microsecond) }
         ensures shown { IfOk result (ShowsMicrosecond self microsecond) }
@@ -126,7 +121,6 @@ impl Timestamp {
 
     /// As [`Time::replace_nanosecond`], of the time of day in UTC, with the date kept: the Unix second is kept,
     /// before 1970 too.
-    #[tactic(auto, unfolding(calendar_values::specs::Outcomes::answer_within))]
     pub fn replace_nanosecond(self, nanosecond: u32) -> Result<Timestamp, ComponentRange>
         ensures value { Gives result (wall_nanosecond_outcome self nanosecond) }
         ensures shown { IfOk result (ShowsNanosecond self nanosecond) }

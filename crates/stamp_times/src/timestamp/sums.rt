@@ -1,8 +1,8 @@
 //! Sums of a timestamp and a duration, in seconds and nanoseconds.
-ghost use Rattle.std.specs.Prelude.{◌<◌, pos, ◌+ℤ◌, ◌-ℤ◌, unsigned_abs, SomeIff};
+ghost use Rattle.std.specs.Prelude.{◌<◌, pos, ◌+ℤ◌, ◌-ℤ◌, unsigned_abs};
 ghost use Rattle.std.specs.Duration.{as_nanos};
 ghost use Rattle.calendar_values.specs.Clock.{nanos_per_second};
-ghost use Rattle.calendar_values.specs.WallClock.{IsWallClock};
+ghost use Rattle.calendar_values.specs.WallClock.{SomeInRange};
 ghost use Rattle.plain_times.specs.Sums.{IsSaturatingSum, IsSaturatingDifference};
 ghost use Rattle.stamp_times.specs.Instants.{instant_of_parts};
 
@@ -15,7 +15,7 @@ use std::time::Duration;
 impl Timestamp {
     /// The instant so much later, or earlier for a negative duration. None outside the range.
     pub fn checked_add(self, duration: SignedDuration) -> Option<Timestamp>
-        ensures { SomeIff result (IsWallClock (self +ℤ duration)) (self +ℤ duration) }
+        ensures { SomeInRange result (self +ℤ duration) }
     {
         let seconds = self.as_seconds().checked_add(duration.whole_seconds())?;
         carried(seconds, self.nanosecond(), duration.subsec_nanoseconds())
@@ -23,7 +23,7 @@ impl Timestamp {
 
     /// The instant so much earlier, or later for a negative duration. None outside the range.
     pub fn checked_sub(self, duration: SignedDuration) -> Option<Timestamp>
-        ensures { SomeIff result (IsWallClock (self -ℤ duration)) (self -ℤ duration) }
+        ensures { SomeInRange result (self -ℤ duration) }
     {
         let seconds = self.as_seconds().checked_sub(duration.whole_seconds())?;
         carried(seconds, self.nanosecond(), -duration.subsec_nanoseconds())
@@ -31,8 +31,7 @@ impl Timestamp {
 
     /// The instant so much later. None outside the range.
     pub fn checked_add_std(self, duration: Duration) -> Option<Timestamp>
-        ensures { SomeIff result (IsWallClock (self +ℤ pos (as_nanos duration)))
-            (self +ℤ pos (as_nanos duration)) }
+        ensures { SomeInRange result (self +ℤ pos (as_nanos duration)) }
     {
         let seconds = self.as_seconds().checked_add_unsigned(duration.as_secs())?;
         carried(seconds, self.nanosecond(), duration.subsec_nanos() as i32)
@@ -40,8 +39,7 @@ impl Timestamp {
 
     /// The instant so much earlier. None outside the range.
     pub fn checked_sub_std(self, duration: Duration) -> Option<Timestamp>
-        ensures { SomeIff result (IsWallClock (self -ℤ pos (as_nanos duration)))
-            (self -ℤ pos (as_nanos duration)) }
+        ensures { SomeInRange result (self -ℤ pos (as_nanos duration)) }
     {
         let seconds = self.as_seconds().checked_sub_unsigned(duration.as_secs())?;
         carried(
@@ -85,8 +83,7 @@ impl Timestamp {
 fn carried(seconds: i64, nanosecond: u32, change: i32) -> Option<Timestamp>
     requires nanosecond { nanosecond < nanos_per_second }
     requires change { unsigned_abs change < nanos_per_second }
-    ensures { let sum = instant_of_parts seconds nanosecond +ℤ change in
-        SomeIff result (IsWallClock sum) sum }
+    ensures { SomeInRange result (instant_of_parts seconds nanosecond +ℤ change) }
 {
     let nanoseconds = nanosecond as i32 + change;
     if nanoseconds < 0 {
@@ -107,8 +104,7 @@ fn carried(seconds: i64, nanosecond: u32, change: i32) -> Option<Timestamp>
 // The instant of a second and a nanosecond of that second, if the range has it.
 fn from_parts(seconds: i64, nanosecond: u32) -> Option<Timestamp>
     requires { nanosecond < nanos_per_second }
-    ensures { SomeIff result (IsWallClock (instant_of_parts seconds nanosecond))
-        (instant_of_parts seconds nanosecond) }
+    ensures { SomeInRange result (instant_of_parts seconds nanosecond) }
 {
     if seconds < FIRST_SECOND || seconds > LAST_SECOND {
         return None;

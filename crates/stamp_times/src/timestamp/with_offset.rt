@@ -1,8 +1,8 @@
 //! Timestamps and date-times at offsets from UTC: the same instants.
-ghost use Rattle.std.specs.Prelude.{◌≡◌, ◌-ℤ◌, pos, IfSome, SomeIff};
+ghost use Rattle.std.specs.Prelude.{◌≡◌, ◌-ℤ◌, pos, IfSome};
 ghost use Rattle.std.specs.Ordering.{int_eq, int_cmp};
 ghost use Rattle.calendar_values.specs.WallClock.{IsWallClock};
-ghost use Rattle.offset_times.specs.Local.{instant_of, shown_at, local_in_utc, local_at};
+ghost use Rattle.offset_times.specs.Local.{instant_of, shown_at, local_in_utc, local_at, ShownAt};
 
 use crate::Timestamp;
 use calendar_values::{SignedDuration, UtcOffset};
@@ -23,7 +23,7 @@ impl Timestamp {
 
     /// The same instant at an offset. None where the clocks there show a date outside the range.
     pub fn checked_to_offset(self, offset: UtcOffset) -> Option<OffsetDateTime>
-        ensures value { SomeIff result (IsWallClock (shown_at self offset)) (local_at self offset) }
+        ensures value { ShownAt result self offset }
         ensures instant { IfSome result (λ at. instant_of at ≡ self) }
     {
         self.to_utc().checked_to_offset(offset)

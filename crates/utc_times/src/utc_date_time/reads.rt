@@ -7,7 +7,7 @@ ghost use Rattle.calendar_values.specs.Clock.{millisecond_of, microsecond_of, na
 ghost use Rattle.calendar_values.specs.Dates.{IsCalendarDateOf, IsOrdinalDateOf, IsIsoWeekDateOf};
 ghost use Rattle.calendar_values.specs.Month.{month_number};
 ghost use Rattle.calendar_values.specs.Range.{IsYear};
-ghost use Rattle.calendar_values.specs.WallClock.{wall_day, wall_time, IsWallClock};
+ghost use Rattle.calendar_values.specs.WallClock.{wall_day, wall_time, IsInstant};
 ghost use Rattle.calendar_values.specs.Weekday.{weekday_number};
 ghost use Rattle.calendar_values.specs.Weeks.{iso_week_of, sunday_week_of, monday_week_of, weekday_of};
 
@@ -18,7 +18,7 @@ impl UtcDateTime {
     /// The date.
     pub fn date(self) -> Date
         ensures value { result ≡ wall_day self }
-        ensures self_in_range { IsWallClock self }
+        ensures self_in_range { IsInstant self }
     {
         self.as_plain().date()
     }
@@ -26,7 +26,7 @@ impl UtcDateTime {
     /// The time of day.
     pub fn time(self) -> Time
         ensures value { result ≡ wall_time self }
-        ensures self_in_range { IsWallClock self }
+        ensures self_in_range { IsInstant self }
     {
         self.as_plain().time()
     }
@@ -117,7 +117,7 @@ impl UtcDateTime {
     /// As [`Date::to_julian_day`], of the day in UTC.
     pub fn to_julian_day(self) -> i32
         ensures value { result ≡ julian_day_of (wall_day self) }
-        ensures self_in_range { IsWallClock self }
+        ensures self_in_range { IsInstant self }
     {
         self.as_plain().to_julian_day()
     }

@@ -6,7 +6,6 @@ use Rattle.offset_times.proofs.laws.replaced_parts_read_as_given.Goals as goal
 
 -- an accepted replacement is that of the wall clock
 accepted : (at v : Local) (r : Result ℤ Refusal) → answer_within (at_offset_of at) r ≡ Ok v → r ≡ Ok v.wall
-unfolding answer_within
 accepted at v (Ok w) e = let same : at_offset_of at w ≡ v = cc in ap (λ (l : Local). Ok l.wall) same
 accepted at v (Err refusal) e = absurd cc
 

@@ -1,11 +1,13 @@
-use Rattle.std.proofs.Common.{◌≡◌, ◌∙◌, rules, ap, ℤ, pos, int_cmp, to_z, of_z, w64}
-use Rattle.offset_times.specs.Local.{instant_of, shown_at}
+use Rattle.std.proofs.Common.{◌≡◌, ◌∙◌, sym, rules, ap, ℤ, pos, int_cmp, to_z, of_z, w64}
+use Rattle.std.specs.Cmp.{signed_Decides}
 use Rattle.offset_times.proofs.InstantOrderLemmas.{int_cmp-shown}
+use Rattle.offset_times.proofs.LocalLemmas.{shown_at-own}
 use Rattle.offset_times.proofs.offset_date_time.OffsetDateTime.sign_of_shown_after.Goals as goal
 
-pub returns : goal.returns
-returns c =
+pub returns-then-eq : goal.returns-then-eq
+returns-then-eq c =
     let sign : to_z w64 (of_z w64 c.sign_of_parts_after.result) ≡ c.sign_of_parts_after.result = search rules in
-    let shown = c.shown_raw.ensures.shown ∙ ap (λ (o : ℤ). shown_at (instant_of c.args.other) o) c.offset.ensures.value in
-    ap (λ (s : ℤ). int_cmp s (pos 0)) sign ∙ rw (c.raw.ensures.shown, shown) at c.sign_of_parts_after.ensures
+    let same = (signed_Decides c.offset.result c.offset-2.result).0 (sym c.if-eq.ensures) in
+    let own = shown_at-own c.args.other c.args.self.offset (sym c.offset-2.ensures.value ∙ sym same ∙ c.offset.ensures.value) in
+    ap (λ (s : ℤ). int_cmp s (pos 0)) sign ∙ rw (c.raw.ensures.shown, c.raw-then-eq.ensures.shown ∙ sym own) at c.sign_of_parts_after.ensures
     ∙ int_cmp-shown c.args.self c.args.other

@@ -10,12 +10,11 @@ returns-then-days-eq0 c =
     let none : days ≡ pos 0 = sym back ∙ ap (to_z w64) c.if-days-eq0.true in
     let year : to_z w32 (of_z w32 c.args.at.0) ≡ c.args.at.0 = search rules in
     let other_year : to_z w32 (of_z w32 c.args.other.0) ≡ c.args.other.0 = search rules in
-    let first = c.nanosecond_of_day.result in
-    let second = c.nanosecond_of_day-2.result in
-    let apart : to_z w64 (of_z w64 (to_z w64 first -ℤ to_z w64 second)) ≡ pos first -ℤ pos second = omega (arith, signed_casts) in
-    let clocks : pos first -ℤ pos second ≡ pos c.args.at.2 -ℤ pos c.args.other.2 =
-    rw (c.nanosecond_of_day.ensures.value, c.nanosecond_of_day-2.ensures.value) in
-    ap (λ (s : ℤ). int_cmp s (pos 0)) (apart ∙ clocks)
+    let first = c.args.at.2 in
+    let second = c.args.other.2 in
+    let apart : to_z w64 (of_z w64 (to_z w64 first -ℤ to_z w64 second)) ≡ pos first -ℤ pos second =
+    omega (arith, signed_casts, c.requires.parts, c.requires.other_parts) in
+    ap (λ (s : ℤ). int_cmp s (pos 0)) apart
     ∙ int_cmp-clocks days c.args.at.0 c.args.other.0 c.args.at.1 c.args.other.1 c.args.at.2 c.args.other.2 c.requires.parts c.requires.other_parts
     (rw (year, other_year) at c.rough_days-days.ensures) none
 
