@@ -1,6 +1,8 @@
 mod ByteLemmas
 mod DigitOrderLemmas
 mod DigitTextLemmas
+mod FaultLemmas
+mod FaultFormLemmas
 pub mod FrontLemmas
 mod RangeLemmas
 pub mod FullDateLemmas

@@ -1,12 +1,12 @@
 -- A day as a text of RFC 3339 (`full-date` of section 5.6): a year of four digits, a month and a day of the month.
 use Rattle.std.specs.Prelude.{◌≡◌, ℕ, ◌<◌, ◌==◌, ◌||◌, nat_lt, List, ◌++◌, codes, if◌then◌else◌, ℤ, pos, ◌≤ℤ◌, unsigned_abs}
-use Rattle.std.specs.Prelude.{Option, Result, Ok, Err}
+use Rattle.std.specs.Prelude.{Option, Some, None, Result, Ok, Err}
 use Rattle.calendar_values.specs.Calendar.{is_leap_year, days_in_month, day_of_calendar_date, year_of, month_of, day_of_month_of}
 use Rattle.calendar_values.specs.Digits.{last_digits}
 use Rattle.rfc3339.specs.Reading.{◌>>=◌, year_at, part_at, ended}
 use Rattle.rfc3339.specs.declared.refusal.Component.TheVariants.{Month, Day}
 use Rattle.rfc3339.specs.declared.refusal.TextRefusal.{TextRefusal}
-use Rattle.rfc3339.specs.declared.refusal.TextRefusal.TheVariants.{OutOfRange}
+use Rattle.rfc3339.specs.declared.refusal.TextRefusal.TheVariants.{Syntax, OutOfRange}
 
 -- the digits of these numbers
 abbrev pub full_date_digits : ℕ → ℕ → ℕ → List ℕ
@@ -42,3 +42,12 @@ full_date_at text = do
   month ← part_at 45 year.1
   day ← part_at 45 month.1
   ended (year.0, month.0, day.0) day.1
+
+-- what these numbers mean, if there are any
+abbrev pub full_date_meaning_if_any : Option (ℕ × ℕ × ℕ) → Result ℤ TextRefusal
+full_date_meaning_if_any None = Err Syntax
+full_date_meaning_if_any (Some (year, month, day)) = full_date_meaning year month day
+
+-- what a text is read as: a day, or a refusal
+unfoldable pub full_date_reading_of : List ℕ → Result ℤ TextRefusal
+full_date_reading_of text = full_date_meaning_if_any (full_date_at text)

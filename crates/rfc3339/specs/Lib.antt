@@ -1,5 +1,6 @@
 pub mod Reading
 pub mod Front
+pub mod Faults
 pub mod Form
 pub mod FullDates
 pub mod Meaning

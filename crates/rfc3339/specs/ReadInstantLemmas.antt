@@ -4,7 +4,7 @@ use Rattle.calendar_values.specs.Calendar.{year_of}
 use Rattle.calendar_values.specs.DayLemmas.{IsInYear-year_of}
 use Rattle.calendar_values.specs.Range.{first_year, last_year}
 use Rattle.calendar_values.specs.SignedArith.{signed_arith}
-use Rattle.calendar_values.specs.WallClock.{wall_clock, wall_day, wall_time, IsWallClock}
+use Rattle.calendar_values.specs.WallClock.{wall_clock, wall_day, wall_time, IsInstant}
 use Rattle.calendar_values.specs.WallClockLemmas.{wall_clock-parts, IsClock-wall_time}
 use Rattle.calendar_values.specs.YearLemmas.{year_start-first, year_start-after_last, year_start-later}
 use Rattle.offset_times.specs.InstantLemmas.{instant_of-utc}
@@ -18,7 +18,7 @@ instant_of-read at i e =
     let same : at ≡ local_in_utc i = cc in ap instant_of same ∙ instant_of-utc i
 
 -- a year of four digits lies a year or more from the ends of the range
-pub instant_of-in_range : (at : Local) → HasText at → IsWallClock (instant_of at)
+pub instant_of-in_range : (at : Local) → HasText at → IsInstant (instant_of at)
 unfolding instant_of
 instant_of-in_range at h =
     let day = wall_day at.wall in
@@ -29,6 +29,6 @@ instant_of-in_range at h =
     let before_last = year_start-later (year_of day +ℤ pos 1) (last_year +ℤ pos 1) (omega (arith, signed_arith)) in
     omega (arith, signed_arith, year_start-first, year_start-after_last)
 
-pub instant_of_read : {E : Type 0} (r : Result Local E) → IfOk r HasText → IfOk r (λ at. IsWallClock (instant_of at))
+pub instant_of_read : {E : Type 0} (r : Result Local E) → IfOk r HasText → IfOk r (λ at. IsInstant (instant_of at))
 instant_of_read (Ok at) h = instant_of-in_range at h
 instant_of_read (Err refusal) h = tt

@@ -1,7 +1,7 @@
 -- What a text is read as: where it spells numbers, where it was written, and where it has not the form.
 use Rattle.std.proofs.Common.{◌≡◌, ℕ, ℤ, List, Option, Some, None, Ok, Err, IfOk, refl, ap, inl, inr, ◌∙◌, arith}
 use Rattle.std.specs.Prelude.{◌⊎◌}
-use Rattle.calendar_values.specs.WallClock.{IsWallClock}
+use Rattle.calendar_values.specs.WallClock.{IsInstant}
 use Rattle.offset_times.specs.Local.{Local, local_in_utc, instant_of}
 use Rattle.rfc3339.specs.Form.{IsDateTime}
 use Rattle.rfc3339.specs.Meaning.{meaning, value_of, AreInRange}
@@ -54,7 +54,7 @@ pub reading_of-has_text : (text : List ℕ) → IfOk (reading_of text) HasText
 reading_of-has_text text = has_text_of_parts text (parts_at text) refl
 
 -- its instant lies in the range
-pub reading_of-instant : (text : List ℕ) → IfOk (reading_of text) (λ at. IsWallClock (instant_of at))
+pub reading_of-instant : (text : List ℕ) → IfOk (reading_of text) (λ at. IsInstant (instant_of at))
 reading_of-instant text = instant_of_read (reading_of text) (reading_of-has_text text)
 
 -- what was written is read back, offset included

@@ -1,6 +1,6 @@
 //! Texts read that stand in front of others, and offsets alone.
 ghost use Rattle.std.specs.Prelude.{◌≡◌, ◌≤◌, ◌<◌, ◌++◌, List, ℕ, Bool, IfOk, OkIff, length};
-ghost use Rattle.calendar_values.specs.WallClock.{IsWallClock};
+ghost use Rattle.calendar_values.specs.WallClock.{IsInstant};
 ghost use Rattle.offset_times.specs.Local.{instant_of};
 ghost use Rattle.rfc3339.specs.Form.{IsDateTime, IsOffsetText};
 ghost use Rattle.rfc3339.specs.Front.{front_reading_of, offset_numbers, offset_reading_of};
@@ -28,7 +28,7 @@ pub fn parse_rfc3339_front(text: &[u8]) -> Result<(OffsetDateTime, usize), TextR
     ensures length { IfOk result (λ read. read.1 ≤ length text.now) }
     // What is read can be written, and its instant lies in the range.
     ensures has_text { IfOk result (λ read. HasText read.0) }
-    ensures instant { IfOk result (λ read. IsWallClock (instant_of read.0)) }
+    ensures instant { IfOk result (λ read. IsInstant (instant_of read.0)) }
 {
     read_front(text)
 }

@@ -1,7 +1,7 @@
 //! Days as texts, written and read.
 ghost use Rattle.std.specs.Prelude.{◌≡◌, ◌≤◌, ◌⊎◌, ℕ, ℤ, SomeIff, IfSome, Err, Ok, length};
 ghost use Rattle.rfc3339.specs.FullDates.{IsFullDate, HasFullDate, full_date_text};
-ghost use Rattle.rfc3339.specs.FullDates.{full_date_at, full_date_meaning};
+ghost use Rattle.rfc3339.specs.FullDates.{full_date_at, full_date_meaning, full_date_reading_of};
 ghost use Rattle.rfc3339.specs.declared.refusal.TextRefusal.TheVariants.{Syntax};
 
 use crate::reading::{part, year};
@@ -27,11 +27,17 @@ pub fn date_to_rfc3339(date: Date) -> Option<Text>
 
 /// Reads a `full-date` of RFC 3339, section 5.6, with nothing before or after it, as `1985-04-12`. Refused `Syntax` where
 /// the text has not that form, else by its month or its day, the first that is out of its range.
+#[tactic(auto, unfolding(crate::specs::FullDates::full_date_reading_of))]
 pub fn date_from_rfc3339(text: &[u8]) -> Result<Date, TextRefusal>
+    // The whole answer, as a word that computes.
+    ensures reading { result ≡ full_date_reading_of text.now }
+
+    // The same by the form of the text.
     ensures equation { (year month day : ℕ) → IsFullDate text.now year month day →
         result ≡ full_date_meaning year month day }
     ensures syntax { (result ≡ Err Syntax)
         ⊎ ((year : ℕ) × (month : ℕ) × (day : ℕ) × IsFullDate text.now year month day) }
+
     // What `date_to_rfc3339` wrote is read back.
     ensures written { (n : ℤ) → HasFullDate n → text.now ≡ full_date_text n → result ≡ Ok n }
 {

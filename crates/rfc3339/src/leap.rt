@@ -1,6 +1,6 @@
 //! Texts read whose second may be 60.
 ghost use Rattle.std.specs.Prelude.{◌≡◌, ◌⊎◌, ◌==◌, IfOk, OkIff, Err, Ok, false};
-ghost use Rattle.calendar_values.specs.WallClock.{IsWallClock};
+ghost use Rattle.calendar_values.specs.WallClock.{IsInstant};
 ghost use Rattle.offset_times.specs.Local.{Local, instant_of};
 ghost use Rattle.rfc3339.specs.Form.{IsDateTime};
 ghost use Rattle.rfc3339.specs.LeapSeconds.{leap_meaning, leap_reading_of, with_second_59};
@@ -31,7 +31,7 @@ pub fn parse_rfc3339_leap(text: &[u8]) -> Result<(OffsetDateTime, bool), TextRef
 
     // What is read can be written, and its instant lies in the range.
     ensures has_text { IfOk result (λ read. HasText read.0) }
-    ensures instant { IfOk result (λ read. IsWallClock (instant_of read.0)) }
+    ensures instant { IfOk result (λ read. IsInstant (instant_of read.0)) }
 {
     read_leap(text)
 }

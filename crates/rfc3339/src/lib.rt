@@ -1,6 +1,7 @@
 //! Texts of exchange: date-times as RFC 3339 writes them, written and read.
 #![tactic(auto, using(calendar_values::specs::Constants::constants))]
 
+mod fault;
 mod front;
 mod full_dates;
 pub mod laws;
@@ -15,6 +16,7 @@ mod write;
 mod write_fixed;
 mod write_unix;
 
+pub use fault::syntax_fault;
 pub use front::{parse_rfc3339_front, parse_rfc3339_offset};
 pub use full_dates::{date_from_rfc3339, date_to_rfc3339};
 pub use leap::parse_rfc3339_leap;

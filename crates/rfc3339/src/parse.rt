@@ -1,6 +1,6 @@
 //! Texts read.
 ghost use Rattle.std.specs.Prelude.{◌≡◌, ◌≤◌, ◌⊎◌, IfOk, OkIff, Err, Ok, ℤ, pos};
-ghost use Rattle.calendar_values.specs.WallClock.{IsWallClock};
+ghost use Rattle.calendar_values.specs.WallClock.{IsInstant};
 ghost use Rattle.offset_times.specs.Local.{Local, local_in_utc, instant_of};
 ghost use Rattle.rfc3339.specs.Form.{IsDateTime};
 ghost use Rattle.rfc3339.specs.Meaning.{meaning, offset_of, value_of, AreInRange};
@@ -33,7 +33,7 @@ pub fn parse_rfc3339(text: &[u8]) -> Result<OffsetDateTime, TextRefusal>
     ensures accepted { IfOk result (λ at.
         (p : Parts) × IsDateTime text.now p × AreInRange p × (at ≡ value_of p)) }
     ensures has_text { IfOk result HasText }
-    ensures instant { IfOk result (λ at. IsWallClock (instant_of at)) }
+    ensures instant { IfOk result (λ at. IsInstant (instant_of at)) }
 
     // What `to_rfc3339` wrote is read back, offset included, and what `to_rfc3339_nanos` wrote, in UTC.
     ensures written { (at : Local) → HasText at → text.now ≡ rfc3339_text at → result ≡ Ok at }

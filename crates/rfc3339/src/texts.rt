@@ -1,7 +1,7 @@
 //! Every type that has texts of RFC 3339.
 ghost use Rattle.std.specs.Prelude.{◌≡◌, ℤ, IfOk, ◌≤◌, ◌⊎◌, SomeIff, IfSome, OkIff, Err, Ok, pos, length};
 ghost use Rattle.std.specs.Result.{result_map_both};
-ghost use Rattle.calendar_values.specs.WallClock.{IsWallClock};
+ghost use Rattle.calendar_values.specs.WallClock.{IsInstant};
 ghost use Rattle.offset_times.specs.Local.{Local, local_in_utc, instant_of};
 ghost use Rattle.rfc3339.specs.Form.{IsDateTime};
 ghost use Rattle.rfc3339.specs.Meaning.{meaning, value_of, AreInRange};
@@ -43,7 +43,7 @@ pub trait Rfc3339: Copy {
         ensures accepted { IfOk result (λ at. (p : Parts) × IsDateTime text.now p ×
             AreInRange p × (at ≡ value_shown (value_of p))) }
         ensures has_text { IfOk (reading_of text.now) HasText }
-        ensures instant { IfOk result (λ at. IsWallClock (instant_of (shown at))) }
+        ensures instant { IfOk result (λ at. IsInstant (instant_of (shown at))) }
 
         // What was written is read back.
         ensures written { (at : Self) → HasText (shown at) →

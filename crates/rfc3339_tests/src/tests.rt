@@ -4,6 +4,7 @@ use std::process::Abort;
 
 mod dates;
 mod digits;
+mod faults;
 mod fronts;
 mod leap;
 mod places;

@@ -1,0 +1,38 @@
+//! Where texts have not the form: what is expected is the place of the byte that is wrong, counted by hand.
+use super::is;
+use rfc3339::{parse_rfc3339, syntax_fault};
+use std::test::Fail;
+
+#[test]
+fn faults(rt: HostRuntime) -> Result<(), Fail> {
+    for (text, place) in [
+        ("", 0),
+        ("198", 3),
+        ("1985-04-12", 10),
+        ("1985-04-12_23:20:50Z", 10),
+        ("1985-4-12T23:20:50Z", 6),
+        ("1985-04-12T23:20:50", 19),
+        ("1985-04-12T23:20:50,5Z", 19),
+        ("1985-04-12T23:20:50.Z", 20),
+        ("1985-04-12T23:20:50.52", 22),
+        ("1985-04-12T23:20:50.52+0800", 25),
+        ("1985-04-12T23:20:50+08:0", 24),
+        ("1985-04-12T23:20:50Z ", 20),
+    ] {
+        is(&rt, syntax_fault(text.as_bytes()), place);
+        is(&rt, parse_rfc3339(text.as_bytes()).is_err(), true);
+    }
+    Ok(())
+}
+
+#[test]
+fn texts_of_the_form(rt: HostRuntime) -> Result<(), Fail> {
+    for text in [
+        "1985-04-12T23:20:50Z",
+        "1985-04-12t23:20:50.52z",
+        "9999-99-99 99:99:99.0123456789-99:99",
+    ] {
+        is(&rt, syntax_fault(text.as_bytes()), text.len());
+    }
+    Ok(())
+}
