@@ -1,11 +1,38 @@
 -- What a line is answered with.
-use Rattle.std.proofs.Common.{◌≡◌, ℕ, List, [], ◌∷◌, ◌++◌, take, flat_map, ◌+◌, ◌<◌, length}
-use Rattle.std.proofs.Common.{get_or, append_assoc, append-nil}
-use Rattle.std.proofs.lemmas.Grind.{flat_map-append}
-use Rattle.std.proofs.lemmas.List.{take_more}
+use Rattle.std.proofs.Common.{◌≡◌, ℕ, ℤ, ◌+◌, ◌<◌, List, ◌∷◌, ◌++◌, length, drop, get_or, flat_map, codes, append_assoc, add-one}
+use Rattle.std.proofs.Common.{sym, ap, ◌∙◌, ◌≤◌, append-nil}
+use Rattle.std.proofs.Math.Seq.{drop-cons}
+use Rattle.std.proofs.lemmas.List.{drop_all}
+use Rattle.stamp_times.specs.Counter.{reply, instant_after, replies, last_instant}
+use Rattle.stamp_times.specs.declared.runs.calls.Call.{Call}
+use Rattle.stamp_times.specs.declared.runs.calls.Reply.{Reply}
+use Rattle.times_bench.specs.ReplyTexts.{reply_text}
 
--- the text of the next item of a list
-pub flat_map-next : {X : Type 0} (f : X → List ℕ) (p text : List ℕ) (xs : List X) (i : ℕ) (x : X) → i < length xs → x ≡ get_or xs i x
-    → text ≡ f x → (p ++ flat_map f (take i xs)) ++ text ≡ p ++ flat_map f (take (i + 1) xs)
-flat_map-next {X = X} f p text xs i x low is e =
-    rw (take_more xs i x low, ← is, e, flat_map-append f (take i xs) (x ∷ []), append-nil (f x)) (append_assoc p (flat_map f (take i xs)) (f x))
+-- the text of a reply, as it is put
+abbrev pub ended : Reply → List ℕ
+ended reply = reply_text reply ++ codes "; "
+
+-- the replies to the calls from a place on
+abbrev pub told : ℤ → List Call → ℕ → List ℕ
+told i calls k = flat_map ended (replies i (drop k calls))
+
+rest : (calls : List Call) (k : ℕ) (call : Call) → k < length calls → call ≡ get_or calls k call → drop k calls ≡ call ∷ drop (k + 1) calls
+rest calls k call below here = rw (add-one, drop-cons calls k call below, ← here)
+
+-- a call more
+pub told-more : (old new all : List ℕ) (i j : ℤ) (calls : List Call) (k : ℕ) (call : Call) → k < length calls → call ≡ get_or calls k call
+    → j ≡ instant_after i call → new ≡ old ++ ended (reply i call) → old ++ told i calls k ≡ all → new ++ told j calls (k + 1) ≡ all
+told-more old new all i j calls k call below here moved e h =
+    rw (e, append_assoc, moved) (rw (rest calls k call below here) at h)
+
+pub last_instant-more : (i j last : ℤ) (calls : List Call) (k : ℕ) (call : Call) → k < length calls → call ≡ get_or calls k call
+    → j ≡ instant_after i call → last_instant i (drop k calls) ≡ last → last_instant j (drop (k + 1) calls) ≡ last
+last_instant-more i j last calls k call below here moved h = rw moved (rw (rest calls k call below here) at h)
+
+-- no call is left
+pub told-all : (done all : List ℕ) (i : ℤ) (calls : List Call) (k : ℕ) → length calls ≤ k → done ++ told i calls k ≡ all → done ≡ all
+told-all done all i calls k end h =
+    sym (append-nil done) ∙ ap (λ (rest : List Call). done ++ flat_map ended (replies i rest)) (sym (drop_all k calls end)) ∙ h
+
+pub last_instant-all : (i last : ℤ) (calls : List Call) (k : ℕ) → length calls ≤ k → last_instant i (drop k calls) ≡ last → i ≡ last
+last_instant-all i last calls k end h = ap (last_instant i) (sym (drop_all k calls end)) ∙ h

@@ -4,6 +4,7 @@ pub mod FeedLemmas
 pub mod LineLemmas
 pub mod NumberLemmas
 pub mod ReadLemmas
+pub mod ReplyLemmas
 pub mod RequestLemmas
 pub mod SendingLemmas
 pub mod StepWordLemmas

@@ -1,11 +1,7 @@
 -- Writing one text after another.
-use Rattle.std.proofs.Common.{◌≡◌, ◌≢◌, ℕ, ◌+◌, Bool, true, List, [], ◌++◌, length-append, take, drop, Option, Some, None, Result, Ok, Err, refl, sym, ◌∙◌, ap}
-use Rattle.std.proofs.Common.{arith, append_assoc, append-nil}
-use Rattle.std.specs.Io.KnownBytes.{Appends}
-use Rattle.std.proofs.Math.Seq.{take-add}
+use Rattle.std.proofs.Common.{◌≡◌, ◌≢◌, Bool, true, Result, Ok, Err, refl}
 use Rattle.std.specs.Result.{IsErrAnd}
 use Rattle.times_bench.specs.Progress.{AtFault, mark_after}
-use Rattle.line_devices.specs.Writing.{AppendsBeginning, Sends}
 use Rattle.times_bench.specs.declared.sending.AnswerFault.{AnswerFault}
 use Rattle.times_bench.specs.declared.sending.AnswerFault.TheVariants.{Write, Memory}
 use Rattle.times_bench.specs.declared.bench.BenchFault.{BenchFault}

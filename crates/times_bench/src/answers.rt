@@ -1,10 +1,12 @@
 //! The answers to lines.
-ghost use Rattle.std.specs.Prelude.{◌≡◌, ◌≤◌, ◌<◌, ◌+◌, ◌++◌, length, None, codes, decimal, flat_map, IsTrue, MatchResult};
+ghost use Rattle.std.specs.Prelude.{◌≡◌, ◌≤◌, ◌<◌, ◌+◌, ◌++◌, length, None, codes, decimal, flat_map, IsTrue, IfOk, MatchResult};
+ghost use Rattle.std.specs.Prelude.{vec_len, vec_capacity};
 ghost use Rattle.calendar_values.specs.WallClock.{wall_day};
 ghost use Rattle.times_bench.specs.Answers.{answer_to, answer_of, takes_memory, request_takes_memory, with_instant_nanosecond, day_text, held_start};
 ghost use Rattle.times_bench.specs.Progress.{HasRoom};
 ghost use Rattle.times_bench.specs.Requests.{unix_request, stamp_request, run_request, chain_request};
 ghost use Rattle.times_bench.specs.Words.{words_of};
+ghost use Rattle.stamp_times.specs.Counter.{reply, instant_after, replies, last_instant};
 ghost use Rattle.stamp_times.specs.Texts.{timestamp_text};
 ghost use Rattle.times_bench.specs.ReplyTexts.{held_text, reply_text};
 ghost use Rattle.utc_times.specs.Texts.{utc_text};
@@ -16,9 +18,12 @@ use super::requests::{Calls, Room, Steps, read_chain, read_run, read_stamp, read
 use super::sending::Pending;
 use calendar_values::{ComponentRange, Text};
 use offset_times::{Assume, OffsetDateTime};
-use stamp_times::{Held, Reply, Step, StoppedAt, Timestamp, chain, run};
+use stamp_times::{Call, Held, Step, StoppedAt, Timestamp, chain};
 use std::alloc::{AllocError, Global};
 use utc_times::UtcDateTime;
+
+// The most bytes of a reply, and of `; ` behind it.
+const REPLY_ROOM: usize = 64;
 
 /// Puts the answer to a line behind what is pending, and nothing where there is no memory for its
 /// replies.
@@ -96,6 +101,7 @@ fn put_stamp(pending: &mut Pending, words: &[u8])
 }
 
 // Puts the answer to the words after `run`, and nothing where there is no memory for the replies.
+#[inline(never)]
 fn put_run(
     alloc: Global,
     pending: &mut Pending,
@@ -115,8 +121,8 @@ fn put_run(
     };
     match Timestamp::new(second, nanosecond) {
         Ok(start) => {
-            let (replies, last) = run(alloc, start.to_utc(), calls.items())?;
-            put_replies(pending, replies.as_slice());
+            let (replies, last) = replies_of(alloc, start.to_utc(), calls.items())?;
+            pending.push_all(replies.as_slice());
             put_text(pending, &end_text(Timestamp::from(last)));
         }
         Err(refusal) => put_text(pending, &refused_text(refusal)),
@@ -217,30 +223,53 @@ fn stopped_text(index: usize) -> Text
     text
 }
 
-// Puts replies, each with `; ` after it.
-#[inline(never)]
-fn put_replies(pending: &mut Pending, replies: &[Reply])
-    requires pending { HasRoom pending.old }
-    requires replies { length replies.now ≤ 256 }
-    ensures replies { pending.new ≡ pending.old
-        ++ flat_map (λ reply. reply_text reply ++ codes "; ") replies.now }
-    ensures room { length pending.new ≤ length pending.old + 16_384 }
+// The replies to calls, each with `; ` after it, in memory that is taken before the first, and where the calls lead.
+fn replies_of(
+    alloc: Global,
+    start: UtcDateTime,
+    calls: &[Call],
+) -> Result<(Vec<u8>, UtcDateTime), AllocError>
+    requires { length calls.now ≤ 256 }
+    ensures replies { IfOk result (λ ended. ended.0.items
+        ≡ flat_map (λ reply. reply_text reply ++ codes "; ") (replies start calls.now)) }
+    ensures last { IfOk result (λ ended. ended.1 ≡ last_instant start calls.now) }
+    ensures length { IfOk result (λ ended. vec_len ended.0 ≤ 16_384) }
 {
-    'replies: for reply in replies {
-        put_reply(pending, *reply);
+    let mut replies = Vec::with_capacity(alloc, calls.len() * REPLY_ROOM)?;
+    let mut at = start;
+    for call in calls {
+        at = put_reply(&mut replies, at, *call);
     }
+    Ok((replies, at))
 }
 
-// Puts a reply, and `; `.
-fn put_reply(pending: &mut Pending, reply: Reply)
-    requires { length pending.old + 64 ≤ 65_536 }
-    ensures text { pending.new ≡ pending.old ++ (reply_text reply ++ codes "; ") }
-    ensures length { length pending.new ≤ length pending.old + 64 }
+// Puts the reply to a call, and `; `, where there is room for them, and gives where the call leads.
+fn put_reply(replies: &mut Vec<u8>, at: UtcDateTime, call: Call) -> UtcDateTime
+    requires { vec_len replies.old + 64 ≤ vec_capacity replies.old }
+    ensures text { replies.new.items ≡ replies.old.items
+        ++ (reply_text (reply at call) ++ codes "; ") }
+    ensures next { result ≡ instant_after at call }
+    ensures length { vec_len replies.new ≤ vec_len replies.old + 64 }
+    ensures room { vec_capacity replies.old ≤ vec_capacity replies.new }
 {
     let mut text = Text::new();
-    push_reply(&mut text, reply);
+    let next = push_reply(&mut text, at, call);
     text.push_bytes(b"; ");
-    put_text(pending, &text);
+    put_in_room(replies, text.as_bytes());
+    next
+}
+
+// Puts bytes where there is room for them.
+fn put_in_room(bytes: &mut Vec<u8>, text: &[u8])
+    requires { vec_len bytes.old + length text.now ≤ vec_capacity bytes.old }
+    ensures items { bytes.new.items ≡ bytes.old.items ++ text.now }
+    ensures length { vec_len bytes.new ≡ vec_len bytes.old + length text.now }
+    ensures room { vec_capacity bytes.old ≤ vec_capacity bytes.new }
+{
+    match bytes.extend_from_slice(text) {
+        Ok(()) => {}
+        Err(_) => unreachable!(),
+    }
 }
 
 // `end`, and the last instant.

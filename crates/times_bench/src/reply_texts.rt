@@ -1,31 +1,70 @@
 //! The texts of the replies of a run, and of what a chain holds.
-ghost use Rattle.std.specs.Prelude.{◌≡◌, ◌≤◌, ◌+◌, length, ◌++◌, codes, decimal};
+ghost use Rattle.std.specs.Prelude.{◌≡◌, ◌≤◌, ◌+◌, length, ◌++◌, codes, decimal, Some};
 ghost use Rattle.std.specs.Fmt.{signed_decimal};
 ghost use Rattle.calendar_values.specs.Texts.{date_text, time_text};
+ghost use Rattle.stamp_times.specs.Counter.{reply, reply_of_instant, local_reply, instant_after};
 ghost use Rattle.times_bench.specs.ReplyTexts.{refused_text, date_part_text, hms_text, clock_part_text, reply_text, held_text};
 
 use calendar_values::{ComponentRange, Date, Text, Time};
-use stamp_times::{ClockPart, DatePart, Held, Reply};
+use offset_times::OffsetDateTime;
+use stamp_times::{Call, ClockPart, DatePart, Held, Moment};
+use utc_times::UtcDateTime;
 
-/// Adds the text of a reply to an empty text: its parts, with one space between.
+/// Adds what a call replies to an empty text: its parts, with one space between. Gives where the call leads.
 #[tactic(auto, unfolding(crate::specs::ReplyTexts::reply_text))]
-pub fn push_reply(text: &mut Text, reply: Reply)
+pub fn push_reply(text: &mut Text, at: UtcDateTime, call: Call) -> UtcDateTime
     requires { length text.old ≡ 0 }
-    ensures value { text.new ≡ text.old ++ reply_text reply }
+    ensures value { text.new ≡ text.old ++ reply_text (reply at call) }
+    ensures next { result ≡ instant_after at call }
     ensures length { length text.new ≤ 43 }
 {
-    match reply {
-        Reply::DatePart(part) => push_date_part(text, part),
-        Reply::ClockPart(part) => push_clock_part(text, part),
-        Reply::Now(date, time) => push_date_time(text, date, time),
-        Reply::Refused => text.push_bytes(b"refused"),
-        Reply::RefusedPart(refusal) => push_refused(text, refusal),
-        Reply::Local(date, time, offset) => {
-            push_date_time(text, date, time);
-            text.push(b' ');
-            offset.append_to(text);
-        }
+    match call {
+        Call::ReadDate(read) => push_date_part(text, at.date_part(read)),
+        Call::ReadClock(read) => push_clock_part(text, at.clock_part(read)),
+        Call::Shift(shift) => match at.shift(shift) {
+            Some(next) => {
+                push_now(text, next);
+                return next;
+            }
+            None => text.push_bytes(b"refused"),
+        },
+        Call::Replace(replace) => match at.replace(replace) {
+            Ok(next) => {
+                push_now(text, next);
+                return next;
+            }
+            Err(refusal) => push_refused(text, refusal),
+        },
+        Call::Local(offset) => match at.at_offset(offset) {
+            Some(shown) => push_local(text, shown),
+            None => text.push_bytes(b"refused"),
+        },
     }
+    at
+}
+
+// Adds the date and the time of day in UTC.
+#[tactic(auto, unfolding(crate::specs::ReplyTexts::reply_text))]
+fn push_now(text: &mut Text, at: UtcDateTime)
+    requires { length text.old ≡ 0 }
+    ensures value { text.new ≡ text.old ++ reply_text (reply_of_instant at) }
+    ensures length { length text.new ≤ 32 }
+{
+    let (date, time) = at.parts();
+    push_date_time(text, date, time);
+}
+
+// Adds what clocks at an offset show.
+#[tactic(auto, unfolding(crate::specs::ReplyTexts::reply_text))]
+fn push_local(text: &mut Text, shown: OffsetDateTime)
+    requires { length text.old ≡ 0 }
+    ensures value { text.new ≡ text.old ++ reply_text (local_reply shown.offset (Some shown.wall)) }
+    ensures length { length text.new ≤ 43 }
+{
+    let (date, time, offset) = shown.parts();
+    push_date_time(text, date, time);
+    text.push(b' ');
+    offset.append_to(text);
 }
 
 /// `refused`, and the name of the part.

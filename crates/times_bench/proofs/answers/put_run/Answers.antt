@@ -8,7 +8,7 @@ unfolding run_answer run_text
 returns-in_ok-replies-in-Ok-clause-answer c =
     let known = rw (to_z-of_z w64 c.in-Some.second (search rules)) at c.new.ensures.equation in
     let ran = c.in_ok-replies-in-Ok.ensures in
-    rw (c.put_text.ensures.text, c.put_replies.ensures.replies, c.end_text.ensures, c.from.ensures, c.as_slice.ensures.value, ran.replies, ran.last)
+    rw (c.put_text.ensures.text, c.push_all.ensures, c.end_text.ensures, c.from.ensures, c.as_slice.ensures.value, ran.replies, ran.last)
     (rw (c.to_utc.ensures, c.items.ensures.value, ← c.in-Some.ensures, ← known, c.in-Ok.is) (simp append_assoc refl))
 
 pub returns-in-Err-clause-answer : goal.returns-in-Err-clause-answer
