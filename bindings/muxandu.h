@@ -568,7 +568,7 @@ MuxanduBatch muxandu_seconds_from_each_date_time(const MuxanduDateTime *MUXANDU_
 MuxanduStatus muxandu_date_time_to_rfc3339(MuxanduDateTime date_time, char *MUXANDU_RESTRICT buffer,
                                            size_t buffer_count, size_t *MUXANDU_RESTRICT size);
 
-/* Writes the shortest text of RFC 3339 of an instant, in UTC, as '1985-04-12T23:20:50.52Z', of at most 35 bytes, as
+/* Writes the shortest text of RFC 3339 of an instant, in UTC, as '1985-04-12T23:20:50.52Z', of at most 30 bytes, as
  * muxandu_date_time_text does. Refused as the timestamp, then NO_TEXT, then BUFFER. */
 MuxanduStatus muxandu_timestamp_to_rfc3339(MuxanduTimestamp at, char *MUXANDU_RESTRICT buffer, size_t buffer_count,
                                            size_t *MUXANDU_RESTRICT size);
@@ -590,6 +590,25 @@ MuxanduStatus muxandu_date_time_from_rfc3339(const char *MUXANDU_RESTRICT text, 
 /* Reads the instant of a text of RFC 3339, as muxandu_date_time_from_rfc3339 does, and with its refusals. */
 MuxanduStatus muxandu_timestamp_from_rfc3339(const char *MUXANDU_RESTRICT text, size_t text_count,
                                              MuxanduTimestamp *MUXANDU_RESTRICT out);
+
+/* Reads the date-time that a text of RFC 3339 begins with, and its offset, as muxandu_date_time_from_rfc3339 does,
+ * and writes the number of its bytes to 'size': of '1985-04-12T23:20:50.52Z done' it is 23. Refused SYNTAX where no
+ * beginning of the text has that form, else as that call. */
+MuxanduStatus muxandu_date_time_from_rfc3339_front(const char *MUXANDU_RESTRICT text, size_t text_count,
+                                                   MuxanduDateTime *MUXANDU_RESTRICT out,
+                                                   size_t *MUXANDU_RESTRICT size);
+
+/* The place of the fault in a text that is refused SYNTAX, counted from 0: of '1985-04-12_23:20:50Z' it is 10. There
+ * the text has a byte with which no date-time of RFC 3339 goes on, or its end. Of a text that has the form it is the
+ * number of its bytes. */
+size_t muxandu_rfc3339_fault(const char *text, size_t text_count);
+
+/* Reads a date-time and its offset as muxandu_date_time_from_rfc3339 does, and one whose second is 60 too, as
+ * '1990-12-31T23:59:60Z': as that of second 59. Then it writes 1 to 'is_leap', and else 0. Any minute may have such
+ * a second here: which have one no rule tells. Refused as that call refuses, SECOND above 60. */
+MuxanduStatus muxandu_date_time_from_rfc3339_leap(const char *MUXANDU_RESTRICT text, size_t text_count,
+                                                  MuxanduDateTime *MUXANDU_RESTRICT out,
+                                                  uint8_t *MUXANDU_RESTRICT is_leap);
 
 /* The seconds of an offset of hours, minutes and seconds, of which the smaller take the sign of the hours, or of the
  * minutes if the hours are 0. Refused OFFSET_HOUR where the hours are not -25 to 25, OFFSET_MINUTE where the minutes
@@ -663,6 +682,22 @@ MuxanduBatch muxandu_nanoseconds_from_date_times(const MuxanduDateTime *MUXANDU_
 MuxanduBatch muxandu_date_times_from_rfc3339(const char *MUXANDU_RESTRICT texts, size_t texts_count,
                                              const MuxanduSpan *MUXANDU_RESTRICT spans, size_t spans_count,
                                              MuxanduDateTime *MUXANDU_RESTRICT out, size_t out_count);
+
+/* The date-time and the offset of each text of RFC 3339, and its status, as muxandu_date_time_from_rfc3339 has them,
+ * or SPAN where a span does not lie in the block 'texts': where an item is refused, what is in its place stays, and
+ * the next follows. 'count' is how many were read. Refused BUFFER, with nothing written, where 'out' or 'statuses'
+ * has fewer items than 'spans'. */
+MuxanduBatch muxandu_date_times_from_each_rfc3339(const char *MUXANDU_RESTRICT texts, size_t texts_count,
+                                                  const MuxanduSpan *MUXANDU_RESTRICT spans, size_t spans_count,
+                                                  MuxanduDateTime *MUXANDU_RESTRICT out, size_t out_count,
+                                                  uint32_t *MUXANDU_RESTRICT statuses, size_t statuses_count);
+
+/* Writes the text of each date-time into the block 'texts', one behind the other with nothing between, and where it
+ * lies to 'spans', up to the first that muxandu_date_time_to_rfc3339 refuses, also BUFFER where what is left of
+ * 'texts' is too short. Refused BUFFER, with nothing written, where 'spans' has fewer items than 'date_times'. */
+MuxanduBatch muxandu_date_times_to_rfc3339(const MuxanduDateTime *MUXANDU_RESTRICT date_times, size_t date_times_count,
+                                           char *MUXANDU_RESTRICT texts, size_t texts_count,
+                                           MuxanduSpan *MUXANDU_RESTRICT spans, size_t spans_count);
 
 /* Writes the text of a date-time, as '1970-01-01 0:00:00.0 +00:00:00', of at most 42 bytes, all ASCII and none 0, at
  * the front of 'buffer', and its length to 'size'. Refused as the date-time, then BUFFER where it is longer than

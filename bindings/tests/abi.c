@@ -32,6 +32,25 @@ static void statuses_have_names(void) {
     CHECK(is_told(muxandu_status_text, UINT32_MAX, "A number that is no status of this version."));
 }
 
+/* The numbers that stay, as they were when programs were first built with them. */
+static void numbers_stay(void) {
+    static const char *const names[] = {
+        "OK",         "YEAR",   "MONTH",          "DAY",       "DAY_OF_MONTH", "ORDINAL",    "ORDINAL_OF_YEAR",
+        "WEEK",       "WEEK_OF_YEAR",             "WEEKDAY",   "HOUR",         "MINUTE",     "SECOND",
+        "NANOSECOND", "OFFSET_SECONDS",           "TIMESTAMP", "DAY_NUMBER",   "DURATION",   "UNIT",
+        "RESULT",     "BUFFER", "SPAN",           "SYNTAX",    "OFFSET_HOUR",  "OFFSET_MINUTE", "NO_TEXT"};
+    static const int units[] = {MUXANDU_UNIT_DAY,    MUXANDU_UNIT_HOUR,        MUXANDU_UNIT_MINUTE,
+                                MUXANDU_UNIT_SECOND, MUXANDU_UNIT_MILLISECOND, MUXANDU_UNIT_MICROSECOND};
+    static const int parts[] = {MUXANDU_PART_YEAR, MUXANDU_PART_MONTH,  MUXANDU_PART_DAY,    MUXANDU_PART_ORDINAL,
+                                MUXANDU_PART_HOUR, MUXANDU_PART_MINUTE, MUXANDU_PART_SECOND, MUXANDU_PART_NANOSECOND};
+    size_t number;
+    for (number = 0; number < sizeof names / sizeof *names; number++) {
+        CHECK(is_told(muxandu_status_name, (uint32_t)number, names[number]));
+    }
+    for (number = 0; number < sizeof units / sizeof *units; number++) CHECK(units[number] == (int)number + 1);
+    for (number = 0; number < sizeof parts / sizeof *parts; number++) CHECK(parts[number] == (int)number + 1);
+}
+
 /* No two names and no two texts are one, and each is ASCII that prints, also where the buffer is just long enough. */
 static void texts_of_statuses_differ(Tell *tell) {
     char texts[MUXANDU_REFUSED_NO_TEXT + 2][MUXANDU_STATUS_ROOM];
@@ -145,6 +164,7 @@ static void no_items_need_no_pointer(void) {
     MuxanduDateTime date_times[1];
     MuxanduTimestamp at = {7, 7}, stamps[1];
     MuxanduSpan spans[1] = {{0, 0}};
+    uint8_t is_leap = 7;
     size_t size = 0;
     memset(date_times, 0, sizeof date_times);
     date_times[0] = date_time(1970, 1, 1, 0, 0, 0, 0, 0);
@@ -180,6 +200,14 @@ static void no_items_need_no_pointer(void) {
     CHECK(is_empty(muxandu_date_times_from_rfc3339(NULL, 0, NULL, 0, NULL, 0), MUXANDU_OK));
     CHECK(is_empty(muxandu_date_times_from_rfc3339(NULL, 0, spans, 1, NULL, 0), MUXANDU_REFUSED_BUFFER));
     CHECK(is_empty(muxandu_date_times_from_rfc3339(NULL, 0, spans, 1, date_times, 1), MUXANDU_REFUSED_SYNTAX));
+    CHECK(is_empty(muxandu_date_times_from_each_rfc3339(NULL, 0, NULL, 0, NULL, 0, NULL, 0), MUXANDU_OK));
+    CHECK(is_empty(muxandu_date_times_from_each_rfc3339(NULL, 0, spans, 1, NULL, 0, NULL, 0), MUXANDU_REFUSED_BUFFER));
+    CHECK(is_empty(muxandu_date_times_to_rfc3339(NULL, 0, NULL, 0, NULL, 0), MUXANDU_OK));
+    CHECK(is_empty(muxandu_date_times_to_rfc3339(date_times, 1, NULL, 0, NULL, 0), MUXANDU_REFUSED_BUFFER));
+    CHECK(is_empty(muxandu_date_times_to_rfc3339(date_times, 1, NULL, 0, spans, 1), MUXANDU_REFUSED_BUFFER));
+    CHECK(muxandu_date_time_from_rfc3339_front(NULL, 0, date_times, &size) == MUXANDU_REFUSED_SYNTAX && size == 0);
+    CHECK(muxandu_date_time_from_rfc3339_leap(NULL, 0, date_times, &is_leap) == MUXANDU_REFUSED_SYNTAX && is_leap == 7);
+    CHECK(muxandu_rfc3339_fault(NULL, 0) == 0);
     CHECK(muxandu_timestamp_from_rfc3339(NULL, 0, &at) == MUXANDU_REFUSED_SYNTAX && is_stamp(at, 7, 7));
     CHECK(muxandu_date_time_from_rfc3339(NULL, 0, date_times) == MUXANDU_REFUSED_SYNTAX);
     CHECK(muxandu_date_time_to_rfc3339(date_times[0], NULL, 0, &size) == MUXANDU_REFUSED_BUFFER && size == 20);
@@ -197,6 +225,7 @@ static void no_items_need_no_pointer(void) {
 int main(void) {
     versions_agree();
     statuses_have_names();
+    numbers_stay();
     texts_of_statuses_differ(muxandu_status_name);
     texts_of_statuses_differ(muxandu_status_text);
     statuses_can_be_told_apart();

@@ -37,6 +37,7 @@ BOTH = tuple(map(package, ("extension", "ctypes")))
 
 KINDS = ("Timestamp", "OffsetDateTime", "Duration", "Date", "Time", "UtcDateTime", "PlainDateTime", "UtcOffset")
 TEXTS = ("Timestamp", "OffsetDateTime", "UtcDateTime", "Date")
+READERS = ("from_rfc3339", "from_rfc3339_front", "from_rfc3339_leap")
 CONSTRUCTORS = (
     *("from_milliseconds", "from_microseconds", "from_nanoseconds", "from_day_number", "from_ordinal_date", "from_iso_week_date"),
     *("from_julian_day", "of", "of_nanoseconds", "of_days", "from_hms", "from_datetime", "from_date", "from_time", "new"),
@@ -122,7 +123,8 @@ class Calls:
             return [lambda each=each: getattr(each, kind)(*words) for each in BOTH], f"{kind}{words}"
         if chosen < 0.4:
             kind, text = self.source.choice(TEXTS), self.text()
-            return [lambda each=each: getattr(each, kind).from_rfc3339(text) for each in BOTH], f"{kind}.from_rfc3339({text!r})"
+            name = self.source.choice(READERS) if kind == "OffsetDateTime" else "from_rfc3339"
+            return [lambda each=each: getattr(getattr(each, kind), name)(text) for each in BOTH], f"{kind}.{name}({text!r})"
         if chosen < 0.7:
             how, pairs = self.source.choice(OPERATORS), [self.source.choice(self.values), self.word()]
             self.source.shuffle(pairs)

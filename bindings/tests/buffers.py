@@ -477,35 +477,90 @@ def compare_each(source, kinds):
     count(problem, call.__name__, place.told(), out.told(), statuses.told())
 
 
-def text_and_meaning(source):
+def text_and_meaning(source, made=None):
+    """A text and what it says: an instant, or what clocks at its offset show."""
     second = source.randint(-62_167_219_200, 253_402_300_799)
-    text = rfc3339.shortest_text(second, source.choice((0, source.randrange(10**9))), 0).encode()
+    offset = 0 if made is None or source.random() < 0.3 else 60 * source.randint(-1_439, 1_439)
+    offset = offset if -62_167_219_200 <= second + offset <= 253_402_300_799 else 0
+    text = rfc3339.shortest_text(second, source.choice((0, source.randrange(10**9))), offset).encode()
     if source.random() < 0.1:
         text = text.replace(b"T", source.choice((b"-", b" ", b"t", b"")))
     said = rfc3339.reading(text)
-    return text, None if isinstance(said, str) else {"seconds": said[0], "nanoseconds": said[1]}
+    if isinstance(said, str):
+        return text, None
+    if made is DATE_TIMES:
+        shown = date_time_of_second({"": said[0] + said[2]})
+        return text, {**shown, "nanosecond": said[1], "offset_seconds": said[2]}
+    return text, {"seconds": said[0], "nanoseconds": said[1]}
+
+
+TEXT_CALLS = ((muxandu.timestamps_from_rfc3339, STAMPS), (muxandu.date_times_from_rfc3339, DATE_TIMES))
 
 
 def compare_texts(source, kinds):
     memory = bytearray(source.randbytes(ROOM))
-    text, meaning = text_and_meaning(source)
+    call, made = source.choice(TEXT_CALLS)
+    text, meaning = text_and_meaning(source, made)
     at = source.randrange(ROOM - len(text) + 1)
     spans = Place(source, source.choice(kinds[SPANS]), bytearray(source.randbytes(ROOM)))
     for start in spans.starts:
         spans.kind.write(spans.memory, start, {"start": at, "length": len(text)})
     chosen = source.random()
     out_memory = memory if chosen < 0.3 else spans.memory if chosen < 0.6 else bytearray(ROOM)
-    out = Place(source, source.choice(kinds[STAMPS]), out_memory, is_out=True)
+    out = Place(source, source.choice(kinds[made]), out_memory, is_out=True)
     refused = None if spans.count == 0 or spans.kind.is_exactly(SPANS) else TypeError
-    refused = refused or refusal_of_out(out, STAMPS)
+    refused = refused or refusal_of_out(out, made)
     memory[at : at + len(text)] = text
     spans_say = [spans.kind.read(spans.memory, start) for start in spans.starts] if refused is None else []
     # The text was written last: over the spans it stands there where both lie in one memory.
     items = [meaning if span == {"start": at, "length": len(text)} else None for span in spans_say]
     block = memory if source.random() < 0.7 else bytes(memory)
     words = [block, spans.view, out.view]
-    problem = judged(muxandu.timestamps_from_rfc3339, words, items, out, refused, STAMPS, out.count)
-    count(problem, "timestamps_from_rfc3339", spans.told(), out.told(), str(text))
+    problem = judged(call, words, items, out, refused, made, out.count)
+    count(problem, call.__name__, spans.told(), out.told(), str(text))
+
+
+def is_stamp(values):
+    is_near = calendar.FIRST_SECOND <= values["seconds"] <= calendar.LAST_SECOND
+    return is_near and values["nanoseconds"] < 10**9
+
+
+def given(call, *words):
+    """What a call that makes a new list or array gives, or its error."""
+    try:
+        return list(call(*words)), None
+    except Exception as error:  # noqa: BLE001
+        return None, error
+
+
+def compare_written(source, kinds):
+    """Instants of a buffer, as texts, and as an array of datetime64 where NumPy is there."""
+    place = Place(source, source.choice(kinds[STAMPS]), bytearray(source.randbytes(ROOM)))
+    for start in place.starts:
+        second = source.choice((source.randint(-(10**11), 3 * 10**11), source.randint(calendar.FIRST_SECOND, calendar.LAST_SECOND)))
+        if source.random() < 0.95:
+            place.kind.write(place.memory, start, {"seconds": second, "nanoseconds": source.randrange(10**9 + 10**7)})
+    is_refused = place.count > 0 and not place.kind.is_exactly(STAMPS)
+    read = [] if is_refused else [place.kind.read(place.memory, start) for start in place.starts]
+    stamps = [tuple(each.values()) if is_stamp(each) else None for each in read]
+    if numpy and source.random() < 0.5:
+        kind = MomentKind(source.choice((*ATTOSECONDS, *MONTHS)), source.choice((1, 7)), NATIVE)
+        name, words = "datetime64_from_timestamps", (place.view, f"{kind.many}{kind.unit}")
+        items = [stamp and kind.count_of(*stamp) for stamp in stamps]
+        items = [item and item[""] for item in items]
+        found, error = given(lambda *words: muxandu.datetime64_from_timestamps(*words).view("int64").tolist(), *words)
+    else:
+        name, words = "rfc3339_from_timestamps", (place.view,)
+        items = [rfc3339.shortest_text(*stamp, 0) if stamp and 0 <= stamp[0] + 62_167_219_200 < 315_569_520_000 else None for stamp in stamps]
+        found, error = given(muxandu.rfc3339_from_timestamps, *words)
+    if is_refused:
+        problem = None if type(error) is TypeError else f"must be a TypeError, not {found or error!r}"
+    elif None in items:
+        is_right = isinstance(error, muxandu.Refused) and error.count == items.index(None)
+        problem = None if is_right else f"item {items.index(None)} must be refused, not {found or error!r}"
+    else:
+        problem = None if found == items else f"must be {items}, not {found or error!r}"
+    count(problem, name, place.told(), *words[1:])
 
 
 # How many attoseconds the units of datetime64 have; months have none.
@@ -632,8 +687,10 @@ def main():
         kinds[each] += [source.choice(exact) for _ in range(2 * variety)]
     for _ in range(calls):
         chosen = source.random()
-        if chosen < 0.2:
+        if chosen < 0.15:
             compare_texts(source, kinds)
+        elif chosen < 0.2:
+            compare_written(source, kinds)
         elif chosen < 0.35:
             compare_each(source, kinds)
         elif chosen < 0.45 and numpy:

@@ -615,6 +615,84 @@ static void batches_of_counts(void) {
     CHECK(is_batch(muxandu_milliseconds_from_date_times(out, 2, back, 1), 0, MUXANDU_REFUSED_BUFFER));
 }
 
+/* A date-time in front of other text, one whose second is 60, and where a text is at fault. */
+static void other_texts_are_read(void) {
+    static const struct {
+        const char *text;
+        size_t place;
+    } faults[] = {
+        {"", 0},
+        {"x", 0},
+        {"1985-04-12", 10},
+        {"1985-04-12_23:20:50Z", 10},
+        {"1985-4-12T23:20:50Z", 6},
+        {"1985-04-12T23:20:50", 19},
+        {"1985-04-12T23:20:50.", 20},
+        {"1985-04-12T23:20:50.Z", 20},
+        {"1985-04-12T23:20:50.52+0800", 25},
+        {"1985-04-12T23:20:50Z ", 20},
+        {"1985-04-12T23:20:50+08:0", 24},
+        {"9985-99-99t99:99:99z", 20},
+    };
+    const char *line = "1985-04-12T23:20:50.52Z done";
+    MuxanduDateTime out = JUNK;
+    uint8_t is_leap = 7;
+    size_t size = 7, row;
+    CHECK(muxandu_date_time_from_rfc3339_front("1985-04-12", 10, &out, &size) == MUXANDU_REFUSED_SYNTAX);
+    CHECK(muxandu_date_time_from_rfc3339_front("1985-02-29T23:20:50Z ", 21, &out, &size) == MUXANDU_REFUSED_DAY_OF_MONTH);
+    CHECK(muxandu_date_time_from_rfc3339_front("1985-02-32T23:20:50Z ", 21, &out, &size) == MUXANDU_REFUSED_DAY);
+    CHECK(is_date_time(out, JUNK) && size == 7);
+    CHECK(muxandu_date_time_from_rfc3339_front(line, strlen(line), &out, &size) == MUXANDU_OK && size == 23);
+    CHECK(is_date_time(out, date_time(1985, 4, 12, 23, 20, 50, 520000000, 0)));
+    out = JUNK;
+    CHECK(muxandu_date_time_from_rfc3339_leap("1990-12-31T23:59:61Z", 20, &out, &is_leap) == MUXANDU_REFUSED_SECOND);
+    CHECK(muxandu_date_time_from_rfc3339_leap("1990-12-31T23:59:60Z ", 21, &out, &is_leap) == MUXANDU_REFUSED_SYNTAX);
+    CHECK(muxandu_date_time_from_rfc3339_leap("1990-11-31T23:59:60Z", 20, &out, &is_leap) == MUXANDU_REFUSED_DAY_OF_MONTH);
+    CHECK(is_date_time(out, JUNK) && is_leap == 7);
+    CHECK(muxandu_date_time_from_rfc3339_leap("1990-12-31T15:59:60-08:00", 25, &out, &is_leap) == MUXANDU_OK);
+    CHECK(is_date_time(out, date_time(1990, 12, 31, 15, 59, 59, 0, -28800)) && is_leap == 1);
+    CHECK(muxandu_date_time_from_rfc3339_leap("1990-12-31T23:59:59Z", 20, &out, &is_leap) == MUXANDU_OK && is_leap == 0);
+    CHECK(muxandu_date_time_from_rfc3339("1990-12-31T23:59:60Z", 20, &out) == MUXANDU_REFUSED_SECOND);
+    for (row = 0; row < sizeof faults / sizeof *faults; row++) {
+        CHECK(muxandu_rfc3339_fault(faults[row].text, strlen(faults[row].text)) == faults[row].place);
+    }
+}
+
+static void batches_of_texts_go_on(void) {
+    const char *texts = "1970-01-01T00:00:01Z,1970-02-30T00:00:00Z,1970-01-01T01:00:00+01:00";
+    MuxanduSpan spans[4] = {{0, 20}, {21, 20}, {SIZE_MAX, 2}, {42, 25}};
+    uint32_t statuses[5] = {99, 99, 99, 99, 99};
+    MuxanduDateTime out[4] = {JUNK, JUNK, JUNK, JUNK};
+    CHECK(is_batch(muxandu_date_times_from_each_rfc3339(texts, 67, spans, 4, out, 4, statuses, 3), 0, MUXANDU_REFUSED_BUFFER));
+    CHECK(is_batch(muxandu_date_times_from_each_rfc3339(texts, 67, spans, 4, out, 3, statuses, 4), 0, MUXANDU_REFUSED_BUFFER));
+    CHECK(statuses[0] == 99 && is_date_time(out[0], JUNK));
+    CHECK(is_batch(muxandu_date_times_from_each_rfc3339(texts, 67, spans, 4, out, 4, statuses, 5), 2, MUXANDU_OK));
+    CHECK(statuses[0] == MUXANDU_OK && statuses[1] == MUXANDU_REFUSED_DAY_OF_MONTH && statuses[2] == MUXANDU_REFUSED_SPAN &&
+          statuses[3] == MUXANDU_OK && statuses[4] == 99);
+    CHECK(is_date_time(out[0], date_time(1970, 1, 1, 0, 0, 1, 0, 0)) && is_date_time(out[1], JUNK) &&
+          is_date_time(out[2], JUNK) && is_date_time(out[3], date_time(1970, 1, 1, 1, 0, 0, 0, 3600)));
+}
+
+static void texts_are_written_into_a_block(void) {
+    MuxanduDateTime items[3];
+    char block[64];
+    MuxanduSpan spans[3] = {{7, 7}, {7, 7}, {7, 7}};
+    items[0] = date_time(1970, 1, 1, 0, 0, 1, 0, 0);
+    items[1] = date_time(1970, 1, 1, 1, 0, 0, 500000000, 3600);
+    items[2] = date_time(10000, 1, 1, 0, 0, 0, 0, 0);
+    memset(block, '!', sizeof block);
+    CHECK(is_batch(muxandu_date_times_to_rfc3339(items, 3, block, sizeof block, spans, 2), 0, MUXANDU_REFUSED_BUFFER));
+    CHECK(block[0] == '!' && spans[0].start == 7);
+    CHECK(is_batch(muxandu_date_times_to_rfc3339(items, 2, block, 46, spans, 3), 1, MUXANDU_REFUSED_BUFFER));
+    CHECK(memcmp(block, "1970-01-01T00:00:01Z!", 21) == 0 && spans[0].start == 0 && spans[0].length == 20 &&
+          spans[1].start == 7);
+    CHECK(is_batch(muxandu_date_times_to_rfc3339(items, 2, block, 47, spans, 3), 2, MUXANDU_OK));
+    CHECK(memcmp(block, "1970-01-01T00:00:01Z1970-01-01T01:00:00.5+01:00!", 48) == 0 && spans[1].start == 20 &&
+          spans[1].length == 27 && spans[2].start == 7);
+    CHECK(is_batch(muxandu_date_times_to_rfc3339(items, 3, block, sizeof block, spans, 3), 2, MUXANDU_REFUSED_NO_TEXT));
+    CHECK(block[47] == '!' && spans[2].start == 7);
+}
+
 static void batches_go_on(void) {
     int64_t seconds[3] = {0, INT64_MAX, -1}, back[3] = {7, 7, 7};
     uint32_t statuses[4] = {99, 99, 99, 99};
@@ -704,5 +782,8 @@ int main(void) {
     batches_go_on();
     batches_of_texts();
     batches_of_texts_at_offsets();
+    other_texts_are_read();
+    batches_of_texts_go_on();
+    texts_are_written_into_a_block();
     return counted();
 }

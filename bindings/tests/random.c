@@ -272,6 +272,31 @@ static void compare_reading(int is_date_time_wanted) {
     }
 }
 
+/* The same texts with more behind them, with a second of 60, and where they are at fault. */
+static void compare_other_reading(uint32_t kind) {
+    static const char *const behind[] = {"", " done", "0", ".", "Z", "+01:00", "1970-01-01T00:00:00Z"};
+    char text[2 * REFERENCE_ROOM];
+    size_t size = some_text(text), length = 7, wanted_length = 7;
+    MuxanduDateTime date_time = date_time_of(7, 7), wanted = date_time;
+    uint8_t is_leap = 7, wanted_leap = 7;
+    uint32_t status;
+    if (kind == 0) {
+        if (size < 35) strcpy(text + size, behind[one_of(7)]);
+        status = muxandu_date_time_from_rfc3339_front(text, strlen(text), &date_time, &length);
+        tell("date_time_from_rfc3339_front",
+             status == reference_date_time_from_rfc3339_front(text, &wanted, &wanted_length) &&
+                 is_date_time(date_time, wanted) && length == wanted_length);
+    } else if (kind == 1) {
+        if (size > 18 && one_of(2)) memcpy(text + 17, "60", 2);
+        status = muxandu_date_time_from_rfc3339_leap(text, size, &date_time, &is_leap);
+        tell("date_time_from_rfc3339_leap", status == reference_date_time_from_rfc3339_leap(text, &wanted, &wanted_leap) &&
+                                                is_date_time(date_time, wanted) && is_leap == wanted_leap);
+    } else {
+        if (size > 0 && one_of(2)) text[one_of((uint32_t)size)] = "0123456789:.-+TZ x"[one_of(18)];
+        tell("rfc3339_fault", muxandu_rfc3339_fault(text, size) == reference_rfc3339_fault(text));
+    }
+}
+
 /* A date and a text of one, one in two of them spoiled. */
 static void compare_dates_as_texts(int is_read) {
     char text[REFERENCE_ROOM];
@@ -484,6 +509,64 @@ static void compare_batch_of_texts_at_offsets(void) {
                                                      : reference_date_time_from_rfc3339(texts[k], theirs + k));
 }
 
+static void compare_each_text(void) {
+    char texts[MOST_ITEMS][REFERENCE_ROOM];
+    MuxanduSpan spans[MOST_ITEMS];
+    size_t count = one_of(MOST_ITEMS + 1), room = one_of(16) ? count : one_of(MOST_ITEMS + 1), item;
+    size_t statuses_room = one_of(16) ? count : one_of(MOST_ITEMS + 1);
+    for (item = 0; item < MOST_ITEMS; item++) {
+        spans[item].start = item * REFERENCE_ROOM;
+        spans[item].length = some_text(texts[item]);
+        if (one_of(16) == 0) spans[item].start = sizeof texts + 1;
+    }
+    COMPARE_EACH(MuxanduDateTime, is_date_time, "date_times_from_each_rfc3339",
+                 muxandu_date_times_from_each_rfc3339(texts[0], sizeof texts, spans, count, ours, room, statuses,
+                                                      statuses_room),
+                 spans[k].start == sizeof texts + 1 ? (uint32_t)MUXANDU_REFUSED_SPAN
+                                                    : reference_date_time_from_rfc3339(texts[k], theirs + k));
+}
+
+/* A date-time that has a text, mostly. */
+static MuxanduDateTime some_written(void) {
+    if (one_of(16) == 0) return some_date_time();
+    return date_time_of((Nanoseconds)between(-62167219200, 253402300799) * 1000000000 + some_nanosecond() % 1000000000,
+                        one_of(16) ? (int32_t)between(-1439, 1439) * 60 : some_offset());
+}
+
+/* Texts written into one block, which is now and then too short for the last of them. */
+static void compare_block_of_texts(void) {
+    char texts[MOST_ITEMS * 36], wanted[MOST_ITEMS * 36], text[REFERENCE_ROOM];
+    MuxanduDateTime date_times[MOST_ITEMS];
+    MuxanduSpan spans[MOST_ITEMS], wanted_spans[MOST_ITEMS];
+    size_t count = one_of(MOST_ITEMS + 1), room = one_of(16) ? count : one_of(MOST_ITEMS + 1), start = 0, item;
+    size_t block = one_of(2) ? sizeof texts : one_of(sizeof texts + 1);
+    uint32_t status = room < count ? MUXANDU_REFUSED_BUFFER : MUXANDU_OK;
+    MuxanduBatch done;
+    for (item = 0; item < MOST_ITEMS; item++) date_times[item] = some_written();
+    memset(texts, 'x', sizeof texts);
+    memset(wanted, 'x', sizeof wanted);
+    memset(spans, 7, sizeof spans);
+    memset(wanted_spans, 7, sizeof wanted_spans);
+    for (item = 0; status == MUXANDU_OK && item < count; item++) {
+        size_t length;
+        status = reference_date_time_check(date_times[item]);
+        if (status != MUXANDU_OK) break;
+        length = reference_to_rfc3339(date_times[item], text);
+        if (length == 0 || start + length > block) {
+            status = length == 0 ? MUXANDU_REFUSED_NO_TEXT : MUXANDU_REFUSED_BUFFER;
+            break;
+        }
+        memcpy(wanted + start, text, length);
+        wanted_spans[item].start = start;
+        wanted_spans[item].length = length;
+        start += length;
+    }
+    done = muxandu_date_times_to_rfc3339(date_times, count, texts, block, spans, room);
+    tell("date_times_to_rfc3339", done.count == item && done.status == status &&
+                                      memcmp(texts, wanted, sizeof texts) == 0 &&
+                                      memcmp(spans, wanted_spans, sizeof spans) == 0);
+}
+
 static void compare_timestamps(uint32_t kind) {
     MuxanduTimestamp at = some_stamp(), other = some_stamp();
     MuxanduDuration duration = some_duration();
@@ -628,7 +711,7 @@ static void compare_dates(uint32_t kind) {
 
 /* A call of the others, each group as often as it has calls. */
 static void compare_other(void) {
-    uint32_t kind = one_of(58);
+    uint32_t kind = one_of(63);
     if (kind < 8) {
         compare_timestamps(kind);
     } else if (kind < 14) {
@@ -651,14 +734,20 @@ static void compare_other(void) {
         compare_each(kind - 53);
     } else if (kind == 55) {
         compare_batch_of_texts_at_offsets();
-    } else {
+    } else if (kind < 58) {
         compare_dates_as_texts(kind == 56);
+    } else if (kind < 61) {
+        compare_other_reading(kind - 58);
+    } else if (kind == 61) {
+        compare_each_text();
+    } else {
+        compare_block_of_texts();
     }
 }
 
 /* One call of any kind, each group as often as it has calls. */
 static void compare_one(void) {
-    if (one_of(67) < 9) {
+    if (one_of(72) < 9) {
         compare_dates(one_of(9));
         return;
     }

@@ -5,7 +5,7 @@ use Rattle.calendar_values.specs.Offsets.{offset_of_seconds}
 use Rattle.calendar_values.specs.WallClock.{wall_clock}
 use Rattle.offset_times.specs.Local.{Local, instant_of, shown_at, wall_at}
 use Rattle.muxandu_c.specs.Answers.{and_then, as_refused}
-use Rattle.muxandu_c.specs.Values.{date_value, date_time_value, as_date_time, local_in_range, shown, date_time_to_offset}
+use Rattle.muxandu_c.specs.Values.{date_value, date_time_value, as_date_time, local_if_any, shown, date_time_to_offset}
 use Rattle.muxandu_c.specs.declared.refused.Refused.{Refused}
 use Rattle.muxandu_c.specs.declared.values.MuxanduDateTime.{MuxanduDateTime}
 
@@ -28,10 +28,10 @@ date_time_value-of v year seconds n c o at y s date time offset made =
     (λ (c : ℕ). and_then (as_refused (offset_of_seconds v.offset_seconds)) (λ (o : ℤ). Ok (wall_at (wall_clock n c) o)))) n date'
 
 pub date_time_to_offset-of : (v : MuxanduDateTime) (seconds seconds' : ℤ) (at : Local) (o o' : ℤ) (answer : Result MuxanduDateTime Refused)
-    → answer ≡ as_date_time (local_in_range (shown_at (instant_of at) o') o') → o' ≡ o → Ok at ≡ date_time_value v
+    → answer ≡ as_date_time (local_if_any (shown_at (instant_of at) o') o') → o' ≡ o → Ok at ≡ date_time_value v
     → Ok o ≡ as_refused (offset_of_seconds seconds') → seconds' ≡ seconds → answer ≡ date_time_to_offset v seconds
 date_time_to_offset-of v seconds seconds' at o o' answer made same date_time offset s =
     let offset' = rw s at offset in
-    made ∙ ap (λ (z : ℤ). as_date_time (local_in_range (shown_at (instant_of at) z) z)) same
-    ∙ ap as_date_time (after (as_refused (offset_of_seconds seconds)) (λ (z : ℤ). local_in_range (shown_at (instant_of at) z) z) o offset')
+    made ∙ ap (λ (z : ℤ). as_date_time (local_if_any (shown_at (instant_of at) z) z)) same
+    ∙ ap as_date_time (after (as_refused (offset_of_seconds seconds)) (λ (z : ℤ). local_if_any (shown_at (instant_of at) z) z) o offset')
     ∙ ap as_date_time (after (date_time_value v) (λ (l : Local). shown (instant_of l) seconds) at date_time)

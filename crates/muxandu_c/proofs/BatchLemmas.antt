@@ -1,5 +1,5 @@
 -- The values of a batch, item by item: one more value, an item that is refused, and the end of the items.
-use Rattle.std.proofs.Common.{◌≡◌, ℕ, ◌+◌, ◌<◌, ◌≤◌, List, [], ◌∷◌, ◌++◌, length, take, drop, get_or, set, Result, Ok, Err, refl, sym, ap, ◌∙◌, arith}
+use Rattle.std.proofs.Common.{◌≡◌, ℕ, ◌+◌, ◌<◌, ◌≤◌, List, [], ◌∷◌, ◌++◌, length, take, drop, get_or, set, Result, Ok, Err, refl, sym, ap, ◌∙◌}
 use Rattle.std.proofs.lemmas.List.{drop_more, drop_all, take_more_set, append-nil, append_assoc, take-append-drop, length-take-le}
 use Rattle.muxandu_c.specs.Answers.{status_number}
 use Rattle.muxandu_c.specs.Batches.{values_of, status_of_items}

@@ -1,5 +1,5 @@
 -- A duration whose nanoseconds carry: one that the range has or not.
-use Rattle.std.proofs.Common.{◌≡◌, Bool, true, false, refl, arith, ℤ, pos, ◌*ℤ◌, ◌+ℤ◌, ◌≤ℤ◌, int_lt, Option, Some, None, Result, Ok, Err}
+use Rattle.std.proofs.Common.{◌≡◌, Bool, true, false, refl, arith, ℤ, pos, ◌*ℤ◌, ◌+ℤ◌, ◌≤ℤ◌, int_lt, Option, Some, None, Ok, Err}
 use Rattle.std.specs.Prelude.{SomeIff}
 use Rattle.std.specs.Option.{is_some}
 use Rattle.calendar_values.specs.Durations.{least_duration, greatest_duration}

@@ -1,5 +1,5 @@
 -- The two digits of the day of a text, and what it is refused by.
-use Rattle.std.proofs.Common.{◌≡◌, ℕ, ◌+◌, ◌/◌, ◌%◌, ◌≤◌, Bool, true, false, not, List, length, slice_index_or, refl, sym, subst, arith}
+use Rattle.std.proofs.Common.{◌≡◌, ℕ, ◌+◌, ◌/◌, ◌%◌, ◌≤◌, ◌++◌, Bool, true, false, not, List, length, slice_index_or, refl, sym, subst, arith}
 use Rattle.std.specs.Prelude.{if◌then◌else◌}
 use Rattle.calendar_values.specs.Digits.{last_digits}
 use Rattle.rfc3339.specs.Form.{IsDateTime, spelling}
@@ -23,6 +23,17 @@ spelled_day : (year month day : ℕ) → let text = full_date_digits year month 
     (10 ≤ length text) × (slice_index_or text 8 0 ≡ 48 + day / 10 % 10) × (slice_index_or text 9 0 ≡ 48 + day % 10)
 unfolding last_digits
 spelled_day year month day = (omega arith, refl, refl)
+
+-- also where more stands behind the text
+spelled_digits_before : (p : Parts) (separator : ℕ) (fraction offset rest : List ℕ) → let text = spelling p separator fraction offset ++ rest in
+    (10 ≤ length text) × (slice_index_or text 8 0 ≡ 48 + p.day / 10 % 10) × (slice_index_or text 9 0 ≡ 48 + p.day % 10)
+unfolding last_digits
+spelled_digits_before p separator fraction offset rest = (omega arith, refl, refl)
+
+pub day_digits_in_front : (text stamp rest : List ℕ) (p : Parts) → text ≡ stamp ++ rest → IsDateTime stamp p →
+    (10 ≤ length text) × (slice_index_or text 8 0 ≡ 48 + p.day / 10 % 10) × (slice_index_or text 9 0 ≡ 48 + p.day % 10)
+day_digits_in_front text stamp rest p e is =
+    rw (e, is.spelled) (spelled_digits_before p is.separator is.fraction is.offset rest)
 
 -- also where no more than a date stands there
 pub date_digits : (text : List ℕ) (year month day : ℕ) → IsFullDate text year month day →

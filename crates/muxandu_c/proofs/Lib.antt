@@ -3,6 +3,9 @@ mod ApartLemmas
 mod BatchLemmas
 mod CarriedDurationLemmas
 mod DayDigitLemmas
+mod FrontTextLemmas
+mod StatusTextLemmas
 mod TextBatchLemmas
+mod TextBlockLemmas
 mod ValuesLemmas
 mod WeekDateLemmas

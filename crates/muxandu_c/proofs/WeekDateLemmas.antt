@@ -15,8 +15,8 @@ use Rattle.calendar_values.specs.YearLemmas.{days_in_year_bounds}
 use Rattle.calendar_values.specs.Weeks.{weekday_of, thursday_of, iso_year_of, iso_week_of}
 use Rattle.muxandu_c.proofs.AnswerLemmas.{after}
 use Rattle.muxandu_c.specs.Answers.{and_then, as_refused}
-use Rattle.muxandu_c.specs.Values.{date_value}
-use Rattle.muxandu_c.specs.WeekDates.{monday_of, day_of_week, day_in_range, day_from_week_date, week_date_from_day}
+use Rattle.muxandu_c.specs.Values.{date_value, day_if_any}
+use Rattle.muxandu_c.specs.WeekDates.{monday_of, day_of_week, day_from_week_date, week_date_from_day}
 use Rattle.muxandu_c.specs.declared.refused.Refused.{Refused}
 use Rattle.muxandu_c.specs.declared.refused.Refused.TheVariants as refused
 use Rattle.muxandu_c.specs.declared.values.MuxanduWeekDate.{MuxanduWeekDate}
@@ -178,7 +178,7 @@ day_of_week-late monday last weekday late = choose (int_lt last (monday +ℤ pos
   choose false t = absurd (late (omega (arith, signed_arith)))
 
 -- or it is not
-pub day_of_week-early : (monday last : ℤ) (weekday : ℕ) → (monday +ℤ pos 3) ≤ℤ last → day_of_week monday weekday last ≡ day_in_range (monday +ℤ pos weekday)
+pub day_of_week-early : (monday last : ℤ) (weekday : ℕ) → (monday +ℤ pos 3) ≤ℤ last → day_of_week monday weekday last ≡ day_if_any (monday +ℤ pos weekday)
 day_of_week-early monday last weekday early = rw (not_before (monday +ℤ pos 3) last early) refl
 
 -- what follows the days of 4 January and of 31 December

@@ -18,20 +18,20 @@ use Rattle.muxandu_c.specs.declared.values.MuxanduSpan.{MuxanduSpan}
 use Rattle.muxandu_c.specs.declared.values.MuxanduTimestamp.{MuxanduTimestamp}
 
 -- the year that is shown has not four digits
-abbrev pub is_far : ℤ → Bool
-is_far wall = is_outside (pos 0) (pos 9_999) (year_of (wall_day wall))
+abbrev pub year_has_no_text : ℤ → Bool
+year_has_no_text wall = is_outside (pos 0) (pos 9_999) (year_of (wall_day wall))
 
 -- the offset has seconds, or is of a day or more
-abbrev pub is_odd : ℤ → Bool
-is_odd o = not (unsigned_abs o % 60 == 0) || nat_lt 86_399 (unsigned_abs o)
+abbrev pub offset_has_no_text : ℤ → Bool
+offset_has_no_text o = not (unsigned_abs o % 60 == 0) || nat_lt 86_399 (unsigned_abs o)
 
 -- the shortest text, if there is one
 abbrev pub rfc3339_of : Local → Result (List ℕ) Refused
-rfc3339_of at = if is_far at.wall || is_odd at.offset then Err refused.NoText else Ok (rfc3339_text at)
+rfc3339_of at = if year_has_no_text at.wall || offset_has_no_text at.offset then Err refused.NoText else Ok (rfc3339_text at)
 
 -- the text of fixed width, if there is one
 abbrev pub fixed_rfc3339_of : ℤ → Result (List ℕ) Refused
-fixed_rfc3339_of i = if is_far i then Err refused.NoText else Ok (fixed_text i)
+fixed_rfc3339_of i = if year_has_no_text i then Err refused.NoText else Ok (fixed_text i)
 
 -- the texts of a date-time and of a timestamp
 abbrev pub date_time_to_rfc3339 : MuxanduDateTime → Result (List ℕ) Refused

@@ -6,11 +6,13 @@ pub mod DateTexts
 pub mod DigitTexts
 pub mod EachBatches
 pub mod Exchange
+pub mod FrontTexts
 pub mod OffsetParts
 pub mod PartsReplaced
 pub mod Reads
 pub mod StatusTexts
 pub mod SubsecondBatches
 pub mod TextBatches
+pub mod TextBlocks
 pub mod Values
 pub mod WeekDates

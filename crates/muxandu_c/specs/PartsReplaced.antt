@@ -1,5 +1,5 @@
 -- Date-times and instants with one part replaced.
-use Rattle.std.specs.Prelude.{ℕ, ◌==◌, ◌||◌, ℤ, pos, unsigned_abs, Result, Ok, Err, if◌then◌else◌}
+use Rattle.std.specs.Prelude.{ℕ, ◌==◌, ℤ, pos, unsigned_abs, Result, Ok, Err, if◌then◌else◌}
 use Rattle.calendar_values.specs.Range.{is_outside}
 use Rattle.plain_times.specs.Replacements.{wall_year_outcome, wall_month_outcome, wall_day_outcome, wall_ordinal_outcome}
 use Rattle.plain_times.specs.Replacements.{wall_hour_outcome, wall_minute_outcome, wall_second_outcome, wall_nanosecond_outcome}

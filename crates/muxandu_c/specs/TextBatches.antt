@@ -1,5 +1,5 @@
 -- Texts of a block as date-times.
-use Rattle.std.specs.Prelude.{ℕ, ◌+◌, List, length, take, drop, nat_lt, Option, Some, None, Result, Ok, Err, if◌then◌else◌}
+use Rattle.std.specs.Prelude.{ℕ, ◌+◌, List, length, take, drop, nat_lt, Option, Some, None, Result, Err, if◌then◌else◌}
 use Rattle.rfc3339.specs.Reading.{parts_at}
 use Rattle.rfc3339.specs.declared.parts.Parts.{Parts}
 use Rattle.muxandu_c.specs.Exchange.{date_time_spelled}

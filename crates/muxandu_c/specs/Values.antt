@@ -77,18 +77,18 @@ abbrev pub duration_parts : ℤ → MuxanduDuration
 duration_parts d = record { seconds = whole_seconds_of d; nanoseconds = subsec_nanoseconds_of d }
 
 -- an instant, or a wall clock, if the range has it
-abbrev pub in_range : ℤ → Result ℤ Refused
-in_range i = if is_outside first_wall_clock last_wall_clock i then Err refused.Result else Ok i
+abbrev pub instant_if_any : ℤ → Result ℤ Refused
+instant_if_any i = if is_outside first_wall_clock last_wall_clock i then Err refused.Result else Ok i
 
 -- a wall clock at an offset, if the range has it
-abbrev pub local_in_range : ℤ → ℤ → Result Local Refused
-local_in_range wall o = and_then (in_range wall) (λ shown. Ok (wall_at shown o))
+abbrev pub local_if_any : ℤ → ℤ → Result Local Refused
+local_if_any wall o = and_then (instant_if_any wall) (λ shown. Ok (wall_at shown o))
 
 -- what clocks at an offset show at an instant, if the range has it
 abbrev pub shown : ℤ → ℤ → Result Local Refused
 shown i offset_seconds =
     and_then (as_refused (offset_of_seconds offset_seconds)) (λ o.
-    local_in_range (shown_at i o) o)
+    local_if_any (shown_at i o) o)
 
 -- the parts of an instant, of a duration and of a date-time, if an answer has one
 abbrev pub as_timestamp : Result ℤ Refused → Result MuxanduTimestamp Refused
@@ -107,7 +107,7 @@ date_time_from_timestamp v offset_seconds =
 
 -- the instant of a date-time, if the range has it
 abbrev pub date_time_instant : MuxanduDateTime → Result ℤ Refused
-date_time_instant v = and_then (date_time_value v) (λ at. in_range (instant_of at))
+date_time_instant v = and_then (date_time_value v) (λ at. instant_if_any (instant_of at))
 
 abbrev pub timestamp_from_date_time : MuxanduDateTime → Result MuxanduTimestamp Refused
 timestamp_from_date_time v = as_timestamp (date_time_instant v)
@@ -120,7 +120,7 @@ date_time_to_offset v offset_seconds =
 -- a timestamp and a duration added, if the range has the sum, or brought into the range
 abbrev pub timestamp_add : MuxanduTimestamp → MuxanduDuration → Result MuxanduTimestamp Refused
 timestamp_add v w =
-    as_timestamp (and_then (timestamp_value v) (λ i. and_then (duration_value w) (λ d. in_range (i +ℤ d))))
+    as_timestamp (and_then (timestamp_value v) (λ i. and_then (duration_value w) (λ d. instant_if_any (i +ℤ d))))
 
 abbrev pub timestamp_saturating_add : MuxanduTimestamp → MuxanduDuration → Result MuxanduTimestamp Refused
 timestamp_saturating_add v w =
@@ -129,7 +129,7 @@ timestamp_saturating_add v w =
 -- a timestamp less a duration, if the range has it, or brought into the range
 abbrev pub timestamp_subtract : MuxanduTimestamp → MuxanduDuration → Result MuxanduTimestamp Refused
 timestamp_subtract v w =
-    as_timestamp (and_then (timestamp_value v) (λ i. and_then (duration_value w) (λ d. in_range (i -ℤ d))))
+    as_timestamp (and_then (timestamp_value v) (λ i. and_then (duration_value w) (λ d. instant_if_any (i -ℤ d))))
 
 abbrev pub timestamp_saturating_subtract : MuxanduTimestamp → MuxanduDuration → Result MuxanduTimestamp Refused
 timestamp_saturating_subtract v w =
@@ -188,6 +188,10 @@ date_time_compare v w =
 abbrev pub day_value : ℤ → Result ℤ Refused
 day_value n = if is_outside first_day last_day n then Err refused.DayNumber else Ok n
 
+-- a day that a count leads to, if the range has it
+abbrev pub day_if_any : ℤ → Result ℤ Refused
+day_if_any n = if is_outside first_day last_day n then Err refused.Result else Ok n
+
 -- the parts of a date
 abbrev pub date_parts : ℤ → MuxanduDate
 date_parts n = record { year = year_of n; month = month_of n; day = day_of_month_of n }
@@ -235,12 +239,12 @@ abbrev pub second_of_date_time : MuxanduDateTime → Result ℤ Refused
 second_of_date_time v = and_then (date_time_instant v) (λ i. Ok (unix_seconds_of i))
 
 -- an instant, if the range has it, or the refusal of its count
-abbrev pub count_in_range : ℤ → Result ℤ Refused
-count_in_range i = if is_outside first_wall_clock last_wall_clock i then Err refused.Timestamp else Ok i
+abbrev pub count_if_any : ℤ → Result ℤ Refused
+count_if_any i = if is_outside first_wall_clock last_wall_clock i then Err refused.Timestamp else Ok i
 
 -- the instant of so many milliseconds
 abbrev pub timestamp_from_milliseconds : ℤ → Result MuxanduTimestamp Refused
-timestamp_from_milliseconds count = as_timestamp (count_in_range (instant_of_milliseconds count))
+timestamp_from_milliseconds count = as_timestamp (count_if_any (instant_of_milliseconds count))
 
 -- the milliseconds of an instant, rounded down
 abbrev pub timestamp_to_milliseconds : MuxanduTimestamp → Result ℤ Refused
@@ -261,7 +265,7 @@ timestamp_to_nanoseconds v = and_then (timestamp_value v) (λ i. in_64_bits i)
 -- a date-time and a duration added at one offset, if the range has the sum, or brought into the range
 abbrev pub date_time_add : MuxanduDateTime → MuxanduDuration → Result MuxanduDateTime Refused
 date_time_add v w =
-    as_date_time (and_then (date_time_value v) (λ at. and_then (duration_value w) (λ d. local_in_range (at.wall +ℤ d) at.offset)))
+    as_date_time (and_then (date_time_value v) (λ at. and_then (duration_value w) (λ d. local_if_any (at.wall +ℤ d) at.offset)))
 
 abbrev pub date_time_saturating_add : MuxanduDateTime → MuxanduDuration → Result MuxanduDateTime Refused
 date_time_saturating_add v w =
@@ -270,7 +274,7 @@ date_time_saturating_add v w =
 -- a date-time less a duration at one offset, if the range has it, or brought into the range
 abbrev pub date_time_subtract : MuxanduDateTime → MuxanduDuration → Result MuxanduDateTime Refused
 date_time_subtract v w =
-    as_date_time (and_then (date_time_value v) (λ at. and_then (duration_value w) (λ d. local_in_range (at.wall -ℤ d) at.offset)))
+    as_date_time (and_then (date_time_value v) (λ at. and_then (duration_value w) (λ d. local_if_any (at.wall -ℤ d) at.offset)))
 
 abbrev pub date_time_saturating_subtract : MuxanduDateTime → MuxanduDuration → Result MuxanduDateTime Refused
 date_time_saturating_subtract v w =

@@ -1,9 +1,8 @@
 -- ISO week dates and their days: a week begins on Monday, and belongs to the year of its Thursday, so that week 1 has 4 January.
 use Rattle.std.specs.Prelude.{ℕ, ◌-◌, ◌*◌, ◌==◌, ◌||◌, ℤ, pos, ◌+ℤ◌, ◌-ℤ◌, Result, Ok, Err, if◌then◌else◌, nat_lt, int_lt}
-use Rattle.calendar_values.specs.Range.{is_outside, first_day, last_day}
 use Rattle.calendar_values.specs.Weeks.{iso_year_of, iso_week_of, weekday_of}
 use Rattle.muxandu_c.specs.Answers.{and_then}
-use Rattle.muxandu_c.specs.Values.{day_value, date_value}
+use Rattle.muxandu_c.specs.Values.{day_value, day_if_any, date_value}
 use Rattle.muxandu_c.specs.declared.refused.Refused.{Refused}
 use Rattle.muxandu_c.specs.declared.refused.Refused.TheVariants as refused
 use Rattle.muxandu_c.specs.declared.values.MuxanduWeekDate.{MuxanduWeekDate}
@@ -17,14 +16,10 @@ week_date_from_day n =
 abbrev pub monday_of : ℤ → ℤ
 monday_of n = n -ℤ pos (weekday_of n)
 
--- a day, if the range has it
-abbrev pub day_in_range : ℤ → Result ℤ Refused
-day_in_range n = if is_outside first_day last_day n then Err refused.Result else Ok n
-
 -- the day so many days past a Monday, if the Thursday of that week is not past the last day of the year
 abbrev pub day_of_week : ℤ → ℕ → ℤ → Result ℤ Refused
 day_of_week monday weekday last =
-    if int_lt last (monday +ℤ pos 3) then Err refused.WeekOfYear else day_in_range (monday +ℤ pos weekday)
+    if int_lt last (monday +ℤ pos 3) then Err refused.WeekOfYear else day_if_any (monday +ℤ pos weekday)
 
 -- the day of an ISO week date: its week is so many weeks after that of 4 January
 abbrev pub day_from_week_date : MuxanduWeekDate → Result ℤ Refused

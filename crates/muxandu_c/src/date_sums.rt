@@ -1,41 +1,32 @@
 //! Dates so many days or months later.
-ghost use Rattle.std.specs.Prelude.{◌≡◌, IfOk};
-ghost use Rattle.calendar_values.specs.Range.{IsDay};
+ghost use Rattle.std.specs.Prelude.{◌≡◌, ◌+ℤ◌};
 ghost use Rattle.muxandu_c.specs.Answers.{status_of, written};
-ghost use Rattle.muxandu_c.specs.DateSums.{date_add_days, date_add_months, days_later};
-ghost use Rattle.muxandu_c.specs.DateSums.{month_index, year_of_index, month_of_index, day_or_last, year_in_range, in_month, months_later};
+ghost use Rattle.muxandu_c.specs.Values.{day_if_any};
+ghost use Rattle.muxandu_c.specs.DateSums.{date_add_days, date_add_months};
+ghost use Rattle.muxandu_c.specs.DateSums.{month_index, year_of_index, month_of_index, day_or_last, year_if_any, in_month, months_later};
 
 use crate::days::days_in_month;
-use crate::parts::{date_of, day_of, read_date};
+use crate::limits::{MUXANDU_YEAR_MAX, MUXANDU_YEAR_MIN};
+use crate::parts::{date_parts_of, read_date};
 use crate::refused::{Refused, answer};
 use crate::values::MuxanduDate;
+use calendar_values::Date;
 
-// The first day of the range and the last, and the first year and the last.
-const FIRST_DAY: i64 = -365_961_662;
-
-const LAST_DAY: i64 = 364_522_971;
-
-const FIRST_YEAR: i64 = -999_999;
-
-const LAST_YEAR: i64 = 999_999;
-
-// The day so many days later, if the range has it.
-fn days_later(day: i32, days: i32) -> Result<i32, Refused>
-    ensures value { result ≡ days_later day days }
-    ensures in_range { IfOk result (λ sum. IsDay sum) }
+// The date so many days later, if the range has it.
+fn days_later(date: Date, days: i32) -> Result<Date, Refused>
+    ensures { result ≡ day_if_any (date +ℤ days) }
 {
-    let sum = day as i64 + days as i64;
-    if sum < FIRST_DAY || sum > LAST_DAY {
-        return Err(Refused::Result);
+    match date.checked_add_days(i64::from(days)) {
+        Some(sum) => Ok(sum),
+        None => Err(Refused::Result),
     }
-    Ok(sum as i32)
 }
 
 fn date_add_days(date: MuxanduDate, days: i32) -> Result<MuxanduDate, Refused>
     ensures { result ≡ date_add_days date days }
 {
-    let day = day_of(read_date(date.year, date.month, date.day)?);
-    Ok(date_of(days_later(day, days)?))
+    let date = read_date(date.year, date.month, date.day)?;
+    Ok(date_parts_of(days_later(date, days)?))
 }
 
 /// The date so many days later, or earlier for a negative count. Refused as the date, then RESULT outside the range.
@@ -69,10 +60,10 @@ fn year_of_index(index: i64) -> i64
 }
 
 // A year, if the range has it.
-fn year_in_range(year: i64) -> Result<i32, Refused>
-    ensures { result ≡ year_in_range year }
+fn year_if_any(year: i64) -> Result<i32, Refused>
+    ensures { result ≡ year_if_any year }
 {
-    if year < FIRST_YEAR || year > LAST_YEAR {
+    if year < MUXANDU_YEAR_MIN as i64 || year > MUXANDU_YEAR_MAX as i64 {
         return Err(Refused::Result);
     }
     Ok(year as i32)
@@ -94,7 +85,7 @@ fn day_or_last(year: i32, month: u8, day: u8) -> Result<MuxanduDate, Refused>
 fn in_month(index: i64, day: u8) -> Result<MuxanduDate, Refused>
     ensures { result ≡ in_month index day }
 {
-    let year = year_in_range(year_of_index(index))?;
+    let year = year_if_any(year_of_index(index))?;
     day_or_last(year, month_of_index(index), day)
 }
 

@@ -7,7 +7,7 @@ ghost use Rattle.muxandu_c.specs.DateTexts.{full_date_of, date_to_rfc3339, date_
 ghost use Rattle.muxandu_c.specs.declared.refused.Refused.TheVariants as refused;
 
 use crate::exchange::refused_text;
-use crate::parts::{date_of, day_of, read_date};
+use crate::parts::{date_parts_of, read_date};
 use crate::refused::{Refused, answer};
 use crate::texts::put;
 use crate::values::MuxanduDate;
@@ -54,7 +54,7 @@ fn date_from_rfc3339(text: &[u8]) -> Result<MuxanduDate, Refused>
         ⊎ (result ≡ Err refused.Syntax) }
 {
     match rfc3339::date_from_rfc3339(text) {
-        Ok(date) => Ok(date_of(day_of(date))),
+        Ok(date) => Ok(date_parts_of(date)),
         Err(refusal) => Err(refused_text(refusal, text)),
     }
 }

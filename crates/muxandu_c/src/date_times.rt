@@ -4,7 +4,7 @@ ghost use Rattle.calendar_values.specs.Offsets.{IsOffset};
 ghost use Rattle.offset_times.specs.Local.{instant_of, shown_at};
 ghost use Rattle.muxandu_c.specs.Answers.{status_of, written};
 ghost use Rattle.muxandu_c.specs.Values.{date_time_value, date_time_from_timestamp, timestamp_from_date_time, date_time_to_offset};
-ghost use Rattle.muxandu_c.specs.Values.{as_date_time, local_in_range};
+ghost use Rattle.muxandu_c.specs.Values.{as_date_time, local_if_any};
 ghost use Rattle.muxandu_c.specs.Values.{date_time_add, date_time_saturating_add, date_time_subtract, date_time_saturating_subtract};
 ghost use Rattle.muxandu_c.specs.Values.{date_time_difference, date_time_truncate, date_time_compare, date_time_day};
 
@@ -81,7 +81,7 @@ pub extern "C" fn muxandu_timestamp_from_date_time(
 fn shown_parts(at: OffsetDateTime, from: i32, to: i32) -> Result<MuxanduDateTime, Refused>
     requires from { at.offset ≡ from }
     requires to { IsOffset to }
-    ensures { result ≡ as_date_time (local_in_range (shown_at (instant_of at) to) to) }
+    ensures { result ≡ as_date_time (local_if_any (shown_at (instant_of at) to) to) }
 {
     Ok(wall_parts(to_offset(at, from, to)?, to))
 }

@@ -5,8 +5,8 @@ ghost use Rattle.calendar_values.specs.Weeks.{weekday_of};
 ghost use Rattle.muxandu_c.specs.Answers.{status_of, written};
 ghost use Rattle.muxandu_c.specs.Values.{date_from_day, day_from_date};
 ghost use Rattle.muxandu_c.specs.Values.{ordinal_date_from_day, day_from_ordinal_date};
-ghost use Rattle.muxandu_c.specs.Values.{weekday_from_day, length_of_month};
-ghost use Rattle.muxandu_c.specs.WeekDates.{week_date_from_day, day_from_week_date, monday_of, day_of_week, day_in_range};
+ghost use Rattle.muxandu_c.specs.Values.{weekday_from_day, length_of_month, day_if_any};
+ghost use Rattle.muxandu_c.specs.WeekDates.{week_date_from_day, day_from_week_date, monday_of, day_of_week};
 
 use crate::parts::{date_of, day_of, read_date, read_day};
 use crate::refused::{Refused, answer};
@@ -145,12 +145,12 @@ fn day_of_week(monday: i32, weekday: u8, last: i32) -> Result<i32, Refused>
     if monday + 3 > last {
         return Err(Refused::WeekOfYear);
     }
-    day_in_range(monday + weekday as i32)
+    day_if_any(monday + weekday as i32)
 }
 
 // A day number, if the range has it.
-fn day_in_range(day: i32) -> Result<i32, Refused>
-    ensures { result ≡ day_in_range day }
+fn day_if_any(day: i32) -> Result<i32, Refused>
+    ensures { result ≡ day_if_any day }
 {
     match read_day(day) {
         Ok(_) => Ok(day),

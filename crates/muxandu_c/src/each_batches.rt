@@ -11,7 +11,7 @@ use crate::values::{MuxanduBatch, MuxanduDateTime};
 
 // The value and the status of each item.
 #[inline(always)]
-fn convert_each<A: Copy, B: Copy, C: Conversion<A, B>>(
+pub(crate) fn convert_each<A: Copy, B: Copy, C: Conversion<A, B>>(
     conversion: C,
     items: &[A],
     out: &mut [B],

@@ -1,7 +1,7 @@
 //! Texts of RFC 3339, written and read.
-ghost use Rattle.std.specs.Prelude.{◌≡◌, ◌≤◌, ◌<◌, ◌⊎◌, ◌+◌, ◌/◌, ◌%◌, ◌==◌, ◌||◌, ℕ, not, nat_lt, length, Err, IfOk};
-ghost use Rattle.calendar_values.specs.WallClock.{IsWallClock};
-ghost use Rattle.offset_times.specs.Local.{instant_of};
+ghost use Rattle.std.specs.Prelude.{◌≡◌, ◌≤◌, ◌<◌, ◌⊎◌, ◌+◌, ◌/◌, ◌%◌, ◌==◌, ◌||◌, ◌++◌, ℕ, List, not, nat_lt, length, Err, IfOk};
+ghost use Rattle.calendar_values.specs.WallClock.{IsInstant};
+ghost use Rattle.offset_times.specs.Local.{instant_of, local_in_utc};
 ghost use Rattle.rfc3339.specs.Form.{IsDateTime};
 ghost use Rattle.rfc3339.specs.FullDates.{IsFullDate};
 ghost use Rattle.rfc3339.specs.declared.parts.Parts.{Parts};
@@ -19,6 +19,7 @@ use crate::texts::put;
 use crate::values::{MuxanduDateTime, MuxanduTimestamp};
 use calendar_values::Text;
 use offset_times::OffsetDateTime;
+use rfc3339::length_laws::texts_in_utc_have_thirty_bytes;
 use rfc3339::{Component, Rfc3339, TextRefusal, parse_rfc3339, to_rfc3339_nanos};
 use stamp_times::Timestamp;
 
@@ -42,7 +43,7 @@ fn fixed_rfc3339_of(at: Timestamp) -> Result<Text, Refused>
     }
 }
 
-fn date_time_to_rfc3339(date_time: MuxanduDateTime) -> Result<Text, Refused>
+pub(crate) fn date_time_to_rfc3339(date_time: MuxanduDateTime) -> Result<Text, Refused>
     ensures value { result ≡ date_time_to_rfc3339 date_time }
     ensures room { IfOk result (λ text. length text ≤ 35) }
 {
@@ -68,12 +69,21 @@ pub extern "C" fn muxandu_date_time_to_rfc3339(
 
 fn timestamp_to_rfc3339(at: MuxanduTimestamp) -> Result<Text, Refused>
     ensures value { result ≡ timestamp_to_rfc3339 at }
-    ensures room { IfOk result (λ text. length text ≤ 35) }
+    ensures room { IfOk result (λ text. length text ≤ 30) }
 {
-    rfc3339_of(OffsetDateTime::from(read_timestamp(at)?))
+    utc_rfc3339_of(read_timestamp(at)?)
 }
 
-/// Writes the shortest text of RFC 3339 of an instant, in UTC, as `1985-04-12T23:20:50.52Z`, of at most 35 bytes, as
+// The shortest text of an instant, in UTC.
+fn utc_rfc3339_of(at: Timestamp) -> Result<Text, Refused>
+    ensures value { result ≡ rfc3339_of (local_in_utc at) }
+    ensures room { IfOk result (λ text. length text ≤ 30) }
+{
+    texts_in_utc_have_thirty_bytes();
+    rfc3339_of(OffsetDateTime::from(at))
+}
+
+/// Writes the shortest text of RFC 3339 of an instant, in UTC, as `1985-04-12T23:20:50.52Z`, of at most 30 bytes, as
 /// muxandu_date_time_text does. Refused as the timestamp, then NO_TEXT, then BUFFER.
 #[unsafe(no_mangle)]
 pub extern "C" fn muxandu_timestamp_to_rfc3339(
@@ -85,7 +95,7 @@ pub extern "C" fn muxandu_timestamp_to_rfc3339(
     ensures written { buffer.new ≡
         written_over (text_if_room (timestamp_to_rfc3339 at) buffer.old) buffer.old }
     ensures size { size.new ≡ written (length_of_answer (timestamp_to_rfc3339 at)) size.old }
-    ensures room { IfOk (timestamp_to_rfc3339 at) (λ text. length text ≤ 35) }
+    ensures room { IfOk (timestamp_to_rfc3339 at) (λ text. length text ≤ 30) }
 {
     put(timestamp_to_rfc3339(at), buffer, size)
 }
@@ -118,7 +128,7 @@ pub extern "C" fn muxandu_timestamp_to_rfc3339_nanos(
 fn read_text(text: &[u8]) -> Result<OffsetDateTime, Refused>
     ensures spelled { (p : Parts) → IsDateTime text.now p → result ≡ read_parts p }
     ensures syntax { ((p : Parts) × IsDateTime text.now p) ⊎ (result ≡ Err refused.Syntax) }
-    ensures instant { IfOk result (λ at. IsWallClock (instant_of at)) }
+    ensures instant { IfOk result (λ at. IsInstant (instant_of at)) }
 {
     match parse_rfc3339(text) {
         Ok(at) => Ok(at),
@@ -129,6 +139,8 @@ fn read_text(text: &[u8]) -> Result<OffsetDateTime, Refused>
 // A refusal of a text, as a caller sees it.
 pub(crate) fn refused_text(refusal: TextRefusal, text: &[u8]) -> Refused
     ensures spelled { (p : Parts) → IsDateTime text.now p → result ≡ refused_text p.day refusal }
+    ensures front { (stamp rest : List ℕ) (p : Parts) → text.now ≡ stamp ++ rest
+        → IsDateTime stamp p → result ≡ refused_text p.day refusal }
     ensures date { (year month day : ℕ) → IsFullDate text.now year month day →
         result ≡ refused_text day refusal }
     ensures syntax { refusal ≡ Syntax → result ≡ refused.Syntax }
@@ -149,6 +161,8 @@ pub(crate) fn refused_text(refusal: TextRefusal, text: &[u8]) -> Refused
 // none of its month.
 fn refused_day(text: &[u8]) -> Refused
     ensures spelled { (p : Parts) → IsDateTime text.now p → result ≡ refused_day p.day }
+    ensures front { (stamp rest : List ℕ) (p : Parts) → text.now ≡ stamp ++ rest
+        → IsDateTime stamp p → result ≡ refused_day p.day }
     ensures date { (year month day : ℕ) → IsFullDate text.now year month day →
         result ≡ refused_day day }
 {

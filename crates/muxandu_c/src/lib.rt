@@ -11,6 +11,8 @@ mod days;
 mod digit_texts;
 mod each_batches;
 mod exchange;
+mod fronts;
+mod leap_texts;
 pub mod limits;
 pub mod offsets;
 mod parts;
@@ -22,6 +24,7 @@ mod subsecond_batches;
 #[cfg(test)]
 mod tests;
 mod text_batches;
+mod text_blocks;
 mod texts;
 mod timestamps;
 pub mod unit;

@@ -5,7 +5,7 @@ ghost use Rattle.muxandu_c.specs.OffsetParts.{offset_from_parts, offset_to_parts
 
 use crate::parts::read_offset;
 use crate::refused::{Refused, answer};
-use calendar_values::{ComponentRange, UtcOffset};
+use calendar_values::{ComponentRange, Part, UtcOffset};
 
 /// An offset from UTC as hours, minutes and seconds, all of one sign.
 #[repr(C)]
@@ -23,9 +23,9 @@ pub struct MuxanduOffset {
 fn refused_offset_part(refusal: ComponentRange) -> Refused
     ensures { result ≡ refused_offset_part refusal }
 {
-    match refusal.name() {
-        "hours" => Refused::OffsetHour,
-        "minutes" => Refused::OffsetMinute,
+    match refusal.part() {
+        Part::Hours => Refused::OffsetHour,
+        Part::Minutes => Refused::OffsetMinute,
         _ => Refused::OffsetSeconds,
     }
 }

@@ -9,7 +9,7 @@ ghost use Rattle.offset_times.specs.Local.{local_multiple_below, instant_of, sho
 ghost use Rattle.muxandu_c.specs.Answers.{as_refused};
 ghost use Rattle.muxandu_c.specs.Values.{date_value, date_parts, date_time_value, date_time_parts, day_value};
 ghost use Rattle.muxandu_c.specs.Values.{timestamp_value, timestamp_parts, duration_value, duration_parts};
-ghost use Rattle.muxandu_c.specs.Values.{in_range, unit_nanos, sign_of};
+ghost use Rattle.muxandu_c.specs.Values.{instant_if_any, unit_nanos, sign_of};
 
 use crate::refused::Refused;
 use crate::unit::Unit;
@@ -121,7 +121,7 @@ pub(crate) fn instant_of_date_time(
     offset_seconds: i32,
 ) -> Result<Timestamp, Refused>
     requires { at.offset ≡ offset_seconds }
-    ensures { result ≡ in_range (instant_of at) }
+    ensures { result ≡ instant_if_any (instant_of at) }
 {
     checked_difference(wall_of(at), seconds_of(offset_seconds))
 }
@@ -191,7 +191,7 @@ fn seconds_of(offset_seconds: i32) -> SignedDuration
 // it.
 #[inline(always)]
 pub(crate) fn shown_as_if_utc(at: Timestamp, offset_seconds: i32) -> Result<Timestamp, Refused>
-    ensures { result ≡ in_range (shown_at at offset_seconds) }
+    ensures { result ≡ instant_if_any (shown_at at offset_seconds) }
 {
     checked_sum(at, seconds_of(offset_seconds))
 }
@@ -199,7 +199,7 @@ pub(crate) fn shown_as_if_utc(at: Timestamp, offset_seconds: i32) -> Result<Time
 // The instant so much later, if the range has it.
 #[inline(always)]
 pub(crate) fn checked_sum(at: Timestamp, duration: SignedDuration) -> Result<Timestamp, Refused>
-    ensures { result ≡ in_range (at +ℤ duration) }
+    ensures { result ≡ instant_if_any (at +ℤ duration) }
 {
     match at.checked_add(duration) {
         Some(sum) => Ok(sum),
@@ -213,7 +213,7 @@ pub(crate) fn checked_difference(
     at: Timestamp,
     duration: SignedDuration,
 ) -> Result<Timestamp, Refused>
-    ensures { result ≡ in_range (at -ℤ duration) }
+    ensures { result ≡ instant_if_any (at -ℤ duration) }
 {
     match at.checked_sub(duration) {
         Some(difference) => Ok(difference),
@@ -239,7 +239,7 @@ pub(crate) fn apart(later: OffsetDateTime, earlier: OffsetDateTime, offsets: i32
 pub(crate) fn to_offset(at: OffsetDateTime, from: i32, to: i32) -> Result<Timestamp, Refused>
     requires from { at.offset ≡ from }
     requires to { IsOffset to }
-    ensures { result ≡ in_range (shown_at (instant_of at) to) }
+    ensures { result ≡ instant_if_any (shown_at (instant_of at) to) }
 {
     checked_sum(wall_of(at), seconds_of(to - from))
 }
@@ -265,7 +265,19 @@ pub(crate) fn day_of(date: Date) -> i32
     date.days_since_epoch()
 }
 
-// The parts of the date of a day number.
+// The parts of a date.
+pub(crate) fn date_parts_of(date: Date) -> MuxanduDate
+    ensures { result ≡ date_parts date }
+{
+    let (year, month, day) = date.to_calendar_date();
+    MuxanduDate {
+        year,
+        month: u8::from(month),
+        day,
+    }
+}
+
+// The same of the date of a day number.
 #[inline(always)]
 pub(crate) fn date_of(day: i32) -> MuxanduDate
     requires { IsDay day }

@@ -1,5 +1,5 @@
 //! What the statuses are called, and what they say.
-ghost use Rattle.std.specs.Prelude.{◌≡◌, ◌≤◌, true, length};
+ghost use Rattle.std.specs.Prelude.{◌≡◌, ◌≤◌, ◌<◌, ◌⊎◌, ℕ, true, length};
 ghost use Rattle.muxandu_c.specs.Answers.{status_of, bytes_if_room, written_over};
 ghost use Rattle.muxandu_c.specs.StatusTexts.{refused_numbered, refused_name, refused_words};
 ghost use Rattle.muxandu_c.specs.StatusTexts.{is_plain, status_name, status_words};
@@ -142,6 +142,9 @@ pub extern "C" fn muxandu_status_name(status: u32, buffer: &mut [u8], size: &mut
     ensures size { size.new ≡ length (status_name status) }
     ensures ascii { is_plain (status_name status) ≡ true }
     ensures room { length (status_name status) ≤ 15 }
+    // No other status has its name; only numbers that are no status share one.
+    ensures own { (other : ℕ) → status_name other ≡ status_name status
+        → (other ≡ status) ⊎ ((25 < other) × (25 < status)) }
 {
     let name = status_name(status).as_bytes();
     *size = name.len();
@@ -171,6 +174,8 @@ pub extern "C" fn muxandu_status_text(status: u32, buffer: &mut [u8], size: &mut
     ensures size { size.new ≡ length (status_words status) }
     ensures ascii { is_plain (status_words status) ≡ true }
     ensures room { length (status_words status) ≤ 128 }
+    ensures own { (other : ℕ) → status_words other ≡ status_words status
+        → (other ≡ status) ⊎ ((25 < other) × (25 < status)) }
 {
     let words = status_words(status).as_bytes();
     *size = words.len();

@@ -21,10 +21,13 @@ use crate::exchange::{
     muxandu_date_time_from_rfc3339, muxandu_date_time_to_rfc3339, muxandu_timestamp_from_rfc3339,
     muxandu_timestamp_to_rfc3339, muxandu_timestamp_to_rfc3339_nanos,
 };
+use crate::fronts::{muxandu_date_time_from_rfc3339_front, muxandu_rfc3339_fault};
+use crate::leap_texts::muxandu_date_time_from_rfc3339_leap;
 use crate::offsets::{MuxanduOffset, muxandu_offset_from_parts, muxandu_offset_to_parts};
 use crate::reads::{MuxanduDateReads, muxandu_date_from_julian_day, muxandu_date_reads};
 use crate::replacements::{muxandu_date_time_replace, muxandu_timestamp_replace};
-use crate::text_batches::muxandu_date_times_from_rfc3339;
+use crate::text_batches::{muxandu_date_times_from_each_rfc3339, muxandu_date_times_from_rfc3339};
+use crate::text_blocks::muxandu_date_times_to_rfc3339;
 use crate::texts::{muxandu_date_time_text, muxandu_timestamp_text};
 use crate::timestamps::{
     muxandu_timestamp_add, muxandu_timestamp_check, muxandu_timestamp_compare,
@@ -698,4 +701,59 @@ fn times_of_day(rt: HostRuntime) {
     ] {
         assert_eq!(rt; status, expected);
     }
+}
+
+#[test]
+fn texts_of_others(rt: HostRuntime) {
+    let mut out = midnight(7, 7, 7, 7);
+    let (mut size, mut is_leap) = (7, 7);
+    let refused = b"1985-02-29T23:20:50Z ";
+    let status = muxandu_date_time_from_rfc3339_front(refused, &mut out, &mut size);
+    assert_eq!(rt; (status, out.year, size), (4, 7, 7));
+    let line = b"1985-04-12T23:20:50.52Z done";
+    let status = muxandu_date_time_from_rfc3339_front(line, &mut out, &mut size);
+    assert_eq!(rt; (status, out.nanosecond, size), (0, 520_000_000, 23));
+    let past = b"1990-12-31T23:59:61Z";
+    let status = muxandu_date_time_from_rfc3339_leap(past, &mut out, &mut is_leap);
+    assert_eq!(rt; (status, out.year, is_leap), (12, 1985, 7));
+    let leap = b"1990-12-31T23:59:60Z";
+    let status = muxandu_date_time_from_rfc3339_leap(leap, &mut out, &mut is_leap);
+    assert_eq!(rt; (status, out.second, is_leap), (0, 59, 1));
+    assert_eq!(rt; muxandu_rfc3339_fault(b"1985-04-12_23:20:50Z"), 10);
+}
+
+#[test]
+fn texts_into_a_block(rt: HostRuntime) {
+    let items = [midnight(1970, 1, 1, 0), midnight(1970, 1, 1, 3_600)];
+    let none = MuxanduSpan {
+        start: 0,
+        length: 0,
+    };
+    let (mut block, mut spans) = ([b'!'; 46], [none, none]);
+    let batch = muxandu_date_times_to_rfc3339(&items, &mut block, &mut spans);
+    assert_eq!(rt; (batch.count, batch.status), (2, 0));
+    assert_eq!(rt; (spans[1].start, spans[1].length), (20, 25));
+    assert_eq!(rt; (block[44], block[45]), (b'0', b'!'));
+    let (mut shown, mut statuses) = (items, [99, 99]);
+    let texts = [none, spans[1]];
+    let batch = muxandu_date_times_from_each_rfc3339(&block, &texts, &mut shown, &mut statuses);
+    assert_eq!(rt; (batch.count, batch.status), (1, 0));
+    assert_eq!(rt;
+        (statuses[0], statuses[1], shown[1].offset_seconds),
+        (22, 0, 3_600)
+    );
+}
+
+#[test]
+fn texts_into_a_block_without_room(rt: HostRuntime) {
+    let items = [midnight(1970, 1, 1, 0), midnight(1970, 1, 1, 3_600)];
+    let none = MuxanduSpan {
+        start: 0,
+        length: 0,
+    };
+    let (mut block, mut spans) = ([b'!'; 44], [none, none]);
+    let batch = muxandu_date_times_to_rfc3339(&items, &mut block, &mut spans);
+    assert_eq!(rt; (batch.count, batch.status), (1, 20));
+    assert_eq!(rt; (spans[0].length, spans[1].length), (20, 0));
+    assert_eq!(rt; (block[19], block[20]), (b'Z', b'!'));
 }

@@ -1,9 +1,12 @@
 //! Many texts of a block in one call.
 ghost use Rattle.std.specs.Prelude.{◌≡◌, ◌++◌, length, drop};
 ghost use Rattle.muxandu_c.specs.Batches.{batch_values, batch_status};
+ghost use Rattle.muxandu_c.specs.EachBatches.{written_each, status_of_each, count_of_values};
+ghost use Rattle.muxandu_c.specs.EachBatches.{with_both_rooms, room_status};
 ghost use Rattle.muxandu_c.specs.TextBatches.{date_time_at, date_time_read};
 
 use crate::batches::{Conversion, convert_all};
+use crate::each_batches::convert_each;
 use crate::exchange::date_time_from_rfc3339;
 use crate::refused::Refused;
 use crate::values::{MuxanduBatch, MuxanduDateTime, MuxanduSpan};
@@ -53,4 +56,27 @@ pub extern "C" fn muxandu_date_times_from_rfc3339(
         ++ drop result.count out.old }
 {
     convert_all(FromTexts { texts }, spans, out)
+}
+
+/// The date-time and the offset of each text of RFC 3339, and its status, as muxandu_date_time_from_rfc3339 has them, or
+/// SPAN where a span does not lie in the block `texts`: where an item is refused, what is in its place stays, and the next
+/// follows. `count` is how many were read. Refused BUFFER, with nothing written, where `out` or `statuses` has fewer items
+/// than `spans`.
+#[unsafe(no_mangle)]
+pub extern "C" fn muxandu_date_times_from_each_rfc3339(
+    texts: &[u8],
+    spans: &[MuxanduSpan],
+    out: &mut [MuxanduDateTime],
+    statuses: &mut [u32],
+) -> MuxanduBatch
+    ensures count { result.count ≡ count_of_values (date_time_at texts.now)
+        (with_both_rooms out.old statuses.old spans.now) }
+    ensures status { result.status ≡ room_status out.old statuses.old spans.now }
+    ensures written { out.new ≡ written_each (date_time_at texts.now)
+        (with_both_rooms out.old statuses.old spans.now) out.old }
+    ensures statuses { let gone = with_both_rooms out.old statuses.old spans.now in
+        statuses.new ≡ status_of_each (date_time_at texts.now) gone
+        ++ drop (length gone) statuses.old }
+{
+    convert_each(FromTexts { texts }, spans, out, statuses)
 }

@@ -7,7 +7,7 @@ ghost use Rattle.muxandu_c.specs.Values.{timestamp_subtract, timestamp_saturatin
 ghost use Rattle.muxandu_c.specs.Values.{timestamp_difference, timestamp_truncate};
 ghost use Rattle.muxandu_c.specs.Values.{timestamp_from_milliseconds, timestamp_to_milliseconds};
 ghost use Rattle.muxandu_c.specs.Values.{timestamp_to_microseconds, timestamp_to_nanoseconds};
-ghost use Rattle.muxandu_c.specs.Values.{count_in_range, in_64_bits};
+ghost use Rattle.muxandu_c.specs.Values.{count_if_any, in_64_bits};
 ghost use Rattle.stamp_times.specs.Instants.{instant_of_parts, instant_of_milliseconds, instant_of_microseconds};
 
 use crate::parts::{
@@ -185,7 +185,7 @@ pub extern "C" fn muxandu_timestamp_truncate(
 }
 
 fn from_milliseconds(milliseconds: i64) -> Result<Timestamp, Refused>
-    ensures { result ≡ count_in_range (instant_of_milliseconds milliseconds) }
+    ensures { result ≡ count_if_any (instant_of_milliseconds milliseconds) }
 {
     match Timestamp::from_milliseconds(milliseconds) {
         Ok(at) => Ok(at),
@@ -231,8 +231,7 @@ pub extern "C" fn muxandu_timestamp_to_milliseconds(at: MuxanduTimestamp, out: &
 pub extern "C" fn muxandu_timestamp_from_microseconds(microseconds: i64) -> MuxanduTimestamp
     ensures { result ≡ timestamp_parts (instant_of_microseconds microseconds) }
 {
-    let nanoseconds = microseconds.rem_euclid(1_000_000) as u32 * 1_000;
-    timestamp_of(Timestamp::new(microseconds.div_euclid(1_000_000), nanoseconds).unwrap())
+    timestamp_of(Timestamp::UNIX_EPOCH + SignedDuration::microseconds(microseconds))
 }
 
 pub(crate) fn timestamp_to_microseconds(at: MuxanduTimestamp) -> Result<i64, Refused>

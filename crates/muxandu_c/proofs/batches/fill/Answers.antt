@@ -1,4 +1,4 @@
-use Rattle.std.proofs.Common.{rules, arith, ap, subst, sym, ◌≡◌, ◌∙◌, ◌++◌, ℕ, length, drop}
+use Rattle.std.proofs.Common.{rules, ap, subst, sym, ◌≡◌, ◌∙◌, ◌++◌, ℕ, length, drop}
 use Rattle.muxandu_c.specs.Batches.{values_of}
 use Rattle.muxandu_c.proofs.BatchLemmas.{values_of-refused, status_of_items-refused, values_of-all, status_of_items-all, values_of-more, status_of_items-more}
 use Rattle.muxandu_c.proofs.BatchLemmas.{length-front, front-behind}

@@ -1,6 +1,6 @@
 use Rattle.std.proofs.Common.{arith, ap, sym, ◌≡◌, ◌∙◌, ◌+ℤ◌, pos, w32, to_z, of_z}
 use Rattle.calendar_values.specs.SignedArith.{signed_casts}
-use Rattle.muxandu_c.specs.WeekDates.{day_in_range}
+use Rattle.muxandu_c.specs.Values.{day_if_any}
 use Rattle.muxandu_c.proofs.WeekDateLemmas.{day_of_week-late, day_of_week-early}
 use Rattle.muxandu_c.proofs.days.day_of_week.Goals as goal
 
@@ -21,4 +21,4 @@ returns c =
     let early = day_of_week-early c.args.monday c.args.last c.args.weekday (omega (arith, signed_casts)) in
     let day : to_z w32 (of_z w32 (to_z w32 (of_z w32 c.args.monday) +ℤ to_z w32 c.args.weekday)) ≡ c.args.monday +ℤ pos c.args.weekday =
     omega (arith, signed_casts) in
-    c.day_in_range.ensures ∙ ap day_in_range day ∙ sym early
+    c.day_if_any.ensures ∙ ap day_if_any day ∙ sym early
