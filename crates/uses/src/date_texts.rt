@@ -1,6 +1,7 @@
 //! Days that are exchanged as texts of RFC 3339, and records of a fixed size.
 ghost use Rattle.std.specs.Prelude.{◌≡◌, ◌≤◌, ℕ, SomeIff, IfSome, length};
-ghost use Rattle.rfc3339.specs.FullDates.{IsFullDate, HasFullDate, full_date_meaning};
+ghost use Rattle.std.specs.Result.{is_ok};
+ghost use Rattle.rfc3339.specs.FullDates.{IsFullDate, HasFullDate, full_date_meaning, full_date_reading_of};
 
 use calendar_values::{Date, Text};
 use rfc3339::length_laws::texts_in_utc_have_thirty_bytes;
@@ -20,6 +21,13 @@ pub fn day_of_field(field: &[u8]) -> Result<Date, TextRefusal>
         result ≡ full_date_meaning year month day }
 {
     date_from_rfc3339(field)
+}
+
+/// Whether a form's field is read as a day.
+pub fn is_day(field: &[u8]) -> bool
+    ensures { result ≡ is_ok (full_date_reading_of field.now) }
+{
+    date_from_rfc3339(field).is_ok()
 }
 
 /// The text of an instant for a column of 30 bytes.

@@ -14,6 +14,7 @@ pub mod days;
 mod examples;
 pub mod exchange;
 pub mod expiry;
+pub mod fronts;
 pub mod invoices;
 pub mod log;
 pub mod meeting;

@@ -1,5 +1,6 @@
 //! Events that were noted at offsets of their own: their instants tell which came first.
-ghost use Rattle.std.specs.Prelude.{◌≡◌, ◌↔◌, ◌-ℤ◌, ◌≤ℤ◌, ◌<ℤ◌, IfSome, IsTrue};
+ghost use Rattle.std.specs.Prelude.{◌≡◌, ◌↔◌, ◌-ℤ◌, ◌≤ℤ◌, ◌<ℤ◌, IfSome, IsTrue, SomeIff};
+ghost use Rattle.calendar_values.specs.Offsets.{IsOffset};
 ghost use Rattle.offset_times.specs.Local.{instant_of, local_at, offset_nanos};
 
 use calendar_values::{SignedDuration, UtcOffset};
@@ -89,4 +90,20 @@ pub fn noted_at(noted: OffsetDateTime, offset: UtcOffset) -> OffsetDateTime
     ensures instant { instant_of result ≡ noted.wall -ℤ offset_nanos offset }
 {
     noted.replace_offset(offset)
+}
+
+/// The offset of so many seconds, exactly where there is one.
+pub fn offset_of(seconds: i32) -> Option<UtcOffset>
+    ensures { SomeIff result (IsOffset seconds) seconds }
+{
+    UtcOffset::from_whole_seconds(seconds).ok()
+}
+
+/// A timestamp at an offset that comes as a number of seconds. None where there is no such offset, or clocks there show no
+/// date of the range.
+pub fn at_seconds(at: Timestamp, seconds: i32) -> Option<OffsetDateTime>
+    ensures { IfSome result (λ shown. shown ≡ local_at at seconds) }
+{
+    let offset = offset_of(seconds)?;
+    Some(at.checked_to_offset(offset)?)
 }

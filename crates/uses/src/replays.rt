@@ -1,10 +1,10 @@
 //! Conversions and calls that come as lists.
-ghost use Rattle.std.specs.Prelude.{◌≡◌, ◌≤◌, ◌+ℤ◌, ◌∷◌, ◌++◌, pos, IfOk, IfSome, length, vec_len};
+ghost use Rattle.std.specs.Prelude.{◌≡◌, ◌≤◌, ◌+ℤ◌, ◌∷◌, ◌++◌, [], pos, IfOk, IfSome, Some, length, vec_len};
 ghost use Rattle.calendar_values.specs.Clock.{nanos_per_day};
 ghost use Rattle.calendar_values.specs.WallClock.{IsWallClock};
 ghost use Rattle.offset_times.specs.Local.{instant_of};
-ghost use Rattle.stamp_times.specs.Counter.{last_instant, replies, reply};
-ghost use Rattle.stamp_times.specs.Travel.{held_instant, held_after};
+ghost use Rattle.stamp_times.specs.Counter.{last_instant, replies, reply, reply_of_instant};
+ghost use Rattle.stamp_times.specs.Travel.{held_instant, held_after, stop_index};
 ghost use Rattle.stamp_times.specs.declared.runs.calls.Reply.TheVariants.{Refused};
 
 use calendar_values::{SignedDuration, UtcOffset};
@@ -111,6 +111,18 @@ pub fn day_and_back(alloc: Global, at: Timestamp) -> Result<Timestamp, AllocErro
     Ok(end)
 }
 
+/// What a day forward replies, where the range has it.
+#[tactic(auto, using(plain_times::specs::SumLemmas::known_calls))]
+pub fn replies_to_a_day(alloc: Global, at: Timestamp) -> Result<Vec<Reply>, AllocError>
+    requires { IsWallClock (at +ℤ pos nanos_per_day) }
+    ensures { IfOk result (λ replies.
+        replies.items ≡ reply_of_instant (at +ℤ pos nanos_per_day) ∷ []) }
+{
+    let day = SignedDuration::days(1);
+    let (replies, _) = run(alloc, at, &[Call::Shift(Shift::CheckedAdd(day))])?;
+    Ok(replies)
+}
+
 /// By way of a timestamp to UTC again: neither step can be refused.
 #[tactic(auto, using(plain_times::specs::SumLemmas::known_calls))]
 pub fn by_way_of_stamp(at: UtcDateTime) -> Held
@@ -127,4 +139,17 @@ pub fn converted_by_both(start: Held, first: &[Step], rest: &[Step]) -> Option<H
     stamp_times::laws::chains_compose();
     let between = chain(start, first).ok()?;
     chain(between, rest).ok()
+}
+
+/// The place of the step at which a chain over steps and then others stops, counted over all of them. None where all
+/// can be made.
+pub fn stop_in_both(start: Held, first: &[Step], rest: &[Step]) -> Option<usize>
+    ensures { IfSome result (λ place.
+        stop_index (held_instant start) (first.now ++ rest.now) ≡ Some place) }
+{
+    stamp_times::laws::chains_compose();
+    match chain(start, first) {
+        Ok(between) => Some(first.len() + chain(between, rest).err()?.index),
+        Err(stopped) => Some(stopped.index),
+    }
 }

@@ -41,3 +41,19 @@ pub fn hour_there(sale: OffsetDateTime) -> OffsetDateTime
 {
     sale.truncate_to_hour()
 }
+
+/// The hour after that, where the sale was made. None past the range.
+#[tactic(auto, using(calendar_values::specs::Constants::constants, offset_times::specs::InstantLemmas::instants, plain_times::specs::TruncationLemmas::multiples))]
+pub fn next_hour_there(sale: OffsetDateTime) -> Option<OffsetDateTime>
+    ensures whole { IfSome result (λ next.
+        wall_multiple_below nanos_per_hour next.wall ≡ next.wall) }
+    ensures minute { IfSome result (λ next. minute_of (wall_time next.wall) ≡ 0) }
+    ensures later { IfSome result (λ next. instant_of sale <ℤ instant_of next) }
+    ensures soon { IfSome result (λ next.
+        instant_of next ≤ℤ (instant_of sale +ℤ pos nanos_per_hour)) }
+{
+    Some(
+        sale.truncate_to_hour()
+            .checked_add(SignedDuration::hours(1))?,
+    )
+}

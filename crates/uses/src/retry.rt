@@ -1,6 +1,6 @@
 //! A pause that grows with each attempt.
 ghost use Rattle.std.specs.Prelude.{◌≡◌, ◌*◌, ◌+ℤ◌, ◌≤ℤ◌, pos, IfSome};
-ghost use Rattle.calendar_values.specs.Clock.{nanos_per_second};
+ghost use Rattle.calendar_values.specs.Clock.{nanos_per_hour, nanos_per_second};
 
 use calendar_values::SignedDuration;
 use stamp_times::Timestamp;
@@ -37,4 +37,20 @@ pub fn after_both(at: Timestamp, first: SignedDuration, second: SignedDuration) 
     ensures { IfSome result (λ end. end ≡ at +ℤ (first +ℤ second)) }
 {
     at.checked_add(first)?.checked_add(second)
+}
+
+/// The pause after so many attempts: 1, 2, 4 seconds, and so on, and never more than an hour.
+pub fn pause(attempts: u32) -> SignedDuration
+    ensures some { pos 0 ≤ℤ result }
+    ensures few { result ≤ℤ pos nanos_per_hour }
+{
+    SignedDuration::seconds(i64::from((1_u32 << attempts.min(31)).min(3_600)))
+}
+
+/// When to try again, after a pause that has its bound from a function of its own.
+pub fn after_pause(failed: UtcDateTime, attempts: u32) -> UtcDateTime
+    ensures never_before { failed ≤ℤ result }
+    ensures within_an_hour { result ≤ℤ (failed +ℤ pos nanos_per_hour) }
+{
+    failed.saturating_add(pause(attempts))
 }

@@ -1,12 +1,13 @@
 use crate::audit::Audit;
 use crate::periods::Period;
 use crate::{
-    audit, batches, billing, constants, daily, days, exchange, expiry, invoices, log, meeting,
-    midnight, milliseconds, moments, months, offsets, periods, replays, reports, retry, timeouts,
+    audit, batches, billing, constants, daily, date_texts, days, exchange, expiry, invoices, log,
+    meeting, midnight, milliseconds, moments, months, offsets, periods, replays, reports, retry,
+    timeouts,
 };
 use calendar_values::{ComponentRange, Date, Month, SignedDuration, Time, UtcOffset, Weekday};
 use offset_times::OffsetDateTime;
-use stamp_times::{Call, ClockRead, Held, Shift, Step, Timestamp};
+use stamp_times::{Call, ClockRead, Held, Shift, Step, Timestamp, ToTimestamp};
 use std::cmp::Ordering;
 use std::test::Fail;
 use utc_times::UtcDateTime;
@@ -335,5 +336,36 @@ fn callers_of_sums_in_order_are_called(rt: HostRuntime) -> Result<(), Fail> {
     );
     assert_eq!(rt; first, local(1, 0)?);
     assert_eq!(rt; later, OffsetDateTime::from(UtcDateTime::MAX));
+    Ok(())
+}
+
+#[test]
+fn hours_pauses_and_periods(rt: HostRuntime) -> Result<(), Fail> {
+    let stamp = Timestamp::from_seconds(1_709_164_800)?;
+    let shown = offsets::at_seconds(stamp, 20_700).ok_or("no date")?;
+    assert_eq!(rt; (shown.hour(), shown.minute()), (5, 45));
+    assert_eq!(rt; offsets::offset_of(93_600), None);
+    let next = reports::next_hour_there(shown).ok_or("past the range")?;
+    assert_eq!(rt;
+        next.checked_to_timestamp(),
+        Some(Timestamp::from_seconds(1_709_165_700)?)
+    );
+    assert_eq!(rt; retry::after_pause(utc(0)?, 5), utc(32)?);
+    assert_eq!(rt; retry::after_pause(utc(0)?, 40), utc(3_600)?);
+    let first = Period {
+        from: shown,
+        until: next,
+    };
+    let common = periods::common(
+        first,
+        Period {
+            from: next,
+            until: shown,
+        },
+    );
+    assert!(rt; common.is_none());
+    assert!(rt; periods::common(first, first) == Some((shown, next)));
+    assert!(rt; date_texts::is_day(b"2024-02-29"));
+    assert!(rt; !date_texts::is_day(b"2023-02-29"));
     Ok(())
 }
