@@ -2,7 +2,7 @@
 
 A wheel has the shared library in it, and where `cc` and the headers of a Python from 3.11 on are there, the extension too,
 which links the archive; elsewhere the package goes through ctypes. MUXANDU_EXTENSION=no leaves the extension out, and `must`
-ends the build where it cannot be made. MUXANDU_DIST names a folder that ./build-library has laid out.
+ends the build where it cannot be made without a warning. MUXANDU_DIST names a folder that ./build-library has laid out.
 """
 
 import base64
@@ -65,9 +65,11 @@ def compiler_words(folder):
         return None, "it needs CPython from 3.11 on"
     if compiler is None or not (Path(headers) / "Python.h").is_file():
         return None, f"there is no {'cc' if compiler is None else headers + '/Python.h'}"
-    flags = ["-shared", "-fPIC", "-O2", "-std=c11", "-Wall", "-Wextra", "-Werror", "-Wl,--exclude-libs,ALL", "-Wl,-z,now"]
+    flags = ["-shared", "-fPIC", "-O2", "-std=c11", "-Wall", "-Wextra", "-Wl,--exclude-libs,ALL", "-Wl,-z,now"]
     # A loader that knows this mark refuses the extension by name on a processor that the archive is not for.
     flags += ["-Wl,-z,x86-64-v2"] if platform.machine() == "x86_64" else []
+    # Another compiler may warn of more: that must not cost a user the extension.
+    flags += ["-Werror"] if os.environ.get("MUXANDU_EXTENSION") == "must" else []
     flags += os.environ.get("CFLAGS", "").split()
     source = HERE / "extension" / "extension.c"
     words = [compiler, *flags, f"-I{headers}", f"-I{dist(HEADER).parent}", str(source), str(dist(ARCHIVE))]
@@ -161,12 +163,15 @@ def build_wheel(wheel_directory, config_settings=None, metadata_directory=None):
 
 
 def build_editable(wheel_directory, config_settings=None, metadata_directory=None):
-    """Writes a wheel that leads to this folder, in which the extension is made, and gives its name."""
+    """Writes a wheel that leads to this folder, in which the extension is made, and gives its name. The shared library is
+    copied into it, where it is not that of the repository, which is found in its place."""
     shared, made = dist(SHARED).read_bytes(), extension()
-    place = HERE / "muxandu" / EXTENSION
-    place.unlink(missing_ok=True)
-    if made is not None:
-        place.write_bytes(made)
+    is_here = dist(SHARED) == HERE.parent.parent / "dist" / SHARED
+    for name, content in ((EXTENSION, made), (Path(SHARED).name, None if is_here else shared)):
+        place = HERE / "muxandu" / name
+        place.unlink(missing_ok=True)
+        if content is not None:
+            place.write_bytes(content)
     files = [(f"_{project()['name']}.pth", f"{HERE}\n".encode())]
     return write_wheel(wheel_directory, tag([shared, made or b""], made is not None), files)
 

@@ -659,7 +659,7 @@ static PyObject *date_time_to_rfc3339(PyObject *self, PyObject *const *words, Py
     return status ? refuse(status) : PyUnicode_DecodeASCII(text, (Py_ssize_t)size, NULL);
 }
 
-/* Writes the shortest text of RFC 3339 of an instant, in UTC, as '1985-04-12T23:20:50.52Z', of at most 35 bytes, as
+/* Writes the shortest text of RFC 3339 of an instant, in UTC, as '1985-04-12T23:20:50.52Z', of at most 30 bytes, as
  * muxandu_date_time_text does. Refused as the timestamp, then NO_TEXT, then BUFFER. */
 static PyObject *timestamp_to_rfc3339(PyObject *self, PyObject *const *words, Py_ssize_t count)
 {
@@ -712,6 +712,52 @@ static PyObject *timestamp_from_rfc3339(PyObject *self, PyObject *const *words, 
     status = muxandu_timestamp_from_rfc3339(word_0.bytes, word_0.size, &out);
     drop_text(&word_0);
     return status ? refuse(status) : make_Timestamp((PyTypeObject *)self, out);
+}
+
+/* Reads the date-time that a text of RFC 3339 begins with, and its offset, as muxandu_date_time_from_rfc3339 does,
+ * and writes the number of its bytes to 'size': of '1985-04-12T23:20:50.52Z done' it is 23. Refused SYNTAX where no
+ * beginning of the text has that form, else as that call. */
+static PyObject *date_time_from_rfc3339_front(PyObject *self, PyObject *const *words, Py_ssize_t count)
+{
+    Text word_0;
+    MuxanduDateTime out;
+    size_t beside;
+    uint32_t status;
+    if (!are(count, 1) || !take_text(words[0], &word_0)) return NULL;
+    status = muxandu_date_time_from_rfc3339_front(word_0.bytes, word_0.size, &out, &beside);
+    drop_text(&word_0);
+    return status ? refuse(status) : Py_BuildValue("(NN)", make_OffsetDateTime((PyTypeObject *)self, out),
+            give_size_t(beside));
+}
+
+/* The place of the fault in a text that is refused SYNTAX, counted from 0: of '1985-04-12_23:20:50Z' it is 10. There
+ * the text has a byte with which no date-time of RFC 3339 goes on, or its end. Of a text that has the form it is the
+ * number of its bytes. */
+static PyObject *rfc3339_fault(PyObject *self, PyObject *const *words, Py_ssize_t count)
+{
+    (void)self;
+    Text word_0;
+    size_t out;
+    if (!are(count, 1) || !take_text(words[0], &word_0)) return NULL;
+    out = muxandu_rfc3339_fault(word_0.bytes, word_0.size);
+    drop_text(&word_0);
+    return give_size_t(out);
+}
+
+/* Reads a date-time and its offset as muxandu_date_time_from_rfc3339 does, and one whose second is 60 too, as
+ * '1990-12-31T23:59:60Z': as that of second 59. Then it writes 1 to 'is_leap', and else 0. Any minute may have such
+ * a second here: which have one no rule tells. Refused as that call refuses, SECOND above 60. */
+static PyObject *date_time_from_rfc3339_leap(PyObject *self, PyObject *const *words, Py_ssize_t count)
+{
+    Text word_0;
+    MuxanduDateTime out;
+    uint8_t beside;
+    uint32_t status;
+    if (!are(count, 1) || !take_text(words[0], &word_0)) return NULL;
+    status = muxandu_date_time_from_rfc3339_leap(word_0.bytes, word_0.size, &out, &beside);
+    drop_text(&word_0);
+    return status ? refuse(status) : Py_BuildValue("(NN)", make_OffsetDateTime((PyTypeObject *)self, out),
+            give_uint8_t(beside));
 }
 
 /* The seconds of an offset of hours, minutes and seconds, of which the smaller take the sign of the hours, or of the
@@ -956,6 +1002,60 @@ static PyObject *date_times_from_rfc3339(PyObject *self, PyObject *const *words,
     return answer;
 }
 
+/* The date-time and the offset of each text of RFC 3339, and its status, as muxandu_date_time_from_rfc3339 has them,
+ * or SPAN where a span does not lie in the block 'texts': where an item is refused, what is in its place stays, and
+ * the next follows. 'count' is how many were read. Refused BUFFER, with nothing written, where 'out' or 'statuses'
+ * has fewer items than 'spans'. */
+static PyObject *date_times_from_each_rfc3339(PyObject *self, PyObject *const *words, Py_ssize_t count)
+{
+    (void)self;
+    Items word_0 = {0};
+    Items word_2 = {0};
+    Items word_4 = {0};
+    Items word_6 = {0};
+    MuxanduBatch batch;
+    PyObject *answer = NULL;
+    if (!are(count, 8)) return NULL;
+    if (take_items(words + 0, &word_0, 0) && take_items(words + 2, &word_2, 0) && take_items(words + 4, &word_4, 1) &&
+            take_items(words + 6, &word_6, 1)) {
+        Py_BEGIN_ALLOW_THREADS
+        batch = muxandu_date_times_from_each_rfc3339(word_0.at, word_0.count, word_2.at, word_2.count, word_4.at,
+                word_4.count, word_6.at, word_6.count);
+        Py_END_ALLOW_THREADS
+        answer = Py_BuildValue("(nI)", (Py_ssize_t)batch.count, batch.status);
+    }
+    drop_items(&word_0);
+    drop_items(&word_2);
+    drop_items(&word_4);
+    drop_items(&word_6);
+    return answer;
+}
+
+/* Writes the text of each date-time into the block 'texts', one behind the other with nothing between, and where it
+ * lies to 'spans', up to the first that muxandu_date_time_to_rfc3339 refuses, also BUFFER where what is left of
+ * 'texts' is too short. Refused BUFFER, with nothing written, where 'spans' has fewer items than 'date_times'. */
+static PyObject *date_times_to_rfc3339(PyObject *self, PyObject *const *words, Py_ssize_t count)
+{
+    (void)self;
+    Items word_0 = {0};
+    Items word_2 = {0};
+    Items word_4 = {0};
+    MuxanduBatch batch;
+    PyObject *answer = NULL;
+    if (!are(count, 6)) return NULL;
+    if (take_items(words + 0, &word_0, 0) && take_items(words + 2, &word_2, 1) && take_items(words + 4, &word_4, 1)) {
+        Py_BEGIN_ALLOW_THREADS
+        batch = muxandu_date_times_to_rfc3339(word_0.at, word_0.count, word_2.at, word_2.count, word_4.at,
+                word_4.count);
+        Py_END_ALLOW_THREADS
+        answer = Py_BuildValue("(nI)", (Py_ssize_t)batch.count, batch.status);
+    }
+    drop_items(&word_0);
+    drop_items(&word_2);
+    drop_items(&word_4);
+    return answer;
+}
+
 /* Writes the text of a date-time, as '1970-01-01 0:00:00.0 +00:00:00', of at most 42 bytes, all ASCII and none 0, at
  * the front of 'buffer', and its length to 'size'. Refused as the date-time, then BUFFER where it is longer than
  * 'buffer': then 'size' says how long it is, and 'buffer' is as it was. */
@@ -1046,7 +1146,7 @@ static PyMethodDef Timestamp_methods[] = {
      "What clocks at an offset, in seconds, show at an instant. Refused as the timestamp, then OFFSET_SECONDS, then RESULT where the clocks show a year outside the range."},
     {"to_rfc3339", FUNCTION(timestamp_to_rfc3339), METH_FASTCALL,
      "to_rfc3339($self, /)\n--\n\n"
-     "Writes the shortest text of RFC 3339 of an instant, in UTC, as `1985-04-12T23:20:50.52Z`, of at most 35 bytes, as muxandu_date_time_text does. Refused as the timestamp, then NO_TEXT, then BUFFER."},
+     "Writes the shortest text of RFC 3339 of an instant, in UTC, as `1985-04-12T23:20:50.52Z`, of at most 30 bytes, as muxandu_date_time_text does. Refused as the timestamp, then NO_TEXT, then BUFFER."},
     {"to_rfc3339_nanos", FUNCTION(timestamp_to_rfc3339_nanos), METH_FASTCALL,
      "to_rfc3339_nanos($self, /)\n--\n\n"
      "Writes the text of RFC 3339 of an instant, in UTC, always with nine digits of the fraction, as `1985-04-12T23:20:50.520000000Z`, of 30 bytes, as muxandu_date_time_text does. Such texts are in the order of their instants, byte by byte. Refused as the timestamp, then NO_TEXT, then BUFFER."},
@@ -1058,6 +1158,12 @@ static PyMethodDef OffsetDateTime_methods[] = {
     {"from_rfc3339", FUNCTION(date_time_from_rfc3339), METH_FASTCALL | METH_CLASS,
      "from_rfc3339($type, text, /)\n--\n\n"
      "Reads a date-time and its offset from a text of RFC 3339, with nothing before or after it, as `1985-04-12T23:20:50.52Z` or `1996-12-19T16:39:57-08:00`. A `t` or a space can stand for the `T`, and `z` for the `Z`; digits past the ninth of the fraction are dropped; `-00:00` is the offset 0. Refused SYNTAX where it has not that form, else MONTH, DAY or DAY_OF_MONTH, HOUR, MINUTE, SECOND, OFFSET_HOUR or OFFSET_MINUTE, by the first from the left that is out of its range."},
+    {"from_rfc3339_front", FUNCTION(date_time_from_rfc3339_front), METH_FASTCALL | METH_CLASS,
+     "from_rfc3339_front($type, text, /)\n--\n\n"
+     "Reads the date-time that a text of RFC 3339 begins with, and its offset, as muxandu_date_time_from_rfc3339 does, and writes the number of its bytes to `size`: of `1985-04-12T23:20:50.52Z done` it is 23. Refused SYNTAX where no beginning of the text has that form, else as that call."},
+    {"from_rfc3339_leap", FUNCTION(date_time_from_rfc3339_leap), METH_FASTCALL | METH_CLASS,
+     "from_rfc3339_leap($type, text, /)\n--\n\n"
+     "Reads a date-time and its offset as muxandu_date_time_from_rfc3339 does, and one whose second is 60 too, as `1990-12-31T23:59:60Z`: as that of second 59. Then it writes 1 to `is_leap`, and else 0. Any minute may have such a second here: which have one no rule tells. Refused as that call refuses, SECOND above 60."},
     {"saturating_add", FUNCTION(date_time_saturating_add), METH_FASTCALL,
      "saturating_add($self, duration, /)\n--\n\n"
      "The date-time so much later at the same offset, or the end of the range that it is beyond. Refused as the date-time, then DURATION."},
@@ -1110,6 +1216,7 @@ static PyMethodDef functions[] = {
     {"offset_from_parts", FUNCTION(offset_from_parts), METH_FASTCALL, NULL},
     {"offset_to_parts", FUNCTION(offset_to_parts), METH_FASTCALL, NULL},
     {"time_check", FUNCTION(time_check), METH_FASTCALL, NULL},
+    {"rfc3339_fault", FUNCTION(rfc3339_fault), METH_FASTCALL, NULL},
     {"date_times_from_seconds", FUNCTION(date_times_from_seconds), METH_FASTCALL, NULL},
     {"seconds_from_date_times", FUNCTION(seconds_from_date_times), METH_FASTCALL, NULL},
     {"dates_from_days", FUNCTION(dates_from_days), METH_FASTCALL, NULL},
@@ -1124,6 +1231,8 @@ static PyMethodDef functions[] = {
     {"nanoseconds_from_date_times", FUNCTION(nanoseconds_from_date_times), METH_FASTCALL, NULL},
     {"date_times_from_each_second", FUNCTION(date_times_from_each_second), METH_FASTCALL, NULL},
     {"seconds_from_each_date_time", FUNCTION(seconds_from_each_date_time), METH_FASTCALL, NULL},
+    {"date_times_from_each_rfc3339", FUNCTION(date_times_from_each_rfc3339), METH_FASTCALL, NULL},
+    {"date_times_to_rfc3339", FUNCTION(date_times_to_rfc3339), METH_FASTCALL, NULL},
     MORE_FUNCTIONS
     {0}
 };

@@ -51,6 +51,9 @@ static PyObject *refusals, *timedelta, *as_bytes;
 static PyObject *name_days, *name_seconds, *name_microseconds, *name_nanoseconds;
 static PyObject *second_nanoseconds, *half_of_whole;
 
+/* int.__index__, which gives a whole number as Python's own. */
+static PyObject *index_of_int;
+
 /* A refusal is raised. */
 static PyObject *refuse(uint32_t status)
 {
@@ -104,11 +107,11 @@ TAKE(uint32_t, 0, UINT32_MAX)
 TAKE(int32_t, INT32_MIN, INT32_MAX)
 TAKE(int64_t, INT64_MIN, INT64_MAX)
 
-static inline PyObject *give_int8_t(int8_t number) { return PyLong_FromLong(number); }
 static inline PyObject *give_uint8_t(uint8_t number) { return PyLong_FromLong(number); }
 static inline PyObject *give_int32_t(int32_t number) { return PyLong_FromLong(number); }
 static inline PyObject *give_uint32_t(uint32_t number) { return PyLong_FromUnsignedLong(number); }
 static inline PyObject *give_int64_t(int64_t number) { return PyLong_FromLongLong(number); }
+static inline PyObject *give_size_t(size_t number) { return PyLong_FromSize_t(number); }
 
 /* A new object of a class: of the package, or of one derived from it, which may have more than its value. */
 #define NEW(kind, class)                                                                                                    \
@@ -188,11 +191,20 @@ static inline __int128 nanoseconds_of(MuxanduDuration duration)
     return duration.seconds * NANOSECONDS + duration.nanoseconds;
 }
 
+/* A whole number as Python's own, also where a class derived from it has operators of its own. */
+static PyObject *exact(PyObject *word)
+{
+    PyObject *index = PyNumber_Index(word);
+    PyObject *number = index ? PyObject_CallFunctionObjArgs(index_of_int, index, NULL) : NULL;
+    Py_XDECREF(index);
+    return number;
+}
+
 /* Numbers that 64 bits do not hold: all the nanoseconds, in two halves. */
 static int take_long_duration(PyObject *seconds, PyObject *nanoseconds, MuxanduDuration *out)
 {
     int is_taken = 0, beyond;
-    PyObject *first = PyNumber_Index(seconds), *second = first ? PyNumber_Index(nanoseconds) : NULL;
+    PyObject *first = exact(seconds), *second = first ? exact(nanoseconds) : NULL;
     PyObject *product = second ? PyNumber_Multiply(first, second_nanoseconds) : NULL;
     PyObject *whole = product ? PyNumber_Add(product, second) : NULL;
     PyObject *upper = whole ? PyNumber_Rshift(whole, half_of_whole) : NULL;
@@ -228,15 +240,18 @@ static int take_both(PyObject *seconds, PyObject *nanoseconds, MuxanduDuration *
 
 static int take_attribute(PyObject *object, PyObject *name, int64_t *number)
 {
+    int beyond = 0;
     PyObject *found = PyObject_GetAttr(object, name);
-    *number = found ? PyLong_AsLongLong(found) : -1;
+    *number = found ? PyLong_AsLongLongAndOverflow(found, &beyond) : -1;
     Py_XDECREF(found);
+    if (beyond) refuse(MUXANDU_REFUSED_DURATION);
     return *number != -1 || !PyErr_Occurred();
 }
 
+/* Whether it is one by its type, whatever it tells of its class. */
 static inline int is_timedelta(PyObject *word)
 {
-    return (PyObject *)Py_TYPE(word) == timedelta || PyObject_IsInstance(word, timedelta) == 1;
+    return (PyObject *)Py_TYPE(word) == timedelta || PyType_IsSubtype(Py_TYPE(word), (PyTypeObject *)timedelta);
 }
 
 static inline int is_length(PyObject *word)
@@ -260,8 +275,12 @@ static int take_attributes(PyObject *word, MuxanduDuration *out)
     int64_t days, seconds, microseconds, nanoseconds = 0;
     if (!take_attribute(word, name_days, &days) || !take_attribute(word, name_seconds, &seconds)
         || !take_attribute(word, name_microseconds, &microseconds)) return 0;
-    if (PyObject_HasAttr(word, name_nanoseconds) && !take_attribute(word, name_nanoseconds, &nanoseconds)) return 0;
-    return put_nanoseconds((days * 86400 + seconds) * NANOSECONDS + microseconds * 1000 + nanoseconds, out);
+    if (!take_attribute(word, name_nanoseconds, &nanoseconds)) {
+        if (!PyErr_ExceptionMatches(PyExc_AttributeError)) return 0;
+        PyErr_Clear();
+        nanoseconds = 0;
+    }
+    return put_nanoseconds((days * (__int128)86400 + seconds) * NANOSECONDS + microseconds * (__int128)1000 + nanoseconds, out);
 }
 
 /* Whether timedeltas have their parts where the structure above has them, by some whose parts are known. -1 for an error. */
@@ -321,13 +340,9 @@ static int take_text(PyObject *word, Text *text)
     text->held = NULL;
     if (PyUnicode_Check(word)) {
         text->bytes = PyUnicode_AsUTF8AndSize(word, &text->size);
-        if (!text->bytes && PyErr_ExceptionMatches(PyExc_UnicodeEncodeError)) {
-            /* Half a character, which no text of RFC 3339 has. */
-            PyErr_Clear();
-            text->bytes = "?";
-            text->size = 1;
-        }
-        return text->bytes != NULL;
+        if (text->bytes || !PyErr_ExceptionMatches(PyExc_UnicodeEncodeError)) return text->bytes != NULL;
+        /* Half a character, which no text of RFC 3339 has: one may stand in front of it. */
+        PyErr_Clear();
     }
     if (!PyBytes_Check(word)) {
         word = text->held = PyObject_CallFunctionObjArgs(as_bytes, word, NULL);
@@ -819,6 +834,7 @@ PyMODINIT_FUNC PyInit__extension(void)
     name_nanoseconds = PyUnicode_InternFromString("nanoseconds");
     second_nanoseconds = PyLong_FromLong(1000000000);
     half_of_whole = PyLong_FromLong(64);
+    index_of_int = PyObject_GetAttrString((PyObject *)&PyLong_Type, "__index__");
     for (place = 0; place < sizeof bases / sizeof *bases; place++) {
         *bases[place] = (PyTypeObject *)PyType_FromSpec(&specs[place]);
         if (!*bases[place] || PyModule_AddType(made, *bases[place]) < 0) return NULL;

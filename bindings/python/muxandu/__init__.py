@@ -65,6 +65,7 @@ from ._refusals import (
     RefusedYear,
     Unit,
 )
+from ._texts import date_times_from_each_rfc3339, rfc3339_fault, rfc3339_from_date_times
 from ._values import (
     Date,
     Duration,
@@ -128,6 +129,7 @@ __all__ = [
     "UtcDateTime",
     "UtcOffset",
     "__version__",
+    "date_times_from_each_rfc3339",
     "date_times_from_each_second",
     "date_times_from_microseconds",
     "date_times_from_milliseconds",
@@ -141,6 +143,8 @@ __all__ = [
     "microseconds_from_date_times",
     "milliseconds_from_date_times",
     "nanoseconds_from_date_times",
+    "rfc3339_fault",
+    "rfc3339_from_date_times",
     "rfc3339_from_timestamps",
     "seconds_from_date_times",
     "seconds_from_each_date_time",

@@ -3,7 +3,7 @@
 import re
 import sys
 
-from . import Refused, Timestamp
+from . import Refused, RefusedTimestamp, Timestamp
 from ._values import OffsetDateTime
 
 
@@ -13,6 +13,8 @@ def _read(text: str) -> OffsetDateTime:
     if parts is None:
         return OffsetDateTime.from_rfc3339(text)
     sign, seconds, fraction = parts.groups()
+    if len(seconds.lstrip("0")) > 20:
+        raise RefusedTimestamp
     whole = int(seconds) * 10**9 + int((fraction or "0").ljust(9, "0"))
     return OffsetDateTime.from_parts(Timestamp.from_nanoseconds(-whole if sign == "-" else whole).to_offset(0))
 

@@ -11,14 +11,14 @@ from __future__ import annotations
 
 import array
 import ctypes
-import operator
+import sys
 from typing import Any, Callable, Optional
 
 from . import _buffers, _datetime64
 from ._engine import engine
 from ._refusals import REFUSALS, Refused
 from ._values import Date, OffsetDateTime, Timestamp
-from ._words import as_bytes, held
+from ._words import ends, held, joined, whole
 from .muxandu_sys import MuxanduDate, MuxanduDateTime, MuxanduSpan, MuxanduTimestamp
 
 _CODES: dict[Any, str] = {ctypes.c_int32: "i", ctypes.c_uint32: "I", ctypes.c_int64: "q"}
@@ -83,7 +83,12 @@ class _Items:
 
     def apart_from(self, *places: _Items) -> Any:
         """What is read, copied where what is written has a byte in common with it."""
-        return self.data if all(map(self.is_apart_from, places)) else memoryview(self.data).tobytes()
+        return self.data if all(map(self.is_apart_from, places)) else self.copied()
+
+    def copied(self) -> bytes:
+        """A copy of the items, which no one can write meanwhile: where a text lies must not change between a test and a
+        read."""
+        return memoryview(self.data).tobytes()
 
 
 def _reading(items: Any, kind: Any) -> _Items:
@@ -126,26 +131,47 @@ def __getattr__(name: str) -> Any:
     return globals()[kind] * int(count)
 
 
+def _letter(view: memoryview, kind: Any) -> Optional[str]:
+    """The letter of the whole numbers of a buffer that are converted to a kind; None where they are of it, or are none."""
+    fields = _buffers.fields_of(view)
+    is_converted = fields and not fields[0].name and fields != _buffers.wanted(kind)
+    return _CONVERTED.get(fields[0][2:]) if fields and is_converted else None
+
+
 def _loose(numbers: Any, kind: Any) -> Any:
     """The numbers of a sequence, or of a buffer of other sizes, as a list; a buffer of the kind, or of none that is converted,
     is itself."""
     numbers = _as_array(numbers)
     if _is_buffer(numbers):
         view = _buffers.row(numbers)
-        fields = _buffers.fields_of(view)
-        letter = _CONVERTED.get(fields[0][2:]) if fields and not fields[0].name else None
-        if letter is None or fields == _buffers.wanted(kind):
-            return numbers
-        plain: Any = memoryview(view.tobytes())
-        return plain.cast(letter).tolist()
-    return [operator.index(number) for number in numbers]
+        letter = _letter(view, kind)
+        plain: Any = memoryview(view.tobytes()) if letter else None
+        return numbers if letter is None else plain.cast(letter).tolist()
+    return [whole(number) for number in numbers]
 
 
 def _numbers(numbers: Any, kind: Any) -> Any:
     """Numbers as a buffer of the kind: those of a sequence, or of a buffer of other sizes, are copied, each as the type
     holds it."""
+    numbers = _as_array(numbers)
+    if _is_array(numbers) and _is_buffer(numbers) and _letter(_buffers.row(numbers), kind):
+        return _held_array(numbers, kind)
     found = _loose(numbers, kind)
     return array.array(_CODES[kind], [held(number, kind) for number in found]) if isinstance(found, list) else found
+
+
+def _is_array(items: Any) -> bool:
+    """Whether these are an array of NumPy."""
+    numpy = sys.modules.get("numpy")
+    return numpy is not None and isinstance(items, numpy.ndarray)
+
+
+def _held_array(numbers: Any, kind: Any) -> Any:
+    """An array of NumPy with each number as the type holds it."""
+    import numpy
+
+    (low, high), own = ends(kind), numpy.iinfo(numbers.dtype)
+    return numpy.clip(numbers, max(low, int(own.min)), min(high, int(own.max))).astype(numpy.dtype(kind))
 
 
 def _structures(values: Any, kind: Any, of: Any) -> Any:
@@ -317,26 +343,35 @@ def days_from_dates(dates: Any, out: Any = None) -> Any:
     return _converted(engine.days_from_dates, items, MuxanduDate, ctypes.c_int32, out, dates)
 
 
+def _sequence(texts: Any) -> Any:
+    """The texts, which are no one text."""
+    if isinstance(texts, (str, bytes, bytearray, memoryview)):
+        raise TypeError("a sequence of texts, or a block of bytes and the spans of its texts")
+    return texts
+
+
+def _of_block(call: Callable[..., tuple[int, int]], block: Any, spans: Any, made: Any, out: Any, like: Any) -> tuple[Any, int]:
+    """`out`, or a new array like another, with what the texts of a block say, and how many there are."""
+    if isinstance(block, str):
+        raise TypeError("a block of bytes, not a str")
+    read, where = _reading(block, ctypes.c_uint8), _reading(spans, MuxanduSpan)
+    if out is None:
+        out = _room(where.count, made, _is_like_numpy(like))
+    place = _writing(out, made)
+    done, status = call(read.apart_from(place), read.count, where.copied(), where.count, place.data, place.count)
+    _test(status, done)
+    return out, done
+
+
 def _stamps_of_texts(texts: Any, spans: Any, out: Any) -> tuple[Any, int]:
     """`out`, or a new array, with the instants of texts, and how many there are."""
-    if spans is None:
-        if isinstance(texts, (str, bytes, bytearray, memoryview)):
-            raise TypeError("a sequence of texts, or a block of bytes and the spans of its texts")
-        each = list(texts)
-        if out is None:
-            out = _room(len(each), MuxanduTimestamp, _is_like_numpy(texts))
-        place = _writing(out, MuxanduTimestamp)
-        done, status = engine.timestamps_from_texts(each, place.data, place.count)
-        _test(status, done)
-        return out, done
-    if isinstance(texts, str):
-        raise TypeError("a block of bytes, not a str")
-    block, where = _reading(texts, ctypes.c_uint8), _reading(spans, MuxanduSpan)
+    if spans is not None:
+        return _of_block(engine.timestamps_from_rfc3339, texts, spans, MuxanduTimestamp, out, spans)
+    each = list(_sequence(texts))
     if out is None:
-        out = _room(where.count, MuxanduTimestamp, _is_like_numpy(spans))
+        out = _room(len(each), MuxanduTimestamp, _is_like_numpy(texts))
     place = _writing(out, MuxanduTimestamp)
-    first, second = block.apart_from(place), where.apart_from(place)
-    done, status = engine.timestamps_from_rfc3339(first, block.count, second, where.count, place.data, place.count)
+    done, status = engine.timestamps_from_texts(each, place.data, place.count)
     _test(status, done)
     return out, done
 
@@ -355,25 +390,12 @@ def timestamps_from_rfc3339(texts: Any, spans: Any = None, out: Any = None) -> A
 def date_times_from_rfc3339(texts: Any, spans: Any = None, out: Any = None) -> Any:
     """The date-time and the offset of each text of RFC 3339: items of DateTimeParts, of which OffsetDateTime.from_parts makes
     values. The texts are as timestamps_from_rfc3339 takes them."""
+    block, where = texts, spans
     if spans is None:
-        if isinstance(texts, (str, bytes, bytearray, memoryview)):
-            raise TypeError("a sequence of texts, or a block of bytes and the spans of its texts")
-        each = [as_bytes(text) for text in texts]
-        texts, spans = b"".join(each), (MuxanduSpan * len(each))()
-        start = 0
-        for span, text in zip(spans, each):
-            span.start, span.length = start, len(text)
-            start += len(text)
-    if isinstance(texts, str):
-        raise TypeError("a block of bytes, not a str")
-    block, where = _reading(texts, ctypes.c_uint8), _reading(spans, MuxanduSpan)
-    if out is None:
-        out = _room(where.count, MuxanduDateTime, _is_like_numpy(spans))
-    place = _writing(out, MuxanduDateTime)
-    first, second = block.apart_from(place), where.apart_from(place)
-    done, status = engine.date_times_from_rfc3339(first, block.count, second, where.count, place.data, place.count)
-    _test(status, done)
-    return out
+        block, numbers = joined(_sequence(texts))
+        where = (MuxanduSpan * (len(numbers) // 2)).from_buffer_copy(numbers)
+    like = texts if spans is None else spans
+    return _of_block(engine.date_times_from_rfc3339, block, where, MuxanduDateTime, out, like)[0]
 
 
 def rfc3339_from_timestamps(timestamps: Any) -> list[str]:

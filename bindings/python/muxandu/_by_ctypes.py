@@ -2,17 +2,15 @@
 
 from __future__ import annotations
 
-import array
 import ctypes
 import datetime
 import functools
-import itertools
 import operator
 from typing import Any, Callable
 
 from . import _methods, muxandu_sys
 from ._library import library
-from ._words import as_bytes, held, nanoseconds_of
+from ._words import as_bytes, held, joined, nanoseconds_of, whole
 
 # What each call takes, what it returns, and what it says.
 _CALLS: dict[str, tuple[list[Any], Any, str]] = muxandu_sys.CALLS  # type: ignore[assignment]
@@ -51,12 +49,15 @@ class _Call:
         self.call = getattr(library, f"muxandu_{name}")
         parameters, self.result, self.doc = _CALLS[f"muxandu_{name}"]
         self.parameters = list(parameters)
-        self.is_text = self.parameters[-1:] == [_SIZE]
+        self.is_text = self.parameters[-2:] == [ctypes.c_size_t, _SIZE]
         self.out: Any = None
+        self.beside: Any = None
         if self.is_text:
             del self.parameters[-3:]
         elif self.parameters and issubclass(self.parameters[-1], _POINTER):
             self.out = self.parameters.pop()._type_
+        if self.out and issubclass(self.parameters[-1], _POINTER):
+            self.out, self.beside = self.parameters.pop()._type_, self.out
         first = self.parameters[0].__name__ if self.parameters else ""
         self.receiver = _methods.STRUCTURES.get(first)
         if self.receiver:
@@ -105,6 +106,10 @@ class _Call:
         if self.out is None:
             return self._given(self.call(*taken), of)
         out = self.out()
+        if self.beside:
+            beside = self.beside()
+            _test(self.call(*taken, ctypes.byref(out), ctypes.byref(beside)))
+            return self._given(out, of), beside.value
         _test(self.call(*taken, ctypes.byref(out)))
         return self._given(out, of)
 
@@ -129,17 +134,22 @@ def _function(name: str) -> Callable[..., Any]:
     return lambda *words: call.run(words)
 
 
+def _is(word: Any, kinds: Any) -> bool:
+    """Whether a value is of a class, whatever it tells."""
+    return issubclass(type(word), kinds)
+
+
 def _is_length(word: Any) -> bool:
-    return isinstance(word, (Duration, datetime.timedelta))
+    return _is(word, (Duration, datetime.timedelta))
 
 
 def _parts_of(word: Any, kind: Any) -> Any:
     """The structure of a value."""
     wanted: Any = globals()[_methods.STRUCTURES[kind.__name__]]
-    if isinstance(word, wanted):
+    if _is(word, wanted):
         return word._parts
-    if wanted is Duration and isinstance(word, datetime.timedelta):
-        return Duration(word.days * 86_400 + word.seconds, nanoseconds_of(word))._parts
+    if wanted is Duration and _is(word, datetime.timedelta):
+        return Duration(whole(word.days) * 86_400 + whole(word.seconds), nanoseconds_of(word))._parts
     what = "a Duration or a datetime.timedelta" if wanted is Duration else f"a {wanted.__name__}"
     raise TypeError(f"{what}, not {type(word)!r}")
 
@@ -159,6 +169,8 @@ class _Moment:
     """What instants and date-times share: sums and differences, and comparisons by their instants."""
 
     __slots__ = ("_parts",)
+    # NumPy takes a class for one of ctypes where the module of its base is named so.
+    __module__ = "muxandu"
     _calls: dict[str, _Call]
     _parts: Any
 
@@ -171,12 +183,12 @@ class _Moment:
     __radd__ = __add__
 
     def __sub__(self, other: Any) -> Any:
-        if isinstance(other, self._base):
+        if _is(other, self._base):
             return self._calls["difference"].run((other,), (self._parts,))
         return self._moved("subtract", other)
 
     def _ordered(self, how: Callable[[int, int], bool], other: Any) -> Any:
-        if not isinstance(other, self._base):
+        if not _is(other, self._base):
             return NotImplemented
         return how(self._calls["compare"].run((other,), (self._parts,)), 0)
 
@@ -253,7 +265,7 @@ class Duration:
     _parts: Any
 
     def __new__(cls, seconds: Any = 0, nanoseconds: Any = 0) -> Any:
-        return cls._of_whole(operator.index(seconds) * _SECOND + operator.index(nanoseconds))
+        return cls._of_whole(whole(seconds) * _SECOND + whole(nanoseconds))
 
     @classmethod
     def _of_whole(cls, whole: int) -> Any:
@@ -313,19 +325,20 @@ class Date:
     @classmethod
     def from_day_number(cls, number: Any) -> Any:
         """The day so many days from 1970-01-01."""
+        number = whole(number)
         date = _of(cls, muxandu_sys.MuxanduDate(*cls._calls["date"].run((number,))))
-        date._number = operator.index(number)
+        date._number = number
         return date
 
     def day_number(self) -> int:
         """The days from 1970-01-01."""
         return self._number
 
-    def __eq__(self, other: object) -> Any:
-        return self._number == other._number if isinstance(other, Date) else NotImplemented
+    def __eq__(self, other: Any) -> Any:
+        return self._number == other._number if _is(other, Date) else NotImplemented
 
     def __lt__(self, other: Any) -> Any:
-        return self._number < other._number if isinstance(other, Date) else NotImplemented
+        return self._number < other._number if _is(other, Date) else NotImplemented
 
     def __hash__(self) -> int:
         return hash(self._number)
@@ -362,18 +375,9 @@ def _batch(name: str) -> Callable[..., tuple[int, int]]:
     return batch
 
 
-def _joined(pieces: list[bytes]) -> tuple[bytes, Any]:
-    """One block of texts, and where each lies in it."""
-    lengths = [len(piece) for piece in pieces]
-    numbers = array.array("Q", bytes(ctypes.sizeof(muxandu_sys.MuxanduSpan) * len(pieces)))
-    numbers[1::2] = array.array("Q", lengths)
-    numbers[2::2] = array.array("Q", itertools.accumulate(lengths[:-1]))
-    return b"".join(pieces), numbers
-
-
 def timestamps_from_texts(texts: list[Any], out: Any, room: int) -> tuple[int, int]:
     """The instants of the texts of a list, written to a buffer: how many, and why the next is refused."""
-    block, spans = _joined([as_bytes(text) for text in texts])
+    block, spans = joined(texts)
     call = globals()["timestamps_from_rfc3339"]
     answer: tuple[int, int] = call(block, len(block), spans, len(texts), out, room)
     return answer

@@ -21,8 +21,11 @@ class _Clock:
     __slots__ = ("_at",)
     _at: OffsetDateTime
 
-    def __init__(
-        self,
+    # The class whose values compare, also where classes of a user's own are derived from it.
+    _kind: ClassVar[Any]
+
+    def __new__(
+        cls: type[_Self],
         year: SupportsIndex,
         month: SupportsIndex,
         day: SupportsIndex,
@@ -30,8 +33,8 @@ class _Clock:
         minute: SupportsIndex = 0,
         second: SupportsIndex = 0,
         nanosecond: SupportsIndex = 0,
-    ) -> None:
-        self._at = OffsetDateTime(year, month, day, hour, minute, second, nanosecond)
+    ) -> _Self:
+        return cls._shown_by(OffsetDateTime(year, month, day, hour, minute, second, nanosecond))
 
     @classmethod
     def _shown_by(cls: type[_Self], at: OffsetDateTime) -> _Self:
@@ -124,7 +127,7 @@ class _Clock:
 
     def _other(self, other: object) -> Any:
         """The date-time that another is compared by, or None where it is of another kind."""
-        return other._at if isinstance(other, type(self)) else None
+        return other._at if isinstance(other, self._kind) else None
 
     def __eq__(self, other: object) -> Any:
         at = self._other(other)
@@ -248,6 +251,7 @@ class UtcDateTime(_Clock):
         return str(self._at).rpartition(" ")[0] + " +00"
 
 
+PlainDateTime._kind, UtcDateTime._kind = PlainDateTime, UtcDateTime
 PlainDateTime.MIN = PlainDateTime._shown_by(Timestamp.MIN.to_offset(0))
 PlainDateTime.MAX = PlainDateTime._shown_by(Timestamp.MAX.to_offset(0))
 UtcDateTime.MIN, UtcDateTime.MAX = PlainDateTime.MIN.assume_utc(), PlainDateTime.MAX.assume_utc()

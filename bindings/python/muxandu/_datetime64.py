@@ -26,7 +26,7 @@ def _counts(moments: Any) -> tuple[Any, str, int]:
     """The whole numbers of the moments, their unit, and how many units one is."""
     import numpy
 
-    if hasattr(moments, "to_numpy") and not isinstance(moments.dtype, numpy.dtype):
+    if is_such(moments) and not isinstance(moments.dtype, numpy.dtype):
         # A column of pandas with a time zone, whose instants are those in UTC.
         moments = moments.to_numpy(f"datetime64[{getattr(moments.dtype, 'unit', 'ns')}]")
     moments = numpy.asarray(moments)
@@ -39,6 +39,8 @@ def _unit_of_row(moments: Any) -> tuple[str, int]:
     """The unit of one row of moments, and how many units one is."""
     import numpy
 
+    if moments.dtype.kind != "M":
+        raise TypeError(f"datetime64, not {moments.dtype}")
     if moments.ndim != 1:
         raise TypeError(f"one row of datetime64, not an array of {moments.ndim} dimensions")
     unit, many = numpy.datetime_data(moments.dtype)

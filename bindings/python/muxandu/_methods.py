@@ -30,6 +30,8 @@ METHODS = {
     },
     "OffsetDateTime": {
         "from_rfc3339": "date_time_from_rfc3339",
+        "from_rfc3339_front": "date_time_from_rfc3339_front",
+        "from_rfc3339_leap": "date_time_from_rfc3339_leap",
         "saturating_add": "date_time_saturating_add",
         "saturating_sub": "date_time_saturating_subtract",
         "truncated_to": "date_time_truncate",
@@ -85,6 +87,7 @@ FUNCTIONS = (
     "offset_from_parts",
     "offset_to_parts",
     "time_check",
+    "rfc3339_fault",
 )
 
 # Calls over many items: each array goes in as its buffer and its count, and out come a count and a status.
@@ -103,4 +106,6 @@ BATCHES = (
     "nanoseconds_from_date_times",
     "date_times_from_each_second",
     "seconds_from_each_date_time",
+    "date_times_from_each_rfc3339",
+    "date_times_to_rfc3339",
 )

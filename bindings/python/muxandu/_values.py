@@ -3,20 +3,24 @@
 from __future__ import annotations
 
 import datetime
-import operator
 import time
 from typing import Any, ClassVar, NamedTuple, SupportsIndex, TypeVar, Union
 
 from ._engine import engine
 from ._refusals import REFUSALS, RefusedDuration, RefusedResult
-from ._words import as_bytes, nanosecond_of, nanoseconds_of
+from ._words import as_bytes, nanosecond_of, nanoseconds_of, whole
 
 _SECOND = 1_000_000_000
 _DAY = 86_400
 
+# The least and the greatest timedelta.
+_TIMEDELTAS = (datetime.timedelta.min, datetime.timedelta.max)
+
 _Stamp = TypeVar("_Stamp", bound="Timestamp")
 _Shown = TypeVar("_Shown", bound="OffsetDateTime")
 _Date = TypeVar("_Date", bound="Date")
+_Time = TypeVar("_Time", bound="Time")
+_Offset = TypeVar("_Offset", bound="UtcOffset")
 
 
 _Kind = TypeVar("_Kind")
@@ -52,8 +56,8 @@ class Duration(engine.Duration):
     @classmethod
     def of(cls, duration: Union[Duration, datetime.timedelta]) -> Duration:
         """The duration of a datetime.timedelta; a Duration is itself."""
-        if isinstance(duration, cls):
-            return duration
+        if isinstance(duration, Duration):
+            return duration if isinstance(duration, cls) else cls(duration.seconds, duration.nanoseconds)
         if isinstance(duration, datetime.timedelta):
             return cls(duration.days * _DAY + duration.seconds, nanoseconds_of(duration))
         raise TypeError(f"a Duration or a datetime.timedelta, not {type(duration).__name__}")
@@ -66,7 +70,7 @@ class Duration(engine.Duration):
     @classmethod
     def of_days(cls, days: int) -> Duration:
         """The duration of so many days of 86,400 seconds."""
-        return cls(operator.index(days) * _DAY)
+        return cls(whole(days) * _DAY)
 
     def whole_nanoseconds(self) -> int:
         """The whole duration in nanoseconds."""
@@ -111,17 +115,17 @@ class Duration(engine.Duration):
 
     def __hash__(self) -> int:
         # That of the datetime.timedelta that it equals, if there is one.
-        whole = self.whole_nanoseconds()
-        is_timedelta = whole % 1_000 == 0 and abs(self.seconds) < 999_999_999 * _DAY
-        return hash(self.to_timedelta() if is_timedelta else whole)
+        count = self.whole_nanoseconds()
+        is_timedelta = count % 1_000 == 0 and _TIMEDELTAS[0] <= self <= _TIMEDELTAS[1]
+        return hash(self.to_timedelta() if is_timedelta else count)
 
     def __reduce__(self) -> tuple[Any, ...]:
         return type(self), (self.seconds, self.nanoseconds)
 
     def __str__(self) -> str:
-        whole = abs(self.whole_nanoseconds())
-        fraction = f".{whole % _SECOND:09}".rstrip("0") if whole % _SECOND else ""
-        return f"{'-' if self < Duration.ZERO else ''}{whole // _SECOND}{fraction}s"
+        count = abs(self.whole_nanoseconds())
+        fraction = f".{count % _SECOND:09}".rstrip("0") if count % _SECOND else ""
+        return f"{'-' if self < Duration.ZERO else ''}{count // _SECOND}{fraction}s"
 
     def __format__(self, form: str) -> str:
         return format(str(self), form)
@@ -138,11 +142,14 @@ class UtcOffset:
     """How far clocks are ahead of UTC, -25:59:59 to 25:59:59. It goes wherever seconds of an offset go."""
 
     __slots__ = ("_seconds",)
+    _seconds: int
 
     UTC: ClassVar[UtcOffset]
 
-    def __init__(self, whole_seconds: SupportsIndex) -> None:
-        self._seconds = OffsetDateTime(1970, 1, 1, offset_seconds=whole_seconds).offset_seconds
+    def __new__(cls: type[_Offset], whole_seconds: SupportsIndex) -> _Offset:
+        offset = object.__new__(cls)
+        offset._seconds = OffsetDateTime(1970, 1, 1, offset_seconds=whole_seconds).offset_seconds
+        return offset
 
     @classmethod
     def from_hms(cls, hours: int, minutes: int = 0, seconds: int = 0) -> UtcOffset:
@@ -205,14 +212,14 @@ class Timestamp(engine.Timestamp):
     @classmethod
     def from_microseconds(cls: type[_Stamp], microseconds: int) -> _Stamp:
         """The instant so many microseconds from 1970-01-01 0:00 UTC."""
-        count = operator.index(microseconds)
+        count = whole(microseconds)
         seconds, left = divmod(count, 1_000_000)
         return cls._from_microseconds(count) if -(2**63) <= count < 2**63 else cls(seconds, left * 1_000)
 
     @classmethod
     def from_nanoseconds(cls: type[_Stamp], nanoseconds: int) -> _Stamp:
         """The instant so many nanoseconds from 1970-01-01 0:00 UTC, as time.time_ns() counts, and past 64 bits."""
-        count = operator.index(nanoseconds)
+        count = whole(nanoseconds)
         return cls._from_nanoseconds(count) if -(2**63) <= count < 2**63 else cls(*divmod(count, _SECOND))
 
     @classmethod
@@ -478,14 +485,17 @@ class Time:
     """A time of day, from 0:00:00.0 to 23:59:59.999999999."""
 
     __slots__ = ("_at",)
+    _at: OffsetDateTime
 
     MIDNIGHT: ClassVar[Time]
     MAX: ClassVar[Time]
 
-    def __init__(
-        self, hour: SupportsIndex, minute: SupportsIndex = 0, second: SupportsIndex = 0, nanosecond: SupportsIndex = 0
-    ) -> None:
-        self._at = OffsetDateTime(1970, 1, 1, hour, minute, second, nanosecond)
+    def __new__(
+        cls: type[_Time], hour: SupportsIndex, minute: SupportsIndex = 0, second: SupportsIndex = 0, nanosecond: SupportsIndex = 0
+    ) -> _Time:
+        made = object.__new__(cls)
+        made._at = OffsetDateTime(1970, 1, 1, hour, minute, second, nanosecond)
+        return made
 
     @classmethod
     def from_time(cls, at: datetime.time) -> Time:

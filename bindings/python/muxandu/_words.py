@@ -2,10 +2,12 @@
 
 from __future__ import annotations
 
+import array
 import ctypes
 import datetime
+import itertools
 import operator
-from typing import Any
+from typing import Any, Iterable
 
 from . import _buffers
 
@@ -21,11 +23,21 @@ _ENDS = {
 }
 
 
+def ends(kind: Any) -> tuple[int, int]:
+    """The least and the greatest number that a type holds."""
+    return _ENDS[kind]
+
+
+def whole(number: Any) -> int:
+    """A whole number as Python's own, also where a class derived from it has operators of its own."""
+    return int.__index__(operator.index(number))
+
+
 def held(number: Any, kind: Any) -> int:
     """The number, and where the type does not hold it, an end of the type that the library refuses: the upper one of a
     type with no sign, whose lower end is 0."""
     low, high = _ENDS[kind]
-    number = operator.index(number)
+    number = whole(number)
     if low <= number <= high:
         return int(number)
     return low if number < low < 0 else high
@@ -33,20 +45,20 @@ def held(number: Any, kind: Any) -> int:
 
 def nanosecond_of(at: datetime.datetime) -> int:
     """The nanosecond of the second of a datetime.datetime: one of pandas has more than microseconds."""
-    return at.microsecond * 1_000 + int(getattr(at, "nanosecond", 0))
+    return at.microsecond * 1_000 + whole(getattr(at, "nanosecond", 0))
 
 
 def nanoseconds_of(length: datetime.timedelta) -> int:
     """The nanoseconds of a datetime.timedelta past its seconds: one of pandas has more than microseconds."""
-    return length.microseconds * 1_000 + int(getattr(length, "nanoseconds", 0))
+    return whole(length.microseconds) * 1_000 + whole(getattr(length, "nanoseconds", 0))
 
 
 def as_bytes(text: Any) -> bytes:
     """The bytes of a text, a str or what holds bytes. A character that is not ASCII becomes bytes that no text of RFC 3339
     has."""
     if isinstance(text, str):
-        return text.encode("utf-8", "surrogatepass")
-    if isinstance(text, bytes):
+        return str.encode(text, "utf-8", "surrogatepass")
+    if type(text) is bytes:
         return text
     try:
         view = _buffers.row(text)
@@ -54,3 +66,13 @@ def as_bytes(text: Any) -> bytes:
         raise TypeError(f"a text is a str or bytes, not {type(text).__name__}") from None
     _buffers.of_bytes(view)
     return view.tobytes()
+
+
+def joined(texts: Iterable[Any]) -> tuple[bytes, Any]:
+    """One block of the bytes of texts, and numbers that say where each begins in it and how long it is."""
+    pieces = [as_bytes(text) for text in texts]
+    lengths = [len(piece) for piece in pieces]
+    numbers = array.array("Q", bytes(16 * len(pieces)))
+    numbers[1::2] = array.array("Q", lengths)
+    numbers[2::2] = array.array("Q", itertools.accumulate(lengths[:-1]))
+    return b"".join(pieces), numbers

@@ -637,7 +637,7 @@ CALLS = {
     "muxandu_timestamp_to_rfc3339": (
         [MuxanduTimestamp, ctypes.c_void_p, ctypes.c_size_t, ctypes.POINTER(ctypes.c_size_t)],
         ctypes.c_uint32,
-        "Writes the shortest text of RFC 3339 of an instant, in UTC, as `1985-04-12T23:20:50.52Z`, of at most 35 bytes, as muxandu_date_time_text does. Refused as the timestamp, then NO_TEXT, then BUFFER.",
+        "Writes the shortest text of RFC 3339 of an instant, in UTC, as `1985-04-12T23:20:50.52Z`, of at most 30 bytes, as muxandu_date_time_text does. Refused as the timestamp, then NO_TEXT, then BUFFER.",
     ),
     "muxandu_timestamp_to_rfc3339_nanos": (
         [MuxanduTimestamp, ctypes.c_void_p, ctypes.c_size_t, ctypes.POINTER(ctypes.c_size_t)],
@@ -653,6 +653,21 @@ CALLS = {
         [ctypes.c_void_p, ctypes.c_size_t, ctypes.POINTER(MuxanduTimestamp)],
         ctypes.c_uint32,
         "Reads the instant of a text of RFC 3339, as muxandu_date_time_from_rfc3339 does, and with its refusals.",
+    ),
+    "muxandu_date_time_from_rfc3339_front": (
+        [ctypes.c_void_p, ctypes.c_size_t, ctypes.POINTER(MuxanduDateTime), ctypes.POINTER(ctypes.c_size_t)],
+        ctypes.c_uint32,
+        "Reads the date-time that a text of RFC 3339 begins with, and its offset, as muxandu_date_time_from_rfc3339 does, and writes the number of its bytes to `size`: of `1985-04-12T23:20:50.52Z done` it is 23. Refused SYNTAX where no beginning of the text has that form, else as that call.",
+    ),
+    "muxandu_rfc3339_fault": (
+        [ctypes.c_void_p, ctypes.c_size_t],
+        ctypes.c_size_t,
+        "The place of the fault in a text that is refused SYNTAX, counted from 0: of `1985-04-12_23:20:50Z` it is 10. There the text has a byte with which no date-time of RFC 3339 goes on, or its end. Of a text that has the form it is the number of its bytes.",
+    ),
+    "muxandu_date_time_from_rfc3339_leap": (
+        [ctypes.c_void_p, ctypes.c_size_t, ctypes.POINTER(MuxanduDateTime), ctypes.POINTER(ctypes.c_uint8)],
+        ctypes.c_uint32,
+        "Reads a date-time and its offset as muxandu_date_time_from_rfc3339 does, and one whose second is 60 too, as `1990-12-31T23:59:60Z`: as that of second 59. Then it writes 1 to `is_leap`, and else 0. Any minute may have such a second here: which have one no rule tells. Refused as that call refuses, SECOND above 60.",
     ),
     "muxandu_offset_from_parts": (
         [MuxanduOffset, ctypes.POINTER(ctypes.c_int32)],
@@ -718,6 +733,16 @@ CALLS = {
         [ctypes.c_void_p, ctypes.c_size_t, ctypes.c_void_p, ctypes.c_size_t, ctypes.c_void_p, ctypes.c_size_t],
         MuxanduBatch,
         "The date-time and the offset of each text of RFC 3339, up to the first that muxandu_date_time_from_rfc3339 refuses, or SPAN, whose span does not lie in the block `texts`. Refused BUFFER, with nothing written, where `out` has fewer items than `spans`.",
+    ),
+    "muxandu_date_times_from_each_rfc3339": (
+        [ctypes.c_void_p, ctypes.c_size_t, ctypes.c_void_p, ctypes.c_size_t, ctypes.c_void_p, ctypes.c_size_t, ctypes.c_void_p, ctypes.c_size_t],
+        MuxanduBatch,
+        "The date-time and the offset of each text of RFC 3339, and its status, as muxandu_date_time_from_rfc3339 has them, or SPAN where a span does not lie in the block `texts`: where an item is refused, what is in its place stays, and the next follows. `count` is how many were read. Refused BUFFER, with nothing written, where `out` or `statuses` has fewer items than `spans`.",
+    ),
+    "muxandu_date_times_to_rfc3339": (
+        [ctypes.c_void_p, ctypes.c_size_t, ctypes.c_void_p, ctypes.c_size_t, ctypes.c_void_p, ctypes.c_size_t],
+        MuxanduBatch,
+        "Writes the text of each date-time into the block `texts`, one behind the other with nothing between, and where it lies to `spans`, up to the first that muxandu_date_time_to_rfc3339 refuses, also BUFFER where what is left of `texts` is too short. Refused BUFFER, with nothing written, where `spans` has fewer items than `date_times`.",
     ),
     "muxandu_date_time_text": (
         [MuxanduDateTime, ctypes.c_void_p, ctypes.c_size_t, ctypes.POINTER(ctypes.c_size_t)],

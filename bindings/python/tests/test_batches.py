@@ -8,7 +8,7 @@ import threading
 import unittest
 
 import muxandu
-from muxandu import OffsetDateTime, DateTimeParts, Date, DateParts, Span, Timestamp, TimestampParts
+from muxandu import OffsetDateTime, DateTimeParts, Date, DateParts, Duration, Span, Time, Timestamp, TimestampParts, UtcDateTime
 
 HAS_NUMPY = importlib.util.find_spec("numpy") is not None
 BEFORE = OffsetDateTime(-999_999, 1, 1, offset_seconds=1)
@@ -287,12 +287,32 @@ class NumPyArrays(unittest.TestCase):
         self.assertRaises(TypeError, muxandu.timestamps_from_rfc3339, [text], out=pairs)
         self.assertRaises(TypeError, muxandu.rfc3339_from_timestamps, pairs)
 
+    def test_values_in_arrays(self):
+        import numpy
+
+        for value in (Timestamp(0), OffsetDateTime(1970, 1, 1), Date(1970, 1, 1), Duration(1), Time(1), UtcDateTime(1970, 1, 1)):
+            self.assertEqual(numpy.dtype(type(value)), numpy.dtype(object))
+            self.assertEqual(numpy.array([value, value]).tolist(), [value, value])
+            if not isinstance(value, Time):
+                day = Duration(86_400)
+                self.assertEqual((numpy.array([value, value]) + day).tolist(), [value + day] * 2)
+        self.assertRaises(TypeError, lambda: numpy.array([1]) + Timestamp(0))
+
     def test_numbers_of_other_sizes(self):
         import numpy
 
         for dtype in (numpy.int16, numpy.uint16, numpy.int32, numpy.uint32, numpy.int64, numpy.uint64):
             self.assertEqual(list(muxandu.dates_from_days(numpy.arange(3, dtype=dtype))["day"]), [1, 2, 3])
             self.assertEqual(list(muxandu.date_times_from_seconds(numpy.arange(6, dtype=dtype)[::2])["second"]), [0, 2, 4])
+        for dtype in (numpy.int64, numpy.uint64, numpy.uint32):
+            for far in {2**31, int(numpy.iinfo(dtype).max)}:
+                with self.assertRaises(muxandu.RefusedDayNumber) as caught:
+                    muxandu.dates_from_days(numpy.array([7, far, 5], dtype=dtype))
+                self.assertEqual(caught.exception.count, 1)
+        with self.assertRaises(muxandu.RefusedTimestamp) as caught:
+            muxandu.date_times_from_seconds(numpy.array([7, 2**64 - 1], dtype=numpy.uint64))
+        self.assertEqual(caught.exception.count, 1)
+        self.assertRaises(muxandu.RefusedDayNumber, muxandu.dates_from_days, numpy.array([-(2**63)]))
         objects = numpy.array([0, 2**70, True], dtype=object)
         self.assertEqual(muxandu.date_times_from_each_second(objects)[0]["second"].tolist(), [0, 0, 1])
         self.assertRaises(TypeError, muxandu.date_times_from_seconds, objects.reshape(3, 1))

@@ -1,9 +1,13 @@
 """Each call of the package, on values that other programs gave."""
 
+import contextlib
 import datetime
 import doctest
+import io
 import pickle
+import re
 import unittest
+from pathlib import Path
 
 import muxandu
 from muxandu._engine import engine
@@ -228,6 +232,49 @@ class Texts(unittest.TestCase):
         for write in (FIRST.to_rfc3339, LAST.to_rfc3339_nanos, at.replace(offset_seconds=1).to_rfc3339):
             self.assertRaises(muxandu.RefusedNoText, write)
 
+    def test_a_text_in_front_and_a_second_of_60(self):
+        at, size = OffsetDateTime.from_rfc3339_front("1985-04-12T23:20:50.52Z done")
+        self.assertEqual((at.to_rfc3339(), size), ("1985-04-12T23:20:50.52Z", 23))
+        self.assertRaises(muxandu.RefusedSyntax, OffsetDateTime.from_rfc3339_front, "1985-04-12 done")
+        self.assertRaises(muxandu.RefusedDayOfMonth, OffsetDateTime.from_rfc3339_front, b"1985-02-29T23:20:50Z done")
+        leap = OffsetDateTime.from_rfc3339_leap("1990-12-31T15:59:60-08:00")
+        self.assertEqual(leap, (OffsetDateTime(1990, 12, 31, 15, 59, 59, 0, -28_800), 1))
+        self.assertEqual(OffsetDateTime.from_rfc3339_leap("1990-12-31T23:59:59Z")[1], 0)
+        self.assertRaises(muxandu.RefusedSecond, OffsetDateTime.from_rfc3339_leap, "1990-12-31T23:59:61Z")
+
+    def test_where_a_text_is_at_fault(self):
+        for text, place in (
+            ("", 0),
+            ("1985-04-12_23:20:50Z", 10),
+            (b"1985-04-12T23:20:50", 19),
+            ("1985-04-12T23:20:50.52+0800", 25),
+            ("1985-04-12T23:20:50Z ", 20),
+            ("1985-99-99T23:20:50Z", 20),
+        ):
+            self.assertEqual(muxandu.rfc3339_fault(text), place, text)
+        self.assertRaises(TypeError, muxandu.rfc3339_fault, 1985)
+
+    def test_many_texts_each_with_a_status(self):
+        texts = ["1970-01-01T01:00:00+01:00", "1970-02-30T00:00:00Z", "soon", b"1970-01-01T00:00:01Z"]
+        shown, statuses = muxandu.date_times_from_each_rfc3339(texts)
+        refused = [muxandu.RefusedDayOfMonth.status, muxandu.RefusedSyntax.status]
+        self.assertEqual(list(statuses), [0, *refused, 0])
+        self.assertEqual([(each.hour, each.second, each.offset_seconds) for each in shown][::3], [(1, 0, 3_600), (0, 1, 0)])
+        block = "".join(["1970-01-01T00:00:01Z"] * 2).encode()
+        spans = (muxandu.Span * 3)((0, 20), (20, 20), (30, 20))
+        self.assertEqual(list(muxandu.date_times_from_each_rfc3339(block, spans)[1]), [0, 0, muxandu.RefusedSpan.status])
+        self.assertRaises(TypeError, muxandu.date_times_from_each_rfc3339, "1970-01-01T00:00:01Z")
+
+    def test_many_texts_written(self):
+        texts = ["1970-01-01T01:00:00.5+01:00", "1985-04-12T23:20:50Z"]
+        read = [OffsetDateTime.from_rfc3339(text) for text in texts]
+        self.assertEqual(muxandu.rfc3339_from_date_times(read), texts)
+        self.assertEqual(muxandu.rfc3339_from_date_times(muxandu.date_times_from_rfc3339(texts)), texts)
+        self.assertEqual(muxandu.rfc3339_from_date_times([]), [])
+        with self.assertRaises(muxandu.RefusedNoText) as refused:
+            muxandu.rfc3339_from_date_times([*read, read[0].replace(year=10_000)])
+        self.assertEqual(refused.exception.count, 2)
+
     def test_texts_are_tested(self):
         for text, refusal in (
             ("", muxandu.RefusedSyntax),
@@ -266,6 +313,13 @@ class Rest(unittest.TestCase):
 
     def test_the_example(self):
         self.assertEqual(doctest.testmod(muxandu).failed, 0)
+
+    def test_the_example_of_the_page(self):
+        page = Path(__file__).resolve().parent.parent.joinpath("README.md").read_text(encoding="utf-8")
+        program, printed = page.split("```python\n")[1].split("```")[0], io.StringIO()
+        with contextlib.redirect_stdout(printed), self.assertRaises(muxandu.RefusedDayOfMonth):
+            exec(program, {})  # noqa: S102
+        self.assertEqual(printed.getvalue().split("\n")[:-1], re.findall(r"^print\(.*  # (.*)$", program, re.MULTILINE))
 
 
 if __name__ == "__main__":

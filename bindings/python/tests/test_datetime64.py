@@ -74,6 +74,9 @@ class Moments(unittest.TestCase):
                 muxandu.datetime64_from_timestamps(far, unit)
             self.assertEqual(caught.exception.count, 1)
         self.assertRaises(TypeError, muxandu.timestamps_from_datetime64, numpy.array(["NaT"], dtype="datetime64"))
+        for other in ("timedelta64[s]", "int64", "float64", "S8", object):
+            self.assertRaises(TypeError, muxandu.timestamps_from_datetime64, numpy.zeros(1, dtype=other))
+            self.assertRaises(TypeError, muxandu.rfc3339_from_timestamps, numpy.zeros(1, dtype=other))
 
     def test_out_of_datetime64(self):
         import numpy
@@ -194,11 +197,15 @@ class Columns(unittest.TestCase):
         self.assertEqual(muxandu.rfc3339_from_timestamps(instants), ["2024-02-29T12:34:56.789Z", column[1]])
         self.assertEqual(muxandu.date_times_from_seconds(instants)["hour"].tolist(), [12, 23])
         self.assertEqual(muxandu.timestamps_from_rfc3339(column)["seconds"].tolist(), [1_709_210_096, -1])
+        self.assertEqual(muxandu.date_times_from_rfc3339(column)["hour"].tolist(), [13, 23])
+        self.assertEqual(muxandu.date_times_from_rfc3339(numpy.array(column, dtype="S"))["offset_seconds"].tolist(), [3_600, 0])
         there = instants.dt.tz_convert("Asia/Tokyo")
         self.assertEqual(muxandu.rfc3339_from_timestamps(there), muxandu.rfc3339_from_timestamps(instants))
         shown, statuses = muxandu.date_times_from_each_second(there.reindex([0, 1, 2]))
         self.assertEqual((shown["hour"].tolist(), statuses.tolist()), ([12, 23, 0], [0, 0, muxandu.RefusedTimestamp.status]))
         self.assertRaises(TypeError, muxandu.timestamps_from_rfc3339, column, out=pandas.Series(out))
+        for other in (column, pandas.DataFrame({"at": there}), pandas.Timestamp(0), pandas.period_range("2024", periods=2, freq="M"), pandas.NaT, pandas.Series([0])):
+            self.assertRaises(TypeError, muxandu.timestamps_from_datetime64, other)
 
     def test_values_of_pandas(self):
         import pandas
