@@ -33,10 +33,12 @@ fn missing(archive: &[u8]) -> Option<&'static str> {
     let mut names = calls
         .filter_map(|(_, call)| call.split_once('('))
         .map(|(name, _)| name);
+    // Behind a name of an object stands a 0, so that one name is not found in a longer one.
     names.find(|name| {
+        let ended = format!("{name}\0");
         !archive
-            .windows(name.len())
-            .any(|bytes| bytes == name.as_bytes())
+            .windows(ended.len())
+            .any(|bytes| bytes == ended.as_bytes())
     })
 }
 

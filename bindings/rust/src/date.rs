@@ -569,10 +569,7 @@ impl FromStr for Date {
     type Err = Refusal;
 
     fn from_str(text: &str) -> core::result::Result<Date, Refusal> {
-        spelled::read(
-            text,
-            crate::literal::date(text).map(|literal| literal.tested()),
-        )
+        spelled::read(text, crate::literal::date(text), |literal| literal.tested())
     }
 }
 

@@ -127,6 +127,26 @@ impl fmt::Display for InvalidVariant {
 
 impl core::error::Error for InvalidVariant {}
 
+/// An [`Error`] that is another one than is asked for.
+///
+/// ```
+/// use muxandu::error::{ComponentRange, ConversionRange, DifferentVariant};
+///
+/// let refused = muxandu::Error::from(ConversionRange);
+/// assert_eq!(ComponentRange::try_from(refused), Err(DifferentVariant));
+/// assert_eq!(ConversionRange::try_from(refused), Ok(ConversionRange));
+/// ```
+#[derive(Clone, Copy, Debug, PartialEq, Eq, Hash)]
+pub struct DifferentVariant;
+
+impl fmt::Display for DifferentVariant {
+    fn fmt(&self, f: &mut fmt::Formatter<'_>) -> fmt::Result {
+        f.write_str("the error is another one than is asked for")
+    }
+}
+
+impl core::error::Error for DifferentVariant {}
+
 /// Any of the refusals of the crate.
 ///
 /// ```
@@ -145,6 +165,7 @@ impl core::error::Error for InvalidVariant {}
 pub enum Error {
     ComponentRange(ComponentRange),
     ConversionRange(ConversionRange),
+    DifferentVariant(DifferentVariant),
     InvalidVariant(InvalidVariant),
     Refusal(Refusal),
 }
@@ -155,6 +176,17 @@ macro_rules! kinds {
             impl From<$Kind> for Error {
                 fn from(refused: $Kind) -> Error {
                     Error::$Kind(refused)
+                }
+            }
+
+            impl TryFrom<Error> for $Kind {
+                type Error = DifferentVariant;
+
+                fn try_from(error: Error) -> Result<$Kind, DifferentVariant> {
+                    match error {
+                        Error::$Kind(refused) => Ok(refused),
+                        _ => Err(DifferentVariant),
+                    }
                 }
             }
         )+
@@ -177,4 +209,4 @@ macro_rules! kinds {
     };
 }
 
-kinds! { ComponentRange ConversionRange InvalidVariant Refusal }
+kinds! { ComponentRange ConversionRange DifferentVariant InvalidVariant Refusal }

@@ -1,6 +1,8 @@
 //! The forms of dates and times in the literals of the macros, read when a program is compiled; whether they are dates and
 //! times the library says when they are first used. No part of this module is promised.
 
+use core::fmt;
+
 use crate::{
     Date, OffsetDateTime, PlainDateTime, Refusal, Time, Timestamp, UtcDateTime, UtcOffset,
 };
@@ -14,6 +16,9 @@ macro_rules! some {
         }
     };
 }
+
+/// How the text that `Display` writes of an instant ends.
+const AT_UTC: &str = " +00";
 
 /// A number without a sign, and how many digits it has.
 #[derive(Clone, Copy)]
@@ -85,7 +90,7 @@ impl<'a> Rest<'a> {
         while self.at < self.bytes.len() {
             let byte = self.bytes[self.at];
             if byte.is_ascii_digit() {
-                if number.digits == 18 {
+                if number.digits == 19 {
                     return None;
                 }
                 number.value = number.value * 10 + (byte - b'0') as u64;
@@ -208,7 +213,7 @@ impl<'a> Rest<'a> {
         }
         let number = some!(self.number());
         let nanosecond = some!(self.fraction());
-        let seconds = number.value as i64;
+        let seconds = number.value as i128;
         Some(match (is_negative, nanosecond) {
             (false, _) => TimestampLiteral {
                 seconds,
@@ -260,6 +265,10 @@ pub struct PlainLiteral {
     time: TimeLiteral,
 }
 
+/// The parts of a date and a time of day in UTC.
+#[derive(Clone, Copy)]
+pub struct UtcLiteral(PlainLiteral);
+
 /// The parts of a date and a time of day at an offset.
 #[derive(Clone, Copy)]
 pub struct DateTimeLiteral {
@@ -270,7 +279,7 @@ pub struct DateTimeLiteral {
 /// The parts of a timestamp.
 #[derive(Clone, Copy)]
 pub struct TimestampLiteral {
-    seconds: i64,
+    seconds: i128,
     nanosecond: u32,
 }
 
@@ -305,6 +314,12 @@ pub const fn plain(text: &str) -> Option<PlainLiteral> {
     let date = some!(rest.date());
     let time = some!(rest.time());
     ended(rest, PlainLiteral { date, time })
+}
+
+/// The parts of the text that `Display` writes of an instant, in which UTC is `+00`.
+#[must_use]
+pub fn utc(text: &str) -> Option<UtcLiteral> {
+    plain(text.strip_suffix(AT_UTC)?).map(UtcLiteral)
 }
 
 #[must_use]
@@ -416,6 +431,12 @@ impl PlainLiteral {
     }
 }
 
+impl UtcLiteral {
+    pub(crate) fn tested(self) -> Result<UtcDateTime, Refusal> {
+        Ok(self.0.tested()?.as_utc())
+    }
+}
+
 impl DateTimeLiteral {
     pub(crate) fn tested(self) -> Result<OffsetDateTime, Refusal> {
         Ok(self.plain.tested()?.assume_offset(self.offset.tested()?))
@@ -424,6 +445,101 @@ impl DateTimeLiteral {
 
 impl TimestampLiteral {
     pub(crate) fn tested(self) -> Result<Timestamp, Refusal> {
-        Timestamp::tested(self.seconds, self.nanosecond)
+        let seconds = i64::try_from(self.seconds).map_err(|_| Refusal::Timestamp)?;
+        Timestamp::tested(seconds, self.nanosecond)
+    }
+}
+
+/// A part of two digits, or of one too where there need be no more.
+fn write_part(f: &mut fmt::Formatter<'_>, part: u8, digits: usize) -> fmt::Result {
+    if part > 99 {
+        return Err(fmt::Error);
+    }
+    write!(f, "{part:0digits$}")
+}
+
+/// The digits of the fraction after a point, of which zeros at the end are left out, but for the first.
+fn write_fraction(f: &mut fmt::Formatter<'_>, nanosecond: u32) -> fmt::Result {
+    let (mut fraction, mut width) = (nanosecond, 9);
+    while width > 1 && fraction % 10 == 0 {
+        fraction /= 10;
+        width -= 1;
+    }
+    write!(f, ".{fraction:0width$}")
+}
+
+/// As `Display` writes a date of the parts, in the range or not. Other forms than that of a calendar date have no such text.
+impl fmt::Display for DateLiteral {
+    fn fmt(&self, f: &mut fmt::Formatter<'_>) -> fmt::Result {
+        let DateLiteral::Calendar(year, month, day) = *self else {
+            return Err(fmt::Error);
+        };
+        let sign = match year {
+            ..0 => "-",
+            0..10_000 => "",
+            _ => "+",
+        };
+        write!(f, "{sign}{:04}-", year.unsigned_abs())?;
+        write_part(f, month, 2)?;
+        f.write_str("-")?;
+        write_part(f, day, 2)
+    }
+}
+
+/// As `Display` writes a time of day of the parts, in their ranges or not.
+impl fmt::Display for TimeLiteral {
+    fn fmt(&self, f: &mut fmt::Formatter<'_>) -> fmt::Result {
+        write_part(f, self.hour, 1)?;
+        f.write_str(":")?;
+        write_part(f, self.minute, 2)?;
+        f.write_str(":")?;
+        write_part(f, self.second, 2)?;
+        write_fraction(f, self.nanosecond)
+    }
+}
+
+/// As `Display` writes an offset of the parts, in their ranges or not.
+impl fmt::Display for OffsetLiteral {
+    fn fmt(&self, f: &mut fmt::Formatter<'_>) -> fmt::Result {
+        let [hours, minutes, seconds] = self.parts;
+        f.write_str(if self.is_negative { "-" } else { "+" })?;
+        write_part(f, hours, 2)?;
+        f.write_str(":")?;
+        write_part(f, minutes, 2)?;
+        f.write_str(":")?;
+        write_part(f, seconds, 2)
+    }
+}
+
+impl fmt::Display for PlainLiteral {
+    fn fmt(&self, f: &mut fmt::Formatter<'_>) -> fmt::Result {
+        write!(f, "{} {}", self.date, self.time)
+    }
+}
+
+impl fmt::Display for UtcLiteral {
+    fn fmt(&self, f: &mut fmt::Formatter<'_>) -> fmt::Result {
+        write!(f, "{}{AT_UTC}", self.0)
+    }
+}
+
+impl fmt::Display for DateTimeLiteral {
+    fn fmt(&self, f: &mut fmt::Formatter<'_>) -> fmt::Result {
+        write!(f, "{} {}", self.plain, self.offset)
+    }
+}
+
+/// As `Display` writes a timestamp of the parts, in the range or not.
+impl fmt::Display for TimestampLiteral {
+    fn fmt(&self, f: &mut fmt::Formatter<'_>) -> fmt::Result {
+        if self.nanosecond == 0 {
+            return write!(f, "{}", self.seconds);
+        }
+        if self.seconds >= 0 {
+            write!(f, "{}", self.seconds)?;
+            return write_fraction(f, self.nanosecond);
+        }
+        write!(f, "-{}", -(self.seconds + 1))?;
+        write_fraction(f, 1_000_000_000 - self.nanosecond)
     }
 }

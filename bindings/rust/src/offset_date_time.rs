@@ -395,7 +395,7 @@ impl FromStr for OffsetDateTime {
 
     fn from_str(text: &str) -> core::result::Result<OffsetDateTime, Refusal> {
         let literal = crate::literal::date_time(text);
-        match spelled::read(text, literal.map(|literal| literal.tested())) {
+        match spelled::read(text, literal, |literal| literal.tested()) {
             Err(Refusal::Syntax) => OffsetDateTime::from_rfc3339(text),
             answer => answer,
         }

@@ -229,9 +229,8 @@ impl FromStr for PlainDateTime {
     type Err = Refusal;
 
     fn from_str(text: &str) -> core::result::Result<PlainDateTime, Refusal> {
-        spelled::read(
-            text,
-            crate::literal::plain(text).map(|literal| literal.tested()),
-        )
+        spelled::read(text, crate::literal::plain(text), |literal| {
+            literal.tested()
+        })
     }
 }

@@ -804,7 +804,9 @@ impl PartialEq<Duration> for SignedDuration {
 /// `-1s500ms`.
 impl fmt::Display for SignedDuration {
     fn fmt(&self, f: &mut fmt::Formatter<'_>) -> fmt::Result {
-        spelled::write_padded(f, |text| spelled::write_duration(text, *self))
+        spelled::write_padded(f, |text| {
+            spelled::write_duration(text, self.whole_nanoseconds())
+        })
     }
 }
 

@@ -34,25 +34,30 @@ pub(crate) fn offset(text: &str) -> &str {
     text.rsplit_once(' ').map_or(text, |(_, offset)| offset)
 }
 
-/// A value that was read of a text, if it is what `Display` writes so.
-pub(crate) fn read<T: fmt::Display>(
-    text: &str,
-    value: Option<Result<T, Refusal>>,
-) -> Result<T, Refusal> {
-    let value = value.ok_or(Refusal::Syntax)??;
+/// Whether `Display` writes the value so.
+fn is_written(text: &str, value: &impl fmt::Display) -> bool {
     let mut written = Text::empty();
-    match write!(written, "{value}") {
-        Ok(()) if written == text => Ok(value),
+    write!(written, "{value}").is_ok() && written == text
+}
+
+/// The value of the parts that were read of a text, if the text is what `Display` writes so. What is refused is named only
+/// where the text has that form, and else it is the form.
+pub(crate) fn read<Parts: Copy + fmt::Display, T: fmt::Display>(
+    text: &str,
+    parts: Option<Parts>,
+    tested: impl FnOnce(Parts) -> Result<T, Refusal>,
+) -> Result<T, Refusal> {
+    let parts = parts.ok_or(Refusal::Syntax)?;
+    match tested(parts) {
+        Ok(value) if is_written(text, &value) => Ok(value),
+        Err(refusal) if is_written(text, &parts) => Err(refusal),
         _ => Err(Refusal::Syntax),
     }
 }
 
 /// The value of a name.
 pub(crate) fn named<T: Copy + fmt::Display>(all: &[T], name: &str) -> Result<T, InvalidVariant> {
-    let found = all.iter().find(|value| {
-        let mut written = Text::empty();
-        write!(written, "{value}").is_ok() && written == name
-    });
+    let found = all.iter().find(|value| is_written(name, value));
     found.copied().ok_or(InvalidVariant)
 }
 
@@ -77,14 +82,14 @@ const UNITS: [(u128, &str); 7] = [
     (1, "ns"),
 ];
 
-pub(crate) fn write_duration(text: &mut Text, duration: SignedDuration) -> fmt::Result {
-    if duration.is_zero() {
+pub(crate) fn write_duration(text: &mut Text, whole_nanoseconds: i128) -> fmt::Result {
+    if whole_nanoseconds == 0 {
         return text.write_str("0s");
     }
-    if duration.is_negative() {
+    if whole_nanoseconds < 0 {
         text.write_char('-')?;
     }
-    let mut left = duration.whole_nanoseconds().unsigned_abs();
+    let mut left = whole_nanoseconds.unsigned_abs();
     for (nanoseconds, unit) in UNITS {
         let count = left / nanoseconds;
         if count > 0 {
@@ -114,11 +119,14 @@ pub(crate) fn duration(text: &str) -> Result<SignedDuration, Refusal> {
             .iter()
             .find(|(_, unit)| *unit == name)
             .ok_or(Refusal::Syntax)?;
-        let count: u64 = number.parse().map_err(|_| Refusal::Syntax)?;
-        whole = whole.saturating_add(i128::from(count) * unit.0 as i128);
+        let count: i128 = number.parse().map_err(|_| Refusal::Syntax)?;
+        whole = whole.saturating_add(count.saturating_mul(unit.0 as i128));
         rest = after;
     }
     let whole = if is_negative { -whole } else { whole };
-    let duration = SignedDuration::of_nanoseconds(whole).ok_or(Refusal::Duration)?;
-    read(text, Some(Ok(duration)))
+    let mut written = Text::empty();
+    if write_duration(&mut written, whole).is_err() || written != text {
+        return Err(Refusal::Syntax);
+    }
+    SignedDuration::of_nanoseconds(whole).ok_or(Refusal::Duration)
 }

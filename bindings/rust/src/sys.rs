@@ -521,7 +521,7 @@ unsafe extern "C" {
     /// Writes the shortest text of RFC 3339 of a date-time, as `1985-04-12T23:20:50.52Z` or `1996-12-19T16:39:57-08:00`, of
     /// at most 35 bytes, as muxandu_date_time_text does. Refused as the date-time, then NO_TEXT, then BUFFER.
     pub unsafe fn muxandu_date_time_to_rfc3339(date_time: MuxanduDateTime, buffer: *mut u8, buffer_count: usize, size: &mut usize) -> u32;
-    /// Writes the shortest text of RFC 3339 of an instant, in UTC, as `1985-04-12T23:20:50.52Z`, of at most 35 bytes, as
+    /// Writes the shortest text of RFC 3339 of an instant, in UTC, as `1985-04-12T23:20:50.52Z`, of at most 30 bytes, as
     /// muxandu_date_time_text does. Refused as the timestamp, then NO_TEXT, then BUFFER.
     pub unsafe fn muxandu_timestamp_to_rfc3339(at: MuxanduTimestamp, buffer: *mut u8, buffer_count: usize, size: &mut usize) -> u32;
     /// Writes the text of RFC 3339 of an instant, in UTC, always with nine digits of the fraction, as
@@ -536,6 +536,18 @@ unsafe extern "C" {
     pub unsafe fn muxandu_date_time_from_rfc3339(text: *const u8, text_count: usize, out: &mut MuxanduDateTime) -> u32;
     /// Reads the instant of a text of RFC 3339, as muxandu_date_time_from_rfc3339 does, and with its refusals.
     pub unsafe fn muxandu_timestamp_from_rfc3339(text: *const u8, text_count: usize, out: &mut MuxanduTimestamp) -> u32;
+    /// Reads the date-time that a text of RFC 3339 begins with, and its offset, as muxandu_date_time_from_rfc3339 does, and
+    /// writes the number of its bytes to `size`: of `1985-04-12T23:20:50.52Z done` it is 23. Refused SYNTAX where no beginning
+    /// of the text has that form, else as that call.
+    pub unsafe fn muxandu_date_time_from_rfc3339_front(text: *const u8, text_count: usize, out: &mut MuxanduDateTime, size: &mut usize) -> u32;
+    /// The place of the fault in a text that is refused SYNTAX, counted from 0: of `1985-04-12_23:20:50Z` it is 10. There the
+    /// text has a byte with which no date-time of RFC 3339 goes on, or its end. Of a text that has the form it is the number of
+    /// its bytes.
+    pub unsafe fn muxandu_rfc3339_fault(text: *const u8, text_count: usize) -> usize;
+    /// Reads a date-time and its offset as muxandu_date_time_from_rfc3339 does, and one whose second is 60 too, as
+    /// `1990-12-31T23:59:60Z`: as that of second 59. Then it writes 1 to `is_leap`, and else 0. Any minute may have such a
+    /// second here: which have one no rule tells. Refused as that call refuses, SECOND above 60.
+    pub unsafe fn muxandu_date_time_from_rfc3339_leap(text: *const u8, text_count: usize, out: &mut MuxanduDateTime, is_leap: &mut u8) -> u32;
     /// The seconds of an offset of hours, minutes and seconds, of which the smaller take the sign of the hours, or of the
     /// minutes if the hours are 0. Refused OFFSET_HOUR where the hours are not -25 to 25, OFFSET_MINUTE where the minutes are
     /// not -59 to 59, then OFFSET_SECONDS where the seconds are not -59 to 59.
@@ -582,6 +594,15 @@ unsafe extern "C" {
     /// SPAN, whose span does not lie in the block `texts`. Refused BUFFER, with nothing written, where `out` has fewer items
     /// than `spans`.
     pub unsafe fn muxandu_date_times_from_rfc3339(texts: *const u8, texts_count: usize, spans: *const MuxanduSpan, spans_count: usize, out: *mut MuxanduDateTime, out_count: usize) -> MuxanduBatch;
+    /// The date-time and the offset of each text of RFC 3339, and its status, as muxandu_date_time_from_rfc3339 has them, or
+    /// SPAN where a span does not lie in the block `texts`: where an item is refused, what is in its place stays, and the next
+    /// follows. `count` is how many were read. Refused BUFFER, with nothing written, where `out` or `statuses` has fewer items
+    /// than `spans`.
+    pub unsafe fn muxandu_date_times_from_each_rfc3339(texts: *const u8, texts_count: usize, spans: *const MuxanduSpan, spans_count: usize, out: *mut MuxanduDateTime, out_count: usize, statuses: *mut u32, statuses_count: usize) -> MuxanduBatch;
+    /// Writes the text of each date-time into the block `texts`, one behind the other with nothing between, and where it lies
+    /// to `spans`, up to the first that muxandu_date_time_to_rfc3339 refuses, also BUFFER where what is left of `texts` is too
+    /// short. Refused BUFFER, with nothing written, where `spans` has fewer items than `date_times`.
+    pub unsafe fn muxandu_date_times_to_rfc3339(date_times: *const MuxanduDateTime, date_times_count: usize, texts: *mut u8, texts_count: usize, spans: *mut MuxanduSpan, spans_count: usize) -> MuxanduBatch;
     /// Writes the text of a date-time, as `1970-01-01 0:00:00.0 +00:00:00`, of at most 42 bytes, all ASCII and none 0, at
     /// the front of `buffer`, and its length to `size`. Refused as the date-time, then BUFFER where it is longer than
     /// `buffer`: then `size` says how long it is, and `buffer` is as it was.

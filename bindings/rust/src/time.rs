@@ -427,10 +427,7 @@ impl FromStr for Time {
     type Err = Refusal;
 
     fn from_str(text: &str) -> core::result::Result<Time, Refusal> {
-        spelled::read(
-            text,
-            crate::literal::time(text).map(|literal| literal.tested()),
-        )
+        spelled::read(text, crate::literal::time(text), |literal| literal.tested())
     }
 }
 

@@ -139,10 +139,8 @@ impl Timestamp {
     /// The milliseconds from 1970-01-01 0:00 UTC, rounded down.
     #[must_use]
     #[inline]
-    pub fn as_milliseconds(self) -> i64 {
-        let mut count = 0;
-        sure!(sys::muxandu_timestamp_to_milliseconds(self.0, &mut count));
-        count
+    pub const fn as_milliseconds(self) -> i64 {
+        self.0.seconds * 1_000 + (self.0.nanoseconds / 1_000_000) as i64
     }
 
     /// The microseconds from 1970-01-01 0:00 UTC, rounded down.
@@ -376,9 +374,36 @@ impl FromStr for Timestamp {
 
     fn from_str(text: &str) -> core::result::Result<Timestamp, Refusal> {
         let literal = crate::literal::timestamp(text);
-        match spelled::read(text, literal.map(|literal| literal.tested())) {
+        match spelled::read(text, literal, |literal| literal.tested()) {
             Err(Refusal::Syntax) => Timestamp::from_rfc3339(text),
             answer => answer,
+        }
+    }
+}
+
+#[cfg(test)]
+mod tests {
+    use super::{Timestamp, sys};
+
+    #[test]
+    fn counts_are_those_of_the_library() {
+        let seconds = [Timestamp::MIN.0.seconds, -1, 0, 1, Timestamp::MAX.0.seconds];
+        let near = seconds.into_iter().chain(-9_223_372_036..-9_223_371_036);
+        for at in near.flat_map(|second| {
+            [0, 1, 999, 1_000, 999_999_999].map(|nano| Timestamp::of(second, nano))
+        }) {
+            let mut count = 0;
+            assert_eq!(
+                sys::muxandu_timestamp_to_milliseconds(at.0, &mut count),
+                sys::OK
+            );
+            assert_eq!(at.as_milliseconds(), count);
+            if sys::muxandu_timestamp_to_microseconds(at.0, &mut count) == sys::OK {
+                assert_eq!(at.as_microseconds(), count.into());
+            }
+            if sys::muxandu_timestamp_to_nanoseconds(at.0, &mut count) == sys::OK {
+                assert_eq!(at.as_nanoseconds(), count.into());
+            }
         }
     }
 }

@@ -244,8 +244,7 @@ impl FromStr for UtcDateTime {
     type Err = Refusal;
 
     fn from_str(text: &str) -> core::result::Result<UtcDateTime, Refusal> {
-        let literal = text.strip_suffix(" +00").and_then(crate::literal::plain);
-        match spelled::read(text, literal.map(|literal| Ok(literal.tested()?.as_utc()))) {
+        match spelled::read(text, crate::literal::utc(text), |literal| literal.tested()) {
             Err(Refusal::Syntax) => Ok(Timestamp::from_rfc3339(text)?.to_utc()),
             answer => answer,
         }

@@ -162,10 +162,9 @@ impl FromStr for UtcOffset {
     type Err = Refusal;
 
     fn from_str(text: &str) -> core::result::Result<UtcOffset, Refusal> {
-        spelled::read(
-            text,
-            crate::literal::offset(text).map(|literal| literal.tested()),
-        )
+        spelled::read(text, crate::literal::offset(text), |literal| {
+            literal.tested()
+        })
     }
 }
 
