@@ -1,4 +1,4 @@
-import { BILLION, whole } from "./library.js";
+import { BILLION, partNames, textual, whole } from "./library.js";
 
 // The nanoseconds of each part. A day has 24 hours.
 const PARTS = {
@@ -22,10 +22,7 @@ export class Duration {
 
     static of(parts) {
         let total = 0n;
-        for (const [name, number] of Object.entries(parts)) {
-            if (!Object.hasOwn(PARTS, name)) throw new TypeError(`no part of a duration: ${name}`);
-            total += whole(number, name) * PARTS[name];
-        }
+        for (const name of partNames(parts, PARTS, "duration")) total += whole(parts[name], name) * PARTS[name];
         return new Duration(total);
     }
 
@@ -35,7 +32,7 @@ export class Duration {
 
     /** The whole ones of a part, as `hours`. The rest, of either sign, is dropped. */
     whole(part) {
-        if (!Object.hasOwn(PARTS, part)) throw new TypeError(`no part of a duration: ${part}`);
+        if (!Object.hasOwn(PARTS, textual(part))) throw new TypeError(`no part of a duration: ${part}`);
         return this[NANOSECONDS] / PARTS[part];
     }
 
@@ -48,6 +45,11 @@ export class Duration {
         const size = this[NANOSECONDS] < 0n ? -this[NANOSECONDS] : this[NANOSECONDS];
         const fraction = String(size % PARTS.seconds).padStart(9, "0").replace(/0+$/, "");
         return `${this[NANOSECONDS] < 0n ? "-" : ""}${size / PARTS.seconds}${fraction && "." + fraction} s`;
+    }
+
+    /** Its nanoseconds, in decimal digits, since JSON has no `BigInt`. */
+    toJSON() {
+        return String(this[NANOSECONDS]);
     }
 
     valueOf() {

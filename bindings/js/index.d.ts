@@ -4,11 +4,12 @@ export type { RefusalName, Unit } from "./declared.js";
 
 /** What is refused, by its name. Its message is the name and what that means. */
 export class Refused extends RangeError {
+    constructor(refusal: RefusalName, meaning: string);
     readonly name: "Refused";
     readonly refusal: RefusalName;
 }
 
-/** Parts of a duration: whole numbers of any sign, which are added. A day has 24 hours. */
+/** Parts of a duration, one at least: whole numbers of any sign, which are added. A day has 24 hours. */
 export interface DurationParts {
     days?: number | bigint;
     hours?: number | bigint;
@@ -29,6 +30,8 @@ export class Duration {
     negated(): Duration;
     /** The decimal of its seconds, as `-1.5 s`. */
     toString(): string;
+    /** Its nanoseconds, in decimal digits, since JSON has no `BigInt`: `new Duration(BigInt(text))` is the same. */
+    toJSON(): string;
     /** Its nanoseconds, so that durations compare by `<`. */
     valueOf(): bigint;
 }
@@ -45,8 +48,8 @@ export class Timestamp {
     /** What the clock of this machine shows, to the millisecond. */
     static now(): Timestamp;
     /**
-     * Reads a text of RFC 3339. Refused `SYNTAX`, else `MONTH`, `DAY`, `HOUR`, `MINUTE`, `SECOND`, `OFFSET_HOUR` or
-     * `OFFSET_MINUTE`.
+     * Reads a text of RFC 3339, of 250,000 bytes at most. Refused `LENGTH` or `SYNTAX`, else `MONTH`, `DAY`, `DAY_OF_MONTH`,
+     * `HOUR`, `MINUTE`, `SECOND`, `OFFSET_HOUR` or `OFFSET_MINUTE`.
      */
     static parse(text: string): Timestamp;
     /** -1, 0 or 1: for `sort`. */
@@ -138,7 +141,7 @@ export class OffsetDateTime implements Readonly<OffsetDateTimeParts> {
     /** The day by its number, 0 for 1970-01-01. */
     readonly dayNumber: number;
 
-    /** The date-time with these parts in the place of its own. */
+    /** The date-time with these parts, one at least, in the place of its own. */
     with(parts: Partial<OffsetDateTimeParts>): OffsetDateTime;
     /** So much later at the same offset. Refused `DURATION` or `RESULT`. */
     add(duration: Duration | DurationParts): OffsetDateTime;

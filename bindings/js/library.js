@@ -5,18 +5,44 @@ import { MODULE } from "./module.js";
 import { accept, refuse } from "./refused.js";
 
 const bytes = Uint8Array.from(atob(MODULE), (character) => character.charCodeAt(0));
-const { instance } = await WebAssembly.instantiate(bytes, {});
-const calls = instance.exports;
-
-const memory = new Uint8Array(calls.memory.buffer);
-const view = new DataView(calls.memory.buffer);
+const { module, instance } = await WebAssembly.instantiate(bytes, {});
 
 // Places in the memory that the calls do not use themselves, each of 64 bytes.
-const base = Number(calls.__heap_base.value);
+const base = Number(instance.exports.__heap_base.value);
 const [FIRST, SECOND, OUT, SIZE] = [0, 64, 128, 192].map((at) => base + at);
 const TEXT = base + 256;
-const room = memory.subarray(TEXT);
 const TEXT_ROOM = 64n;
+
+/** The bytes of the longest text that is read. */
+const MOST_BYTES = 250_000;
+
+let calls, memory, view, room;
+
+function use(exports) {
+    calls = exports;
+    memory = new Uint8Array(calls.memory.buffer);
+    view = new DataView(calls.memory.buffer);
+    room = memory.subarray(TEXT, TEXT + MOST_BYTES);
+}
+
+use(instance.exports);
+
+/**
+ * The same calls, with an instance of the module that works. Where JavaScript's stack overflows within a call, that does not
+ * come to its end, and the instance takes no other one.
+ */
+function lasting(group) {
+    const lastingly = (call) => (one, other) => {
+        try {
+            return call(one, other);
+        } catch (error) {
+            if (!(error instanceof WebAssembly.RuntimeError)) throw error;
+            use(new WebAssembly.Instance(module, {}).exports);
+            return call(one, other);
+        }
+    };
+    return Object.fromEntries(Object.entries(group).map(([name, call]) => [name, lastingly(call)]));
+}
 
 const encoder = new TextEncoder();
 const decoder = new TextDecoder();
@@ -29,16 +55,35 @@ export const BILLION = 1_000_000_000n;
 /** Stands for parts that the library has given, and that need no test. */
 export const KNOWN = Symbol("known");
 
+/** Throws that a value is no such thing. */
+export function refuseType(what, value) {
+    const text = typeof value === "object" && value !== null ? Object.prototype.toString.call(value) : String(value);
+    throw new TypeError(`no ${what}: ${text}`);
+}
+
 /** A BigInt of a whole number. */
 export function whole(value, name) {
     if (typeof value === "bigint") return value;
     if (Number.isSafeInteger(value)) return BigInt(value);
-    throw new TypeError(`${name} is no whole number: ${String(value)}`);
+    return refuseType(`whole number for ${name}`, value);
 }
+
+/** The names of the parts in an object: one at least, and each of them known. */
+export function partNames(parts, known, what) {
+    const names = typeof parts === "object" && parts !== null ? Object.keys(parts) : [];
+    if (names.length === 0) throw new TypeError(`no part of a ${what} is named`);
+    for (const name of names) {
+        if (!Object.hasOwn(known, name)) throw new TypeError(`no part of a ${what}: ${name}`);
+    }
+    return names;
+}
+
+/** A text. */
+export const textual = (value) => (typeof value === "string" ? value : refuseType("text", value));
 
 /** A number of so many bits. What they do not hold becomes a number that the library refuses. */
 function held(value, name, least, most) {
-    if (!Number.isInteger(value)) throw new TypeError(`${name} is no whole number: ${String(value)}`);
+    if (!Number.isInteger(value)) refuseType(`whole number for ${name}`, value);
     return value < least || value > most ? most : value;
 }
 
@@ -96,8 +141,7 @@ function getDuration(place) {
 
 /** Writes a text to the memory, and gives its place and its size. */
 function putText(text) {
-    if (typeof text !== "string") throw new TypeError(`no text: ${String(text)}`);
-    const { read, written } = encoder.encodeInto(text, room);
+    const { read, written } = encoder.encodeInto(textual(text), room);
     if (read < text.length) refuse("LENGTH");
     return [BigInt(TEXT), BigInt(written)];
 }
@@ -116,7 +160,7 @@ function getBy(status, get) {
 }
 
 /** The calls of timestamps, each of which is `{ seconds, nanosecond }`; durations are nanoseconds. */
-export const timestamps = {
+export const timestamps = lasting({
     /** Its parts as the memory holds them, read before the call, which may change what lies there. */
     checked(at) {
         const place = putTimestamp(FIRST, at), nanosecond = view.getUint32(FIRST + 8, true);
@@ -140,14 +184,14 @@ export const timestamps = {
     read: (text) => getBy(calls.muxandu_timestamp_from_rfc3339(...putText(text), out), getTimestamp),
     rfc3339: (at) => textBy(calls.muxandu_timestamp_to_rfc3339, putTimestamp(FIRST, at)),
     rfc3339Nanos: (at) => textBy(calls.muxandu_timestamp_to_rfc3339_nanos, putTimestamp(FIRST, at)),
-};
+});
 
 function moved(call, at, nanoseconds) {
     return getBy(call(putTimestamp(FIRST, at), putDuration(SECOND, nanoseconds), out), getTimestamp);
 }
 
 /** The calls of what clocks at an offset show, likewise. */
-export const clocks = {
+export const clocks = lasting({
     /** Likewise. */
     checked(at) {
         const place = putClocks(FIRST, at), parts = getClocks(FIRST);
@@ -176,14 +220,14 @@ export const clocks = {
     rfc3339: (at) => textBy(calls.muxandu_date_time_to_rfc3339, putClocks(FIRST, at)),
     text: (at) => textBy(calls.muxandu_date_time_text, putClocks(FIRST, at)),
     day: (at) => getBy(calls.muxandu_date_time_day(putClocks(FIRST, at), out), (place) => view.getInt32(place, true)),
-};
+});
 
 function movedClocks(call, at, nanoseconds) {
     return getBy(call(putClocks(FIRST, at), putDuration(SECOND, nanoseconds), out), getClocks);
 }
 
 /** The calls of days, by their numbers. */
-export const days = {
+export const days = lasting({
     ordinal: (day) => getBy(calls.muxandu_ordinal_date_from_day(day, out), (place) => view.getUint16(place + 4, true)),
     week(day) {
         const get = (place) => ({
@@ -197,4 +241,4 @@ export const days = {
         const parts = [signed32(year, "year"), unsigned8(month, "month")];
         return getBy(calls.muxandu_days_in_month(...parts, out), (place) => memory[place]);
     },
-};
+});

@@ -1,16 +1,14 @@
 import { Duration, nanosecondsOf } from "./duration.js";
-import { KNOWN, clocks, days } from "./library.js";
+import { KNOWN, clocks, days, partNames, refuseType, textual } from "./library.js";
 import { Refused, refuse } from "./refused.js";
 import { Timestamp, timestampOf, unitNumber } from "./timestamp.js";
 
-const NAMES = ["year", "month", "day", "hour", "minute", "second", "nanosecond", "offsetSeconds"];
 const MIDNIGHT_IN_UTC = { hour: 0, minute: 0, second: 0, nanosecond: 0, offsetSeconds: 0 };
+const NAMES = { year: 0, month: 0, day: 0, ...MIDNIGHT_IN_UTC };
 
 /** The parts that are named, over others. Other names are refused. */
 function partsOver(others, parts) {
-    for (const name of Object.keys(parts)) {
-        if (!NAMES.includes(name)) throw new TypeError(`no part of a date-time: ${name}`);
-    }
+    partNames(parts, NAMES, "date-time");
     return { ...others, ...parts };
 }
 
@@ -19,6 +17,9 @@ const PARTS_OF_DATE_TIME = Symbol("parts");
 
 /** The date-time of parts that the library has given. */
 export let dateTimeOf;
+
+/** The parts of what must be a date-time. */
+const partsOfDateTime = (value) => value?.[PARTS_OF_DATE_TIME] ?? refuseType("OffsetDateTime", value);
 
 /** What clocks at an offset from UTC show. */
 export class OffsetDateTime {
@@ -48,7 +49,7 @@ export class OffsetDateTime {
     }
 
     static compare(one, other) {
-        return clocks.compare(one[PARTS_OF_DATE_TIME], other[PARTS_OF_DATE_TIME]);
+        return clocks.compare(partsOfDateTime(one), partsOfDateTime(other));
     }
 
     get year() {
@@ -124,7 +125,7 @@ export class OffsetDateTime {
     }
 
     since(earlier) {
-        return new Duration(clocks.difference(this[PARTS_OF_DATE_TIME], earlier[PARTS_OF_DATE_TIME]));
+        return new Duration(clocks.difference(this[PARTS_OF_DATE_TIME], partsOfDateTime(earlier)));
     }
 
     truncate(unit) {
@@ -178,6 +179,6 @@ export function daysInMonth(year, month) {
 
 /** The seconds of an offset such as `+02:00` or `Z`, which is read as part of a date-time. */
 export function parseOffset(text) {
-    if (!/^[Zz+-]/.test(text)) refuse("SYNTAX");
+    if (!/^[Zz+-]/.test(textual(text))) refuse("SYNTAX");
     return OffsetDateTime.parse(`2000-01-01T00:00:00${text}`).offsetSeconds;
 }

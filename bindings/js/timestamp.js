@@ -1,6 +1,6 @@
 import { UNITS } from "./declared.js";
 import { Duration, nanosecondsOf } from "./duration.js";
-import { BILLION, KNOWN, timestamps, whole } from "./library.js";
+import { BILLION, KNOWN, refuseType, timestamps, whole } from "./library.js";
 import { dateTimeOf } from "./offset_date_time.js";
 import { refuse } from "./refused.js";
 
@@ -9,7 +9,7 @@ const MOST_OF_DATE = 8_640_000_000_000_000n;
 
 /** The number of a unit. */
 export function unitNumber(unit) {
-    return Object.hasOwn(UNITS, unit) ? UNITS[unit] : refuse("UNIT");
+    return typeof unit === "string" && Object.hasOwn(UNITS, unit) ? UNITS[unit] : refuse("UNIT");
 }
 
 /** Where the parts are kept: where those that compare objects find them, and nobody else by chance. */
@@ -17,6 +17,9 @@ const PARTS_OF_TIMESTAMP = Symbol("parts");
 
 /** The timestamp of parts that the library has given. */
 export let timestampOf;
+
+/** The parts of what must be a timestamp. */
+const partsIn = (value) => value?.[PARTS_OF_TIMESTAMP] ?? refuseType("Timestamp", value);
 
 /** An instant. */
 export class Timestamp {
@@ -48,6 +51,7 @@ export class Timestamp {
     }
 
     static fromDate(date) {
+        if (typeof date?.getTime !== "function") refuseType("Date", date);
         const milliseconds = date.getTime();
         return Number.isNaN(milliseconds) ? refuse("DATE") : Timestamp.fromMilliseconds(milliseconds);
     }
@@ -61,7 +65,7 @@ export class Timestamp {
     }
 
     static compare(one, other) {
-        return timestamps.compare(one[PARTS_OF_TIMESTAMP], other[PARTS_OF_TIMESTAMP]);
+        return timestamps.compare(partsIn(one), partsIn(other));
     }
 
     get seconds() {
@@ -101,7 +105,7 @@ export class Timestamp {
     }
 
     since(earlier) {
-        return new Duration(timestamps.difference(this[PARTS_OF_TIMESTAMP], earlier[PARTS_OF_TIMESTAMP]));
+        return new Duration(timestamps.difference(this[PARTS_OF_TIMESTAMP], partsIn(earlier)));
     }
 
     truncate(unit) {

@@ -34,13 +34,23 @@ const ROWS = [
     [
         ["31494784780799.999999999", "-12:00", ""],
         "In UTC=+999999-12-31 23:59:59.999999999 +00:00:00|At the offset=+999999-12-31 11:59:59.999999999 -12:00:00" +
-            "|Unix seconds=31494784780799.999999999|Day of the week=Friday|ISO week=999999-W52-5|Day of the year=365",
+            "|Unix seconds=31494784780799.999999999|Day of the week=Friday|ISO week=+999999-W52-5|Day of the year=365",
     ],
     [
         ["-31619087596800", "Z", "31494784780799"],
         "In UTC=-999999-01-01 0:00:00.0 +00:00:00|At the offset=-999999-01-01 0:00:00.0 +00:00:00|Unix seconds=-31619087596800" +
             "|Day of the week=Monday|ISO week=-999999-W01-1|Day of the year=1" +
             "|To the other=730484633 days 23:59:59 before it, -63113872377599 s",
+    ],
+    [
+        ["-62135596800", "Z", ""],
+        "In UTC=0001-01-01T00:00:00Z|At the offset=0001-01-01T00:00:00Z|Unix seconds=-62135596800|Day of the week=Monday" +
+            "|ISO week=0001-W01-1|Day of the year=1",
+    ],
+    [
+        ["-62167219201", "Z", ""],
+        "In UTC=-0001-12-31 23:59:59.0 +00:00:00|At the offset=-0001-12-31 23:59:59.0 +00:00:00|Unix seconds=-62167219201" +
+            "|Day of the week=Friday|ISO week=-0001-W52-5|Day of the year=365",
     ],
     [["2023-02-29T12:00:00Z", "Z", ""], "at DAY_OF_MONTH|JavaScript's Date=2023-03-01T12:00:00.000Z"],
     [["2024-02-28T24:00:00Z", "Z", ""], "at HOUR|JavaScript's Date=2024-02-29T00:00:00.000Z"],
@@ -50,7 +60,15 @@ const ROWS = [
     [["2024-01-01T00:00:00+00:60", "Z", ""], "at OFFSET_MINUTE"],
     [["yesterday", "Z", ""], "at SYNTAX"],
     [["", "Z", ""], "at SYNTAX"],
+    [["\u00a0\t0\n", " Z ", "  "], "In UTC=1970-01-01T00:00:00Z|At the offset=1970-01-01T00:00:00Z|Unix seconds=0" +
+            "|Day of the week=Thursday|ISO week=1970-W01-4|Day of the year=1"],
+    [["2024-02-28T23:30:00Z 5", "Z", ""], "at SYNTAX"],
+    [["0.1234567891", "Z", ""], "at SYNTAX"],
+    [["\ud800", "Z", ""], "at SYNTAX"],
+    [["x".repeat(300_000), "Z", ""], "at LENGTH"],
     [["99999999999999999999", "Z", ""], "at TIMESTAMP"],
+    [["9".repeat(30), "Z", ""], "at TIMESTAMP"],
+    [["-" + "9".repeat(100_000), "Z", ""], "at TIMESTAMP"],
     [["31494784780800", "Z", ""], "at TIMESTAMP"],
     [["-31619087596801", "Z", ""], "at TIMESTAMP"],
     [["31494784780799", "+00:01", ""], "offset RESULT"],
@@ -81,6 +99,8 @@ function shownByFields(typed) {
     const lines = [...document.querySelectorAll("tbody tr")];
     const rows = lines.map((line) => [...line.cells].map((cell) => cell.textContent).join("="));
     const wrong = fields.filter((field) => field.getAttribute("aria-invalid") === "true");
+    const isDescribed = fields.every((field) => field.hasAttribute("aria-describedby") === wrong.includes(field));
+    if (!isDescribed) return "what is refused does not describe its field alone";
     const refused = document.getElementById("refused");
     if (refused.hidden !== (wrong.length === 0) || document.getElementById("times").hidden === refused.hidden) return "neither";
     if (refused.hidden && document.querySelectorAll("svg line").length < 2) return "no picture";
@@ -101,7 +121,7 @@ function shownByFunctions(typed) {
 
 for (const [typed, wanted] of ROWS) {
     const shown = (isPage ? shownByFields : shownByFunctions)(typed);
-    count(shown === wanted ? null : `${typed}: ${shown}, and not ${wanted}`);
+    count(shown === wanted ? null : `${String(typed).slice(0, 200)}: ${shown}, and not ${wanted}`);
 }
 
 const LINKS = [

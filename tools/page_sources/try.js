@@ -34,6 +34,12 @@ function instantOf(text) {
 
 const two = (number) => String(number).padStart(2, "0");
 
+/** A year as ISO 8601 writes it: four digits at least, and a sign where there are more or it is negative. */
+function yearText(year) {
+    const digits = String(Math.abs(year)).padStart(4, "0");
+    return `${year < 0 ? "-" : year > 9999 ? "+" : ""}${digits}`;
+}
+
 /** A duration in days, hours, minutes and seconds. */
 function lengthText(duration) {
     const size = duration.nanoseconds < 0n ? -duration.nanoseconds : duration.nanoseconds;
@@ -85,7 +91,7 @@ export function answers(text, offset, other) {
         ["At the offset", there.toString(), "there"],
         ["Unix seconds", secondsText(at)],
         ["Day of the week", WEEKDAYS[there.weekday - 1], "there"],
-        ["ISO week", `${there.isoYear}-W${two(there.isoWeek)}-${there.weekday}`, "there"],
+        ["ISO week", `${yearText(there.isoYear)}-W${two(there.isoWeek)}-${there.weekday}`, "there"],
         ["Day of the year", String(there.dayOfYear), "there"],
     ];
     if (second) rows.push(["To the other", differenceText(at, second)]);
@@ -100,12 +106,18 @@ const FORMS = {
 };
 FORMS.other = FORMS.at;
 
+/** What else is refused here, and why. */
+const RANGES = {
+    TIMESTAMP: "It takes seconds from -31619087596800 to 31494784780799: the years -999999 to 999999.",
+    RESULT: "Clocks at this offset would show a year before -999999 or after 999999.",
+};
+
 /** What the page says of what it refuses. */
 export function refusal(error, text) {
     const date = error.field === "at" ? dateText(text, null) : null;
     const rows = date === null ? [] : [["JavaScript's Date", date]];
-    const meaning = error.refusal === "SYNTAX" ? FORMS[error.field] : error.message.slice(error.refusal.length + 2);
-    return { name: error.refusal, meaning, rows };
+    const own = error.refusal === "SYNTAX" ? FORMS[error.field] : RANGES[error.refusal];
+    return { name: error.refusal, meaning: own ?? error.message.slice(error.refusal.length + 2), rows };
 }
 
 // The picture: a day around the instant, as clocks in UTC show it, and above it as those at the offset do.
@@ -240,7 +252,11 @@ function show(fields) {
         wrong = error.field;
     }
     refused.hidden = wrong === null;
-    for (const field of fields) field.setAttribute("aria-invalid", String(field.id === wrong));
+    for (const field of fields) {
+        field.setAttribute("aria-invalid", String(field.id === wrong));
+        if (field.id === wrong) field.setAttribute("aria-describedby", "refused");
+        else field.removeAttribute("aria-describedby");
+    }
     const told = wrong === null ? times.firstChild.getAttribute("aria-label") : refused.textContent;
     document.getElementById("said").textContent = told;
     keep(fields);

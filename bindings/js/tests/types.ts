@@ -18,6 +18,13 @@ try {
     }
 }
 
+const own: RefusalName = new Refused("DATE", "Own words.").refusal;
+console.log(own);
+
+// @ts-expect-error: no such refusal
+new Refused("DAYS", "Own words.");
+// @ts-expect-error: a number is no duration
+at.add(3600);
 // @ts-expect-error: a day is missing
 OffsetDateTime.of({ year: 2023, month: 2 });
 // @ts-expect-error: no such part

@@ -54,6 +54,10 @@ test("bad texts are refused by name", () => {
         ["\ud800", "SYNTAX"],
         ["yesterday", "SYNTAX"],
         ["", "SYNTAX"],
+        ["0".repeat(250_000), "SYNTAX"],
+        ["é".repeat(125_000), "SYNTAX"],
+        ["0".repeat(250_001), "LENGTH"],
+        ["é".repeat(125_001), "LENGTH"],
         ["0".repeat(1_000_000), "LENGTH"],
     ]) {
         refuses(name, () => Timestamp.parse(text));
@@ -110,6 +114,9 @@ test("sums, differences and order", () => {
     refuses("UNIT", () => at.truncate("toString"));
     assert.equal(String(new Duration(-1_500_000_000n)), "-1.5 s");
     assert.equal(Duration.of({ minutes: -90 }).whole("hours"), -1n);
+    const kept = JSON.parse(JSON.stringify({ gap: LAST.since(FIRST) })).gap;
+    assert.equal(kept, "63113872377599999999999");
+    assert.equal(new Duration(BigInt(kept)).nanoseconds, LAST.since(FIRST).nanoseconds);
 });
 
 test("date-times at an offset", () => {
@@ -165,6 +172,42 @@ test("days in months, and offsets", () => {
     assert.deepEqual(["Z", "z", "+02:30", "-00:30", "-23:59"].map(parseOffset), [0, 0, 9_000, -1_800, -86_340]);
     for (const text of ["", "2", "+2", ".5Z", "+02:00 ", "5Z"]) refuses("SYNTAX", () => parseOffset(text));
     refuses("OFFSET_HOUR", () => parseOffset("+24:00"));
+    for (const value of [undefined, null, 0, ["Z"], new String("Z"), { toString: () => "Z" }]) {
+        assert.throws(() => parseOffset(value), TypeError);
+    }
+});
+
+test("what names no part is no duration, and no part of a date-time", () => {
+    const at = new Timestamp(0), shown = at.toOffset(0);
+    const others = [undefined, null, true, NaN, 3600, 5n, "", "5", Symbol("5"), () => 5, [], {}, Object.create(null), new Date(0), new Map([["hours", 1]])];
+    for (const value of [...others, at, shown, Object.create({ hours: 1 }), Object.create({ hour: 1 })]) {
+        for (const call of ["add", "subtract", "saturatingAdd", "saturatingSubtract"]) {
+            assert.throws(() => at[call](value), TypeError, call);
+            assert.throws(() => shown[call](value), TypeError, call);
+        }
+        assert.throws(() => Duration.of(value), TypeError);
+        assert.throws(() => shown.with(value), TypeError);
+        assert.throws(() => OffsetDateTime.of(value), TypeError);
+    }
+    assert.throws(() => Duration.of(new Duration(5)), TypeError);
+    assert.throws(() => Duration.of({ hours: undefined }), TypeError);
+    assert.throws(() => shown.with({ hour: undefined }), TypeError);
+    refuses("UNIT", () => at.truncate(["day"]));
+    refuses("UNIT", () => at.truncate({ toString: () => "day" }));
+    assert.throws(() => new Duration(5).whole(["hours"]), TypeError);
+    assert.equal(Duration.of({ hours: -0 }).nanoseconds, 0n);
+});
+
+test("a stack that overflows within a call leaves the calls as they were", () => {
+    const at = Timestamp.parse("2024-02-28T23:30:00.123-01:00");
+    const deep = () => {
+        at.toOffset(60).add({ hours: 1 }).truncate("minute").toRfc3339();
+        deep();
+    };
+    for (let time = 0; time < 200; time++) {
+        assert.throws(deep, RangeError);
+        assert.equal(at.toOffset(60).add({ hours: 1 }).truncate("minute").toRfc3339(), "2024-02-29T01:31:00+00:01");
+    }
 });
 
 test("values are told from others by their parts", () => {
@@ -175,8 +218,19 @@ test("values are told from others by their parts", () => {
         assert.deepEqual(Object.keys(value), []);
     });
     const [at, shown] = read("2024-02-29T00:00:00Z");
-    for (const mixed of [() => at.since(shown), () => shown.since(at), () => Timestamp.compare(at, {}), () => at.equals(0)]) {
-        assert.throws(mixed, TypeError);
+    for (const other of [shown, new Date(0), {}, 0, 5n, "", null, undefined, Symbol("other"), Timestamp, Timestamp.prototype]) {
+        for (const call of [() => at.since(other), () => at.equals(other), () => Timestamp.compare(at, other), () => Timestamp.compare(other, at)]) {
+            assert.throws(call, { name: "TypeError", message: /^no Timestamp: / });
+        }
+    }
+    for (const other of [at, new Date(0), {}, 0, 5n, "", null, undefined, Symbol("other"), OffsetDateTime, OffsetDateTime.prototype]) {
+        const calls = [() => shown.since(other), () => shown.equals(other), () => OffsetDateTime.compare(other, shown)];
+        for (const call of calls) assert.throws(call, { name: "TypeError", message: /^no OffsetDateTime: / });
+    }
+    for (const other of [at, shown, {}, 0, 5n, "1970-01-01", null, undefined]) {
+        for (const type of [Timestamp, OffsetDateTime]) {
+            assert.throws(() => type.fromDate(other), { name: "TypeError", message: /^no Date: / });
+        }
     }
 });
 
