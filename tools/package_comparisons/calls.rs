@@ -3,6 +3,7 @@ use std::fmt::Write as _;
 use std::hint::black_box;
 
 use library::error::ComponentRange;
+use library::ext::{NumericalDuration, NumericalStdDuration};
 use library::{Date, Duration, Month, OffsetDateTime, PrimitiveDateTime, Time, UtcOffset, Weekday};
 
 use crate::source::Input;
@@ -212,6 +213,72 @@ fn duration(input: &Input) -> Duration {
     Duration::new(input.seconds, input.nanoseconds)
 }
 
+/// Lengths of each unit, their products, quotients and sums, and std's lengths beside them.
+fn put_lengths(duration: Duration, input: &Input, out: &mut Answers) {
+    let count = i64::from(input.offset_seconds);
+    let std_duration = std::time::Duration::new(input.seconds.unsigned_abs(), input.small % 1_000_000_000);
+    // 0.3.9 divides seconds and nanoseconds apart, and loses a nanosecond where both leave a rest.
+    let whole = Duration::seconds(input.seconds);
+    put!(
+        out,
+        Duration::weeks(count),
+        Duration::days(count),
+        Duration::hours(count),
+        Duration::minutes(count),
+        Duration::seconds(count),
+        Duration::milliseconds(input.seconds),
+        Duration::microseconds(input.seconds),
+        Duration::nanoseconds(input.seconds),
+        count.weeks() + count.days() - count.hours(),
+        count.minutes() + count.seconds() - input.seconds.milliseconds(),
+        input.seconds.microseconds() - input.seconds.nanoseconds(),
+        Duration::WEEK + Duration::DAY - Duration::HOUR + Duration::MINUTE - Duration::SECOND,
+        Duration::MILLISECOND + Duration::MICROSECOND - Duration::NANOSECOND + Duration::ZERO,
+        duration * input.offset.0,
+        duration * i16::from(input.offset.1),
+        duration * input.month,
+        duration * u16::from(input.day),
+        input.month * duration,
+        i16::from(input.offset.1) * duration,
+        Duration::seconds(count) * u32::from(input.ordinal),
+        whole / input.month,
+        whole / -i8::from(input.month as i8),
+        whole / i16::from(input.month),
+        whole / u16::from(input.month),
+        whole / (input.offset_seconds | 1),
+        whole / u32::from(input.month),
+        [duration, whole, duration].iter().sum::<Duration>(),
+        [duration, whole, duration].into_iter().sum::<Duration>(),
+        duration + std_duration,
+        duration - std_duration,
+        Duration::try_from(std_duration).ok(),
+        Duration::try_from(std::time::Duration::from_secs(input.seconds as u64)).ok(),
+        duration < std_duration,
+        duration > std_duration,
+        (duration / (whole + Duration::SECOND)).to_bits() as i64,
+        (duration / (std_duration + 1.std_seconds())).to_bits() as i64,
+    );
+    let mut moved = duration;
+    moved += whole;
+    moved -= std_duration;
+    moved *= input.month;
+    put!(out, moved);
+    put_display(&duration, out);
+    put_display(&Duration::seconds(count), out);
+}
+
+/// Numbers and names of months and of days of the week.
+fn put_names(input: &Input, out: &mut Answers) {
+    let weekday = WEEKDAYS[usize::from(input.weekday)];
+    put!(out, Month::try_from(input.day));
+    put_display(&month(input), out);
+    put_display(&weekday, out);
+    let names = [month(input).to_string(), weekday.to_string(), month(input).to_string().to_lowercase()];
+    for name in names {
+        put!(out, name.parse::<Month>().ok(), name.parse::<Weekday>().ok());
+    }
+}
+
 /// The answers of a round.
 pub fn answers(input: &Input, out: &mut Answers) {
     let (hour, minute, second) = input.clock;
@@ -274,6 +341,8 @@ pub fn answers(input: &Input, out: &mut Answers) {
         std::time::Duration::try_from(duration).map(|duration| duration.as_nanos() as i128).ok(),
         duration == std::time::Duration::new(input.seconds.unsigned_abs(), input.nanoseconds.unsigned_abs()),
     );
+    put_lengths(duration, input, out);
+    put_names(input, out);
     let (Ok(date), Ok(time)) = (
         Date::from_julian_day(input.julian_day),
         Time::from_hms_nano(hour % 24, minute % 60, second % 60, input.nanosecond % 1_000_000_000),
@@ -351,7 +420,13 @@ pub fn answers(input: &Input, out: &mut Answers) {
         offset.is_negative(),
         offset.is_utc(),
         (-offset).whole_seconds(),
+        offset < UtcOffset::from_whole_seconds(i32::from(input.offset.1)).unwrap(),
     );
+    // A time of the system lies as far back as the clocks of the machine count.
+    let of_system = std::time::SystemTime::from(shown);
+    let earlier = at - Duration::seconds(input.seconds % 1_000_000_000);
+    put!(out, OffsetDateTime::from(of_system), shown == of_system, of_system < earlier, earlier < of_system);
+    put!(out, shown - of_system, of_system - earlier, earlier - of_system);
     put_date_reads!(out, shown);
     put_time_reads!(out, shown);
     put_date_replacements!(out, shown, input);
