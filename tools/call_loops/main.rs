@@ -1,5 +1,5 @@
 //! Measures calls of the crates in a caller's loop, beside the same work in bare Rust and, where they are installed, by the
-//! crates `time` and chrono. tools/calls builds it; its words are the number of rounds.
+//! crates `time` and chrono. tools/call_speed builds it; its words are the number of rounds.
 use std::ffi::c_int;
 
 mod bare;

@@ -1,4 +1,4 @@
-/* Made by tools/python_calls from bindings/muxandu_sys.py. Do not edit. */
+/* Made by tools/python_calls from bindings/python/muxandu/muxandu_sys.py. Do not edit. */
 
 /* The version of the library, a number as MUXANDU_VERSION. Where it is lower, the library has not all that is
  * declared here. */

@@ -1,6 +1,6 @@
 """Why calls refuse, as classes of errors, the units of time, and the parts of a date-time.
 
-Made by tools/python_calls from bindings/muxandu_sys.py. Do not edit.
+Made by tools/python_calls from bindings/python/muxandu/muxandu_sys.py. Do not edit.
 """
 
 from __future__ import annotations

@@ -106,4 +106,4 @@ leap_day-none false m t = refl
 
 pub ruleset leap_days = (leap_day-counts, leap_day-none)
 
-pub ruleset products = (early-month, early-day, late-month, late-day, day_of_ordinal_bounds)
+pub ruleset month_products = (early-month, early-day, late-month, late-day, day_of_ordinal_bounds)

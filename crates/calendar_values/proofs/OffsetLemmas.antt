@@ -5,7 +5,7 @@ use Rattle.std.proofs.lemmas.Int.{by_lt_z, ints}
 use Rattle.std.specs.Prelude.{Ok, codes, int_lt, if◌then◌else◌}
 use Rattle.calendar_values.specs.Digits.{last_digits}
 use Rattle.calendar_values.specs.OffsetPartLemmas.{offset_signs}
-use Rattle.calendar_values.specs.Offsets.{IsOffset, IsOffsetParts, seconds_of_parts, offset_hours_of, offset_minutes_of, offset_seconds_of, with_sign_of}
+use Rattle.calendar_values.specs.Offsets.{IsOffset, AreSignedOffsetParts, seconds_of_parts, offset_hours_of, offset_minutes_of, offset_seconds_of, with_sign_of}
 use Rattle.calendar_values.specs.Offsets.{offset_of_seconds}
 use Rattle.calendar_values.specs.SignedArith.{signed_arith, one_part}
 use Rattle.calendar_values.specs.Texts.{offset_text}
@@ -39,16 +39,18 @@ pub unsigned_abs-with_sign_of : (greater part : ℤ) → unsigned_abs (with_sign
 unsigned_abs-with_sign_of greater part = grind (arith, signed_arith)
 
 -- parts of which none is negative, and parts of which none is positive
-positive : (h m s : ℤ) → unsigned_abs h ≤ 25 → unsigned_abs m ≤ 59 → unsigned_abs s ≤ 59 → (pos 0 ≤ℤ h) × (pos 0 ≤ℤ m) × (pos 0 ≤ℤ s) → IsOffsetParts h m s
+positive : (h m s : ℤ) → unsigned_abs h ≤ 25 → unsigned_abs m ≤ 59 → unsigned_abs s ≤ 59 → (pos 0 ≤ℤ h) × (pos 0 ≤ℤ m) × (pos 0 ≤ℤ s)
+    → AreSignedOffsetParts h m s
 positive h m s a b d signs = record { hours_in_range = a; minutes_in_range = b; seconds_in_range = d; one_sign = inl signs }
 
-negative : (h m s : ℤ) → unsigned_abs h ≤ 25 → unsigned_abs m ≤ 59 → unsigned_abs s ≤ 59 → (h ≤ℤ pos 0) × (m ≤ℤ pos 0) × (s ≤ℤ pos 0) → IsOffsetParts h m s
+negative : (h m s : ℤ) → unsigned_abs h ≤ 25 → unsigned_abs m ≤ 59 → unsigned_abs s ≤ 59 → (h ≤ℤ pos 0) × (m ≤ℤ pos 0) × (s ≤ℤ pos 0)
+    → AreSignedOffsetParts h m s
 negative h m s a b d signs = record { hours_in_range = a; minutes_in_range = b; seconds_in_range = d; one_sign = inr signs }
 
 -- parts that have been given their signs are parts of an offset
-pub IsOffsetParts-with_sign_of : (h m s : ℤ) → unsigned_abs h ≤ 25 → unsigned_abs m ≤ 59 → unsigned_abs s ≤ 59 →
-    IsOffsetParts h (with_sign_of h m) (with_sign_of h (with_sign_of m s))
-IsOffsetParts-with_sign_of h m s a b d =
+pub AreSignedOffsetParts-with_sign_of : (h m s : ℤ) → unsigned_abs h ≤ 25 → unsigned_abs m ≤ 59 → unsigned_abs s ≤ 59 →
+    AreSignedOffsetParts h (with_sign_of h m) (with_sign_of h (with_sign_of m s))
+AreSignedOffsetParts-with_sign_of h m s a b d =
     let n = with_sign_of m s in
     let size : unsigned_abs n ≡ unsigned_abs s = unsigned_abs-with_sign_of m s in
     let below : unsigned_abs n ≤ 59 = rw size d in
@@ -69,15 +71,15 @@ IsOffsetParts-with_sign_of h m s a b d =
     (λ at_least. positive (pos 0) (pos 0) s (lit≤ tt) (lit≤ tt) d omega (arith, signed_arith))))))))
 
 -- the absolute parts of an offset
-pub unsigned_abs-hours : (h m s : ℤ) → IsOffsetParts h m s → unsigned_abs (seconds_of_parts h m s) / 3_600 ≡ unsigned_abs h
+pub unsigned_abs-hours : (h m s : ℤ) → AreSignedOffsetParts h m s → unsigned_abs (seconds_of_parts h m s) / 3_600 ≡ unsigned_abs h
 unsigned_abs-hours h m s p =
     omega (arith, signed_arith, offset_signs h m s p, one_part (seconds_of_parts h m s))
 
-pub unsigned_abs-minutes : (h m s : ℤ) → IsOffsetParts h m s → unsigned_abs (seconds_of_parts h m s) / 60 % 60 ≡ unsigned_abs m
+pub unsigned_abs-minutes : (h m s : ℤ) → AreSignedOffsetParts h m s → unsigned_abs (seconds_of_parts h m s) / 60 % 60 ≡ unsigned_abs m
 unsigned_abs-minutes h m s p =
     omega (arith, signed_arith, offset_signs h m s p, one_part (seconds_of_parts h m s))
 
-pub unsigned_abs-seconds : (h m s : ℤ) → IsOffsetParts h m s → unsigned_abs (seconds_of_parts h m s) % 60 ≡ unsigned_abs s
+pub unsigned_abs-seconds : (h m s : ℤ) → AreSignedOffsetParts h m s → unsigned_abs (seconds_of_parts h m s) % 60 ≡ unsigned_abs s
 unsigned_abs-seconds h m s p =
     omega (arith, signed_arith, offset_signs h m s p, one_part (seconds_of_parts h m s))
 
@@ -92,7 +94,7 @@ pub sign_text-not_negative : (o : ℤ) → (o <ℤ pos 0 → IsTrue false) → c
 sign_text-not_negative o h = grind (arith, ints)
 
 -- what an offset shows, by its parts
-pub offset_text-parts : (h m s : ℤ) → IsOffsetParts h m s → offset_text (seconds_of_parts h m s) ≡ sign_text (seconds_of_parts h m s) ++
+pub offset_text-parts : (h m s : ℤ) → AreSignedOffsetParts h m s → offset_text (seconds_of_parts h m s) ≡ sign_text (seconds_of_parts h m s) ++
     last_digits 2 (unsigned_abs h) ++ codes ":" ++ last_digits 2 (unsigned_abs m) ++ codes ":" ++ last_digits 2 (unsigned_abs s)
 unfolding offset_text
 offset_text-parts h m s p =

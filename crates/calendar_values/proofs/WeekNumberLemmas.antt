@@ -90,7 +90,7 @@ day_of_iso_week_date-is y january_4 n days week weekday e f g =
     let start : january_4 ≡ year_start y +ℤ pos 3 = omega (arith, signed_arith) in
     rw start at f ∙ rw start at g
 
-pub ruleset weekdays = (signed_arith, weekday_of-parts)
+pub ruleset weekday_parts = (signed_arith, weekday_of-parts)
 
 pub ruleset week_numbers = (iso_week_of-closed, sunday_week_of-closed, monday_week_of-closed)
 

@@ -11,12 +11,12 @@ adjustment_days Same = pos 0
 adjustment_days Next = pos 1
 
 -- the day after, where the date changes, or the same day
-abbrev pub days_later : Bool → ℤ
-days_later changes = if changes then pos 1 else pos 0
+abbrev pub days_if_next : Bool → ℤ
+days_if_next changes = if changes then pos 1 else pos 0
 
 -- the day before, where the date changes, or the same day
-abbrev pub days_earlier : Bool → ℤ
-days_earlier changes = if changes then negsuc 0 else pos 0
+abbrev pub days_if_previous : Bool → ℤ
+days_if_previous changes = if changes then negsuc 0 else pos 0
 
 -- the nanoseconds that the whole days of a duration leave, of the duration's sign
 unfoldable pub subday_nanoseconds_of : ℤ → ℤ

@@ -28,7 +28,7 @@ abbrev pub IsClock : ℕ → Type 0
 IsClock c = c < nanos_per_day
 
 -- the day has this hour, minute, second and nanosecond of the second
-pub record IsTimeOfDay (h m s n : ℕ) : Type 0 where
+pub record AreTimeParts (h m s n : ℕ) : Type 0 where
   pub hour : h ≤ 23
   pub minute : m ≤ 59
   pub second : s ≤ 59
@@ -61,7 +61,7 @@ abbrev pub millisecond_of : ℕ → ℕ
 millisecond_of c = nanosecond_of c / nanos_per_millisecond
 
 -- the clock shows this hour, minute, second and nanosecond of the second
-pub record Shows (c h m s n : ℕ) : Type 0 where
+pub record HasTimeParts (c h m s n : ℕ) : Type 0 where
   pub clock : IsClock c
   pub hour : hour_of c ≡ h
   pub minute : minute_of c ≡ m

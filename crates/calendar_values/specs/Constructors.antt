@@ -1,7 +1,7 @@
 -- What the parts of a date or of a time of day come to: its number, or the refusal of a part.
 use Rattle.std.specs.Prelude.{ℕ, ◌*◌, ◌||◌, ◌==◌, List, Result, Ok, Err, if◌then◌else◌, nat_lt, ℤ, ◌-ℤ◌, codes}
 use Rattle.calendar_values.specs.Calendar.{epoch_julian_day, is_leap_year, days_in_year, days_in_month, day_of_calendar_date, day_of_ordinal_date}
-use Rattle.calendar_values.specs.Clock.{nanos_per_microsecond, nanos_per_millisecond, clock_of_parts, IsTimeOfDay}
+use Rattle.calendar_values.specs.Clock.{nanos_per_microsecond, nanos_per_millisecond, clock_of_parts, AreTimeParts}
 use Rattle.calendar_values.specs.Outcomes.{Outcome}
 use Rattle.calendar_values.specs.Range.{first_year, last_year, first_day, last_day, is_outside, IsDay}
 use Rattle.calendar_values.specs.Refusals.{Refusal, IsDateOfRange, IsOrdinalDateOfRange, IsIsoWeekDateOfRange}
@@ -79,7 +79,7 @@ clock_with h m s name limit part n =
 -- what such parts come to
 abbrev pub clock_outcome : ℕ → ℕ → ℕ → List ℕ → ℕ → ℕ → ℕ → Outcome ℕ
 clock_outcome h m s name limit part n = record {
-  fits = IsTimeOfDay h m s n;
+  fits = AreTimeParts h m s n;
   value = clock_of_parts h m s n;
   refusal = clock_refusal h m s name;
   answer = clock_with h m s name limit part n;

@@ -2,7 +2,7 @@
 use Rattle.std.specs.Prelude.{◌≡◌, ◌↔◌, ℕ, ◌*◌, ◌<◌, ◌≤◌, ℤ, pos, ◌+ℤ◌, ◌*ℤ◌, Ok}
 use Rattle.calendar_values.specs.Calendar.{days_in_year, year_start, year_of, ordinal_of, month_of, day_of_month_of, day_of_calendar_date, day_of_ordinal_date}
 use Rattle.calendar_values.specs.Calendar.{IsInYear, IsCalendarDate, IsOrdinalDate}
-use Rattle.calendar_values.specs.Clock.{IsClock, Shows, hour_of, minute_of, second_of, nanosecond_of, nanos_per_millisecond, nanos_per_microsecond}
+use Rattle.calendar_values.specs.Clock.{IsClock, HasTimeParts, hour_of, minute_of, second_of, nanosecond_of, nanos_per_millisecond, nanos_per_microsecond}
 use Rattle.calendar_values.specs.Constructors.{calendar_date_outcome, ordinal_date_outcome, iso_week_date_outcome, julian_date_outcome}
 use Rattle.calendar_values.specs.Constructors.{hms_outcome, hms_milli_outcome, hms_micro_outcome, hms_nano_outcome}
 use Rattle.calendar_values.specs.Offsets.{offset_outcome, offset_seconds_outcome}
@@ -62,15 +62,15 @@ pub record ReplacementsKeepTheRest : Type 0 where
 -- a replacement of a part of a clock is accepted exactly where a clock shows the part as given, the other parts as
 -- before and 0 for what is finer than a millisecond or a microsecond; it gives that clock
 pub record ClockReplacementsKeepTheRest : Type 0 where
-  pub hour : (c h d : ℕ) → IsClock c → ((hour_outcome c h).answer ≡ Ok d) ↔ Shows d h (minute_of c) (second_of c) (nanosecond_of c)
-  pub minute : (c m d : ℕ) → IsClock c → ((minute_outcome c m).answer ≡ Ok d) ↔ Shows d (hour_of c) m (second_of c) (nanosecond_of c)
-  pub second : (c s d : ℕ) → IsClock c → ((second_outcome c s).answer ≡ Ok d) ↔ Shows d (hour_of c) (minute_of c) s (nanosecond_of c)
+  pub hour : (c h d : ℕ) → IsClock c → ((hour_outcome c h).answer ≡ Ok d) ↔ HasTimeParts d h (minute_of c) (second_of c) (nanosecond_of c)
+  pub minute : (c m d : ℕ) → IsClock c → ((minute_outcome c m).answer ≡ Ok d) ↔ HasTimeParts d (hour_of c) m (second_of c) (nanosecond_of c)
+  pub second : (c s d : ℕ) → IsClock c → ((second_outcome c s).answer ≡ Ok d) ↔ HasTimeParts d (hour_of c) (minute_of c) s (nanosecond_of c)
   pub millisecond : (c n d : ℕ) → IsClock c → ((millisecond_outcome c n).answer ≡ Ok d)
-      ↔ Shows d (hour_of c) (minute_of c) (second_of c) (n * nanos_per_millisecond)
+      ↔ HasTimeParts d (hour_of c) (minute_of c) (second_of c) (n * nanos_per_millisecond)
   pub microsecond : (c n d : ℕ) → IsClock c → ((microsecond_outcome c n).answer ≡ Ok d)
-      ↔ Shows d (hour_of c) (minute_of c) (second_of c) (n * nanos_per_microsecond)
-  pub nanosecond : (c n d : ℕ) → IsClock c → ((nanosecond_outcome c n).answer ≡ Ok d) ↔ Shows d (hour_of c) (minute_of c) (second_of c) n
-  pub only : (c d h m s n : ℕ) → Shows c h m s n → Shows d h m s n → c ≡ d
+      ↔ HasTimeParts d (hour_of c) (minute_of c) (second_of c) (n * nanos_per_microsecond)
+  pub nanosecond : (c n d : ℕ) → IsClock c → ((nanosecond_outcome c n).answer ≡ Ok d) ↔ HasTimeParts d (hour_of c) (minute_of c) (second_of c) n
+  pub only : (c d h m s n : ℕ) → HasTimeParts c h m s n → HasTimeParts d h m s n → c ≡ d
 
 -- a truncation gives the greatest multiple of the unit that is not above the clock
 abbrev pub TruncationIsGreatestMultiple : Type 0

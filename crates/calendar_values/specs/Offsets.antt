@@ -32,7 +32,7 @@ unfoldable pub offset_seconds_of : ℤ → ℤ
 offset_seconds_of o = int_rem o (pos 60)
 
 -- hours, minutes and seconds in their ranges, of one sign
-pub record IsOffsetParts (h m s : ℤ) : Type 0 where
+pub record AreSignedOffsetParts (h m s : ℤ) : Type 0 where
   pub hours_in_range : unsigned_abs h ≤ 25
   pub minutes_in_range : unsigned_abs m ≤ 59
   pub seconds_in_range : unsigned_abs s ≤ 59

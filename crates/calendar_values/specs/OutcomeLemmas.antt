@@ -5,7 +5,7 @@ use Rattle.std.proofs.lemmas.Bool.Decides.{nat_tests}
 use Rattle.std.proofs.lemmas.Int.{ints}
 use Rattle.calendar_values.specs.Calendar.{epoch_julian_day, is_leap_year, days_in_year, days_in_month, day_of_calendar_date, day_of_ordinal_date}
 use Rattle.calendar_values.specs.Calendar.{year_of, month_of, day_of_month_of}
-use Rattle.calendar_values.specs.Clock.{clock_of_parts, IsTimeOfDay}
+use Rattle.calendar_values.specs.Clock.{clock_of_parts, AreTimeParts}
 use Rattle.calendar_values.specs.Constructors.{calendar_date, calendar_date_outcome, ordinal_date, ordinal_date_outcome, julian_date, julian_date_outcome}
 use Rattle.calendar_values.specs.Constructors.{clock_with, clock_outcome, iso_week_date, iso_week_date_outcome}
 use Rattle.calendar_values.specs.Offsets.{least_offset, greatest_offset, AreOffsetParts, IsOffset, offset_refusal, seconds_of_signed_parts}
@@ -117,9 +117,9 @@ pub IsOneAnswer-clock : (h m s : ℕ) (name : List ℕ) (limit part n : ℕ) →
     → IsOneAnswer (clock_outcome h m s name limit part n)
 unfolding clock_with
 IsOneAnswer-clock h m s name limit part n same =
-    IsOneAnswer-tested (IsTimeOfDay h m s n) (nat_lt 23 h || (nat_lt 59 m || (nat_lt 59 s || nat_lt limit part))) (clock_of_parts h m s n)
+    IsOneAnswer-tested (AreTimeParts h m s n) (nat_lt 23 h || (nat_lt 59 m || (nat_lt 59 s || nat_lt limit part))) (clock_of_parts h m s n)
     (clock_refusal h m s name) (λ f. let fit = (same f.second).1 f.nanosecond in grind (arith, nat_tests)) (λ t. clock t) where
-      clock : (nat_lt 23 h || (nat_lt 59 m || (nat_lt 59 s || nat_lt limit part))) ≡ false → IsTimeOfDay h m s n
+      clock : (nat_lt 23 h || (nat_lt 59 m || (nat_lt 59 s || nat_lt limit part))) ≡ false → AreTimeParts h m s n
       clock t =
           let part_fits : part ≤ limit = grind (arith, nat_tests) in
           let second_fits : s ≤ 59 = grind (arith, nat_tests) in

@@ -1,6 +1,6 @@
 //! Offsets from UTC.
 ghost use Rattle.std.specs.Prelude.{◌≡◌, ℤ, unsigned_abs, ◌<◌, ◌≤◌};
-ghost use Rattle.calendar_values.specs.Offsets.{IsOffsetParts, seconds_of_parts, offset_hours_of, offset_minutes_of, offset_seconds_of, with_sign_of};
+ghost use Rattle.calendar_values.specs.Offsets.{AreSignedOffsetParts, seconds_of_parts, offset_hours_of, offset_minutes_of, offset_seconds_of, with_sign_of};
 ghost use Rattle.calendar_values.specs.Offsets.{offset_outcome, offset_seconds_outcome};
 ghost use Rattle.calendar_values.specs.Outcomes.{Gives};
 
@@ -32,12 +32,12 @@ impl Model for UtcOffset {
 
     ghost Value = { ℤ };
 
-    ghost use Rattle.calendar_values.specs.Offsets.{IsOffsetParts, seconds_of_parts, offset_hours_of, offset_minutes_of, offset_seconds_of};
+    ghost use Rattle.calendar_values.specs.Offsets.{AreSignedOffsetParts, seconds_of_parts, offset_hours_of, offset_minutes_of, offset_seconds_of};
     ghost use Rattle.calendar_values.specs.OffsetPartLemmas.{offset_hours_of-parts, offset_minutes_of-parts, offset_seconds_of-parts};
 
     ghost view = { λ a. seconds_of_parts a.hours a.minutes a.seconds };
 
-    ghost invariant = { λ a. IsOffsetParts a.hours a.minutes a.seconds };
+    ghost invariant = { λ a. AreSignedOffsetParts a.hours a.minutes a.seconds };
 
     ghost inverse = { λ o. record {
       hours = offset_hours_of o;

@@ -200,4 +200,4 @@ day_from_week_date-of v year january_4 december_31 monday last answer made m l f
     ∙ after (date_value v.year 1 4) (λ (j : ℤ). and_then (date_value v.year 12 31) (after_days v j)) january_4 (rw y at first)
 
 -- the day of the week of a number
-pub ruleset weekdays = (signed_arith, weekday_of-parts)
+pub ruleset weekday_parts = (signed_arith, weekday_of-parts)

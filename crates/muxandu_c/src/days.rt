@@ -170,7 +170,7 @@ pub extern "C" fn muxandu_day_from_week_date(date: MuxanduWeekDate, out: &mut i3
 }
 
 // The day of the week of a day number.
-#[tactic(auto, using(crate::proofs::WeekDateLemmas::weekdays))]
+#[tactic(auto, using(crate::proofs::WeekDateLemmas::weekday_parts))]
 fn weekday_of(day: i32) -> u8
     requires { IsDay day }
     ensures { result ≡ weekday_of day }

@@ -1,9 +1,9 @@
 -- A clock that is moved from one offset to another by carries is the clock that its nanoseconds give.
 use Rattle.std.proofs.Common.{◌≡◌, ℕ, ◌<◌, ◌≤◌, arith, sym, ◌∙◌, ap, ℤ, pos, ◌+ℤ◌, ◌-ℤ◌, ◌*ℤ◌, unsigned_abs, FitsSigned, w8, of_z, to_z, to_z-of_z}
 use Rattle.calendar_values.specs.Clock.{IsClock, hour_of, minute_of, second_of}
-use Rattle.calendar_values.specs.ClockLemmas.{clock_of_parts-of, IsTimeOfDay-of}
+use Rattle.calendar_values.specs.ClockLemmas.{clock_of_parts-of, AreTimeParts-of}
 use Rattle.calendar_values.specs.Offsets.{IsOffset, offset_hours_of, offset_minutes_of, offset_seconds_of}
-use Rattle.calendar_values.specs.OffsetPartLemmas.{seconds_of_parts-of, IsOffsetParts-of}
+use Rattle.calendar_values.specs.OffsetPartLemmas.{seconds_of_parts-of, AreSignedOffsetParts-of}
 use Rattle.calendar_values.specs.SignedArith.{signed_arith}
 use Rattle.calendar_values.specs.WallClock.{wall_clock, wall_day, wall_time}
 use Rattle.calendar_values.specs.WallClockLemmas.{wall_clock-parts}
@@ -61,7 +61,7 @@ record Apart (h m s : ℕ) (from to : ℤ) : Type 0 where
 within : (c : ℕ) (from to : ℤ) → IsClock c → Apart 25 59 59 from to → CarriesWithin 1 1 2 c from to
 within c from to clock apart =
     let k = Carried-of c from to in
-    let t = IsTimeOfDay-of c clock in
+    let t = AreTimeParts-of c clock in
     let minutes : IsWithin 1 (minutes_carried c from to) = omega (arith, signed_arith) in
     let hours : IsWithin 1 (hours_carried c from to) = omega (arith, signed_arith) in
     record { minutes = minutes; hours = hours; days = omega (arith, signed_arith) }
@@ -69,13 +69,13 @@ within c from to clock apart =
 pub CarriesWithin-to_utc : (c : ℕ) (from : ℤ) → IsClock c → IsOffset from → CarriesWithin 1 1 2 c from (pos 0)
 unfolding offset_hours_of offset_minutes_of offset_seconds_of
 CarriesWithin-to_utc c from clock p =
-    let f = IsOffsetParts-of from p in
+    let f = AreSignedOffsetParts-of from p in
     within c from (pos 0) clock (omega (arith, signed_arith, f.hours_in_range, f.minutes_in_range, f.seconds_in_range))
 
 pub CarriesWithin-from_utc : (c : ℕ) (to : ℤ) → IsClock c → IsOffset to → CarriesWithin 1 1 2 c (pos 0) to
 unfolding offset_hours_of offset_minutes_of offset_seconds_of
 CarriesWithin-from_utc c to clock q =
-    let t = IsOffsetParts-of to q in
+    let t = AreSignedOffsetParts-of to q in
     within c (pos 0) to clock (omega (arith, signed_arith, t.hours_in_range, t.minutes_in_range, t.seconds_in_range))
 
 pub IsWithin_abs : (n : ℕ) (z : ℤ) → unsigned_abs z ≤ n → IsWithin n z

@@ -18,4 +18,4 @@ year_before y h = omega (arith, signed_arith)
 pub year_after : (y : ℤ) → IsYear y → to_z w32 (of_z w32 (to_z w32 (of_z w32 y) +ℤ pos 1)) ≡ y +ℤ pos 1
 year_after y h = omega (arith, signed_arith)
 
-pub ruleset lengths = (signed_casts, days_in_year_bounds)
+pub ruleset year_lengths = (signed_casts, days_in_year_bounds)

@@ -25,12 +25,12 @@ pub trait Assume {
 impl Assume for PlainDateTime {
     ghost wall_clock_shown = { λ w. w };
 
-    #[tactic(auto, using(calendar_values::specs::WallClockLemmas::parts))]
+    #[tactic(auto, using(calendar_values::specs::WallClockLemmas::wall_clock_parts))]
     fn assume_offset(self, offset: UtcOffset) -> OffsetDateTime {
         OffsetDateTime::new_in_offset(self.date(), self.time(), offset)
     }
 
-    #[tactic(auto, using(calendar_values::specs::WallClockLemmas::parts))]
+    #[tactic(auto, using(calendar_values::specs::WallClockLemmas::wall_clock_parts))]
     fn assume_utc(self) -> OffsetDateTime {
         OffsetDateTime::new_utc(self.date(), self.time())
     }

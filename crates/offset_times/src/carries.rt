@@ -229,7 +229,7 @@ fn moved_ordinal(ordinal: u16, days: i8) -> i16
 }
 
 // The number of days of the year.
-#[tactic(auto, using(crate::proofs::NextYearLemmas::lengths))]
+#[tactic(auto, using(crate::proofs::NextYearLemmas::year_lengths))]
 fn length_of_year(year: i32) -> i16
     ensures value { result ≡ pos (days_in_year year) }
     ensures low { pos 365 ≤ℤ result }

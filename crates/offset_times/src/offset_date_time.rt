@@ -103,7 +103,7 @@ impl OffsetDateTime {
     }
 
     /// The date and the time of day, without the offset.
-    #[tactic(auto, using(calendar_values::specs::WallClockLemmas::parts))]
+    #[tactic(auto, using(calendar_values::specs::WallClockLemmas::wall_clock_parts))]
     pub fn date_time(self) -> PlainDateTime
         ensures value { result ≡ self.wall }
         ensures self_in_range { IsLocal self }

@@ -24,7 +24,7 @@ pub with_time-first : (w : ℤ) → with_time w 0 ≡ wall_clock (wall_day w) 0
 unfolding with_time
 with_time-first w = refl
 
-pub ruleset fields = (wall_day-is, wall_time-is, first_wall_clock-is, last_wall_clock-is)
+pub ruleset wall_clock_fields = (wall_day-is, wall_time-is, first_wall_clock-is, last_wall_clock-is)
 
 pub ruleset truncations = (
   with_time-first,

@@ -78,4 +78,4 @@ pub AtTime-nanosecond : (old new : ℤ) (c n : ℕ) → n ≤ 999_999_999
 unfolding with_time wall_day wall_time
 AtTime-nanosecond old new c n low is e = omega (arith, signed_arith)
 
-pub ruleset times = (AtTime-hour, AtTime-minute, AtTime-second, AtTime-nanosecond)
+pub ruleset replaced_times = (AtTime-hour, AtTime-minute, AtTime-second, AtTime-nanosecond)

@@ -3,7 +3,7 @@ use Rattle.std.proofs.Common.{◌≡◌, ℕ, ◌<◌, ◌≤◌, Bool, true, fa
 use Rattle.std.specs.Prelude.{◌||◌}
 use Rattle.std.proofs.lemmas.Bool.Decides.{nat_tests}
 use Rattle.calendar_values.specs.Calendar.{is_leap_year, days_in_month}
-use Rattle.calendar_values.specs.Clock.{IsTimeOfDay}
+use Rattle.calendar_values.specs.Clock.{AreTimeParts}
 use Rattle.calendar_values.specs.Refusals.{IsDateOfRange}
 use Rattle.calendar_values.specs.SignedArith.{signed_casts}
 use Rattle.rfc3339.specs.declared.parts.Parts.{Parts}
@@ -50,16 +50,16 @@ IsDated-of p year month e f m d =
     let day = rw (e, f) at d.1 in
     record { month_first = m.0; month_last = m.1; day_first = day.0; day_last = day.1 }
 
-pub IsTimed-of : (p : Parts) → IsTimeOfDay p.hour p.minute p.second p.nanosecond → IsTimed p
+pub IsTimed-of : (p : Parts) → AreTimeParts p.hour p.minute p.second p.nanosecond → IsTimed p
 IsTimed-of p h = omega arith
 
 -- where nothing else is wrong with a time of day, the second is
-pub second-over : (hour minute second nanosecond : ℕ) → ¬ IsTimeOfDay hour minute second nanosecond → hour ≤ 23 → minute ≤ 59 → nanosecond ≤ 999_999_999
+pub second-over : (hour minute second nanosecond : ℕ) → ¬ AreTimeParts hour minute second nanosecond → hour ≤ 23 → minute ≤ 59 → nanosecond ≤ 999_999_999
     → 59 < second
 second-over hour minute second nanosecond not a b d = choose (nat_lt 59 second) refl where
   choose : (t : Bool) → nat_lt 59 second ≡ t → 59 < second
   choose true t = grind (arith, nat_tests)
-  choose false t = let low : second ≤ 59 = grind (arith, nat_tests) in let fits : IsTimeOfDay hour minute second nanosecond = omega arith in absurd (not fits)
+  choose false t = let low : second ≤ 59 = grind (arith, nat_tests) in let fits : AreTimeParts hour minute second nanosecond = omega arith in absurd (not fits)
 
 pub meaning-month : (p : Parts) → ¬ ((1 ≤ p.month) × (p.month ≤ 12)) → Err (OutOfRange Month) ≡ meaning p
 unfolding meaning

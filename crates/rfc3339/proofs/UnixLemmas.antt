@@ -2,4 +2,4 @@
 use Rattle.calendar_values.specs.SignedArith.{signed_casts}
 use Rattle.stamp_times.specs.TimestampLemmas.{instant_of_parts-of}
 
-pub ruleset magnitudes = (signed_casts, instant_of_parts-of)
+pub ruleset second_magnitudes = (signed_casts, instant_of_parts-of)

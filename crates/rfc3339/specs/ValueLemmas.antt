@@ -5,7 +5,7 @@ use Rattle.std.specs.Prelude.{codes, int_lt}
 use Rattle.std.proofs.lemmas.Bool.{eqb-true, cases_Bool}
 use Rattle.calendar_values.specs.SignedArith.{signed_arith, one_part}
 use Rattle.calendar_values.specs.Calendar.{is_leap_year, days_in_month, year_of, month_of, day_of_month_of}
-use Rattle.calendar_values.specs.ClockLemmas.{clock_of_parts-of, IsTimeOfDay-of}
+use Rattle.calendar_values.specs.ClockLemmas.{clock_of_parts-of, AreTimeParts-of}
 use Rattle.calendar_values.specs.CalendarDateLemmas.{IsCalendarDate-of, day_of_calendar_date-of, days_in_month_bounds}
 use Rattle.calendar_values.specs.WallClock.{wall_day, wall_time}
 use Rattle.calendar_values.specs.WallClockLemmas.{wall_clock-parts, IsClock-wall_time}
@@ -64,7 +64,7 @@ parts-in_range : (at : Local) → HasText at → AreInRange (parts_of at)
 parts-in_range at h =
     let day = wall_day at.wall in
     let date = IsCalendarDate-of day in
-    let time = IsTimeOfDay-of (wall_time at.wall) (IsClock-wall_time at.wall) in
+    let time = AreTimeParts-of (wall_time at.wall) (IsClock-wall_time at.wall) in
     let year = year_is (year_of day) h.year_first in
     let last = subst (λ (y : ℤ). day_of_month_of day ≤ days_in_month (is_leap_year y) (month_of day)) (sym year) date.day_last in
     omega arith

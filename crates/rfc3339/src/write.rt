@@ -1,7 +1,7 @@
 //! Texts written.
 ghost use Rattle.std.specs.Prelude.{◌≡◌, ◌≤◌, ◌<◌, ◌+◌, ◌++◌, codes, length, SomeIff, IfSome, pos};
 ghost use Rattle.calendar_values.specs.Digits.{last_digits, text_capacity};
-ghost use Rattle.calendar_values.specs.Offsets.{IsOffsetParts, seconds_of_parts};
+ghost use Rattle.calendar_values.specs.Offsets.{AreSignedOffsetParts, seconds_of_parts};
 ghost use Rattle.stamp_times.specs.Texts.{fraction_text};
 ghost use Rattle.rfc3339.specs.Texts.{HasText, time_offset_text, rfc3339_text, text_with, fraction_of_digits, fraction_with};
 
@@ -119,7 +119,7 @@ pub(crate) fn push_whole_fraction(text: &mut Text, nanosecond: u32)
 // Adds the offset of so many hours and minutes, of one sign.
 pub(crate) fn push_offset(text: &mut Text, hours: i8, minutes: i8)
     requires room { length text.old + 6 ≤ text_capacity }
-    requires parts { IsOffsetParts hours minutes (pos 0) }
+    requires parts { AreSignedOffsetParts hours minutes (pos 0) }
     ensures value { let o = seconds_of_parts hours minutes (pos 0) in
         text.new ≡ text.old ++ time_offset_text o }
     ensures length { length text.new ≤ length text.old + 6 }

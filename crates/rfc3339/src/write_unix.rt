@@ -25,7 +25,7 @@ pub fn to_unix_nanos(at: UtcDateTime) -> Text
 }
 
 // The whole seconds from 1970 or to it, and the nanoseconds that they leave.
-#[tactic(auto, using(crate::proofs::UnixLemmas::magnitudes))]
+#[tactic(auto, using(crate::proofs::UnixLemmas::second_magnitudes))]
 fn magnitude(at: UtcDateTime) -> (u64, u32)
     ensures seconds { result.0 ≡ unsigned_abs at / nanos_per_second }
     ensures nanoseconds { result.1 ≡ unsigned_abs at % nanos_per_second }

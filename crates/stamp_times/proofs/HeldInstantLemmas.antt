@@ -57,12 +57,12 @@ pub with_time-nanosecond : (i s : ℤ) (n m : ℕ) → n < nanos_per_second → 
 unfolding with_time wall_day wall_time
 with_time-nanosecond i s n m p e = omega (arith, signed_arith)
 
-pub ruleset fields = (unix_seconds_of-is, unix_nanosecond_of-is)
+pub ruleset unix_parts = (unix_seconds_of-is, unix_nanosecond_of-is)
 
-pub ruleset counts = (signed_casts, unix_milliseconds_of-is, unix_microseconds_of-is)
+pub ruleset unix_counts = (signed_casts, unix_milliseconds_of-is, unix_microseconds_of-is)
 
-pub ruleset days = (signed_casts, wall_day-second, wall_time-second, IsDay-wall_day)
+pub ruleset days_of_seconds = (signed_casts, wall_day-second, wall_time-second, IsDay-wall_day)
 
-pub ruleset weekdays = (signed_casts, weekday_of-Monday)
+pub ruleset weekdays_of_seconds = (signed_casts, weekday_of-Monday)
 
-pub ruleset nanoseconds = (signed_casts, with_time-nanosecond)
+pub ruleset replaced_nanoseconds = (signed_casts, with_time-nanosecond)

@@ -75,4 +75,4 @@ is_leap_year-step n h =
     let day = shifted_day n in
     rw (year_of-step n h) (is_leap_year-shift (step_year day) (years_of day) (step_year-is day) ∙ sym (leap_is day (IsShiftedDay-shifted_day n h)))
 
-pub ruleset steps = (years_of-bound, IsShiftedDay-shifted_day)
+pub ruleset shifted_years = (years_of-bound, IsShiftedDay-shifted_day)

@@ -17,9 +17,9 @@ use Rattle.stamp_times.specs.Texts.{fraction_text, seconds_text, timestamp_text}
 pub length-decimal-seconds : (s : ℕ) → s < 10 ^ 14 → length (decimal s) ≤ 14
 length-decimal-seconds s h = length-decimal-le 14 s (omega arith) (omega arith) (omega arith)
 
-pub ruleset magnitudes = (signed_casts, instant_of_parts-of)
+pub ruleset second_magnitudes = (signed_casts, instant_of_parts-of)
 
-pub ruleset lengths = (length-decimal-seconds)
+pub ruleset text_lengths = (length-decimal-seconds)
 
 -- no two lists are equal with one more element at the end, unless both are
 push-injective : (xs ys : List ℕ) (x y : ℕ) → xs ++ x ∷ [] ≡ ys ++ y ∷ [] → (xs ≡ ys) × (x ≡ y)

@@ -18,4 +18,4 @@ pub unix_nanosecond_of-parts : (s : ℤ) (n : ℕ) → n < nanos_per_second → 
 unfolding wall_time
 unix_nanosecond_of-parts s n p = omega (arith, signed_arith)
 
-pub ruleset parts = (ints, instant_of_parts-of)
+pub ruleset instant_parts = (ints, instant_of_parts-of)

@@ -64,7 +64,7 @@ fn whole_and_fraction(scaled: u64) -> (u32, u32)
 
 /// The year of a day, whether it is a leap year, and the day of the year, counted from 1 (Gregorian
 /// calendar). The day is counted from 1970-01-01, and must be one of the range: the days that [`Date`] has.
-#[tactic(auto, using(crate::proofs::ReciprocalLemmas::steps))]
+#[tactic(auto, using(crate::proofs::ReciprocalLemmas::shifted_years))]
 pub fn year_leap_ordinal(day: i32) -> (i32, bool, u16)
     requires { IsDay day }
     ensures year { result.0 ≡ year_of day }

@@ -171,7 +171,7 @@ impl Timestamp {
     }
 
     /// The Unix second: the whole seconds from 1970-01-01 0:00 UTC, rounded down.
-    #[tactic(auto, using(crate::proofs::HeldInstantLemmas::fields))]
+    #[tactic(auto, using(crate::proofs::HeldInstantLemmas::unix_parts))]
     pub fn as_seconds(self) -> i64
         ensures value { result ≡ unix_seconds_of self }
         ensures self_in_range { IsInstant self }
@@ -180,7 +180,7 @@ impl Timestamp {
     }
 
     /// The whole milliseconds from 1970-01-01 0:00 UTC, rounded down.
-    #[tactic(auto, using(crate::proofs::HeldInstantLemmas::counts))]
+    #[tactic(auto, using(crate::proofs::HeldInstantLemmas::unix_counts))]
     pub fn as_milliseconds(self) -> i64
         ensures value { result ≡ unix_milliseconds_of self }
         ensures self_in_range { IsInstant self }
@@ -189,7 +189,7 @@ impl Timestamp {
     }
 
     /// The whole microseconds from 1970-01-01 0:00 UTC, rounded down.
-    #[tactic(auto, using(crate::proofs::HeldInstantLemmas::counts))]
+    #[tactic(auto, using(crate::proofs::HeldInstantLemmas::unix_counts))]
     pub fn as_microseconds(self) -> i128
         ensures value { result ≡ unix_microseconds_of self }
         ensures self_in_range { IsInstant self }
@@ -198,7 +198,7 @@ impl Timestamp {
     }
 
     /// The nanoseconds from 1970-01-01 0:00 UTC.
-    #[tactic(auto, using(crate::proofs::HeldInstantLemmas::counts))]
+    #[tactic(auto, using(crate::proofs::HeldInstantLemmas::unix_counts))]
     pub fn as_nanoseconds(self) -> i128
         ensures value { result ≡ self }
         ensures self_in_range { IsInstant self }

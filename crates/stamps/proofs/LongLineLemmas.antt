@@ -113,7 +113,7 @@ within_is (Stop found) text count most e h = absurd cc
 pub count_within : (task : Task) (state : State) (line text : List ℕ) (count : ℕ) → Keep text count ≡ decision_of task state line → count ≤ length line
 count_within task state line text count e = within_is (decision_of task state line) text count (length line) e (decision_of-within task state line)
 
-pub ruleset counts = (count_within)
+pub ruleset line_counts = (count_within)
 
 -- ---- more bytes behind those of a stamp change nothing
 

@@ -54,6 +54,6 @@ pub unix_seconds_of-nanosecond : (w : ℤ) → unix_seconds_of w *ℤ pos nanos_
 unfolding wall_time
 unix_seconds_of-nanosecond w = omega (arith, signed_arith)
 
-pub ruleset days = (signed_casts, IsDay-wall_day)
+pub ruleset unix_days = (signed_casts, IsDay-wall_day)
 
 pub ruleset unix_seconds = (signed_casts, unix_seconds_of-parts, unix_seconds_of-nanosecond)

@@ -18,7 +18,7 @@ impl Date {
     ghost use Rattle.calendar_values.specs.Weeks.{thursday_of, iso_week_of, sunday_week_of, monday_week_of};
 
     /// The year, from that of [`Date::MIN`] to that of [`Date::MAX`].
-    #[tactic(auto, using(crate::proofs::DateLemmas::fields))]
+    #[tactic(auto, using(crate::proofs::DateLemmas::date_parts))]
     pub fn year(self) -> i32
         ensures value { result ≡ year_of self }
         ensures in_range { IsYear result }
@@ -43,7 +43,7 @@ impl Date {
     }
 
     /// The day of the year, 1 to 366.
-    #[tactic(auto, using(crate::proofs::DateLemmas::fields))]
+    #[tactic(auto, using(crate::proofs::DateLemmas::date_parts))]
     pub fn ordinal(self) -> u16
         ensures value { result ≡ ordinal_of self }
         ensures in_range { IsInRange 1 366 result }
@@ -160,7 +160,7 @@ impl Date {
 }
 
 // How many days a Julian day comes after a Monday: Julian day 0 is one.
-#[tactic(auto, using(crate::proofs::WeekNumberLemmas::weekdays))]
+#[tactic(auto, using(crate::proofs::WeekNumberLemmas::weekday_parts))]
 fn days_from_monday(julian_day: i32) -> u8
     ensures value { result ≡ weekday_of (julian_day -ℤ epoch_julian_day) }
     ensures in_range { result < 7 }

@@ -1,6 +1,6 @@
 //! What a time of day shows.
 ghost use Rattle.std.specs.Prelude.{◌≡◌, ◌+◌, ◌-◌, ◌*◌, ◌/◌, ◌<◌, ◌≤◌};
-ghost use Rattle.calendar_values.specs.Clock.{IsClock, IsTimeOfDay, nanos_per_second, nanos_per_millisecond, nanos_per_microsecond, hour_of};
+ghost use Rattle.calendar_values.specs.Clock.{IsClock, AreTimeParts, nanos_per_second, nanos_per_millisecond, nanos_per_microsecond, hour_of};
 ghost use Rattle.calendar_values.specs.Clock.{minute_of, second_of, millisecond_of, microsecond_of, nanosecond_of};
 
 use crate::Time;
@@ -10,7 +10,7 @@ impl Time {
     /// The hour, the minute and the second.
     pub fn as_hms(self) -> (u8, u8, u8)
         ensures value { result ≡ (hour_of self, minute_of self, second_of self) }
-        ensures in_range { IsTimeOfDay result.0 result.1 result.2 0 }
+        ensures in_range { AreTimeParts result.0 result.1 result.2 0 }
     {
         (self.hour, self.minute, self.second)
     }
@@ -23,7 +23,7 @@ impl Time {
           second_of self,
           millisecond_of self,
         ) }
-        ensures in_range { IsTimeOfDay result.0 result.1 result.2
+        ensures in_range { AreTimeParts result.0 result.1 result.2
             (result.3 * nanos_per_millisecond) }
     {
         (self.hour, self.minute, self.second, self.millisecond())
@@ -37,7 +37,7 @@ impl Time {
           second_of self,
           microsecond_of self,
         ) }
-        ensures in_range { IsTimeOfDay result.0 result.1 result.2
+        ensures in_range { AreTimeParts result.0 result.1 result.2
             (result.3 * nanos_per_microsecond) }
     {
         (self.hour, self.minute, self.second, self.microsecond())
@@ -51,7 +51,7 @@ impl Time {
           second_of self,
           nanosecond_of self,
         ) }
-        ensures in_range { IsTimeOfDay result.0 result.1 result.2 result.3 }
+        ensures in_range { AreTimeParts result.0 result.1 result.2 result.3 }
     {
         (self.hour, self.minute, self.second, self.nanosecond)
     }

@@ -1,7 +1,7 @@
 //! Times of day with a part replaced, or truncated to a unit of time.
 ghost use Rattle.std.specs.Prelude.{◌≡◌, ◌+◌, ◌-◌, ◌*◌, ◌/◌, ◌%◌, ◌<◌, ◌≤◌, IfOk};
 ghost use Rattle.calendar_values.specs.Clock.{nanos_per_hour, nanos_per_minute, nanos_per_second, nanos_per_millisecond, nanos_per_microsecond};
-ghost use Rattle.calendar_values.specs.Clock.{hour_of, minute_of, second_of, nanosecond_of, Shows};
+ghost use Rattle.calendar_values.specs.Clock.{hour_of, minute_of, second_of, nanosecond_of, HasTimeParts};
 ghost use Rattle.calendar_values.specs.Outcomes.{Gives};
 ghost use Rattle.calendar_values.specs.Replacements.{hour_outcome, minute_outcome, second_outcome, millisecond_outcome, microsecond_outcome};
 ghost use Rattle.calendar_values.specs.Replacements.{nanosecond_outcome};
@@ -14,7 +14,7 @@ impl Time {
     pub fn replace_hour(self, hour: u8) -> Result<Time, ComponentRange>
         ensures value { Gives result (hour_outcome self hour) }
         ensures shown { IfOk result (λ time.
-            Shows time hour (minute_of self) (second_of self) (nanosecond_of self)) }
+            HasTimeParts time hour (minute_of self) (second_of self) (nanosecond_of self)) }
     {
         if hour <= 23 {
             Ok(Time { hour, ..self })
@@ -41,7 +41,7 @@ impl Time {
     pub fn replace_minute(self, minute: u8) -> Result<Time, ComponentRange>
         ensures value { Gives result (minute_outcome self minute) }
         ensures shown { IfOk result (λ time.
-            Shows time (hour_of self) minute (second_of self) (nanosecond_of self)) }
+            HasTimeParts time (hour_of self) minute (second_of self) (nanosecond_of self)) }
     {
         if minute <= 59 {
             Ok(Time { minute, ..self })
@@ -67,7 +67,7 @@ impl Time {
     pub fn replace_second(self, second: u8) -> Result<Time, ComponentRange>
         ensures value { Gives result (second_outcome self second) }
         ensures shown { IfOk result (λ time.
-            Shows time (hour_of self) (minute_of self) second (nanosecond_of self)) }
+            HasTimeParts time (hour_of self) (minute_of self) second (nanosecond_of self)) }
     {
         if second <= 59 {
             Ok(Time { second, ..self })
@@ -93,7 +93,7 @@ impl Time {
     pub fn replace_millisecond(self, millisecond: u16) -> Result<Time, ComponentRange>
         ensures value { Gives result (millisecond_outcome self millisecond) }
         ensures shown { IfOk result (λ time.
-            Shows time (hour_of self) (minute_of self) (second_of self)
+            HasTimeParts time (hour_of self) (minute_of self) (second_of self)
             (millisecond * nanos_per_millisecond)) }
     {
         if millisecond <= 999 {
@@ -123,7 +123,7 @@ impl Time {
     pub fn replace_microsecond(self, microsecond: u32) -> Result<Time, ComponentRange>
         ensures value { Gives result (microsecond_outcome self microsecond) }
         ensures shown { IfOk result (λ time.
-            Shows time (hour_of self) (minute_of self) (second_of self)
+            HasTimeParts time (hour_of self) (minute_of self) (second_of self)
             (microsecond * nanos_per_microsecond)) }
     {
         if microsecond <= 999_999 {
@@ -152,7 +152,7 @@ impl Time {
     pub fn replace_nanosecond(self, nanosecond: u32) -> Result<Time, ComponentRange>
         ensures value { Gives result (nanosecond_outcome self nanosecond) }
         ensures shown { IfOk result (λ time.
-            Shows time (hour_of self) (minute_of self) (second_of self) nanosecond) }
+            HasTimeParts time (hour_of self) (minute_of self) (second_of self) nanosecond) }
     {
         if nanosecond <= 999_999_999 {
             Ok(Time { nanosecond, ..self })

@@ -1,7 +1,7 @@
 //! Sums of a time of day and a duration.
 ghost use Rattle.std.specs.Prelude.{◌≡◌, ◌+◌, ◌-◌, ◌*◌, ◌/◌, ◌%◌, ◌<◌, ◌==◌, ℤ, pos, neg_ℤ, ◌+ℤ◌, ◌-ℤ◌, ◌<ℤ◌};
 ghost use Rattle.std.specs.Duration.{as_nanos};
-ghost use Rattle.calendar_values.specs.Adjustments.{adjustment_days, days_later, days_earlier, subday_nanoseconds_of};
+ghost use Rattle.calendar_values.specs.Adjustments.{adjustment_days, days_if_next, days_if_previous, subday_nanoseconds_of};
 ghost use Rattle.calendar_values.specs.Clock.{IsClock, nanos_per_day};
 ghost use Rattle.calendar_values.specs.Durations.{duration_of_parts};
 ghost use Rattle.calendar_values.specs.WallClock.{wall_clock};
@@ -33,7 +33,7 @@ impl Time {
 
     /// The time after a duration whose whole days are left out, and whether it is on the next day.
     pub fn adjusting_add_std(self, duration: Duration) -> (bool, Time)
-        ensures sum { wall_clock (days_later result.0) result.1 ≡ pos self +ℤ
+        ensures sum { wall_clock (days_if_next result.0) result.1 ≡ pos self +ℤ
             pos (as_nanos duration % nanos_per_day) }
         ensures in_range { IsClock result.1 }
     {
@@ -43,7 +43,7 @@ impl Time {
 
     /// The time before a duration whose whole days are left out, and whether it is on the day before.
     pub fn adjusting_sub_std(self, duration: Duration) -> (bool, Time)
-        ensures difference { wall_clock (days_earlier result.0) result.1 ≡ pos self -ℤ
+        ensures difference { wall_clock (days_if_previous result.0) result.1 ≡ pos self -ℤ
             pos (as_nanos duration % nanos_per_day) }
         ensures in_range { IsClock result.1 }
     {

@@ -1,6 +1,6 @@
 //! What an offset shows.
 ghost use Rattle.std.specs.Prelude.{◌≡◌, ℤ, pos, unsigned_abs, ◌+◌, ◌<◌, ◌≤◌, ◌↔◌, IsTrue, ◌+ℤ◌, ◌*ℤ◌, ◌<ℤ◌};
-ghost use Rattle.calendar_values.specs.Offsets.{IsOffset, IsOffsetParts, seconds_of_parts, offset_hours_of, offset_minutes_of, offset_seconds_of};
+ghost use Rattle.calendar_values.specs.Offsets.{IsOffset, AreSignedOffsetParts, seconds_of_parts, offset_hours_of, offset_minutes_of, offset_seconds_of};
 
 use crate::UtcOffset;
 
@@ -10,7 +10,7 @@ impl UtcOffset {
         ensures hours { result.0 ≡ offset_hours_of self }
         ensures minutes { result.1 ≡ offset_minutes_of self }
         ensures seconds { result.2 ≡ offset_seconds_of self }
-        ensures in_range { IsOffsetParts result.0 result.1 result.2 }
+        ensures in_range { AreSignedOffsetParts result.0 result.1 result.2 }
         ensures parts { seconds_of_parts result.0 result.1 result.2 ≡ self }
     {
         (self.hours, self.minutes, self.seconds)

@@ -11,7 +11,7 @@ ghost use Rattle.plain_times.specs.Packed.{IsParts, packed_wall_clock, wall_cloc
 use crate::OffsetDateTime;
 use crate::carries::{to_offset_raw, to_utc_raw};
 use calendar_values::UtcOffset;
-use plain_times::packed;
+use plain_times::packed_number;
 use std::cmp::Ordering;
 use std::hash::{Hash, Hasher};
 
@@ -83,7 +83,7 @@ impl OffsetDateTime {
         ensures { result ≡ packed_wall_clock (instant_of self) }
     {
         let (year, ordinal, time) = to_utc_raw(self);
-        packed(year, ordinal, time)
+        packed_number(year, ordinal, time)
     }
 
     // The days from the other date to this one, as if each year had 366.

@@ -25,13 +25,13 @@ impl PlainDateTime {
         ensures { result ≡ packed_wall_clock self }
     {
         let (year, ordinal) = self.date().to_ordinal_date();
-        packed(year, ordinal, self.time())
+        packed_number(year, ordinal, self.time())
     }
 }
 
 /// The year, the day of the year and the time of day in one number: of two dates of the calendar that of the
 /// earlier wall clock is less.
-pub fn packed(year: i32, ordinal: u16, time: Time) -> i128
+pub fn packed_number(year: i32, ordinal: u16, time: Time) -> i128
     ensures { result ≡ packed_parts year ordinal time }
 {
     let nanosecond = time.nanosecond_of_day();

@@ -2,7 +2,7 @@
 ghost use Rattle.std.specs.Prelude.{◌≡◌, ◌≤◌, ◌*◌};
 ghost use Rattle.std.specs.Int.{IsInRange};
 ghost use Rattle.calendar_values.specs.Calendar.{year_of, month_of, day_of_month_of, ordinal_of, julian_day_of};
-ghost use Rattle.calendar_values.specs.Clock.{IsTimeOfDay, nanos_per_millisecond, nanos_per_microsecond, hour_of, minute_of, second_of};
+ghost use Rattle.calendar_values.specs.Clock.{AreTimeParts, nanos_per_millisecond, nanos_per_microsecond, hour_of, minute_of, second_of};
 ghost use Rattle.calendar_values.specs.Clock.{millisecond_of, microsecond_of, nanosecond_of};
 ghost use Rattle.calendar_values.specs.Dates.{IsCalendarDateOf, IsOrdinalDateOf, IsIsoWeekDateOf};
 ghost use Rattle.calendar_values.specs.Month.{month_number};
@@ -16,7 +16,7 @@ use calendar_values::{Date, Month, Time, Weekday};
 
 impl PlainDateTime {
     /// The date.
-    #[tactic(auto, using(crate::proofs::DateAndTimeLemmas::fields))]
+    #[tactic(auto, using(crate::proofs::DateAndTimeLemmas::wall_clock_fields))]
     pub fn date(self) -> Date
         ensures value { result ≡ wall_day self }
         ensures self_in_range { IsWallClock self }
@@ -25,7 +25,7 @@ impl PlainDateTime {
     }
 
     /// The time of day.
-    #[tactic(auto, using(crate::proofs::DateAndTimeLemmas::fields))]
+    #[tactic(auto, using(crate::proofs::DateAndTimeLemmas::wall_clock_fields))]
     pub fn time(self) -> Time
         ensures value { result ≡ wall_time self }
         ensures self_in_range { IsWallClock self }
@@ -127,7 +127,7 @@ impl PlainDateTime {
     /// As [`Time::as_hms`] of the time of day.
     pub fn as_hms(self) -> (u8, u8, u8)
         ensures value { let c = wall_time self in result ≡ (hour_of c, minute_of c, second_of c) }
-        ensures in_range { IsTimeOfDay result.0 result.1 result.2 0 }
+        ensures in_range { AreTimeParts result.0 result.1 result.2 0 }
     {
         self.time().as_hms()
     }
@@ -136,7 +136,7 @@ impl PlainDateTime {
     pub fn as_hms_milli(self) -> (u8, u8, u8, u16)
         ensures value { let c = wall_time self in
             result ≡ (hour_of c, minute_of c, second_of c, millisecond_of c) }
-        ensures in_range { IsTimeOfDay result.0 result.1 result.2
+        ensures in_range { AreTimeParts result.0 result.1 result.2
             (result.3 * nanos_per_millisecond) }
     {
         self.time().as_hms_milli()
@@ -146,7 +146,7 @@ impl PlainDateTime {
     pub fn as_hms_micro(self) -> (u8, u8, u8, u32)
         ensures value { let c = wall_time self in
             result ≡ (hour_of c, minute_of c, second_of c, microsecond_of c) }
-        ensures in_range { IsTimeOfDay result.0 result.1 result.2
+        ensures in_range { AreTimeParts result.0 result.1 result.2
             (result.3 * nanos_per_microsecond) }
     {
         self.time().as_hms_micro()
@@ -156,7 +156,7 @@ impl PlainDateTime {
     pub fn as_hms_nano(self) -> (u8, u8, u8, u32)
         ensures value { let c = wall_time self in
             result ≡ (hour_of c, minute_of c, second_of c, nanosecond_of c) }
-        ensures in_range { IsTimeOfDay result.0 result.1 result.2 result.3 }
+        ensures in_range { AreTimeParts result.0 result.1 result.2 result.3 }
     {
         self.time().as_hms_nano()
     }

@@ -75,7 +75,7 @@ impl PlainDateTime {
     }
 
     /// As [`Time::replace_hour`] of the time of day, with the date kept.
-    #[tactic(auto, using(crate::specs::ReplacementLemmas::times))]
+    #[tactic(auto, using(crate::specs::ReplacementLemmas::replaced_times))]
     pub fn replace_hour(self, hour: u8) -> Result<PlainDateTime, ComponentRange>
         ensures value { Gives result (wall_hour_outcome self hour) }
         ensures shown { IfOk result (ShowsHour self hour) }
@@ -92,7 +92,7 @@ impl PlainDateTime {
     }
 
     /// As [`Time::replace_minute`] of the time of day, with the date kept.
-    #[tactic(auto, using(crate::specs::ReplacementLemmas::times))]
+    #[tactic(auto, using(crate::specs::ReplacementLemmas::replaced_times))]
     pub fn replace_minute(self, minute: u8) -> Result<PlainDateTime, ComponentRange>
         ensures value { Gives result (wall_minute_outcome self minute) }
         ensures shown { IfOk result (ShowsMinute self minute) }
@@ -109,7 +109,7 @@ impl PlainDateTime {
     }
 
     /// As [`Time::replace_second`] of the time of day, with the date kept.
-    #[tactic(auto, using(crate::specs::ReplacementLemmas::times))]
+    #[tactic(auto, using(crate::specs::ReplacementLemmas::replaced_times))]
     pub fn replace_second(self, second: u8) -> Result<PlainDateTime, ComponentRange>
         ensures value { Gives result (wall_second_outcome self second) }
         ensures shown { IfOk result (ShowsSecond self second) }
@@ -126,7 +126,7 @@ impl PlainDateTime {
     }
 
     /// As [`Time::replace_millisecond`] of the time of day, with the date kept.
-    #[tactic(auto, using(crate::specs::ReplacementLemmas::times))]
+    #[tactic(auto, using(crate::specs::ReplacementLemmas::replaced_times))]
     pub fn replace_millisecond(self, millisecond: u16) -> Result<PlainDateTime, ComponentRange>
         ensures value { Gives result (wall_millisecond_outcome self millisecond) }
         ensures shown { IfOk result (ShowsMillisecond self millisecond) }
@@ -143,7 +143,7 @@ impl PlainDateTime {
     }
 
     /// As [`Time::replace_microsecond`] of the time of day, with the date kept.
-    #[tactic(auto, using(crate::specs::ReplacementLemmas::times))]
+    #[tactic(auto, using(crate::specs::ReplacementLemmas::replaced_times))]
     pub fn replace_microsecond(self, microsecond: u32) -> Result<PlainDateTime, ComponentRange>
         ensures value { Gives result (wall_microsecond_outcome self microsecond) }
         ensures shown { IfOk result (ShowsMicrosecond self microsecond) }
@@ -160,7 +160,7 @@ impl PlainDateTime {
     }
 
     /// As [`Time::replace_nanosecond`] of the time of day, with the date kept.
-    #[tactic(auto, using(crate::specs::ReplacementLemmas::times))]
+    #[tactic(auto, using(crate::specs::ReplacementLemmas::replaced_times))]
     pub fn replace_nanosecond(self, nanosecond: u32) -> Result<PlainDateTime, ComponentRange>
         ensures value { Gives result (wall_nanosecond_outcome self nanosecond) }
         ensures shown { IfOk result (ShowsNanosecond self nanosecond) }

@@ -1,7 +1,7 @@
 //! Dates with a time of day.
 use super::is;
 use calendar_values::{ComponentRange, Date, Month, SignedDuration, Time, Weekday};
-use plain_times::{PlainDateTime, constants, laws, packed};
+use plain_times::{PlainDateTime, constants, laws, packed_number};
 use std::hash::{DefaultHasher, Hash, Hasher};
 use std::test::Fail;
 use std::time::Duration;
@@ -249,7 +249,7 @@ fn packed_numbers(rt: HostRuntime) -> Result<(), Fail> {
     ] {
         is(
             &rt,
-            packed(shown.year(), shown.ordinal(), shown.time()),
+            packed_number(shown.year(), shown.ordinal(), shown.time()),
             number,
         );
     }

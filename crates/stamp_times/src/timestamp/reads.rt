@@ -2,7 +2,7 @@
 ghost use Rattle.std.specs.Prelude.{◌≡◌, ◌<◌, ◌≤◌, ◌/◌, ◌*◌, ◌+ℤ◌};
 ghost use Rattle.std.specs.Int.{IsInRange};
 ghost use Rattle.calendar_values.specs.Calendar.{year_of, month_of, day_of_month_of, ordinal_of, julian_day_of};
-ghost use Rattle.calendar_values.specs.Clock.{IsTimeOfDay, nanos_per_second, nanos_per_millisecond, nanos_per_microsecond, hour_of, minute_of};
+ghost use Rattle.calendar_values.specs.Clock.{AreTimeParts, nanos_per_second, nanos_per_millisecond, nanos_per_microsecond, hour_of, minute_of};
 ghost use Rattle.calendar_values.specs.Clock.{second_of, millisecond_of, microsecond_of, nanosecond_of};
 ghost use Rattle.calendar_values.specs.Dates.{IsCalendarDateOf, IsOrdinalDateOf, IsIsoWeekDateOf};
 ghost use Rattle.calendar_values.specs.Month.{month_number};
@@ -21,7 +21,7 @@ const DAYS_FROM_MONDAY: i32 = 365_961_669;
 
 impl Timestamp {
     // The day number of the date.
-    #[tactic(auto, using(crate::proofs::HeldInstantLemmas::days))]
+    #[tactic(auto, using(crate::proofs::HeldInstantLemmas::days_of_seconds))]
     pub(crate) fn day_number(self) -> i32
         ensures value { result ≡ wall_day self }
         ensures in_range { IsDay result }
@@ -30,7 +30,7 @@ impl Timestamp {
     }
 
     // The second of the day.
-    #[tactic(auto, using(crate::proofs::HeldInstantLemmas::days))]
+    #[tactic(auto, using(crate::proofs::HeldInstantLemmas::days_of_seconds))]
     pub(crate) fn second_of_day(self) -> u32
         ensures value { result ≡ wall_time self / nanos_per_second }
         ensures in_range { result < 86_400 }
@@ -144,7 +144,7 @@ impl Timestamp {
     }
 
     // How many days the date comes after a Monday.
-    #[tactic(auto, using(crate::proofs::HeldInstantLemmas::weekdays))]
+    #[tactic(auto, using(crate::proofs::HeldInstantLemmas::weekdays_of_seconds))]
     fn days_from_monday(self) -> u8
         ensures value { result ≡ weekday_of (wall_day self) }
         ensures in_range { result < 7 }
@@ -163,7 +163,7 @@ impl Timestamp {
     /// As [`Time::as_hms`], of the time of day in UTC.
     pub fn as_hms(self) -> (u8, u8, u8)
         ensures value { let c = wall_time self in result ≡ (hour_of c, minute_of c, second_of c) }
-        ensures in_range { IsTimeOfDay result.0 result.1 result.2 0 }
+        ensures in_range { AreTimeParts result.0 result.1 result.2 0 }
     {
         self.time().as_hms()
     }
@@ -172,7 +172,7 @@ impl Timestamp {
     pub fn as_hms_milli(self) -> (u8, u8, u8, u16)
         ensures value { let c = wall_time self in
             result ≡ (hour_of c, minute_of c, second_of c, millisecond_of c) }
-        ensures in_range { IsTimeOfDay result.0 result.1 result.2
+        ensures in_range { AreTimeParts result.0 result.1 result.2
             (result.3 * nanos_per_millisecond) }
     {
         let (hour, minute, second) = self.as_hms();
@@ -183,7 +183,7 @@ impl Timestamp {
     pub fn as_hms_micro(self) -> (u8, u8, u8, u32)
         ensures value { let c = wall_time self in
             result ≡ (hour_of c, minute_of c, second_of c, microsecond_of c) }
-        ensures in_range { IsTimeOfDay result.0 result.1 result.2
+        ensures in_range { AreTimeParts result.0 result.1 result.2
             (result.3 * nanos_per_microsecond) }
     {
         let (hour, minute, second) = self.as_hms();
@@ -194,7 +194,7 @@ impl Timestamp {
     pub fn as_hms_nano(self) -> (u8, u8, u8, u32)
         ensures value { let c = wall_time self in
             result ≡ (hour_of c, minute_of c, second_of c, nanosecond_of c) }
-        ensures in_range { IsTimeOfDay result.0 result.1 result.2 result.3 }
+        ensures in_range { AreTimeParts result.0 result.1 result.2 result.3 }
     {
         let (hour, minute, second) = self.as_hms();
         (hour, minute, second, self.nanosecond())
@@ -241,7 +241,7 @@ impl Timestamp {
     }
 
     /// As [`Time::nanosecond`], of the time of day in UTC.
-    #[tactic(auto, using(crate::proofs::HeldInstantLemmas::fields))]
+    #[tactic(auto, using(crate::proofs::HeldInstantLemmas::unix_parts))]
     pub fn nanosecond(self) -> u32
         ensures value { result ≡ nanosecond_of (wall_time self) }
         ensures in_range { result ≤ 999_999_999 }

@@ -69,7 +69,7 @@ impl Timestamp {
     }
 
     /// As [`Time::replace_hour`], of the time of day in UTC, with the date kept.
-    #[tactic(auto, using(plain_times::specs::ReplacementLemmas::times))]
+    #[tactic(auto, using(plain_times::specs::ReplacementLemmas::replaced_times))]
     pub fn replace_hour(self, hour: u8) -> Result<Timestamp, ComponentRange>
         ensures value { Gives result (wall_hour_outcome self hour) }
         ensures shown { IfOk result (ShowsHour self hour) }
@@ -78,7 +78,7 @@ impl Timestamp {
     }
 
     /// As [`Time::replace_minute`], of the time of day in UTC, with the date kept.
-    #[tactic(auto, using(plain_times::specs::ReplacementLemmas::times))]
+    #[tactic(auto, using(plain_times::specs::ReplacementLemmas::replaced_times))]
     pub fn replace_minute(self, minute: u8) -> Result<Timestamp, ComponentRange>
         ensures value { Gives result (wall_minute_outcome self minute) }
         ensures shown { IfOk result (ShowsMinute self minute) }
@@ -87,7 +87,7 @@ impl Timestamp {
     }
 
     /// As [`Time::replace_second`], of the time of day in UTC, with the date kept.
-    #[tactic(auto, using(plain_times::specs::ReplacementLemmas::times))]
+    #[tactic(auto, using(plain_times::specs::ReplacementLemmas::replaced_times))]
     pub fn replace_second(self, second: u8) -> Result<Timestamp, ComponentRange>
         ensures value { Gives result (wall_second_outcome self second) }
         ensures shown { IfOk result (ShowsSecond self second) }
@@ -132,7 +132,7 @@ impl Timestamp {
     }
 
     // The same second with another nanosecond.
-    #[tactic(auto, using(crate::proofs::HeldInstantLemmas::nanoseconds))]
+    #[tactic(auto, using(crate::proofs::HeldInstantLemmas::replaced_nanoseconds))]
     fn with_nanosecond(self, nanosecond: u32) -> Timestamp
         requires { nanosecond < nanos_per_second }
         ensures { let c = wall_time self in result ≡
@@ -143,7 +143,7 @@ impl Timestamp {
 }
 
 // The instant of a day, a second of the day and a nanosecond of the second.
-#[tactic(auto, using(crate::proofs::HeldInstantLemmas::counts))]
+#[tactic(auto, using(crate::proofs::HeldInstantLemmas::unix_counts))]
 fn instant_on_day(day: i32, second: u32, nanosecond: u32) -> Timestamp
     requires day { IsDay day }
     requires second { second < 86_400 }

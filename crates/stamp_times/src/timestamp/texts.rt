@@ -37,7 +37,7 @@ impl Timestamp {
     }
 
     // The whole seconds from 1970 or to it, and the nanoseconds that they leave.
-    #[tactic(auto, using(crate::proofs::TimestampTextLemmas::magnitudes))]
+    #[tactic(auto, using(crate::proofs::TimestampTextLemmas::second_magnitudes))]
     fn magnitude(self) -> (u64, u32)
         ensures seconds { result.0 ≡ unsigned_abs self / nanos_per_second }
         ensures nanoseconds { result.1 ≡ unsigned_abs self % nanos_per_second }
@@ -56,7 +56,7 @@ impl Timestamp {
 }
 
 // Adds seconds and nanoseconds of a second as a decimal of seconds.
-#[tactic(auto, using(crate::proofs::TimestampTextLemmas::lengths), unfolding(crate::specs::Texts::seconds_text, crate::specs::Texts::fraction_text))]
+#[tactic(auto, using(crate::proofs::TimestampTextLemmas::text_lengths), unfolding(crate::specs::Texts::seconds_text, crate::specs::Texts::fraction_text))]
 fn push_seconds(text: &mut Text, seconds: u64, nanoseconds: u32)
     requires seconds { seconds < 10 ^ 14 }
     requires nanoseconds { nanoseconds < nanos_per_second }

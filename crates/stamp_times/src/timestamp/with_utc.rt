@@ -10,7 +10,7 @@ use utc_times::UtcDateTime;
 
 impl Timestamp {
     /// The same instant as a date with a time of day in UTC.
-    #[tactic(auto, using(calendar_values::specs::WallClockLemmas::parts))]
+    #[tactic(auto, using(calendar_values::specs::WallClockLemmas::wall_clock_parts))]
     pub fn to_utc(self) -> UtcDateTime
         ensures { result ≡ self }
     {
@@ -35,7 +35,7 @@ impl Timestamp {
 impl From<UtcDateTime> for Timestamp {
     ghost from_gives = { λ at stamp. stamp ≡ at };
 
-    #[tactic(auto, using(crate::specs::TimestampLemmas::parts))]
+    #[tactic(auto, using(crate::specs::TimestampLemmas::instant_parts))]
     fn from(at: UtcDateTime) -> Timestamp {
         Timestamp {
             seconds: at.unix_timestamp(),

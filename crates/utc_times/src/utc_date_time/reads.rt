@@ -2,7 +2,7 @@
 ghost use Rattle.std.specs.Prelude.{◌≡◌, ◌≤◌, ◌*◌};
 ghost use Rattle.std.specs.Int.{IsInRange};
 ghost use Rattle.calendar_values.specs.Calendar.{year_of, month_of, day_of_month_of, ordinal_of, julian_day_of};
-ghost use Rattle.calendar_values.specs.Clock.{IsTimeOfDay, nanos_per_millisecond, nanos_per_microsecond, hour_of, minute_of, second_of};
+ghost use Rattle.calendar_values.specs.Clock.{AreTimeParts, nanos_per_millisecond, nanos_per_microsecond, hour_of, minute_of, second_of};
 ghost use Rattle.calendar_values.specs.Clock.{millisecond_of, microsecond_of, nanosecond_of};
 ghost use Rattle.calendar_values.specs.Dates.{IsCalendarDateOf, IsOrdinalDateOf, IsIsoWeekDateOf};
 ghost use Rattle.calendar_values.specs.Month.{month_number};
@@ -125,7 +125,7 @@ impl UtcDateTime {
     /// As [`Time::as_hms`], of the time of day in UTC.
     pub fn as_hms(self) -> (u8, u8, u8)
         ensures value { let c = wall_time self in result ≡ (hour_of c, minute_of c, second_of c) }
-        ensures in_range { IsTimeOfDay result.0 result.1 result.2 0 }
+        ensures in_range { AreTimeParts result.0 result.1 result.2 0 }
     {
         self.as_plain().as_hms()
     }
@@ -134,7 +134,7 @@ impl UtcDateTime {
     pub fn as_hms_milli(self) -> (u8, u8, u8, u16)
         ensures value { let c = wall_time self in
             result ≡ (hour_of c, minute_of c, second_of c, millisecond_of c) }
-        ensures in_range { IsTimeOfDay result.0 result.1 result.2
+        ensures in_range { AreTimeParts result.0 result.1 result.2
             (result.3 * nanos_per_millisecond) }
     {
         self.as_plain().as_hms_milli()
@@ -144,7 +144,7 @@ impl UtcDateTime {
     pub fn as_hms_micro(self) -> (u8, u8, u8, u32)
         ensures value { let c = wall_time self in
             result ≡ (hour_of c, minute_of c, second_of c, microsecond_of c) }
-        ensures in_range { IsTimeOfDay result.0 result.1 result.2
+        ensures in_range { AreTimeParts result.0 result.1 result.2
             (result.3 * nanos_per_microsecond) }
     {
         self.as_plain().as_hms_micro()
@@ -154,7 +154,7 @@ impl UtcDateTime {
     pub fn as_hms_nano(self) -> (u8, u8, u8, u32)
         ensures value { let c = wall_time self in
             result ≡ (hour_of c, minute_of c, second_of c, nanosecond_of c) }
-        ensures in_range { IsTimeOfDay result.0 result.1 result.2 result.3 }
+        ensures in_range { AreTimeParts result.0 result.1 result.2 result.3 }
     {
         self.as_plain().as_hms_nano()
     }

@@ -1,5 +1,5 @@
 use Rattle.std.proofs.Common.{◌≡◌, ◌↔◌, ℕ, ℤ, Result, Ok}
-use Rattle.calendar_values.specs.Clock.{Shows}
+use Rattle.calendar_values.specs.Clock.{HasTimeParts}
 use Rattle.calendar_values.specs.Outcomes.{answer_within}
 use Rattle.calendar_values.specs.Refusals.{Refusal}
 use Rattle.calendar_values.specs.ClockReplacementLemmas.{millisecond_of-exact, microsecond_of-exact}
@@ -10,8 +10,8 @@ use Rattle.plain_times.specs.Replacements.{with_time}
 use Rattle.plain_times.proofs.laws.replaced_parts_read_as_given.Goals as goal
 
 -- the clock of an accepted replacement is the one that the replaced wall clock shows
-shown : (w v : ℤ) (r : Result ℕ Refusal) (h m s n : ℕ) → ((c : ℕ) → (r ≡ Ok c) ↔ Shows c h m s n) → answer_within (with_time w) r ≡ Ok v
-    → Shows (wall_time v) h m s n
+shown : (w v : ℤ) (r : Result ℕ Refusal) (h m s n : ℕ) → ((c : ℕ) → (r ≡ Ok c) ↔ HasTimeParts c h m s n) → answer_within (with_time w) r ≡ Ok v
+    → HasTimeParts (wall_time v) h m s n
 shown w v r h m s n law e = (law (wall_time v)).0 (wall_time-accepted w v r (λ c is. ((law c).0 is).clock) e)
 
 pub returns : goal.returns

@@ -3,7 +3,7 @@ use Rattle.std.proofs.lemmas.Int.{ints}
 use Rattle.std.specs.Duration.{as_nanos}
 use denote.Enum.Bare.{sameb}
 use Rattle.calendar_values.specs.contracts.date_adjustment.DateAdjustment.{the_type}
-use Rattle.calendar_values.specs.Adjustments.{adjustment_days, days_earlier}
+use Rattle.calendar_values.specs.Adjustments.{adjustment_days, days_if_previous}
 use Rattle.calendar_values.specs.Clock.{IsClock, nanos_per_day}
 use Rattle.calendar_values.specs.WallClock.{wall_clock}
 use Rattle.calendar_values.specs.declared.date_adjustment.DateAdjustment.{DateAdjustment}
@@ -12,7 +12,7 @@ use Rattle.calendar_values.proofs.time.Time.adjusting_sub_std.Goals as goal
 
 -- an earlier time is not on the next day
 earlier : (adjustment : DateAdjustment) (changes : Bool) (c d t : ℕ) → changes ≡ sameb the_type adjustment Previous →
-    wall_clock (adjustment_days adjustment) t ≡ pos c -ℤ pos d → IsClock c → wall_clock (days_earlier changes) t ≡ pos c -ℤ pos d
+    wall_clock (adjustment_days adjustment) t ≡ pos c -ℤ pos d → IsClock c → wall_clock (days_if_previous changes) t ≡ pos c -ℤ pos d
 earlier Previous changes c d t is sum clock = rw is sum
 earlier Same changes c d t is sum clock = rw is sum
 earlier Next changes c d t is sum clock = absurd (omega (arith, ints))

@@ -5,7 +5,7 @@ use Rattle.calendar_values.specs.Offsets.{offset_of_parts, offset_outcome, secon
 use Rattle.calendar_values.specs.Outcomes.{Gives}
 use Rattle.calendar_values.specs.Range.{is_outside}
 use Rattle.calendar_values.specs.Refusals.{outright_refusal}
-use Rattle.calendar_values.proofs.OffsetLemmas.{IsOffsetParts-with_sign_of, unsigned_abs-with_sign_of}
+use Rattle.calendar_values.proofs.OffsetLemmas.{AreSignedOffsetParts-with_sign_of, unsigned_abs-with_sign_of}
 use Rattle.calendar_values.proofs.utc_offset.UtcOffset.from_hms.Goals as goal
 
 outside-true : (limit : ℕ) (z : ℤ) → limit < unsigned_abs z → is_outside (neg_ℤ (pos limit)) (pos limit) z ≡ true
@@ -91,7 +91,7 @@ invariant_of-result c =
     let a = simp to_z-of_z at c.unsigned_abs.ensures.value in
     let b = simp to_z-of_z at c.unsigned_abs-2.ensures.value in
     let d = simp to_z-of_z at c.unsigned_abs-3.ensures.value in
-    simp to_z-of_z (rw (minutes, seconds', seconds) (IsOffsetParts-with_sign_of c.args.hours c.args.minutes c.args.seconds
+    simp to_z-of_z (rw (minutes, seconds', seconds) (AreSignedOffsetParts-with_sign_of c.args.hours c.args.minutes c.args.seconds
     (omega arith) (omega arith) (omega arith)))
 
 pub returns : goal.returns
