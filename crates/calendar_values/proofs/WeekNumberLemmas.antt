@@ -1,14 +1,14 @@
--- Weeks by Sundays and by Mondays in closed form, and the Thursday of a week.
-use Rattle.std.proofs.Common.{◌≡◌, ℕ, ◌+◌, ◌-◌, ◌/◌, ◌*◌, ◌%◌, ◌<◌, ◌≤◌, refl, ◌∙◌, arith, ℤ, pos, ◌+ℤ◌}
+-- Weeks by Sundays and by Mondays in closed form, the Thursday of a week, and the day of an ISO week date by a count of days.
+use Rattle.std.proofs.Common.{◌≡◌, ℕ, ◌+◌, ◌-◌, ◌/◌, ◌*◌, ◌%◌, ◌<◌, ◌≤◌, ◌∙◌, arith, ℤ, pos, ◌+ℤ◌}
 use Rattle.calendar_values.specs.Calendar.{days_in_year, year_start, year_of, ordinal_of, IsOrdinalDate, day_of_ordinal_date}
 use Rattle.calendar_values.specs.Range.{IsDay, IsYear}
-use Rattle.calendar_values.specs.Weeks.{monday_of, weekday_of, thursday_of, sunday_week_of, monday_week_of, weeks_in_year, day_of_iso_week_date}
+use Rattle.calendar_values.specs.Weeks.{monday_of, weekday_of, thursday_of, sunday_week_of, monday_week_of, day_of_iso_week_date}
 use Rattle.calendar_values.specs.SignedArith.{signed_arith}
 use Rattle.calendar_values.specs.WeekLemmas.{weekday_of-parts, weekday_of-bound, weekday_of-ordinal, weekday_of-add, count_weekday-closed, iso_week_of-closed}
 use Rattle.calendar_values.specs.WeekLemmas.{IsDay-thursday_of}
 use Rattle.calendar_values.specs.YearLemmas.{year_start-next, days_in_year_bounds}
-use Rattle.calendar_values.specs.DayLemmas.{IsOrdinalDate-of, year_of-is, ordinal_of-is, IsYear-year_of, IsDay-ordinal_date}
-use Rattle.calendar_values.specs.Dates.{ShowsIsoWeekDate}
+use Rattle.calendar_values.specs.DayLemmas.{IsOrdinalDate-of, year_of-is, IsYear-year_of, IsDay-ordinal_date}
+use Rattle.calendar_values.specs.IsoWeekDateLemmas.{weeks_in_year-closed}
 
 -- the week numbers by the weekday and the day of the year
 pub sunday_week_of-closed : (n : ℤ) → sunday_week_of n ≡ (ordinal_of n + 6 - (weekday_of n + 1) % 7) / 7
@@ -56,34 +56,7 @@ IsThursdayOf-next n y next ordinal days thursday year date day after weekday lat
     let start = rw (← after) at (year_start-next y) in
     thursday_at n next thursday (rw day at (IsDay-ordinal_date y ordinal year date)) (omega (arith, date.last, length)) (omega (arith, signed_arith, date.last))
 
--- how many Thursdays a year has, by the day of the week of 1 January
-pub weeks_in_year-closed : (y : ℤ) → weeks_in_year y ≡ (days_in_year y + (weekday_of (year_start y) + 10) % 7) / 7
-weeks_in_year-closed y = omega (arith, count_weekday-closed 3 (year_start y) (days_in_year y) (omega arith))
-
-pub weeks_in_year-most : (y : ℤ) → weeks_in_year y ≤ 53
-weeks_in_year-most y = omega (arith, weeks_in_year-closed y, days_in_year_bounds y)
-
--- the day of a year and a week of that year shows both
-pub ShowsIsoWeekDate-day : (y : ℤ) (week weekday : ℕ) → 1 ≤ week → week ≤ weeks_in_year y → weekday < 7 →
-    ShowsIsoWeekDate y week weekday (day_of_iso_week_date y week weekday)
-ShowsIsoWeekDate-day y week weekday first last bound =
-    let january_4 = year_start y +ℤ pos 3 in
-    let n = day_of_iso_week_date y week weekday in
-    let low = weekday_of-bound january_4 in
-    let ordinal = week * 7 - weekday_of january_4 in
-    let same : weekday_of n ≡ weekday = omega (arith, signed_arith, weekday_of-parts n, weekday_of-parts january_4) in
-    let date : IsOrdinalDate y ordinal = record {
-      first = omega arith;
-      last = omega (arith, weeks_in_year-closed y, weekday_of-add (year_start y) january_4 3 refl, weekday_of-bound (year_start y));
-    } in
-    let thursday : day_of_ordinal_date y ordinal ≡ thursday_of n = omega (arith, signed_arith) in
-    record {
-      year = year_of-is (thursday_of n) y ordinal date thursday;
-      week = omega (arith, iso_week_of-closed n, ordinal_of-is (thursday_of n) y ordinal date thursday);
-      weekday = same;
-    }
-
--- that day, counted from 4 January
+-- the day of an ISO week date, counted from 4 January
 pub day_of_iso_week_date-is : (y january_4 n days : ℤ) (week weekday : ℕ) → january_4 ≡ day_of_ordinal_date y 4 → n ≡ january_4 +ℤ days →
     january_4 +ℤ days ≡ monday_of january_4 +ℤ pos ((week - 1) * 7) +ℤ pos weekday → n ≡ day_of_iso_week_date y week weekday
 day_of_iso_week_date-is y january_4 n days week weekday e f g =

@@ -5,13 +5,14 @@ use Rattle.calendar_values.specs.Calendar.{IsInYear, IsCalendarDate, IsOrdinalDa
 use Rattle.calendar_values.specs.Clock.{IsClock, HasTimeParts, hour_of, minute_of, second_of, nanosecond_of, nanos_per_millisecond, nanos_per_microsecond}
 use Rattle.calendar_values.specs.Constructors.{calendar_date_outcome, ordinal_date_outcome, iso_week_date_outcome, julian_date_outcome}
 use Rattle.calendar_values.specs.Constructors.{hms_outcome, hms_milli_outcome, hms_micro_outcome, hms_nano_outcome}
+use Rattle.calendar_values.specs.Dates.{ShowsIsoWeekDate}
 use Rattle.calendar_values.specs.Offsets.{offset_outcome, offset_seconds_outcome}
 use Rattle.calendar_values.specs.Outcomes.{IsOneAnswer}
 use Rattle.calendar_values.specs.Range.{first_year, last_year, first_day, last_day, IsDay}
 use Rattle.calendar_values.specs.Replacements.{year_outcome, month_outcome, day_outcome, ordinal_outcome, hour_outcome, minute_outcome}
 use Rattle.calendar_values.specs.Replacements.{second_outcome, millisecond_outcome, microsecond_outcome, nanosecond_outcome}
 use Rattle.calendar_values.specs.Truncations.{multiple_below, IsGreatestMultiple}
-use Rattle.calendar_values.specs.Weeks.{weekday_of}
+use Rattle.calendar_values.specs.Weeks.{weekday_of, iso_year_of, iso_week_of}
 
 -- 1970 begins on day 0, and each year begins after the days of the year before
 pub record YearsFollow : Type 0 where
@@ -37,6 +38,12 @@ pub record OrdinalDatesAreDays : Type 0 where
   pub numbered : (n : ℤ) → day_of_ordinal_date (year_of n) (ordinal_of n) ≡ n
   pub year : (y : ℤ) (ordinal : ℕ) → IsOrdinalDate y ordinal → year_of (day_of_ordinal_date y ordinal) ≡ y
   pub ordinal : (y : ℤ) (ordinal : ℕ) → IsOrdinalDate y ordinal → ordinal_of (day_of_ordinal_date y ordinal) ≡ ordinal
+
+-- the ISO year, the ISO week and the day of the week that a day of the range shows give that day, and a day that such three give
+-- shows them
+pub record IsoWeekDatesAreDays : Type 0 where
+  pub numbered : (n : ℤ) → IsDay n → (iso_week_date_outcome (iso_year_of n) (iso_week_of n) (weekday_of n)).answer ≡ Ok n
+  pub shown : (y n : ℤ) (w d : ℕ) → d < 7 → (iso_week_date_outcome y w d).answer ≡ Ok n → ShowsIsoWeekDate y w d n
 
 -- the range begins on 1 January of its first year, a Monday, and ends on 31 December of its last, a Friday
 pub record RangeIsWholeYears : Type 0 where

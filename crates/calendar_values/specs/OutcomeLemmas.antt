@@ -1,5 +1,5 @@
 -- What a call comes to that may refuse is one answer: by a test, put in its place, and so for each constructor and replacement.
-use Rattle.std.proofs.Common.{◌≡◌, ◌↔◌, ℕ, ◌≤◌, ◌<◌, ◌==◌, ◌||◌, Bool, true, false, cond, refl, ap, arith, codes, List, Result, Ok, Err, OkIff, IfErr, nat_lt}
+use Rattle.std.proofs.Common.{◌≡◌, ◌↔◌, ℕ, ◌≤◌, ◌==◌, ◌||◌, Bool, true, false, cond, refl, ap, arith, codes, List, Result, Ok, Err, OkIff, IfErr, nat_lt}
 use Rattle.std.proofs.Common.{ℤ, ◌≤ℤ◌, pos, neg_ℤ, ◌-ℤ◌}
 use Rattle.std.proofs.lemmas.Bool.Decides.{nat_tests}
 use Rattle.std.proofs.lemmas.Int.{ints}

@@ -2,7 +2,7 @@
 //! day and clock, and does nothing when it is called.
 ghost use Rattle.calendar_values.specs.Laws.{YearsFollow, YearIsUnique, CalendarDatesAreDays, OrdinalDatesAreDays, RangeIsWholeYears};
 ghost use Rattle.calendar_values.specs.Laws.{ReplacementsKeepTheRest, ClockReplacementsKeepTheRest, TruncationIsGreatestMultiple, OutcomesAreAnswers};
-ghost use Rattle.calendar_values.specs.Laws.{WeekdaysRepeat};
+ghost use Rattle.calendar_values.specs.Laws.{IsoWeekDatesAreDays, WeekdaysRepeat};
 
 /// 1970 begins on day 0, and each year begins after the days of the year before.
 pub fn years_follow()
@@ -22,6 +22,12 @@ pub fn calendar_dates_are_days()
 /// Each day shows one year and day of the year, and they have that day number.
 pub fn ordinal_dates_are_days()
     ensures { OrdinalDatesAreDays }
+{}
+
+/// The ISO year, the ISO week and the day of the week that a day of the range shows give that day, and a day
+/// that such three give shows them.
+pub fn iso_week_dates_are_days()
+    ensures { IsoWeekDatesAreDays }
 {}
 
 /// The range begins on a Monday, 1 January of its first year, and ends on a Friday, 31 December of

@@ -3,7 +3,7 @@ use Rattle.calendar_values.specs.Calendar.{year_start, day_of_ordinal_date}
 use Rattle.calendar_values.specs.SignedArith.{signed_arith}
 use Rattle.calendar_values.specs.Weeks.{weekday_of}
 use Rattle.calendar_values.specs.WeekLemmas.{weekday_of-parts}
-use Rattle.calendar_values.proofs.WeekNumberLemmas.{weeks_in_year-closed}
+use Rattle.calendar_values.specs.IsoWeekDateLemmas.{weeks_in_year-closed}
 use Rattle.calendar_values.proofs.date.weeks_in_year.Goals as goal
 
 pub returns-clause-value : goal.returns-clause-value

@@ -1,4 +1,3 @@
-use Rattle.std.proofs.Common.{◌≡◌}
 use Rattle.calendar_values.proofs.PartLemmas.{part_name-short}
 use Rattle.calendar_values.proofs.component_range.ComponentRange.name.Goals as goal
 

@@ -1,11 +1,12 @@
 use Rattle.std.proofs.Common.{arith, rules, FitsSigned, w32, w64, to_z-of_z, ◌≡◌, ◌||◌, ◌==◌, ◌≤◌, nat_lt, true, refl}
 use Rattle.std.proofs.lemmas.Bool.Decides.{nat_tests}
 use Rattle.calendar_values.specs.Range.{IsYear, IsDay}
+use Rattle.calendar_values.specs.IsoWeekDateLemmas.{weeks_in_year-most, ShowsIsoWeekDate-day}
 use Rattle.calendar_values.specs.SignedArith.{signed_casts}
 use Rattle.calendar_values.specs.Weekday.{weekday_number}
 use Rattle.calendar_values.specs.Weeks.{weeks_in_year, day_of_iso_week_date}
 use Rattle.calendar_values.specs.OutcomeLemmas.{Gives-week, Gives-day, Gives-day_past}
-use Rattle.calendar_values.proofs.WeekNumberLemmas.{weeks_in_year-most, day_of_iso_week_date-is, ShowsIsoWeekDate-day}
+use Rattle.calendar_values.proofs.WeekNumberLemmas.{day_of_iso_week_date-is}
 use Rattle.calendar_values.proofs.date.Date.from_iso_week_date.Goals as goal
 
 day : (c : goal.In-Some) → c.in-Some.date ≡ day_of_iso_week_date c.args.year c.args.week (weekday_number c.args.weekday)
