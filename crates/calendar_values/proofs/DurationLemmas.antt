@@ -1,10 +1,11 @@
--- The order, the days, the sums and the differences of durations, from their seconds and nanoseconds.
-use Rattle.std.proofs.Common.{◌≡◌, ℤ, pos, FitsSigned, w64, to_z, of_z, to_z-of_z, ◌-ℤ◌, ◌<ℤ◌, arith, int_div}
+-- The order, the counts of units, the sums and the differences of durations, from their seconds and nanoseconds.
+use Rattle.std.proofs.Common.{◌≡◌, ℤ, pos, FitsSigned, w64, to_z, of_z, to_z-of_z, ◌+ℤ◌, ◌-ℤ◌, ◌*ℤ◌, ◌<ℤ◌, arith, int_div}
 use Rattle.std.proofs.lemmas.Int.{by_lt_z, ints}
 use Rattle.std.specs.Ordering.{int_cmp, ordering_then}
 use Rattle.calendar_values.specs.DurationPartLemmas.{duration_signs}
 use Rattle.calendar_values.specs.Durations.{duration_of_parts, IsDuration, IsDurationParts}
-use Rattle.calendar_values.specs.Durations.{whole_seconds_of, whole_minutes_of, whole_hours_of, whole_days_of, whole_weeks_of}
+use Rattle.calendar_values.specs.Durations.{whole_seconds_of, whole_minutes_of, whole_hours_of, whole_days_of, whole_weeks_of, subsec_nanoseconds_of}
+use Rattle.calendar_values.specs.Durations.{whole_milliseconds_of, whole_microseconds_of, subsec_milliseconds_of, subsec_microseconds_of}
 use Rattle.calendar_values.specs.SignedArith.{signed_arith, one_part}
 
 -- a duration of fewer seconds is less
@@ -36,6 +37,15 @@ whole_weeks_of-whole_seconds_of d = omega (arith, signed_arith, one_part d)
 pub whole_days_of-whole_seconds_of : (d : ℤ) → whole_days_of d ≡ int_div (whole_seconds_of d) (pos 86_400)
 unfolding whole_days_of whole_seconds_of
 whole_days_of-whole_seconds_of d = omega (arith, signed_arith, one_part d)
+
+-- the whole milliseconds and microseconds are those of the whole seconds and those that they leave
+pub whole_milliseconds_of-parts : (d : ℤ) → whole_milliseconds_of d ≡ (whole_seconds_of d *ℤ pos 1_000) +ℤ subsec_milliseconds_of d
+unfolding whole_milliseconds_of whole_seconds_of subsec_milliseconds_of subsec_nanoseconds_of
+whole_milliseconds_of-parts d = omega (arith, signed_arith, one_part d)
+
+pub whole_microseconds_of-parts : (d : ℤ) → whole_microseconds_of d ≡ (whole_seconds_of d *ℤ pos 1_000_000) +ℤ subsec_microseconds_of d
+unfolding whole_microseconds_of whole_seconds_of subsec_microseconds_of subsec_nanoseconds_of
+whole_microseconds_of-parts d = omega (arith, signed_arith, one_part d)
 
 -- where the difference is in range and that of the seconds does not fit, it is 2^63 seconds, and the nanoseconds are negative
 pub seconds_excess : (s t m n : ℤ) → FitsSigned w64 s → FitsSigned w64 t → IsDurationParts s m → IsDurationParts t n →

@@ -1,6 +1,7 @@
 -- A duration is a whole number of nanoseconds. Its seconds and days are whole ones, rounded towards zero.
 use Rattle.std.specs.Prelude.{◌≤◌, ◌⊎◌, ℤ, pos, neg_ℤ, ◌+ℤ◌, ◌*ℤ◌, ◌≤ℤ◌, int_div, int_rem, unsigned_abs}
-use Rattle.calendar_values.specs.Clock.{nanos_per_second, nanos_per_minute, nanos_per_hour, nanos_per_day, nanos_per_week}
+use Rattle.calendar_values.specs.Clock.{nanos_per_microsecond, nanos_per_millisecond, nanos_per_second, nanos_per_minute, nanos_per_hour, nanos_per_day}
+use Rattle.calendar_values.specs.Clock.{nanos_per_week}
 
 -- the duration of so many seconds and nanoseconds
 abbrev pub duration_of_parts : ℤ → ℤ → ℤ
@@ -24,6 +25,20 @@ whole_seconds_of d = int_div d (pos nanos_per_second)
 -- the nanoseconds that the whole seconds leave
 unfoldable pub subsec_nanoseconds_of : ℤ → ℤ
 subsec_nanoseconds_of d = int_rem d (pos nanos_per_second)
+
+-- its whole milliseconds and microseconds
+unfoldable pub whole_milliseconds_of : ℤ → ℤ
+whole_milliseconds_of d = int_div d (pos nanos_per_millisecond)
+
+unfoldable pub whole_microseconds_of : ℤ → ℤ
+whole_microseconds_of d = int_div d (pos nanos_per_microsecond)
+
+-- those that the whole seconds leave
+unfoldable pub subsec_milliseconds_of : ℤ → ℤ
+subsec_milliseconds_of d = int_div (subsec_nanoseconds_of d) (pos nanos_per_millisecond)
+
+unfoldable pub subsec_microseconds_of : ℤ → ℤ
+subsec_microseconds_of d = int_div (subsec_nanoseconds_of d) (pos nanos_per_microsecond)
 
 -- its whole minutes, hours, days and weeks
 unfoldable pub whole_minutes_of : ℤ → ℤ

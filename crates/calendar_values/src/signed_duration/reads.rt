@@ -1,10 +1,15 @@
 //! What a duration is made of.
-ghost use Rattle.std.specs.Prelude.{◌≡◌, ℤ, pos, ◌≤◌, ◌↔◌, IsTrue, ◌<ℤ◌, unsigned_abs};
+ghost use Rattle.std.specs.Prelude.{◌≡◌, ℤ, pos, ◌≤◌, ◌↔◌, IsTrue, ◌<ℤ◌, min, unsigned_abs};
+ghost use Rattle.std.specs.Duration.{as_nanos};
 ghost use Rattle.calendar_values.specs.Durations.{IsDuration, IsDurationParts, duration_of_parts, whole_seconds_of, subsec_nanoseconds_of};
-ghost use Rattle.calendar_values.specs.Durations.{whole_minutes_of, whole_hours_of, whole_days_of, whole_weeks_of};
+ghost use Rattle.calendar_values.specs.Durations.{whole_minutes_of, whole_hours_of, whole_days_of, whole_weeks_of, greatest_duration};
+ghost use Rattle.calendar_values.specs.Durations.{whole_milliseconds_of, whole_microseconds_of, subsec_milliseconds_of, subsec_microseconds_of};
 
 use crate::SignedDuration;
-use crate::units::{SECONDS_PER_DAY, SECONDS_PER_HOUR, SECONDS_PER_MINUTE, SECONDS_PER_WEEK};
+use crate::units::{
+    NANOS_PER_SECOND, SECONDS_PER_DAY, SECONDS_PER_HOUR, SECONDS_PER_MINUTE, SECONDS_PER_WEEK,
+};
+use std::time::Duration;
 
 impl SignedDuration {
     /// Whether the duration is 0.
@@ -26,6 +31,27 @@ impl SignedDuration {
         ensures { IsTrue result ↔ (pos 0 <ℤ self) }
     {
         self.seconds > 0 || self.nanoseconds > 0
+    }
+
+    /// The duration without its sign, or [`SignedDuration::MAX`] where that is past it: for -2^63 seconds and
+    /// less.
+    pub fn abs(self) -> SignedDuration
+        ensures { result ≡ pos (min (unsigned_abs self) (unsigned_abs greatest_duration)) }
+    {
+        if self.seconds == i64::MIN {
+            return SignedDuration::MAX;
+        }
+        SignedDuration {
+            seconds: self.seconds.abs(),
+            nanoseconds: self.nanoseconds.abs(),
+        }
+    }
+
+    /// The duration without its sign, which always fits.
+    pub fn unsigned_abs(self) -> Duration
+        ensures { as_nanos result ≡ unsigned_abs self }
+    {
+        Duration::new(self.seconds.unsigned_abs(), self.nanoseconds.unsigned_abs())
     }
 
     /// The whole weeks of seven days, rounded towards zero: -15,250,284,452,471 to 15,250,284,452,471.
@@ -78,5 +104,45 @@ impl SignedDuration {
         ensures parts { duration_of_parts (whole_seconds_of self) result ≡ self }
     {
         self.nanoseconds
+    }
+
+    /// The whole milliseconds, rounded towards zero.
+    pub fn whole_milliseconds(self) -> i128
+        ensures value { result ≡ whole_milliseconds_of self }
+        ensures in_range { unsigned_abs result ≤ 9_223_372_036_854_775_808_999 }
+    {
+        self.whole_seconds() as i128 * 1_000 + self.subsec_milliseconds() as i128
+    }
+
+    /// The milliseconds that the whole seconds leave, rounded towards zero: -999 to 999.
+    pub fn subsec_milliseconds(self) -> i16
+        ensures value { result ≡ subsec_milliseconds_of self }
+        ensures in_range { unsigned_abs result ≤ 999 }
+    {
+        (self.subsec_nanoseconds() / 1_000_000) as i16
+    }
+
+    /// The whole microseconds, rounded towards zero.
+    pub fn whole_microseconds(self) -> i128
+        ensures value { result ≡ whole_microseconds_of self }
+        ensures in_range { unsigned_abs result ≤ 9_223_372_036_854_775_808_999_999 }
+    {
+        self.whole_seconds() as i128 * 1_000_000 + self.subsec_microseconds() as i128
+    }
+
+    /// The microseconds that the whole seconds leave, rounded towards zero: -999,999 to 999,999.
+    pub fn subsec_microseconds(self) -> i32
+        ensures value { result ≡ subsec_microseconds_of self }
+        ensures in_range { unsigned_abs result ≤ 999_999 }
+    {
+        self.subsec_nanoseconds() / 1_000
+    }
+
+    /// The nanoseconds: all of the duration.
+    pub fn whole_nanoseconds(self) -> i128
+        ensures value { result ≡ self }
+        ensures self_in_range { IsDuration self }
+    {
+        self.whole_seconds() as i128 * NANOS_PER_SECOND as i128 + self.subsec_nanoseconds() as i128
     }
 }
