@@ -1,6 +1,6 @@
 -- What the calls of each type say in the counter's words.
 use Rattle.std.proofs.Common.{◌≡◌, ℕ, refl, sym, arith, FitsSigned, w32, to_z, of_z, to_z-of_z, ℤ}
-use Rattle.std.proofs.Common.{Option, Some, None, SomeIff, Result, Ok, Err, OkIff, IsOk, ap}
+use Rattle.std.proofs.Common.{Option, Some, None, SomeIff, Result, Ok, Err, OkIff, IfErr, IsOk, ap, ◌↔◌}
 use Rattle.std.specs.Option.{option_map}
 use Rattle.std.specs.Result.{result_map_both}
 use Rattle.calendar_values.specs.Calendar.{month_of, day_of_month_of}
@@ -20,7 +20,7 @@ use Rattle.offset_times.specs.Local.{Local, wall_at}
 use Rattle.plain_times.specs.Replacements.{with_date, with_time}
 use Rattle.plain_times.specs.SumLemmas.{wall_clock_if_any-in, wall_clock_if_any-SomeIff}
 use Rattle.plain_times.specs.Sums.{wall_clock_if_any}
-use Rattle.stamp_times.specs.Counter.{local_reply, date_part_of, instant_after_replacement, IsReplaceable}
+use Rattle.stamp_times.specs.Counter.{local_reply, date_part_of, instant_after_replacement, IsReplaceable, RefusesReplaced}
 use Rattle.stamp_times.specs.Numbered.{month_numbered, weekday_numbered}
 use Rattle.stamp_times.specs.NumberedLemmas.{month_numbered-number, weekday_numbered-number}
 use Rattle.stamp_times.specs.declared.runs.calls.DatePart.TheVariants as date_part
@@ -69,36 +69,42 @@ IsoWeekDate-is n date h =
     let fits : FitsSigned w32 date.0 = omega (arith, signed_arith, h.year_in_range) in
     rw (to_z-of_z fits, h.year, h.week, weekday_numbered-is _ _ h.weekday) refl
 
-answered-is_ok : (r : Result ℤ Refusal) (P : Type 0) (v : ℤ) → OkIff r P v → P → IsOk r
-answered-is_ok (Ok x) P v h p = refl
-answered-is_ok (Err e) P v h p = absurd (h p)
+-- an answer is accepted exactly where the arguments fit
+accepted-fits : (r : Result ℤ Refusal) (P : Type 0) (v : ℤ) → OkIff r P v → IsOk r ↔ P
+accepted-fits (Ok x) P v h = (λ ok. h.0, λ fits. refl)
+accepted-fits (Err e) P v h = (λ ok. absurd cc, λ fits. absurd (h fits))
 
-fitting-is_ok : (outcome : Outcome ℤ) → IsOneAnswer outcome → outcome.fits → IsOk outcome.answer
-fitting-is_ok outcome h fits = answered-is_ok outcome.answer outcome.fits outcome.value h.value fits
+on_date : (i : ℤ) (outcome : Outcome ℤ) → IsOneAnswer outcome → let whole = within (with_date i) outcome in
+    (IsOk whole.answer ↔ whole.fits) × IfErr whole.answer (λ refusal. refusal ≡ whole.refusal)
+on_date i outcome h = let whole = IsOneAnswer-within (with_date i) outcome h in (accepted-fits _ _ _ whole.value, whole.refused)
 
-on_date : (i : ℤ) (outcome : Outcome ℤ) → IsOneAnswer outcome → outcome.fits → IsOk (within (with_date i) outcome).answer
-on_date i outcome h fits = fitting-is_ok (within (with_date i) outcome) (IsOneAnswer-within (with_date i) outcome h) fits
+at_time : (i : ℤ) (outcome : Outcome ℕ) → IsOneAnswer outcome → let whole = within (with_time i) outcome in
+    (IsOk whole.answer ↔ whole.fits) × IfErr whole.answer (λ refusal. refusal ≡ whole.refusal)
+at_time i outcome h = let whole = IsOneAnswer-within (with_time i) outcome h in (accepted-fits _ _ _ whole.value, whole.refused)
 
-at_time : (i : ℤ) (outcome : Outcome ℕ) → IsOneAnswer outcome → outcome.fits → IsOk (within (with_time i) outcome).answer
-at_time i outcome h fits = fitting-is_ok (within (with_time i) outcome) (IsOneAnswer-within (with_time i) outcome h) fits
-
--- a replacement that fits is accepted
-pub replaceable-is_ok : (i : ℤ) (replace : Replace) → IsWallClock i → IsReplaceable i replace → IsOk (instant_after_replacement i replace)
-replaceable-is_ok i (replacing.Time c) range fits = refl
-replaceable-is_ok i (replacing.Date n) range fits = refl
-replaceable-is_ok i (replacing.Year y) range fits = on_date i _ (IsOneAnswer-calendar_date y (month_of (wall_day i)) (day_of_month_of (wall_day i))) fits
-replaceable-is_ok i (replacing.Month m) range fits = on_date i _ (IsOneAnswer-month (wall_day i) (month_number m) (IsDay-wall_day i range)) fits
-replaceable-is_ok i (replacing.Day d) range fits = on_date i _ (IsOneAnswer-day (wall_day i) d (IsDay-wall_day i range)) fits
-replaceable-is_ok i (replacing.Ordinal o) range fits = on_date i _ (IsOneAnswer-ordinal (wall_day i) o (IsDay-wall_day i range)) fits
-replaceable-is_ok i (replacing.Hour n) range fits = at_time i _ (IsOneAnswer-at_most _ _ n _) fits
-replaceable-is_ok i (replacing.Minute n) range fits = at_time i _ (IsOneAnswer-at_most _ _ n _) fits
-replaceable-is_ok i (replacing.Second n) range fits = at_time i _ (IsOneAnswer-at_most _ _ n _) fits
-replaceable-is_ok i (replacing.Millisecond n) range fits = at_time i _ (IsOneAnswer-at_most _ _ n _) fits
-replaceable-is_ok i (replacing.Microsecond n) range fits = at_time i _ (IsOneAnswer-at_most _ _ n _) fits
-replaceable-is_ok i (replacing.Nanosecond n) range fits = at_time i _ (IsOneAnswer-at_most _ _ n _) fits
+-- a replacement is accepted exactly where it fits, and else refused by its name
+answered : (i : ℤ) (replace : Replace) → IsWallClock i → let r = instant_after_replacement i replace in
+    (IsOk r ↔ IsReplaceable i replace) × IfErr r (RefusesReplaced i replace)
+answered i (replacing.Time c) range = ((λ ok. tt, λ fits. refl), tt)
+answered i (replacing.Date n) range = ((λ ok. tt, λ fits. refl), tt)
+answered i (replacing.Year y) range = on_date i _ (IsOneAnswer-calendar_date y (month_of (wall_day i)) (day_of_month_of (wall_day i)))
+answered i (replacing.Month m) range = on_date i _ (IsOneAnswer-month (wall_day i) (month_number m) (IsDay-wall_day i range))
+answered i (replacing.Day d) range = on_date i _ (IsOneAnswer-day (wall_day i) d (IsDay-wall_day i range))
+answered i (replacing.Ordinal o) range = on_date i _ (IsOneAnswer-ordinal (wall_day i) o (IsDay-wall_day i range))
+answered i (replacing.Hour n) range = at_time i _ (IsOneAnswer-at_most _ _ n _)
+answered i (replacing.Minute n) range = at_time i _ (IsOneAnswer-at_most _ _ n _)
+answered i (replacing.Second n) range = at_time i _ (IsOneAnswer-at_most _ _ n _)
+answered i (replacing.Millisecond n) range = at_time i _ (IsOneAnswer-at_most _ _ n _)
+answered i (replacing.Microsecond n) range = at_time i _ (IsOneAnswer-at_most _ _ n _)
+answered i (replacing.Nanosecond n) range = at_time i _ (IsOneAnswer-at_most _ _ n _)
 
 -- and so is what is as it
-pub replaced-is_ok : {T : Type 0} (instant : T → ℤ) (r : Result T Refusal) (s : Result ℤ Refusal) → result_map_both instant (λ refusal. refusal) r ≡ s
-    → IsOk s → IsOk r
-replaced-is_ok instant (Ok x) s e ok = refl
-replaced-is_ok instant (Err x) s e ok = cc
+as_it : {T : Type 0} (instant : T → ℤ) (r : Result T Refusal) (s : Result ℤ Refusal) (fits : Type 0) (refused : Refusal → Type 0)
+    → result_map_both instant (λ refusal. refusal) r ≡ s → (IsOk s ↔ fits) × IfErr s refused → (IsOk r ↔ fits) × IfErr r refused
+as_it instant (Ok x) s fits refused e h = let here = rw (← e) at h in ((λ ok. here.0.0 refl, λ f. refl), tt)
+as_it instant (Err x) s fits refused e h = let here = rw (← e) at h in ((λ ok. absurd cc, λ f. let ok = here.0.1 f in absurd cc), here.1)
+
+pub replaced-answered : {T : Type 0} (instant : T → ℤ) (r : Result T Refusal) (i : ℤ) (replace : Replace) → IsWallClock i
+    → result_map_both instant (λ refusal. refusal) r ≡ instant_after_replacement i replace
+    → (IsOk r ↔ IsReplaceable i replace) × IfErr r (RefusesReplaced i replace)
+replaced-answered instant r i replace range e = as_it instant r _ _ _ e (answered i replace range)

@@ -114,6 +114,21 @@ IsReplaceable i (replacing.Millisecond milli) = (wall_millisecond_outcome i mill
 IsReplaceable i (replacing.Microsecond micro) = (wall_microsecond_outcome i micro).fits
 IsReplaceable i (replacing.Nanosecond n) = (wall_nanosecond_outcome i n).fits
 
+-- what a refused replacement is refused by: that of the date or of the time of day never is, that of a part by its name
+abbrev pub RefusesReplaced : ℤ → Replace → Refusal → Type 0
+RefusesReplaced i (replacing.Time c) refusal = ⊥
+RefusesReplaced i (replacing.Date n) refusal = ⊥
+RefusesReplaced i (replacing.Year y) refusal = refusal ≡ (wall_year_outcome i y).refusal
+RefusesReplaced i (replacing.Month m) refusal = refusal ≡ (wall_month_outcome i (month_number m)).refusal
+RefusesReplaced i (replacing.Day d) refusal = refusal ≡ (wall_day_outcome i d).refusal
+RefusesReplaced i (replacing.Ordinal ordinal) refusal = refusal ≡ (wall_ordinal_outcome i ordinal).refusal
+RefusesReplaced i (replacing.Hour h) refusal = refusal ≡ (wall_hour_outcome i h).refusal
+RefusesReplaced i (replacing.Minute m) refusal = refusal ≡ (wall_minute_outcome i m).refusal
+RefusesReplaced i (replacing.Second s) refusal = refusal ≡ (wall_second_outcome i s).refusal
+RefusesReplaced i (replacing.Millisecond milli) refusal = refusal ≡ (wall_millisecond_outcome i milli).refusal
+RefusesReplaced i (replacing.Microsecond micro) refusal = refusal ≡ (wall_microsecond_outcome i micro).refusal
+RefusesReplaced i (replacing.Nanosecond n) refusal = refusal ≡ (wall_nanosecond_outcome i n).refusal
+
 -- what an instant shows that an accepted replacement led to
 abbrev pub ShowsReplaced : ℤ → Replace → ℤ → Type 0
 ShowsReplaced i (replacing.Time c) j = ReplacesTime i c j

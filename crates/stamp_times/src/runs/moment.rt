@@ -1,12 +1,12 @@
 //! What instants of every type have in common.
-ghost use Rattle.std.specs.Prelude.{◌≡◌, ℤ, option_map, IfSome, IfOk, IsOk};
+ghost use Rattle.std.specs.Prelude.{◌≡◌, ◌↔◌, ℤ, option_map, IfSome, IfOk, IfErr, IsOk};
 ghost use Rattle.std.specs.Ordering.{int_eq, int_cmp};
 ghost use Rattle.std.specs.Result.{result_map_both};
 ghost use Rattle.std.proofs.Common.{refl};
 ghost use Rattle.calendar_values.specs.WallClock.{wall_day, wall_time, IsInstant};
 ghost use Rattle.offset_times.specs.Local.{instant_of, shown_at, local_at, ShownAt};
 ghost use Rattle.stamp_times.specs.Counter.{date_part_of, clock_part_of, instant_after_shift, instant_after_replacement, Shifts, Saturates};
-ghost use Rattle.stamp_times.specs.Counter.{IsReplaceable, ShowsReplaced};
+ghost use Rattle.stamp_times.specs.Counter.{IsReplaceable, RefusesReplaced, ShowsReplaced};
 
 use crate::Timestamp;
 use crate::runs::calls::{ClockPart, ClockRead, DatePart, DateRead, Replace, Shift};
@@ -35,11 +35,13 @@ pub trait Moment: Copy + Eq + Ord + Hash {
         ensures sum { Shifts (instant self) shift (option_map instant result) }
         ensures order { IfSome result (λ next. Saturates (instant self) shift (instant next)) };
 
-    /// The value with a part replaced in UTC. Refused as the replacement of that part is.
+    /// The value with a part replaced in UTC. Refused as the replacement of that part is, exactly where the part does not
+    /// fit.
     fn replace(self, replace: Replace) -> Result<Self, ComponentRange>
         ensures value { result_map_both instant (λ refusal. refusal) result ≡
             instant_after_replacement (instant self) replace }
-        ensures accepted { IsReplaceable (instant self) replace → IsOk result }
+        ensures accepted { IsOk result ↔ IsReplaceable (instant self) replace }
+        ensures refused { IfErr result (RefusesReplaced (instant self) replace) }
         ensures shown { IfOk result (λ next.
             ShowsReplaced (instant self) replace (instant next)) };
 
