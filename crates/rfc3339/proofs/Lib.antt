@@ -5,7 +5,6 @@ mod FaultLemmas
 mod FaultFormLemmas
 pub mod FrontLemmas
 mod RangeLemmas
-pub mod FullDateLemmas
 pub mod LeapLemmas
 pub mod LengthLemmas
 mod ShortestLemmas

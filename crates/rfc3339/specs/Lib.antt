@@ -19,4 +19,5 @@ pub mod MeaningLemmas
 pub mod WrittenDigitLemmas
 pub mod ValueLemmas
 pub mod ReadInstantLemmas
+pub mod FullDateLemmas
 pub mod ReadingLemmas

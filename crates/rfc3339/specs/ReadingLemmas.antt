@@ -10,6 +10,7 @@ use Rattle.rfc3339.specs.Texts.{HasText, rfc3339_text, HasFixedText, fixed_text,
 use Rattle.rfc3339.specs.declared.parts.Parts.{Parts}
 use Rattle.rfc3339.specs.declared.refusal.TextRefusal.TheVariants.{Syntax}
 use Rattle.rfc3339.specs.FractionLemmas.{IsFraction-below}
+use Rattle.rfc3339.specs.FullDateLemmas.{full_date_reading_of-spelled, full_date_reading_of-syntax, full_date_reading_of-written}
 use Rattle.rfc3339.specs.MeaningLemmas.{read_of, has_text_of}
 use Rattle.rfc3339.specs.ReadInstantLemmas.{instant_of_read}
 use Rattle.rfc3339.specs.TextLemmas.{parts_takes, parts_again}
@@ -65,7 +66,7 @@ pub reading_of-written_fixed : (i : ℤ) → HasFixedText i → reading_of (fixe
 reading_of-written_fixed i h =
     reading_of-spelled (fixed_text i) (parts_of (local_in_utc i)) (IsDateTime-fixed i h) ∙ meaning-fixed i h
 
--- what callers name who read texts
+-- what callers name who read texts, days alone too
 pub ruleset readings = (
   reading_of-spelled,
   reading_of-syntax,
@@ -74,4 +75,7 @@ pub ruleset readings = (
   reading_of-instant,
   reading_of-written,
   reading_of-written_fixed,
+  full_date_reading_of-spelled,
+  full_date_reading_of-syntax,
+  full_date_reading_of-written,
 )

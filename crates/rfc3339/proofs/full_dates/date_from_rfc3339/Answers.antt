@@ -2,7 +2,7 @@ use Rattle.std.proofs.Common.{sym, ap, ◌∙◌, inr, ℕ, unsigned_abs}
 use Rattle.std.proofs.lemmas.Option.{same_Some, none-some}
 use Rattle.calendar_values.specs.Calendar.{year_of, month_of, day_of_month_of}
 use Rattle.rfc3339.specs.FullDates.{full_date_meaning}
-use Rattle.rfc3339.proofs.FullDateLemmas.{full_date_takes, full_date_again, IsFullDate-text, full_date_meaning-text}
+use Rattle.rfc3339.specs.FullDateLemmas.{full_date_takes, full_date_again, IsFullDate-text, full_date_meaning-text}
 use Rattle.rfc3339.proofs.full_dates.date_from_rfc3339.Goals as goal
 
 pub returns-in-Some-clause-equation : goal.returns-in-Some-clause-equation

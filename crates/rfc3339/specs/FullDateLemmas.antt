@@ -1,7 +1,7 @@
 -- Days as texts: what is read has the form, what has the form is read, and what was written means what was written.
-use Rattle.std.proofs.Common.{◌≡◌, ℕ, ◌≤◌, List, [], ◌∷◌, append_assoc, append-nil, Some, refl, subst, arith}
-use Rattle.std.proofs.Common.{ℤ, unsigned_abs, ◌==◌, ◌||◌, nat_lt, Ok}
-use Rattle.std.specs.Prelude.{false}
+use Rattle.std.proofs.Common.{◌≡◌, ℕ, ◌≤◌, List, [], ◌∷◌, append_assoc, append-nil, Option, Some, None, refl, ap, ◌∙◌, subst, inl, inr, arith}
+use Rattle.std.proofs.Common.{ℤ, unsigned_abs, ◌==◌, ◌||◌, nat_lt, Ok, Err}
+use Rattle.std.specs.Prelude.{false, ◌⊎◌}
 use Rattle.std.proofs.lemmas.Bool.Decides.{nat_tests}
 use Rattle.std.proofs.lemmas.Option.{same_Some}
 use Rattle.calendar_values.specs.Calendar.{is_leap_year, year_of, month_of, day_of_month_of}
@@ -9,9 +9,11 @@ use Rattle.calendar_values.specs.CalendarDateLemmas.{IsCalendarDate-of, day_of_c
 use Rattle.calendar_values.specs.Digits.{last_digits}
 use Rattle.calendar_values.specs.SignedArith.{signed_arith, one_part}
 use Rattle.rfc3339.specs.FullDates.{IsFullDate, HasFullDate, full_date_at, full_date_text, full_date_meaning}
+use Rattle.rfc3339.specs.FullDates.{full_date_meaning_if_any, full_date_reading_of}
 use Rattle.rfc3339.specs.Reading.{ended}
 use Rattle.rfc3339.specs.FormLemmas.{Takes, bind_some, part_takes, part_again, year_takes, year_again}
 use Rattle.rfc3339.specs.ValueLemmas.{year_is}
+use Rattle.rfc3339.specs.declared.refusal.TextRefusal.TheVariants.{Syntax}
 
 -- the pieces of a text, one after another
 full_date_of : {text first second : List ℕ} (year month day : ℕ) → Takes text (last_digits 4 year) first year 10_000
@@ -67,3 +69,26 @@ full_date_meaning-text n h =
     let date = IsCalendarDate-of n in
     let tests = in_range (month_of n) (day_of_month_of n) _ date.month_first date.month_last date.day_first date.day_last in
     rw (year_is (year_of n) h.year_first, tests.0, tests.1, day_of_calendar_date-of n) refl
+
+-- a text that spells numbers is read as what they mean
+pub full_date_reading_of-spelled : (text : List ℕ) (year month day : ℕ) → IsFullDate text year month day
+    → full_date_reading_of text ≡ full_date_meaning year month day
+unfolding full_date_reading_of
+full_date_reading_of-spelled text year month day h = ap full_date_meaning_if_any (full_date_again text year month day h)
+
+-- any other is refused for its form
+syntax_of : (text : List ℕ) (o : Option (ℕ × ℕ × ℕ)) → full_date_at text ≡ o
+    → (full_date_reading_of text ≡ Err Syntax) ⊎ ((year : ℕ) × (month : ℕ) × (day : ℕ) × IsFullDate text year month day)
+unfolding full_date_reading_of
+syntax_of text None e = inl (ap full_date_meaning_if_any e)
+syntax_of text (Some read) e = inr (read.0, read.1, read.2, full_date_takes text read e)
+
+pub full_date_reading_of-syntax : (text : List ℕ)
+    → (full_date_reading_of text ≡ Err Syntax) ⊎ ((year : ℕ) × (month : ℕ) × (day : ℕ) × IsFullDate text year month day)
+full_date_reading_of-syntax text = syntax_of text (full_date_at text) refl
+
+-- what was written is read back
+pub full_date_reading_of-written : (n : ℤ) → HasFullDate n → full_date_reading_of (full_date_text n) ≡ Ok n
+full_date_reading_of-written n h =
+    full_date_reading_of-spelled (full_date_text n) (unsigned_abs (year_of n)) (month_of n) (day_of_month_of n) (IsFullDate-text n h)
+    ∙ full_date_meaning-text n h
