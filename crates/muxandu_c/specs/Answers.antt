@@ -43,7 +43,7 @@ is_named refusal name = pointwise nat_eq refusal.name name
 -- a refused part, as a caller sees it
 abbrev pub refused_part : Refusal → Refused
 refused_part r =
-    if is_named r (codes "year") then refused.Year
+    if is_named r (codes "year") then (if r.conditional then refused.Result else refused.Year)
     else (if is_named r (codes "month") then refused.Month
     else (if is_named r (codes "day") then (if r.conditional then refused.DayOfMonth else refused.Day)
     else (if is_named r (codes "ordinal") then (if r.conditional then refused.OrdinalOfYear else refused.Ordinal)

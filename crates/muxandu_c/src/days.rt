@@ -1,17 +1,17 @@
 //! Day numbers, 0 on 1970-01-01, and the dates that they stand for.
-ghost use Rattle.std.specs.Prelude.{◌≡◌, IfOk, Ok, ◌≤◌, ◌-◌, ◌*◌, pos, ◌+ℤ◌, ◌-ℤ◌, ◌≤ℤ◌};
-ghost use Rattle.calendar_values.specs.Range.{IsDay, first_day, last_day};
+ghost use Rattle.std.specs.Prelude.{◌≡◌, IfOk, Ok};
+ghost use Rattle.calendar_values.specs.Range.{IsDay};
 ghost use Rattle.calendar_values.specs.Weeks.{weekday_of};
 ghost use Rattle.muxandu_c.specs.Answers.{status_of, written};
 ghost use Rattle.muxandu_c.specs.Values.{date_from_day, day_from_date};
 ghost use Rattle.muxandu_c.specs.Values.{ordinal_date_from_day, day_from_ordinal_date};
-ghost use Rattle.muxandu_c.specs.Values.{weekday_from_day, length_of_month, day_if_any};
-ghost use Rattle.muxandu_c.specs.WeekDates.{week_date_from_day, day_from_week_date, monday_of, day_of_week};
+ghost use Rattle.muxandu_c.specs.Values.{weekday_from_day, length_of_month};
+ghost use Rattle.muxandu_c.specs.WeekDates.{week_date_from_day, day_from_week_date, refused_with_weekday};
 
 use crate::parts::{date_of, day_of, read_date, read_day};
 use crate::refused::{Refused, answer};
 use crate::values::{MuxanduDate, MuxanduOrdinalDate, MuxanduWeekDate};
-use calendar_values::{Date, Month};
+use calendar_values::{Date, Month, Weekday};
 
 #[inline(always)]
 pub(crate) fn date_from_day(day: i32) -> Result<MuxanduDate, Refused>
@@ -102,59 +102,21 @@ pub extern "C" fn muxandu_week_date_from_day(day: i32, out: &mut MuxanduWeekDate
 fn day_from_week_date(date: MuxanduWeekDate) -> Result<i32, Refused>
     ensures { result ≡ day_from_week_date date }
 {
-    let january_4 = read_date(date.year, 1, 4)?;
-    let december_31 = read_date(date.year, 12, 31)?;
-    if date.week == 0 || date.week > 53 {
-        return Err(Refused::Week);
+    match Weekday::from_number_days_from_monday(date.weekday) {
+        Some(weekday) => Ok(day_of(Date::from_iso_week_date(date.year, date.week, weekday)?)),
+        None => Err(refused_with_weekday(date.year, date.week)),
     }
-    if date.weekday > 6 {
-        return Err(Refused::Weekday);
-    }
-    let monday = monday_of_week(january_4, date.week);
-    day_of_week(monday, date.weekday, day_of(december_31))
 }
 
-// The Monday of a week of a year, from a day of its week 1.
-#[tactic(auto, using(calendar_values::specs::SignedArith::signed_arith))]
-fn monday_of_week(january_4: Date, week: u8) -> i32
-    requires first { 1 ≤ week }
-    requires last { week ≤ 53 }
-    ensures value { result ≡ monday_of january_4 +ℤ pos ((week - 1) * 7) }
-    ensures low { (first_day -ℤ pos 6) ≤ℤ result }
-    ensures high { result ≤ℤ (last_day +ℤ pos 364) }
+// What is refused with a day of the week above 6: the year or the week, where no other day of the week has them accepted, and
+// else that day.
+fn refused_with_weekday(year: i32, week: u8) -> Refused
+    ensures { result ≡ refused_with_weekday year week }
 {
-    monday_of(january_4) + ((week as u16 - 1) * 7) as i32
-}
-
-// The Monday of the week of a date.
-fn monday_of(date: Date) -> i32
-    ensures value { result ≡ monday_of date }
-    ensures low { (first_day -ℤ pos 6) ≤ℤ result }
-    ensures high { result ≤ℤ last_day }
-{
-    day_of(date) - date.weekday().number_days_from_monday() as i32
-}
-
-// A day of the week of a Monday, if the Thursday of that week is not past the last day of the year.
-fn day_of_week(monday: i32, weekday: u8, last: i32) -> Result<i32, Refused>
-    requires low { (first_day -ℤ pos 6) ≤ℤ monday }
-    requires high { monday ≤ℤ (last_day +ℤ pos 364) }
-    requires weekday { weekday ≤ 6 }
-    ensures { result ≡ day_of_week monday weekday last }
-{
-    if monday + 3 > last {
-        return Err(Refused::WeekOfYear);
-    }
-    day_if_any(monday + weekday as i32)
-}
-
-// A day number, if the range has it.
-fn day_if_any(day: i32) -> Result<i32, Refused>
-    ensures { result ≡ day_if_any day }
-{
-    match read_day(day) {
-        Ok(_) => Ok(day),
-        Err(_) => Err(Refused::Result),
+    match Date::from_iso_week_date(year, week, Weekday::Monday) {
+        Ok(_) => Refused::Weekday,
+        Err(refusal) if refusal.is_conditional() => Refused::Weekday,
+        Err(refusal) => Refused::from(refusal),
     }
 }
 

@@ -68,7 +68,14 @@ impl From<ComponentRange> for Refused {
     #[inline(never)]
     fn from(refusal: ComponentRange) -> Refused {
         match refusal.part() {
-            Part::Year => Refused::Year,
+            // A day of the last week of the last year, past the range.
+            Part::Year => {
+                if refusal.is_conditional() {
+                    Refused::Result
+                } else {
+                    Refused::Year
+                }
+            }
             Part::Month => Refused::Month,
             Part::Day => {
                 if refusal.is_conditional() {
