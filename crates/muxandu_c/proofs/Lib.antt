@@ -3,6 +3,7 @@ mod ApartLemmas
 mod BatchLemmas
 mod CarriedDurationLemmas
 mod DayDigitLemmas
+mod EachBatchLemmas
 mod FrontTextLemmas
 mod StatusTextLemmas
 mod TextBatchLemmas
