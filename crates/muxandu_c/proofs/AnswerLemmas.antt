@@ -5,9 +5,11 @@ use Rattle.calendar_values.specs.Offsets.{offset_of_seconds}
 use Rattle.calendar_values.specs.WallClock.{wall_clock}
 use Rattle.offset_times.specs.Local.{Local, instant_of, shown_at, wall_at}
 use Rattle.muxandu_c.specs.Answers.{and_then, as_refused}
-use Rattle.muxandu_c.specs.Values.{date_value, date_time_value, as_date_time, local_if_any, shown, date_time_to_offset}
+use Rattle.muxandu_c.specs.Values.{date_value, date_time_value, date_time_parts, as_date_time, instant_if_any, local_if_any, shown, date_time_to_offset}
+use Rattle.muxandu_c.specs.Values.{duration_value}
 use Rattle.muxandu_c.specs.declared.refused.Refused.{Refused}
 use Rattle.muxandu_c.specs.declared.values.MuxanduDateTime.{MuxanduDateTime}
+use Rattle.muxandu_c.specs.declared.values.MuxanduDuration.{MuxanduDuration}
 
 -- a value leads on
 pub after : {A B : Type 0} (answer : Result A Refused) (next : A → Result B Refused) (x : A) → Ok x ≡ answer → next x ≡ and_then answer next
@@ -35,3 +37,16 @@ date_time_to_offset-of v seconds seconds' at o o' answer made same date_time off
     made ∙ ap (λ (z : ℤ). as_date_time (local_if_any (shown_at (instant_of at) z) z)) same
     ∙ ap as_date_time (after (as_refused (offset_of_seconds seconds)) (λ (z : ℤ). local_if_any (shown_at (instant_of at) z) z) o offset')
     ∙ ap as_date_time (after (date_time_value v) (λ (l : Local). shown (instant_of l) seconds) at date_time)
+
+-- a date-time moved by a duration, forward or back
+pub date_time_moved-of : (move : ℤ → ℤ → ℤ) (v parts : MuxanduDateTime) (w : MuxanduDuration) (at : Local) (d from wall seconds : ℤ)
+    → parts ≡ date_time_parts (wall_at wall seconds) → Ok wall ≡ instant_if_any (move from d) → from ≡ at.wall → at.offset ≡ seconds
+    → Ok at ≡ date_time_value v → Ok d ≡ duration_value w
+    → Ok parts ≡ as_date_time (and_then (date_time_value v) (λ l. and_then (duration_value w) (λ e. local_if_any (move l.wall e) l.offset)))
+date_time_moved-of move v parts w at d from wall seconds made sum start offset date_time duration =
+    let sum' = rw start at sum in
+    let made' = rw (← offset) at made in
+    ap (λ (p : MuxanduDateTime). Ok p) made'
+    ∙ ap as_date_time (after (instant_if_any (move at.wall d)) (λ (z : ℤ). Ok (wall_at z at.offset)) wall sum'
+    ∙ after (duration_value w) (λ (e : ℤ). local_if_any (move at.wall e) at.offset) d duration
+    ∙ after (date_time_value v) (λ (l : Local). and_then (duration_value w) (λ (e : ℤ). local_if_any (move l.wall e) l.offset)) at date_time)
