@@ -43,7 +43,8 @@ fn seconds_of(text: &[u8]) -> Option<i32>
     let hours = two_digits(25, hours)?;
     let minutes = two_digits(59, minutes)?;
     let seconds = two_digits(59, seconds)?;
-    Some(hours as i32 * 3_600 + minutes as i32 * 60 + seconds as i32)
+    let seconds = hours as u32 * 3_600 + minutes as u32 * 60 + seconds as u32;
+    Some(seconds as i32)
 }
 
 // The number of two digits, if it is at most `most`.
