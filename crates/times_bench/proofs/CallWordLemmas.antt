@@ -22,8 +22,8 @@ use Rattle.stamp_times.specs.declared.runs.calls.Replace.{Replace}
 use Rattle.stamp_times.specs.declared.runs.calls.Shift.{Shift}
 use Rattle.std.proofs.lemmas.Bool.{and_parts}
 use Rattle.times_bench.proofs.WordLemmas.{length-cut_at-some}
-use Rattle.times_bench.specs.CallWords.{entry_of, date_reads, clock_reads, read_of, shift_with, date_part_with, clock_part_with, part_with}
-use Rattle.times_bench.specs.CallWords.{replace_with, local_with, call_with, call_of_parts, call_of}
+use Rattle.times_bench.specs.CallWords.{entry_of, date_reads, clock_reads, read_of, shift_with, date_part_with, clock_part_with, fraction_part_with}
+use Rattle.times_bench.specs.CallWords.{part_with, replace_with, local_with, call_with, call_of_parts, call_of}
 use Rattle.times_bench.specs.Words.{cut_at, arguments_of, exactly_one}
 
 -- a name that was compared with a text
@@ -99,7 +99,7 @@ long_date_part name number replace e =
     (long_choice name (codes "replace_day") _ _ replace refl (long_choice name (codes "replace_ordinal") _ _ replace refl (λ none. absurd cc)))) e
 
 long_clock_part : (name number : List ℕ) (replace : Replace) → clock_part_with name number ≡ Some replace → is_long name ≡ true
-unfolding clock_part_with
+unfolding clock_part_with fraction_part_with
 long_clock_part name number replace e =
     long_choice name (codes "replace_hour") _ _ replace refl (long_choice name (codes "replace_minute") _ _ replace refl
     (long_choice name (codes "replace_second") _ _ replace refl (long_choice name (codes "replace_millisecond") _ _ replace refl

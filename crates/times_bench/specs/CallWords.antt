@@ -112,16 +112,21 @@ date_part_with name number =
     else (if bytes_eq name (codes "replace_ordinal") then option_map replacing.Ordinal (u16_of number)
     else None)))
 
+-- a part of the fraction of a second replaced by a number
+unfoldable pub fraction_part_with : List ℕ → List ℕ → Option Replace
+fraction_part_with name number =
+    if bytes_eq name (codes "replace_millisecond") then option_map replacing.Millisecond (u16_of number)
+    else (if bytes_eq name (codes "replace_microsecond") then option_map replacing.Microsecond (u32_of number)
+    else (if bytes_eq name (codes "replace_nanosecond") then option_map replacing.Nanosecond (u32_of number)
+    else None))
+
 -- a part of the time of day replaced by a number
 unfoldable pub clock_part_with : List ℕ → List ℕ → Option Replace
 clock_part_with name number =
     if bytes_eq name (codes "replace_hour") then option_map replacing.Hour (u8_of number)
     else (if bytes_eq name (codes "replace_minute") then option_map replacing.Minute (u8_of number)
     else (if bytes_eq name (codes "replace_second") then option_map replacing.Second (u8_of number)
-    else (if bytes_eq name (codes "replace_millisecond") then option_map replacing.Millisecond (u16_of number)
-    else (if bytes_eq name (codes "replace_microsecond") then option_map replacing.Microsecond (u32_of number)
-    else (if bytes_eq name (codes "replace_nanosecond") then option_map replacing.Nanosecond (u32_of number)
-    else None)))))
+    else fraction_part_with name number))
 
 -- a part replaced by a number
 abbrev pub part_with : List ℕ → List ℕ → Option Replace

@@ -2,7 +2,7 @@
 ghost use Rattle.std.specs.Prelude.{◌≡◌, ◌≤◌, length, OnSome};
 ghost use Rattle.std.specs.Str.{bytes_eq};
 ghost use Rattle.times_bench.specs.CallWords.{entry_of, date_reads, clock_reads, read_of, call_with, shift_with, replace_with, date_part_with};
-ghost use Rattle.times_bench.specs.CallWords.{clock_part_with, parse_duration, parse_time, parse_month, parse_date, call_of};
+ghost use Rattle.times_bench.specs.CallWords.{clock_part_with, fraction_part_with, parse_duration, parse_time, parse_month, parse_date, call_of};
 ghost use Rattle.times_bench.specs.Words.{arguments_of};
 
 use super::numbers::{parse_i32, parse_i64, parse_u8, parse_u16, parse_u32};
@@ -188,6 +188,14 @@ fn clock_part_with(name: &[u8], number: &[u8]) -> Option<Replace>
     if is(name, "replace_second") {
         return Some(Replace::Second(parse_u8(number)?));
     }
+    fraction_part_with(name, number)
+}
+
+// The replacement of a part of the fraction of a second, of this name, by a number.
+#[tactic(auto, unfolding(crate::specs::CallWords::fraction_part_with))]
+fn fraction_part_with(name: &[u8], number: &[u8]) -> Option<Replace>
+    ensures { result ≡ fraction_part_with name.now number.now }
+{
     if is(name, "replace_millisecond") {
         return Some(Replace::Millisecond(parse_u16(number)?));
     }
