@@ -1,10 +1,12 @@
 -- How the replies of a run and what a chain holds print.
-use Rattle.std.specs.Prelude.{ℕ, List, ◌++◌, codes, decimal}
+use Rattle.std.specs.Prelude.{ℕ, ℤ, List, ◌++◌, codes, decimal}
 use Rattle.std.specs.Fmt.{signed_decimal}
 use Rattle.calendar_values.specs.Month.{month_name}
 use Rattle.calendar_values.specs.Refusals.{Refusal}
 use Rattle.calendar_values.specs.Texts.{date_text, time_text, offset_text}
 use Rattle.calendar_values.specs.Weekday.{weekday_name}
+use Rattle.calendar_values.specs.declared.month.Month.{Month}
+use Rattle.calendar_values.specs.declared.weekday.Weekday.{Weekday}
 use Rattle.offset_times.specs.Texts.{offset_date_time_text}
 use Rattle.stamp_times.specs.Texts.{timestamp_text}
 use Rattle.utc_times.specs.Texts.{utc_text}
@@ -21,6 +23,18 @@ use Rattle.stamp_times.specs.declared.chains.steps.Held.TheVariants as held
 abbrev pub refused_text : Refusal → List ℕ
 refused_text refusal = codes "refused " ++ refusal.name
 
+-- a year, a month and a day of the month
+abbrev pub calendar_date_text : ℤ → Month → ℕ → List ℕ
+calendar_date_text y m d = signed_decimal y ++ codes " " ++ month_name m ++ codes " " ++ decimal d
+
+-- a year and a day of the year
+abbrev pub ordinal_date_text : ℤ → ℕ → List ℕ
+ordinal_date_text y ordinal = signed_decimal y ++ codes " " ++ decimal ordinal
+
+-- a year, a week and a day of the week
+abbrev pub iso_week_date_text : ℤ → ℕ → Weekday → List ℕ
+iso_week_date_text y week weekday = signed_decimal y ++ codes " " ++ decimal week ++ codes " " ++ weekday_name weekday
+
 -- a part of the date; several numbers and names have one space between
 unfoldable pub date_part_text : DatePart → List ℕ
 date_part_text (date_part.Date n) = date_text n
@@ -31,11 +45,9 @@ date_part_text (date_part.Ordinal ordinal) = decimal ordinal
 date_part_text (date_part.IsoWeek week) = decimal week
 date_part_text (date_part.SundayWeek week) = decimal week
 date_part_text (date_part.MondayWeek week) = decimal week
-date_part_text (date_part.CalendarDate (y, m, d)) =
-    signed_decimal y ++ codes " " ++ month_name m ++ codes " " ++ decimal d
-date_part_text (date_part.OrdinalDate (y, ordinal)) = signed_decimal y ++ codes " " ++ decimal ordinal
-date_part_text (date_part.IsoWeekDate (y, week, weekday)) =
-    signed_decimal y ++ codes " " ++ decimal week ++ codes " " ++ weekday_name weekday
+date_part_text (date_part.CalendarDate (y, m, d)) = calendar_date_text y m d
+date_part_text (date_part.OrdinalDate (y, ordinal)) = ordinal_date_text y ordinal
+date_part_text (date_part.IsoWeekDate (y, week, weekday)) = iso_week_date_text y week weekday
 date_part_text (date_part.Weekday weekday) = weekday_name weekday
 date_part_text (date_part.JulianDay julian_day) = signed_decimal julian_day
 

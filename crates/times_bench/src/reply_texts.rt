@@ -3,9 +3,10 @@ ghost use Rattle.std.specs.Prelude.{◌≡◌, ◌≤◌, ◌+◌, length, ◌++
 ghost use Rattle.std.specs.Fmt.{signed_decimal};
 ghost use Rattle.calendar_values.specs.Texts.{date_text, time_text};
 ghost use Rattle.stamp_times.specs.Counter.{reply, reply_of_instant, local_reply, instant_after};
+ghost use Rattle.times_bench.specs.ReplyTexts.{calendar_date_text, ordinal_date_text, iso_week_date_text};
 ghost use Rattle.times_bench.specs.ReplyTexts.{refused_text, date_part_text, hms_text, clock_part_text, reply_text, held_text};
 
-use calendar_values::{ComponentRange, Date, Text, Time};
+use calendar_values::{ComponentRange, Date, Month, Text, Time, Weekday};
 use offset_times::OffsetDateTime;
 use stamp_times::{Call, ClockPart, DatePart, Held, Moment};
 use utc_times::UtcDateTime;
@@ -140,26 +141,53 @@ fn push_date_part(text: &mut Text, part: DatePart)
         DatePart::MondayWeek(week) => push_number(text, u32::from(week)),
         DatePart::CalendarDate(parts) => {
             let (year, month, day) = parts;
-            push_signed(text, year);
-            text.push(b' ');
-            text.push_bytes(month.text().as_bytes());
-            push_next(text, u32::from(day));
+            push_calendar_date(text, year, month, day);
         }
         DatePart::OrdinalDate(parts) => {
             let (year, ordinal) = parts;
-            push_signed(text, year);
-            push_next(text, u32::from(ordinal));
+            push_ordinal_date(text, year, ordinal);
         }
         DatePart::IsoWeekDate(parts) => {
             let (year, week, weekday) = parts;
-            push_signed(text, year);
-            push_next(text, u32::from(week));
-            text.push(b' ');
-            text.push_bytes(weekday.text().as_bytes());
+            push_iso_week_date(text, year, week, weekday);
         }
         DatePart::Weekday(weekday) => text.push_bytes(weekday.text().as_bytes()),
         DatePart::JulianDay(julian_day) => push_signed(text, julian_day),
     }
+}
+
+// Adds a year, a month and a day of the month, with one space between.
+fn push_calendar_date(text: &mut Text, year: i32, month: Month, day: u8)
+    requires { length text.old ≡ 0 }
+    ensures value { text.new ≡ text.old ++ calendar_date_text year month day }
+    ensures length { length text.new ≤ 43 }
+{
+    push_signed(text, year);
+    text.push(b' ');
+    text.push_bytes(month.text().as_bytes());
+    push_next(text, u32::from(day));
+}
+
+// Adds a year and a day of the year, with one space between.
+fn push_ordinal_date(text: &mut Text, year: i32, ordinal: u16)
+    requires { length text.old ≡ 0 }
+    ensures value { text.new ≡ text.old ++ ordinal_date_text year ordinal }
+    ensures length { length text.new ≤ 43 }
+{
+    push_signed(text, year);
+    push_next(text, u32::from(ordinal));
+}
+
+// Adds a year, a week and a day of the week, with one space between.
+fn push_iso_week_date(text: &mut Text, year: i32, week: u8, weekday: Weekday)
+    requires { length text.old ≡ 0 }
+    ensures value { text.new ≡ text.old ++ iso_week_date_text year week weekday }
+    ensures length { length text.new ≤ 43 }
+{
+    push_signed(text, year);
+    push_next(text, u32::from(week));
+    text.push(b' ');
+    text.push_bytes(weekday.text().as_bytes());
 }
 
 // Adds a part of the time of day.
