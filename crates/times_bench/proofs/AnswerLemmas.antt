@@ -1,11 +1,12 @@
 -- What a line is answered with.
 use Rattle.std.proofs.Common.{◌≡◌, ℕ, ℤ, ◌+◌, ◌<◌, List, ◌∷◌, ◌++◌, length, drop, get_or, flat_map, codes, append_assoc, add-one}
-use Rattle.std.proofs.Common.{sym, ap, ◌∙◌, ◌≤◌, append-nil}
+use Rattle.std.proofs.Common.{sym, ap, ◌∙◌, ◌≤◌, append-nil, arith, length-append}
 use Rattle.std.proofs.Math.Seq.{drop-cons}
 use Rattle.std.proofs.lemmas.List.{drop_all}
 use Rattle.stamp_times.specs.Counter.{reply, instant_after, replies, last_instant}
 use Rattle.stamp_times.specs.declared.runs.calls.Call.{Call}
 use Rattle.stamp_times.specs.declared.runs.calls.Reply.{Reply}
+use Rattle.times_bench.specs.Progress.{HasRoom}
 use Rattle.times_bench.specs.ReplyTexts.{reply_text}
 
 -- the text of a reply, as it is put
@@ -36,3 +37,16 @@ told-all done all i calls k end h =
 
 pub last_instant-all : (i last : ℤ) (calls : List Call) (k : ℕ) → length calls ≤ k → last_instant i (drop k calls) ≡ last → i ≡ last
 last_instant-all i last calls k end h = ap (last_instant i) (sym (drop_all k calls end)) ∙ h
+
+-- replies have room where an answer has, and so has the end behind them
+pub replies_fit : (pending replies : List ℕ) (count : ℕ) → HasRoom pending → count ≤ 16_384 → count ≡ length replies
+    → length pending + length replies ≤ 65_536
+replies_fit pending replies count room few e = omega (arith, room, few, e)
+
+pub end_fits : (pending replies : List ℕ) (count : ℕ) → HasRoom pending → count ≤ 16_384 → count ≡ length replies
+    → length (pending ++ replies) + 64 ≤ 65_536
+end_fits pending replies count room few e = omega (arith, room, few, e, length-append pending replies)
+
+pub answer_fits : (pending replies : List ℕ) (count all : ℕ) → HasRoom pending → count ≤ 16_384 → count ≡ length replies
+    → all ≤ length (pending ++ replies) + 64 → all < 65_536
+answer_fits pending replies count all room few e most = omega (arith, room, few, e, most, length-append pending replies)
