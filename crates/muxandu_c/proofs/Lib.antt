@@ -5,6 +5,7 @@ mod CarriedDurationLemmas
 mod DayDigitLemmas
 mod EachBatchLemmas
 mod FrontTextLemmas
+mod MonthReplacedLemmas
 mod StatusTextLemmas
 mod TextBatchLemmas
 mod TextBlockLemmas

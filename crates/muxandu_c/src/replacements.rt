@@ -1,6 +1,8 @@
 //! Date-times and instants with one part replaced.
 ghost use Rattle.std.specs.Prelude.{◌≡◌, ◌≤◌, IfOk};
-ghost use Rattle.muxandu_c.specs.Answers.{status_of, written};
+ghost use Rattle.calendar_values.specs.Month.{month_number};
+ghost use Rattle.plain_times.specs.Replacements.{wall_month_outcome};
+ghost use Rattle.muxandu_c.specs.Answers.{as_refused, status_of, written};
 ghost use Rattle.muxandu_c.specs.PartsReplaced.{part_numbered, unsigned_part, replaced, date_time_replace, timestamp_replace};
 ghost use Rattle.muxandu_c.specs.declared.replacements.Part.TheVariants as part;
 
@@ -81,7 +83,16 @@ fn with_month(at: PlainDateTime, value: i32) -> Result<PlainDateTime, Refused>
     ensures { result ≡ replaced at part.Month value }
 {
     let number = unsigned_part(value, 12, Refused::Month)? as u8;
-    Ok(at.replace_month(Month::from_number(number)?)?)
+    match Month::from_number(number) {
+        Ok(month) => in_month(at, month),
+        Err(_) => Err(Refused::Month),
+    }
+}
+
+fn in_month(at: PlainDateTime, month: Month) -> Result<PlainDateTime, Refused>
+    ensures { result ≡ as_refused (wall_month_outcome at (month_number month)).answer }
+{
+    Ok(at.replace_month(month)?)
 }
 
 fn with_day(at: PlainDateTime, value: i32) -> Result<PlainDateTime, Refused>
