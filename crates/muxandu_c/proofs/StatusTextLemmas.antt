@@ -1,10 +1,10 @@
--- What each status is called and says, it alone does.
-use Rattle.std.proofs.Common.{◌≡◌, ◌⊎◌, inl, inr, ℕ, zero, suc, ◌<◌, ◌≤◌, Bool, true, false, nat_eq, nat_lt, List, refl, sym, ap, ◌∙◌, arith, None}
+-- What each status is called and says, it alone does, in ASCII that prints and in so many bytes.
+use Rattle.std.proofs.Common.{◌≡◌, ◌⊎◌, inl, inr, ℕ, zero, suc, ◌<◌, ◌≤◌, Bool, true, false, nat_eq, nat_lt, List, length, refl, sym, ap, ◌∙◌, arith, None}
 use Rattle.std.specs.Prelude.{◌==◌, ◌&&◌, if◌then◌else◌}
 use Rattle.std.specs.Cmp.Lexicographic.{pointwise}
 use Rattle.std.proofs.lemmas.Bool.Decides.{nat_tests}
 use Rattle.std.proofs.lemmas.Bool.{cases_Bool, eqb-true, and_parts}
-use Rattle.muxandu_c.specs.StatusTexts.{refused_numbered, status_name, status_words, name_of_numbered, words_of_numbered}
+use Rattle.muxandu_c.specs.StatusTexts.{is_plain, refused_numbered, status_name, status_words, name_of_numbered, words_of_numbered}
 
 -- the number below a bound of which this is the text, or 26
 abbrev number_of : (ℕ → List ℕ) → ℕ → List ℕ → ℕ
@@ -85,3 +85,27 @@ names_tell a b e = told_apart status_name a b names e
 
 pub words_tell : (a b : ℕ) → status_words a ≡ status_words b → (a ≡ b) ⊎ ((25 < a) × (25 < b))
 words_tell a b e = told_apart status_words a b words e
+
+-- each text of a table is of ASCII that prints, and has at most so many bytes
+abbrev are_plain : (ℕ → List ℕ) → ℕ → Bool
+are_plain f most = are_all_below 27 (λ n. is_plain (f n) && nat_lt (length (f n)) (suc most))
+
+plain_below : (f : ℕ → List ℕ) (most n : ℕ) → are_plain f most ≡ true → n ≤ 26 → (is_plain (f n) ≡ true) × (length (f n) ≤ most)
+plain_below f most n all low =
+    let one = one_of_all 27 (λ n. is_plain (f n) && nat_lt (length (f n)) (suc most)) n all (omega arith) in
+    let both = and_parts (is_plain (f n)) (nat_lt (length (f n)) (suc most)) one in
+    let short = both.1 in
+    (both.0, grind (arith, nat_tests))
+
+plain : (f : ℕ → List ℕ) (most n : ℕ) → IsTable f → are_plain f most ≡ true → (is_plain (f n) ≡ true) × (length (f n) ≤ most)
+plain f most n h all =
+    elim (cases_Bool (nat_lt 25 n)) [
+      | inl t ↦ let above : 25 < n = grind (arith, nat_tests) in rw (h.above n above) (plain_below f most 26 all (omega arith))
+      | inr t ↦ let low : n ≤ 26 = grind (arith, nat_tests) in plain_below f most n all low
+    ]
+
+pub names_are_plain : (n : ℕ) → (is_plain (status_name n) ≡ true) × (length (status_name n) ≤ 15)
+names_are_plain n = plain status_name 15 n names refl
+
+pub words_are_plain : (n : ℕ) → (is_plain (status_words n) ≡ true) × (length (status_words n) ≤ 128)
+words_are_plain n = plain status_words 128 n words refl

@@ -46,9 +46,7 @@ fn refused_numbered(number: u32) -> Option<Refused>
 
 // The name of a refusal.
 fn refused_name(refused: Refused) -> &'static str
-    ensures value { result.now ≡ refused_name refused }
-    ensures ascii { is_plain result.now ≡ true }
-    ensures room { length result.now ≤ 15 }
+    ensures { result.now ≡ refused_name refused }
 {
     match refused {
         Refused::Year => "YEAR",
@@ -81,9 +79,7 @@ fn refused_name(refused: Refused) -> &'static str
 
 // What is refused, in words: the comment of the variant.
 fn refused_words(refused: Refused) -> &'static str
-    ensures value { result.now ≡ refused_words refused }
-    ensures ascii { is_plain result.now ≡ true }
-    ensures room { length result.now ≤ 128 }
+    ensures { result.now ≡ refused_words refused }
 {
     match refused {
         Refused::Year => "A year before -999999 or after 999999.",
@@ -118,9 +114,7 @@ fn refused_words(refused: Refused) -> &'static str
 }
 
 fn status_name(status: u32) -> &'static str
-    ensures value { result.now ≡ status_name status }
-    ensures ascii { is_plain result.now ≡ true }
-    ensures room { length result.now ≤ 15 }
+    ensures { result.now ≡ status_name status }
 {
     if status == 0 {
         return "OK";
@@ -152,9 +146,7 @@ pub extern "C" fn muxandu_status_name(status: u32, buffer: &mut [u8], size: &mut
 }
 
 fn status_words(status: u32) -> &'static str
-    ensures value { result.now ≡ status_words status }
-    ensures ascii { is_plain result.now ≡ true }
-    ensures room { length result.now ≤ 128 }
+    ensures { result.now ≡ status_words status }
 {
     if status == 0 {
         return "Nothing is refused.";
