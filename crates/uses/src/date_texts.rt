@@ -1,5 +1,5 @@
 //! Days that are exchanged as texts of RFC 3339, and records of a fixed size.
-ghost use Rattle.std.specs.Prelude.{◌≡◌, ◌≤◌, ℕ, SomeIff, IfSome, length};
+ghost use Rattle.std.specs.Prelude.{◌≡◌, ◌≤◌, ℕ, SomeIff, IfSome, IsTrue, length};
 ghost use Rattle.std.specs.Result.{is_ok};
 ghost use Rattle.rfc3339.specs.FullDates.{IsFullDate, HasFullDate, full_date_meaning, full_date_reading_of};
 
@@ -28,6 +28,17 @@ pub fn is_day(field: &[u8]) -> bool
     ensures { result ≡ is_ok (full_date_reading_of field.now) }
 {
     date_from_rfc3339(field).is_ok()
+}
+
+/// The same by the numbers of the field.
+#[tactic(auto, using(rfc3339::specs::ReadingLemmas::readings))]
+pub fn has_day(field: &[u8]) -> bool
+    ensures numbers { (year month day : ℕ) → IsFullDate field.now year month day →
+        result ≡ is_ok (full_date_meaning year month day) }
+    ensures form { IsTrue result →
+        (year : ℕ) × (month : ℕ) × (day : ℕ) × IsFullDate field.now year month day }
+{
+    is_day(field)
 }
 
 /// The text of an instant for a column of 30 bytes.

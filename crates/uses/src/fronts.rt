@@ -1,12 +1,19 @@
-//! Texts for other systems, and of them: columns of milliseconds, and where a text is wrong.
-ghost use Rattle.std.specs.Prelude.{◌++◌, ℕ, List, SomeIff};
+//! Texts for other systems, and of them: columns of milliseconds, lines that begin with a date-time, leap seconds, and where a
+//! text is wrong.
+ghost use Rattle.std.specs.Prelude.{◌≡◌, ◌≤◌, ◌==◌, ◌++◌, ℕ, List, SomeIff, OkIff, IfOk, Ok, Some, false, length};
+ghost use Rattle.offset_times.specs.Local.{Local};
 ghost use Rattle.rfc3339.specs.Form.{IsDateTime};
+ghost use Rattle.rfc3339.specs.LeapSeconds.{with_second_59};
+ghost use Rattle.rfc3339.specs.Meaning.{value_of, AreInRange};
+ghost use Rattle.rfc3339.specs.Reading.{reading_of};
 ghost use Rattle.rfc3339.specs.Texts.{HasText, digits_text};
 ghost use Rattle.rfc3339.specs.declared.parts.Parts.{Parts};
 
 use calendar_values::Text;
 use offset_times::OffsetDateTime;
-use rfc3339::{syntax_fault, to_rfc3339_digits};
+use rfc3339::{
+    TextRefusal, parse_rfc3339_front, parse_rfc3339_leap, syntax_fault, to_rfc3339_digits,
+};
 
 /// The text for a column of milliseconds.
 pub fn column_of_milliseconds(at: OffsetDateTime) -> Option<Text>
@@ -20,4 +27,32 @@ pub fn before_the_fault(text: &[u8]) -> &[u8]
     ensures { (rest : List ℕ) × (p : Parts) × IsDateTime (result.now ++ rest) p }
 {
     &text[..syntax_fault(text)]
+}
+
+/// The date-time that a line begins with and how long its text is, exactly where its parts are in their ranges.
+pub fn stamp_of(line: &[u8]) -> Result<(OffsetDateTime, usize), TextRefusal>
+    ensures value { (stamp rest : List ℕ) (p : Parts) → line.now ≡ stamp ++ rest
+        → IsDateTime stamp p → OkIff result (AreInRange p) (value_of p, length stamp) }
+    ensures has_text { IfOk result (λ read. HasText read.0) }
+{
+    parse_rfc3339_front(line)
+}
+
+/// What of a line follows its date-time: all of it where it begins with none.
+pub fn after_the_stamp(line: &[u8]) -> &[u8]
+    ensures { length result.now ≤ length line.now }
+{
+    match parse_rfc3339_front(line) {
+        Ok((_, count)) => &line[count..],
+        Err(_) => line,
+    }
+}
+
+/// What a text of another system means whose second may be 60, and whether it is.
+pub fn with_leap_second(text: &[u8]) -> Option<(OffsetDateTime, bool)>
+    ensures value { (p : Parts) → IsDateTime text.now p → SomeIff result
+        (AreInRange (with_second_59 p)) (value_of (with_second_59 p), p.second == 60) }
+    ensures same { (at : Local) → reading_of text.now ≡ Ok at → result ≡ Some (at, false) }
+{
+    parse_rfc3339_leap(text).ok()
 }

@@ -1,15 +1,16 @@
 //! Callers that do not care which type holds an instant, and records that are exchanged.
-ghost use Rattle.std.specs.Prelude.{◌≡◌, IfOk, IfSome, IsPermutation, IsSorted, OnOk, pos, ◌+ℤ◌, ◌≤ℤ◌};
+ghost use Rattle.std.specs.Prelude.{◌≡◌, ◌↔◌, ◌≤◌, codes, IfErr, IfOk, IfSome, IsOk, IsPermutation, IsSorted, OnOk, pos, ◌+ℤ◌, ◌≤ℤ◌};
 ghost use Rattle.std.specs.Ordering.{on, int_cmp};
-ghost use Rattle.calendar_values.specs.Calendar.{day_of_month_of};
+ghost use Rattle.calendar_values.specs.Calendar.{day_of_month_of, year_of};
 ghost use Rattle.calendar_values.specs.Clock.{nanos_per_day, hour_of};
+ghost use Rattle.calendar_values.specs.Refusals.{date_refusal, outright_refusal};
 ghost use Rattle.calendar_values.specs.WallClock.{wall_day, wall_time};
 ghost use Rattle.offset_times.specs.Local.{instant_of, shown_at, local_at};
 ghost use Rattle.offset_times.specs.Texts.{offset_date_time_text};
 ghost use Rattle.plain_times.specs.Replacements.{with_time};
 ghost use Rattle.plain_times.specs.Truncations.{wall_multiple_below};
 
-use calendar_values::{SignedDuration, Text, Time, UtcOffset};
+use calendar_values::{ComponentRange, SignedDuration, Text, Time, UtcOffset};
 use offset_times::{OffsetDateTime, ToOffset};
 use stamp_times::{Call, Moment, Replace, Reply, Shift, Timestamp, run_both};
 use std::alloc::{AllocError, Global};
@@ -45,6 +46,43 @@ pub fn in_the_last_hour<M: Moment>(at: M) -> M
     ensures day { wall_day (M.instant result) ≡ wall_day (M.instant at) }
 {
     at.replace(Replace::Hour(23)).unwrap()
+}
+
+/// The same day at another hour, exactly where a day has it, for any type that holds an instant.
+pub fn at_hour<M: Moment>(at: M, hour: u8) -> Result<M, ComponentRange>
+    ensures accepted { IsOk result ↔ (hour ≤ 23) }
+    ensures shown { IfOk result (λ next. hour_of (wall_time (M.instant next)) ≡ hour) }
+    ensures refused { IfErr result (λ refusal. refusal ≡ outright_refusal (codes "hour")) }
+{
+    at.replace(Replace::Hour(hour))
+}
+
+/// The same day at an hour that is known to be one, for any type that holds an instant.
+pub fn at_known_hour<M: Moment>(at: M, hour: u8) -> M
+    requires { hour ≤ 23 }
+    ensures { hour_of (wall_time (M.instant result)) ≡ hour }
+{
+    at.replace(Replace::Hour(hour)).unwrap()
+}
+
+/// The day of the month, exactly where the month has it, for any type that holds an instant.
+pub fn on_day<M: Moment>(at: M, day: u8) -> Result<M, ComponentRange>
+    ensures shown { IfOk result (λ next. day_of_month_of (wall_day (M.instant next)) ≡ day) }
+    ensures refused { let year = year_of (wall_day (M.instant at)) in
+        IfErr result (λ refusal. refusal ≡ date_refusal year day) }
+{
+    at.replace(Replace::Day(day))
+}
+
+/// The same day at a time of day, which is never refused, for any type that holds an instant.
+pub fn at_time<M: Moment>(at: M, time: Time) -> M
+    ensures day { wall_day (M.instant result) ≡ wall_day (M.instant at) }
+    ensures time { wall_time (M.instant result) ≡ time }
+{
+    match at.replace(Replace::Time(time)) {
+        Ok(next) => next,
+        Err(_) => unreachable!(),
+    }
 }
 
 /// An hour later, or the end of the range, for any type that holds an instant.

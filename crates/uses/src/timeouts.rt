@@ -1,10 +1,15 @@
 //! Work that may take so long, and no longer.
-ghost use Rattle.std.specs.Prelude.{◌≡◌, ◌↔◌, ◌+ℤ◌, ◌-ℤ◌, ◌≤ℤ◌, ◌<ℤ◌, pos, IfSome, IsTrue};
+ghost use Rattle.std.specs.Prelude.{◌≡◌, ◌↔◌, ◌≤◌, ◌+ℤ◌, ◌-ℤ◌, ◌≤ℤ◌, ◌<ℤ◌, pos, unsigned_abs, IfSome, IsTrue};
+ghost use Rattle.std.specs.Duration.{as_nanos};
 ghost use Rattle.std.specs.Ordering.{int_cmp};
+ghost use Rattle.calendar_values.specs.Clock.{nanos_per_day};
+ghost use Rattle.calendar_values.specs.Durations.{whole_milliseconds_of, whole_microseconds_of};
+ghost use Rattle.calendar_values.specs.Durations.{subsec_milliseconds_of, subsec_microseconds_of, whole_seconds_of};
 ghost use Rattle.offset_times.specs.Local.{instant_of};
 
 use calendar_values::SignedDuration;
 use offset_times::OffsetDateTime;
+use std::time::Duration;
 
 /// Whether the work has taken as long as it may.
 pub fn has_timed_out(started: OffsetDateTime, limit: SignedDuration, now: OffsetDateTime) -> bool
@@ -24,6 +29,64 @@ pub fn remaining(now: OffsetDateTime, deadline: OffsetDateTime) -> SignedDuratio
     } else {
         SignedDuration::ZERO
     }
+}
+
+/// How long the work took, for a log in milliseconds.
+pub fn took_milliseconds(started: OffsetDateTime, ended: OffsetDateTime) -> i128
+    ensures { result ≡ whole_milliseconds_of (instant_of ended -ℤ instant_of started) }
+{
+    (ended - started).whole_milliseconds()
+}
+
+/// The same in microseconds, and in nanoseconds.
+pub fn took(started: OffsetDateTime, ended: OffsetDateTime) -> (i128, i128)
+    ensures microseconds { result.0 ≡
+        whole_microseconds_of (instant_of ended -ℤ instant_of started) }
+    ensures nanoseconds { result.1 ≡ instant_of ended -ℤ instant_of started }
+{
+    let work = ended - started;
+    (work.whole_microseconds(), work.whole_nanoseconds())
+}
+
+/// Whole seconds and the milliseconds that they leave, as a progress line prints them.
+pub fn seconds_and_milliseconds(work: SignedDuration) -> (i64, i16)
+    ensures seconds { result.0 ≡ whole_seconds_of work }
+    ensures milliseconds { result.1 ≡ subsec_milliseconds_of work }
+    ensures in_range { unsigned_abs result.1 ≤ 999 }
+{
+    (work.whole_seconds(), work.subsec_milliseconds())
+}
+
+/// The same with microseconds.
+pub fn seconds_and_microseconds(work: SignedDuration) -> (i64, i32)
+    ensures seconds { result.0 ≡ whole_seconds_of work }
+    ensures microseconds { result.1 ≡ subsec_microseconds_of work }
+    ensures in_range { unsigned_abs result.1 ≤ 999_999 }
+{
+    (work.whole_seconds(), work.subsec_microseconds())
+}
+
+/// How far two events are apart, whichever was first, as std's duration.
+pub fn apart_either_way(first: OffsetDateTime, second: OffsetDateTime) -> Duration
+    ensures { as_nanos result ≡ unsigned_abs (instant_of second -ℤ instant_of first) }
+{
+    (second - first).unsigned_abs()
+}
+
+/// How far a clock is off, whether it is ahead or behind.
+pub fn drift(clock: OffsetDateTime, reference: OffsetDateTime) -> SignedDuration
+    ensures not_negative { pos 0 ≤ℤ result }
+    ensures size { unsigned_abs result ≤ unsigned_abs (instant_of clock -ℤ instant_of reference) }
+{
+    (clock - reference).abs()
+}
+
+/// The size of a lag of at most a day, whether it is ahead or behind.
+pub fn size_of_lag(lag: SignedDuration) -> SignedDuration
+    requires { unsigned_abs lag ≤ nanos_per_day }
+    ensures { result ≡ pos (unsigned_abs lag) }
+{
+    lag.abs()
 }
 
 /// The deadline, so much later. None outside the range.
