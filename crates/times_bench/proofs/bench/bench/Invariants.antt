@@ -1,4 +1,4 @@
-use Rattle.std.proofs.Common.{List, ℕ, [], ◌≡◌, ◌≤◌, length, false}
+use Rattle.std.proofs.Common.{List, ℕ, [], ◌≡◌, ◌<◌, ◌≤◌, length, false}
 use Rattle.std.specs.Io.KnownBytes.{Consumes}
 use Rattle.line_devices.specs.LineParts.{rest_from}
 use Rattle.times_bench.specs.LineParts.{Holds}
@@ -12,6 +12,7 @@ invariant-reads g l =
     (taken : List ℕ) × record {
       consumed : Consumes (left l.fn.reader) (left l.reader) taken;
       turns : l._turn ≤ length taken;
+      block : 0 < length l.block;
       line : Holds (rest_from [] taken) l.line;
       empty : l.pending ≡ [];
       sent : AnswersWritten (written l.fn.writer) (written l.writer) taken;
