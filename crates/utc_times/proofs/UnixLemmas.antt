@@ -4,7 +4,7 @@ use Rattle.std.specs.Int.{w64, w128, int_div_euclid, int_rem_euclid}
 use Rattle.calendar_values.specs.Clock.{nanos_per_day, nanos_per_second, nanosecond_of}
 use Rattle.calendar_values.specs.Range.{IsDay}
 use Rattle.calendar_values.specs.SignedArith.{signed_arith, signed_casts}
-use Rattle.calendar_values.specs.WallClockLemmas.{IsDay-wall_day, IsWallClock-wall_clock}
+use Rattle.calendar_values.specs.WallClockLemmas.{IsWallClock-wall_clock}
 use Rattle.calendar_values.specs.WallClock.{wall_clock, wall_day, wall_time, unix_seconds_of, IsWallClock}
 use Rattle.utc_times.specs.UnixTime.{instant_of_second}
 
@@ -53,7 +53,5 @@ unix_seconds_of-parts w = omega (arith, signed_arith)
 pub unix_seconds_of-nanosecond : (w : ℤ) → unix_seconds_of w *ℤ pos nanos_per_second +ℤ pos (nanosecond_of (wall_time w)) ≡ w
 unfolding wall_time
 unix_seconds_of-nanosecond w = omega (arith, signed_arith)
-
-pub ruleset unix_days = (signed_casts, IsDay-wall_day)
 
 pub ruleset unix_seconds = (signed_casts, unix_seconds_of-parts, unix_seconds_of-nanosecond)
