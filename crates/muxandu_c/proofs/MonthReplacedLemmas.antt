@@ -1,5 +1,5 @@
 -- A month that is replaced, and a number that no month has.
-use Rattle.std.proofs.Common.{◌≡◌, ◌∙◌, ℕ, ◌≤◌, ◌==◌, ◌||◌, true, false, nat_lt, ℤ, Result, Ok, Err, refl, sym, arith}
+use Rattle.std.proofs.Common.{◌≡◌, ◌∙◌, ℕ, ◌≤◌, ◌==◌, ◌||◌, true, false, nat_lt, ℤ, Result, Ok, Err, refl, arith}
 use Rattle.std.proofs.lemmas.Bool.Decides.{nat_tests}
 use Rattle.plain_times.specs.Replacements.{wall_month_outcome}
 use Rattle.muxandu_c.proofs.AnswerLemmas.{after}

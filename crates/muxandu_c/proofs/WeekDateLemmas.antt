@@ -12,9 +12,7 @@ use Rattle.calendar_values.specs.SignedArith.{signed_arith}
 use Rattle.calendar_values.specs.WeekLemmas.{weekday_of-parts, weekday_of-bound}
 use Rattle.calendar_values.specs.Weeks.{weekday_of, iso_year_of, iso_week_of, weeks_in_year}
 use Rattle.muxandu_c.specs.Answers.{and_then, as_refused}
-use Rattle.muxandu_c.specs.Values.{day_value}
 use Rattle.muxandu_c.specs.WeekDates.{day_from_week_date, week_date_from_day, refused_with_weekday}
-use Rattle.muxandu_c.specs.declared.refused.Refused.{Refused}
 use Rattle.muxandu_c.specs.declared.refused.Refused.TheVariants as refused
 use Rattle.muxandu_c.specs.declared.values.MuxanduWeekDate.{MuxanduWeekDate}
 
