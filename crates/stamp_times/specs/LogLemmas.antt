@@ -9,7 +9,6 @@ use Rattle.std.proofs.lemmas.List.Elements.{Contains-append_left, Contains-appen
 use Rattle.std.proofs.lemmas.List.Filters.{dedup_is}
 use Rattle.std.proofs.lemmas.List.Kept.{IsStrictlySortedBy-dedup, Contains-dedup, Contains-from_dedup}
 use Rattle.std.proofs.lemmas.List.Sorted.{searchable_from_sorted}
-use Rattle.std.proofs.Math.Seq.{take-append_seam}
 use Rattle.std.specs.List.{AllByRecursion, AllWithin, Contains, insert}
 use Rattle.std.specs.List.Retain.{IsFiltered, DiffersFromLast}
 use Rattle.std.specs.List.Sorted.{IsSorted, IsStrictlySortedBy, IsNonDecreasingBy, IsPartitionPoint}
@@ -98,9 +97,6 @@ Contains-before_dedup xs ys x left there = let is = dedup_is int_eq xs ys left i
 -- what is in two lists that are joined is in one of them
 pub Contains-joined : (xs ys zs : List ℤ) (x : ℤ) → zs ≡ xs ++ ys → Contains zs x → Contains xs x ⊎ Contains ys x
 Contains-joined xs ys zs x e there = Contains-append_cases xs ys x (rw e at there)
-
--- what becomes of two lists that are one behind the other, and of the first of them again
-pub ruleset joined = (Contains-append_left, Contains-append_right, Contains-append_cases, take-append_seam)
 
 -- ---- the last of a list in order
 

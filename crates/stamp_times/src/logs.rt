@@ -55,7 +55,6 @@ pub fn put_in_order(log: &mut Vec<Timestamp>) -> Result<(), AllocError>
 
 /// Adds the entries of another list, puts all in order, and leaves each timestamp once. `AllocError`, with the log as
 /// before, where there is no memory for them or to sort them.
-#[tactic(auto, using(crate::specs::LogLemmas::joined))]
 pub fn merge(log: &mut Vec<Timestamp>, other: &[Timestamp]) -> Result<(), AllocError>
     ensures in_order { OnOk result (IsStrictlySortedBy int_cmp log.new.items) }
     ensures entered { OnOk result ((entry : ℤ) →
