@@ -1,4 +1,5 @@
 pub mod Device
+pub mod FaultLemmas
 pub mod InputLemmas
 pub mod LineLemmas
 pub mod LineParts
