@@ -1,5 +1,5 @@
 -- Reading an input to its end, a block at a time.
-use Rattle.std.proofs.Common.{◌≡◌, ◌≢◌, ◌⊎◌, inl, inr, ℕ, ◌≤◌, ◌<◌, Bool, true, false, nat_lt, List, [], ◌++◌, length, Option, Some, None, Result, Ok, Err}
+use Rattle.std.proofs.Common.{◌≡◌, ◌≢◌, inl, inr, ℕ, ◌≤◌, ◌<◌, Bool, true, false, nat_lt, List, [], length, Option, Result, Ok, Err}
 use Rattle.std.proofs.Common.{refl, sym, ap, subst, ◌∙◌, arith}
 use Rattle.std.proofs.Common.{append-nil}
 use Rattle.std.specs.Io.KnownBytes.{Appends}
@@ -11,7 +11,7 @@ use Rattle.line_devices.specs.WritingLemmas.{Appends-nil, Appends-flushed, Sends
 use Rattle.stamps.specs.Decisions.{longest_stamp, decision_of, state_after, first_state}
 use Rattle.stamps.specs.Faults.{stamp_fault, FoundIn}
 use Rattle.stamps.specs.Progress.{Ends, Stands, mark_after}
-use Rattle.stamps.specs.Runs.{Run, run, behind, shown, known_after, last_run, lines_run, begun_run, input_run, open_run}
+use Rattle.stamps.specs.Runs.{Run, run, behind, shown, known_after, lines_run, begun_run, input_run, open_run}
 use Rattle.stamps.specs.declared.decide.State.{State}
 use Rattle.stamps.specs.declared.finding.Finding.{Finding}
 use Rattle.stamps.specs.declared.lines.LineFault.{LineFault}

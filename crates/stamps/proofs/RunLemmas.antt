@@ -1,13 +1,12 @@
 -- What an input comes to, part by part.
-use Rattle.std.proofs.Common.{◌≡◌, ◌≢◌, ℕ, ◌+◌, ◌≤◌, ◌<◌, Bool, true, false, cond, nat_eq, List, [], ◌∷◌, ◌++◌, length, length-append, take, drop, Result, Ok}
+use Rattle.std.proofs.Common.{◌≡◌, ℕ, true, false, cond, nat_eq, List, [], ◌∷◌, ◌++◌, Result, Ok}
 use Rattle.std.proofs.Common.{Err}
-use Rattle.std.proofs.Common.{refl, sym, ap, subst, ◌∙◌, arith, append_assoc, append-nil}
+use Rattle.std.proofs.Common.{refl, sym, ap, ◌∙◌, append_assoc, append-nil}
 use Rattle.line_devices.specs.LineLemmas.{pieces_of-parts, whole_lines_of-parts, ended_from-line_feed}
 use Rattle.line_devices.specs.LineParts.{ended_from, rest_from}
-use Rattle.line_devices.specs.Lines.{pieces_of, whole_lines_of}
-use Rattle.stamps.specs.Decisions.{decision_of, state_after, first_state}
-use Rattle.stamps.specs.Runs.{Run, run, behind, then_on, shown, line_feed, known_after, line_run, last_run, lines_run, last_of, input_run, begun_run, open_run}
-use Rattle.stamps.specs.declared.decide.Decision.{Decision}
+use Rattle.line_devices.specs.Lines.{pieces_of}
+use Rattle.stamps.specs.Decisions.{first_state}
+use Rattle.stamps.specs.Runs.{Run, run, behind, then_on, line_run, last_run, lines_run, last_of, input_run, begun_run, open_run}
 use Rattle.stamps.specs.declared.decide.State.{State}
 use Rattle.stamps.specs.declared.finding.Finding.{Finding}
 use Rattle.stamps.specs.declared.task.Task.{Task}

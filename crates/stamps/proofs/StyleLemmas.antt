@@ -1,6 +1,6 @@
 -- Which instants have a text.
-use Rattle.std.proofs.Common.{◌≡◌, ℕ, ◌%◌, ◌<◌, ◌≤◌, Bool, true, false, cond, nat_eq, nat_lt, List, Option, Some, None, ℤ, pos, negsuc, ◌≤ℤ◌, unsigned_abs}
-use Rattle.std.proofs.Common.{refl, sym, ap, subst, ◌∙◌}
+use Rattle.std.proofs.Common.{◌≡◌, ℕ, ◌%◌, ◌<◌, Bool, true, false, cond, nat_eq, nat_lt, List, Option, Some, None, ℤ, pos, negsuc, ◌≤ℤ◌, unsigned_abs}
+use Rattle.std.proofs.Common.{refl, ap, subst}
 use Rattle.std.proofs.Common.{arith}
 use Rattle.std.specs.Prelude.{SomeIff, ◌&&◌}
 use Rattle.std.proofs.lemmas.Bool.{and_parts}
@@ -9,7 +9,7 @@ use Rattle.calendar_values.specs.Calendar.{year_of}
 use Rattle.calendar_values.specs.SignedArith.{signed_arith}
 use Rattle.calendar_values.specs.WallClock.{IsWallClock, wall_day}
 use Rattle.offset_times.specs.InstantLemmas.{instant_of-utc}
-use Rattle.offset_times.specs.Local.{Local, local_at, local_in_utc, shown_at}
+use Rattle.offset_times.specs.Local.{local_at, local_in_utc, shown_at}
 use Rattle.rfc3339.specs.ReadInstantLemmas.{instant_of-in_range}
 use Rattle.rfc3339.specs.Texts.{HasText, HasFixedText, fixed_text, fixed_text_at}
 use Rattle.stamps.specs.Styles.{has_four_digits, is_written, text_in}

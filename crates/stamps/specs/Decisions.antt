@@ -1,5 +1,5 @@
 -- What becomes of a line, by the stamp at its front.
-use Rattle.std.specs.Prelude.{ℕ, ◌+◌, ◌-◌, ◌^◌, Bool, true, false, not, min, List, [], take, drop, ◌++◌, if◌then◌else◌, ℤ, int_lt, Option, Some, None, Result}
+use Rattle.std.specs.Prelude.{ℕ, ◌+◌, ◌-◌, ◌^◌, Bool, true, false, not, min, List, [], take, if◌then◌else◌, ℤ, int_lt, Option, Some, None, Result}
 use Rattle.std.specs.Prelude.{Ok, Err}
 use Rattle.std.specs.Result.{result_map_both}
 use Rattle.offset_times.specs.Local.{Local, instant_of}

@@ -1,5 +1,5 @@
 -- What ends the work.
-use Rattle.std.specs.Prelude.{◌≡◌, ℕ, List, codes, Option, Err}
+use Rattle.std.specs.Prelude.{◌≡◌, ℕ, List, Option, Err}
 use Rattle.std.specs.Io.KnownBytes.{Appends}
 use Rattle.stamps.specs.Runs.{Run}
 use Rattle.stamps.specs.declared.finding.Finding.{Finding}

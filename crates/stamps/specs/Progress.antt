@@ -1,5 +1,5 @@
 -- What was sent of an input that comes in parts, and what may end the work.
-use Rattle.std.specs.Prelude.{◌≡◌, ◌⊎◌, ℕ, ◌≤◌, ◌<◌, Bool, true, false, List, [], ◌++◌, length, Option, Result, Ok, Err, MatchResult, OnOk, IsOk}
+use Rattle.std.specs.Prelude.{◌≡◌, ◌⊎◌, ℕ, ◌≤◌, ◌<◌, Bool, true, false, List, [], ◌++◌, length, Option, Result, Ok, Err, MatchResult, IsOk}
 use Rattle.std.specs.Io.KnownBytes.{Appends}
 use Rattle.line_devices.specs.LineParts.{ended_from, rest_from}
 use Rattle.line_devices.specs.Writing.{AppendsBeginning, Sends}

@@ -1,5 +1,5 @@
 use Rattle.std.proofs.Common.{inr}
-use Rattle.std.proofs.lemmas.Result.{err_from_is_err_and, MatchResult-weaker}
+use Rattle.std.proofs.lemmas.Result.{MatchResult-weaker}
 use Rattle.stamps.proofs.StepLemmas.{kept_is, other_is, kept_of, decided_of, some_line, long_settled, empty_settled}
 use Rattle.stamps.proofs.lines.decide_rest.Goals as goal
 

@@ -1,4 +1,4 @@
-use Rattle.std.proofs.Common.{arith, refl, inl, ◌∙◌, ap, subst, sym, ◌≡◌, ◌≤◌, ◌<◌, ◌++◌, List, ℕ, length, length-append, take}
+use Rattle.std.proofs.Common.{arith, refl, inl, ◌∙◌, subst, sym, ◌≡◌, ◌≤◌, ◌<◌, ◌++◌, List, ℕ, length, length-append, take}
 use Rattle.std.proofs.lemmas.Result.{err_from_is_err_and, MatchResult-weaker}
 use Rattle.std.proofs.lemmas.List.{take_all}
 use Rattle.stamps.specs.declared.lines.Work.{Work}

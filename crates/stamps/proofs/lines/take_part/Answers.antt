@@ -1,4 +1,4 @@
-use Rattle.std.proofs.lemmas.Result.{err_from_is_err_and, MatchResult-weaker}
+use Rattle.std.proofs.lemmas.Result.{MatchResult-weaker}
 use Rattle.stamps.proofs.StepLemmas.{kept_is, other_is, kept_of, decided_of, pass_stands, pass_ends}
 use Rattle.stamps.proofs.lines.take_part.Goals as goal
 
