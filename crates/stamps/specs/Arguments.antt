@@ -48,6 +48,13 @@ abbrev pub bound_of : List (List ℕ) → Result ℤ Misuse
 bound_of [] = Err NoInstant
 bound_of (text ∷ words) = bound_read (reading_as instant_of text) words
 
+-- a task that an instant bounds
+unfoldable pub bounded : List ℕ → List (List ℕ) → Result Task Misuse
+bounded word words =
+    if bytes_eq word (codes "since") then result_map_both Since (λ misuse. misuse) (bound_of words)
+    else (if bytes_eq word (codes "until") then result_map_both Until (λ misuse. misuse) (bound_of words)
+    else Err UnknownWord)
+
 -- the words after the name of the program
 unfoldable pub task_asked : List (List ℕ) → Result Task Misuse
 task_asked [] = Err NoWord
@@ -56,9 +63,7 @@ task_asked (word ∷ words) =
     else (if bytes_eq word (codes "unix") then written Unix words
     else (if bytes_eq word (codes "at") then at_offset words
     else (if bytes_eq word (codes "check") then plain Check words
-    else (if bytes_eq word (codes "since") then result_map_both Since (λ misuse. misuse) (bound_of words)
-    else (if bytes_eq word (codes "until") then result_map_both Until (λ misuse. misuse) (bound_of words)
-    else Err UnknownWord)))))
+    else bounded word words)))
 
 abbrev pub misuse_text : Misuse → List ℕ
 misuse_text NoWord = codes "no word"

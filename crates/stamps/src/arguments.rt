@@ -1,8 +1,9 @@
 //! What the words of the command line ask for.
 ghost use Rattle.std.specs.Prelude.{◌≡◌, map};
+ghost use Rattle.std.specs.Str.{bytes_eq};
 ghost use Rattle.offset_times.specs.Local.{instant_of};
 ghost use Rattle.rfc3339.specs.Reading.{reading_as};
-ghost use Rattle.stamps.specs.Arguments.{task_asked, written, at_offset, bound_of, alone, plain, misuse_text};
+ghost use Rattle.stamps.specs.Arguments.{task_asked, bounded, written, at_offset, bound_of, alone, plain, misuse_text};
 
 use crate::task::{Style, Task};
 use rfc3339::{Rfc3339, TextRefusal, parse_rfc3339_offset};
@@ -35,18 +36,35 @@ pub fn task_asked(words: &[&[u8]]) -> Result<Task, Misuse>
     let Some((word, rest)) = words.split_first() else {
         return Err(Misuse::NoWord);
     };
-    if *word == b"utc".as_slice() {
+    if is(word, "utc") {
         written(Style::Utc, rest)
-    } else if *word == b"unix".as_slice() {
+    } else if is(word, "unix") {
         written(Style::Unix, rest)
-    } else if *word == b"at".as_slice() {
+    } else if is(word, "at") {
         at_offset(rest)
-    } else if *word == b"check".as_slice() {
+    } else if is(word, "check") {
         plain(Task::Check, rest)
-    } else if *word == b"since".as_slice() {
-        Ok(Task::Since(bound_of(rest)?))
-    } else if *word == b"until".as_slice() {
-        Ok(Task::Until(bound_of(rest)?))
+    } else {
+        bounded(word, rest)
+    }
+}
+
+// Whether a word is this text.
+fn is(word: &[u8], text: &str) -> bool
+    ensures { result ≡ bytes_eq word.now text.now }
+{
+    word == text.as_bytes()
+}
+
+// A task that an instant bounds.
+#[tactic(auto, unfolding(crate::specs::Arguments::bounded))]
+fn bounded(word: &[u8], words: &[&[u8]]) -> Result<Task, Misuse>
+    ensures { result ≡ bounded word.now (map (λ word. word.now) words.now) }
+{
+    if is(word, "since") {
+        Ok(Task::Since(bound_of(words)?))
+    } else if is(word, "until") {
+        Ok(Task::Until(bound_of(words)?))
     } else {
         Err(Misuse::UnknownWord)
     }
