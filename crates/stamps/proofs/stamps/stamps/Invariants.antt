@@ -1,4 +1,4 @@
-use Rattle.std.proofs.Common.{List, ℕ, [], ◌≡◌, ◌≤◌, length, false}
+use Rattle.std.proofs.Common.{List, ℕ, [], ◌≡◌, ◌<◌, ◌≤◌, length, false}
 use Rattle.std.specs.Io.KnownBytes.{Consumes}
 use Rattle.stamps.specs.Progress.{Stands}
 use Rattle.stamps.proofs.stamps.stamps.Given as goal
@@ -10,6 +10,7 @@ invariant-reads g l =
     (taken : List ℕ) × record {
       consumed : Consumes (left l.fn.reader) (left l.reader) taken;
       turns : l._turn ≤ length taken;
+      block : 0 < length l.block;
       stands : Stands l.task (written l.fn.writer) (written l.writer) l.pending l.work taken;
       empty : l.pending ≡ [];
       reader_mark : g.R.Source.is_marked l.reader ≡ false;
