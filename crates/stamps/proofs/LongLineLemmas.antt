@@ -1,7 +1,7 @@
 -- A line is decided by the bytes that a stamp may have, and what follows them goes on or is left out.
-use Rattle.std.proofs.Common.{◌≡◌, ℕ, ◌+◌, ◌-◌, ◌≤◌, ◌<◌, Bool, true, false, cond, nat_eq, List, [], ◌∷◌, ◌++◌, length, length-append, take, drop, Option}
+use Rattle.std.proofs.Common.{◌≡◌, ℕ, ◌-◌, ◌≤◌, ◌<◌, Bool, true, false, cond, nat_eq, List, [], ◌∷◌, ◌++◌, length, length-append, take, drop, Option}
 use Rattle.std.proofs.Common.{Some, None, Result, Ok, Err, ℤ}
-use Rattle.std.proofs.Common.{◌⊎◌, inl, inr, refl, sym, ap, subst, ◌∙◌, arith, append_assoc, append-nil}
+use Rattle.std.proofs.Common.{inl, inr, refl, sym, ap, subst, ◌∙◌, arith, append_assoc, append-nil}
 use Rattle.std.specs.Prelude.{⊤}
 use Rattle.std.specs.Result.{result_map_both}
 use Rattle.std.proofs.lemmas.Bool.{cases_Bool}
@@ -15,7 +15,7 @@ use Rattle.rfc3339.specs.declared.parts.Parts.{Parts}
 use Rattle.rfc3339.specs.declared.refusal.TextRefusal.{TextRefusal}
 use Rattle.rfc3339.specs.declared.refusal.TextRefusal.TheVariants.{Syntax, OutOfRange}
 use Rattle.stamps.specs.Decisions.{Stamp, told, longest_stamp, stamp_of, one_more, as_it_is, in_place, rewritten, is_earlier, checked, going_on, goes_on}
-use Rattle.stamps.specs.Decisions.{cause_of, finding}
+use Rattle.stamps.specs.Decisions.{cause_of}
 use Rattle.stamps.specs.Decisions.{decision_by, decision_of, state_by, state_after}
 use Rattle.stamps.specs.Progress.{passed, progress_of}
 use Rattle.stamps.specs.Runs.{Run, run, then_on, shown, line_feed, known_after, line_run, last_run}
@@ -112,8 +112,6 @@ within_is (Stop found) text count most e h = absurd cc
 -- as a line is decided, its stamp stands in it
 pub count_within : (task : Task) (state : State) (line text : List ℕ) (count : ℕ) → Keep text count ≡ decision_of task state line → count ≤ length line
 count_within task state line text count e = within_is (decision_of task state line) text count (length line) e (decision_of-within task state line)
-
-pub ruleset line_counts = (count_within)
 
 -- ---- more bytes behind those of a stamp change nothing
 

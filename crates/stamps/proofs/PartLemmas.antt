@@ -1,5 +1,5 @@
 -- What was sent of an input, as more of it is taken in.
-use Rattle.std.proofs.Common.{◌≡◌, ◌≢◌, ◌⊎◌, inl, inr, ℕ, ◌+◌, ◌≤◌, ◌<◌, get_or, List, [], ◌∷◌, ◌++◌, length, length-append, take, drop, Option, Result, Ok}
+use Rattle.std.proofs.Common.{◌≡◌, ◌≢◌, inl, inr, ℕ, ◌+◌, ◌≤◌, ◌<◌, List, [], ◌∷◌, ◌++◌, length, length-append, take, drop, Option, Result, Ok}
 use Rattle.std.proofs.Common.{Err}
 use Rattle.std.proofs.Common.{refl, sym, ap, subst, ◌∙◌, arith, append_assoc, append-nil}
 use Rattle.std.specs.Prelude.{IsOk}
@@ -9,7 +9,7 @@ use Rattle.line_devices.specs.LineLemmas.{none_ended, ended_from-append, rest_fr
 use Rattle.line_devices.specs.LineParts.{ended_from, rest_from, HasNone}
 use Rattle.line_devices.specs.Writing.{AppendsBeginning, Sends}
 use Rattle.line_devices.specs.WritingLemmas.{Appends-flushed, AppendsBeginning-longer, AppendsBeginning-pending, AppendsBeginning-flushed, Sends-append}
-use Rattle.line_devices.specs.WritingLemmas.{Sends-flushed}
+use Rattle.line_devices.specs.WritingLemmas.{Sends-flushed, Sends-nothing}
 use Rattle.stamps.specs.Decisions.{longest_stamp, decision_of, state_after, first_state}
 use Rattle.stamps.specs.Progress.{Begins, Completes, Decided, Ends, Keeps, KeepsLine, Passes, Settled, Stands, passed, progress_of}
 use Rattle.stamps.specs.Runs.{Run, run, behind, shown, line_feed, known_after, line_run, last_run, lines_run, input_run}
@@ -20,8 +20,9 @@ use Rattle.stamps.specs.declared.finding.Finding.{Finding}
 use Rattle.stamps.specs.declared.lines.LineFault.{LineFault}
 use Rattle.stamps.specs.declared.lines.LineFault.TheVariants.{Write, Found}
 use Rattle.stamps.specs.declared.lines.Progress.{Progress}
-use Rattle.stamps.specs.declared.lines.Progress.TheVariants.{Kept, Sent, Skipped}
+use Rattle.stamps.specs.declared.lines.Progress.TheVariants.{Kept, Skipped}
 use Rattle.stamps.specs.declared.lines.Work.{Work}
+use Rattle.stamps.specs.declared.lines.Progress.TheVariants.{Skipped}
 use Rattle.stamps.specs.declared.task.Task.{Task}
 use Rattle.stamps.proofs.LongLineLemmas.{Continues, continues_long, last_run-some, decision_of-longer, state_after-longer, shown-longer}
 use Rattle.stamps.proofs.RunLemmas.{run_from, then_on-text, input_run-known, lines_run-line_feed}
@@ -350,3 +351,9 @@ begins_kept (Ok progress) decision known old new pending pending' line text coun
 begins_kept (Err Write) decision known old new pending pending' line text count e h =
     subst (λ (z : Decision). AppendsBeginning old new (pending ++ shown z line)) e h
 begins_kept (Err (Found found)) decision known old new pending pending' line text count e h = absurd h
+
+-- a line that does not go on
+pub begins_skipped : (decision : Decision) (known : State) (now : Option (List ℕ)) (pending line : List ℕ) → Skip ≡ decision
+    → Begins (Ok Skipped) decision known now now pending pending line
+begins_skipped decision known now pending line e =
+    subst (λ (z : Decision). Begins (Ok Skipped) z known now now pending pending line) e (rw (append-nil pending) (Sends-nothing now pending), refl, refl)

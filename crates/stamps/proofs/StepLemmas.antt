@@ -1,13 +1,13 @@
 -- How each step on a line leaves what was sent, and what it leaves where it fails.
-use Rattle.std.proofs.Common.{◌≡◌, ◌≢◌, ◌⊎◌, inl, inr, ℕ, ◌+◌, ◌≤◌, ◌<◌, List, [], ◌∷◌, ◌++◌, length, length-append, take, drop, Option, Result, Ok, Err}
+use Rattle.std.proofs.Common.{◌≡◌, ◌≢◌, inl, inr, ℕ, ◌+◌, ◌≤◌, ◌<◌, List, [], ◌∷◌, ◌++◌, length, length-append, take, drop, Option, Result, Ok, Err}
 use Rattle.std.proofs.Common.{refl, sym, ap, subst, ◌∙◌, arith, append_assoc, append-nil}
 use Rattle.std.proofs.Math.Seq.{take-append-add}
 use Rattle.std.proofs.lemmas.List.{length-take}
 use Rattle.std.specs.Prelude.{IsOk, IfErr, Bool, true, false}
-use Rattle.line_devices.specs.LineParts.{rest_from, HasNone}
+use Rattle.line_devices.specs.LineParts.{rest_from}
 use Rattle.line_devices.specs.Writing.{Sends}
 use Rattle.stamps.specs.Decisions.{longest_stamp, decision_of, state_after}
-use Rattle.stamps.specs.Progress.{Begins, Decided, Ends, Keeps, Passes, Settled, Stands, is_kept, passed, progress_of}
+use Rattle.stamps.specs.Progress.{Begins, Decided, Ends, Keeps, Passes, Settled, Stands, is_kept, mark_after, passed, progress_of}
 use Rattle.stamps.specs.declared.decide.Decision.{Decision}
 use Rattle.stamps.specs.declared.decide.Decision.TheVariants.{Keep, Skip, Stop}
 use Rattle.stamps.specs.declared.decide.State.{State}
@@ -185,3 +185,9 @@ long_settled task base now pending work taken both = inr (both.0, omega (arith, 
 pub empty_settled : (task : Task) (base now : Option (List ℕ)) (pending : List ℕ) (work : Work) (taken : List ℕ)
     → Keeps task base now pending work taken → work.head ≡ [] → Settled task base now pending work taken
 empty_settled task base now pending work taken keeps none = inl (keeps, sym keeps.head ∙ none)
+
+-- ---- marks
+
+-- what failed after steps that kept the mark
+pub mark_kept : (fault : LineFault) (a b c : Bool) → c ≡ mark_after {T = Unit} (Err fault) b → b ≡ a → c ≡ mark_after {T = Unit} (Err fault) a
+mark_kept fault a b c e kept = e ∙ ap (mark_after {T = Unit} (Err fault)) kept

@@ -277,7 +277,6 @@ fn begin_kept<W: Sink>(
 }
 
 // Decides a line by what was read of it, and sends that. Where it ends the run, what is pending is written.
-#[tactic(auto, using(crate::proofs::LongLineLemmas::line_counts))]
 fn begin<W: Sink>(
     task: &Task,
     writer: &mut W,

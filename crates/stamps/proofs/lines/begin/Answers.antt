@@ -1,5 +1,9 @@
+use Rattle.std.proofs.Common.{sym}
+use Rattle.std.proofs.lemmas.Result.{err_from_is_err_and}
+use Rattle.line_devices.specs.WritingLemmas.{AppendsBeginning-longer}
 use Rattle.stamps.specs.Decisions.{decision_of}
-use Rattle.stamps.proofs.PartLemmas.{begins_kept}
+use Rattle.stamps.proofs.LongLineLemmas.{count_within}
+use Rattle.stamps.proofs.PartLemmas.{begins_kept, begins_skipped}
 use Rattle.stamps.proofs.lines.begin.Goals as goal
 
 pub returns-in-Keep-clause-begins : goal.returns-in-Keep-clause-begins
@@ -8,3 +12,23 @@ returns-in-Keep-clause-begins g c =
     let kept = rw (c.as_bytes.ensures.value, c.rest_of.ensures) at c.keep_line.ensures.kept in
     begins_kept c.keep_line.result (decision_of c.args.task.now c.args.state.now line) _ _ _ c.args.pending.now _ line c.in-Keep.text c.in-Keep.count
     c.in-Keep.ensures.decision kept
+
+pub rest_of-requires : goal.rest_of-requires
+rest_of-requires g c =
+    count_within c.args.task.now c.args.state.now c.args.line.now c.in-Keep.text c.in-Keep.count c.in-Keep.ensures.decision
+
+pub returns-in-Skip-clause-begins : goal.returns-in-Skip-clause-begins
+returns-in-Skip-clause-begins g c =
+    begins_skipped (decision_of c.args.task.now c.args.state.now c.args.line.now) _ _ c.args.pending.now c.args.line.now c.in-Skip.ensures.decision
+
+pub returns-in_err-flush-in-Stop-clause-begins : goal.returns-in_err-flush-in-Stop-clause-begins
+returns-in_err-flush-in-Stop-clause-begins g c =
+    let p = err_from_is_err_and c.from_residual.result c.from_residual.ensures.1 in
+    rw (p.1, p.2) (AppendsBeginning-longer _ _ c.args.pending.now _ c.in_err-flush-in-Stop.ensures.written)
+
+pub returns-in_ok-flush-in-Stop-clause-begins : goal.returns-in_ok-flush-in-Stop-clause-begins
+returns-in_ok-flush-in-Stop-clause-begins g c = (c.in_ok-flush-in-Stop.ensures.written, sym c.in-Stop.ensures.decision)
+
+pub returns-in_err-flush-in-Stop-clause-mark : goal.returns-in_err-flush-in-Stop-clause-mark
+returns-in_err-flush-in-Stop-clause-mark g c =
+    let p = err_from_is_err_and c.from_residual.result c.from_residual.ensures.1 in rw (p.1, p.2) c.in_err-flush-in-Stop.ensures.mark

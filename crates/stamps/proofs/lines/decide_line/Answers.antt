@@ -1,5 +1,6 @@
-use Rattle.std.proofs.Common.{refl, ◌++◌}
+use Rattle.std.proofs.Common.{refl, [], ◌∷◌, ◌++◌, append_assoc}
 use Rattle.std.proofs.lemmas.Result.{err_from_is_err_and, MatchResult-weaker}
+use Rattle.line_devices.specs.FaultLemmas.{fault-not_ok}
 use Rattle.stamps.proofs.PartLemmas.{begun}
 use Rattle.stamps.proofs.StepLemmas.{kept_is, other_is, kept_of, decided_of, fresh_line, line_fault}
 use Rattle.stamps.proofs.lines.decide_line.Goals as goal
@@ -39,3 +40,15 @@ pub returns-clause-decided : goal.returns-clause-decided
 returns-clause-decided g c = λ ok base taken h.
     (decided_of c.args.task.now base _ _ c.take_part.new.work (taken ++ c.args.part.now) (c.in_ok-take_part.ensures.stands refl base taken h)
     (other_is _ _ c.is_kept.ensures c.if-is_kept.false)).0
+
+pub returns-in_err-take_part-clause-ends : goal.returns-in_err-take_part-clause-ends
+returns-in_err-take_part-clause-ends g c =
+    let p = err_from_is_err_and c.from_residual-in_err-take_part.result c.from_residual-in_err-take_part.ensures.1 in
+    rw (p.1, p.2) (λ base taken more h.
+    rw (append_assoc (taken ++ c.args.part.now) (10 ∷ []) more) (c.in_err-take_part.ensures.ends base taken (10 ∷ more) h))
+
+pub returns-in_err-work-clause-decided : goal.returns-in_err-work-clause-decided
+returns-in_err-work-clause-decided g c = λ ok. absurd (fault-not_ok _ c.from_residual.result c.from_residual.ensures.1 ok)
+
+pub returns-in_err-take_part-clause-decided : goal.returns-in_err-take_part-clause-decided
+returns-in_err-take_part-clause-decided g c = λ ok. absurd (fault-not_ok _ c.from_residual-in_err-take_part.result c.from_residual-in_err-take_part.ensures.1 ok)

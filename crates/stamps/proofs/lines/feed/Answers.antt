@@ -1,8 +1,10 @@
-use Rattle.std.proofs.Common.{arith, refl, ◌∙◌, ◌≡◌, ◌+◌, ◌<◌, List, ℕ, ◌++◌, length, take, drop, append-nil}
+use Rattle.std.proofs.Common.{arith, refl, ◌∙◌, ◌+◌, ◌<◌, ◌++◌, length, take, drop, append-nil}
 use Rattle.std.proofs.lemmas.Result.{err_from_is_err_and}
 use Rattle.std.proofs.lemmas.List.{take_all}
+use Rattle.line_devices.specs.FaultLemmas.{OnOk-fault, fault-not_ok}
 use Rattle.stamps.proofs.BlockLemmas.{part_joined, line_joined, part_rejoined, line_rejoined}
 use Rattle.stamps.proofs.PartLemmas.{stands_fault, stands_flushed}
+use Rattle.stamps.proofs.StepLemmas.{mark_kept}
 use Rattle.stamps.proofs.lines.feed.Goals as goal
 
 pub lines-init : goal.lines-init
@@ -72,3 +74,36 @@ returns-clause-stands g c = λ ok base taken h.
     let block = c.args.block.now in
     stands_flushed c.args.task.now base _ _ c.lines.pending c.flush.new.pending c.lines.work (taken ++ block)
     (rw (take_all c.lines.place block (omega arith)) at (c.lines.invariant.stands base taken h)) c.in_ok-flush.ensures.written c.in_ok-flush.ensures.empty
+
+pub returns-in_err-take_part-clause-mark : goal.returns-in_err-take_part-clause-mark
+returns-in_err-take_part-clause-mark g c =
+    let p = err_from_is_err_and c.from_residual.result c.from_residual.ensures.1 in
+    rw (p.1, p.2) (mark_kept _ _ _ _ c.in_err-take_part.ensures.mark c.lines.invariant.mark)
+
+pub returns-in_err-end_line-clause-mark : goal.returns-in_err-end_line-clause-mark
+returns-in_err-end_line-clause-mark g c =
+    let p = err_from_is_err_and c.from_residual-in_err-end_line.result c.from_residual-in_err-end_line.ensures.1 in
+    rw (p.1, p.2) (mark_kept _ _ _ _ c.in_err-end_line.ensures.mark c.lines.invariant.mark)
+
+pub returns-in_err-flush-clause-mark : goal.returns-in_err-flush-clause-mark
+returns-in_err-flush-clause-mark g c =
+    let p = err_from_is_err_and c.from_residual-in_err-flush.result c.from_residual-in_err-flush.ensures.1 in
+    rw (p.1, p.2) c.in_err-flush.ensures.mark
+
+pub returns-in_err-take_part-clause-stands : goal.returns-in_err-take_part-clause-stands
+returns-in_err-take_part-clause-stands g c = λ ok. absurd (fault-not_ok _ c.from_residual.result c.from_residual.ensures.1 ok)
+
+pub returns-in_err-take_part-clause-empty : goal.returns-in_err-take_part-clause-empty
+returns-in_err-take_part-clause-empty g c = OnOk-fault _ _ c.from_residual.result c.from_residual.ensures.1
+
+pub returns-in_err-end_line-clause-stands : goal.returns-in_err-end_line-clause-stands
+returns-in_err-end_line-clause-stands g c = λ ok. absurd (fault-not_ok _ c.from_residual-in_err-end_line.result c.from_residual-in_err-end_line.ensures.1 ok)
+
+pub returns-in_err-end_line-clause-empty : goal.returns-in_err-end_line-clause-empty
+returns-in_err-end_line-clause-empty g c = OnOk-fault _ _ c.from_residual-in_err-end_line.result c.from_residual-in_err-end_line.ensures.1
+
+pub returns-in_err-flush-clause-stands : goal.returns-in_err-flush-clause-stands
+returns-in_err-flush-clause-stands g c = λ ok. absurd (fault-not_ok _ c.from_residual-in_err-flush.result c.from_residual-in_err-flush.ensures.1 ok)
+
+pub returns-in_err-flush-clause-empty : goal.returns-in_err-flush-clause-empty
+returns-in_err-flush-clause-empty g c = OnOk-fault _ _ c.from_residual-in_err-flush.result c.from_residual-in_err-flush.ensures.1
