@@ -133,9 +133,13 @@ record DigitRead (place : ℕ) (text : List ℕ) : Type 0 where
   read : digit_at text ≡ Some (digit, rest)
   goes_on : place_after (place + 1) rest ≡ 27
 
-digit_read : (place : ℕ) (text : List ℕ) → WantsDigit place → place ≢ 27 → place_after place text ≡ 27 → DigitRead place text
+-- a place before the end is not the end
+not_end : (place : ℕ) → nat_eq place 27 ≡ false → place ≢ 27
+not_end place t e = grind (arith, nat_tests)
+
+digit_read : (place : ℕ) (text : List ℕ) → WantsDigit place → nat_eq place 27 ≡ false → place_after place text ≡ 27 → DigitRead place text
 unfolding place_after digit_at
-digit_read place [] wants other e = absurd (other e)
+digit_read place [] wants other e = absurd (not_end place other e)
 digit_read place (byte ∷ text) wants other e =
     elim (cases_Bool (is_ascii_digit byte)) [
       | inl t ↦ record { digit = byte - 48; rest = text; read = rw t refl; goes_on = rw (wants byte, t) at e }
@@ -150,8 +154,8 @@ record TwoRead (place : ℕ) (text : List ℕ) : Type 0 where
   read : two_digits_at text ≡ Some (number, rest)
   goes_on : place_after (place + 1 + 1) rest ≡ 27
 
-two_read : (place : ℕ) (text : List ℕ) → WantsDigit place → WantsDigit (place + 1) → place ≢ 27 → place + 1 ≢ 27 → place_after place text ≡ 27
-    → TwoRead place text
+two_read : (place : ℕ) (text : List ℕ) → WantsDigit place → WantsDigit (place + 1) → nat_eq place 27 ≡ false → nat_eq (place + 1) 27 ≡ false
+    → place_after place text ≡ 27 → TwoRead place text
 unfolding two_digits_at
 two_read place text first second other others e =
     let tens = digit_read place text first other e in
@@ -163,9 +167,9 @@ record MarkRead (place mark : ℕ) (text : List ℕ) : Type 0 where
   read : mark_at mark text ≡ Some rest
   goes_on : place_after (place + 1) rest ≡ 27
 
-mark_read : (place mark : ℕ) (text : List ℕ) → WantsMark place mark → place ≢ 27 → place_after place text ≡ 27 → MarkRead place mark text
+mark_read : (place mark : ℕ) (text : List ℕ) → WantsMark place mark → nat_eq place 27 ≡ false → place_after place text ≡ 27 → MarkRead place mark text
 unfolding place_after mark_at
-mark_read place mark [] wants other e = absurd (other e)
+mark_read place mark [] wants other e = absurd (not_end place other e)
 mark_read place mark (byte ∷ text) wants other e =
     elim (cases_Bool (nat_eq byte mark)) [
       | inl t ↦ record { rest = text; read = rw t refl; goes_on = rw (wants byte, t) at e }
@@ -180,8 +184,8 @@ record PartRead (place mark : ℕ) (text : List ℕ) : Type 0 where
   read : part_at mark text ≡ Some (number, rest)
   goes_on : place_after (place + 1 + 1 + 1) rest ≡ 27
 
-part_read : (place mark : ℕ) (text : List ℕ) → WantsMark place mark → WantsDigit (place + 1) → WantsDigit (place + 1 + 1) → place ≢ 27
-    → place + 1 ≢ 27 → place + 1 + 1 ≢ 27 → place_after place text ≡ 27 → PartRead place mark text
+part_read : (place mark : ℕ) (text : List ℕ) → WantsMark place mark → WantsDigit (place + 1) → WantsDigit (place + 1 + 1)
+    → nat_eq place 27 ≡ false → nat_eq (place + 1) 27 ≡ false → nat_eq (place + 1 + 1) 27 ≡ false → place_after place text ≡ 27 → PartRead place mark text
 unfolding part_at
 part_read place mark text wants first second o1 o2 o3 e =
     let m = mark_read place mark text wants o1 e in
@@ -244,9 +248,9 @@ numbers_read : (text : List ℕ) → place_after 22 text ≡ 27 → (hour minute
     × (part_at 58 rest ≡ Some (minute, []))
 unfolding next_place
 numbers_read text e =
-    let hour = two_read 22 text (λ byte. refl) (λ byte. refl) (omega arith) (omega arith) e in
+    let hour = two_read 22 text (λ byte. refl) (λ byte. refl) refl refl e in
     let minute =
-    part_read 24 58 hour.rest (λ byte. refl) (λ byte. refl) (λ byte. refl) (omega arith) (omega arith) (omega arith) hour.goes_on in
+    part_read 24 58 hour.rest (λ byte. refl) (λ byte. refl) (λ byte. refl) refl refl refl hour.goes_on in
     let end : minute.rest ≡ [] = ends minute.rest minute.goes_on in
     (hour.number, minute.number, hour.rest, hour.read, minute.read ∙ ap (λ (z : List ℕ). Some (minute.number, z)) end)
 
@@ -302,7 +306,7 @@ fraction_read (byte ∷ text) e =
     elim (cases_Bool (nat_eq byte 46)) [
       | inl t ↦
           let digits : place_after 20 text ≡ 27 = rw t at e in
-          let first = digit_read 20 text (λ byte. refl) (omega arith) digits in
+          let first = digit_read 20 text (λ byte. refl) refl digits in
           let all = digits_at-some 100_000_000 text first.digit first.rest first.read in
           let behind = offset_behind (100_000_000 / 10) first.rest first.goes_on in
           let shorter : nat_eq (length (digits_at 100_000_000 text).1) (length text) ≡ false =
@@ -341,25 +345,68 @@ parts_of_front : (text : List ℕ) (p : Parts) → front_at text ≡ Some (p, []
 unfolding parts_at
 parts_of_front text p e = rw e refl
 
+-- the pieces of a text, some at a time: its year, what follows its minute, and what follows its date
+record YearRead (text : List ℕ) : Type 0 where
+  year : ℕ
+  rest : List ℕ
+  read : year_at text ≡ Some (year, rest)
+  goes_on : place_after 4 rest ≡ 27
+
+year_read : (text : List ℕ) → place_after 0 text ≡ 27 → YearRead text
+unfolding next_place may_stand
+year_read text e =
+    let century = two_read 0 text (λ byte. refl) (λ byte. refl) refl refl e in
+    let year = two_read 2 century.rest (λ byte. refl) (λ byte. refl) refl refl century.goes_on in
+    record {
+      year = century.number * 100 + year.number;
+      rest = year.rest;
+      read = year_of_pieces text century.rest year.rest century.number year.number century.read year.read;
+      goes_on = year.goes_on;
+    }
+
+record SecondRead (text : List ℕ) : Type 0 where
+  parts : (year month day hour minute : ℕ) → Parts
+  read : (year month day hour minute : ℕ) → second_on year month day hour minute text ≡ Some (parts year month day hour minute, [])
+
+second_read : (text : List ℕ) → place_after 16 text ≡ 27 → SecondRead text
+unfolding next_place may_stand
+second_read text e =
+    let second = part_read 16 58 text (λ byte. refl) (λ byte. refl) (λ byte. refl) refl refl refl e in
+    let fraction = fraction_read second.rest second.goes_on in
+    let zone = zone_read fraction.rest fraction.goes_on in
+    record {
+      parts = λ year month day hour minute. parts_read year month day hour minute second.number fraction.nanosecond zone.zone;
+      read = λ year month day hour minute. second_of_pieces year month day hour minute second.number fraction.nanosecond zone.zone text second.rest
+          fraction.rest second.read fraction.read zone.read;
+    }
+
+record TimeRead (text : List ℕ) : Type 0 where
+  parts : (year month day : ℕ) → Parts
+  read : (year month day : ℕ) → time_on year month day text ≡ Some (parts year month day, [])
+
+time_read : (text : List ℕ) → place_after 10 text ≡ 27 → TimeRead text
+unfolding next_place may_stand
+time_read text e =
+    let clock = separator_read text e in
+    let hour = two_read 11 clock.rest (λ byte. refl) (λ byte. refl) refl refl clock.goes_on in
+    let minute = part_read 13 58 hour.rest (λ byte. refl) (λ byte. refl) (λ byte. refl) refl refl refl hour.goes_on in
+    let second = second_read minute.rest minute.goes_on in
+    record {
+      parts = λ year month day. second.parts year month day hour.number minute.number;
+      read = λ year month day. time_of_pieces year month day hour.number minute.number text clock.rest hour.rest minute.rest _ clock.read hour.read
+          minute.read (second.read year month day hour.number minute.number);
+    }
+
 -- what leads to the end has the form
 pub end_to_form : (text : List ℕ) → place_after 0 text ≡ 27 → (p : Parts) × IsDateTime text p
 unfolding next_place may_stand
 end_to_form text e =
-    let century = two_read 0 text (λ byte. refl) (λ byte. refl) (omega arith) (omega arith) e in
-    let year = two_read 2 century.rest (λ byte. refl) (λ byte. refl) (omega arith) (omega arith) century.goes_on in
-    let month = part_read 4 45 year.rest (λ byte. refl) (λ byte. refl) (λ byte. refl) (omega arith) (omega arith) (omega arith) year.goes_on in
-    let day = part_read 7 45 month.rest (λ byte. refl) (λ byte. refl) (λ byte. refl) (omega arith) (omega arith) (omega arith) month.goes_on in
-    let clock = separator_read day.rest day.goes_on in
-    let hour = two_read 11 clock.rest (λ byte. refl) (λ byte. refl) (omega arith) (omega arith) clock.goes_on in
-    let minute = part_read 13 58 hour.rest (λ byte. refl) (λ byte. refl) (λ byte. refl) (omega arith) (omega arith) (omega arith) hour.goes_on in
-    let second = part_read 16 58 minute.rest (λ byte. refl) (λ byte. refl) (λ byte. refl) (omega arith) (omega arith) (omega arith) minute.goes_on in
-    let fraction = fraction_read second.rest second.goes_on in
-    let zone = zone_read fraction.rest fraction.goes_on in
-    let whole = front_of_pieces text year.rest month.rest day.rest _ month.number day.number _ (
-    year_of_pieces text century.rest year.rest century.number year.number century.read year.read) month.read day.read
-    (time_of_pieces _ month.number day.number hour.number minute.number day.rest clock.rest hour.rest minute.rest _ clock.read hour.read minute.read
-    (second_of_pieces _ month.number day.number hour.number minute.number second.number fraction.nanosecond zone.zone minute.rest second.rest
-    fraction.rest second.read fraction.read zone.read)) in
+    let year = year_read text e in
+    let month = part_read 4 45 year.rest (λ byte. refl) (λ byte. refl) (λ byte. refl) refl refl refl year.goes_on in
+    let day = part_read 7 45 month.rest (λ byte. refl) (λ byte. refl) (λ byte. refl) refl refl refl month.goes_on in
+    let time = time_read day.rest day.goes_on in
+    let whole = front_of_pieces text year.rest month.rest day.rest year.year month.number day.number _ year.read month.read day.read
+    (time.read year.year month.number day.number) in
     (_, parts_takes text _ (parts_of_front text _ whole))
 
 -- ---- the place of the fault
