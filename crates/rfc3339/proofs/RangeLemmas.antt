@@ -1,14 +1,15 @@
 -- The first number that is out of its range: the tests of the ranges, from left to right.
-use Rattle.std.proofs.Common.{◌≡◌, ℕ, ◌<◌, ◌≤◌, Bool, true, false, nat_eq, nat_lt, refl, arith, Err, ℤ, pos, to_z, w32}
+use Rattle.std.proofs.Common.{◌≡◌, ℕ, ◌<◌, ◌≤◌, Bool, true, false, nat_eq, nat_lt, refl, arith, Ok, Err, ℤ, pos, to_z, w32}
 use Rattle.std.specs.Prelude.{◌||◌}
 use Rattle.std.proofs.lemmas.Bool.Decides.{nat_tests}
-use Rattle.calendar_values.specs.Calendar.{is_leap_year, days_in_month}
+use Rattle.calendar_values.specs.Calendar.{is_leap_year, days_in_month, day_of_calendar_date}
 use Rattle.calendar_values.specs.Clock.{AreTimeParts}
 use Rattle.calendar_values.specs.Refusals.{IsDateOfRange}
 use Rattle.calendar_values.specs.SignedArith.{signed_casts}
 use Rattle.rfc3339.specs.declared.parts.Parts.{Parts}
 use Rattle.rfc3339.specs.declared.refusal.Component.TheVariants.{Month, Day, Hour, Minute, Second, OffsetHour, OffsetMinute}
 use Rattle.rfc3339.specs.declared.refusal.TextRefusal.TheVariants.{OutOfRange}
+use Rattle.rfc3339.specs.FullDates.{full_date_meaning}
 use Rattle.rfc3339.specs.Meaning.{meaning}
 
 within : (most n : ℕ) → 1 ≤ n → n ≤ most → (nat_eq n 0 || nat_lt most n) ≡ false
@@ -65,12 +66,17 @@ pub meaning-month : (p : Parts) → ¬ ((1 ≤ p.month) × (p.month ≤ 12)) →
 unfolding meaning
 meaning-month p h = rw (without 12 p.month h) refl
 
+-- a day that makes no date of the month, where the year is one of the range, is none of the month
+pub no_day_of_month : (year month day : ℕ) (y : ℤ) (m : ℕ) → y ≡ pos year → m ≡ month → year ≤ 9_999 → ¬ IsDateOfRange y m day
+    → ¬ ((1 ≤ day) × (day ≤ days_in_month (is_leap_year (pos year)) month))
+no_day_of_month year month day y m e f low h =
+    let other : ¬ IsDateOfRange (pos year) month day = rw (e, f) at h in λ d. other (omega (arith, signed_casts), d)
+
 pub meaning-day : (p : Parts) (year : ℤ) (month : ℕ) → year ≡ pos p.year → month ≡ p.month → p.year ≤ 9_999 → (1 ≤ p.month) × (p.month ≤ 12)
     → ¬ IsDateOfRange year month p.day → Err (OutOfRange Day) ≡ meaning p
 unfolding meaning
 meaning-day p year month e f y m h =
-    let other : ¬ IsDateOfRange (pos p.year) p.month p.day = rw (e, f) at h in
-    rw (within 12 p.month m.0 m.1, without (days_in_month (is_leap_year (pos p.year)) p.month) p.day (λ day. other (omega (arith, signed_casts), day))) refl
+    let day = no_day_of_month p.year p.month p.day year month e f y h in rw (within 12 p.month m.0 m.1, without _ p.day day) refl
 
 pub meaning-hour : (p : Parts) → IsDated p → 23 < p.hour → Err (OutOfRange Hour) ≡ meaning p
 unfolding meaning
@@ -116,3 +122,16 @@ meaning-offset_minute p d t a h =
       at_most 23 p.offset_hour a,
       above 59 p.offset_minute h,
     ) refl
+
+-- ---- what the numbers of a day mean
+
+pub full_date_meaning-month : (year month day : ℕ) → ¬ ((1 ≤ month) × (month ≤ 12)) → Err (OutOfRange Month) ≡ full_date_meaning year month day
+full_date_meaning-month year month day m = rw (without 12 month m) refl
+
+pub full_date_meaning-day : (year month day : ℕ) → (1 ≤ month) × (month ≤ 12) → ¬ ((1 ≤ day) × (day ≤ days_in_month (is_leap_year (pos year)) month))
+    → Err (OutOfRange Day) ≡ full_date_meaning year month day
+full_date_meaning-day year month day m d = rw (within 12 month m.0 m.1, without (days_in_month (is_leap_year (pos year)) month) day d) refl
+
+pub full_date_meaning-date : (year month day : ℕ) → (1 ≤ month) × (month ≤ 12) → (1 ≤ day) × (day ≤ days_in_month (is_leap_year (pos year)) month)
+    → full_date_meaning year month day ≡ Ok (day_of_calendar_date (pos year) month day)
+full_date_meaning-date year month day m d = rw (within 12 month m.0 m.1, within (days_in_month (is_leap_year (pos year)) month) day d.0 d.1) refl
