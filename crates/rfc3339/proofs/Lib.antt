@@ -11,3 +11,4 @@ mod ShortestLemmas
 pub mod TextOrderLemmas
 pub mod UnixLemmas
 pub mod WriteLemmas
+mod ZoneLemmas

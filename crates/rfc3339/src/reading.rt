@@ -87,7 +87,6 @@ fn after_minute(
 }
 
 // A year of four digits, and what follows it.
-#[tactic(auto, unfolding(crate::specs::Reading::year_at, crate::specs::Reading::two_digits_at, crate::specs::Reading::digit_at))]
 #[inline(always)]
 pub(crate) fn year(text: &[u8]) -> Option<(u16, &[u8])>
     ensures value { option_map (λ read. (read.0, read.1.now)) result ≡ year_at text.now }
@@ -238,7 +237,6 @@ fn after_digits(text: &[u8]) -> &[u8]
 }
 
 // `Z` or `z`, or a sign, hours and minutes: whether it is west, the hours, the minutes; and what follows them.
-#[tactic(auto, unfolding(crate::specs::Reading::zone_at, crate::specs::Reading::two_digits_at, crate::specs::Reading::digit_at))]
 #[inline(always)]
 pub(crate) fn zone(text: &[u8]) -> Option<((bool, u8, u8), &[u8])>
     ensures { option_map (λ read. (read.0, read.1.now)) result ≡ zone_at text.now }
