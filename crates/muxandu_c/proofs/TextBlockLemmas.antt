@@ -41,6 +41,10 @@ pub texts_of-all : {A : Type 0} (f : A → Result (List ℕ) Refused) (items : L
     → length items ≤ k → texts_of f block (drop k items) ≡ []
 texts_of-all f items k block end = ap (texts_of f block) (drop_all k items end)
 
+pub status_of_texts-all : {A : Type 0} (f : A → Result (List ℕ) Refused) (items : List A) (k : ℕ) (block : List ℕ)
+    → length items ≤ k → status_of_texts f block (drop k items) ≡ 0
+status_of_texts-all f items k block end = ap (status_of_texts f block) (drop_all k items end)
+
 -- ---- a text written behind others
 
 pub mid_of-rest : (start : ℕ) (block : List ℕ) → mid_of start (length block - start) block ≡ drop start block

@@ -1,9 +1,9 @@
-use Rattle.std.proofs.Common.{◌≡◌, ◌∙◌, length, sym, ap, rules, arith}
+use Rattle.std.proofs.Common.{◌≡◌, ◌∙◌, ◌++◌, ℕ, length, drop, subst, sym, ap, rules, arith}
 use Rattle.std.proofs.lemmas.List.{take-append-drop}
 use Rattle.muxandu_c.specs.Answers.{text_if_room}
 use Rattle.muxandu_c.specs.Exchange.{date_time_to_rfc3339}
-use Rattle.muxandu_c.specs.TextBlocks.{texts_of}
-use Rattle.muxandu_c.proofs.TextBlockLemmas.{texts_of-refused, texts_of-all, status_of_texts-refused}
+use Rattle.muxandu_c.specs.TextBlocks.{texts_of, spans_of}
+use Rattle.muxandu_c.proofs.TextBlockLemmas.{texts_of-refused, texts_of-all, status_of_texts-refused, status_of_texts-all}
 use Rattle.muxandu_c.proofs.TextBlockLemmas.{text_of_length, refused_of_length, refused_in, text_fits, with_text, with_answer, behind_after, room_after}
 use Rattle.muxandu_c.proofs.TextBlockLemmas.{texts_after, spans_next, status_next, count_next, texts_end, spans_end, count_end}
 use Rattle.muxandu_c.proofs.ValuesLemmas.{behind_next}
@@ -72,5 +72,26 @@ loop-k-preserved c =
 pub returns-clause-count : goal.returns-clause-count
 returns-clause-count c =
     let end : c.loop-k.k ≡ length c.args.date_times.now = search rules in
-    let none = texts_of-all date_time_to_rfc3339 c.args.date_times.now c.loop-k.k _ (search rules) in
+    let none = texts_of-all date_time_to_rfc3339 c.args.date_times.now c.loop-k.k _ c.loop-k-test.false in
     sym end ∙ count_end c.loop-k.k _ _ none c.loop-k.invariant.count
+
+pub returns-clause-status : goal.returns-clause-status
+returns-clause-status c =
+    let none = status_of_texts-all date_time_to_rfc3339 c.args.date_times.now c.loop-k.k _ c.loop-k-test.false in
+    sym none ∙ c.loop-k.invariant.status
+
+pub returns-clause-written : goal.returns-clause-written
+returns-clause-written c =
+    let before = c.loop-k.invariant in
+    let all = texts_of date_time_to_rfc3339 c.args.texts.now c.args.date_times.now in
+    let none = texts_of-all date_time_to_rfc3339 c.args.date_times.now c.loop-k.k _ c.loop-k-test.false in
+    texts_end c.loop-k.start c.loop-k.texts c.args.texts.now _ all before.start none before.texts before.texts_behind
+
+pub returns-clause-spans : goal.returns-clause-spans
+returns-clause-spans c =
+    let before = c.loop-k.invariant in
+    let end : c.loop-k.k ≡ length c.args.date_times.now = search rules in
+    let all = texts_of date_time_to_rfc3339 c.args.texts.now c.args.date_times.now in
+    let none = texts_of-all date_time_to_rfc3339 c.args.date_times.now c.loop-k.k _ c.loop-k-test.false in
+    subst (λ (n : ℕ). c.loop-k.spans ≡ spans_of 0 all ++ drop n c.args.spans.now) end
+    (spans_end c.loop-k.start c.loop-k.k c.loop-k.spans c.args.spans.now _ all none before.spans before.spans_behind)
