@@ -1,6 +1,7 @@
 //! Durations and their parts.
 use super::is;
 use calendar_values::SignedDuration;
+use std::time::Duration;
 
 #[test]
 fn parts_have_one_sign(rt: HostRuntime) {
@@ -119,6 +120,149 @@ fn larger_units_round_towards_zero(rt: HostRuntime) {
         is(&rt, counts, (weeks, hours, minutes));
         is(&rt, duration.is_zero(), seconds == 0 && nanoseconds == 0);
         is(&rt, duration.is_positive(), seconds > 0 || nanoseconds > 0);
+    }
+}
+
+#[test]
+fn smaller_units_round_towards_zero(rt: HostRuntime) {
+    for (duration, nanoseconds, milliseconds, left, microseconds, left_micro) in [
+        (
+            SignedDuration::seconds(1),
+            1_000_000_000,
+            1_000,
+            0,
+            1_000_000,
+            0,
+        ),
+        (
+            SignedDuration::milliseconds(-1),
+            -1_000_000,
+            -1,
+            -1,
+            -1_000,
+            -1_000,
+        ),
+        (SignedDuration::microseconds(1), 1_000, 0, 0, 1, 1),
+        (SignedDuration::nanoseconds(-1), -1, 0, 0, 0, 0),
+        (
+            SignedDuration::new(1, 400_000_000),
+            1_400_000_000,
+            1_400,
+            400,
+            1_400_000,
+            400_000,
+        ),
+        (
+            SignedDuration::new(-1, -400_000_000),
+            -1_400_000_000,
+            -1_400,
+            -400,
+            -1_400_000,
+            -400_000,
+        ),
+        (
+            SignedDuration::new(1, 400_000),
+            1_000_400_000,
+            1_000,
+            0,
+            1_000_400,
+            400,
+        ),
+        (
+            SignedDuration::new(-1, -400_000),
+            -1_000_400_000,
+            -1_000,
+            0,
+            -1_000_400,
+            -400,
+        ),
+        (
+            SignedDuration::new(-2, -999_999_999),
+            -2_999_999_999,
+            -2_999,
+            -999,
+            -2_999_999,
+            -999_999,
+        ),
+        (SignedDuration::new(0, 999_999), 999_999, 0, 0, 999, 999),
+        (
+            SignedDuration::nanoseconds(i64::MIN),
+            -9_223_372_036_854_775_808,
+            -9_223_372_036_854,
+            -854,
+            -9_223_372_036_854_775,
+            -854_775,
+        ),
+        (SignedDuration::ZERO, 0, 0, 0, 0, 0),
+        (
+            SignedDuration::MIN,
+            -9_223_372_036_854_775_808_999_999_999,
+            -9_223_372_036_854_775_808_999,
+            -999,
+            -9_223_372_036_854_775_808_999_999,
+            -999_999,
+        ),
+        (
+            SignedDuration::MAX,
+            9_223_372_036_854_775_807_999_999_999,
+            9_223_372_036_854_775_807_999,
+            999,
+            9_223_372_036_854_775_807_999_999,
+            999_999,
+        ),
+    ] {
+        is(&rt, duration.whole_nanoseconds(), nanoseconds);
+        let in_milliseconds = (
+            duration.whole_milliseconds(),
+            duration.subsec_milliseconds(),
+        );
+        is(&rt, in_milliseconds, (milliseconds, left));
+        let in_microseconds = (
+            duration.whole_microseconds(),
+            duration.subsec_microseconds(),
+        );
+        is(&rt, in_microseconds, (microseconds, left_micro));
+    }
+}
+
+#[test]
+fn absolute_values_have_no_sign(rt: HostRuntime) {
+    let second = SignedDuration::seconds(1);
+    let most = SignedDuration::MAX;
+    let most_negative = SignedDuration::new(i64::MIN + 1, -999_999_999);
+    let least_seconds = SignedDuration::seconds(i64::MIN);
+    for (duration, size, unsigned) in [
+        (second, second, Duration::new(1, 0)),
+        (SignedDuration::seconds(-1), second, Duration::new(1, 0)),
+        (SignedDuration::ZERO, SignedDuration::ZERO, Duration::ZERO),
+        (
+            SignedDuration::new(-5, -3),
+            SignedDuration::new(5, 3),
+            Duration::new(5, 3),
+        ),
+        (
+            most_negative,
+            most,
+            Duration::new(9_223_372_036_854_775_807, 999_999_999),
+        ),
+        (
+            least_seconds,
+            most,
+            Duration::new(9_223_372_036_854_775_808, 0),
+        ),
+        (
+            SignedDuration::MIN,
+            most,
+            Duration::new(9_223_372_036_854_775_808, 999_999_999),
+        ),
+        (
+            most,
+            most,
+            Duration::new(9_223_372_036_854_775_807, 999_999_999),
+        ),
+    ] {
+        is(&rt, duration.abs(), size);
+        assert!(rt; duration.unsigned_abs() == unsigned);
     }
 }
 
