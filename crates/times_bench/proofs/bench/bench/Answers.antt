@@ -1,5 +1,5 @@
-use Rattle.std.proofs.Common.{arith, ◌∙◌, [], ◌++◌, take, refl, inl, inr}
-use Rattle.std.proofs.lemmas.Result.{err_from_is_err_and}
+use Rattle.std.proofs.Common.{◌≡◌, Result, Err, arith, ◌∙◌, [], ◌++◌, take, refl, inl, inr}
+use Rattle.line_devices.specs.FaultLemmas.{OnOk-fault}
 use Rattle.line_devices.specs.LineParts.{ended_from, rest_from}
 use Rattle.line_devices.specs.LineLemmas.{rest_from-append}
 use Rattle.line_devices.specs.InputLemmas.{Consumes-nil, Consumes-append, Consumes-keep, input-end, input-begin, input-none_left, input-long, turns-more}
@@ -7,7 +7,16 @@ use Rattle.times_bench.proofs.ReadLemmas.{AnswersWritten-append, answers_of-whol
 use Rattle.times_bench.proofs.ReadLemmas.{AnswersBeforeMemory-last, AnswersBeforeMemory-block}
 use Rattle.line_devices.specs.WritingLemmas.{Appends-nil}
 use Rattle.times_bench.proofs.SendingLemmas.{ended_by, not_read, AtFault-write, AtFault-memory, mark_after-write, mark_after-memory}
+use Rattle.times_bench.specs.declared.bench.BenchFault.{BenchFault}
+use Rattle.times_bench.specs.declared.bench.BenchFault.TheVariants as ended
 use Rattle.times_bench.proofs.bench.bench.Goals as goal
+
+-- a failed read is no other fault
+no_write : ◌≡◌ {A = Result Unit BenchFault} (Err ended.Read) (Err ended.Write) → ⊥
+no_write is = cc
+
+no_memory : ◌≡◌ {A = Result Unit BenchFault} (Err ended.Read) (Err ended.Memory) → ⊥
+no_memory is = cc
 
 pub reads-init : goal.reads-init
 unfolding ended_from rest_from
@@ -44,114 +53,63 @@ returns-then-count-eq0-clause-answers g c =
     input-end _ _ _ so_far.0 _ so_far.1.consumed (rw c.if-count-eq0.true at c.in-Ok.ensures.consumed.0) end
     (Appends-last _ _ _ so_far.0 so_far.1.sent (c.in_ok-finish.ensures.written (rest_from [] so_far.0) so_far.1.line))
 
-pub returns-in_err-finish-clause-read : goal.returns-in_err-finish-clause-read
-returns-in_err-finish-clause-read g c is = absurd (not_read _ (ended_by _ _ _ c.from_residual.ensures.1 is))
-
-pub returns-in_err-finish-clause-whole_lines : goal.returns-in_err-finish-clause-whole_lines
-returns-in_err-finish-clause-whole_lines g c is = absurd (not_read _ (ended_by _ _ _ c.from_residual.ensures.1 is))
-
-pub returns-in_err-finish-clause-only_a_read : goal.returns-in_err-finish-clause-only_a_read
-returns-in_err-finish-clause-only_a_read g c is = absurd (not_read _ (ended_by _ _ _ c.from_residual.ensures.1 is))
-
-pub returns-in_err-finish-clause-write : goal.returns-in_err-finish-clause-write
-returns-in_err-finish-clause-write g c is = c.in_err-finish.ensures.mark ∙ mark_after-write _ _ (ended_by _ _ _ c.from_residual.ensures.1 is)
-
-pub returns-in_err-finish-clause-beginning : goal.returns-in_err-finish-clause-beginning
-returns-in_err-finish-clause-beginning g c is =
+pub returns-in_err-finish : goal.returns-in_err-finish
+returns-in_err-finish g c =
     let so_far = c.reads.invariant in
-    let by = ended_by _ _ _ c.from_residual.ensures.1 is in
-    let cut = AtFault-write _ _ _ by (c.in_err-finish.ensures.written (rest_from [] so_far.0) so_far.1.line) in
+    let made = c.from_residual.ensures.1 in
+    let cut = c.in_err-finish.ensures.written (rest_from [] so_far.0) so_far.1.line in
+    let none = rw c.if-count-eq0.true at c.in-Ok.ensures.consumed.0 in
     let end = c.in-Ok.ensures.consumed.1 c.if-count-eq0.true (rw c.read_some.auto.buffer so_far.1.block) in
-    input-end _ _ _ so_far.0 _ so_far.1.consumed (rw c.if-count-eq0.true at c.in-Ok.ensures.consumed.0) end
-    (AppendsBeginning-last _ _ _ so_far.0 so_far.1.sent cut)
+    record {
+      end = OnOk-fault _ _ c.from_residual.result made;
+      answers = OnOk-fault _ _ c.from_residual.result made;
+      no_read_failed = OnOk-fault _ _ c.from_residual.result made;
+      no_write_failed = OnOk-fault _ _ c.from_residual.result made;
+      read = λ is. absurd (not_read _ (ended_by _ _ _ made is));
+      whole_lines = λ is. absurd (not_read _ (ended_by _ _ _ made is));
+      only_a_read = λ is. absurd (not_read _ (ended_by _ _ _ made is));
+      write = λ is. c.in_err-finish.ensures.mark ∙ mark_after-write _ _ (ended_by _ _ _ made is);
+      beginning = λ is.
+          input-end _ _ _ so_far.0 _ so_far.1.consumed none end
+          (AppendsBeginning-last _ _ _ so_far.0 so_far.1.sent (AtFault-write _ _ _ (ended_by _ _ _ made is) cut));
+      only_a_write = λ _. c.in-Ok.ensures.mark ∙ so_far.1.reader_mark;
+      memory = λ is.
+          input-end _ _ _ so_far.0 _ so_far.1.consumed none end
+          (AnswersBeforeMemory-last _ _ _ so_far.0 so_far.1.sent (AtFault-memory _ _ _ (ended_by _ _ _ made is) cut));
+      no_call_failed = λ is. (
+        c.in-Ok.ensures.mark ∙ so_far.1.reader_mark,
+        c.in_err-finish.ensures.mark ∙ mark_after-memory _ _ (ended_by _ _ _ made is) ∙ so_far.1.writer_mark,
+      );
+    }
 
-pub returns-in_err-finish-clause-memory : goal.returns-in_err-finish-clause-memory
-returns-in_err-finish-clause-memory g c is =
+pub returns-in_err-feed : goal.returns-in_err-feed
+returns-in_err-feed g c =
     let so_far = c.reads.invariant in
-    let by = ended_by _ _ _ c.from_residual.ensures.1 is in
-    let cut = AtFault-memory _ _ _ by (c.in_err-finish.ensures.written (rest_from [] so_far.0) so_far.1.line) in
-    let end = c.in-Ok.ensures.consumed.1 c.if-count-eq0.true (rw c.read_some.auto.buffer so_far.1.block) in
-    input-end _ _ _ so_far.0 _ so_far.1.consumed (rw c.if-count-eq0.true at c.in-Ok.ensures.consumed.0) end
-    (AnswersBeforeMemory-last _ _ _ so_far.0 so_far.1.sent cut)
-
-pub returns-in_err-finish-clause-no_call_failed : goal.returns-in_err-finish-clause-no_call_failed
-returns-in_err-finish-clause-no_call_failed g c is =
-    let so_far = c.reads.invariant in
-    let by = ended_by _ _ _ c.from_residual.ensures.1 is in
-    (c.in-Ok.ensures.mark ∙ so_far.1.reader_mark, c.in_err-finish.ensures.mark ∙ mark_after-memory _ _ by ∙ so_far.1.writer_mark)
-
-pub returns-in_err-feed-clause-read : goal.returns-in_err-feed-clause-read
-returns-in_err-feed-clause-read g c is = absurd (not_read _ (ended_by _ _ _ c.from_residual-in_err-feed.ensures.1 is))
-
-pub returns-in_err-feed-clause-whole_lines : goal.returns-in_err-feed-clause-whole_lines
-returns-in_err-feed-clause-whole_lines g c is = absurd (not_read _ (ended_by _ _ _ c.from_residual-in_err-feed.ensures.1 is))
-
-pub returns-in_err-feed-clause-only_a_read : goal.returns-in_err-feed-clause-only_a_read
-returns-in_err-feed-clause-only_a_read g c is = absurd (not_read _ (ended_by _ _ _ c.from_residual-in_err-feed.ensures.1 is))
-
-pub returns-in_err-feed-clause-write : goal.returns-in_err-feed-clause-write
-returns-in_err-feed-clause-write g c is = c.in_err-feed.ensures.mark ∙ mark_after-write _ _ (ended_by _ _ _ c.from_residual-in_err-feed.ensures.1 is)
-
-pub returns-in_err-feed-clause-beginning : goal.returns-in_err-feed-clause-beginning
-returns-in_err-feed-clause-beginning g c is =
-    let so_far = c.reads.invariant in
-    let by = ended_by _ _ _ c.from_residual-in_err-feed.ensures.1 is in
-    let cut = AtFault-write _ _ _ by (c.in_err-feed.ensures.written (rest_from [] so_far.0) so_far.1.line) in
+    let made = c.from_residual-in_err-feed.ensures.1 in
+    let cut = c.in_err-feed.ensures.written (rest_from [] so_far.0) so_far.1.line in
     let block = take c.in-Ok.count c.read_some.new.buffer in
-    input-begin _ _ (so_far.0 ++ block) _ (Consumes-append _ _ _ so_far.0 block so_far.1.consumed c.in-Ok.ensures.consumed.0)
-    (λ rest. AppendsBeginning-block _ _ _ so_far.0 block rest so_far.1.sent cut)
-
-pub returns-in_err-feed-clause-memory : goal.returns-in_err-feed-clause-memory
-returns-in_err-feed-clause-memory g c is =
-    let so_far = c.reads.invariant in
-    let by = ended_by _ _ _ c.from_residual-in_err-feed.ensures.1 is in
-    let cut = AtFault-memory _ _ _ by (c.in_err-feed.ensures.written (rest_from [] so_far.0) so_far.1.line) in
-    let block = take c.in-Ok.count c.read_some.new.buffer in
-    input-begin _ _ (so_far.0 ++ block) _ (Consumes-append _ _ _ so_far.0 block so_far.1.consumed c.in-Ok.ensures.consumed.0)
-    (λ rest. AnswersBeforeMemory-block _ _ _ so_far.0 block rest so_far.1.sent cut)
-
-pub returns-in_err-feed-clause-no_call_failed : goal.returns-in_err-feed-clause-no_call_failed
-returns-in_err-feed-clause-no_call_failed g c is =
-    let so_far = c.reads.invariant in
-    let by = ended_by _ _ _ c.from_residual-in_err-feed.ensures.1 is in
-    (c.in-Ok.ensures.mark ∙ so_far.1.reader_mark, c.in_err-feed.ensures.mark ∙ mark_after-memory _ _ by ∙ so_far.1.writer_mark)
-
-pub returns-in_err-finish-clause-end : goal.returns-in_err-finish-clause-end
-returns-in_err-finish-clause-end g c = rw (err_from_is_err_and c.from_residual.result c.from_residual.ensures.1).1 tt
-
-pub returns-in_err-finish-clause-answers : goal.returns-in_err-finish-clause-answers
-returns-in_err-finish-clause-answers g c = rw (err_from_is_err_and c.from_residual.result c.from_residual.ensures.1).1 tt
-
-pub returns-in_err-finish-clause-no_read_failed : goal.returns-in_err-finish-clause-no_read_failed
-returns-in_err-finish-clause-no_read_failed g c = rw (err_from_is_err_and c.from_residual.result c.from_residual.ensures.1).1 tt
-
-pub returns-in_err-finish-clause-no_write_failed : goal.returns-in_err-finish-clause-no_write_failed
-returns-in_err-finish-clause-no_write_failed g c = rw (err_from_is_err_and c.from_residual.result c.from_residual.ensures.1).1 tt
-
-pub returns-in_err-finish-clause-only_a_write : goal.returns-in_err-finish-clause-only_a_write
-returns-in_err-finish-clause-only_a_write g c is = c.in-Ok.ensures.mark ∙ c.reads.invariant.1.reader_mark
-
-pub returns-in_err-feed-clause-end : goal.returns-in_err-feed-clause-end
-returns-in_err-feed-clause-end g c = rw (err_from_is_err_and c.from_residual-in_err-feed.result c.from_residual-in_err-feed.ensures.1).1 tt
-
-pub returns-in_err-feed-clause-answers : goal.returns-in_err-feed-clause-answers
-returns-in_err-feed-clause-answers g c = rw (err_from_is_err_and c.from_residual-in_err-feed.result c.from_residual-in_err-feed.ensures.1).1 tt
-
-pub returns-in_err-feed-clause-no_read_failed : goal.returns-in_err-feed-clause-no_read_failed
-returns-in_err-feed-clause-no_read_failed g c = rw (err_from_is_err_and c.from_residual-in_err-feed.result c.from_residual-in_err-feed.ensures.1).1 tt
-
-pub returns-in_err-feed-clause-no_write_failed : goal.returns-in_err-feed-clause-no_write_failed
-returns-in_err-feed-clause-no_write_failed g c = rw (err_from_is_err_and c.from_residual-in_err-feed.result c.from_residual-in_err-feed.ensures.1).1 tt
-
-pub returns-in_err-feed-clause-only_a_write : goal.returns-in_err-feed-clause-only_a_write
-returns-in_err-feed-clause-only_a_write g c is = c.in-Ok.ensures.mark ∙ c.reads.invariant.1.reader_mark
-
-pub returns-clause-read : goal.returns-clause-read
-returns-clause-read g c _ =
-    let so_far = c.reads.invariant in inr (input-long _ _ so_far.0 _ _ so_far.1.consumed so_far.1.turns c.reads-test.false)
-
-pub returns-in_default-clause-read : goal.returns-in_default-clause-read
-returns-in_default-clause-read g c _ = inl c.in_default.ensures.mark
+    let taken = Consumes-append _ _ _ so_far.0 block so_far.1.consumed c.in-Ok.ensures.consumed.0 in
+    record {
+      end = OnOk-fault _ _ c.from_residual-in_err-feed.result made;
+      answers = OnOk-fault _ _ c.from_residual-in_err-feed.result made;
+      no_read_failed = OnOk-fault _ _ c.from_residual-in_err-feed.result made;
+      no_write_failed = OnOk-fault _ _ c.from_residual-in_err-feed.result made;
+      read = λ is. absurd (not_read _ (ended_by _ _ _ made is));
+      whole_lines = λ is. absurd (not_read _ (ended_by _ _ _ made is));
+      only_a_read = λ is. absurd (not_read _ (ended_by _ _ _ made is));
+      write = λ is. c.in_err-feed.ensures.mark ∙ mark_after-write _ _ (ended_by _ _ _ made is);
+      beginning = λ is.
+          input-begin _ _ (so_far.0 ++ block) _ taken
+          (λ rest. AppendsBeginning-block _ _ _ so_far.0 block rest so_far.1.sent (AtFault-write _ _ _ (ended_by _ _ _ made is) cut));
+      only_a_write = λ _. c.in-Ok.ensures.mark ∙ so_far.1.reader_mark;
+      memory = λ is.
+          input-begin _ _ (so_far.0 ++ block) _ taken
+          (λ rest. AnswersBeforeMemory-block _ _ _ so_far.0 block rest so_far.1.sent (AtFault-memory _ _ _ (ended_by _ _ _ made is) cut));
+      no_call_failed = λ is. (
+        c.in-Ok.ensures.mark ∙ so_far.1.reader_mark,
+        c.in_err-feed.ensures.mark ∙ mark_after-memory _ _ (ended_by _ _ _ made is) ∙ so_far.1.writer_mark,
+      );
+    }
 
 pub reads-preserved : goal.reads-preserved
 reads-preserved g c =
@@ -170,11 +128,38 @@ reads-preserved g c =
       },
     )
 
-pub returns-in_default-clause-whole_lines : goal.returns-in_default-clause-whole_lines
-returns-in_default-clause-whole_lines g c _ =
+pub returns-in_default : goal.returns-in_default
+returns-in_default g c =
     let so_far = c.reads.invariant in
-    (so_far.0, Consumes-keep _ _ _ so_far.0 so_far.1.consumed c.in_default.ensures.consumed, answers_of-whole_lines_of _ _ so_far.0 so_far.1.sent)
+    record {
+      end = tt;
+      answers = tt;
+      no_read_failed = tt;
+      no_write_failed = tt;
+      read = λ _. inl c.in_default.ensures.mark;
+      whole_lines = λ _. (so_far.0, Consumes-keep _ _ _ so_far.0 so_far.1.consumed c.in_default.ensures.consumed, answers_of-whole_lines_of _ _ so_far.0 so_far.1.sent);
+      only_a_read = λ _. so_far.1.writer_mark;
+      write = λ is. absurd (no_write is);
+      beginning = λ is. absurd (no_write is);
+      only_a_write = λ is. absurd (no_write is);
+      memory = λ is. absurd (no_memory is);
+      no_call_failed = λ is. absurd (no_memory is);
+    }
 
-pub returns-clause-whole_lines : goal.returns-clause-whole_lines
-returns-clause-whole_lines g c _ =
-    let so_far = c.reads.invariant in (so_far.0, so_far.1.consumed, answers_of-whole_lines_of _ _ so_far.0 so_far.1.sent)
+pub returns : goal.returns
+returns g c =
+    let so_far = c.reads.invariant in
+    record {
+      end = tt;
+      answers = tt;
+      no_read_failed = tt;
+      no_write_failed = tt;
+      read = λ _. inr (input-long _ _ so_far.0 _ _ so_far.1.consumed so_far.1.turns c.reads-test.false);
+      whole_lines = λ _. (so_far.0, so_far.1.consumed, answers_of-whole_lines_of _ _ so_far.0 so_far.1.sent);
+      only_a_read = λ _. so_far.1.writer_mark;
+      write = λ is. absurd (no_write is);
+      beginning = λ is. absurd (no_write is);
+      only_a_write = λ is. absurd (no_write is);
+      memory = λ is. absurd (no_memory is);
+      no_call_failed = λ is. absurd (no_memory is);
+    }
