@@ -46,13 +46,6 @@ SameOffset-wall_at at w = (refl, omega (arith, ints))
 
 pub ruleset same_offset = SameOffset-wall_at
 
--- at one offset instants lie within a unit where the wall clocks do
-pub instant_of-within : (unit : ℕ) (old new : Local) → SameOffset old new → old.wall <ℤ (new.wall +ℤ pos unit)
-    → instant_of old <ℤ (instant_of new +ℤ pos unit)
-instant_of-within unit old new same within = omega (arith, ints, same.1)
-
-pub ruleset within_unit = instant_of-within
-
 -- on one day at one offset two instants are less than a day apart
 pub instant_of-not_a_day_later : (old new : Local) → SameOffset old new → wall_day new.wall ≡ wall_day old.wall
     → instant_of new <ℤ (instant_of old +ℤ pos nanos_per_day)

@@ -95,7 +95,6 @@ impl OffsetDateTime {
     }
 
     /// The first nanosecond of the day that it is in, by the wall clock, at the same offset.
-    #[tactic(auto, using(crate::specs::InstantLemmas::within_unit))]
     pub fn truncate_to_day(self) -> OffsetDateTime
         ensures value { result ≡ local_multiple_below nanos_per_day self }
         ensures midnight { result ≡ at_offset_of self (wall_clock (wall_day self.wall) 0) }
@@ -120,7 +119,6 @@ impl OffsetDateTime {
     }
 
     /// The first nanosecond of the hour that it is in, by the wall clock, at the same offset.
-    #[tactic(auto, using(crate::specs::InstantLemmas::within_unit))]
     pub fn truncate_to_hour(self) -> OffsetDateTime
         ensures value { result ≡ local_multiple_below nanos_per_hour self }
         ensures wall { TruncatesTo nanos_per_hour self.wall result.wall }
@@ -142,7 +140,6 @@ impl OffsetDateTime {
     }
 
     /// The first nanosecond of the minute that it is in, by the wall clock, at the same offset.
-    #[tactic(auto, using(crate::specs::InstantLemmas::within_unit))]
     pub fn truncate_to_minute(self) -> OffsetDateTime
         ensures value { result ≡ local_multiple_below nanos_per_minute self }
         ensures wall { TruncatesTo nanos_per_minute self.wall result.wall }
@@ -164,7 +161,6 @@ impl OffsetDateTime {
     }
 
     /// The first nanosecond of the second that it is in, by the wall clock, at the same offset.
-    #[tactic(auto, using(crate::specs::InstantLemmas::within_unit))]
     pub fn truncate_to_second(self) -> OffsetDateTime
         ensures value { result ≡ local_multiple_below nanos_per_second self }
         ensures wall { TruncatesTo nanos_per_second self.wall result.wall }
@@ -187,7 +183,6 @@ impl OffsetDateTime {
     }
 
     /// The first nanosecond of the millisecond that it is in, by the wall clock, at the same offset.
-    #[tactic(auto, using(crate::specs::InstantLemmas::within_unit))]
     pub fn truncate_to_millisecond(self) -> OffsetDateTime
         ensures value { result ≡ local_multiple_below nanos_per_millisecond self }
         ensures wall { TruncatesTo nanos_per_millisecond self.wall result.wall }
@@ -210,7 +205,6 @@ impl OffsetDateTime {
     }
 
     /// The first nanosecond of the microsecond that it is in, by the wall clock, at the same offset.
-    #[tactic(auto, using(crate::specs::InstantLemmas::within_unit))]
     pub fn truncate_to_microsecond(self) -> OffsetDateTime
         ensures value { result ≡ local_multiple_below nanos_per_microsecond self }
         ensures wall { TruncatesTo nanos_per_microsecond self.wall result.wall }
