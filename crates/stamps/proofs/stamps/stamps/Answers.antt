@@ -1,8 +1,18 @@
-use Rattle.std.proofs.Common.{arith, ◌∙◌, [], ◌++◌, take, refl, inl, inr}
+use Rattle.std.proofs.Common.{◌≡◌, List, ℕ, Result, Err, arith, ◌∙◌, [], ◌++◌, take, refl, inl, inr}
 use Rattle.line_devices.specs.FaultLemmas.{OnOk-fault}
 use Rattle.line_devices.specs.InputLemmas.{Consumes-nil, Consumes-append, Consumes-keep, input-end, input-begin, input-none_left, input-long, turns-more}
 use Rattle.stamps.proofs.ReadLemmas.{stands_first, written_open, ended_by, not_read, mark_after-write, mark_after-found, ends_write, ends_found}
+use Rattle.stamps.specs.declared.finding.Finding.{Finding}
+use Rattle.stamps.specs.declared.stamps.StampFault.{StampFault}
+use Rattle.stamps.specs.declared.stamps.StampFault.TheVariants as ended
 use Rattle.stamps.proofs.stamps.stamps.Goals as goal
+
+-- a failed read is no other fault
+no_write : ◌≡◌ {A = Result Unit StampFault} (Err ended.Read) (Err ended.Write) → ⊥
+no_write is = cc
+
+no_found : (found : Finding) → ◌≡◌ {A = Result Unit StampFault} (Err ended.Read) (Err (ended.Found found)) → ⊥
+no_found found is = cc
 
 pub reads-init : goal.reads-init
 reads-init g c = (
@@ -45,116 +55,65 @@ returns-then-count-eq0-clause-well g c =
     input-end _ _ _ so_far.0 _ so_far.1.consumed (rw c.if-count-eq0.true at c.in-Ok.ensures.consumed.0) end
     (c.in_ok-finish.ensures.completes refl _ so_far.0 so_far.1.stands).well
 
-pub returns-in_err-finish-clause-read : goal.returns-in_err-finish-clause-read
-returns-in_err-finish-clause-read g c is = absurd (not_read _ (ended_by _ _ _ c.from_residual.ensures.1 is))
-
-pub returns-in_err-finish-clause-as_read : goal.returns-in_err-finish-clause-as_read
-returns-in_err-finish-clause-as_read g c is = absurd (not_read _ (ended_by _ _ _ c.from_residual.ensures.1 is))
-
-pub returns-in_err-finish-clause-only_a_read : goal.returns-in_err-finish-clause-only_a_read
-returns-in_err-finish-clause-only_a_read g c is = absurd (not_read _ (ended_by _ _ _ c.from_residual.ensures.1 is))
-
-pub returns-in_err-finish-clause-write : goal.returns-in_err-finish-clause-write
-returns-in_err-finish-clause-write g c is = c.in_err-finish.ensures.mark ∙ mark_after-write _ _ (ended_by _ _ _ c.from_residual.ensures.1 is)
-
-pub returns-in_err-finish-clause-beginning : goal.returns-in_err-finish-clause-beginning
-returns-in_err-finish-clause-beginning g c is =
+pub returns-in_err-finish : goal.returns-in_err-finish
+returns-in_err-finish g c =
     let so_far = c.reads.invariant in
-    let by = ended_by _ _ _ c.from_residual.ensures.1 is in
+    let made = c.from_residual.ensures.1 in
+    let ends = c.in_err-finish.ensures.ends _ so_far.0 so_far.1.stands in
+    let none = rw c.if-count-eq0.true at c.in-Ok.ensures.consumed.0 in
     let end = c.in-Ok.ensures.consumed.1 c.if-count-eq0.true (rw c.read_some.auto.buffer so_far.1.block) in
-    input-end _ _ _ so_far.0 _ so_far.1.consumed (rw c.if-count-eq0.true at c.in-Ok.ensures.consumed.0) end
-    (ends_write c.args.task.now _ _ _ so_far.0 by (c.in_err-finish.ensures.ends _ so_far.0 so_far.1.stands))
+    record {
+      end = OnOk-fault _ _ c.from_residual.result made;
+      written = OnOk-fault _ _ c.from_residual.result made;
+      well = OnOk-fault _ _ c.from_residual.result made;
+      no_read_failed = OnOk-fault _ _ c.from_residual.result made;
+      no_write_failed = OnOk-fault _ _ c.from_residual.result made;
+      read = λ is. absurd (not_read _ (ended_by _ _ _ made is));
+      as_read = λ is. absurd (not_read _ (ended_by _ _ _ made is));
+      only_a_read = λ is. absurd (not_read _ (ended_by _ _ _ made is));
+      write = λ is. c.in_err-finish.ensures.mark ∙ mark_after-write _ _ (ended_by _ _ _ made is);
+      beginning = λ is.
+          input-end _ _ _ so_far.0 _ so_far.1.consumed none end
+          (ends_write c.args.task.now _ _ _ so_far.0 (ended_by _ _ _ made is) ends);
+      only_a_write = λ _. c.in-Ok.ensures.mark ∙ so_far.1.reader_mark;
+      found = λ found is.
+          input-end _ _ _ so_far.0 _ so_far.1.consumed none end
+          (ends_found c.args.task.now _ _ _ found so_far.0 (ended_by _ _ _ made is) ends);
+      no_call_failed = λ found is. (
+        c.in-Ok.ensures.mark ∙ so_far.1.reader_mark,
+        c.in_err-finish.ensures.mark ∙ mark_after-found _ found _ (ended_by _ _ _ made is) ∙ so_far.1.writer_mark,
+      );
+    }
 
-pub returns-in_err-finish-clause-found : goal.returns-in_err-finish-clause-found
-returns-in_err-finish-clause-found g c found is =
+pub returns-in_err-feed : goal.returns-in_err-feed
+returns-in_err-feed g c =
     let so_far = c.reads.invariant in
-    let by = ended_by _ _ _ c.from_residual.ensures.1 is in
-    let end = c.in-Ok.ensures.consumed.1 c.if-count-eq0.true (rw c.read_some.auto.buffer so_far.1.block) in
-    input-end _ _ _ so_far.0 _ so_far.1.consumed (rw c.if-count-eq0.true at c.in-Ok.ensures.consumed.0) end
-    (ends_found c.args.task.now _ _ _ found so_far.0 by (c.in_err-finish.ensures.ends _ so_far.0 so_far.1.stands))
-
-pub returns-in_err-finish-clause-no_call_failed : goal.returns-in_err-finish-clause-no_call_failed
-returns-in_err-finish-clause-no_call_failed g c found is =
-    let so_far = c.reads.invariant in
-    let by = ended_by _ _ _ c.from_residual.ensures.1 is in
-    (c.in-Ok.ensures.mark ∙ so_far.1.reader_mark, c.in_err-finish.ensures.mark ∙ mark_after-found _ found _ by ∙ so_far.1.writer_mark)
-
-pub returns-in_err-feed-clause-read : goal.returns-in_err-feed-clause-read
-returns-in_err-feed-clause-read g c is = absurd (not_read _ (ended_by _ _ _ c.from_residual-in_err-feed.ensures.1 is))
-
-pub returns-in_err-feed-clause-as_read : goal.returns-in_err-feed-clause-as_read
-returns-in_err-feed-clause-as_read g c is = absurd (not_read _ (ended_by _ _ _ c.from_residual-in_err-feed.ensures.1 is))
-
-pub returns-in_err-feed-clause-only_a_read : goal.returns-in_err-feed-clause-only_a_read
-returns-in_err-feed-clause-only_a_read g c is = absurd (not_read _ (ended_by _ _ _ c.from_residual-in_err-feed.ensures.1 is))
-
-pub returns-in_err-feed-clause-write : goal.returns-in_err-feed-clause-write
-returns-in_err-feed-clause-write g c is = c.in_err-feed.ensures.mark ∙ mark_after-write _ _ (ended_by _ _ _ c.from_residual-in_err-feed.ensures.1 is)
-
-pub returns-in_err-feed-clause-beginning : goal.returns-in_err-feed-clause-beginning
-returns-in_err-feed-clause-beginning g c is =
-    let so_far = c.reads.invariant in
-    let by = ended_by _ _ _ c.from_residual-in_err-feed.ensures.1 is in
+    let made = c.from_residual-in_err-feed.ensures.1 in
     let block = take c.in-Ok.count c.read_some.new.buffer in
-    input-begin _ _ (so_far.0 ++ block) _ (Consumes-append _ _ _ so_far.0 block so_far.1.consumed c.in-Ok.ensures.consumed.0)
-    (λ rest. ends_write c.args.task.now _ _ _ ((so_far.0 ++ block) ++ rest) by (c.in_err-feed.ensures.ends _ so_far.0 rest so_far.1.stands))
-
-pub returns-in_err-feed-clause-found : goal.returns-in_err-feed-clause-found
-returns-in_err-feed-clause-found g c found is =
-    let so_far = c.reads.invariant in
-    let by = ended_by _ _ _ c.from_residual-in_err-feed.ensures.1 is in
-    let block = take c.in-Ok.count c.read_some.new.buffer in
-    input-begin _ _ (so_far.0 ++ block) _ (Consumes-append _ _ _ so_far.0 block so_far.1.consumed c.in-Ok.ensures.consumed.0)
-    (λ rest. ends_found c.args.task.now _ _ _ found ((so_far.0 ++ block) ++ rest) by (c.in_err-feed.ensures.ends _ so_far.0 rest so_far.1.stands))
-
-pub returns-in_err-feed-clause-no_call_failed : goal.returns-in_err-feed-clause-no_call_failed
-returns-in_err-feed-clause-no_call_failed g c found is =
-    let so_far = c.reads.invariant in
-    let by = ended_by _ _ _ c.from_residual-in_err-feed.ensures.1 is in
-    (c.in-Ok.ensures.mark ∙ so_far.1.reader_mark, c.in_err-feed.ensures.mark ∙ mark_after-found _ found _ by ∙ so_far.1.writer_mark)
-
-pub returns-in_err-finish-clause-end : goal.returns-in_err-finish-clause-end
-returns-in_err-finish-clause-end g c = OnOk-fault _ _ c.from_residual.result c.from_residual.ensures.1
-
-pub returns-in_err-finish-clause-written : goal.returns-in_err-finish-clause-written
-returns-in_err-finish-clause-written g c = OnOk-fault _ _ c.from_residual.result c.from_residual.ensures.1
-
-pub returns-in_err-finish-clause-well : goal.returns-in_err-finish-clause-well
-returns-in_err-finish-clause-well g c = OnOk-fault _ _ c.from_residual.result c.from_residual.ensures.1
-
-pub returns-in_err-finish-clause-no_read_failed : goal.returns-in_err-finish-clause-no_read_failed
-returns-in_err-finish-clause-no_read_failed g c = OnOk-fault _ _ c.from_residual.result c.from_residual.ensures.1
-
-pub returns-in_err-finish-clause-no_write_failed : goal.returns-in_err-finish-clause-no_write_failed
-returns-in_err-finish-clause-no_write_failed g c = OnOk-fault _ _ c.from_residual.result c.from_residual.ensures.1
-
-pub returns-in_err-finish-clause-only_a_write : goal.returns-in_err-finish-clause-only_a_write
-returns-in_err-finish-clause-only_a_write g c is = c.in-Ok.ensures.mark ∙ c.reads.invariant.1.reader_mark
-
-pub returns-in_err-feed-clause-end : goal.returns-in_err-feed-clause-end
-returns-in_err-feed-clause-end g c = OnOk-fault _ _ c.from_residual-in_err-feed.result c.from_residual-in_err-feed.ensures.1
-
-pub returns-in_err-feed-clause-written : goal.returns-in_err-feed-clause-written
-returns-in_err-feed-clause-written g c = OnOk-fault _ _ c.from_residual-in_err-feed.result c.from_residual-in_err-feed.ensures.1
-
-pub returns-in_err-feed-clause-well : goal.returns-in_err-feed-clause-well
-returns-in_err-feed-clause-well g c = OnOk-fault _ _ c.from_residual-in_err-feed.result c.from_residual-in_err-feed.ensures.1
-
-pub returns-in_err-feed-clause-no_read_failed : goal.returns-in_err-feed-clause-no_read_failed
-returns-in_err-feed-clause-no_read_failed g c = OnOk-fault _ _ c.from_residual-in_err-feed.result c.from_residual-in_err-feed.ensures.1
-
-pub returns-in_err-feed-clause-no_write_failed : goal.returns-in_err-feed-clause-no_write_failed
-returns-in_err-feed-clause-no_write_failed g c = OnOk-fault _ _ c.from_residual-in_err-feed.result c.from_residual-in_err-feed.ensures.1
-
-pub returns-in_err-feed-clause-only_a_write : goal.returns-in_err-feed-clause-only_a_write
-returns-in_err-feed-clause-only_a_write g c is = c.in-Ok.ensures.mark ∙ c.reads.invariant.1.reader_mark
-
-pub returns-clause-read : goal.returns-clause-read
-returns-clause-read g c _ =
-    let so_far = c.reads.invariant in inr (input-long _ _ so_far.0 _ _ so_far.1.consumed so_far.1.turns c.reads-test.false)
-
-pub returns-in_default-clause-read : goal.returns-in_default-clause-read
-returns-in_default-clause-read g c _ = inl c.in_default.ensures.mark
+    let taken = Consumes-append _ _ _ so_far.0 block so_far.1.consumed c.in-Ok.ensures.consumed.0 in
+    let ends = λ (rest : List ℕ). c.in_err-feed.ensures.ends _ so_far.0 rest so_far.1.stands in
+    record {
+      end = OnOk-fault _ _ c.from_residual-in_err-feed.result made;
+      written = OnOk-fault _ _ c.from_residual-in_err-feed.result made;
+      well = OnOk-fault _ _ c.from_residual-in_err-feed.result made;
+      no_read_failed = OnOk-fault _ _ c.from_residual-in_err-feed.result made;
+      no_write_failed = OnOk-fault _ _ c.from_residual-in_err-feed.result made;
+      read = λ is. absurd (not_read _ (ended_by _ _ _ made is));
+      as_read = λ is. absurd (not_read _ (ended_by _ _ _ made is));
+      only_a_read = λ is. absurd (not_read _ (ended_by _ _ _ made is));
+      write = λ is. c.in_err-feed.ensures.mark ∙ mark_after-write _ _ (ended_by _ _ _ made is);
+      beginning = λ is.
+          input-begin _ _ (so_far.0 ++ block) _ taken
+          (λ rest. ends_write c.args.task.now _ _ _ ((so_far.0 ++ block) ++ rest) (ended_by _ _ _ made is) (ends rest));
+      only_a_write = λ _. c.in-Ok.ensures.mark ∙ so_far.1.reader_mark;
+      found = λ found is.
+          input-begin _ _ (so_far.0 ++ block) _ taken
+          (λ rest. ends_found c.args.task.now _ _ _ found ((so_far.0 ++ block) ++ rest) (ended_by _ _ _ made is) (ends rest));
+      no_call_failed = λ found is. (
+        c.in-Ok.ensures.mark ∙ so_far.1.reader_mark,
+        c.in_err-feed.ensures.mark ∙ mark_after-found _ found _ (ended_by _ _ _ made is) ∙ so_far.1.writer_mark,
+      );
+    }
 
 pub reads-preserved : goal.reads-preserved
 reads-preserved g c =
@@ -172,13 +131,40 @@ reads-preserved g c =
       },
     )
 
-pub returns-in_default-clause-as_read : goal.returns-in_default-clause-as_read
-returns-in_default-clause-as_read g c _ =
+pub returns-in_default : goal.returns-in_default
+returns-in_default g c =
     let so_far = c.reads.invariant in
-    let written = written_open c.args.task.now _ _ _ _ so_far.0 so_far.1.stands so_far.1.empty in
-    (so_far.0, Consumes-keep _ _ _ so_far.0 so_far.1.consumed c.in_default.ensures.consumed, written)
+    record {
+      end = tt;
+      written = tt;
+      well = tt;
+      no_read_failed = tt;
+      no_write_failed = tt;
+      read = λ _. inl c.in_default.ensures.mark;
+      as_read = λ _. (so_far.0, Consumes-keep _ _ _ so_far.0 so_far.1.consumed c.in_default.ensures.consumed, written_open c.args.task.now _ _ _ _ so_far.0 so_far.1.stands so_far.1.empty);
+      only_a_read = λ _. so_far.1.writer_mark;
+      write = λ is. absurd (no_write is);
+      beginning = λ is. absurd (no_write is);
+      only_a_write = λ is. absurd (no_write is);
+      found = λ found is. absurd (no_found found is);
+      no_call_failed = λ found is. absurd (no_found found is);
+    }
 
-pub returns-clause-as_read : goal.returns-clause-as_read
-returns-clause-as_read g c _ =
+pub returns : goal.returns
+returns g c =
     let so_far = c.reads.invariant in
-    (so_far.0, so_far.1.consumed, written_open c.args.task.now _ _ _ _ so_far.0 so_far.1.stands so_far.1.empty)
+    record {
+      end = tt;
+      written = tt;
+      well = tt;
+      no_read_failed = tt;
+      no_write_failed = tt;
+      read = λ _. inr (input-long _ _ so_far.0 _ _ so_far.1.consumed so_far.1.turns c.reads-test.false);
+      as_read = λ _. (so_far.0, so_far.1.consumed, written_open c.args.task.now _ _ _ _ so_far.0 so_far.1.stands so_far.1.empty);
+      only_a_read = λ _. so_far.1.writer_mark;
+      write = λ is. absurd (no_write is);
+      beginning = λ is. absurd (no_write is);
+      only_a_write = λ is. absurd (no_write is);
+      found = λ found is. absurd (no_found found is);
+      no_call_failed = λ found is. absurd (no_found found is);
+    }
