@@ -193,6 +193,7 @@ fn clock_part_with(name: &[u8], number: &[u8]) -> Option<Replace>
 
 // The replacement of a part of the fraction of a second, of this name, by a number.
 #[tactic(auto, unfolding(crate::specs::CallWords::fraction_part_with))]
+#[inline(always)]
 fn fraction_part_with(name: &[u8], number: &[u8]) -> Option<Replace>
     ensures { result ≡ fraction_part_with name.now number.now }
 {

@@ -157,6 +157,7 @@ fn push_date_part(text: &mut Text, part: DatePart)
 }
 
 // Adds a year, a month and a day of the month, with one space between.
+#[inline(always)]
 fn push_calendar_date(text: &mut Text, year: i32, month: Month, day: u8)
     requires { length text.old ≡ 0 }
     ensures value { text.new ≡ text.old ++ calendar_date_text year month day }
@@ -169,6 +170,7 @@ fn push_calendar_date(text: &mut Text, year: i32, month: Month, day: u8)
 }
 
 // Adds a year and a day of the year, with one space between.
+#[inline(always)]
 fn push_ordinal_date(text: &mut Text, year: i32, ordinal: u16)
     requires { length text.old ≡ 0 }
     ensures value { text.new ≡ text.old ++ ordinal_date_text year ordinal }
@@ -179,6 +181,7 @@ fn push_ordinal_date(text: &mut Text, year: i32, ordinal: u16)
 }
 
 // Adds a year, a week and a day of the week, with one space between.
+#[inline(always)]
 fn push_iso_week_date(text: &mut Text, year: i32, week: u8, weekday: Weekday)
     requires { length text.old ≡ 0 }
     ensures value { text.new ≡ text.old ++ iso_week_date_text year week weekday }
