@@ -188,6 +188,6 @@ empty_settled task base now pending work taken keeps none = inl (keeps, sym keep
 
 -- ---- marks
 
--- what failed after steps that kept the mark
+-- the mark where the work ends by a fault behind steps that kept it
 pub mark_kept : (fault : LineFault) (a b c : Bool) → c ≡ mark_after {T = Unit} (Err fault) b → b ≡ a → c ≡ mark_after {T = Unit} (Err fault) a
 mark_kept fault a b c e kept = e ∙ ap (mark_after {T = Unit} (Err fault)) kept

@@ -51,5 +51,5 @@ pub returns-in_err-work-clause-decided : goal.returns-in_err-work-clause-decided
 returns-in_err-work-clause-decided g c = λ ok. absurd (fault-not_ok _ c.from_residual.result c.from_residual.ensures.1 ok)
 
 pub returns-in_err-take_part-clause-decided : goal.returns-in_err-take_part-clause-decided
-returns-in_err-take_part-clause-decided g c = λ ok.
-    absurd (fault-not_ok _ c.from_residual-in_err-take_part.result c.from_residual-in_err-take_part.ensures.1 ok)
+returns-in_err-take_part-clause-decided g c =
+    λ ok. absurd (fault-not_ok _ c.from_residual-in_err-take_part.result c.from_residual-in_err-take_part.ensures.1 ok)

@@ -141,7 +141,11 @@ returns-in_default g c =
       no_read_failed = tt;
       no_write_failed = tt;
       read = λ _. inl c.in_default.ensures.mark;
-      as_read = λ _. (so_far.0, Consumes-keep _ _ _ so_far.0 so_far.1.consumed c.in_default.ensures.consumed, written_open c.args.task.now _ _ _ _ so_far.0 so_far.1.stands so_far.1.empty);
+      as_read = λ _. (
+        so_far.0,
+        Consumes-keep _ _ _ so_far.0 so_far.1.consumed c.in_default.ensures.consumed,
+        written_open c.args.task.now _ _ _ _ so_far.0 so_far.1.stands so_far.1.empty,
+      );
       only_a_read = λ _. so_far.1.writer_mark;
       write = λ is. absurd (no_write is);
       beginning = λ is. absurd (no_write is);
@@ -160,7 +164,11 @@ returns g c =
       no_read_failed = tt;
       no_write_failed = tt;
       read = λ _. inr (input-long _ _ so_far.0 _ _ so_far.1.consumed so_far.1.turns c.reads-test.false);
-      as_read = λ _. (so_far.0, so_far.1.consumed, written_open c.args.task.now _ _ _ _ so_far.0 so_far.1.stands so_far.1.empty);
+      as_read = λ _. (
+        so_far.0,
+        so_far.1.consumed,
+        written_open c.args.task.now _ _ _ _ so_far.0 so_far.1.stands so_far.1.empty,
+      );
       only_a_read = λ _. so_far.1.writer_mark;
       write = λ is. absurd (no_write is);
       beginning = λ is. absurd (no_write is);

@@ -137,7 +137,11 @@ returns-in_default g c =
       no_read_failed = tt;
       no_write_failed = tt;
       read = λ _. inl c.in_default.ensures.mark;
-      whole_lines = λ _. (so_far.0, Consumes-keep _ _ _ so_far.0 so_far.1.consumed c.in_default.ensures.consumed, answers_of-whole_lines_of _ _ so_far.0 so_far.1.sent);
+      whole_lines = λ _. (
+        so_far.0,
+        Consumes-keep _ _ _ so_far.0 so_far.1.consumed c.in_default.ensures.consumed,
+        answers_of-whole_lines_of _ _ so_far.0 so_far.1.sent,
+      );
       only_a_read = λ _. so_far.1.writer_mark;
       write = λ is. absurd (no_write is);
       beginning = λ is. absurd (no_write is);
