@@ -1,5 +1,5 @@
 -- The day of an ISO week date: that of the week date of a day is the day, and the other way round.
-use Rattle.std.proofs.Common.{◌≡◌, ◌<◌, ◌≤◌, ◌==◌, ◌||◌, ℕ, Bool, true, false, nat_lt, codes, refl, arith, ℤ, Result, Ok, Err}
+use Rattle.std.proofs.Common.{◌≡◌, ◌<◌, ◌≤◌, ◌==◌, ◌||◌, ℕ, Bool, true, false, nat_lt, codes, refl, ap, ◌∙◌, arith, ℤ, Result, Ok, Err}
 use Rattle.std.specs.Prelude.{IfOk, if◌then◌else◌}
 use Rattle.std.proofs.lemmas.Bool.Decides.{nat_tests}
 use Rattle.std.proofs.lemmas.Int.{ints}
@@ -23,6 +23,13 @@ shown n = record { year = iso_year_of n; week = iso_week_of n; weekday = weekday
 -- a day of the week that is tested
 weekday_tested : (w : ℕ) → w < 7 → nat_lt 6 w ≡ false
 weekday_tested w low = grind (arith, nat_tests)
+
+-- the answer to an ISO week date whose day of the week is one
+pub day_from_week_date-of : (v : MuxanduWeekDate) (y n date : ℤ) (weekday : ℕ) → n ≡ date → Ok date ≡ iso_week_date y v.week weekday → y ≡ v.year
+    → weekday ≡ v.weekday → v.weekday < 7 → Ok n ≡ day_from_week_date v
+day_from_week_date-of v y n date weekday day given year same low =
+    let made : Ok n ≡ as_refused (iso_week_date v.year v.week v.weekday) = ap (λ (z : ℤ). Ok z) day ∙ ap as_refused (rw (year, same) at given) in
+    rw (weekday_tested v.weekday low) made
 
 -- a year and a week of the range are refused only with some day of the week
 refused_conditionally : (outside first after : Bool) → outside ≡ false → first ≡ false →
