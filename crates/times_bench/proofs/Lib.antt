@@ -8,4 +8,5 @@ pub mod ReplyLemmas
 pub mod RequestLemmas
 pub mod SendingLemmas
 pub mod StepWordLemmas
+pub mod TurnLemmas
 pub mod WordLemmas

@@ -7,4 +7,5 @@ pub mod Progress
 pub mod ReplyTexts
 pub mod Requests
 pub mod StepWords
+pub mod Turns
 pub mod Words
