@@ -1,9 +1,10 @@
 -- What a turn of the loop over blocks comes to.
 use Rattle.std.proofs.Common.{◌≡◌, ◌≢◌, ℕ, ◌-◌, ◌^◌, ◌<◌, ◌≤◌, zero, suc, true, false, List, [], ◌++◌, length}
-use Rattle.std.proofs.Common.{length-append, Result, Ok, Err, refl, ◌∙◌, inl, inr, arith, subst, sym}
+use Rattle.std.proofs.Common.{take, Result, Ok, Err, refl, ◌∙◌, inl, inr, arith, subst, sym}
 use Rattle.std.specs.Io.KnownBytes.{Appends, Consumes, Keeps, IsAtEnd}
 use Rattle.std.specs.Prelude.{IsErrAnd}
 use Rattle.line_devices.specs.InputLemmas.{Consumes-nil, Consumes-append, Consumes-keep, input-end, input-begin, input-none_left, input-long}
+use Rattle.line_devices.specs.InputLemmas.{turns-more}
 use Rattle.line_devices.specs.LineLemmas.{rest_from-append}
 use Rattle.line_devices.specs.LineParts.{ended_from, rest_from}
 use Rattle.line_devices.specs.Lines.{unless_empty}
@@ -126,22 +127,21 @@ Turns-fault first now pending line taken (Ok count) fault made stops = absurd ma
 Turns-fault first now pending line taken (Err ended) fault made stops = subst (λ (z : BenchFault). Stops z first now) (sym made) stops
 
 -- a turn that took a byte or more
-pub Turns-more : (first now : Devices) (pending line taken block : List ℕ) (count : ℕ) → count ≢ 0 → count ≡ length block
-    → Stands first now pending line (taken ++ block) → Turns (Ok count) first now pending line taken
-Turns-more first now pending line taken block zero some e h = absurd (some refl)
-Turns-more first now pending line taken block (suc more) some e h = (block, omega (arith, e), h)
+pub Turns-more : (first now : Devices) (pending line taken buffer : List ℕ) (count : ℕ) → count ≢ 0 → count ≡ length (take count buffer)
+    → Stands first now pending line (taken ++ take count buffer) → Turns (Ok count) first now pending line taken
+Turns-more first now pending line taken buffer zero some e h = absurd (some refl)
+Turns-more first now pending line taken buffer (suc more) some e h =
+    (taken ++ take (suc more) buffer, omega (arith, turns-more taken buffer (length taken) (suc more) (omega arith) e some), h)
 
--- a turn that took none
-pub Turns-completes : (first now : Devices) (pending line taken : List ℕ) (count : ℕ) → count ≡ 0 → Turns (Ok count) first now pending line taken
-    → Completes first now
-Turns-completes first now pending line taken count e turns = rw e at turns
-
--- so many bytes and more were answered
 pub Turns-longer : (first now : Devices) (pending line taken : List ℕ) (count : ℕ) → count ≢ 0 → Turns (Ok count) first now pending line taken
     → (longer : List ℕ) × (length taken < length longer) × Stands first now pending line longer
 Turns-longer first now pending line taken zero some turns = absurd (some refl)
-Turns-longer first now pending line taken (suc more) some turns =
-    (taken ++ turns.0, omega (arith, length-append taken turns.0, turns.1), turns.2)
+Turns-longer first now pending line taken (suc more) some turns = turns
+
+-- a turn that took none
+pub Turns-end : (first now : Devices) (pending line taken : List ℕ) (count : ℕ) → count ≡ 0 → Turns (Ok count) first now pending line taken
+    → Completes first now
+Turns-end first now pending line taken count e turns = rw e at turns
 
 -- what holds where a fault ended the work
 pub Stops-by : (first now : Devices) (result : Result Unit BenchFault) (fault ended : BenchFault) → IsErrAnd result (λ made. made ≡ fault)

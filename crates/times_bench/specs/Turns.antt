@@ -1,5 +1,5 @@
 -- What holds of the reader and the writer while an input is answered, block by block.
-use Rattle.std.specs.Prelude.{◌≡◌, ℕ, zero, suc, ◌-◌, ◌^◌, ◌<◌, ◌≤◌, ◌⊎◌, Bool, true, false, List, [], ◌++◌, length, Option, Some, Result, Ok, Err, IfSome}
+use Rattle.std.specs.Prelude.{◌≡◌, ℕ, zero, suc, ◌-◌, ◌^◌, ◌<◌, ◌≤◌, ◌⊎◌, Bool, true, false, List, [], length, Option, Some, Result, Ok, Err, IfSome}
 use Rattle.std.specs.Io.KnownBytes.{Appends, Consumes}
 use Rattle.line_devices.specs.LineParts.{ended_from, rest_from}
 use Rattle.line_devices.specs.Lines.{lines_of, whole_lines_of}
@@ -66,5 +66,5 @@ Stops Memory first now = StopsForMemory first now
 abbrev pub Turns : Result ℕ BenchFault → Devices → Devices → List ℕ → List ℕ → List ℕ → Type 0
 Turns (Ok zero) first now pending line taken = Completes first now
 Turns (Ok (suc more)) first now pending line taken =
-    (block : List ℕ) × (0 < length block) × Stands first now pending line (taken ++ block)
+    (longer : List ℕ) × (length taken < length longer) × Stands first now pending line longer
 Turns (Err fault) first now pending line taken = Stops fault first now

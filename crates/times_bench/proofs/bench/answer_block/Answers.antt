@@ -31,6 +31,6 @@ returns-in_err-feed g c = λ first taken h.
 pub returns : goal.returns
 returns g c = λ first taken h.
     let block = take c.in-Ok.count c.read_some.new.buffer in
-    Turns-more first _ _ _ taken block c.in-Ok.count c.if-count-eq0.false c.in-Ok.ensures.bound.1
+    Turns-more first _ _ _ taken c.read_some.new.buffer c.in-Ok.count c.if-count-eq0.false c.in-Ok.ensures.bound.1
     (block_answered first _ _ _ _ _ _ taken block h c.in-Ok.ensures.consumed.0 (c.in_ok-feed.ensures.written (rest_from [] taken) h.held)
     (c.in_ok-feed.ensures.line refl (rest_from [] taken) h.held) c.in_ok-feed.ensures.empty c.in-Ok.ensures.mark c.in_ok-feed.ensures.mark)

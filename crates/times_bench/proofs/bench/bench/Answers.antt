@@ -1,6 +1,6 @@
 use Rattle.std.proofs.Common.{◌≡◌, Result, Ok, Err, arith, []}
 use Rattle.line_devices.specs.FaultLemmas.{OnOk-fault}
-use Rattle.times_bench.proofs.TurnLemmas.{Stands-first, reads_end, Turns-completes, Turns-longer, Stops-by}
+use Rattle.times_bench.proofs.TurnLemmas.{Stands-first, reads_end, Turns-end, Turns-longer, Stops-by}
 use Rattle.times_bench.specs.declared.bench.BenchFault.{BenchFault}
 use Rattle.times_bench.specs.declared.bench.BenchFault.TheVariants.{Read, Write, Memory}
 use Rattle.times_bench.proofs.bench.bench.Goals as goal
@@ -45,25 +45,26 @@ returns-in_err-count g c =
     let so_far = c.reads.invariant in
     let made = c.from_residual.ensures.1 in
     let stops = c.in_err-count.ensures _ so_far.0 so_far.1.stands in
+    let by = λ (ended : BenchFault). Stops-by _ _ c.from_residual.result _ ended made stops in
     record {
       end = OnOk-fault _ _ c.from_residual.result made;
       answers = OnOk-fault _ _ c.from_residual.result made;
       no_read_failed = OnOk-fault _ _ c.from_residual.result made;
       no_write_failed = OnOk-fault _ _ c.from_residual.result made;
-      read = λ is. (Stops-by _ _ _ _ Read made stops is).read_failed;
-      whole_lines = λ is. (Stops-by _ _ _ _ Read made stops is).answered;
-      only_a_read = λ is. (Stops-by _ _ _ _ Read made stops is).no_write_failed;
-      write = λ is. (Stops-by _ _ _ _ Write made stops is).write_failed;
-      beginning = λ is. (Stops-by _ _ _ _ Write made stops is).answered;
-      only_a_write = λ is. (Stops-by _ _ _ _ Write made stops is).no_read_failed;
-      memory = λ is. (Stops-by _ _ _ _ Memory made stops is).answered;
-      no_call_failed = λ is. let stopped = Stops-by _ _ _ _ Memory made stops is in (stopped.no_read_failed, stopped.no_write_failed);
+      read = λ is. (by Read is).read_failed;
+      whole_lines = λ is. (by Read is).answered;
+      only_a_read = λ is. (by Read is).no_write_failed;
+      write = λ is. (by Write is).write_failed;
+      beginning = λ is. (by Write is).answered;
+      only_a_write = λ is. (by Write is).no_read_failed;
+      memory = λ is. (by Memory is).answered;
+      no_call_failed = λ is. ((by Memory is).no_read_failed, (by Memory is).no_write_failed);
     }
 
 pub returns-then-count-eq0 : goal.returns-then-count-eq0
 returns-then-count-eq0 g c =
     let so_far = c.reads.invariant in
-    let all = Turns-completes _ _ _ _ so_far.0 _ c.if-count-eq0.true (c.in_ok-count.ensures _ so_far.0 so_far.1.stands) in
+    let all = Turns-end _ _ _ _ so_far.0 _ c.if-count-eq0.true (c.in_ok-count.ensures _ so_far.0 so_far.1.stands) in
     record {
       end = all.none_left;
       answers = all.answered;
