@@ -5,3 +5,4 @@ pub mod ReadLemmas
 pub mod RunLemmas
 pub mod StepLemmas
 pub mod StyleLemmas
+pub mod TurnLemmas

@@ -1,25 +1,18 @@
 -- Reading an input to its end, a block at a time.
-use Rattle.std.proofs.Common.{◌≡◌, ◌≢◌, inl, inr, ℕ, ◌≤◌, ◌<◌, Bool, true, false, nat_lt, List, [], length, Option, Result, Ok, Err}
+use Rattle.std.proofs.Common.{◌≡◌, inl, inr, ℕ, ◌≤◌, ◌<◌, true, false, nat_lt, List, [], length, Option, Ok}
 use Rattle.std.proofs.Common.{refl, sym, ap, subst, ◌∙◌, arith}
 use Rattle.std.proofs.Common.{append-nil}
 use Rattle.std.specs.Io.KnownBytes.{Appends}
-use Rattle.std.specs.Result.{IsErrAnd}
 use Rattle.std.proofs.lemmas.Bool.Decides.{nat_tests}
 use Rattle.line_devices.specs.LineParts.{ended_from, rest_from}
-use Rattle.line_devices.specs.Writing.{AppendsBeginning, Sends}
+use Rattle.line_devices.specs.Writing.{Sends}
 use Rattle.line_devices.specs.WritingLemmas.{Appends-nil, Appends-flushed, Sends-nothing}
 use Rattle.stamps.specs.Decisions.{longest_stamp, decision_of, state_after, first_state}
-use Rattle.stamps.specs.Faults.{stamp_fault, FoundIn}
-use Rattle.stamps.specs.Progress.{Ends, Stands, mark_after}
-use Rattle.stamps.specs.Runs.{Run, run, behind, shown, known_after, lines_run, begun_run, input_run, open_run}
+use Rattle.stamps.specs.Progress.{Stands}
+use Rattle.stamps.specs.Runs.{Run, run, behind, shown, known_after, lines_run, begun_run, open_run}
 use Rattle.stamps.specs.declared.decide.State.{State}
-use Rattle.stamps.specs.declared.finding.Finding.{Finding}
-use Rattle.stamps.specs.declared.lines.LineFault.{LineFault}
-use Rattle.stamps.specs.declared.lines.LineFault.TheVariants.{Write, Found}
 use Rattle.stamps.specs.declared.lines.Progress.TheVariants.{Kept}
 use Rattle.stamps.specs.declared.lines.Work.{Work}
-use Rattle.stamps.specs.declared.stamps.StampFault.{StampFault}
-use Rattle.stamps.specs.declared.stamps.StampFault.TheVariants as ended
 use Rattle.stamps.specs.declared.task.Task.{Task}
 use Rattle.stamps.proofs.LongLineLemmas.{last_run-some}
 use Rattle.stamps.proofs.RunLemmas.{open_run-known}
@@ -66,35 +59,3 @@ written_open task base now pending work taken (inr (decided, long)) none =
     let text = open_run-known task taken decided.text decided.before decided.lines
     ∙ ap (behind decided.text) (begun_run-long task decided.before (rest_from [] taken) long) in
     subst (λ (z : List ℕ). Appends base now z) (sym (ap (λ (z : Run). z.text) text)) (all_sent base now pending _ decided.sent none)
-
--- the fault that ended the work on a block, by what ended the run
-pub ended_by : {T : Type 0} (result : Result T StampFault) (fault : LineFault) (ended : StampFault)
-    → IsErrAnd result (λ made. made ≡ stamp_fault fault) → result ≡ Err ended → stamp_fault fault ≡ ended
-ended_by (Ok done) fault ended made is = absurd made
-ended_by (Err by) fault ended made is = cc
-
-pub not_read : (fault : LineFault) → stamp_fault fault ≢ ended.Read
-not_read Write is = absurd cc
-not_read (Found found) is = absurd cc
-
-pub mark_after-write : (fault : LineFault) (mark : Bool) → stamp_fault fault ≡ ended.Write → mark_after {T = Unit} (Err fault) mark ≡ true
-mark_after-write Write mark is = refl
-mark_after-write (Found found) mark is = absurd cc
-
-pub mark_after-found : (fault : LineFault) (found : Finding) (mark : Bool) → stamp_fault fault ≡ ended.Found found
-    → mark_after {T = Unit} (Err fault) mark ≡ mark
-mark_after-found Write found mark is = absurd cc
-mark_after-found (Found other) found mark is = refl
-
--- what is left of a write that failed, and where a line ended the run
-pub ends_write : (task : Task) (base now : Option (List ℕ)) (fault : LineFault) (input : List ℕ) → stamp_fault fault ≡ ended.Write
-    → Ends task base now fault input → AppendsBeginning base now (input_run task input).text
-ends_write task base now Write input is h = h
-ends_write task base now (Found found) input is h = absurd cc
-
-pub ends_found : (task : Task) (base now : Option (List ℕ)) (fault : LineFault) (found : Finding) (input : List ℕ)
-    → stamp_fault fault ≡ ended.Found found → Ends task base now fault input → FoundIn base now (input_run task input) found
-ends_found task base now Write found input is h = absurd cc
-ends_found task base now (Found other) found input is h =
-    let same : other ≡ found = cc in
-    record { written = h.0; named = h.1 ∙ ap Err same }

@@ -5,3 +5,4 @@ pub mod Findings
 pub mod Progress
 pub mod Runs
 pub mod Styles
+pub mod Turns

@@ -1,9 +1,10 @@
 //! The work of the program: lines in, lines out.
-ghost use Rattle.std.specs.Prelude.{◌≡◌, ℕ, ◌-◌, ◌^◌, ◌≤◌, ◌⊎◌, true, false, List, [], length, Some, Err, OnOk, IsOk, IfSome, IfErr, IsErrOf};
+ghost use Rattle.std.specs.Prelude.{◌≡◌, ℕ, ◌-◌, ◌^◌, ◌<◌, ◌≤◌, ◌⊎◌, true, false, List, [], length, Some, Err, OnOk, IsOk, IfSome, IfErr, IsErrOf};
 ghost use Rattle.std.specs.Io.KnownBytes.{Appends, Consumes};
 ghost use Rattle.line_devices.specs.Writing.{AppendsBeginning};
 ghost use Rattle.stamps.specs.Faults.{stamp_fault, FoundIn};
 ghost use Rattle.stamps.specs.Runs.{input_run, open_run};
+ghost use Rattle.stamps.specs.Turns.{Devices, GoesOn, Turns, devices};
 
 use crate::finding::Finding;
 use crate::lines::{LineFault, Work, feed, finish};
@@ -85,14 +86,39 @@ pub fn stamps<R: Source, W: Sink>(
     let mut work = Work::new(task);
     let mut pending = Pending::new(0);
     'reads: for _turn in 0..u64::MAX {
-        let Ok(count) = reader.read_some(&mut block) else {
-            return Err(StampFault::Read);
-        };
+        let count = take_block(task, reader, writer, &mut pending, &mut work, &mut block)?;
         if count == 0 {
-            finish(task, writer, &mut pending, &mut work)?;
             return Ok(());
         }
-        feed(task, writer, &mut pending, &mut work, &block[..count])?;
     }
     Err(StampFault::Read)
+}
+
+/// Reads a block, and writes what is to be written of the lines in it. Where there is none to read, it writes what is
+/// left of the last line. Gives how many bytes it read.
+fn take_block<R: Source, W: Sink>(
+    task: &Task,
+    reader: &mut R,
+    writer: &mut W,
+    pending: &mut Pending,
+    work: &mut Work,
+    block: &mut [u8],
+) -> Result<usize, StampFault>
+    requires block { 0 < length block.old }
+    requires pending { pending.old ≡ [] }
+    ensures { (first : Devices) (taken : List ℕ)
+        → GoesOn task.now first (devices (R.left reader.old) (W.written writer.old)
+        (R.is_marked reader.old) (W.is_marked writer.old)) pending.old work.old taken
+        → Turns result task.now first (devices (R.left reader.new) (W.written writer.new)
+        (R.is_marked reader.new) (W.is_marked writer.new)) pending.new work.new taken }
+{
+    let Ok(count) = reader.read_some(block) else {
+        return Err(StampFault::Read);
+    };
+    if count == 0 {
+        finish(task, writer, pending, work)?;
+        return Ok(0);
+    }
+    feed(task, writer, pending, work, &block[..count])?;
+    Ok(count)
 }
