@@ -1,5 +1,5 @@
 //! Lines out of blocks of bytes.
-ghost use Rattle.std.specs.Prelude.{◌≡◌, ◌≢◌, ◌≤◌, ℕ, true, false, List, [], ◌∷◌, ◌++◌, drop, length, Option, OnOk, IfErr, IsOk};
+ghost use Rattle.std.specs.Prelude.{◌≡◌, ◌≢◌, ◌≤◌, ◌<◌, ℕ, true, false, List, [], ◌∷◌, ◌++◌, take, drop, length, Option, OnOk, IfOk, IfErr, IsOk};
 ghost use Rattle.line_devices.specs.LineParts.{HasNone};
 ghost use Rattle.line_devices.specs.Writing.{MarksFailure, SendsAll};
 ghost use Rattle.stamps.specs.Decisions.{decision_of, first_state, state_after};
@@ -93,17 +93,39 @@ pub fn feed<W: Sink>(
 {
     let mut place = 0;
     'lines: while place < block.len() {
-        let end = place_of(b'\n', block, place);
-        if end == block.len() {
-            take_part(task, writer, pending, work, &block[place..end])?;
-            place = end;
-        } else {
-            end_line(task, writer, pending, work, &block[place..end])?;
-            place = end + 1;
-        }
+        place += take_front(task, writer, pending, work, &block[place..])?;
     }
     flush(writer, pending)?;
     Ok(())
+}
+
+// Takes in the front of a text, up to its first line feed if it has one. Gives how many bytes it took.
+#[inline(always)]
+fn take_front<W: Sink>(
+    task: &Task,
+    writer: &mut W,
+    pending: &mut Pending,
+    work: &mut Work,
+    text: &[u8],
+) -> Result<usize, LineFault>
+    requires { 0 < length text.now }
+    ensures count { IfOk result (λ count. (0 < count) × (count ≤ length text.now)) }
+    ensures stands { IfOk result (λ count. (base : Option (List ℕ)) (taken : List ℕ)
+        → Stands task.now base (W.written writer.old) pending.old work.old taken
+        → Stands task.now base (W.written writer.new) pending.new work.new
+        (taken ++ take count text.now)) }
+    ensures ends { IfErr result (λ fault. (base : Option (List ℕ)) (taken more : List ℕ)
+        → Stands task.now base (W.written writer.old) pending.old work.old taken
+        → Ends task.now base (W.written writer.new) fault ((taken ++ text.now) ++ more)) }
+    ensures mark { W.is_marked writer.new ≡ mark_after result (W.is_marked writer.old) }
+{
+    let end = place_of(b'\n', text, 0);
+    if end == text.len() {
+        take_part(task, writer, pending, work, text)?;
+        return Ok(end);
+    }
+    end_line(task, writer, pending, work, &text[..end])?;
+    Ok(end + 1)
 }
 
 // Takes in a part of a line, which has no line feed.
