@@ -1,9 +1,9 @@
 //! How the words of a line read.
-ghost use Rattle.std.specs.Prelude.{◌≡◌, ◌<◌, ◌≤◌, ℕ, List, length, IfSome, OnSome, Option};
+ghost use Rattle.std.specs.Prelude.{◌≡◌, ◌<◌, ◌≤◌, ℕ, ℤ, List, length, IfSome, OnSome, Option};
 ghost use Rattle.std.specs.Option.{option_map};
 ghost use Rattle.times_bench.specs.CallWords.{call_of};
 ghost use Rattle.times_bench.specs.StepWords.{step_of};
-ghost use Rattle.times_bench.specs.Requests.{Unix, Stamp, Run, Chain, unix_request, stamp_request, parse_instant, run_request, chain_request};
+ghost use Rattle.times_bench.specs.Requests.{Unix, Stamp, Run, Chain, unix_request, stamp_request, parse_instant, run_request, chain_request, chain_from};
 ghost use Rattle.times_bench.specs.Words.{words_of, words_left, bytes_left, all_of};
 
 use super::call_words::call_of;
@@ -70,17 +70,30 @@ pub fn read_run(words: &[u8], calls: &mut Calls) -> Option<(i64, u32)>
 
 /// The second, the nanosecond and the start of the words after `chain`. Their steps take the place of those in
 /// the table.
-#[tactic(auto, unfolding(crate::specs::Requests::chain_request, crate::specs::Requests::chain_from))]
+#[tactic(auto, unfolding(crate::specs::Requests::chain_request))]
 pub fn read_chain(words: &[u8], steps: &mut Steps) -> Option<(i64, u32, Step)>
     requires { length words.now < 1024 }
     ensures { option_map (λ asked. Chain asked.0 asked.1 asked.2 steps.new) result
         ≡ chain_request (words_of words.now) }
 {
     let (second, nanosecond, words) = parse_instant(words)?;
+    let start = read_steps(words, steps)?;
+    Some((second, nanosecond, start))
+}
+
+// The start that words begin with. The steps behind it take the place of those in the table.
+#[tactic(auto, unfolding(crate::specs::Requests::chain_from))]
+#[inline(always)]
+fn read_steps(words: Option<&[u8]>, steps: &mut Steps) -> Option<Step>
+    requires { bytes_left words < 1024 }
+    ensures { (second : ℤ) (nanosecond : ℕ)
+        → option_map (λ start. Chain second nanosecond start steps.new) result
+        ≡ chain_from second nanosecond (words_left words.entry) }
+{
     let (start, rest) = cut_at(b' ', words?);
     let start = step_of(start)?;
     read_items(rest, steps)?;
-    Some((second, nanosecond, start))
+    Some(start)
 }
 
 // The second and the nanosecond that words begin with, and what is left of them.
