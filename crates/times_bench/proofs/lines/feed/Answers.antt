@@ -1,6 +1,7 @@
 use Rattle.std.proofs.Common.{arith, refl, ◌≡◌, ℕ, ◌+◌, ◌<◌, List, [], ◌∷◌, ◌++◌, length, take, drop, get_or, sym, ◌∙◌}
 use Rattle.std.proofs.lemmas.Result.{err_from_is_err_and}
 use Rattle.std.proofs.lemmas.List.{take_all, take-append-drop}
+use Rattle.line_devices.specs.FaultLemmas.{OnOk-fault, fault-not_ok}
 use Rattle.line_devices.specs.LineParts.{ended_from, rest_from}
 use Rattle.line_devices.specs.LineLemmas.{ended_until, rest_from-line_feed, take-line_feed}
 use Rattle.times_bench.proofs.FeedLemmas.{Sends-line, AtFault-line, WritesAnswers-flushed}
@@ -70,3 +71,24 @@ pub returns-clause-written : goal.returns-clause-written
 returns-clause-written g c = λ piece h.
     let sent = rw (take_all c.lines.place c.args.block.now (omega arith)) at (c.lines.invariant.sent piece h) in
     WritesAnswers-flushed _ _ _ c.lines.pending _ c.flush.result sent c.flush.ensures.written
+
+pub returns-clause-line : goal.returns-clause-line
+returns-clause-line g c = λ ok piece h.
+    rw (take_all c.lines.place c.args.block.now (omega arith)) at (c.lines.invariant.line piece h)
+
+pub returns-clause-empty : goal.returns-clause-empty
+returns-clause-empty g c = c.flush.ensures.empty
+
+pub returns-clause-mark : goal.returns-clause-mark
+returns-clause-mark g c = rw c.lines.invariant.mark at c.flush.ensures.mark
+
+pub returns-in_err-end_line-clause-line : goal.returns-in_err-end_line-clause-line
+returns-in_err-end_line-clause-line g c = λ ok. absurd (fault-not_ok _ c.from_residual.result c.from_residual.ensures.1 ok)
+
+pub returns-in_err-end_line-clause-empty : goal.returns-in_err-end_line-clause-empty
+returns-in_err-end_line-clause-empty g c = OnOk-fault _ _ c.from_residual.result c.from_residual.ensures.1
+
+pub returns-in_err-end_line-clause-mark : goal.returns-in_err-end_line-clause-mark
+returns-in_err-end_line-clause-mark g c =
+    let p = err_from_is_err_and c.from_residual.result c.from_residual.ensures.1 in
+    rw (p.1, p.2) (rw c.lines.invariant.mark at c.in_err-end_line.ensures.mark)
