@@ -3,22 +3,24 @@ use Rattle.std.proofs.Common.{◌≡◌, ◌≢◌, inl, inr, ℕ, ◌+◌, ◌�
 use Rattle.std.proofs.Common.{refl, sym, ap, subst, ◌∙◌, arith, append_assoc, append-nil}
 use Rattle.std.proofs.Math.Seq.{take-append-add}
 use Rattle.std.proofs.lemmas.List.{length-take}
-use Rattle.std.specs.Prelude.{IsOk, IfErr, Bool, true, false}
+use Rattle.std.proofs.lemmas.Bool.{false≢true}
+use Rattle.std.specs.Prelude.{IsOk, IfErr, OnOk, Bool, true, false}
 use Rattle.line_devices.specs.LineParts.{rest_from}
 use Rattle.line_devices.specs.Writing.{Sends}
 use Rattle.stamps.specs.Decisions.{longest_stamp, decision_of, state_after}
-use Rattle.stamps.specs.Progress.{Begins, Decided, Ends, Keeps, Passes, Settled, Stands, is_kept, mark_after, passed, progress_of}
+use Rattle.stamps.specs.Progress.{Begins, Completes, Decided, Ends, Keeps, Passes, Settled, Stands, WritesPending, is_kept, mark_after, passed, progress_of}
 use Rattle.stamps.specs.declared.decide.Decision.{Decision}
 use Rattle.stamps.specs.declared.decide.Decision.TheVariants.{Keep, Skip, Stop}
 use Rattle.stamps.specs.declared.decide.State.{State}
 use Rattle.stamps.specs.declared.lines.LineFault.{LineFault}
+use Rattle.stamps.specs.declared.lines.LineFault.TheVariants.{Write, Found}
 use Rattle.stamps.specs.declared.lines.Progress.{Progress}
 use Rattle.stamps.specs.declared.lines.Progress.TheVariants.{Kept, Sent, Skipped}
 use Rattle.stamps.specs.declared.lines.Work.{Work}
 use Rattle.stamps.specs.declared.task.Task.{Task}
 use Rattle.stamps.proofs.LongLineLemmas.{continues_end, continues_line, continues_long}
 use Rattle.stamps.proofs.PartLemmas.{HasNoFeed, HasNoFeed-take, HasNoFeed-drop, IsLong, part_taken, part_split, begin_fault, begun, decided_more, long_more}
-use Rattle.stamps.proofs.PartLemmas.{pass_fault}
+use Rattle.stamps.proofs.PartLemmas.{pass_fault, stands_fault, stands_flushed, completed, completion_fault}
 
 progress_of-decided : (decision : Decision) → progress_of decision ≢ Kept
 progress_of-decided (Keep text count) is = absurd cc
@@ -191,3 +193,37 @@ empty_settled task base now pending work taken keeps none = inl (keeps, sym keep
 -- the mark where the work ends by a fault behind steps that kept it
 pub mark_kept : (fault : LineFault) (a b c : Bool) → c ≡ mark_after {T = Unit} (Err fault) b → b ≡ a → c ≡ mark_after {T = Unit} (Err fault) a
 mark_kept fault a b c e kept = e ∙ ap (mark_after {T = Unit} (Err fault)) kept
+
+-- ---- what is pending is written
+
+-- behind a block
+pub block_stands : (task : Task) (base b c : Option (List ℕ)) (pending pending' : List ℕ) (work : Work) (taken : List ℕ) (r : Result Unit LineFault)
+    → IsOk r → WritesPending r b c pending → OnOk r (pending' ≡ []) → Stands task base b pending work taken → Stands task base c pending' work taken
+block_stands task base b c pending pending' work taken (Ok done) ok written none stands =
+    stands_flushed task base b c pending pending' work taken stands written none
+block_stands task base b c pending pending' work taken (Err fault) ok written none stands = absurd (false≢true ok)
+
+pub block_ends : (task : Task) (a b c : Option (List ℕ)) (before pending : List ℕ) (first work : Work) (block : List ℕ) (r : Result Unit LineFault)
+    → WritesPending r b c pending
+    → ((base : Option (List ℕ)) (taken : List ℕ) → Stands task base a before first taken → Stands task base b pending work (taken ++ block))
+    → IfErr r (λ fault. (base : Option (List ℕ)) (taken more : List ℕ) → Stands task base a before first taken
+    → Ends task base c fault ((taken ++ block) ++ more))
+block_ends task a b c before pending first work block (Ok done) written stands = tt
+block_ends task a b c before pending first work block (Err Write) cut stands =
+    λ base taken more h. stands_fault task base b c pending work (taken ++ block) more (stands base taken h) cut
+block_ends task a b c before pending first work block (Err (Found found)) none stands = absurd none
+
+-- behind the last line
+pub end_completes : (task : Task) (base b c : Option (List ℕ)) (pending : List ℕ) (work : Work) (taken : List ℕ) (r : Result Unit LineFault)
+    → IsOk r → WritesPending r b c pending → Settled task base b pending work taken → Completes task base c taken
+end_completes task base b c pending work taken (Ok done) ok written settled = completed task base b c pending work taken settled written
+end_completes task base b c pending work taken (Err fault) ok written settled = absurd (false≢true ok)
+
+pub end_ends : (task : Task) (a b c : Option (List ℕ)) (before pending : List ℕ) (first work : Work) (r : Result Unit LineFault)
+    → WritesPending r b c pending
+    → ((base : Option (List ℕ)) (taken : List ℕ) → Stands task base a before first taken → Settled task base b pending work taken)
+    → IfErr r (λ fault. (base : Option (List ℕ)) (taken : List ℕ) → Stands task base a before first taken → Ends task base c fault taken)
+end_ends task a b c before pending first work (Ok done) written settled = tt
+end_ends task a b c before pending first work (Err Write) cut settled =
+    λ base taken h. completion_fault task base b c pending work taken (settled base taken h) cut
+end_ends task a b c before pending first work (Err (Found found)) none settled = absurd none

@@ -45,6 +45,11 @@ passed Kept bytes = []
 passed Sent bytes = bytes
 passed Skipped bytes = []
 
+-- what was pending was written, or a beginning of it
+abbrev pub WritesPending : {T : Type 0} → Result T LineFault → Option (List ℕ) → Option (List ℕ) → List ℕ → Type 0
+WritesPending result old new pending =
+    MatchResult result (λ _. Appends old new pending) (λ fault. AtFault fault (AppendsBeginning old new pending) (λ _. ⊥))
+
 -- bytes were sent behind what was pending, or a beginning of both was written
 abbrev pub Passes : {T : Type 0} → Result T LineFault → Option (List ℕ) → Option (List ℕ) → List ℕ → List ℕ → Type 0
 Passes result old new pending bytes =

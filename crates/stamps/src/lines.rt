@@ -4,7 +4,7 @@ ghost use Rattle.line_devices.specs.LineParts.{HasNone};
 ghost use Rattle.line_devices.specs.Writing.{MarksFailure, SendsAll};
 ghost use Rattle.stamps.specs.Decisions.{decision_of, first_state, state_after};
 ghost use Rattle.stamps.specs.Progress.{Begins, Completes, Decided, Ends, Keeps, KeepsLine, Passes};
-ghost use Rattle.stamps.specs.Progress.{Settled, Stands, is_kept, mark_after, passed};
+ghost use Rattle.stamps.specs.Progress.{Settled, Stands, WritesPending, is_kept, mark_after, passed};
 ghost use Rattle.stamps.specs.declared.lines.LineFault.TheVariants.{Write};
 ghost use Rattle.stamps.specs.declared.lines.Progress.TheVariants.{Kept};
 
@@ -95,8 +95,7 @@ pub fn feed<W: Sink>(
     'lines: while place < block.len() {
         place += take_front(task, writer, pending, work, &block[place..])?;
     }
-    flush(writer, pending)?;
-    Ok(())
+    write_pending(writer, pending)
 }
 
 // Takes in the front of a text, up to its first line feed if it has one. Gives how many bytes it took.
@@ -248,6 +247,16 @@ pub fn finish<W: Sink>(
     ensures mark { W.is_marked writer.new ≡ mark_after result (W.is_marked writer.old) }
 {
     decide_rest(task, writer, pending, work)?;
+    write_pending(writer, pending)
+}
+
+// Writes what is pending.
+fn write_pending<W: Sink>(writer: &mut W, pending: &mut Pending) -> Result<(), LineFault>
+    ensures written { WritesPending result
+        (W.written writer.old) (W.written writer.new) pending.old }
+    ensures empty { OnOk result (pending.new ≡ []) }
+    ensures mark { W.is_marked writer.new ≡ mark_after result (W.is_marked writer.old) }
+{
     flush(writer, pending)?;
     Ok(())
 }

@@ -3,8 +3,7 @@ use Rattle.std.proofs.lemmas.Result.{err_from_is_err_and}
 use Rattle.std.proofs.lemmas.List.{take_all, length-drop}
 use Rattle.line_devices.specs.FaultLemmas.{OnOk-fault, fault-not_ok}
 use Rattle.stamps.proofs.BlockLemmas.{between-end, front_joined, rest_joined}
-use Rattle.stamps.proofs.PartLemmas.{stands_fault, stands_flushed}
-use Rattle.stamps.proofs.StepLemmas.{mark_kept}
+use Rattle.stamps.proofs.StepLemmas.{block_stands, block_ends, mark_kept}
 use Rattle.stamps.proofs.lines.feed.Goals as goal
 
 pub lines-init : goal.lines-init
@@ -44,27 +43,19 @@ returns-in_err-place-clause-stands g c = λ ok. absurd (fault-not_ok _ c.from_re
 pub returns-in_err-place-clause-empty : goal.returns-in_err-place-clause-empty
 returns-in_err-place-clause-empty g c = OnOk-fault _ _ c.from_residual.result c.from_residual.ensures.1
 
-pub returns-in_err-flush-clause-ends : goal.returns-in_err-flush-clause-ends
-returns-in_err-flush-clause-ends g c =
-    let p = err_from_is_err_and c.from_residual-in_err-flush.result c.from_residual-in_err-flush.ensures.1 in
-    let block = c.args.block.now in
-    rw (p.1, p.2) (λ base taken more h.
-    stands_fault c.args.task.now base _ _ c.lines.pending c.lines.work (taken ++ block) more
-    (rw (take_all c.lines.place block (omega arith)) at (c.lines.invariant.stands base taken h)) c.in_err-flush.ensures.written)
-
-pub returns-in_err-flush-clause-mark : goal.returns-in_err-flush-clause-mark
-returns-in_err-flush-clause-mark g c =
-    let p = err_from_is_err_and c.from_residual-in_err-flush.result c.from_residual-in_err-flush.ensures.1 in
-    rw (p.1, p.2) c.in_err-flush.ensures.mark
-
-pub returns-in_err-flush-clause-stands : goal.returns-in_err-flush-clause-stands
-returns-in_err-flush-clause-stands g c = λ ok. absurd (fault-not_ok _ c.from_residual-in_err-flush.result c.from_residual-in_err-flush.ensures.1 ok)
-
-pub returns-in_err-flush-clause-empty : goal.returns-in_err-flush-clause-empty
-returns-in_err-flush-clause-empty g c = OnOk-fault _ _ c.from_residual-in_err-flush.result c.from_residual-in_err-flush.ensures.1
-
 pub returns-clause-stands : goal.returns-clause-stands
 returns-clause-stands g c = λ ok base taken h.
-    let block = c.args.block.now in
-    stands_flushed c.args.task.now base _ _ c.lines.pending c.flush.new.pending c.lines.work (taken ++ block)
-    (rw (take_all c.lines.place block (omega arith)) at (c.lines.invariant.stands base taken h)) c.in_ok-flush.ensures.written c.in_ok-flush.ensures.empty
+    block_stands c.args.task.now base _ _ c.lines.pending _ c.lines.work (taken ++ c.args.block.now) c.write_pending.result ok
+    c.write_pending.ensures.written c.write_pending.ensures.empty
+    (rw (take_all c.lines.place c.args.block.now (omega arith)) at (c.lines.invariant.stands base taken h))
+
+pub returns-clause-ends : goal.returns-clause-ends
+returns-clause-ends g c =
+    block_ends c.args.task.now _ _ _ c.args.pending.now c.lines.pending c.args.work.now c.lines.work c.args.block.now c.write_pending.result
+    c.write_pending.ensures.written (rw (take_all c.lines.place c.args.block.now (omega arith)) at c.lines.invariant.stands)
+
+pub returns-clause-empty : goal.returns-clause-empty
+returns-clause-empty g c = c.write_pending.ensures.empty
+
+pub returns-clause-mark : goal.returns-clause-mark
+returns-clause-mark g c = rw c.lines.invariant.mark at c.write_pending.ensures.mark
