@@ -1,5 +1,5 @@
 //! Work that is done each day at 9:00.
-#![tactic(auto, using(calendar_values::specs::Constants::constants, plain_times::specs::DaysLaterLemmas::days_later))]
+#![tactic(auto)]
 
 ghost use Rattle.std.specs.Prelude.{◌≡◌, ◌*◌, ◌+ℤ◌, ◌≤ℤ◌, ◌<ℤ◌, pos, IfSome};
 ghost use Rattle.calendar_values.specs.Clock.{nanos_per_day, nanos_per_hour};
@@ -9,13 +9,25 @@ ghost use Rattle.offset_times.specs.Local.{instant_of};
 use calendar_values::{SignedDuration, Time};
 use offset_times::OffsetDateTime;
 
+/// 9:00 of the day that clocks show: less than a day before now, and at most a day after.
+pub fn nine_of_the_day(now: OffsetDateTime) -> Option<OffsetDateTime>
+    ensures offset { IfSome result (λ nine. nine.offset ≡ now.offset) }
+    ensures at_nine { IfSome result (λ nine. wall_time nine.wall ≡ 9 * nanos_per_hour) }
+    ensures recent { IfSome result (λ nine. instant_of now <ℤ
+        (instant_of nine +ℤ pos nanos_per_day)) }
+    ensures soon { IfSome result (λ nine. instant_of nine ≤ℤ
+        (instant_of now +ℤ pos nanos_per_day)) }
+{
+    Some(now.replace_time(Time::from_hms(9, 0, 0).ok()?))
+}
+
 /// The run of today, at 9:00 by the same clocks. None where it is not still to come.
 pub fn run_today(now: OffsetDateTime) -> Option<OffsetDateTime>
     ensures offset { IfSome result (λ run. run.offset ≡ now.offset) }
     ensures at_nine { IfSome result (λ run. wall_time run.wall ≡ 9 * nanos_per_hour) }
     ensures to_come { IfSome result (λ run. instant_of now <ℤ instant_of run) }
 {
-    let today = now.replace_time(Time::from_hms(9, 0, 0).ok()?);
+    let today = nine_of_the_day(now)?;
     if now < today {
         return Some(today);
     }
@@ -23,6 +35,7 @@ pub fn run_today(now: OffsetDateTime) -> Option<OffsetDateTime>
 }
 
 /// The run after a run: the same time tomorrow, by the same clocks. None outside the range.
+#[tactic(auto, using(plain_times::specs::DaysLaterLemmas::days_later))]
 pub fn run_after(run: OffsetDateTime) -> Option<OffsetDateTime>
     ensures offset { IfSome result (λ next. next.offset ≡ run.offset) }
     ensures time { IfSome result (λ next. wall_time next.wall ≡ wall_time run.wall) }
@@ -30,6 +43,19 @@ pub fn run_after(run: OffsetDateTime) -> Option<OffsetDateTime>
         pos nanos_per_day) }
 {
     Some(run.checked_add(SignedDuration::days(1))?)
+}
+
+/// The run after one that is over: at most a day from now. None outside the range.
+pub fn run_after_past(past: OffsetDateTime, now: OffsetDateTime) -> Option<OffsetDateTime>
+    requires over { instant_of past ≤ℤ instant_of now }
+    ensures offset { IfSome result (λ next. next.offset ≡ past.offset) }
+    ensures time { IfSome result (λ next. wall_time next.wall ≡ wall_time past.wall) }
+    ensures instant { IfSome result (λ next. instant_of next ≡ instant_of past +ℤ
+        pos nanos_per_day) }
+    ensures soon { IfSome result (λ next. instant_of next ≤ℤ
+        (instant_of now +ℤ pos nanos_per_day)) }
+{
+    Some(run_after(past)?)
 }
 
 /// The next 9:00 by the same clocks: later than now, and at most a day later. None outside the range.
@@ -40,9 +66,9 @@ pub fn next_run(now: OffsetDateTime) -> Option<OffsetDateTime>
     ensures soon { IfSome result (λ next. instant_of next ≤ℤ
         (instant_of now +ℤ pos nanos_per_day)) }
 {
-    let nine = now.replace_time(Time::from_hms(9, 0, 0).ok()?);
+    let nine = nine_of_the_day(now)?;
     if now < nine {
         return Some(nine);
     }
-    run_after(nine)
+    Some(run_after_past(nine, now)?)
 }

@@ -102,7 +102,7 @@ pub fn next_midnight_at(at: UtcDateTime, offset: UtcOffset) -> Option<OffsetDate
         next.wall ≡ wall_multiple_below nanos_per_day (shown_at at offset) +ℤ pos nanos_per_day) }
 {
     let here = at.checked_to_offset(offset)?;
-    here.truncate_to_day().checked_add(SignedDuration::days(1))
+    Some(here.truncate_to_day().checked_add(SignedDuration::days(1))?)
 }
 
 /// Puts entries from many offsets into the order of their instants.

@@ -5,9 +5,9 @@ ghost use Rattle.offset_times.specs.Local.{local_at, shown_at};
 ghost use Rattle.offset_times.specs.Texts.{offset_date_time_text};
 ghost use Rattle.stamp_times.specs.Instants.{instant_of_milliseconds};
 
+use crate::milliseconds::stamp_of;
 use calendar_values::{Date, Text, UtcOffset};
 use offset_times::ToOffset;
-use stamp_times::Timestamp;
 use utc_times::UtcDateTime;
 
 /// The text of Unix milliseconds at an offset. None where the range has no such instant, or clocks there show no
@@ -16,8 +16,7 @@ pub fn text_at(milliseconds: i64, offset: UtcOffset) -> Option<Text>
     ensures { IfSome result (λ text.
         text ≡ offset_date_time_text (local_at (instant_of_milliseconds milliseconds) offset)) }
 {
-    let stamp = Timestamp::from_milliseconds(milliseconds).ok()?;
-    Some(stamp.checked_to_offset(offset)?.text())
+    Some(stamp_of(milliseconds)?.checked_to_offset(offset)?.text())
 }
 
 /// The date of an instant where the reader is. None where clocks there show no date of the range.
