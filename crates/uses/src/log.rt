@@ -54,6 +54,17 @@ pub fn has(entries: &[Timestamp], at: Timestamp) -> bool
     logs::find(entries, at).is_some()
 }
 
+/// Enters an instant in a log in which each stands once, whether it is new or not.
+pub fn enter(log: &mut Vec<Timestamp>, at: Timestamp) -> Result<(), AllocError>
+    requires { IsStrictlySortedBy int_cmp log.old.items }
+    ensures in_order { IsStrictlySortedBy int_cmp log.new.items }
+    ensures entered { OnOk result (Contains log.new.items at) }
+    ensures kept { (entry : ℤ) → Contains log.old.items entry → Contains log.new.items entry }
+{
+    logs::enter(log, at)?;
+    Ok(())
+}
+
 /// Enters the two ends of a shift in a log in which each instant stands once.
 pub fn enter_shift(
     log: &mut Vec<Timestamp>,
@@ -65,9 +76,8 @@ pub fn enter_shift(
     ensures entered { OnOk result (Contains log.new.items from) }
     ensures kept { (entry : ℤ) → Contains log.old.items entry → Contains log.new.items entry }
 {
-    logs::enter(log, from)?;
-    logs::enter(log, until)?;
-    Ok(())
+    enter(log, from)?;
+    enter(log, until)
 }
 
 /// Puts a log that was put together from others in order, each instant once, and looks for one.

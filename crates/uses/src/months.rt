@@ -1,7 +1,7 @@
 //! Days that come each month or each year: a month that is too short has its last day in their place.
 #![tactic(auto, using(calendar_values::specs::Constants::constants, plain_times::specs::MonthLemmas::month_days))]
 
-ghost use Rattle.std.specs.Prelude.{◌≡◌, ◌≤◌, ◌+◌, ◌+ℤ◌, ◌-ℤ◌, pos, min, IfOk, IfSome, SomeIff, neg_ℤ, ◌≤ℤ◌};
+ghost use Rattle.std.specs.Prelude.{◌≡◌, ◌≤◌, ◌<◌, ◌+◌, ◌+ℤ◌, ◌-ℤ◌, pos, min, IfOk, IfSome, IfNone, OkIff, SomeIff, neg_ℤ, ◌≤ℤ◌};
 ghost use Rattle.calendar_values.specs.Calendar.{days_in_month, is_leap_year, year_of, month_of, day_of_month_of};
 ghost use Rattle.calendar_values.specs.Month.{month_number};
 ghost use Rattle.calendar_values.specs.Range.{IsYear};
@@ -14,6 +14,8 @@ use calendar_values::{ComponentRange, Date, Month, days_in_month};
 /// The day on which a contract is billed in a month. Refused `year` outside the range.
 pub fn billing_day(year: i32, month: Month, day: u8) -> Result<Date, ComponentRange>
     requires { 1 ≤ day }
+    ensures value { OkIff result (IsYear year)
+        (months.day_or_last year (month_number month) day) }
     ensures year { IfOk result (λ due. year_of due ≡ year) }
     ensures month { IfOk result (λ due. month_of due ≡ month_number month) }
     ensures day { IfOk result (λ due. day_of_month_of due ≡
@@ -36,7 +38,10 @@ pub fn a_year_later(date: Date) -> Option<Date>
     ensures year { IfSome result (λ later. year_of later ≡ year_of date +ℤ pos 1) }
     ensures month { IfSome result (λ later. month_of later ≡ month_of date) }
 {
-    day_or_last(year_after(date), date.month(), date.day()).ok()
+    match billing_day(year_after(date), date.month(), date.day()) {
+        Ok(later) => Some(later),
+        Err(_) => None,
+    }
 }
 
 /// The first day of the next month. None in the last month of the range.
@@ -70,16 +75,24 @@ pub fn a_month_later(date: Date) -> Option<Date>
     Some(day_in_month_of(first, date.day()))
 }
 
+/// The month after that of the date, in the same year. None after December.
+pub fn month_after(date: Date) -> Option<Month>
+    ensures next { IfSome result (λ next. month_number next ≡ month_of date + 1) }
+    ensures in_the_year { IfSome result (λ _. month_of date < 12) }
+    ensures december { IfNone result (month_of date ≡ 12) }
+{
+    Month::from_number(u8::from(date.month()) + 1).ok()
+}
+
 /// The same day of the next month, or its last day, by the number of the month: the 13th is January. Refused `year` past
 /// the range.
-#[tactic(auto, using(calendar_values::specs::Constants::constants, plain_times::specs::MonthLemmas::month_days, calendar_values::specs::MonthNumberLemmas::months))]
 pub fn same_day_next_month(date: Date) -> Result<Date, ComponentRange>
     ensures { IfOk result (λ due. due ≡
         months.same_day_or_last (year_of date) (month_of date + 1) (day_of_month_of date)) }
 {
-    match Month::from_number(u8::from(date.month()) + 1) {
-        Ok(next) => day_or_last(date.year(), next, date.day()),
-        Err(_) => day_or_last(year_after(date), Month::January, date.day()),
+    match month_after(date) {
+        Some(next) => day_or_last(date.year(), next, date.day()),
+        None => day_or_last(year_after(date), Month::January, date.day()),
     }
 }
 

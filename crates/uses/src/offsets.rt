@@ -44,12 +44,21 @@ pub fn shown_like(first: OffsetDateTime, second: OffsetDateTime) -> Option<Offse
     second.checked_to_offset(first.offset())
 }
 
+/// The seconds from one offset to another, both given in seconds.
+#[tactic(auto, using(calendar_values::specs::OffsetPartLemmas::offsets_apart))]
+pub fn seconds_apart(there: i32, here: i32) -> i32
+    requires there { IsOffset there }
+    requires here { IsOffset here }
+    ensures { result ≡ there -ℤ here }
+{
+    there - here
+}
+
 /// How many seconds clocks at the one offset are ahead of those at the other.
-#[tactic(auto, using(calendar_values::specs::Constants::constants, calendar_values::specs::OffsetPartLemmas::offsets_apart))]
 pub fn ahead(there: UtcOffset, here: UtcOffset) -> i32
     ensures { result ≡ there -ℤ here }
 {
-    there.whole_seconds() - here.whole_seconds()
+    seconds_apart(there.whole_seconds(), here.whole_seconds())
 }
 
 /// What clocks here and there show at an instant: the one is as far ahead as the offsets are apart. None where

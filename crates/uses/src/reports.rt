@@ -30,7 +30,9 @@ pub fn next_hour(at: UtcDateTime) -> Option<UtcDateTime>
 }
 
 /// The hour that a sale is reported under where it was made: on the same date, in the same hour, at its first nanosecond.
+#[tactic(auto, using(plain_times::specs::TruncationLemmas::multiples))]
 pub fn hour_there(sale: OffsetDateTime) -> OffsetDateTime
+    ensures whole { wall_multiple_below nanos_per_hour result.wall ≡ result.wall }
     ensures date { wall_day result.wall ≡ wall_day sale.wall }
     ensures hour { clocks.hour_of (wall_time result.wall) ≡ clocks.hour_of (wall_time sale.wall) }
     ensures minute { minute_of (wall_time result.wall) ≡ 0 }
@@ -43,7 +45,6 @@ pub fn hour_there(sale: OffsetDateTime) -> OffsetDateTime
 }
 
 /// The hour after that, where the sale was made. None past the range.
-#[tactic(auto, using(calendar_values::specs::Constants::constants, offset_times::specs::InstantLemmas::instants, plain_times::specs::TruncationLemmas::multiples))]
 pub fn next_hour_there(sale: OffsetDateTime) -> Option<OffsetDateTime>
     ensures whole { IfSome result (λ next.
         wall_multiple_below nanos_per_hour next.wall ≡ next.wall) }
@@ -52,8 +53,5 @@ pub fn next_hour_there(sale: OffsetDateTime) -> Option<OffsetDateTime>
     ensures soon { IfSome result (λ next.
         instant_of next ≤ℤ (instant_of sale +ℤ pos nanos_per_hour)) }
 {
-    Some(
-        sale.truncate_to_hour()
-            .checked_add(SignedDuration::hours(1))?,
-    )
+    Some(hour_there(sale.checked_add(SignedDuration::hours(1))?))
 }
