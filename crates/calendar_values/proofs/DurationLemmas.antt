@@ -1,9 +1,9 @@
 -- The order, the counts of units, the sums and the differences of durations, from their seconds and nanoseconds.
-use Rattle.std.proofs.Common.{◌≡◌, ℤ, pos, FitsSigned, w64, to_z, of_z, to_z-of_z, ◌+ℤ◌, ◌-ℤ◌, ◌*ℤ◌, ◌<ℤ◌, arith, int_div}
+use Rattle.std.proofs.Common.{◌≡◌, ℤ, pos, FitsSigned, w64, to_z, of_z, to_z-of_z, ◌+ℤ◌, ◌-ℤ◌, ◌*ℤ◌, ◌<ℤ◌, ◌≤◌, min, unsigned_abs, arith, int_div}
 use Rattle.std.proofs.lemmas.Int.{by_lt_z, ints}
 use Rattle.std.specs.Ordering.{int_cmp, ordering_then}
 use Rattle.calendar_values.specs.DurationPartLemmas.{duration_signs}
-use Rattle.calendar_values.specs.Durations.{duration_of_parts, IsDuration, IsDurationParts}
+use Rattle.calendar_values.specs.Durations.{duration_of_parts, greatest_duration, IsDuration, IsDurationParts}
 use Rattle.calendar_values.specs.Durations.{whole_seconds_of, whole_minutes_of, whole_hours_of, whole_days_of, whole_weeks_of, subsec_nanoseconds_of}
 use Rattle.calendar_values.specs.Durations.{whole_milliseconds_of, whole_microseconds_of, subsec_milliseconds_of, subsec_microseconds_of}
 use Rattle.calendar_values.specs.SignedArith.{signed_arith, one_part}
@@ -55,3 +55,9 @@ seconds_excess s t m n f g p q r unfit =
     by_lt_z (s -ℤ t) (pos 9_223_372_036_854_775_808)
     (λ lt. absurd (unfit (simp to_z-of_z (omega (arith, signed_arith, duration_signs s m p, duration_signs t n q)))))
     (λ ge. omega (arith, signed_arith, duration_signs s m p, duration_signs t n q))
+
+-- a duration without its sign counts its parts without theirs
+pub duration_of_parts-abs : (s n : ℤ) → IsDurationParts s n → unsigned_abs s ≤ 9_223_372_036_854_775_807 →
+    duration_of_parts (pos (unsigned_abs s)) (pos (unsigned_abs n)) ≡ pos (min (unsigned_abs (duration_of_parts s n)) (unsigned_abs greatest_duration))
+duration_of_parts-abs s n p most =
+    omega (arith, signed_arith, duration_signs s n p, p.in_range, one_part (duration_of_parts s n))
