@@ -29,22 +29,23 @@ is_first() {
     done
 }
 
-# Keeps the lines that are printed of a crate, and tells of those that say how many of its functions are checked. In a
-# program's first build it also tells how long the rest takes, if it goes on as so far.
+# How long the rest of a program's first build takes, if it goes on as so far, of which so many parts of 10,000 are done; nothing
+# where that is too little to tell by.
+left_after() {
+    local left
+    [ "$first" = yes ] && [ "$1" -ge 300 ] || return 0
+    left=$(((SECONDS - start) * (10000 - $1) / $1))
+    echo "; about $((left / 60 + 1)) min left"
+}
+
+# Keeps the lines that are printed of a crate, and tells of those that say how many of its functions are checked.
 tell() {
-    local crate="$1" number="$2" hundredths left
+    local crate="$1" number="$2" so_far
     while IFS= read -r line; do
         printf '%s\n' "$line" >> "$log"
         [[ "$line" =~ ^so\ far:\ ([0-9]+)\ of\ ([1-9][0-9]*)\  ]] || continue
-        left=""
-        if [ "$first" = yes ]; then
-            hundredths=$((before * 100 + ${share[$crate]:-0} * 100 * BASH_REMATCH[1] / BASH_REMATCH[2]))
-            if [ "$hundredths" -ge 300 ]; then
-                left=$(((SECONDS - start) * (10000 - hundredths) / hundredths))
-                left="; about $((left / 60 + 1)) min left"
-            fi
-        fi
-        echo "$command: $crate, crate $number of ${#crates[@]}: ${BASH_REMATCH[1]} of ${BASH_REMATCH[2]} functions$left" >&2
+        so_far=$((before * 100 + ${share[$crate]:-0} * 100 * BASH_REMATCH[1] / BASH_REMATCH[2]))
+        echo "$command: $crate, crate $number of ${#crates[@]}: ${BASH_REMATCH[1]} of ${BASH_REMATCH[2]} functions$(left_after "$so_far")" >&2
     done
 }
 
@@ -72,6 +73,7 @@ build() {
     fi
     for crate in "${crates[@]}"; do
         number=$((number + 1))
+        echo "$command: $crate, crate $number of ${#crates[@]}$(left_after $((before * 100)))" >&2
         prove "$crate" < /dev/null 2>&1 | tell "$crate" "$number" || return 1
         [ "$first" = no ] || before=$((before + ${share[$crate]:-0}))
     done
