@@ -3,13 +3,14 @@ use Rattle.std.proofs.Common.{◌≡◌, ◌≢◌, ℕ, ◌-◌, ◌^◌, ◌<�
 use Rattle.std.proofs.Common.{refl, ◌∙◌, inl, inr, arith, subst, sym, take}
 use Rattle.std.specs.Io.KnownBytes.{Consumes, Keeps, IsAtEnd}
 use Rattle.std.specs.Prelude.{IfSome, IsErrAnd}
+use Rattle.line_devices.specs.Device.{Devices}
 use Rattle.line_devices.specs.InputLemmas.{Consumes-nil, Consumes-append, Consumes-keep, input-end, input-begin, input-none_left, input-long}
 use Rattle.line_devices.specs.InputLemmas.{turns-more}
 use Rattle.stamps.specs.Decisions.{first_state}
 use Rattle.stamps.specs.Faults.{stamp_fault, FoundIn}
 use Rattle.stamps.specs.Progress.{Completes, Ends, Stands, mark_after}
 use Rattle.stamps.specs.Runs.{input_run}
-use Rattle.stamps.specs.Turns.{Devices, GoesOn, EndsWell, StopsAtRead, Stops, Turns}
+use Rattle.stamps.specs.Turns.{GoesOn, EndsWell, StopsAtRead, Stops, Turns}
 use Rattle.stamps.specs.declared.finding.Finding.{Finding}
 use Rattle.stamps.specs.declared.lines.LineFault.{LineFault}
 use Rattle.stamps.specs.declared.lines.LineFault.TheVariants.{Write, Found}

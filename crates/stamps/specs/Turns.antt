@@ -1,7 +1,8 @@
 -- What holds of the reader and the writer while an input is taken in, block by block.
-use Rattle.std.specs.Prelude.{◌≡◌, ℕ, zero, suc, ◌-◌, ◌^◌, ◌<◌, ◌≤◌, ◌⊎◌, Bool, true, false, List, [], length, Option, Some, Result, Ok, Err}
+use Rattle.std.specs.Prelude.{◌≡◌, ℕ, zero, suc, ◌-◌, ◌^◌, ◌<◌, ◌≤◌, ◌⊎◌, true, false, List, [], length, Some, Result, Ok, Err}
 use Rattle.std.specs.Prelude.{IfSome, IsOk}
 use Rattle.std.specs.Io.KnownBytes.{Appends, Consumes}
+use Rattle.line_devices.specs.Device.{Devices}
 use Rattle.line_devices.specs.Writing.{AppendsBeginning}
 use Rattle.stamps.specs.Faults.{FoundIn}
 use Rattle.stamps.specs.Progress.{Stands}
@@ -11,17 +12,6 @@ use Rattle.stamps.specs.declared.lines.Work.{Work}
 use Rattle.stamps.specs.declared.stamps.StampFault.{StampFault}
 use Rattle.stamps.specs.declared.stamps.StampFault.TheVariants.{Read, Write, Found}
 use Rattle.stamps.specs.declared.task.Task.{Task}
-
--- what is left to read and what was written, where they are known, and whether a read or a write failed
-pub record Devices : Type 0 where
-  pub left : Option (List ℕ)
-  pub written : Option (List ℕ)
-  pub read_failed : Bool
-  pub write_failed : Bool
-
-abbrev pub devices : Option (List ℕ) → Option (List ℕ) → Bool → Bool → Devices
-devices left written read_failed write_failed =
-    record { left = left; written = written; read_failed = read_failed; write_failed = write_failed }
 
 -- between two reads: of the bytes that were read, all was written that can be told, and no call failed
 pub record GoesOn (task : Task) (first now : Devices) (pending : List ℕ) (work : Work) (taken : List ℕ) : Type 0 where

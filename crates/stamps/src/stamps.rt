@@ -1,10 +1,11 @@
 //! The work of the program: lines in, lines out.
 ghost use Rattle.std.specs.Prelude.{◌≡◌, ℕ, ◌-◌, ◌^◌, ◌<◌, ◌≤◌, ◌⊎◌, true, false, List, [], length, Some, Err, OnOk, IsOk, IfSome, IfErr, IsErrOf};
 ghost use Rattle.std.specs.Io.KnownBytes.{Appends, Consumes};
+ghost use Rattle.line_devices.specs.Device.{Devices, devices};
 ghost use Rattle.line_devices.specs.Writing.{AppendsBeginning};
 ghost use Rattle.stamps.specs.Faults.{stamp_fault, FoundIn};
 ghost use Rattle.stamps.specs.Runs.{input_run, open_run};
-ghost use Rattle.stamps.specs.Turns.{Devices, GoesOn, Turns, devices};
+ghost use Rattle.stamps.specs.Turns.{GoesOn, Turns};
 
 use crate::finding::Finding;
 use crate::lines::{LineFault, Work, feed, finish};

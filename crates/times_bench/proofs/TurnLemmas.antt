@@ -3,6 +3,7 @@ use Rattle.std.proofs.Common.{◌≡◌, ◌≢◌, ℕ, ◌-◌, ◌^◌, ◌<�
 use Rattle.std.proofs.Common.{take, Result, Ok, Err, refl, ◌∙◌, inl, inr, arith, subst, sym}
 use Rattle.std.specs.Io.KnownBytes.{Appends, Consumes, Keeps, IsAtEnd}
 use Rattle.std.specs.Prelude.{IsErrAnd}
+use Rattle.line_devices.specs.Device.{Devices}
 use Rattle.line_devices.specs.InputLemmas.{Consumes-nil, Consumes-append, Consumes-keep, input-end, input-begin, input-none_left, input-long}
 use Rattle.line_devices.specs.InputLemmas.{turns-more}
 use Rattle.line_devices.specs.LineLemmas.{rest_from-append}
@@ -14,7 +15,7 @@ use Rattle.times_bench.specs.Answers.{answers_of}
 use Rattle.times_bench.specs.Faults.{bench_fault}
 use Rattle.times_bench.specs.LineParts.{Holds}
 use Rattle.times_bench.specs.Progress.{AnswersBeforeMemory, AtFault, mark_after}
-use Rattle.times_bench.specs.Turns.{Devices, Stands, Completes, StopsAtRead, Stops, Turns}
+use Rattle.times_bench.specs.Turns.{Stands, Completes, StopsAtRead, Stops, Turns}
 use Rattle.times_bench.specs.declared.bench.BenchFault.{BenchFault}
 use Rattle.times_bench.specs.declared.sending.AnswerFault.{AnswerFault}
 use Rattle.times_bench.specs.declared.sending.AnswerFault.TheVariants.{Write, Memory}

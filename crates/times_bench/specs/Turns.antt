@@ -1,6 +1,7 @@
 -- What holds of the reader and the writer while an input is answered, block by block.
-use Rattle.std.specs.Prelude.{◌≡◌, ℕ, zero, suc, ◌-◌, ◌^◌, ◌<◌, ◌≤◌, ◌⊎◌, Bool, true, false, List, [], length, Option, Some, Result, Ok, Err, IfSome}
+use Rattle.std.specs.Prelude.{◌≡◌, ℕ, zero, suc, ◌-◌, ◌^◌, ◌<◌, ◌≤◌, ◌⊎◌, true, false, List, [], length, Some, Result, Ok, Err, IfSome}
 use Rattle.std.specs.Io.KnownBytes.{Appends, Consumes}
+use Rattle.line_devices.specs.Device.{Devices}
 use Rattle.line_devices.specs.LineParts.{ended_from, rest_from}
 use Rattle.line_devices.specs.Lines.{lines_of, whole_lines_of}
 use Rattle.line_devices.specs.Writing.{AppendsBeginning}
@@ -9,17 +10,6 @@ use Rattle.times_bench.specs.LineParts.{Holds}
 use Rattle.times_bench.specs.Progress.{AnswersBeforeMemory}
 use Rattle.times_bench.specs.declared.bench.BenchFault.{BenchFault}
 use Rattle.times_bench.specs.declared.bench.BenchFault.TheVariants.{Read, Write, Memory}
-
--- what is left to read and what was written, where they are known, and whether a read or a write failed
-pub record Devices : Type 0 where
-  pub left : Option (List ℕ)
-  pub written : Option (List ℕ)
-  pub read_failed : Bool
-  pub write_failed : Bool
-
-abbrev pub devices : Option (List ℕ) → Option (List ℕ) → Bool → Bool → Devices
-devices left written read_failed write_failed =
-    record { left = left; written = written; read_failed = read_failed; write_failed = write_failed }
 
 -- between two reads: the answers to the lines that ended were written, and no call failed
 pub record Stands (first now : Devices) (pending line taken : List ℕ) : Type 0 where

@@ -1,5 +1,6 @@
 use Rattle.std.proofs.Common.{List, ℕ, ◌<◌, ◌≤◌, length}
-use Rattle.stamps.specs.Turns.{devices, GoesOn}
+use Rattle.line_devices.specs.Device.{devices}
+use Rattle.stamps.specs.Turns.{GoesOn}
 use Rattle.stamps.proofs.stamps.stamps.Given as goal
 
 abbrev pub invariant-reads : goal.invariant-reads

@@ -1,5 +1,6 @@
 use Rattle.std.proofs.Common.{List, ℕ, ◌<◌, ◌≤◌, length}
-use Rattle.times_bench.specs.Turns.{devices, Stands}
+use Rattle.line_devices.specs.Device.{devices}
+use Rattle.times_bench.specs.Turns.{Stands}
 use Rattle.times_bench.proofs.bench.bench.Given as goal
 
 abbrev pub invariant-reads : goal.invariant-reads
