@@ -2,6 +2,7 @@
 # `name`, the crate, and `kind`, program or library; a program also sets `share`, how many hundredths of a first build were
 # measured to go into each crate, and `instead`, what can be done meanwhile.
 
+declare -p share > /dev/null 2>&1 || declare -A share=()
 top="$(dirname "$(dirname "$(realpath "${BASH_SOURCE[0]}")")")"
 if [ "$kind" = program ]; then
     built="$top/crates/$name/out/$name"
