@@ -46,7 +46,11 @@ fn main() {
     println!("cargo:rerun-if-env-changed=MUXANDU_LIB_DIR");
     let folder = match env::var_os("MUXANDU_LIB_DIR") {
         Some(folder) => PathBuf::from(folder),
-        None => Path::new(env!("CARGO_MANIFEST_DIR")).join("../../dist/lib"),
+        // At run time: cargo keeps this program where the folder is moved or packed.
+        None => {
+            let manifest = env::var_os("CARGO_MANIFEST_DIR").expect("cargo names the folder");
+            Path::new(&manifest).join("../../dist/lib")
+        }
     };
     let path = folder.join("libmuxandu.a");
     println!("cargo:rerun-if-changed={}", path.display());

@@ -128,3 +128,30 @@ of_std! {
     std_days = from_secs, 86_400;
     std_weeks = from_secs, 604_800;
 }
+
+macro_rules! of_std_fractional {
+    ($($unit:ident = $nanoseconds:literal,)+) => {
+        impl NumericalStdDuration for f64 {
+            $(
+                #[track_caller]
+                fn $unit(self) -> Duration {
+                    let whole = self * $nanoseconds;
+                    assert!(whole >= 0.0, "a duration of std is not negative");
+                    Duration::try_from(SignedDuration::nanoseconds_f64(whole))
+                        .expect("64 bits hold the duration")
+                }
+            )+
+        }
+    };
+}
+
+of_std_fractional! {
+    std_nanoseconds = 1.0,
+    std_microseconds = 1e3,
+    std_milliseconds = 1e6,
+    std_seconds = 1e9,
+    std_minutes = 6e10,
+    std_hours = 3.6e12,
+    std_days = 8.64e13,
+    std_weeks = 6.048e14,
+}

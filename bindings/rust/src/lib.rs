@@ -89,8 +89,11 @@ pub type Duration = SignedDuration;
 /// The name that `time` gave [`PlainDateTime`].
 pub type PrimitiveDateTime = PlainDateTime;
 
-/// An answer whose refusal is one of `time`'s.
-pub type Result<T> = core::result::Result<T, error::ComponentRange>;
+/// An answer whose refusal is any of the crate's, as `time`'s.
+pub type Result<T> = core::result::Result<T, Error>;
+
+/// An answer that refuses a part.
+pub(crate) type Tested<T> = core::result::Result<T, error::ComponentRange>;
 
 /// The version of the library that is linked: ten thousand times the first number, a hundred times the second, and the
 /// third.

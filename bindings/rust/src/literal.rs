@@ -1,5 +1,5 @@
-//! The forms of dates and times in the literals of the macros, read when a program is compiled; whether they are dates and
-//! times the library says when they are first used. No part of this module is promised.
+//! The literals of the macros, read and tested when a program is compiled, by a calendar of their own that `every_literal`
+//! compares with the library for each year. No part of this module is promised.
 
 use core::fmt;
 
@@ -181,8 +181,9 @@ impl<'a> Rest<'a> {
     }
 
     const fn offset(&mut self) -> Option<OffsetLiteral> {
-        if self.takes(b'U') {
-            let is_utc = self.takes(b'T') && self.takes(b'C');
+        if self.takes(b'U') || self.takes(b'u') {
+            let is_utc =
+                (self.takes(b'T') || self.takes(b't')) && (self.takes(b'C') || self.takes(b'c'));
             return if is_utc {
                 Some(OffsetLiteral {
                     is_negative: false,
@@ -353,21 +354,28 @@ pub const fn of_form<T: Copy>(literal: Option<T>, message: &str) -> T {
     }
 }
 
-#[cold]
 #[track_caller]
-fn refused(refusal: Refusal) -> ! {
-    panic!("the literal is refused: {refusal}")
+const fn refused(refusal: Refusal) -> ! {
+    let mut at = 0;
+    while Refusal::ALL[at] as u8 != refusal as u8 {
+        at += 1;
+    }
+    let (_, _, explanation) = sys::REFUSALS[at];
+    panic!("{}", explanation)
 }
 
 macro_rules! values {
     ($($Literal:ident => $Value:ident,)+) => {
         $(
             impl $Literal {
-                /// The value, or a panic that says what is refused.
+                /// The value, or the end of the compilation, which names what is refused.
                 #[must_use]
                 #[track_caller]
-                pub fn value(self) -> $Value {
-                    self.tested().unwrap_or_else(|refusal| refused(refusal))
+                pub const fn value(self) -> $Value {
+                    match self.constant() {
+                        Ok(value) => value,
+                        Err(refusal) => refused(refusal),
+                    }
                 }
             }
         )+
@@ -381,6 +389,155 @@ values! {
     PlainLiteral => PlainDateTime,
     DateTimeLiteral => OffsetDateTime,
     TimestampLiteral => Timestamp,
+}
+
+/// The calendar of literals, which are tested before there is a program that could ask the library. `every_literal` compares
+/// it with the library for each year.
+const fn is_leap(year: i32) -> bool {
+    year % 4 == 0 && (year % 100 != 0 || year % 400 == 0)
+}
+
+const fn month_days(year: i32, month: u8) -> u8 {
+    match month {
+        4 | 6 | 9 | 11 => 30,
+        2 => 28 + is_leap(year) as u8,
+        _ => 31,
+    }
+}
+
+/// The day of the week of 1 January, 0 for Monday.
+const fn first_weekday(year: i32) -> i32 {
+    let before = year + 1_000_399; // years of 400-year periods before it, all positive
+    (before * 365 + before / 4 - before / 100 + before / 400 + FIRST).rem_euclid(7)
+}
+
+const FIRST: i32 = 0;
+
+const fn weeks(year: i32) -> u8 {
+    match (first_weekday(year), is_leap(year)) {
+        (3, _) | (2, true) => 53,
+        _ => 52,
+    }
+}
+
+const fn of_ordinal(year: i32, ordinal: u16) -> Date {
+    let (mut month, mut left) = (1, ordinal);
+    while left > month_days(year, month) as u16 {
+        left -= month_days(year, month) as u16;
+        month += 1;
+    }
+    Date::of(year, month, left as u8)
+}
+
+impl DateLiteral {
+    pub(crate) const fn constant(self) -> Result<Date, Refusal> {
+        let (DateLiteral::Calendar(year, ..)
+        | DateLiteral::Ordinal(year, _)
+        | DateLiteral::Week(year, ..)) = self;
+        match self {
+            DateLiteral::Calendar(_, month, _) if !matches!(month, 1..=12) => Err(Refusal::Month),
+            DateLiteral::Week(_, _, day) if !matches!(day, 1..=7) => Err(Refusal::Weekday),
+            _ if year < sys::YEAR_MIN || year > sys::YEAR_MAX => Err(Refusal::Year),
+            DateLiteral::Calendar(_, _, day) if !matches!(day, 1..=31) => Err(Refusal::Day),
+            DateLiteral::Calendar(_, month, day) if day > month_days(year, month) => {
+                Err(Refusal::DayOfMonth)
+            }
+            DateLiteral::Calendar(_, month, day) => Ok(Date::of(year, month, day)),
+            DateLiteral::Ordinal(_, ordinal) if !matches!(ordinal, 1..=366) => {
+                Err(Refusal::Ordinal)
+            }
+            DateLiteral::Ordinal(_, 366) if !is_leap(year) => Err(Refusal::OrdinalOfYear),
+            DateLiteral::Ordinal(_, ordinal) => Ok(of_ordinal(year, ordinal)),
+            DateLiteral::Week(_, week, _) if !matches!(week, 1..=53) => Err(Refusal::Week),
+            DateLiteral::Week(_, 53, _) if weeks(year) == 52 => Err(Refusal::WeekOfYear),
+            DateLiteral::Week(_, week, day) => {
+                // Week 1 has 4 January.
+                let monday = 1 - (first_weekday(year) + 3) % 7 + 3;
+                let ordinal = monday + (week as i32 - 1) * 7 + day as i32 - 1;
+                let days = 365 + is_leap(year) as i32;
+                let before = 365 + is_leap(year - 1) as i32;
+                if ordinal < 1 {
+                    if year == sys::YEAR_MIN {
+                        Err(Refusal::Result)
+                    } else {
+                        Ok(of_ordinal(year - 1, (ordinal + before) as u16))
+                    }
+                } else if ordinal > days {
+                    if year == sys::YEAR_MAX {
+                        Err(Refusal::Result)
+                    } else {
+                        Ok(of_ordinal(year + 1, (ordinal - days) as u16))
+                    }
+                } else {
+                    Ok(of_ordinal(year, ordinal as u16))
+                }
+            }
+        }
+    }
+}
+
+impl TimeLiteral {
+    pub(crate) const fn constant(self) -> Result<Time, Refusal> {
+        match self {
+            TimeLiteral { hour: 24.., .. } => Err(Refusal::Hour),
+            TimeLiteral { minute: 60.., .. } => Err(Refusal::Minute),
+            TimeLiteral { second: 60.., .. } => Err(Refusal::Second),
+            TimeLiteral {
+                nanosecond: 1_000_000_000..,
+                ..
+            } => Err(Refusal::Nanosecond),
+            TimeLiteral {
+                hour,
+                minute,
+                second,
+                nanosecond,
+            } => Ok(Time::of(hour, minute, second, nanosecond)),
+        }
+    }
+}
+
+impl OffsetLiteral {
+    pub(crate) const fn constant(self) -> Result<UtcOffset, Refusal> {
+        let [hours, minutes, seconds] = self.parts;
+        if hours > 25 {
+            return Err(Refusal::OffsetHour);
+        }
+        if minutes > 59 {
+            return Err(Refusal::OffsetMinute);
+        }
+        if seconds > 59 {
+            return Err(Refusal::OffsetSeconds);
+        }
+        let all = hours as i32 * 3_600 + minutes as i32 * 60 + seconds as i32;
+        Ok(UtcOffset::of(if self.is_negative { -all } else { all }))
+    }
+}
+
+impl PlainLiteral {
+    pub(crate) const fn constant(self) -> Result<PlainDateTime, Refusal> {
+        match (self.date.constant(), self.time.constant()) {
+            (Ok(date), Ok(time)) => Ok(PlainDateTime::new(date, time)),
+            (Err(refusal), _) | (_, Err(refusal)) => Err(refusal),
+        }
+    }
+}
+
+impl DateTimeLiteral {
+    pub(crate) const fn constant(self) -> Result<OffsetDateTime, Refusal> {
+        match (self.plain.constant(), self.offset.constant()) {
+            (Ok(plain), Ok(offset)) => Ok(plain.assume_offset(offset)),
+            (Err(refusal), _) | (_, Err(refusal)) => Err(refusal),
+        }
+    }
+}
+
+impl TimestampLiteral {
+    pub(crate) const fn constant(self) -> Result<Timestamp, Refusal> {
+        if self.seconds < sys::SECONDS_MIN as i128 || self.seconds > sys::SECONDS_MAX as i128 {
+            return Err(Refusal::Timestamp);
+        }
+        Ok(Timestamp::of(self.seconds as i64, self.nanosecond))
+    }
 }
 
 impl DateLiteral {
@@ -426,7 +583,7 @@ impl PlainLiteral {
     /// The value in UTC, or a panic that says what is refused.
     #[must_use]
     #[track_caller]
-    pub fn value_in_utc(self) -> UtcDateTime {
+    pub const fn value_in_utc(self) -> UtcDateTime {
         self.value().as_utc()
     }
 }
@@ -541,5 +698,35 @@ impl fmt::Display for TimestampLiteral {
         }
         write!(f, "-{}", -(self.seconds + 1))?;
         write_fraction(f, 1_000_000_000 - self.nanosecond)
+    }
+}
+
+#[cfg(test)]
+mod tests {
+    use super::*;
+
+    fn same(literal: DateLiteral) {
+        let (constant, tested) = (literal.constant(), literal.tested());
+        assert!(constant == tested, "{constant:?} {tested:?}");
+    }
+
+    #[test]
+    fn every_literal() {
+        let step = if cfg!(debug_assertions) { 37 } else { 1 };
+        for year in (sys::YEAR_MIN - 1..=sys::YEAR_MAX + 1).step_by(step) {
+            for month in 0..=13 {
+                for day in [0, 1, 28, 29, 30, 31, 32] {
+                    same(DateLiteral::Calendar(year, month, day));
+                }
+            }
+            for ordinal in [0, 1, 31, 32, 59, 60, 61, 365, 366, 367] {
+                same(DateLiteral::Ordinal(year, ordinal));
+            }
+            for week in [0, 1, 2, 52, 53, 54] {
+                for day in 0..=8 {
+                    same(DateLiteral::Week(year, week, day));
+                }
+            }
+        }
     }
 }

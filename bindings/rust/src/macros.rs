@@ -1,7 +1,6 @@
 //! Literals of dates and times, in the forms that `time`'s macros take.
 //!
-//! What is no literal does not compile. Whether a literal is a date or a time the library says when it is first used, and a
-//! literal that it refuses, as `date!(2023-02-29)`, panics. A literal is no constant expression.
+//! What is no literal, or names no date or time, as `date!(2023-02-29)`, does not compile. A literal is a constant expression.
 //!
 //! ```
 //! use muxandu::macros::{date, datetime, offset, time, timestamp, utc_datetime};
@@ -19,11 +18,12 @@ pub use crate::{date, datetime, offset, time, timestamp, utc_datetime};
 #[macro_export]
 macro_rules! date {
     ($($token:tt)+) => {{
-        const LITERAL: $crate::literal::DateLiteral = $crate::literal::of_form(
+        const LITERAL: $crate::Date = $crate::literal::of_form(
             $crate::literal::date(::core::stringify!($($token)+)),
             ::core::concat!("no date: ", ::core::stringify!($($token)+)),
-        );
-        LITERAL.value()
+        )
+        .value();
+        LITERAL
     }};
 }
 
@@ -31,11 +31,12 @@ macro_rules! date {
 #[macro_export]
 macro_rules! time {
     ($($token:tt)+) => {{
-        const LITERAL: $crate::literal::TimeLiteral = $crate::literal::of_form(
+        const LITERAL: $crate::Time = $crate::literal::of_form(
             $crate::literal::time(::core::stringify!($($token)+)),
             ::core::concat!("no time of day: ", ::core::stringify!($($token)+)),
-        );
-        LITERAL.value()
+        )
+        .value();
+        LITERAL
     }};
 }
 
@@ -43,11 +44,12 @@ macro_rules! time {
 #[macro_export]
 macro_rules! offset {
     ($($token:tt)+) => {{
-        const LITERAL: $crate::literal::OffsetLiteral = $crate::literal::of_form(
+        const LITERAL: $crate::UtcOffset = $crate::literal::of_form(
             $crate::literal::offset(::core::stringify!($($token)+)),
             ::core::concat!("no offset: ", ::core::stringify!($($token)+)),
-        );
-        LITERAL.value()
+        )
+        .value();
+        LITERAL
     }};
 }
 
@@ -55,11 +57,12 @@ macro_rules! offset {
 #[macro_export]
 macro_rules! timestamp {
     ($($token:tt)+) => {{
-        const LITERAL: $crate::literal::TimestampLiteral = $crate::literal::of_form(
+        const LITERAL: $crate::Timestamp = $crate::literal::of_form(
             $crate::literal::timestamp(::core::stringify!($($token)+)),
             ::core::concat!("no timestamp: ", ::core::stringify!($($token)+)),
-        );
-        LITERAL.value()
+        )
+        .value();
+        LITERAL
     }};
 }
 
@@ -67,11 +70,12 @@ macro_rules! timestamp {
 #[macro_export]
 macro_rules! utc_datetime {
     ($($token:tt)+) => {{
-        const LITERAL: $crate::literal::PlainLiteral = $crate::literal::of_form(
+        const LITERAL: $crate::UtcDateTime = $crate::literal::of_form(
             $crate::literal::plain(::core::stringify!($($token)+)),
             ::core::concat!("no date and time of day: ", ::core::stringify!($($token)+)),
-        );
-        LITERAL.value_in_utc()
+        )
+        .value_in_utc();
+        LITERAL
     }};
 }
 
@@ -98,15 +102,17 @@ macro_rules! __datetime_before_time {
 #[macro_export]
 macro_rules! __datetime_after_date {
     (($text:expr)) => {{
-        const LITERAL: $crate::literal::PlainLiteral = $crate::literal::of_form(
+        const LITERAL: $crate::PlainDateTime = $crate::literal::of_form(
             $crate::literal::plain($text),
             ::core::concat!("no date and time of day: ", $text),
-        );
-        LITERAL.value()
+        )
+        .value();
+        LITERAL
     }};
     (($text:expr) + $($rest:tt)+) => { $crate::__datetime_at_offset!($text) };
     (($text:expr) - $($rest:tt)+) => { $crate::__datetime_at_offset!($text) };
     (($text:expr) UTC) => { $crate::__datetime_at_offset!($text) };
+    (($text:expr) utc) => { $crate::__datetime_at_offset!($text) };
     ($text:tt $skipped:tt $($rest:tt)*) => { $crate::__datetime_after_date!($text $($rest)*) };
 }
 
@@ -114,10 +120,11 @@ macro_rules! __datetime_after_date {
 #[macro_export]
 macro_rules! __datetime_at_offset {
     ($text:expr) => {{
-        const LITERAL: $crate::literal::DateTimeLiteral = $crate::literal::of_form(
+        const LITERAL: $crate::OffsetDateTime = $crate::literal::of_form(
             $crate::literal::date_time($text),
             ::core::concat!("no date, time of day and offset: ", $text),
-        );
-        LITERAL.value()
+        )
+        .value();
+        LITERAL
     }};
 }

@@ -5,7 +5,7 @@ use core::ops::Sub;
 use core::str::FromStr;
 
 use crate::sys::{self, MuxanduDateTime};
-use crate::{Date, PlainDateTime, Refusal, Result, SignedDuration, Text, Time, Timestamp, Unit};
+use crate::{Date, PlainDateTime, Refusal, SignedDuration, Tested, Text, Time, Timestamp, Unit};
 use crate::{UtcDateTime, UtcOffset, spelled};
 
 /// What clocks at an offset from UTC show: a date, a time of day, and the offset.
@@ -51,7 +51,7 @@ impl OffsetDateTime {
     ///
     /// `timestamp` outside the range.
     #[inline]
-    pub fn from_unix_timestamp(timestamp: i64) -> Result<OffsetDateTime> {
+    pub fn from_unix_timestamp(timestamp: i64) -> Tested<OffsetDateTime> {
         Ok(UtcDateTime::from_unix_timestamp(timestamp)?.at_offset_0())
     }
 
@@ -61,7 +61,7 @@ impl OffsetDateTime {
     ///
     /// `timestamp` outside the range.
     #[inline]
-    pub fn from_unix_timestamp_nanos(timestamp: i128) -> Result<OffsetDateTime> {
+    pub fn from_unix_timestamp_nanos(timestamp: i128) -> Tested<OffsetDateTime> {
         Ok(UtcDateTime::from_unix_timestamp_nanos(timestamp)?.at_offset_0())
     }
 

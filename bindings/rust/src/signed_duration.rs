@@ -406,8 +406,9 @@ impl SignedDuration {
     pub const fn saturating_sub(self, other: SignedDuration) -> SignedDuration {
         match self.checked_sub(other) {
             Some(difference) => difference,
-            None if self.is_negative() => SignedDuration::MIN,
-            None => SignedDuration::MAX,
+            // A difference is beyond the end that lies away from what is taken.
+            None if other.is_negative() => SignedDuration::MAX,
+            None => SignedDuration::MIN,
         }
     }
 
@@ -804,9 +805,12 @@ impl PartialEq<Duration> for SignedDuration {
 /// `-1s500ms`.
 impl fmt::Display for SignedDuration {
     fn fmt(&self, f: &mut fmt::Formatter<'_>) -> fmt::Result {
-        spelled::write_padded(f, |text| {
-            spelled::write_duration(text, self.whole_nanoseconds())
-        })
+        let Some(digits) = f.precision() else {
+            return spelled::write_padded(f, |text| {
+                spelled::write_duration(text, self.whole_nanoseconds())
+            });
+        };
+        spelled::write_rounded(f, self.as_seconds_f64(), digits)
     }
 }
 

@@ -100,6 +100,22 @@ pub(crate) fn write_duration(text: &mut Text, whole_nanoseconds: i128) -> fmt::R
     Ok(())
 }
 
+/// The greatest unit that the duration has one of, and so many digits past the point, as `1.50m`.
+pub(crate) fn write_rounded(
+    f: &mut fmt::Formatter<'_>,
+    seconds: f64,
+    digits: usize,
+) -> fmt::Result {
+    if seconds == 0.0 {
+        return write!(f, "{:.digits$}s", 0.0);
+    }
+    let units = UNITS.map(|(nanoseconds, unit)| (seconds * 1e9 / nanoseconds as f64, unit));
+    let [.., smallest] = units;
+    let first = units.into_iter().find(|(count, _)| count.abs() >= 1.0);
+    let (count, unit) = first.unwrap_or(smallest);
+    write!(f, "{count:.digits$}{unit}")
+}
+
 /// Reads the units in their order, and answers only what is written so.
 pub(crate) fn duration(text: &str) -> Result<SignedDuration, Refusal> {
     let (is_negative, mut rest) = match text.strip_prefix('-') {

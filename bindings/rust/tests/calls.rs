@@ -10,7 +10,7 @@ use muxandu::{
     SignedDuration, Time, Timestamp, Unit, UtcDateTime, UtcOffset, Weekday, days_in_month,
 };
 
-fn name<T>(result: muxandu::Result<T>) -> (&'static str, bool) {
+fn name<T>(result: Result<T, muxandu::error::ComponentRange>) -> (&'static str, bool) {
     let refused = result.err().expect("a refusal");
     (refused.name(), refused.is_conditional())
 }
@@ -547,9 +547,40 @@ fn durations() {
 }
 
 #[test]
-#[should_panic(expected = "DAY_OF_MONTH")]
-fn a_literal_that_is_no_date_panics() {
-    let _ = date!(2023 - 02 - 29);
+fn a_difference_is_beyond_the_end_it_lies_at() {
+    let least = Duration::nanoseconds(-1);
+    assert_eq!(least.saturating_sub(Duration::MIN), Duration::MAX);
+    assert_eq!(
+        Duration::seconds(-2).saturating_sub(Duration::MAX),
+        Duration::MIN
+    );
+    assert_eq!(
+        Duration::nanoseconds(1).saturating_sub(Duration::MIN),
+        Duration::MAX
+    );
+}
+
+#[test]
+fn a_duration_with_a_precision_is_rounded_not_cut() {
+    assert_eq!(format!("{:.2}", Duration::milliseconds(5)), "5.00ms");
+    assert_eq!(format!("{:.1}", Duration::seconds(-90)), "-1.5m");
+    assert_eq!(format!("{:.0}", Duration::days(100)), "100d");
+    assert_eq!(format!("{:.1}", Duration::ZERO), "0.0s");
+}
+
+#[test]
+fn a_literal_is_a_constant() {
+    const DAY: Date = date!(2024 - 02 - 29);
+    static LAST: OffsetDateTime = datetime!(9999-12-31 23:59:59.999_999 utc);
+    assert_eq!((DAY.day(), LAST.year()), (29, 9999));
+}
+
+#[test]
+fn a_result_has_any_refusal() {
+    fn first(month: &str) -> muxandu::Result<Date> {
+        Ok(Date::from_calendar_date(2024, month.parse()?, 1)?)
+    }
+    assert!(first("May").is_ok() && first("may").is_err());
 }
 
 #[test]
