@@ -12,6 +12,7 @@ import io
 import os
 import platform
 import re
+import shlex
 import shutil
 import subprocess
 import sys
@@ -60,19 +61,21 @@ def compiler_words(folder):
     """The command that makes the extension, or why there is none."""
     if os.environ.get("MUXANDU_EXTENSION") == "no":
         return None, "MUXANDU_EXTENSION is no"
-    compiler, headers = shutil.which(os.environ.get("CC", "cc")), sysconfig.get_paths()["include"]
+    # CC may have words besides the compiler's name, as "ccache gcc".
+    named = shlex.split(os.environ.get("CC") or "cc")
+    compiler, headers = shutil.which(named[0]), sysconfig.get_paths()["include"]
     if sys.implementation.name != "cpython" or sys.version_info < FIRST_PYTHON:
         return None, "it needs CPython from 3.11 on"
     if compiler is None or not (Path(headers) / "Python.h").is_file():
-        return None, f"there is no {'cc' if compiler is None else headers + '/Python.h'}"
+        return None, f"there is no {named[0] if compiler is None else headers + '/Python.h'}"
     flags = ["-shared", "-fPIC", "-O2", "-std=c11", "-Wall", "-Wextra", "-Wl,--exclude-libs,ALL", "-Wl,-z,now"]
     # A loader that knows this mark refuses the extension by name on a processor that the archive is not for.
     flags += ["-Wl,-z,x86-64-v2"] if platform.machine() == "x86_64" else []
     # Another compiler may warn of more: that must not cost a user the extension.
     flags += ["-Werror"] if os.environ.get("MUXANDU_EXTENSION") == "must" else []
-    flags += os.environ.get("CFLAGS", "").split()
+    flags += shlex.split(os.environ.get("CFLAGS", ""))
     source = HERE / "extension" / "extension.c"
-    words = [compiler, *flags, f"-I{headers}", f"-I{dist(HEADER).parent}", str(source), str(dist(ARCHIVE))]
+    words = [compiler, *named[1:], *flags, f"-I{headers}", f"-I{dist(HEADER).parent}", str(source), str(dist(ARCHIVE))]
     return [*words, "-o", str(Path(folder) / EXTENSION)], None
 
 

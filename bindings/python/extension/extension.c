@@ -12,13 +12,11 @@
 #include <string.h>
 
 typedef struct {
-    PyObject_HEAD
-    MuxanduTimestamp value;
+    PyObject_HEAD MuxanduTimestamp value;
 } TimestampObject;
 
 typedef struct {
-    PyObject_HEAD
-    MuxanduDateTime value;
+    PyObject_HEAD MuxanduDateTime value;
     /* The Unix second of its instant, which `has_instant` reads. */
     int64_t second;
 } OffsetDateTimeObject;
@@ -27,18 +25,16 @@ typedef struct {
 static const int64_t NOT_ASKED = INT64_MAX, BEYOND = INT64_MIN;
 
 typedef struct {
-    PyObject_HEAD
-    MuxanduDuration value;
+    PyObject_HEAD MuxanduDuration value;
 } DurationObject;
 
 typedef struct {
-    PyObject_HEAD
-    MuxanduDate value;
+    PyObject_HEAD MuxanduDate value;
     int32_t number;
 } DateObject;
 
 #define VALUE(kind, object) (((kind##Object *)(object))->value)
-#define FUNCTION(name) (PyCFunction)(void (*)(void))name
+#define FUNCTION(name) (PyCFunction)(void (*)(void)) name
 
 /* The types of this file, and the classes of the package that are made. */
 static PyTypeObject *base_of_Timestamp, *base_of_OffsetDateTime, *base_of_Duration, *base_of_Date;
@@ -55,8 +51,7 @@ static PyObject *second_nanoseconds, *half_of_whole;
 static PyObject *index_of_int;
 
 /* A refusal is raised. */
-static PyObject *refuse(uint32_t status)
-{
+static PyObject *refuse(uint32_t status) {
     PyObject *number = PyLong_FromUnsignedLong(status);
     PyObject *refusal = number ? PyDict_GetItemWithError(refusals, number) : NULL;
     Py_XDECREF(number);
@@ -68,8 +63,7 @@ static PyObject *refuse(uint32_t status)
     return NULL;
 }
 
-static int are(Py_ssize_t given, Py_ssize_t wanted)
-{
+static int are(Py_ssize_t given, Py_ssize_t wanted) {
     if (given == wanted) return 1;
     PyErr_Format(PyExc_TypeError, "%zd arguments are taken, and %zd were given", wanted, given);
     return 0;
@@ -77,8 +71,7 @@ static int are(Py_ssize_t given, Py_ssize_t wanted)
 
 /* A whole number, and where the type does not hold it, an end of the type that the library refuses: the upper one of a type
  * with no sign, whose lower end is 0. */
-static int take_between(PyObject *word, int64_t low, int64_t high, int64_t *number)
-{
+static int take_between(PyObject *word, int64_t low, int64_t high, int64_t *number) {
     int beyond;
     int64_t found = PyLong_AsLongLongAndOverflow(word, &beyond);
     if (found == -1 && !beyond && PyErr_Occurred()) return 0;
@@ -91,13 +84,12 @@ static int take_between(PyObject *word, int64_t low, int64_t high, int64_t *numb
     return 1;
 }
 
-#define TAKE(type, low, high)                                                                                               \
-    static inline int take_##type(PyObject *word, type *out)                                                                \
-    {                                                                                                                       \
-        int64_t number;                                                                                                     \
-        if (!take_between(word, low, high, &number)) return 0;                                                              \
-        *out = (type)number;                                                                                                \
-        return 1;                                                                                                           \
+#define TAKE(type, low, high)                                                                                          \
+    static inline int take_##type(PyObject *word, type *out) {                                                         \
+        int64_t number;                                                                                                \
+        if (!take_between(word, low, high, &number)) return 0;                                                         \
+        *out = (type)number;                                                                                           \
+        return 1;                                                                                                      \
     }
 
 TAKE(int8_t, INT8_MIN, INT8_MAX)
@@ -107,29 +99,37 @@ TAKE(uint32_t, 0, UINT32_MAX)
 TAKE(int32_t, INT32_MIN, INT32_MAX)
 TAKE(int64_t, INT64_MIN, INT64_MAX)
 
-static inline PyObject *give_uint8_t(uint8_t number) { return PyLong_FromLong(number); }
-static inline PyObject *give_int32_t(int32_t number) { return PyLong_FromLong(number); }
-static inline PyObject *give_uint32_t(uint32_t number) { return PyLong_FromUnsignedLong(number); }
-static inline PyObject *give_int64_t(int64_t number) { return PyLong_FromLongLong(number); }
-static inline PyObject *give_size_t(size_t number) { return PyLong_FromSize_t(number); }
+static inline PyObject *give_uint8_t(uint8_t number) {
+    return PyLong_FromLong(number);
+}
+static inline PyObject *give_int32_t(int32_t number) {
+    return PyLong_FromLong(number);
+}
+static inline PyObject *give_uint32_t(uint32_t number) {
+    return PyLong_FromUnsignedLong(number);
+}
+static inline PyObject *give_int64_t(int64_t number) {
+    return PyLong_FromLongLong(number);
+}
+static inline PyObject *give_size_t(size_t number) {
+    return PyLong_FromSize_t(number);
+}
 
 /* A new object of a class: of the package, or of one derived from it, which may have more than its value. */
-#define NEW(kind, class)                                                                                                    \
+#define NEW(kind, class)                                                                                               \
     ((class) == type_of_##kind ? (PyObject *)PyObject_New(kind##Object, class) : PyType_GenericAlloc(class, 0))
 
-#define MAKE(kind, type)                                                                                                    \
-    static inline PyObject *make_##kind(PyTypeObject *class, type value)                                                    \
-    {                                                                                                                       \
-        PyObject *made = NEW(kind, class);                                                                                  \
-        if (made) VALUE(kind, made) = value;                                                                                \
-        return made;                                                                                                        \
+#define MAKE(kind, type)                                                                                               \
+    static inline PyObject *make_##kind(PyTypeObject *class, type value) {                                             \
+        PyObject *made = NEW(kind, class);                                                                             \
+        if (made) VALUE(kind, made) = value;                                                                           \
+        return made;                                                                                                   \
     }
 
 MAKE(Timestamp, MuxanduTimestamp)
 MAKE(Duration, MuxanduDuration)
 
-static inline PyObject *make_shown(PyTypeObject *class, MuxanduDateTime value, int64_t second)
-{
+static inline PyObject *make_shown(PyTypeObject *class, MuxanduDateTime value, int64_t second) {
     PyObject *made = NEW(OffsetDateTime, class);
     if (made) {
         VALUE(OffsetDateTime, made) = value;
@@ -138,13 +138,11 @@ static inline PyObject *make_shown(PyTypeObject *class, MuxanduDateTime value, i
     return made;
 }
 
-static inline PyObject *make_OffsetDateTime(PyTypeObject *class, MuxanduDateTime value)
-{
+static inline PyObject *make_OffsetDateTime(PyTypeObject *class, MuxanduDateTime value) {
     return make_shown(class, value, NOT_ASKED);
 }
 
-static PyObject *make_Date(PyTypeObject *class, MuxanduDate value, int32_t number)
-{
+static PyObject *make_Date(PyTypeObject *class, MuxanduDate value, int32_t number) {
     PyObject *made = NEW(Date, class);
     if (made) {
         VALUE(Date, made) = value;
@@ -156,15 +154,14 @@ static PyObject *make_Date(PyTypeObject *class, MuxanduDate value, int32_t numbe
 /* Whether an object is of a class of the package, or of another that is derived from its type. */
 #define IS_A(kind, object) (Py_TYPE(object) == type_of_##kind || PyType_IsSubtype(Py_TYPE(object), base_of_##kind))
 
-#define TAKE_VALUE(kind, type)                                                                                              \
-    static inline int take_##type(PyObject *word, type *out)                                                                \
-    {                                                                                                                       \
-        if (!IS_A(kind, word)) {                                                                                  \
-            PyErr_Format(PyExc_TypeError, "a " #kind ", not %R", Py_TYPE(word));                                            \
-            return 0;                                                                                                       \
-        }                                                                                                                   \
-        *out = VALUE(kind, word);                                                                                           \
-        return 1;                                                                                                           \
+#define TAKE_VALUE(kind, type)                                                                                         \
+    static inline int take_##type(PyObject *word, type *out) {                                                         \
+        if (!IS_A(kind, word)) {                                                                                       \
+            PyErr_Format(PyExc_TypeError, "a " #kind ", not %R", Py_TYPE(word));                                       \
+            return 0;                                                                                                  \
+        }                                                                                                              \
+        *out = VALUE(kind, word);                                                                                      \
+        return 1;                                                                                                      \
     }
 
 TAKE_VALUE(Timestamp, MuxanduTimestamp)
@@ -174,8 +171,7 @@ TAKE_VALUE(OffsetDateTime, MuxanduDateTime)
 
 static const __int128 NANOSECONDS = 1000000000;
 
-static int put_nanoseconds(__int128 whole, MuxanduDuration *out)
-{
+static int put_nanoseconds(__int128 whole, MuxanduDuration *out) {
     __int128 seconds = whole / NANOSECONDS;
     if (seconds < INT64_MIN || seconds > INT64_MAX) {
         refuse(MUXANDU_REFUSED_DURATION);
@@ -186,14 +182,12 @@ static int put_nanoseconds(__int128 whole, MuxanduDuration *out)
     return 1;
 }
 
-static inline __int128 nanoseconds_of(MuxanduDuration duration)
-{
+static inline __int128 nanoseconds_of(MuxanduDuration duration) {
     return duration.seconds * NANOSECONDS + duration.nanoseconds;
 }
 
 /* A whole number as Python's own, also where a class derived from it has operators of its own. */
-static PyObject *exact(PyObject *word)
-{
+static PyObject *exact(PyObject *word) {
     PyObject *index = PyNumber_Index(word);
     PyObject *number = index ? PyObject_CallFunctionObjArgs(index_of_int, index, NULL) : NULL;
     Py_XDECREF(index);
@@ -201,8 +195,7 @@ static PyObject *exact(PyObject *word)
 }
 
 /* Numbers that 64 bits do not hold: all the nanoseconds, in two halves. */
-static int take_long_duration(PyObject *seconds, PyObject *nanoseconds, MuxanduDuration *out)
-{
+static int take_long_duration(PyObject *seconds, PyObject *nanoseconds, MuxanduDuration *out) {
     int is_taken = 0, beyond;
     PyObject *first = exact(seconds), *second = first ? exact(nanoseconds) : NULL;
     PyObject *product = second ? PyNumber_Multiply(first, second_nanoseconds) : NULL;
@@ -225,8 +218,7 @@ static int take_long_duration(PyObject *seconds, PyObject *nanoseconds, MuxanduD
     return is_taken;
 }
 
-static int take_both(PyObject *seconds, PyObject *nanoseconds, MuxanduDuration *out)
-{
+static int take_both(PyObject *seconds, PyObject *nanoseconds, MuxanduDuration *out) {
     int beyond, beyond_nanoseconds = 0;
     int64_t first = PyLong_AsLongLongAndOverflow(seconds, &beyond), second = 0;
     if (first == -1 && !beyond && PyErr_Occurred()) return 0;
@@ -238,8 +230,7 @@ static int take_both(PyObject *seconds, PyObject *nanoseconds, MuxanduDuration *
     return 0;
 }
 
-static int take_attribute(PyObject *object, PyObject *name, int64_t *number)
-{
+static int take_attribute(PyObject *object, PyObject *name, int64_t *number) {
     int beyond = 0;
     PyObject *found = PyObject_GetAttr(object, name);
     *number = found ? PyLong_AsLongLongAndOverflow(found, &beyond) : -1;
@@ -249,20 +240,17 @@ static int take_attribute(PyObject *object, PyObject *name, int64_t *number)
 }
 
 /* Whether it is one by its type, whatever it tells of its class. */
-static inline int is_timedelta(PyObject *word)
-{
+static inline int is_timedelta(PyObject *word) {
     return (PyObject *)Py_TYPE(word) == timedelta || PyType_IsSubtype(Py_TYPE(word), (PyTypeObject *)timedelta);
 }
 
-static inline int is_length(PyObject *word)
-{
+static inline int is_length(PyObject *word) {
     return (PyObject *)Py_TYPE(word) == timedelta || IS_A(Duration, word) || is_timedelta(word);
 }
 
 /* A datetime.timedelta as the header datetime.h of CPython has it, which the limited interface leaves out. */
 typedef struct {
-    PyObject_HEAD
-    Py_hash_t hash;
+    PyObject_HEAD Py_hash_t hash;
     int days, seconds, microseconds;
 } TimedeltaObject;
 
@@ -270,22 +258,22 @@ typedef struct {
 static int timedelta_is_so;
 
 /* A timedelta by its attributes, with the nanoseconds that one of pandas has besides. */
-static int take_attributes(PyObject *word, MuxanduDuration *out)
-{
+static int take_attributes(PyObject *word, MuxanduDuration *out) {
     int64_t days, seconds, microseconds, nanoseconds = 0;
-    if (!take_attribute(word, name_days, &days) || !take_attribute(word, name_seconds, &seconds)
-        || !take_attribute(word, name_microseconds, &microseconds)) return 0;
+    if (!take_attribute(word, name_days, &days) || !take_attribute(word, name_seconds, &seconds) ||
+        !take_attribute(word, name_microseconds, &microseconds))
+        return 0;
     if (!take_attribute(word, name_nanoseconds, &nanoseconds)) {
         if (!PyErr_ExceptionMatches(PyExc_AttributeError)) return 0;
         PyErr_Clear();
         nanoseconds = 0;
     }
-    return put_nanoseconds((days * (__int128)86400 + seconds) * NANOSECONDS + microseconds * (__int128)1000 + nanoseconds, out);
+    return put_nanoseconds(
+        (days * (__int128)86400 + seconds) * NANOSECONDS + microseconds * (__int128)1000 + nanoseconds, out);
 }
 
 /* Whether timedeltas have their parts where the structure above has them, by some whose parts are known. -1 for an error. */
-static int are_timedeltas_so(void)
-{
+static int are_timedeltas_so(void) {
     static const int known[][3] = {{0, 0, 0}, {-999999999, 1, 2}, {999999999, 86399, 999999}, {19782, 45296, 123456}};
     size_t place;
     int64_t size;
@@ -306,8 +294,7 @@ static int are_timedeltas_so(void)
 }
 
 /* A Duration or a datetime.timedelta. */
-static int take_MuxanduDuration(PyObject *word, MuxanduDuration *out)
-{
+static int take_MuxanduDuration(PyObject *word, MuxanduDuration *out) {
     if ((PyObject *)Py_TYPE(word) == timedelta && timedelta_is_so) {
         TimedeltaObject *found = (TimedeltaObject *)word;
         out->seconds = (int64_t)found->days * 86400 + found->seconds;
@@ -334,8 +321,7 @@ typedef struct {
     PyObject *held;
 } Text;
 
-static int take_text(PyObject *word, Text *text)
-{
+static int take_text(PyObject *word, Text *text) {
     char *bytes;
     text->held = NULL;
     if (PyUnicode_Check(word)) {
@@ -353,7 +339,9 @@ static int take_text(PyObject *word, Text *text)
     return 1;
 }
 
-static inline void drop_text(Text *text) { Py_XDECREF(text->held); }
+static inline void drop_text(Text *text) {
+    Py_XDECREF(text->held);
+}
 
 /* Buffers, whose items the package has tested. */
 
@@ -363,8 +351,7 @@ typedef struct {
     Py_buffer view;
 } Items;
 
-static int take_items(PyObject *const *words, Items *items, int is_written)
-{
+static int take_items(PyObject *const *words, Items *items, int is_written) {
     static int64_t nothing[2];
     Py_ssize_t count = PyLong_AsSsize_t(words[1]);
     if (count == -1 && PyErr_Occurred()) return 0;
@@ -374,14 +361,12 @@ static int take_items(PyObject *const *words, Items *items, int is_written)
     return 1;
 }
 
-static inline void drop_items(Items *items)
-{
+static inline void drop_items(Items *items) {
     if (items->view.obj) PyBuffer_Release(&items->view);
 }
 
 /* Where the items of a buffer begin. */
-static PyObject *address(PyObject *self, PyObject *buffer)
-{
+static PyObject *address(PyObject *self, PyObject *buffer) {
     Py_buffer view;
     PyObject *found;
     (void)self;
@@ -392,10 +377,14 @@ static PyObject *address(PyObject *self, PyObject *buffer)
 }
 
 /* The classes of the package, the refusals and what else it brings. */
-static PyObject *bind(PyObject *self, PyObject *const *words, Py_ssize_t count)
-{
-    PyObject **places[] = {(PyObject **)&type_of_Timestamp, (PyObject **)&type_of_OffsetDateTime,
-                           (PyObject **)&type_of_Duration, (PyObject **)&type_of_Date, &refusals, &timedelta, &as_bytes};
+static PyObject *bind(PyObject *self, PyObject *const *words, Py_ssize_t count) {
+    PyObject **places[] = {(PyObject **)&type_of_Timestamp,
+                           (PyObject **)&type_of_OffsetDateTime,
+                           (PyObject **)&type_of_Duration,
+                           (PyObject **)&type_of_Date,
+                           &refusals,
+                           &timedelta,
+                           &as_bytes};
     size_t place;
     (void)self;
     if (!are(count, sizeof places / sizeof *places)) return NULL;
@@ -415,17 +404,15 @@ static PyObject *date_from_day_number(PyObject *, PyObject *);
 
 #define MORE_METHODS_OF_Timestamp
 #define MORE_METHODS_OF_OffsetDateTime
-#define MORE_FUNCTIONS                                                                                                      \
-    {"timestamps_from_texts", FUNCTION(timestamps_from_texts), METH_FASTCALL, NULL},                                        \
-    {"texts_from_timestamps", FUNCTION(texts_from_timestamps), METH_FASTCALL, NULL},                                        \
-    {"address", address, METH_O, NULL},                                                                                     \
-    {"bind", FUNCTION(bind), METH_FASTCALL, NULL},
+#define MORE_FUNCTIONS                                                                                                 \
+    {"timestamps_from_texts", FUNCTION(timestamps_from_texts), METH_FASTCALL, NULL},                                   \
+        {"texts_from_timestamps", FUNCTION(texts_from_timestamps), METH_FASTCALL, NULL},                               \
+        {"address", address, METH_O, NULL}, {"bind", FUNCTION(bind), METH_FASTCALL, NULL},
 
 #include "calls.h"
 
 /* Makes bytes of what else a list has as texts, before anything is written, which may lie over them. */
-static int copy_texts(PyObject *texts, Py_ssize_t size)
-{
+static int copy_texts(PyObject *texts, Py_ssize_t size) {
     Py_ssize_t place;
     for (place = 0; place < size; place++) {
         PyObject *text = PyList_GetItem(texts, place);
@@ -438,8 +425,7 @@ static int copy_texts(PyObject *texts, Py_ssize_t size)
 }
 
 /* The instants of the texts of a list, written to a buffer that has room for them: how many, and why the next is refused. */
-static PyObject *timestamps_from_texts(PyObject *self, PyObject *const *words, Py_ssize_t count)
-{
+static PyObject *timestamps_from_texts(PyObject *self, PyObject *const *words, Py_ssize_t count) {
     Items out = {0};
     Py_ssize_t done = 0, size;
     uint32_t status = 0;
@@ -460,8 +446,7 @@ static PyObject *timestamps_from_texts(PyObject *self, PyObject *const *words, P
 }
 
 /* A list of the texts of the timestamps of a buffer, up to the first that is refused, and why that is. */
-static PyObject *texts_from_timestamps(PyObject *self, PyObject *const *words, Py_ssize_t count)
-{
+static PyObject *texts_from_timestamps(PyObject *self, PyObject *const *words, Py_ssize_t count) {
     Items items = {0};
     PyObject *texts;
     uint32_t status = 0;
@@ -485,8 +470,7 @@ static PyObject *texts_from_timestamps(PyObject *self, PyObject *const *words, P
 
 /* The words of a constructor in their places, by place and by name. Those that are not given are left NULL. */
 static int take_words(PyObject *given, PyObject *named, const char *const *names, Py_ssize_t least, Py_ssize_t most,
-                      PyObject **words)
-{
+                      PyObject **words) {
     Py_ssize_t count = PyTuple_Size(given), place, left = named ? PyDict_Size(named) : 0;
     if (count > most) return are(count, most);
     for (place = 0; place < most; place++) {
@@ -504,12 +488,11 @@ static int take_words(PyObject *given, PyObject *named, const char *const *names
     return !left;
 }
 
-#define DEALLOC(kind)                                                                                                       \
-    static void kind##_dealloc(PyObject *self)                                                                              \
-    {                                                                                                                       \
-        PyTypeObject *type = Py_TYPE(self);                                                                                 \
-        (type == type_of_##kind ? PyObject_Free : (freefunc)PyType_GetSlot(type, Py_tp_free))(self);                        \
-        Py_DECREF(type);                                                                                                    \
+#define DEALLOC(kind)                                                                                                  \
+    static void kind##_dealloc(PyObject *self) {                                                                       \
+        PyTypeObject *type = Py_TYPE(self);                                                                            \
+        (type == type_of_##kind ? PyObject_Free : (freefunc)PyType_GetSlot(type, Py_tp_free))(self);                   \
+        Py_DECREF(type);                                                                                               \
     }
 
 DEALLOC(Timestamp)
@@ -518,78 +501,106 @@ DEALLOC(Duration)
 DEALLOC(Date)
 
 /* A hash of 60 bits, which are two digits of a whole number of Python. */
-static inline Py_hash_t mixed(int64_t seconds, int64_t nanoseconds)
-{
+static inline Py_hash_t mixed(int64_t seconds, int64_t nanoseconds) {
     uint64_t bits = (uint64_t)seconds * 0x9E3779B97F4A7C15u + (uint64_t)nanoseconds * 0xC2B2AE3D27D4EB4Fu;
     return (Py_hash_t)((bits ^ bits >> 32) & (UINT64_MAX >> 4));
 }
 
 /* Timestamps. */
 
-static PyObject *Timestamp_new(PyTypeObject *type, PyObject *given, PyObject *named)
-{
+static PyObject *Timestamp_new(PyTypeObject *type, PyObject *given, PyObject *named) {
     static const char *const names[] = {"seconds", "nanoseconds"};
     PyObject *words[2];
     MuxanduTimestamp value = {0, 0};
     uint32_t status;
-    if (!take_words(given, named, names, 1, 2, words) || !take_int64_t(words[0], &value.seconds)
-        || (words[1] && !take_uint32_t(words[1], &value.nanoseconds))) return NULL;
+    if (!take_words(given, named, names, 1, 2, words) || !take_int64_t(words[0], &value.seconds) ||
+        (words[1] && !take_uint32_t(words[1], &value.nanoseconds)))
+        return NULL;
     status = muxandu_timestamp_check(value);
     return status ? refuse(status) : make_Timestamp(type, value);
 }
 
-static PyObject *Timestamp_add(PyObject *first, PyObject *second)
-{
+static PyObject *Timestamp_add(PyObject *first, PyObject *second) {
     if (IS_A(Timestamp, first) && is_length(second)) return timestamp_add(first, &second, 1);
     if (IS_A(Timestamp, second) && is_length(first)) return timestamp_add(second, &first, 1);
     Py_RETURN_NOTIMPLEMENTED;
 }
 
-static PyObject *Timestamp_subtract(PyObject *first, PyObject *second)
-{
+/* The date-time of an instant or a date-time: what clocks in UTC show, of an instant. */
+static int take_shown(PyObject *word, MuxanduDateTime *out) {
+    uint32_t status;
+    if (IS_A(OffsetDateTime, word)) {
+        *out = VALUE(OffsetDateTime, word);
+        return 1;
+    }
+    status = muxandu_date_time_from_timestamp(VALUE(Timestamp, word), 0, out);
+    return status ? (refuse(status), 0) : 1;
+}
+
+static inline int is_moment(PyObject *word) {
+    return IS_A(Timestamp, word) || IS_A(OffsetDateTime, word);
+}
+
+/* Python asks both types: this one answers for an instant and a date-time, on either side. */
+static PyObject *Timestamp_subtract(PyObject *first, PyObject *second) {
+    MuxanduDateTime later, earlier;
+    MuxanduDuration length;
+    uint32_t status;
     if (IS_A(Timestamp, first)) {
         if (IS_A(Timestamp, second)) return timestamp_difference(first, &second, 1);
         if (is_length(second)) return timestamp_subtract(first, &second, 1);
     }
-    Py_RETURN_NOTIMPLEMENTED;
+    if (!is_moment(first) || !is_moment(second)) Py_RETURN_NOTIMPLEMENTED;
+    if (!take_shown(first, &later) || !take_shown(second, &earlier)) return NULL;
+    status = muxandu_date_time_difference(later, earlier, &length);
+    return status ? refuse(status) : make_Duration(type_of_Duration, length);
 }
 
-static PyObject *Timestamp_compared(PyObject *first, PyObject *second, int how)
-{
+static PyObject *Timestamp_compared(PyObject *first, PyObject *second, int how) {
     int order;
+    if (IS_A(OffsetDateTime, second)) {
+        MuxanduDateTime shown;
+        int32_t found;
+        uint32_t status;
+        if (!take_shown(first, &shown)) return NULL;
+        status = muxandu_date_time_compare(shown, VALUE(OffsetDateTime, second), &found);
+        if (status) return refuse(status);
+        Py_RETURN_RICHCOMPARE(found, 0, how);
+    }
     if (!IS_A(Timestamp, second)) Py_RETURN_NOTIMPLEMENTED;
     order = muxandu_timestamp_compare(VALUE(Timestamp, first), VALUE(Timestamp, second));
     Py_RETURN_RICHCOMPARE(order, 0, how);
 }
 
-static Py_hash_t Timestamp_hash(PyObject *self)
-{
+static Py_hash_t Timestamp_hash(PyObject *self) {
     return mixed(VALUE(Timestamp, self).seconds, VALUE(Timestamp, self).nanoseconds);
 }
 
-static PyObject *Timestamp_text(PyObject *self) { return timestamp_text(self, NULL, 0); }
+static PyObject *Timestamp_text(PyObject *self) {
+    return timestamp_text(self, NULL, 0);
+}
 
 /* Date-times at an offset. */
 
-static PyObject *OffsetDateTime_new(PyTypeObject *type, PyObject *given, PyObject *named)
-{
-    static const char *const names[] = {"year", "month", "day", "hour", "minute", "second", "nanosecond", "offset_seconds"};
+static PyObject *OffsetDateTime_new(PyTypeObject *type, PyObject *given, PyObject *named) {
+    static const char *const names[] = {"year",   "month",  "day",        "hour",
+                                        "minute", "second", "nanosecond", "offset_seconds"};
     PyObject *words[8];
     MuxanduDateTime value = {0};
     uint32_t status;
-    if (!take_words(given, named, names, 3, 8, words) || !take_int32_t(words[0], &value.year)
-        || !take_uint8_t(words[1], &value.month) || !take_uint8_t(words[2], &value.day)
-        || (words[3] && !take_uint8_t(words[3], &value.hour)) || (words[4] && !take_uint8_t(words[4], &value.minute))
-        || (words[5] && !take_uint8_t(words[5], &value.second))
-        || (words[6] && !take_uint32_t(words[6], &value.nanosecond))
-        || (words[7] && !take_int32_t(words[7], &value.offset_seconds))) return NULL;
+    if (!take_words(given, named, names, 3, 8, words) || !take_int32_t(words[0], &value.year) ||
+        !take_uint8_t(words[1], &value.month) || !take_uint8_t(words[2], &value.day) ||
+        (words[3] && !take_uint8_t(words[3], &value.hour)) || (words[4] && !take_uint8_t(words[4], &value.minute)) ||
+        (words[5] && !take_uint8_t(words[5], &value.second)) ||
+        (words[6] && !take_uint32_t(words[6], &value.nanosecond)) ||
+        (words[7] && !take_int32_t(words[7], &value.offset_seconds)))
+        return NULL;
     status = muxandu_date_time_check(value);
     return status ? refuse(status) : make_OffsetDateTime(type, value);
 }
 
 /* The instant of a date-time, and whether it is one of the range: clocks at an end of it may show one that is not. */
-static inline int has_instant(PyObject *self, MuxanduTimestamp *out)
-{
+static inline int has_instant(PyObject *self, MuxanduTimestamp *out) {
     OffsetDateTimeObject *at = (OffsetDateTimeObject *)self;
     if (at->second == NOT_ASKED) at->second = muxandu_timestamp_from_date_time(at->value, out) ? BEYOND : out->seconds;
     out->seconds = at->second;
@@ -598,29 +609,26 @@ static inline int has_instant(PyObject *self, MuxanduTimestamp *out)
 }
 
 /* The date-time so much later, or earlier: by the instants, which takes less, as long as they are in the range. */
-static PyObject *moved(PyObject *self, PyObject *length, int is_later)
-{
+static PyObject *moved(PyObject *self, PyObject *length, int is_later) {
     MuxanduDuration duration;
     MuxanduTimestamp at, then;
     MuxanduDateTime shown;
     if (!take_MuxanduDuration(length, &duration)) return NULL;
-    if (has_instant(self, &at)
-        && !(is_later ? muxandu_timestamp_add : muxandu_timestamp_subtract)(at, duration, &then)
-        && !muxandu_date_time_from_timestamp(then, VALUE(OffsetDateTime, self).offset_seconds, &shown)) {
+    if (has_instant(self, &at) &&
+        !(is_later ? muxandu_timestamp_add : muxandu_timestamp_subtract)(at, duration, &then) &&
+        !muxandu_date_time_from_timestamp(then, VALUE(OffsetDateTime, self).offset_seconds, &shown)) {
         return make_shown(Py_TYPE(self), shown, then.seconds);
     }
     return (is_later ? date_time_add : date_time_subtract)(self, &length, 1);
 }
 
-static PyObject *OffsetDateTime_add(PyObject *first, PyObject *second)
-{
+static PyObject *OffsetDateTime_add(PyObject *first, PyObject *second) {
     if (IS_A(OffsetDateTime, first) && is_length(second)) return moved(first, second, 1);
     if (IS_A(OffsetDateTime, second) && is_length(first)) return moved(second, first, 1);
     Py_RETURN_NOTIMPLEMENTED;
 }
 
-static PyObject *OffsetDateTime_subtract(PyObject *first, PyObject *second)
-{
+static PyObject *OffsetDateTime_subtract(PyObject *first, PyObject *second) {
     MuxanduTimestamp later, earlier;
     MuxanduDuration length;
     if (!IS_A(OffsetDateTime, first)) Py_RETURN_NOTIMPLEMENTED;
@@ -628,23 +636,24 @@ static PyObject *OffsetDateTime_subtract(PyObject *first, PyObject *second)
         if (is_length(second)) return moved(first, second, 0);
         Py_RETURN_NOTIMPLEMENTED;
     }
-    if (has_instant(first, &later) && has_instant(second, &earlier)
-        && !muxandu_timestamp_difference(later, earlier, &length)) return make_Duration(type_of_Duration, length);
+    if (has_instant(first, &later) && has_instant(second, &earlier) &&
+        !muxandu_timestamp_difference(later, earlier, &length))
+        return make_Duration(type_of_Duration, length);
     return date_time_difference(first, &second, 1);
 }
 
 /* The parts to the minute in one number, in their order, and the rest in another. */
-static inline int64_t to_the_minute(const MuxanduDateTime *at)
-{
+static inline int64_t to_the_minute(const MuxanduDateTime *at) {
     uint32_t rest = (uint32_t)at->month << 24 | (uint32_t)at->day << 16 | (uint32_t)at->hour << 8 | at->minute;
     return (int64_t)at->year * ((int64_t)1 << 32) + rest;
 }
 
-static inline int64_t in_the_minute(const MuxanduDateTime *at) { return (int64_t)at->second << 32 | at->nanosecond; }
+static inline int64_t in_the_minute(const MuxanduDateTime *at) {
+    return (int64_t)at->second << 32 | at->nanosecond;
+}
 
 /* Clocks at one offset show parts in the order of the instants, so that only clocks at two need the library. */
-static PyObject *OffsetDateTime_compared(PyObject *first, PyObject *second, int how)
-{
+static PyObject *OffsetDateTime_compared(PyObject *first, PyObject *second, int how) {
     const MuxanduDateTime *left = &VALUE(OffsetDateTime, first), *right = &VALUE(OffsetDateTime, second);
     MuxanduTimestamp at, then;
     int64_t one, other = 0;
@@ -664,8 +673,7 @@ static PyObject *OffsetDateTime_compared(PyObject *first, PyObject *second, int 
 }
 
 /* By the instant, as comparisons go. */
-static Py_hash_t OffsetDateTime_hash(PyObject *self)
-{
+static Py_hash_t OffsetDateTime_hash(PyObject *self) {
     static const MuxanduDateTime epoch = {1970, 1, 1, 0, 0, 0, 0, 0};
     MuxanduTimestamp at;
     MuxanduDuration since;
@@ -675,12 +683,13 @@ static Py_hash_t OffsetDateTime_hash(PyObject *self)
     return status ? (refuse(status), -1) : mixed(since.seconds, since.nanoseconds);
 }
 
-static PyObject *OffsetDateTime_text(PyObject *self) { return date_time_text(self, NULL, 0); }
+static PyObject *OffsetDateTime_text(PyObject *self) {
+    return date_time_text(self, NULL, 0);
+}
 
 /* Durations as objects. */
 
-static PyObject *Duration_new(PyTypeObject *type, PyObject *given, PyObject *named)
-{
+static PyObject *Duration_new(PyTypeObject *type, PyObject *given, PyObject *named) {
     static const char *const names[] = {"seconds", "nanoseconds"};
     PyObject *words[2], *zero = NULL, *made = NULL;
     MuxanduDuration value = {0, 0};
@@ -691,34 +700,39 @@ static PyObject *Duration_new(PyTypeObject *type, PyObject *given, PyObject *nam
     return made;
 }
 
-static PyObject *Duration_of_whole(PyObject *like, __int128 whole)
-{
+static PyObject *Duration_of_whole(PyObject *like, __int128 whole) {
     MuxanduDuration value;
     return put_nanoseconds(whole, &value) ? make_Duration(Py_TYPE(like), value) : NULL;
 }
 
-static PyObject *Duration_sum(PyObject *first, PyObject *second, int sign)
-{
+static PyObject *Duration_sum(PyObject *first, PyObject *second, int sign) {
     MuxanduDuration left, right;
     if (!is_length(first) || !is_length(second)) Py_RETURN_NOTIMPLEMENTED;
     if (!take_MuxanduDuration(first, &left) || !take_MuxanduDuration(second, &right)) return NULL;
-    return Duration_of_whole(IS_A(Duration, first) ? first : second, nanoseconds_of(left) + sign * nanoseconds_of(right));
+    return Duration_of_whole(IS_A(Duration, first) ? first : second,
+                             nanoseconds_of(left) + sign * nanoseconds_of(right));
 }
 
-static PyObject *Duration_add(PyObject *first, PyObject *second) { return Duration_sum(first, second, 1); }
-static PyObject *Duration_subtract(PyObject *first, PyObject *second) { return Duration_sum(first, second, -1); }
-static PyObject *Duration_negative(PyObject *self) { return Duration_of_whole(self, -nanoseconds_of(VALUE(Duration, self))); }
+static PyObject *Duration_add(PyObject *first, PyObject *second) {
+    return Duration_sum(first, second, 1);
+}
+static PyObject *Duration_subtract(PyObject *first, PyObject *second) {
+    return Duration_sum(first, second, -1);
+}
+static PyObject *Duration_negative(PyObject *self) {
+    return Duration_of_whole(self, -nanoseconds_of(VALUE(Duration, self)));
+}
 
-static PyObject *Duration_absolute(PyObject *self)
-{
+static PyObject *Duration_absolute(PyObject *self) {
     __int128 whole = nanoseconds_of(VALUE(Duration, self));
     return Duration_of_whole(self, whole < 0 ? -whole : whole);
 }
 
-static int Duration_is_some(PyObject *self) { return nanoseconds_of(VALUE(Duration, self)) != 0; }
+static int Duration_is_some(PyObject *self) {
+    return nanoseconds_of(VALUE(Duration, self)) != 0;
+}
 
-static PyObject *Duration_compared(PyObject *first, PyObject *second, int how)
-{
+static PyObject *Duration_compared(PyObject *first, PyObject *second, int how) {
     MuxanduDuration other;
     __int128 left, right;
     if (!is_length(second)) Py_RETURN_NOTIMPLEMENTED;
@@ -730,21 +744,20 @@ static PyObject *Duration_compared(PyObject *first, PyObject *second, int how)
 
 /* Dates. */
 
-static PyObject *Date_new(PyTypeObject *type, PyObject *given, PyObject *named)
-{
+static PyObject *Date_new(PyTypeObject *type, PyObject *given, PyObject *named) {
     static const char *const names[] = {"year", "month", "day"};
     PyObject *words[3];
     MuxanduDate value = {0};
     int32_t number;
     uint32_t status;
-    if (!take_words(given, named, names, 3, 3, words) || !take_int32_t(words[0], &value.year)
-        || !take_uint8_t(words[1], &value.month) || !take_uint8_t(words[2], &value.day)) return NULL;
+    if (!take_words(given, named, names, 3, 3, words) || !take_int32_t(words[0], &value.year) ||
+        !take_uint8_t(words[1], &value.month) || !take_uint8_t(words[2], &value.day))
+        return NULL;
     status = muxandu_day_from_date(value, &number);
     return status ? refuse(status) : make_Date(type, value, number);
 }
 
-static PyObject *date_from_day_number(PyObject *class, PyObject *word)
-{
+static PyObject *date_from_day_number(PyObject *class, PyObject *word) {
     MuxanduDate value;
     int32_t number;
     uint32_t status;
@@ -753,81 +766,97 @@ static PyObject *date_from_day_number(PyObject *class, PyObject *word)
     return status ? refuse(status) : make_Date((PyTypeObject *)class, value, number);
 }
 
-static PyObject *date_number(PyObject *self, PyObject *unused)
-{
+static PyObject *date_number(PyObject *self, PyObject *unused) {
     (void)unused;
     return PyLong_FromLong(((DateObject *)self)->number);
 }
 
-static PyObject *Date_compared(PyObject *first, PyObject *second, int how)
-{
+static PyObject *Date_compared(PyObject *first, PyObject *second, int how) {
     if (!IS_A(Date, second)) Py_RETURN_NOTIMPLEMENTED;
     Py_RETURN_RICHCOMPARE(((DateObject *)first)->number, ((DateObject *)second)->number, how);
 }
 
-static Py_hash_t Date_hash(PyObject *self) { return mixed(((DateObject *)self)->number, 0); }
+static Py_hash_t Date_hash(PyObject *self) {
+    return mixed(((DateObject *)self)->number, 0);
+}
 
 static PyMemberDef Date_members[] = {
     {"year", T_INT, offsetof(DateObject, value) + offsetof(MuxanduDate, year), READONLY, NULL},
     {"month", T_UBYTE, offsetof(DateObject, value) + offsetof(MuxanduDate, month), READONLY, NULL},
     {"day", T_UBYTE, offsetof(DateObject, value) + offsetof(MuxanduDate, day), READONLY, NULL},
-    {0}
-};
+    {0}};
 
 static PyMethodDef Date_methods[] = {
     {"from_day_number", date_from_day_number, METH_O | METH_CLASS,
      "from_day_number($type, number, /)\n--\n\nThe day so many days from 1970-01-01."},
     {"day_number", date_number, METH_NOARGS, "day_number($self, /)\n--\n\nThe days from 1970-01-01."},
-    {0}
-};
+    {0}};
 
 /* The words of a constructor, as Python reads them from the head of a text of help. */
-#define CONSTRUCTOR(kind, words) {Py_tp_doc, #kind "(" words ")\n--\n\n"}
+#define CONSTRUCTOR(kind, words)                                                                                       \
+    { Py_tp_doc, #kind "(" words ")\n--\n\n" }
 
-static PyType_Slot Timestamp_slots[] = {
-    CONSTRUCTOR(Timestamp, "seconds, nanoseconds=0"),
-    {Py_tp_new, Timestamp_new}, {Py_tp_dealloc, Timestamp_dealloc}, {Py_tp_members, Timestamp_members},
-    {Py_tp_methods, Timestamp_methods}, {Py_tp_richcompare, Timestamp_compared}, {Py_tp_hash, Timestamp_hash},
-    {Py_tp_str, Timestamp_text}, {Py_nb_add, Timestamp_add}, {Py_nb_subtract, Timestamp_subtract}, {0, NULL}
-};
+static PyType_Slot Timestamp_slots[] = {CONSTRUCTOR(Timestamp, "seconds, nanoseconds=0"),
+                                        {Py_tp_new, Timestamp_new},
+                                        {Py_tp_dealloc, Timestamp_dealloc},
+                                        {Py_tp_members, Timestamp_members},
+                                        {Py_tp_methods, Timestamp_methods},
+                                        {Py_tp_richcompare, Timestamp_compared},
+                                        {Py_tp_hash, Timestamp_hash},
+                                        {Py_tp_str, Timestamp_text},
+                                        {Py_nb_add, Timestamp_add},
+                                        {Py_nb_subtract, Timestamp_subtract},
+                                        {0, NULL}};
 
 static PyType_Slot OffsetDateTime_slots[] = {
     CONSTRUCTOR(OffsetDateTime, "year, month, day, hour=0, minute=0, second=0, nanosecond=0, offset_seconds=0"),
-    {Py_tp_new, OffsetDateTime_new}, {Py_tp_dealloc, OffsetDateTime_dealloc}, {Py_tp_members, OffsetDateTime_members},
-    {Py_tp_methods, OffsetDateTime_methods}, {Py_tp_richcompare, OffsetDateTime_compared},
-    {Py_tp_hash, OffsetDateTime_hash}, {Py_tp_str, OffsetDateTime_text}, {Py_nb_add, OffsetDateTime_add},
-    {Py_nb_subtract, OffsetDateTime_subtract}, {0, NULL}
-};
+    {Py_tp_new, OffsetDateTime_new},
+    {Py_tp_dealloc, OffsetDateTime_dealloc},
+    {Py_tp_members, OffsetDateTime_members},
+    {Py_tp_methods, OffsetDateTime_methods},
+    {Py_tp_richcompare, OffsetDateTime_compared},
+    {Py_tp_hash, OffsetDateTime_hash},
+    {Py_tp_str, OffsetDateTime_text},
+    {Py_nb_add, OffsetDateTime_add},
+    {Py_nb_subtract, OffsetDateTime_subtract},
+    {0, NULL}};
 
-static PyType_Slot Duration_slots[] = {
-    CONSTRUCTOR(Duration, "seconds=0, nanoseconds=0"),
-    {Py_tp_new, Duration_new}, {Py_tp_dealloc, Duration_dealloc}, {Py_tp_members, Duration_members},
-    {Py_tp_richcompare, Duration_compared}, {Py_tp_hash, PyObject_HashNotImplemented}, {Py_nb_add, Duration_add},
-    {Py_nb_subtract, Duration_subtract}, {Py_nb_negative, Duration_negative}, {Py_nb_absolute, Duration_absolute},
-    {Py_nb_bool, Duration_is_some}, {0, NULL}
-};
+static PyType_Slot Duration_slots[] = {CONSTRUCTOR(Duration, "seconds=0, nanoseconds=0"),
+                                       {Py_tp_new, Duration_new},
+                                       {Py_tp_dealloc, Duration_dealloc},
+                                       {Py_tp_members, Duration_members},
+                                       {Py_tp_richcompare, Duration_compared},
+                                       {Py_tp_hash, PyObject_HashNotImplemented},
+                                       {Py_nb_add, Duration_add},
+                                       {Py_nb_subtract, Duration_subtract},
+                                       {Py_nb_negative, Duration_negative},
+                                       {Py_nb_absolute, Duration_absolute},
+                                       {Py_nb_bool, Duration_is_some},
+                                       {0, NULL}};
 
-static PyType_Slot Date_slots[] = {
-    CONSTRUCTOR(Date, "year, month, day"),
-    {Py_tp_new, Date_new}, {Py_tp_dealloc, Date_dealloc}, {Py_tp_members, Date_members}, {Py_tp_methods, Date_methods},
-    {Py_tp_richcompare, Date_compared}, {Py_tp_hash, Date_hash}, {0, NULL}
-};
+static PyType_Slot Date_slots[] = {CONSTRUCTOR(Date, "year, month, day"),
+                                   {Py_tp_new, Date_new},
+                                   {Py_tp_dealloc, Date_dealloc},
+                                   {Py_tp_members, Date_members},
+                                   {Py_tp_methods, Date_methods},
+                                   {Py_tp_richcompare, Date_compared},
+                                   {Py_tp_hash, Date_hash},
+                                   {0, NULL}};
 
-#define SPEC(kind)                                                                                                          \
-    {"muxandu._extension." #kind, sizeof(kind##Object), 0, Py_TPFLAGS_DEFAULT | Py_TPFLAGS_BASETYPE, kind##_slots}
+#define SPEC(kind)                                                                                                     \
+    { "muxandu._extension." #kind, sizeof(kind##Object), 0, Py_TPFLAGS_DEFAULT | Py_TPFLAGS_BASETYPE, kind##_slots }
 
 static PyType_Spec specs[] = {SPEC(Timestamp), SPEC(OffsetDateTime), SPEC(Duration), SPEC(Date)};
 
-static struct PyModuleDef module = {
-    PyModuleDef_HEAD_INIT, "_extension", "The values of the package over the archive.", -1, functions, NULL, NULL, NULL, NULL
-};
-
-PyMODINIT_FUNC PyInit__extension(void)
-{
+/* The types are of the whole process, and the package completes them: a second interpreter, or a second import, would change
+ * those of the first, whose methods would end with the second's. It goes through ctypes. */
+static int fill(PyObject *made) {
     PyTypeObject **bases[] = {&base_of_Timestamp, &base_of_OffsetDateTime, &base_of_Duration, &base_of_Date};
     size_t place;
-    PyObject *made = PyModule_Create(&module);
-    if (!made) return NULL;
+    if (*bases[0]) {
+        PyErr_SetString(PyExc_ImportError, "muxandu._extension is loaded once in a process");
+        return -1;
+    }
     name_days = PyUnicode_InternFromString("days");
     name_seconds = PyUnicode_InternFromString("seconds");
     name_microseconds = PyUnicode_InternFromString("microseconds");
@@ -837,7 +866,23 @@ PyMODINIT_FUNC PyInit__extension(void)
     index_of_int = PyObject_GetAttrString((PyObject *)&PyLong_Type, "__index__");
     for (place = 0; place < sizeof bases / sizeof *bases; place++) {
         *bases[place] = (PyTypeObject *)PyType_FromSpec(&specs[place]);
-        if (!*bases[place] || PyModule_AddType(made, *bases[place]) < 0) return NULL;
+        if (!*bases[place] || PyModule_AddType(made, *bases[place]) < 0) return -1;
     }
-    return made;
+    return 0;
+}
+
+static PyModuleDef_Slot module_slots[] = {{Py_mod_exec, (void *)fill}, {0, NULL}};
+
+static struct PyModuleDef module = {PyModuleDef_HEAD_INIT,
+                                    "_extension",
+                                    "The values of the package over the archive.",
+                                    0,
+                                    functions,
+                                    module_slots,
+                                    NULL,
+                                    NULL,
+                                    NULL};
+
+PyMODINIT_FUNC PyInit__extension(void) {
+    return PyModuleDef_Init(&module);
 }

@@ -66,17 +66,7 @@ from ._refusals import (
     Unit,
 )
 from ._texts import date_times_from_each_rfc3339, rfc3339_fault, rfc3339_from_date_times
-from ._values import (
-    Date,
-    Duration,
-    IsoWeekDate,
-    OffsetDateTime,
-    OrdinalDate,
-    Time,
-    Timestamp,
-    UtcOffset,
-    days_in_month,
-)
+from ._values import Date, Duration, IsoWeekDate, OffsetDateTime, OrdinalDate, Time, Timestamp, UtcOffset, days_in_month
 from .muxandu_sys import MuxanduDate as DateParts
 from .muxandu_sys import MuxanduDateTime as DateTimeParts
 from .muxandu_sys import MuxanduSpan as Span

@@ -304,9 +304,7 @@ def _each_converted(
     return out, statuses
 
 
-def date_times_from_each_second(
-    seconds: Any, offset_seconds: Any = 0, out: Any = None, statuses: Any = None
-) -> tuple[Any, Any]:
+def date_times_from_each_second(seconds: Any, offset_seconds: Any = 0, out: Any = None, statuses: Any = None) -> tuple[Any, Any]:
     """What clocks at an offset show at each Unix second, and the status of each: 0, or the `status` of its refusal. Where one
     is refused, what is in its place stays, and the next follows. Of datetime64 also the nanoseconds are kept."""
     if not _datetime64.is_such(seconds):

@@ -185,12 +185,16 @@ class _Moment:
     def __sub__(self, other: Any) -> Any:
         if _is(other, self._base):
             return self._calls["difference"].run((other,), (self._parts,))
+        if _is(other, (Timestamp, OffsetDateTime)):
+            return _shown(self) - _shown(other)
         return self._moved("subtract", other)
 
     def _ordered(self, how: Callable[[int, int], bool], other: Any) -> Any:
-        if not _is(other, self._base):
-            return NotImplemented
-        return how(self._calls["compare"].run((other,), (self._parts,)), 0)
+        if _is(other, self._base):
+            return how(self._calls["compare"].run((other,), (self._parts,)), 0)
+        if _is(other, (Timestamp, OffsetDateTime)):
+            return _shown(self)._ordered(how, _shown(other))
+        return NotImplemented
 
     def __eq__(self, other: object) -> Any:
         return self._ordered(operator.eq, other)
@@ -215,6 +219,11 @@ class _Moment:
         return Timestamp if isinstance(self, Timestamp) else OffsetDateTime
 
 
+def _shown(moment: Any) -> Any:
+    """What clocks in UTC show at an instant; a date-time is itself."""
+    return moment.to_offset(0) if _is(moment, Timestamp) else moment
+
+
 def _checked(call: _Call, kind: Any, structure: Any, *words: Any) -> Any:
     """A value of these numbers, which the library tests."""
     answer = structure(*(held(word, number) for word, (_, number) in zip(words, structure._fields_)))
@@ -231,7 +240,7 @@ class Timestamp(_Moment):
         return _checked(cls._calls["check"], cls, muxandu_sys.MuxanduTimestamp, seconds, nanoseconds)
 
     def __hash__(self) -> int:
-        return hash((self._parts.seconds, self._parts.nanoseconds))
+        return hash(_shown(self))
 
 
 @_with_fields(muxandu_sys.MuxanduDateTime)

@@ -242,10 +242,10 @@ class UtcDateTime(_Clock):
         return PlainDateTime._shown_by(self._at)
 
     def __rsub__(self, other: Any) -> Any:
-        return other - self._at if isinstance(other, OffsetDateTime) else NotImplemented
+        return other - self._at if isinstance(other, (OffsetDateTime, Timestamp)) else NotImplemented
 
     def _other(self, other: object) -> Any:
-        return other if isinstance(other, OffsetDateTime) else super()._other(other)
+        return other if isinstance(other, (OffsetDateTime, Timestamp)) else super()._other(other)
 
     def __str__(self) -> str:
         return str(self._at).rpartition(" ")[0] + " +00"

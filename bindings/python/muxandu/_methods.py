@@ -5,11 +5,7 @@ of a class is a method of it, and each other a class method.
 """
 
 # The structure that the values of each class hold.
-STRUCTURES = {
-    "MuxanduTimestamp": "Timestamp",
-    "MuxanduDateTime": "OffsetDateTime",
-    "MuxanduDuration": "Duration",
-}
+STRUCTURES = {"MuxanduTimestamp": "Timestamp", "MuxanduDateTime": "OffsetDateTime", "MuxanduDuration": "Duration"}
 
 METHODS = {
     "Timestamp": {

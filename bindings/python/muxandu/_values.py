@@ -7,7 +7,7 @@ import time
 from typing import Any, ClassVar, NamedTuple, SupportsIndex, TypeVar, Union
 
 from ._engine import engine
-from ._refusals import REFUSALS, RefusedDuration, RefusedResult
+from ._refusals import REFUSALS, RefusedResult
 from ._words import as_bytes, nanosecond_of, nanoseconds_of, whole
 
 _SECOND = 1_000_000_000

@@ -22,7 +22,9 @@ class Batches(unittest.TestCase):
         texts = [OffsetDateTime.from_parts(item).to_rfc3339() for item in shown]
         self.assertEqual(texts, ["1970-01-01T00:01:00+00:01", "1970-01-01T00:00:59+00:01", "2024-02-29T12:35:56+00:01"])
         self.assertEqual(muxandu.seconds_from_date_times(shown), seconds)
-        self.assertEqual(list(muxandu.seconds_from_date_times([OffsetDateTime(1970, 1, 2), OffsetDateTime(1970, 1, 1)])), [86_400, 0])
+        self.assertEqual(
+            list(muxandu.seconds_from_date_times([OffsetDateTime(1970, 1, 2), OffsetDateTime(1970, 1, 1)])), [86_400, 0]
+        )
         self.assertEqual(muxandu.date_times_from_seconds([7])[0].second, 7)
         parts = {"year": 2024, "month": 2, "day": 29, "hour": 0, "minute": 0, "second": 0, "nanosecond": 0, "offset_seconds": 0}
         self.assertEqual(OffsetDateTime.from_parts(parts), OffsetDateTime(2024, 2, 29))

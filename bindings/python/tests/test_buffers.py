@@ -10,7 +10,7 @@ import unittest
 from pathlib import Path
 
 import muxandu
-from muxandu import OffsetDateTime, DateTimeParts, Date, DateParts, Duration, Span, Timestamp, TimestampParts
+from muxandu import OffsetDateTime, Date, DateParts, Duration, Span, Timestamp, TimestampParts
 
 DATE = [("year", ctypes.c_int32), ("month", ctypes.c_uint8), ("day", ctypes.c_uint8)]
 STAMP = [("seconds", ctypes.c_int64), ("nanoseconds", ctypes.c_uint32)]
@@ -96,10 +96,7 @@ class Structures(unittest.TestCase):
         block = b"1970-01-01T00:00:00Z"
         for kind in (ctypes.c_int64, ctypes.c_double):
             self.assertRaises(
-                TypeError,
-                muxandu.timestamps_from_rfc3339,
-                block,
-                (structure([("start", kind), ("length", kind)]) * 1)((0, 20)),
+                TypeError, muxandu.timestamps_from_rfc3339, block, (structure([("start", kind), ("length", kind)]) * 1)((0, 20))
             )
         self.assertRaises(TypeError, muxandu.timestamps_from_rfc3339, array.array("i", [1]), (Span * 1)())
         self.assertRaises(TypeError, muxandu.timestamps_from_rfc3339, block.decode(), (Span * 1)())

@@ -204,7 +204,14 @@ class Columns(unittest.TestCase):
         shown, statuses = muxandu.date_times_from_each_second(there.reindex([0, 1, 2]))
         self.assertEqual((shown["hour"].tolist(), statuses.tolist()), ([12, 23, 0], [0, 0, muxandu.RefusedTimestamp.status]))
         self.assertRaises(TypeError, muxandu.timestamps_from_rfc3339, column, out=pandas.Series(out))
-        for other in (column, pandas.DataFrame({"at": there}), pandas.Timestamp(0), pandas.period_range("2024", periods=2, freq="M"), pandas.NaT, pandas.Series([0])):
+        for other in (
+            column,
+            pandas.DataFrame({"at": there}),
+            pandas.Timestamp(0),
+            pandas.period_range("2024", periods=2, freq="M"),
+            pandas.NaT,
+            pandas.Series([0]),
+        ):
             self.assertRaises(TypeError, muxandu.timestamps_from_datetime64, other)
 
     def test_values_of_pandas(self):

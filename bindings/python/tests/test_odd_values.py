@@ -150,7 +150,13 @@ class Lengths(unittest.TestCase):
     def test_hashes_of_all_that_a_timedelta_equals(self):
         micro = datetime.timedelta(microseconds=1)
         ends = (datetime.timedelta.min, datetime.timedelta.max)
-        for theirs in (*ends, ends[0] + micro, ends[1] - micro, datetime.timedelta(999_999_999), datetime.timedelta(-999_999_998)):
+        for theirs in (
+            *ends,
+            ends[0] + micro,
+            ends[1] - micro,
+            datetime.timedelta(999_999_999),
+            datetime.timedelta(-999_999_998),
+        ):
             ours = Duration.of(theirs)
             self.assertEqual((ours, hash(ours), ours.to_timedelta()), (theirs, hash(theirs), theirs))
             self.assertEqual(len({ours, theirs}), 1)
@@ -201,14 +207,22 @@ class Classes(unittest.TestCase):
                 lambda value=value: value < Shy(),
             ):
                 self.assertRaises((TypeError, ZeroDivisionError), call)
-        for call in (Timestamp(0).saturating_add, Timestamp.from_rfc3339, Timestamp, Timestamp(0).to_offset, muxandu.dates_from_days):
+        for call in (
+            Timestamp(0).saturating_add,
+            Timestamp.from_rfc3339,
+            Timestamp,
+            Timestamp(0).to_offset,
+            muxandu.dates_from_days,
+        ):
             self.assertRaises((TypeError, ZeroDivisionError), call, Shy())
 
     def test_of_a_user_derived_from_clocks(self):
         for kind in (UtcDateTime, PlainDateTime):
             mine, sibling = type("Mine", (kind,), {}), type("Sibling", (kind,), {})
             first, second, third = mine(2024, 2, 29), kind(2024, 3, 1), sibling(2024, 3, 2)
-            self.assertEqual((second - first, first - second, third - first), (Duration(86_400), Duration(-86_400), Duration(172_800)))
+            self.assertEqual(
+                (second - first, first - second, third - first), (Duration(86_400), Duration(-86_400), Duration(172_800))
+            )
             self.assertTrue(first < second < third and third > second > first)
             self.assertEqual((first == kind(2024, 2, 29), first == sibling(2024, 2, 29)), (True, True))
             self.assertEqual((type(first + Duration(1)), type(pickle.loads(pickle.dumps(second)))), (mine, kind))
@@ -350,7 +364,9 @@ class Program(unittest.TestCase):
         paths = os.pathsep.join([folder, *filter(None, [os.environ.get("PYTHONPATH")])])
         for text in ("9" * 5_000, "-" + "9" * 5_000 + ".5", "9" * 30):
             words = [sys.executable, "-B", "-m", "muxandu", text]
-            ended = subprocess.run(words, env={**os.environ, "PYTHONPATH": paths}, capture_output=True, encoding="utf-8", check=False)
+            ended = subprocess.run(
+                words, env={**os.environ, "PYTHONPATH": paths}, capture_output=True, encoding="utf-8", check=False
+            )
             self.assertEqual((ended.returncode, ended.stdout), (1, ""))
             self.assertIn("TIMESTAMP", ended.stderr)
             self.assertNotIn("Traceback", ended.stderr)

@@ -17,7 +17,19 @@ import unittest
 from pathlib import Path
 
 import muxandu
-from muxandu import Date, Duration, OffsetDateTime, Part, PlainDateTime, Time, Timestamp, Unit, UtcDateTime, UtcOffset, muxandu_sys
+from muxandu import (
+    Date,
+    Duration,
+    OffsetDateTime,
+    Part,
+    PlainDateTime,
+    Time,
+    Timestamp,
+    Unit,
+    UtcDateTime,
+    UtcOffset,
+    muxandu_sys,
+)
 
 DAY = datetime.timedelta(days=1)
 UTC = datetime.timezone.utc
@@ -26,7 +38,9 @@ MOMENT = datetime.datetime(2024, 2, 29, 12, 34, 56, 789_012, UTC)
 
 class Durations(unittest.TestCase):
     def test_beside_timedelta(self):
-        lengths = [datetime.timedelta(microseconds=count) for count in (-(10**15), -5, 0, 1_000, 999_995, 10**6, 86_400 * 10**6)]
+        lengths = [
+            datetime.timedelta(microseconds=count) for count in (-(10**15), -5, 0, 1_000, 999_995, 10**6, 86_400 * 10**6)
+        ]
         for first in lengths:
             one = Duration.of(first)
             self.assertEqual((one.to_timedelta(), one.total_seconds()), (first, first.total_seconds()))
@@ -39,11 +53,17 @@ class Durations(unittest.TestCase):
                 self.assertEqual((one + second, first + other), (one + other, one + other))
                 self.assertEqual((one - second, first - other), (one - other, one - other))
                 orders = (one < other, one <= other, one == other, one > other, one >= other, one != other)
-                self.assertEqual(orders, (first < second, first <= second, first == second, first > second, first >= second, first != second))
-                self.assertEqual((one < second, one == second, first == other), (first < second, first == second, first == second))
+                self.assertEqual(
+                    orders, (first < second, first <= second, first == second, first > second, first >= second, first != second)
+                )
+                self.assertEqual(
+                    (one < second, one == second, first == other), (first < second, first == second, first == second)
+                )
                 if second:
                     self.assertEqual((one // other, one / other), (first // second, first / second))
-                    self.assertEqual((one % other, divmod(one, other)), (Duration.of(first % second), (first // second, one % other)))
+                    self.assertEqual(
+                        (one % other, divmod(one, other)), (Duration.of(first % second), (first // second, one % other))
+                    )
 
     def test_of_one_sign(self):
         ends = ((-(2**63) - 1, 32), (2**63, -1), (-(2**63) - 2, 2 * 10**9 - 1))
@@ -54,7 +74,9 @@ class Durations(unittest.TestCase):
             self.assertLess(abs(made.nanoseconds), 10**9)
             self.assertGreaterEqual(made.seconds * made.nanoseconds, 0)
         self.assertEqual(Duration(nanoseconds=5), Duration(0, 5))
-        self.assertEqual((Duration.of_days(-2).whole_days(), Duration(86_399).whole_days(), Duration(-1).whole_days()), (-2, 0, 0))
+        self.assertEqual(
+            (Duration.of_days(-2).whole_days(), Duration(86_399).whole_days(), Duration(-1).whole_days()), (-2, 0, 0)
+        )
 
     def test_the_ends_of_the_range(self):
         for call in (
@@ -108,7 +130,10 @@ class Dates(unittest.TestCase):
             self.assertEqual(f"{ours:>12}", f"{str(ours):>12}")
         date = Date(2024, 2, 28)
         self.assertEqual((date + 2, 2 + date, date + Duration(86_400 * 2 + 5), date + 2 * DAY), (Date(2024, 3, 1),) * 4)
-        self.assertEqual((date - 28, date - Duration(86_400), date - Date(2023, 2, 28)), (Date(2024, 1, 31), Date(2024, 2, 27), Duration.of_days(365)))
+        self.assertEqual(
+            (date - 28, date - Duration(86_400), date - Date(2023, 2, 28)),
+            (Date(2024, 1, 31), Date(2024, 2, 27), Duration.of_days(365)),
+        )
         self.assertEqual(date.replace(day=29), Date(2024, 2, 29))
         self.assertRaises(muxandu.RefusedDayNumber, lambda: Date.MAX + 1)
         self.assertRaises(muxandu.RefusedDayNumber, lambda: Date.MIN - 1)
@@ -167,7 +192,9 @@ class Moments(unittest.TestCase):
             """A length of a user's own."""
 
         source = random.Random(1)
-        all_parts = [(source.randint(-(10**8), 10**8), source.randrange(86_400), source.randrange(10**6)) for _ in range(500)]
+        all_parts = [
+            (source.randint(-(10**8), 10**8), source.randrange(86_400), source.randrange(10**6)) for _ in range(500)
+        ]
         for parts in [*all_parts, (0, 0, 0), (-1, 86_399, 999_999), (3 * 10**8, 0, 1), (-(3 * 10**8), 0, 1)]:
             whole = (parts[0] * 86_400 + parts[1]) * 10**9 + parts[2] * 1_000
             for length in (datetime.timedelta(*parts), Length(*parts)):
@@ -261,7 +288,10 @@ class Moments(unittest.TestCase):
 
     def test_times(self):
         at = Time(9, 5, 0, 250_000_000)
-        self.assertEqual((str(at), at - Time(9), f"{at:%H.%M}", f"{at:>11}"), ("9:05:00.25", Duration(300, 250_000_000), "09.05", " 9:05:00.25"))
+        self.assertEqual(
+            (str(at), at - Time(9), f"{at:%H.%M}", f"{at:>11}"),
+            ("9:05:00.25", Duration(300, 250_000_000), "09.05", " 9:05:00.25"),
+        )
         self.assertTrue(Time.MIDNIGHT < at < Time.MAX)
         self.assertRaises(muxandu.RefusedHour, Time, 24)
 
@@ -301,7 +331,9 @@ class Moments(unittest.TestCase):
 
         at = Stamp(5)
         self.assertEqual((type(at + Duration(1)), type(Stamp.from_rfc3339("1970-01-01T00:00:00Z"))), (Stamp, Stamp))
-        self.assertEqual((type(Stamp.now()), type(at.truncated_to(Unit.DAY)), at, hash(at)), (Stamp, Stamp, Timestamp(5), hash(Timestamp(5))))
+        self.assertEqual(
+            (type(Stamp.now()), type(at.truncated_to(Unit.DAY)), at, hash(at)), (Stamp, Stamp, Timestamp(5), hash(Timestamp(5)))
+        )
         self.assertIs(type(at.to_offset(0)), OffsetDateTime)
 
     def test_numbers_of_other_kinds(self):
@@ -317,7 +349,9 @@ class Program(unittest.TestCase):
         folder = str(Path(muxandu.__file__).resolve().parent.parent)
         paths = os.pathsep.join([folder, *filter(None, [os.environ.get("PYTHONPATH")])])
         command = [sys.executable, "-B", "-m", "muxandu", *words]
-        return subprocess.run(command, env={**os.environ, "PYTHONPATH": paths}, capture_output=True, encoding="utf-8", check=False)
+        return subprocess.run(
+            command, env={**os.environ, "PYTHONPATH": paths}, capture_output=True, encoding="utf-8", check=False
+        )
 
     def test_texts_and_seconds(self):
         ended = self.run_program("2024-02-28T23:30:00-01:00")
