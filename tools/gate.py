@@ -39,11 +39,12 @@ LONGEST_WAIT = 10_000
 
 
 class Tally:
-    """The cases of a step: how many passed, and how many failed."""
+    """The cases of a step: how many passed, how many failed, and how many were skipped."""
 
     def __init__(self):
         self.passed = 0
         self.failed = 0
+        self.skipped = []
 
     def count(self, case, problem=None, printed=""):
         """Counts a case and tells of it: it failed if it has a problem, and then the end of what was printed is shown."""
@@ -54,15 +55,23 @@ class Tally:
         self.failed += 1
         print(f"{case}: FAILED: {problem}\n{printed[-SHOWN:]}".rstrip(), flush=True)
 
+    def skip(self, case, reason, cases=1):
+        """Counts cases that this machine cannot run, for a reason. The step prints them again at its end."""
+        self.skipped.append((case, reason, cases))
+        print(f"{case}: skipped: {reason}", flush=True)
+
     def end(self, *others):
         """Prints the count, with those of other halves of the step, and ends the step: as a failure where a case failed,
         or where none passed in one of the halves."""
         halves = (self, *others)
         passed, failed = (sum(getattr(half, name) for half in halves) for name in ("passed", "failed"))
+        skipped = [case for half in halves for case in half.skipped]
         if failed == 0 and not all(half.passed for half in halves):
             failed = 1
             print("a part of this step checked nothing", flush=True)
-        print(f"{passed} passed, {failed} failed", flush=True)
+        for case, reason, cases in skipped:
+            print(f"skipped: {case}, {cases} {'case' if cases == 1 else 'cases'}: {reason}", flush=True)
+        print(f"{passed} passed, {failed} failed, {sum(cases for _, _, cases in skipped)} skipped", flush=True)
         sys.exit(0 if failed == 0 else 1)
 
 
@@ -135,11 +144,11 @@ def build(folder, crate):
     own compiler build it too. What checks kept in the repository comes along, so little is left to do where it is proved."""
     print("building a copy of the repository", flush=True)
     copy = copy_repository(folder)
-    if subprocess.run([os.path.join(copy, STARTERS[crate][0]), *STARTERS[crate][1:]], stdin=subprocess.DEVNULL, check=False).returncode != 0:
+    starter, *words = STARTERS[crate]
+    if subprocess.run([os.path.join(copy, starter), *words], stdin=subprocess.DEVNULL, check=False).returncode != 0:
         sys.exit("the copy of the repository is not proved and built")
     place = os.path.join(copy, "crates", crate)
     shutil.copy(os.path.join(place, "out", crate), program(folder, "llvm", crate))
-    words = STARTERS[crate][1:]
     run = rt(["run", "--backend", "rattle", *(["--", *words] if words else [])], place)
     if run.returncode != 0:
         sys.exit(f"Rattle's own compiler does not build {crate}:\n{run.stdout[-SHOWN:]}")

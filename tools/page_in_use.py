@@ -19,8 +19,20 @@ SAID = """(() => {
 
 # The fields, by their accessible names, each with whether it is invalid and what describes it.
 NAMES = ("A text of RFC 3339, or a Unix second", "At the offset", "The difference to another, if you like")
-ORDER = ("at", "offset", "other", "a leap day", "no such day", "the first second", "a leap second", "week 53", "year 10000",
-         "the last nanosecond", "now", "link")
+ORDER = (
+    "at",
+    "offset",
+    "other",
+    "a leap day",
+    "no such day",
+    "the first second",
+    "a leap second",
+    "week 53",
+    "year 10000",
+    "the last nanosecond",
+    "now",
+    "link",
+)
 
 # What the fields have in pictures: an answer, a refusal, the end of the range, and a text that is long.
 STATES = {

@@ -293,25 +293,28 @@ def long_chain_line(source, count):
 
 def bad_line(source):
     second, nanosecond = random_second(source), random_nanosecond(source)
-    return source.choice(
-        (
-            "",
-            f"time {second}",
-            f"unix {second} ",
-            f"unix +{abs(second)}",
-            f"stamp {second}",
-            f"stamp {second}  {nanosecond}",
-            f"run {second} {nanosecond} ",
-            f"run {second} -1 year",
-            f"run {second} {nanosecond} Year",
-            f"run {second} {nanosecond} replace_day",
-            f"run {second} {nanosecond} replace_day=256",
-            f"run {second} {nanosecond} replace_month=13",
-            f"run {second} {nanosecond} replace_date=2019,2,29",
-            f"run {second} {nanosecond} checked_add=1,-1",
-            f"run {second} {nanosecond} checked_to_offset=+26:00:00",
-            f"chain {second} {nanosecond}",
-            f"chain {second} {nanosecond} local",
-            f"chain {second} {nanosecond} utc 01:00:00",
-        )
-    ), "bad line"
+    return (
+        source.choice(
+            (
+                "",
+                f"time {second}",
+                f"unix {second} ",
+                f"unix +{abs(second)}",
+                f"stamp {second}",
+                f"stamp {second}  {nanosecond}",
+                f"run {second} {nanosecond} ",
+                f"run {second} -1 year",
+                f"run {second} {nanosecond} Year",
+                f"run {second} {nanosecond} replace_day",
+                f"run {second} {nanosecond} replace_day=256",
+                f"run {second} {nanosecond} replace_month=13",
+                f"run {second} {nanosecond} replace_date=2019,2,29",
+                f"run {second} {nanosecond} checked_add=1,-1",
+                f"run {second} {nanosecond} checked_to_offset=+26:00:00",
+                f"chain {second} {nanosecond}",
+                f"chain {second} {nanosecond} local",
+                f"chain {second} {nanosecond} utc 01:00:00",
+            )
+        ),
+        "bad line",
+    )

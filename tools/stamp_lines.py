@@ -5,9 +5,7 @@ import random
 import re
 from datetime import datetime, timedelta
 
-FORM = re.compile(
-    rb"(\d{4})-(\d\d)-(\d\d)[Tt ](\d\d):(\d\d):(\d\d)(?:\.(\d+))?(?:([Zz])|([+-])(\d\d):(\d\d))"
-)
+FORM = re.compile(rb"(\d{4})-(\d\d)-(\d\d)[Tt ](\d\d):(\d\d):(\d\d)(?:\.(\d+))?(?:([Zz])|([+-])(\d\d):(\d\d))")
 
 # The most bytes of a stamp.
 LONGEST = 1_024
@@ -91,11 +89,7 @@ def unix_text(instant):
     return f"{'-' if instant < 0 else ''}{seconds}.{nanos:09}".encode()
 
 
-STYLES = {
-    "utc": lambda instant, _: text_at(instant, 0),
-    "at": text_at,
-    "unix": lambda instant, _: unix_text(instant),
-}
+STYLES = {"utc": lambda instant, _: text_at(instant, 0), "at": text_at, "unix": lambda instant, _: unix_text(instant)}
 
 
 def offset_of(text):

@@ -47,7 +47,11 @@ enum Step {
 
 impl Step {
     fn offset(self) -> i32 {
-        if let Step::Offset(offset) = self { offset } else { 0 }
+        if let Step::Offset(offset) = self {
+            offset
+        } else {
+            0
+        }
     }
 }
 
@@ -67,7 +71,12 @@ fn number<T: TryFrom<i64>>(word: &[u8]) -> Option<T> {
         }
         value = value.checked_mul(10)?.checked_sub(i64::from(digit))?;
     }
-    T::try_from(if is_negative { value } else { value.checked_neg()? }).ok()
+    T::try_from(if is_negative {
+        value
+    } else {
+        value.checked_neg()?
+    })
+    .ok()
 }
 
 fn two_digits(tens: u8, units: u8, last: i32) -> Option<i32> {
@@ -80,13 +89,17 @@ fn offset_of(word: &[u8]) -> Option<i32> {
     let [sign @ (b'+' | b'-'), h, i, b':', m, n, b':', s, t] = word else {
         return None;
     };
-    let size = (two_digits(*h, *i, 25)? * 60 + two_digits(*m, *n, 59)?) * 60 + two_digits(*s, *t, 59)?;
+    let size =
+        (two_digits(*h, *i, 25)? * 60 + two_digits(*m, *n, 59)?) * 60 + two_digits(*s, *t, 59)?;
     Some(if *sign == b'-' { -size } else { size })
 }
 
 fn duration_of(numbers: &[u8]) -> Option<Duration> {
     let comma = numbers.iter().position(|byte| *byte == b',')?;
-    let (seconds, nanoseconds) = (number::<i64>(&numbers[..comma])?, number::<i32>(&numbers[comma + 1..])?);
+    let (seconds, nanoseconds) = (
+        number::<i64>(&numbers[..comma])?,
+        number::<i32>(&numbers[comma + 1..])?,
+    );
     let is_one_sign = seconds.signum() * i64::from(nanoseconds.signum()) >= 0;
     (is_one_sign && nanoseconds.abs() < 1_000_000_000).then(|| Duration::new(seconds, nanoseconds))
 }
@@ -97,7 +110,11 @@ fn month_of(word: &[u8]) -> Option<Month> {
 
 fn date_of(numbers: &[u8]) -> Option<Date> {
     let mut words = numbers.split(|byte| *byte == b',');
-    let (year, month, day) = (number(words.next()?)?, month_of(words.next()?)?, number(words.next()?)?);
+    let (year, month, day) = (
+        number(words.next()?)?,
+        month_of(words.next()?)?,
+        number(words.next()?)?,
+    );
     if words.next().is_some() {
         return None;
     }
@@ -248,7 +265,11 @@ fn push_date(out: &mut Vec<u8>, date: Date) {
         return push(out, date);
     }
     let (year, month, day) = date.to_calendar_date();
-    let (absolute, month, day) = (year.unsigned_abs(), u32::from(u8::from(month)), u32::from(day));
+    let (absolute, month, day) = (
+        year.unsigned_abs(),
+        u32::from(u8::from(month)),
+        u32::from(day),
+    );
     if year < 0 {
         out.push(b'-');
     } else if year > 9_999 {
@@ -281,7 +302,10 @@ fn push_fraction(out: &mut Vec<u8>, nanosecond: u32) {
         *place = digit(rest);
         rest /= 10;
     }
-    let count = digits.iter().rposition(|digit| *digit != b'0').map_or(1, |last| last + 1);
+    let count = digits
+        .iter()
+        .rposition(|digit| *digit != b'0')
+        .map_or(1, |last| last + 1);
     out.push(b'.');
     out.extend_from_slice(&digits[..count]);
 }
@@ -318,7 +342,10 @@ fn push_offset(out: &mut Vec<u8>, offset: i32) {
     let (hour, minute, second) = (size / 3_600, size / 60 % 60, size % 60);
     let sign = if offset < 0 { '-' } else { '+' };
     if !BY_HAND {
-        return push(out, format_args!(" {sign}{hour:02}:{minute:02}:{second:02}"));
+        return push(
+            out,
+            format_args!(" {sign}{hour:02}:{minute:02}:{second:02}"),
+        );
     }
     out.extend_from_slice(&[
         b' ',
@@ -371,7 +398,10 @@ fn shown_at(shown: PrimitiveDateTime, from: i32, to: i32) -> Option<PrimitiveDat
     if from == to {
         return Some(shown);
     }
-    match (UtcOffset::from_whole_seconds(from), UtcOffset::from_whole_seconds(to)) {
+    match (
+        UtcOffset::from_whole_seconds(from),
+        UtcOffset::from_whole_seconds(to),
+    ) {
         (Ok(from), Ok(to)) if shown.year().abs() < Date::MAX.year() => {
             let at = shown.assume_offset(from).to_offset(to);
             Some(PrimitiveDateTime::new(at.date(), at.time()))
@@ -392,7 +422,9 @@ fn moved(at: PrimitiveDateTime, call: Call) -> Result<PrimitiveDateTime, Option<
         Call::Year(year) => at.replace_year(year),
         Call::Month(month) => at.replace_month(month),
         Call::Day(day) => at.replace_day(day),
-        Call::Ordinal(ordinal) => Date::from_ordinal_date(at.year(), ordinal).map(|date| at.replace_date(date)),
+        Call::Ordinal(ordinal) => {
+            Date::from_ordinal_date(at.year(), ordinal).map(|date| at.replace_date(date))
+        }
         Call::Hour(hour) => at.replace_hour(hour),
         Call::Minute(minute) => at.replace_minute(minute),
         Call::Second(second) => at.replace_second(second),
@@ -536,7 +568,11 @@ fn push_good(out: &mut Vec<u8>, line: &[u8]) -> Option<()> {
         b"chain" => return push_chain(out, start_of(second, number(words.next()?)?), words),
         _ => return None,
     }
-    if words.next().is_some() { None } else { Some(()) }
+    if words.next().is_some() {
+        None
+    } else {
+        Some(())
+    }
 }
 
 fn push_answer(out: &mut Vec<u8>, line: &[u8]) {

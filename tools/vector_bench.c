@@ -73,13 +73,17 @@ static inline char *put_date(char *out, uint64_t day) {
     uint32_t is_next = day_of_year >= 306;
     int32_t year = (int32_t)(100 * century + (uint32_t)(years >> 32) + is_next) - 1000000;
     uint32_t absolute = (uint32_t)(year < 0 ? -year : year);
-    if (year < 0) *out++ = '-';
-    else if (absolute > 9999) *out++ = '+';
+    if (year < 0)
+        *out++ = '-';
+    else if (absolute > 9999)
+        *out++ = '+';
     if (absolute > 9999) {
         uint32_t high = absolute / 10000;
         absolute -= high * 10000;
-        if (high >= 10) out = put_two(out, high);
-        else *out++ = (char)('0' + high);
+        if (high >= 10)
+            out = put_two(out, high);
+        else
+            *out++ = (char)('0' + high);
     }
     memcpy(out, four_digits + 4 * absolute, 4);
     out[4] = '-';
@@ -108,8 +112,10 @@ static inline char *put_answer(char *out, const char *line, long length) {
     uint32_t rest = (uint32_t)(lifted - day * 86400), hour = rest / 3600, minute = rest % 3600 / 60;
     out = put_date(out, day);
     *out++ = ' ';
-    if (hour >= 10) out = put_two(out, hour);
-    else *out++ = (char)('0' + hour);
+    if (hour >= 10)
+        out = put_two(out, hour);
+    else
+        *out++ = (char)('0' + hour);
     *out = ':';
     put_two(out + 1, minute);
     out[3] = ':';
@@ -145,7 +151,8 @@ static uint32_t *find_line_feeds(const char *block, long length) {
         /* Four at once, whether there are so many or not. */
         for (int j = 0; j < 4; j++, marks &= marks - 1)
             found[j] = (uint32_t)place + (uint32_t)__builtin_ctzll(marks | 1ull << 63);
-        for (int j = 4; j < count; j++, marks &= marks - 1) found[j] = (uint32_t)place + (uint32_t)__builtin_ctzll(marks);
+        for (int j = 4; j < count; j++, marks &= marks - 1)
+            found[j] = (uint32_t)place + (uint32_t)__builtin_ctzll(marks);
         found += count;
     }
     return found;

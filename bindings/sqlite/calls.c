@@ -155,11 +155,16 @@ static void run(sqlite3_context *context, int count, sqlite3_value **values) {
         if (sqlite3_value_type(values[at]) == SQLITE_NULL) return;
     }
     status = call->answer(context, count, values);
-    if (status == OUT_OF_MEMORY) sqlite3_result_error_nomem(context);
-    else if (status != MUXANDU_OK && !call->is_or_null) refuse(context, call->name, status);
+    if (status == OUT_OF_MEMORY)
+        sqlite3_result_error_nomem(context);
+    else if (status != MUXANDU_OK && !call->is_or_null)
+        refuse(context, call->name, status);
 }
 
-#define BOTH(name, least, most, answer) {name, least, most, answer, 0}, {name "_or_null", least, most, answer, 1}
+#define BOTH(name, least, most, answer)                                                                                \
+    {name, least, most, answer, 0}, {                                                                                  \
+        name "_or_null", least, most, answer, 1                                                                        \
+    }
 
 static const Call CALLS[] = {
     BOTH("muxandu_unix", 1, 1, answer_unix),

@@ -8,9 +8,22 @@ SQLITE_EXTENSION_INIT3
 
 /* The columns, and after them the arguments, which SQLite has as hidden columns. */
 enum {
-    YEAR, MONTH, DAY, HOUR, MINUTE, SECOND, NANOSECOND, OFFSET_SECONDS, UNIX, DAY_OF_YEAR, ISO_YEAR, ISO_WEEK, ISO_WEEKDAY,
+    YEAR,
+    MONTH,
+    DAY,
+    HOUR,
+    MINUTE,
+    SECOND,
+    NANOSECOND,
+    OFFSET_SECONDS,
+    UNIX,
+    DAY_OF_YEAR,
+    ISO_YEAR,
+    ISO_WEEK,
+    ISO_WEEKDAY,
     PARTS,
-    TEXT = PARTS, AT_OFFSET,
+    TEXT = PARTS,
+    AT_OFFSET,
     COLUMNS
 };
 
@@ -18,7 +31,8 @@ enum { ARGUMENTS = COLUMNS - PARTS };
 
 static const char SCHEMA[] =
     "CREATE TABLE parts(year INTEGER, month INTEGER, day INTEGER, hour INTEGER, minute INTEGER, second INTEGER, "
-    "nanosecond INTEGER, offset_seconds INTEGER, unix INTEGER, day_of_year INTEGER, iso_year INTEGER, iso_week INTEGER, "
+    "nanosecond INTEGER, offset_seconds INTEGER, unix INTEGER, day_of_year INTEGER, iso_year INTEGER, iso_week "
+    "INTEGER, "
     "iso_weekday INTEGER, of_text HIDDEN, at_offset HIDDEN)";
 
 typedef struct Form {
@@ -42,7 +56,8 @@ typedef struct Cursor {
     int is_past_the_row;
 } Cursor;
 
-static int connect_table(sqlite3 *db, void *form, int count, const char *const *words, sqlite3_vtab **out, char **error) {
+static int connect_table(sqlite3 *db, void *form, int count, const char *const *words, sqlite3_vtab **out,
+                         char **error) {
     Table *table;
     int status = sqlite3_declare_vtab(db, SCHEMA);
     (void)count, (void)words, (void)error;
@@ -94,8 +109,10 @@ static int plan(sqlite3_vtab *table, sqlite3_index_info *info) {
     for (int at = 0; at < info->nConstraint; at++) {
         int argument = info->aConstraint[at].iColumn - PARTS;
         if (argument < 0 || info->aConstraint[at].op != SQLITE_INDEX_CONSTRAINT_EQ) continue;
-        if (info->aConstraint[at].usable) places[argument] = at;
-        else are_unknown[argument] = 1;
+        if (info->aConstraint[at].usable)
+            places[argument] = at;
+        else
+            are_unknown[argument] = 1;
     }
     for (int argument = 0; argument < ARGUMENTS; argument++) {
         if (places[argument] < 0 && are_unknown[argument]) return SQLITE_CONSTRAINT;

@@ -12,13 +12,8 @@ SQLITE_EXTENSION_INIT3
 static const double MOST_EXACT = 9007199254740992.0;
 
 static const Unit UNITS[] = {
-    {"nanosecond", 1},
-    {"microsecond", 1000},
-    {"millisecond", 1000000},
-    {"second", 1000000000},
-    {"minute", 60000000000},
-    {"hour", 3600000000000},
-    {"day", 86400000000000},
+    {"nanosecond", 1},       {"microsecond", 1000},   {"millisecond", 1000000}, {"second", 1000000000},
+    {"minute", 60000000000}, {"hour", 3600000000000}, {"day", 86400000000000},
 };
 
 uint32_t read_text(sqlite3_value *value, const char **text, size_t *size) {
@@ -47,16 +42,13 @@ uint32_t read_instant(sqlite3_value *value, MuxanduTimestamp *out) {
 uint32_t read_whole_number(sqlite3_value *value, int64_t *out) {
     double real;
     switch (sqlite3_value_type(value)) {
-    case SQLITE_INTEGER:
-        *out = sqlite3_value_int64(value);
-        return MUXANDU_OK;
+    case SQLITE_INTEGER: *out = sqlite3_value_int64(value); return MUXANDU_OK;
     case SQLITE_FLOAT:
         real = sqlite3_value_double(value);
         if (!(real >= -MOST_EXACT && real <= MOST_EXACT)) return REFUSED_TYPE;
         *out = (int64_t)real;
         return (double)*out == real ? MUXANDU_OK : REFUSED_TYPE;
-    default:
-        return REFUSED_TYPE;
+    default: return REFUSED_TYPE;
     }
 }
 
@@ -94,8 +86,9 @@ uint32_t read_unit(sqlite3_value *value, const Unit **out) {
 
 static const Refusal *refusal_of(uint32_t status) {
     static const Refusal TYPE = {"TYPE", "An argument that is no text, or no whole number, where the call takes one."};
-    static const Refusal UNIT = {"UNIT", "A text that names no unit: 'nanosecond', 'microsecond', 'millisecond', 'second', "
-                                         "'minute', 'hour' and 'day' do."};
+    static const Refusal UNIT = {"UNIT",
+                                 "A text that names no unit: 'nanosecond', 'microsecond', 'millisecond', 'second', "
+                                 "'minute', 'hour' and 'day' do."};
     static const Refusal UNKNOWN = {"UNKNOWN", "A refusal that this extension does not know."};
     if (status == REFUSED_TYPE) return &TYPE;
     if (status == REFUSED_UNIT_NAME) return &UNIT;

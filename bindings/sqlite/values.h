@@ -6,11 +6,7 @@
 #include <sqlite3ext.h>
 
 /* What is refused of SQL's values alone, beside the refusals of muxandu.h, and what is none. */
-enum {
-    REFUSED_TYPE = 1000,
-    REFUSED_UNIT_NAME = 1001,
-    OUT_OF_MEMORY = 1002
-};
+enum { REFUSED_TYPE = 1000, REFUSED_UNIT_NAME = 1001, OUT_OF_MEMORY = 1002 };
 
 /* A unit of time: so many nanoseconds. */
 typedef struct Unit {

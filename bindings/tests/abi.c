@@ -34,11 +34,32 @@ static void statuses_have_names(void) {
 
 /* The numbers that stay, as they were when programs were first built with them. */
 static void numbers_stay(void) {
-    static const char *const names[] = {
-        "OK",         "YEAR",   "MONTH",          "DAY",       "DAY_OF_MONTH", "ORDINAL",    "ORDINAL_OF_YEAR",
-        "WEEK",       "WEEK_OF_YEAR",             "WEEKDAY",   "HOUR",         "MINUTE",     "SECOND",
-        "NANOSECOND", "OFFSET_SECONDS",           "TIMESTAMP", "DAY_NUMBER",   "DURATION",   "UNIT",
-        "RESULT",     "BUFFER", "SPAN",           "SYNTAX",    "OFFSET_HOUR",  "OFFSET_MINUTE", "NO_TEXT"};
+    static const char *const names[] = {"OK",
+                                        "YEAR",
+                                        "MONTH",
+                                        "DAY",
+                                        "DAY_OF_MONTH",
+                                        "ORDINAL",
+                                        "ORDINAL_OF_YEAR",
+                                        "WEEK",
+                                        "WEEK_OF_YEAR",
+                                        "WEEKDAY",
+                                        "HOUR",
+                                        "MINUTE",
+                                        "SECOND",
+                                        "NANOSECOND",
+                                        "OFFSET_SECONDS",
+                                        "TIMESTAMP",
+                                        "DAY_NUMBER",
+                                        "DURATION",
+                                        "UNIT",
+                                        "RESULT",
+                                        "BUFFER",
+                                        "SPAN",
+                                        "SYNTAX",
+                                        "OFFSET_HOUR",
+                                        "OFFSET_MINUTE",
+                                        "NO_TEXT"};
     static const int units[] = {MUXANDU_UNIT_DAY,    MUXANDU_UNIT_HOUR,        MUXANDU_UNIT_MINUTE,
                                 MUXANDU_UNIT_SECOND, MUXANDU_UNIT_MILLISECOND, MUXANDU_UNIT_MICROSECOND};
     static const int parts[] = {MUXANDU_PART_YEAR, MUXANDU_PART_MONTH,  MUXANDU_PART_DAY,    MUXANDU_PART_ORDINAL,
@@ -211,7 +232,8 @@ static void no_items_need_no_pointer(void) {
     CHECK(muxandu_timestamp_from_rfc3339(NULL, 0, &at) == MUXANDU_REFUSED_SYNTAX && is_stamp(at, 7, 7));
     CHECK(muxandu_date_time_from_rfc3339(NULL, 0, date_times) == MUXANDU_REFUSED_SYNTAX);
     CHECK(muxandu_date_time_to_rfc3339(date_times[0], NULL, 0, &size) == MUXANDU_REFUSED_BUFFER && size == 20);
-    CHECK(muxandu_date_time_to_rfc3339_digits(date_times[0], 3, NULL, 0, &size) == MUXANDU_REFUSED_BUFFER && size == 24);
+    CHECK(muxandu_date_time_to_rfc3339_digits(date_times[0], 3, NULL, 0, &size) == MUXANDU_REFUSED_BUFFER &&
+          size == 24);
     CHECK(muxandu_timestamp_to_rfc3339(stamp(0, 0), NULL, 0, &size) == MUXANDU_REFUSED_BUFFER && size == 20);
     CHECK(muxandu_timestamp_to_rfc3339_nanos(stamp(0, 0), NULL, 0, &size) == MUXANDU_REFUSED_BUFFER && size == 30);
     CHECK(muxandu_date_time_text(date_times[0], NULL, 0, &size) == MUXANDU_REFUSED_BUFFER && size == 30);

@@ -44,7 +44,20 @@ CONSTRUCTORS = (
 )
 ENDS = (
     *(0, 1, -1, 12, 13, 23, 24, 31, 32, 53, 59, 60, 255, 256, 366, 1970, 2024, 10**9 - 1, 10**9, 93_599, 93_600, -93_600),
-    *(999_999, 1_000_000, -999_999, 2**31 - 1, 2**31, -(2**31), 2**32, 2**63 - 1, 2**63, -(2**63), -(2**63) - 1, 2**100),
+    *(
+        999_999,
+        1_000_000,
+        -999_999,
+        2**31 - 1,
+        2**31,
+        -(2**31),
+        2**32,
+        2**63 - 1,
+        2**63,
+        -(2**63),
+        -(2**63) - 1,
+        2**100,
+    ),
     *(364_522_971, -365_961_662, 31_494_784_780_799, -31_619_087_596_800),
 )
 
@@ -66,7 +79,19 @@ class Length(datetime.timedelta):
     """A length of a user's own."""
 
 
-ODD = (0.5, "1", b"1", None, True, [1], fractions.Fraction(1), Number(5), Number(2**70), datetime.date(2024, 2, 29), datetime.time(5))
+ODD = (
+    0.5,
+    "1",
+    b"1",
+    None,
+    True,
+    [1],
+    fractions.Fraction(1),
+    Number(5),
+    Number(2**70),
+    datetime.date(2024, 2, 29),
+    datetime.time(5),
+)
 
 
 def is_hashed(value):
@@ -78,7 +103,18 @@ def is_hashed(value):
 OPERATORS = tuple(
     getattr(operator, name) for name in ("add", "sub", "mul", "floordiv", "truediv", "mod", "lt", "le", "eq", "ne", "gt", "ge")
 )
-SINGLE = (operator.neg, operator.pos, abs, bool, str, repr, is_hashed, "{:%Y-%m-%d %H:%M:%S.%f}".format, "{:>50}".format, "{:d}".format)
+SINGLE = (
+    operator.neg,
+    operator.pos,
+    abs,
+    bool,
+    str,
+    repr,
+    is_hashed,
+    "{:%Y-%m-%d %H:%M:%S.%f}".format,
+    "{:>50}".format,
+    "{:d}".format,
+)
 
 
 class Calls:
@@ -135,7 +171,10 @@ class Calls:
         if chosen < 0.85:
             kind, name = self.source.choice(KINDS), self.source.choice(CONSTRUCTORS)
             pairs = [self.word() for _ in range(self.source.randint(1, 3))]
-            makes = [lambda each=each, words=words: getattr(getattr(each, kind), name)(*words) for each, words in zip(BOTH, zip(*pairs))]
+            makes = [
+                lambda each=each, words=words: getattr(getattr(each, kind), name)(*words)
+                for each, words in zip(BOTH, zip(*pairs))
+            ]
             return makes, f"{kind}.{name}{pairs}"
         pair = self.source.choice(self.values)
         name = self.source.choice([name for name in dir(pair[0]) if not name.startswith("_") and name not in ("now", "today")])
@@ -168,8 +207,19 @@ FIRST = (
     *(("Timestamp", (-1, 5)), ("Timestamp", (31_494_784_780_799, 999_999_999)), ("Timestamp", (-31_619_087_596_800,))),
     *(("OffsetDateTime", (2024, 2, 29)), ("OffsetDateTime", (1, 1, 1, 0, 0, 0, 0, 3_600)), ("UtcDateTime", (2024, 2, 29))),
     *(("OffsetDateTime", (999_999, 12, 31, 23, 59, 59, 0, -60)), ("OffsetDateTime", (-999_999, 1, 1, 0, 0, 0, 0, 60))),
-    *(("Duration", (-3, -5)), ("Duration", (2**63 - 1, 999_999_999)), ("Duration", (-(2**63), -999_999_999)), ("Date", (2024, 2, 29))),
-    *(("Date", (999_999, 12, 31)), ("Date", (-999_999, 1, 1)), ("PlainDateTime", (2024, 2, 29)), ("Time", (5,)), ("UtcOffset", (60,))),
+    *(
+        ("Duration", (-3, -5)),
+        ("Duration", (2**63 - 1, 999_999_999)),
+        ("Duration", (-(2**63), -999_999_999)),
+        ("Date", (2024, 2, 29)),
+    ),
+    *(
+        ("Date", (999_999, 12, 31)),
+        ("Date", (-999_999, 1, 1)),
+        ("PlainDateTime", (2024, 2, 29)),
+        ("Time", (5,)),
+        ("UtcOffset", (60,)),
+    ),
 )
 
 

@@ -123,9 +123,7 @@ class Kind:
 def kind_of_structure(fields, base, order, **more):
     structure = type("Some", (base,), {**more, "_fields_": fields})
     forms = {number: form for form, number in NUMBERS.items()}
-    numbers = [
-        (name, "bits" if bits else forms[number], getattr(structure, name).offset) for name, number, *bits in fields
-    ]
+    numbers = [(name, "bits" if bits else forms[number], getattr(structure, name).offset) for name, number, *bits in fields]
 
     def made(memory, at, count):
         return memoryview((structure * count).from_buffer(memory, at))
@@ -537,7 +535,9 @@ def compare_written(source, kinds):
     """Instants of a buffer, as texts, and as an array of datetime64 where NumPy is there."""
     place = Place(source, source.choice(kinds[STAMPS]), bytearray(source.randbytes(ROOM)))
     for start in place.starts:
-        second = source.choice((source.randint(-(10**11), 3 * 10**11), source.randint(calendar.FIRST_SECOND, calendar.LAST_SECOND)))
+        second = source.choice(
+            (source.randint(-(10**11), 3 * 10**11), source.randint(calendar.FIRST_SECOND, calendar.LAST_SECOND))
+        )
         if source.random() < 0.95:
             place.kind.write(place.memory, start, {"seconds": second, "nanoseconds": source.randrange(10**9 + 10**7)})
     is_refused = place.count > 0 and not place.kind.is_exactly(STAMPS)
@@ -551,7 +551,10 @@ def compare_written(source, kinds):
         found, error = given(lambda *words: muxandu.datetime64_from_timestamps(*words).view("int64").tolist(), *words)
     else:
         name, words = "rfc3339_from_timestamps", (place.view,)
-        items = [rfc3339.shortest_text(*stamp, 0) if stamp and 0 <= stamp[0] + 62_167_219_200 < 315_569_520_000 else None for stamp in stamps]
+        items = [
+            rfc3339.shortest_text(*stamp, 0) if stamp and 0 <= stamp[0] + 62_167_219_200 < 315_569_520_000 else None
+            for stamp in stamps
+        ]
         found, error = given(muxandu.rfc3339_from_timestamps, *words)
     if is_refused:
         problem = None if type(error) is TypeError else f"must be a TypeError, not {found or error!r}"
@@ -628,7 +631,9 @@ def compare_moments(source, kinds):
     kind, memories = some_moments(source), [bytearray(source.randbytes(ROOM)) for _ in range(2)]
     place = Place(source, kind, memories[0])
     for start in place.starts:
-        second = source.choice((source.randint(-(10**10), 10**10), source.randint(calendar.FIRST_SECOND, calendar.LAST_SECOND)))
+        second = source.choice(
+            (source.randint(-(10**10), 10**10), source.randint(calendar.FIRST_SECOND, calendar.LAST_SECOND))
+        )
         count_of = kind.count_of(second, source.randrange(10**9))
         count_of = {"": NOT_A_TIME} if source.random() < 0.05 else count_of
         if count_of and source.random() < 0.95:

@@ -441,9 +441,9 @@ static void structs_of_the_c_library(void) {
         MuxanduTimestamp at = stamp(7, 7);
         CHECK(muxandu_timestamp_from_timespec(&spec, &at) == MUXANDU_OK && is_stamp(at, -1, 500000000));
         CHECK(muxandu_timespec_from_timestamp(stamp(5, 6), &spec) == MUXANDU_OK && spec.tv_sec == 5 &&
-          spec.tv_nsec == 6);
+              spec.tv_nsec == 6);
         CHECK(muxandu_timespec_from_timestamp(stamp(LAST + 1, 6), &spec) == MUXANDU_REFUSED_TIMESTAMP &&
-          spec.tv_sec == 5);
+              spec.tv_sec == 5);
         spec.tv_nsec = -1;
         CHECK(muxandu_timestamp_from_timespec(&spec, &at) == MUXANDU_REFUSED_NANOSECOND && is_stamp(at, -1, 500000000));
         spec.tv_nsec = 1000000000;
@@ -639,7 +639,8 @@ static void other_texts_are_read(void) {
     uint8_t is_leap = 7;
     size_t size = 7, row;
     CHECK(muxandu_date_time_from_rfc3339_front("1985-04-12", 10, &out, &size) == MUXANDU_REFUSED_SYNTAX);
-    CHECK(muxandu_date_time_from_rfc3339_front("1985-02-29T23:20:50Z ", 21, &out, &size) == MUXANDU_REFUSED_DAY_OF_MONTH);
+    CHECK(muxandu_date_time_from_rfc3339_front("1985-02-29T23:20:50Z ", 21, &out, &size) ==
+          MUXANDU_REFUSED_DAY_OF_MONTH);
     CHECK(muxandu_date_time_from_rfc3339_front("1985-02-32T23:20:50Z ", 21, &out, &size) == MUXANDU_REFUSED_DAY);
     CHECK(is_date_time(out, JUNK) && size == 7);
     CHECK(muxandu_date_time_from_rfc3339_front(line, strlen(line), &out, &size) == MUXANDU_OK && size == 23);
@@ -647,11 +648,13 @@ static void other_texts_are_read(void) {
     out = JUNK;
     CHECK(muxandu_date_time_from_rfc3339_leap("1990-12-31T23:59:61Z", 20, &out, &is_leap) == MUXANDU_REFUSED_SECOND);
     CHECK(muxandu_date_time_from_rfc3339_leap("1990-12-31T23:59:60Z ", 21, &out, &is_leap) == MUXANDU_REFUSED_SYNTAX);
-    CHECK(muxandu_date_time_from_rfc3339_leap("1990-11-31T23:59:60Z", 20, &out, &is_leap) == MUXANDU_REFUSED_DAY_OF_MONTH);
+    CHECK(muxandu_date_time_from_rfc3339_leap("1990-11-31T23:59:60Z", 20, &out, &is_leap) ==
+          MUXANDU_REFUSED_DAY_OF_MONTH);
     CHECK(is_date_time(out, JUNK) && is_leap == 7);
     CHECK(muxandu_date_time_from_rfc3339_leap("1990-12-31T15:59:60-08:00", 25, &out, &is_leap) == MUXANDU_OK);
     CHECK(is_date_time(out, date_time(1990, 12, 31, 15, 59, 59, 0, -28800)) && is_leap == 1);
-    CHECK(muxandu_date_time_from_rfc3339_leap("1990-12-31T23:59:59Z", 20, &out, &is_leap) == MUXANDU_OK && is_leap == 0);
+    CHECK(muxandu_date_time_from_rfc3339_leap("1990-12-31T23:59:59Z", 20, &out, &is_leap) == MUXANDU_OK &&
+          is_leap == 0);
     CHECK(muxandu_date_time_from_rfc3339("1990-12-31T23:59:60Z", 20, &out) == MUXANDU_REFUSED_SECOND);
     for (row = 0; row < sizeof faults / sizeof *faults; row++) {
         CHECK(muxandu_rfc3339_fault(faults[row].text, strlen(faults[row].text)) == faults[row].place);
@@ -663,12 +666,14 @@ static void batches_of_texts_go_on(void) {
     MuxanduSpan spans[4] = {{0, 20}, {21, 20}, {SIZE_MAX, 2}, {42, 25}};
     uint32_t statuses[5] = {99, 99, 99, 99, 99};
     MuxanduDateTime out[4] = {JUNK, JUNK, JUNK, JUNK};
-    CHECK(is_batch(muxandu_date_times_from_each_rfc3339(texts, 67, spans, 4, out, 4, statuses, 3), 0, MUXANDU_REFUSED_BUFFER));
-    CHECK(is_batch(muxandu_date_times_from_each_rfc3339(texts, 67, spans, 4, out, 3, statuses, 4), 0, MUXANDU_REFUSED_BUFFER));
+    CHECK(is_batch(muxandu_date_times_from_each_rfc3339(texts, 67, spans, 4, out, 4, statuses, 3), 0,
+                   MUXANDU_REFUSED_BUFFER));
+    CHECK(is_batch(muxandu_date_times_from_each_rfc3339(texts, 67, spans, 4, out, 3, statuses, 4), 0,
+                   MUXANDU_REFUSED_BUFFER));
     CHECK(statuses[0] == 99 && is_date_time(out[0], JUNK));
     CHECK(is_batch(muxandu_date_times_from_each_rfc3339(texts, 67, spans, 4, out, 4, statuses, 5), 2, MUXANDU_OK));
-    CHECK(statuses[0] == MUXANDU_OK && statuses[1] == MUXANDU_REFUSED_DAY_OF_MONTH && statuses[2] == MUXANDU_REFUSED_SPAN &&
-          statuses[3] == MUXANDU_OK && statuses[4] == 99);
+    CHECK(statuses[0] == MUXANDU_OK && statuses[1] == MUXANDU_REFUSED_DAY_OF_MONTH &&
+          statuses[2] == MUXANDU_REFUSED_SPAN && statuses[3] == MUXANDU_OK && statuses[4] == 99);
     CHECK(is_date_time(out[0], date_time(1970, 1, 1, 0, 0, 1, 0, 0)) && is_date_time(out[1], JUNK) &&
           is_date_time(out[2], JUNK) && is_date_time(out[3], date_time(1970, 1, 1, 1, 0, 0, 0, 3600)));
 }

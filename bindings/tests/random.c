@@ -289,8 +289,9 @@ static void compare_other_reading(uint32_t kind) {
     } else if (kind == 1) {
         if (size > 18 && one_of(2)) memcpy(text + 17, "60", 2);
         status = muxandu_date_time_from_rfc3339_leap(text, size, &date_time, &is_leap);
-        tell("date_time_from_rfc3339_leap", status == reference_date_time_from_rfc3339_leap(text, &wanted, &wanted_leap) &&
-                                                is_date_time(date_time, wanted) && is_leap == wanted_leap);
+        tell("date_time_from_rfc3339_leap",
+             status == reference_date_time_from_rfc3339_leap(text, &wanted, &wanted_leap) &&
+                 is_date_time(date_time, wanted) && is_leap == wanted_leap);
     } else {
         if (size > 0 && one_of(2)) text[one_of((uint32_t)size)] = "0123456789:.-+TZ x"[one_of(18)];
         tell("rfc3339_fault", muxandu_rfc3339_fault(text, size) == reference_rfc3339_fault(text));
@@ -519,11 +520,11 @@ static void compare_each_text(void) {
         spans[item].length = some_text(texts[item]);
         if (one_of(16) == 0) spans[item].start = sizeof texts + 1;
     }
-    COMPARE_EACH(MuxanduDateTime, is_date_time, "date_times_from_each_rfc3339",
-                 muxandu_date_times_from_each_rfc3339(texts[0], sizeof texts, spans, count, ours, room, statuses,
-                                                      statuses_room),
-                 spans[k].start == sizeof texts + 1 ? (uint32_t)MUXANDU_REFUSED_SPAN
-                                                    : reference_date_time_from_rfc3339(texts[k], theirs + k));
+    COMPARE_EACH(
+        MuxanduDateTime, is_date_time, "date_times_from_each_rfc3339",
+        muxandu_date_times_from_each_rfc3339(texts[0], sizeof texts, spans, count, ours, room, statuses, statuses_room),
+        spans[k].start == sizeof texts + 1 ? (uint32_t)MUXANDU_REFUSED_SPAN
+                                           : reference_date_time_from_rfc3339(texts[k], theirs + k));
 }
 
 /* A date-time that has a text, mostly. */

@@ -33,9 +33,7 @@ static double now(void) {
 #define LOOP(name, ...)                                                                                                \
     static void name(void) {                                                                                           \
         int k;                                                                                                         \
-        for (k = 0; k < ITEMS; k++) {                                                                                  \
-            __VA_ARGS__;                                                                                               \
-        }                                                                                                              \
+        for (k = 0; k < ITEMS; k++) { __VA_ARGS__; }                                                                   \
     }
 
 static void batch_date_times(void) {

@@ -18,30 +18,130 @@ const COMPARED: usize = 4_000;
 // The processor time, in nanoseconds, that a measurement of one contender takes at least.
 const LEAST: u64 = 4_000_000;
 
-type Linked = unsafe extern "C" fn(*const i64, usize, *const i32, usize, u32, *mut u8, usize) -> u64;
+type Linked =
+    unsafe extern "C" fn(*const i64, usize, *const i32, usize, u32, *mut u8, usize) -> u64;
 
 // A slice crosses as its address and its length, and in a slice too.
 #[allow(improper_ctypes)]
 unsafe extern "C" {
-    fn calls_parts_of_utc(s: *const i64, n: usize, o: *const i32, m: usize, rounds: u32, out: *mut u8, size: usize) -> u64;
-    fn calls_parts_of_stamp(s: *const i64, n: usize, o: *const i32, m: usize, rounds: u32, out: *mut u8, size: usize) -> u64;
-    fn calls_seconds_of_utc(s: *const i64, n: usize, o: *const i32, m: usize, rounds: u32, out: *mut u8, size: usize) -> u64;
-    fn calls_shown_at_offset(s: *const i64, n: usize, o: *const i32, m: usize, rounds: u32, out: *mut u8, size: usize) -> u64;
-    fn calls_sums_of_utc(s: *const i64, n: usize, o: *const i32, m: usize, rounds: u32, out: *mut u8, size: usize) -> u64;
-    fn calls_sums_of_stamp(s: *const i64, n: usize, o: *const i32, m: usize, rounds: u32, out: *mut u8, size: usize) -> u64;
-    fn calls_texts_of_utc(s: *const i64, n: usize, o: *const i32, m: usize, rounds: u32, out: *mut u8, size: usize) -> u64;
-    fn calls_compared(s: *const i64, n: usize, o: *const i32, m: usize, rounds: u32, out: *mut u8, size: usize) -> u64;
-    fn calls_sorted(s: *const i64, n: usize, o: *const i32, m: usize, rounds: u32, out: *mut u8, size: usize) -> u64;
-    fn calls_written(s: *const i64, n: usize, o: *const i32, m: usize, rounds: u32, out: *mut u8, size: usize) -> u64;
+    fn calls_parts_of_utc(
+        s: *const i64,
+        n: usize,
+        o: *const i32,
+        m: usize,
+        rounds: u32,
+        out: *mut u8,
+        size: usize,
+    ) -> u64;
+    fn calls_parts_of_stamp(
+        s: *const i64,
+        n: usize,
+        o: *const i32,
+        m: usize,
+        rounds: u32,
+        out: *mut u8,
+        size: usize,
+    ) -> u64;
+    fn calls_seconds_of_utc(
+        s: *const i64,
+        n: usize,
+        o: *const i32,
+        m: usize,
+        rounds: u32,
+        out: *mut u8,
+        size: usize,
+    ) -> u64;
+    fn calls_shown_at_offset(
+        s: *const i64,
+        n: usize,
+        o: *const i32,
+        m: usize,
+        rounds: u32,
+        out: *mut u8,
+        size: usize,
+    ) -> u64;
+    fn calls_sums_of_utc(
+        s: *const i64,
+        n: usize,
+        o: *const i32,
+        m: usize,
+        rounds: u32,
+        out: *mut u8,
+        size: usize,
+    ) -> u64;
+    fn calls_sums_of_stamp(
+        s: *const i64,
+        n: usize,
+        o: *const i32,
+        m: usize,
+        rounds: u32,
+        out: *mut u8,
+        size: usize,
+    ) -> u64;
+    fn calls_texts_of_utc(
+        s: *const i64,
+        n: usize,
+        o: *const i32,
+        m: usize,
+        rounds: u32,
+        out: *mut u8,
+        size: usize,
+    ) -> u64;
+    fn calls_compared(
+        s: *const i64,
+        n: usize,
+        o: *const i32,
+        m: usize,
+        rounds: u32,
+        out: *mut u8,
+        size: usize,
+    ) -> u64;
+    fn calls_sorted(
+        s: *const i64,
+        n: usize,
+        o: *const i32,
+        m: usize,
+        rounds: u32,
+        out: *mut u8,
+        size: usize,
+    ) -> u64;
+    fn calls_written(
+        s: *const i64,
+        n: usize,
+        o: *const i32,
+        m: usize,
+        rounds: u32,
+        out: *mut u8,
+        size: usize,
+    ) -> u64;
     fn calls_read(texts: *const &[u8], n: usize, rounds: u32) -> u64;
-    fn calls_run_of_utc(s: *const i64, n: usize, o: *const i32, m: usize, rounds: u32, out: *mut u8, size: usize) -> u64;
-    fn calls_run_of_stamp(s: *const i64, n: usize, o: *const i32, m: usize, rounds: u32, out: *mut u8, size: usize) -> u64;
+    fn calls_run_of_utc(
+        s: *const i64,
+        n: usize,
+        o: *const i32,
+        m: usize,
+        rounds: u32,
+        out: *mut u8,
+        size: usize,
+    ) -> u64;
+    fn calls_run_of_stamp(
+        s: *const i64,
+        n: usize,
+        o: *const i32,
+        m: usize,
+        rounds: u32,
+        out: *mut u8,
+        size: usize,
+    ) -> u64;
     fn clock_gettime(clock: c_int, time: *mut [i64; 2]) -> c_int;
 }
 
 /// The parts of a date-time in one number.
 pub fn word(year: i32, high: u16, low: u8, hour: u8, minute: u8, second: u8) -> u64 {
-    let date = u64::from(year < 0) << 20 | u64::from(year.unsigned_abs()) << 24 | u64::from(high) << 5 | u64::from(low);
+    let date = u64::from(year < 0) << 20
+        | u64::from(year.unsigned_abs()) << 24
+        | u64::from(high) << 5
+        | u64::from(low);
     let clock = u64::from(hour) << 12 | u64::from(minute) << 6 | u64::from(second);
     date.wrapping_mul(1 << 18).wrapping_add(clock)
 }
@@ -159,7 +259,15 @@ impl Loop {
         let (s, o) = (&input.seconds, &input.offsets);
         match self {
             Loop::Linked(f) => unsafe {
-                f(s.as_ptr(), s.len(), o.as_ptr(), o.len(), rounds, out.as_mut_ptr(), out.len())
+                f(
+                    s.as_ptr(),
+                    s.len(),
+                    o.as_ptr(),
+                    o.len(),
+                    rounds,
+                    out.as_mut_ptr(),
+                    out.len(),
+                )
             },
             Loop::Rust(f) => f(s, o, rounds, out),
             Loop::LinkedReader(f) => unsafe { f(views.as_ptr(), views.len(), rounds) },
@@ -211,15 +319,33 @@ fn views(input: &Input) -> Vec<&[u8]> {
 }
 
 fn part(input: &Input, from: usize, count: usize) -> Input {
-    let seconds = input.seconds.iter().skip(from).take(count).copied().collect();
-    let offsets = input.offsets.iter().skip(from).take(count).copied().collect();
+    let seconds = input
+        .seconds
+        .iter()
+        .skip(from)
+        .take(count)
+        .copied()
+        .collect();
+    let offsets = input
+        .offsets
+        .iter()
+        .skip(from)
+        .take(count)
+        .copied()
+        .collect();
     let texts = input.texts.iter().skip(from).take(count).cloned().collect();
-    Input { seconds, offsets, texts }
+    Input {
+        seconds,
+        offsets,
+        texts,
+    }
 }
 
 // Ends the program where two contenders have another answer to an item, or to all.
 fn compare_answers(row: &Row) {
-    let parts = (0..COMPARED).map(|from| part(&row.input, from, row.group)).filter(|_| row.group < SORTED);
+    let parts = (0..COMPARED)
+        .map(|from| part(&row.input, from, row.group))
+        .filter(|_| row.group < SORTED);
     for input in parts.chain([row.input.clone()]) {
         for rounds in [1, 2] {
             let mut expected: Option<(u64, Vec<u8>)> = None;
@@ -228,10 +354,24 @@ fn compare_answers(row: &Row) {
                 let answer = contender.code.run(&input, &views(&input), rounds, &mut out);
                 let (first, bytes) = expected.get_or_insert_with(|| (answer, out.clone()));
                 if *first != answer || *bytes != out {
-                    println!("{}: {} answers {answer} {:?}", row.name, contender.name, String::from_utf8_lossy(&out));
-                    println!("and {} {first} {:?}", row.contenders[0].name, String::from_utf8_lossy(bytes));
+                    println!(
+                        "{}: {} answers {answer} {:?}",
+                        row.name,
+                        contender.name,
+                        String::from_utf8_lossy(&out)
+                    );
+                    println!(
+                        "and {} {first} {:?}",
+                        row.contenders[0].name,
+                        String::from_utf8_lossy(bytes)
+                    );
                     let count = row.group.min(input.seconds.len());
-                    println!("to {:?} {:?} {:?}", &input.seconds[..count], &input.offsets[..count], views(&input).first());
+                    println!(
+                        "to {:?} {:?} {:?}",
+                        &input.seconds[..count],
+                        &input.offsets[..count],
+                        views(&input).first()
+                    );
                     std::process::exit(1);
                 }
             }
@@ -256,7 +396,12 @@ fn measure(kind: &str, row: &Row, rounds: usize) {
         std::hint::black_box(code.run(&row.input, &views, inner, out));
         processor_time() - from
     };
-    while row.contenders.iter().any(|contender| time(&contender.code, inner, &mut out) < LEAST) && inner < 1 << 12 {
+    while row
+        .contenders
+        .iter()
+        .any(|contender| time(&contender.code, inner, &mut out) < LEAST)
+        && inner < 1 << 12
+    {
         inner *= 2;
     }
     // What a loop builds before its rounds is taken away: the time of half as many rounds.
@@ -270,18 +415,39 @@ fn measure(kind: &str, row: &Row, rounds: usize) {
         }
     }
     for (contender, own) in row.contenders.iter().zip(&times) {
-        let ratios = own.iter().zip(&times[0]).map(|(own, bare)| own / bare).collect();
+        let ratios = own
+            .iter()
+            .zip(&times[0])
+            .map(|(own, bare)| own / bare)
+            .collect();
         let ((low, middle, high), (_, ratio, _)) = (quartiles(own.clone()), quartiles(ratios));
-        println!("{kind}|{}|{}|{middle:.2}|{low:.2}|{high:.2}|{ratio:.3}", row.name, contender.name);
+        println!(
+            "{kind}|{}|{}|{middle:.2}|{low:.2}|{high:.2}|{ratio:.3}",
+            row.name, contender.name
+        );
     }
 }
 
-fn row(name: &'static str, input: &Input, group: usize, contenders: Vec<(&'static str, Loop)>) -> Row {
+fn row(
+    name: &'static str,
+    input: &Input,
+    group: usize,
+    contenders: Vec<(&'static str, Loop)>,
+) -> Row {
     let contenders = contenders
         .into_iter()
-        .map(|(name, code)| Contender { name: name.trim_end_matches('*'), code, same: !name.ends_with('*') })
+        .map(|(name, code)| Contender {
+            name: name.trim_end_matches('*'),
+            code,
+            same: !name.ends_with('*'),
+        })
         .collect();
-    Row { name, contenders, input: input.clone(), group }
+    Row {
+        name,
+        contenders,
+        input: input.clone(),
+        group,
+    }
 }
 
 macro_rules! contenders {
@@ -321,7 +487,10 @@ fn rows(source: &mut Source, first: i64, last: i64) -> Vec<Row> {
     let plain = with(&seconds, &mixed);
     let long_seconds: Vec<i64> = (0..SORTED).map(|_| source.between(first, last)).collect();
     let long_offsets: Vec<i32> = (0..SORTED).map(|_| quarters(source)).collect();
-    let of_years: Vec<i64> = seconds.iter().map(|second| (*second).max(-62_000_000_000)).collect();
+    let of_years: Vec<i64> = seconds
+        .iter()
+        .map(|second| (*second).max(-62_000_000_000))
+        .collect();
     let fractions = with(&of_years, &mixed);
     let texts = of_years
         .iter()
@@ -332,33 +501,96 @@ fn rows(source: &mut Source, first: i64, last: i64) -> Vec<Row> {
             out[..end].to_vec()
         })
         .collect();
-    let spelled = Input { texts, ..Input::default() };
+    let spelled = Input {
+        texts,
+        ..Input::default()
+    };
     vec![
-        row("parts", &plain, 1, contenders!(bare::parts;
-            "UtcDateTime": Loop::Linked(calls_parts_of_utc), "Timestamp": Loop::Linked(calls_parts_of_stamp); parts, Rust, "time", "chrono")),
-        row("offset", &plain, 1, contenders!(bare::shown_at_offset;
-            "here": Loop::Linked(calls_shown_at_offset); shown_at_offset, Rust, "time", "chrono")),
-        row("sum", &plain, 1, contenders!(bare::sums;
-            "UtcDateTime": Loop::Linked(calls_sums_of_utc), "Timestamp": Loop::Linked(calls_sums_of_stamp); sums, Rust, "time", "chrono")),
-        row("second", &plain, 1, contenders!(bare::seconds_again;
-            "here": Loop::Linked(calls_seconds_of_utc); seconds_again, Rust, "time", "chrono")),
-        row("text", &plain, 1, contenders!(bare::texts;
-            "here": Loop::Linked(calls_texts_of_utc); texts, Rust, "time*", "chrono*")),
-        row("compare far", &plain, 2, contenders!(bare::compared;
-            "here": Loop::Linked(calls_compared); compared, Rust, "time", "chrono")),
-        row("compare near, one offset", &with(&near, &one), 2, contenders!(bare::compared;
-            "here": Loop::Linked(calls_compared); compared, Rust, "time", "chrono")),
-        row("compare near, two offsets", &with(&near, &mixed), 2, contenders!(bare::compared;
-            "here": Loop::Linked(calls_compared); compared, Rust, "time", "chrono")),
-        row("sort", &with(&long_seconds, &long_offsets), SORTED, contenders!(bare::sorted;
-            "here": Loop::Linked(calls_sorted); sorted, Rust, "time", "chrono")),
-        row("RFC 3339 written", &fractions, 1, contenders!(bare::written;
-            "here": Loop::Linked(calls_written); written, Rust, "time", "chrono*")),
-        row("RFC 3339 read", &spelled, 1, contenders!(bare::read;
-            "here": Loop::LinkedReader(calls_read); read, RustReader, "time", "chrono")),
-        row("run", &plain, CALLS, contenders!(bare::run;
+        row(
+            "parts",
+            &plain,
+            1,
+            contenders!(bare::parts;
+            "UtcDateTime": Loop::Linked(calls_parts_of_utc), "Timestamp": Loop::Linked(calls_parts_of_stamp); parts, Rust, "time", "chrono"),
+        ),
+        row(
+            "offset",
+            &plain,
+            1,
+            contenders!(bare::shown_at_offset;
+            "here": Loop::Linked(calls_shown_at_offset); shown_at_offset, Rust, "time", "chrono"),
+        ),
+        row(
+            "sum",
+            &plain,
+            1,
+            contenders!(bare::sums;
+            "UtcDateTime": Loop::Linked(calls_sums_of_utc), "Timestamp": Loop::Linked(calls_sums_of_stamp); sums, Rust, "time", "chrono"),
+        ),
+        row(
+            "second",
+            &plain,
+            1,
+            contenders!(bare::seconds_again;
+            "here": Loop::Linked(calls_seconds_of_utc); seconds_again, Rust, "time", "chrono"),
+        ),
+        row(
+            "text",
+            &plain,
+            1,
+            contenders!(bare::texts;
+            "here": Loop::Linked(calls_texts_of_utc); texts, Rust, "time*", "chrono*"),
+        ),
+        row(
+            "compare far",
+            &plain,
+            2,
+            contenders!(bare::compared;
+            "here": Loop::Linked(calls_compared); compared, Rust, "time", "chrono"),
+        ),
+        row(
+            "compare near, one offset",
+            &with(&near, &one),
+            2,
+            contenders!(bare::compared;
+            "here": Loop::Linked(calls_compared); compared, Rust, "time", "chrono"),
+        ),
+        row(
+            "compare near, two offsets",
+            &with(&near, &mixed),
+            2,
+            contenders!(bare::compared;
+            "here": Loop::Linked(calls_compared); compared, Rust, "time", "chrono"),
+        ),
+        row(
+            "sort",
+            &with(&long_seconds, &long_offsets),
+            SORTED,
+            contenders!(bare::sorted;
+            "here": Loop::Linked(calls_sorted); sorted, Rust, "time", "chrono"),
+        ),
+        row(
+            "RFC 3339 written",
+            &fractions,
+            1,
+            contenders!(bare::written;
+            "here": Loop::Linked(calls_written); written, Rust, "time", "chrono*"),
+        ),
+        row(
+            "RFC 3339 read",
+            &spelled,
+            1,
+            contenders!(bare::read;
+            "here": Loop::LinkedReader(calls_read); read, RustReader, "time", "chrono"),
+        ),
+        row(
+            "run",
+            &plain,
+            CALLS,
+            contenders!(bare::run;
             "UtcDateTime": Loop::Linked(calls_run_of_utc), "Timestamp": Loop::Linked(calls_run_of_stamp);
-            run, Rust, "time")),
+            run, Rust, "time"),
+        ),
     ]
 }
 
@@ -369,7 +601,10 @@ fn run(rounds: usize, only: &str) {
         ("2017 to 2021", 1_483_228_800, 1_640_995_199),
         ("-9999 to 9999", -377_700_000_000, 253_390_000_000),
     ] {
-        for row in rows(&mut source, first, last).iter().filter(|row| row.name.contains(only)) {
+        for row in rows(&mut source, first, last)
+            .iter()
+            .filter(|row| row.name.contains(only))
+        {
             compare_answers(row);
             measure(kind, row, rounds);
         }
@@ -378,9 +613,13 @@ fn run(rounds: usize, only: &str) {
 
 fn main() {
     let words: Vec<String> = std::env::args().skip(1).collect();
-    let rounds = words.first().map_or(21, |word| word.parse().expect("a number of rounds"));
+    let rounds = words
+        .first()
+        .map_or(21, |word| word.parse().expect("a number of rounds"));
     let only = words.get(1).cloned().unwrap_or_default();
     // The tables of the loops stand on the stack.
-    let runner = std::thread::Builder::new().stack_size(1 << 28).spawn(move || run(rounds, &only));
+    let runner = std::thread::Builder::new()
+        .stack_size(1 << 28)
+        .spawn(move || run(rounds, &only));
     runner.expect("a thread").join().expect("all answers");
 }

@@ -1,16 +1,30 @@
 // The same by the crate chrono.
 use crate::{delta, nanosecond_after, told, word};
-use chrono::{DateTime, Datelike, Duration, FixedOffset, NaiveDateTime, Offset, TimeZone, Timelike, Utc};
+use chrono::{
+    DateTime, Datelike, Duration, FixedOffset, NaiveDateTime, Offset, TimeZone, Timelike, Utc,
+};
 use std::fmt::Write as _;
 
 fn at_offset(second: i64, nanosecond: u32, offset: i32) -> DateTime<FixedOffset> {
     let offset = FixedOffset::east_opt(offset).unwrap();
-    Utc.timestamp_opt(second, nanosecond).unwrap().with_timezone(&offset)
+    Utc.timestamp_opt(second, nanosecond)
+        .unwrap()
+        .with_timezone(&offset)
 }
 
 fn held(seconds: &[i64], offsets: &[i32], with_fraction: bool) -> Vec<DateTime<FixedOffset>> {
-    let fraction = |second| if with_fraction { nanosecond_after(second) } else { 0 };
-    seconds.iter().zip(offsets).map(|(second, offset)| at_offset(*second, fraction(*second), *offset)).collect()
+    let fraction = |second| {
+        if with_fraction {
+            nanosecond_after(second)
+        } else {
+            0
+        }
+    };
+    seconds
+        .iter()
+        .zip(offsets)
+        .map(|(second, offset)| at_offset(*second, fraction(*second), *offset))
+        .collect()
 }
 
 #[inline(never)]
@@ -20,7 +34,8 @@ pub fn parts(seconds: &[i64], _offsets: &[i32], rounds: u32, _out: &mut [u8]) ->
         for second in seconds {
             if let Some(at) = NaiveDateTime::from_timestamp_opt(*second, 0) {
                 let (month, day) = (at.month() as u16, at.day() as u8);
-                let (hour, minute, second) = (at.hour() as u8, at.minute() as u8, at.second() as u8);
+                let (hour, minute, second) =
+                    (at.hour() as u8, at.minute() as u8, at.second() as u8);
                 sum = sum.wrapping_add(word(at.year(), month, day, hour, minute, second));
             }
         }
@@ -46,13 +61,25 @@ pub fn shown_at_offset(seconds: &[i64], offsets: &[i32], rounds: u32, _out: &mut
     let held: Vec<(DateTime<Utc>, FixedOffset)> = seconds
         .iter()
         .zip(offsets)
-        .map(|(second, offset)| (Utc.timestamp_opt(*second, 0).unwrap(), FixedOffset::east_opt(*offset).unwrap()))
+        .map(|(second, offset)| {
+            (
+                Utc.timestamp_opt(*second, 0).unwrap(),
+                FixedOffset::east_opt(*offset).unwrap(),
+            )
+        })
         .collect();
     let mut sum = 0_u64;
     for _ in 0..rounds {
         for (at, offset) in &held {
             let shown = at.with_timezone(offset);
-            sum = sum.wrapping_add(word(shown.year(), shown.ordinal() as u16, 0, shown.hour() as u8, 0, 0));
+            sum = sum.wrapping_add(word(
+                shown.year(),
+                shown.ordinal() as u16,
+                0,
+                shown.hour() as u8,
+                0,
+                0,
+            ));
         }
     }
     sum
@@ -60,8 +87,14 @@ pub fn shown_at_offset(seconds: &[i64], offsets: &[i32], rounds: u32, _out: &mut
 
 #[inline(never)]
 pub fn sums(seconds: &[i64], offsets: &[i32], rounds: u32, _out: &mut [u8]) -> u64 {
-    let mut held: Vec<DateTime<Utc>> = seconds.iter().map(|second| Utc.timestamp_opt(*second, 0).unwrap()).collect();
-    let durations: Vec<Duration> = offsets.iter().map(|offset| Duration::seconds(delta(*offset))).collect();
+    let mut held: Vec<DateTime<Utc>> = seconds
+        .iter()
+        .map(|second| Utc.timestamp_opt(*second, 0).unwrap())
+        .collect();
+    let durations: Vec<Duration> = offsets
+        .iter()
+        .map(|offset| Duration::seconds(delta(*offset)))
+        .collect();
     for round in 0..rounds {
         for (at, duration) in held.iter_mut().zip(&durations) {
             let moved = if round % 2 == 0 {
@@ -74,7 +107,8 @@ pub fn sums(seconds: &[i64], offsets: &[i32], rounds: u32, _out: &mut [u8]) -> u
             }
         }
     }
-    held.iter().fold(0, |sum, at| sum.wrapping_add(at.timestamp().unsigned_abs()))
+    held.iter()
+        .fold(0, |sum, at| sum.wrapping_add(at.timestamp().unsigned_abs()))
 }
 
 #[inline(never)]

@@ -11,12 +11,24 @@ type Reply = crate::Reply<(Date, Time), (Date, Time, UtcOffset)>;
 fn at_offset(second: i64, nanosecond: u32, offset: i32) -> OffsetDateTime {
     let nanoseconds = i128::from(second) * 1_000_000_000 + i128::from(nanosecond);
     let offset = UtcOffset::from_whole_seconds(offset).unwrap();
-    OffsetDateTime::from_unix_timestamp_nanos(nanoseconds).unwrap().to_offset(offset)
+    OffsetDateTime::from_unix_timestamp_nanos(nanoseconds)
+        .unwrap()
+        .to_offset(offset)
 }
 
 fn held(seconds: &[i64], offsets: &[i32], with_fraction: bool) -> Vec<OffsetDateTime> {
-    let fraction = |second| if with_fraction { nanosecond_after(second) } else { 0 };
-    seconds.iter().zip(offsets).map(|(second, offset)| at_offset(*second, fraction(*second), *offset)).collect()
+    let fraction = |second| {
+        if with_fraction {
+            nanosecond_after(second)
+        } else {
+            0
+        }
+    };
+    seconds
+        .iter()
+        .zip(offsets)
+        .map(|(second, offset)| at_offset(*second, fraction(*second), *offset))
+        .collect()
 }
 
 #[inline(never)]
@@ -27,7 +39,14 @@ pub fn parts(seconds: &[i64], _offsets: &[i32], rounds: u32, _out: &mut [u8]) ->
             if let Ok(at) = OffsetDateTime::from_unix_timestamp(*second) {
                 let (year, month, day) = at.to_calendar_date();
                 let (hour, minute, second) = at.to_hms();
-                sum = sum.wrapping_add(word(year, u8::from(month).into(), day, hour, minute, second));
+                sum = sum.wrapping_add(word(
+                    year,
+                    u8::from(month).into(),
+                    day,
+                    hour,
+                    minute,
+                    second,
+                ));
             }
         }
     }
@@ -52,7 +71,12 @@ pub fn shown_at_offset(seconds: &[i64], offsets: &[i32], rounds: u32, _out: &mut
     let held: Vec<(OffsetDateTime, UtcOffset)> = seconds
         .iter()
         .zip(offsets)
-        .map(|(second, offset)| (at_offset(*second, 0, 0), UtcOffset::from_whole_seconds(*offset).unwrap()))
+        .map(|(second, offset)| {
+            (
+                at_offset(*second, 0, 0),
+                UtcOffset::from_whole_seconds(*offset).unwrap(),
+            )
+        })
         .collect();
     let mut sum = 0_u64;
     for _ in 0..rounds {
@@ -66,17 +90,29 @@ pub fn shown_at_offset(seconds: &[i64], offsets: &[i32], rounds: u32, _out: &mut
 
 #[inline(never)]
 pub fn sums(seconds: &[i64], offsets: &[i32], rounds: u32, _out: &mut [u8]) -> u64 {
-    let mut held: Vec<OffsetDateTime> = seconds.iter().map(|second| at_offset(*second, 0, 0)).collect();
-    let durations: Vec<Duration> = offsets.iter().map(|offset| Duration::seconds(delta(*offset))).collect();
+    let mut held: Vec<OffsetDateTime> = seconds
+        .iter()
+        .map(|second| at_offset(*second, 0, 0))
+        .collect();
+    let durations: Vec<Duration> = offsets
+        .iter()
+        .map(|offset| Duration::seconds(delta(*offset)))
+        .collect();
     for round in 0..rounds {
         for (at, duration) in held.iter_mut().zip(&durations) {
-            let moved = if round % 2 == 0 { at.checked_add(*duration) } else { at.checked_sub(*duration) };
+            let moved = if round % 2 == 0 {
+                at.checked_add(*duration)
+            } else {
+                at.checked_sub(*duration)
+            };
             if let Some(moved) = moved {
                 *at = moved;
             }
         }
     }
-    held.iter().fold(0, |sum, at| sum.wrapping_add(at.unix_timestamp().unsigned_abs()))
+    held.iter().fold(0, |sum, at| {
+        sum.wrapping_add(at.unix_timestamp().unsigned_abs())
+    })
 }
 
 #[inline(never)]
@@ -140,13 +176,20 @@ pub fn read(texts: &[&[u8]], rounds: u32) -> u64 {
     let mut held = vec![OffsetDateTime::UNIX_EPOCH; texts.len()];
     for _ in 0..rounds {
         for (place, text) in held.iter_mut().zip(texts) {
-            if let Ok(Ok(at)) = std::str::from_utf8(text).map(|text| OffsetDateTime::parse(text, &Rfc3339)) {
+            if let Ok(Ok(at)) =
+                std::str::from_utf8(text).map(|text| OffsetDateTime::parse(text, &Rfc3339))
+            {
                 *place = at;
             }
         }
     }
-    held.iter()
-        .fold(0, |sum, at| sum.wrapping_add(told(at.unix_timestamp(), at.nanosecond(), at.offset().whole_seconds())))
+    held.iter().fold(0, |sum, at| {
+        sum.wrapping_add(told(
+            at.unix_timestamp(),
+            at.nanosecond(),
+            at.offset().whole_seconds(),
+        ))
+    })
 }
 
 fn refused_part(refusal: ComponentRange) -> Reply {

@@ -216,7 +216,8 @@ fn duration(input: &Input) -> Duration {
 /// Lengths of each unit, their products, quotients and sums, and std's lengths beside them.
 fn put_lengths(duration: Duration, input: &Input, out: &mut Answers) {
     let count = i64::from(input.offset_seconds);
-    let std_duration = std::time::Duration::new(input.seconds.unsigned_abs(), input.small % 1_000_000_000);
+    let std_duration =
+        std::time::Duration::new(input.seconds.unsigned_abs(), input.small % 1_000_000_000);
     // 0.3.9 divides seconds and nanoseconds apart, and loses a nanosecond where both leave a rest.
     let whole = Duration::seconds(input.seconds);
     put!(
@@ -273,9 +274,17 @@ fn put_names(input: &Input, out: &mut Answers) {
     put!(out, Month::try_from(input.day));
     put_display(&month(input), out);
     put_display(&weekday, out);
-    let names = [month(input).to_string(), weekday.to_string(), month(input).to_string().to_lowercase()];
+    let names = [
+        month(input).to_string(),
+        weekday.to_string(),
+        month(input).to_string().to_lowercase(),
+    ];
     for name in names {
-        put!(out, name.parse::<Month>().ok(), name.parse::<Weekday>().ok());
+        put!(
+            out,
+            name.parse::<Month>().ok(),
+            name.parse::<Weekday>().ok()
+        );
     }
 }
 
@@ -304,7 +313,10 @@ pub fn answers(input: &Input, out: &mut Answers) {
     );
     // 0.3.9 has no offset of 24 hours and more.
     if input.offset.0.unsigned_abs() < 24 {
-        put!(out, UtcOffset::from_hms(input.offset.0, input.offset.1, input.offset.2));
+        put!(
+            out,
+            UtcOffset::from_hms(input.offset.0, input.offset.1, input.offset.2)
+        );
     }
     let duration = duration(input);
     put!(
@@ -338,14 +350,25 @@ pub fn answers(input: &Input, out: &mut Answers) {
         Duration::seconds(input.second) * (f64::from(input.nanoseconds) / 1e9),
         duration / f64::from(input.offset_seconds | 1),
         duration < Duration::seconds(input.seconds),
-        std::time::Duration::try_from(duration).map(|duration| duration.as_nanos() as i128).ok(),
-        duration == std::time::Duration::new(input.seconds.unsigned_abs(), input.nanoseconds.unsigned_abs()),
+        std::time::Duration::try_from(duration)
+            .map(|duration| duration.as_nanos() as i128)
+            .ok(),
+        duration
+            == std::time::Duration::new(
+                input.seconds.unsigned_abs(),
+                input.nanoseconds.unsigned_abs()
+            ),
     );
     put_lengths(duration, input, out);
     put_names(input, out);
     let (Ok(date), Ok(time)) = (
         Date::from_julian_day(input.julian_day),
-        Time::from_hms_nano(hour % 24, minute % 60, second % 60, input.nanosecond % 1_000_000_000),
+        Time::from_hms_nano(
+            hour % 24,
+            minute % 60,
+            second % 60,
+            input.nanosecond % 1_000_000_000,
+        ),
     ) else {
         return;
     };
@@ -360,20 +383,49 @@ pub fn answers(input: &Input, out: &mut Answers) {
         date.with_hms_micro(hour, minute, second, input.small),
         date.with_hms_nano(hour, minute, second, input.nanosecond),
     );
-    let std_duration = std::time::Duration::new(input.seconds.unsigned_abs() % 1_000_000_000, input.small % 1_000_000_000);
+    let std_duration = std::time::Duration::new(
+        input.seconds.unsigned_abs() % 1_000_000_000,
+        input.small % 1_000_000_000,
+    );
     put!(out, time + std_duration, time - std_duration);
     // Away from the ends of the range, where 0.3.9 does not hold all that clocks at an offset show.
     let other = Date::from_ordinal_date(input.year.clamp(-999_000, 999_000), 1).unwrap();
     let inner = date.year().abs() < 999_900;
-    put!(out, date - other, other - date, date < other, date == other, other + std_duration, other - std_duration);
+    put!(
+        out,
+        date - other,
+        other - date,
+        date < other,
+        date == other,
+        other + std_duration,
+        other - std_duration
+    );
     put_sums!(out, date, duration);
     put_date_replacements!(out, date, input);
     put_display(&date, out);
     put_time_reads!(out, time);
-    put!(out, time.as_hms(), time.as_hms_milli(), time.as_hms_micro(), time + duration, time - duration);
-    let second_time = Time::from_hms_nano(second % 24, hour % 60, minute % 60, input.small % 1_000_000_000).unwrap();
+    put!(
+        out,
+        time.as_hms(),
+        time.as_hms_milli(),
+        time.as_hms_micro(),
+        time + duration,
+        time - duration
+    );
+    let second_time = Time::from_hms_nano(
+        second % 24,
+        hour % 60,
+        minute % 60,
+        input.small % 1_000_000_000,
+    )
+    .unwrap();
     // 0.3.9 gives seconds and nanoseconds of two signs.
-    put!(out, (time - second_time).whole_nanoseconds(), (second_time - time).whole_nanoseconds(), time < second_time);
+    put!(
+        out,
+        (time - second_time).whole_nanoseconds(),
+        (second_time - time).whole_nanoseconds(),
+        time < second_time
+    );
     put_time_replacements!(out, time, input);
     put_display(&time, out);
 
@@ -383,21 +435,57 @@ pub fn answers(input: &Input, out: &mut Answers) {
     put_sums!(out, plain, duration);
     put_date_replacements!(out, plain, input);
     put_time_replacements!(out, plain, input);
-    put!(out, plain.replace_time(Time::MIDNIGHT), plain.replace_date(Date::MAX));
+    put!(
+        out,
+        plain.replace_time(Time::MIDNIGHT),
+        plain.replace_date(Date::MAX)
+    );
     put_display(&plain, out);
     let midnight = other.midnight();
-    put!(out, plain - midnight, midnight - plain, plain < midnight, plain == midnight);
-    put!(out, midnight + std_duration, midnight - std_duration, plain.assume_utc());
+    put!(
+        out,
+        plain - midnight,
+        midnight - plain,
+        plain < midnight,
+        plain == midnight
+    );
+    put!(
+        out,
+        midnight + std_duration,
+        midnight - std_duration,
+        plain.assume_utc()
+    );
     if inner {
         let offset = UtcOffset::from_whole_seconds(input.offset_seconds).unwrap();
         let shown = plain.assume_offset(offset);
-        put!(out, shown, shown.unix_timestamp_nanos(), shown - midnight.assume_utc(), shown < midnight.assume_utc());
-        put!(out, shown + std_duration, shown - std_duration, shown.replace_date_time(midnight), shown.replace_date(other));
-        put!(out, shown == plain.assume_utc(), shown.to_offset(UtcOffset::UTC), shown.date(), shown.time(), shown.offset());
+        put!(
+            out,
+            shown,
+            shown.unix_timestamp_nanos(),
+            shown - midnight.assume_utc(),
+            shown < midnight.assume_utc()
+        );
+        put!(
+            out,
+            shown + std_duration,
+            shown - std_duration,
+            shown.replace_date_time(midnight),
+            shown.replace_date(other)
+        );
+        put!(
+            out,
+            shown == plain.assume_utc(),
+            shown.to_offset(UtcOffset::UTC),
+            shown.date(),
+            shown.time(),
+            shown.offset()
+        );
     }
 
     // 0.3.9 keeps the date-time in UTC, so what clocks at an offset show at the ends of the range is not compared.
-    let Ok(at) = OffsetDateTime::from_unix_timestamp(input.second) else { return };
+    let Ok(at) = OffsetDateTime::from_unix_timestamp(input.second) else {
+        return;
+    };
     let at = at + Duration::nanoseconds(i64::from(input.nanosecond));
     let offset = UtcOffset::from_whole_seconds(input.offset_seconds).unwrap();
     let shown = at.to_offset(offset);
@@ -425,13 +513,26 @@ pub fn answers(input: &Input, out: &mut Answers) {
     // A time of the system lies as far back as the clocks of the machine count.
     let of_system = std::time::SystemTime::from(shown);
     let earlier = at - Duration::seconds(input.seconds % 1_000_000_000);
-    put!(out, OffsetDateTime::from(of_system), shown == of_system, of_system < earlier, earlier < of_system);
-    put!(out, shown - of_system, of_system - earlier, earlier - of_system);
+    put!(
+        out,
+        OffsetDateTime::from(of_system),
+        shown == of_system,
+        of_system < earlier,
+        earlier < of_system
+    );
+    put!(
+        out,
+        shown - of_system,
+        of_system - earlier,
+        earlier - of_system
+    );
     put_date_reads!(out, shown);
     put_time_reads!(out, shown);
     put_date_replacements!(out, shown, input);
     put_time_replacements!(out, shown, input);
-    if input.seconds.unsigned_abs() < 100_000_000_000 || input.seconds.unsigned_abs() > 100_000_000_000_000 {
+    if input.seconds.unsigned_abs() < 100_000_000_000
+        || input.seconds.unsigned_abs() > 100_000_000_000_000
+    {
         put_sums!(out, shown, duration);
     }
     put!(
@@ -460,18 +561,49 @@ pub struct Data {
 
 impl Data {
     pub fn new(inputs: &[Input]) -> Data {
-        let dates: Vec<Date> = inputs.iter().map(|input| Date::from_julian_day(input.julian_day).unwrap()).collect();
+        let dates: Vec<Date> = inputs
+            .iter()
+            .map(|input| Date::from_julian_day(input.julian_day).unwrap())
+            .collect();
         let times: Vec<Time> = inputs
             .iter()
-            .map(|input| Time::from_hms_nano(input.clock.0, input.clock.1, input.clock.2, input.nanosecond).unwrap())
+            .map(|input| {
+                Time::from_hms_nano(
+                    input.clock.0,
+                    input.clock.1,
+                    input.clock.2,
+                    input.nanosecond,
+                )
+                .unwrap()
+            })
             .collect();
-        let plain: Vec<PrimitiveDateTime> =
-            dates.iter().zip(&times).map(|(date, time)| PrimitiveDateTime::new(*date, *time)).collect();
-        let offsets: Vec<UtcOffset> =
-            inputs.iter().map(|input| UtcOffset::from_whole_seconds(input.offset_seconds).unwrap()).collect();
-        let shown = plain.iter().zip(&offsets).map(|(plain, offset)| plain.assume_offset(*offset)).collect();
-        let durations = inputs.iter().map(|input| Duration::new(input.seconds % 100_000_000, input.nanoseconds)).collect();
-        Data { inputs: inputs.to_vec(), dates, times, plain, shown, offsets, durations }
+        let plain: Vec<PrimitiveDateTime> = dates
+            .iter()
+            .zip(&times)
+            .map(|(date, time)| PrimitiveDateTime::new(*date, *time))
+            .collect();
+        let offsets: Vec<UtcOffset> = inputs
+            .iter()
+            .map(|input| UtcOffset::from_whole_seconds(input.offset_seconds).unwrap())
+            .collect();
+        let shown = plain
+            .iter()
+            .zip(&offsets)
+            .map(|(plain, offset)| plain.assume_offset(*offset))
+            .collect();
+        let durations = inputs
+            .iter()
+            .map(|input| Duration::new(input.seconds % 100_000_000, input.nanoseconds))
+            .collect();
+        Data {
+            inputs: inputs.to_vec(),
+            dates,
+            times,
+            plain,
+            shown,
+            offsets,
+            durations,
+        }
     }
 }
 

@@ -38,10 +38,20 @@ fn compare(rounds: u64, seed: u64) -> bool {
         }
         wrong += 1;
         if wrong <= SHOWN {
-            let place = ours.iter().zip(&theirs).position(|(one, other)| one != other);
+            let place = ours
+                .iter()
+                .zip(&theirs)
+                .position(|(one, other)| one != other);
             match place {
-                Some(at) => println!("{input:?}: answer {at}: {:?}, and beside it {:?}", ours[at], theirs[at]),
-                None => println!("{input:?}: {} answers, and beside it {}", ours.len(), theirs.len()),
+                Some(at) => println!(
+                    "{input:?}: answer {at}: {:?}, and beside it {:?}",
+                    ours[at], theirs[at]
+                ),
+                None => println!(
+                    "{input:?}: {} answers, and beside it {}",
+                    ours.len(),
+                    theirs.len()
+                ),
             }
         }
     }

@@ -7,7 +7,8 @@ int sqlite3_muxandu_init(sqlite3 *db, char **error, const void *api);
 int main(void) {
     sqlite3 *db;
     sqlite3_stmt *statement;
-    const char *text = "SELECT muxandu_unix('1996-12-19T16:39:57-08:00') || ' ' || year FROM muxandu_parts('1996-12-20T00:39:57Z')";
+    const char *text =
+        "SELECT muxandu_unix('1996-12-19T16:39:57-08:00') || ' ' || year FROM muxandu_parts('1996-12-20T00:39:57Z')";
     if (sqlite3_auto_extension((void (*)(void))sqlite3_muxandu_init) != SQLITE_OK) return 1;
     if (sqlite3_open(":memory:", &db) != SQLITE_OK) return 2;
     if (sqlite3_prepare_v2(db, text, -1, &statement, NULL) != SQLITE_OK) return 3;

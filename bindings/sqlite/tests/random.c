@@ -139,8 +139,9 @@ static int write_date_time(char *bytes) {
     char fraction[16] = "", offset[16] = "Z";
     if (one_of(2)) snprintf(fraction, sizeof fraction, ".%0*u", (int)one_of(9) + 1, (unsigned)one_of(1000));
     if (one_of(3)) snprintf(offset, sizeof offset, "%c%02u:%02u", "+-"[one_of(2)], below(24), below(60));
-    return snprintf(bytes, MOST_WRITTEN, "%04u-%02u-%02u%c%02u:%02u:%02u%s%s", one_of(4) ? 1900 + one_of(200) : below(10000),
-                    1 + below(12), 1 + below(31), "TTTt "[one_of(5)], below(24), below(60), below(60), fraction, offset);
+    return snprintf(bytes, MOST_WRITTEN, "%04u-%02u-%02u%c%02u:%02u:%02u%s%s",
+                    one_of(4) ? 1900 + one_of(200) : below(10000), 1 + below(12), 1 + below(31), "TTTt "[one_of(5)],
+                    below(24), below(60), below(60), fraction, offset);
 }
 
 /* Changes, drops or doubles a byte or two. */
@@ -157,8 +158,8 @@ static int spoil(char *bytes, int size) {
 }
 
 static void make_bytes(Argument *argument) {
-    static const char *const words[] = {"second", "Seconds", "MINUTES", "hour", "day", "days", "nanosecond", "microseconds",
-                                        "millisecond", "week"};
+    static const char *const words[] = {"second", "Seconds",    "MINUTES",      "hour",        "day",
+                                        "days",   "nanosecond", "microseconds", "millisecond", "week"};
     argument->size = some_size();
     argument->bytes = malloc((size_t)argument->size + 2 * MOST_WRITTEN);
     if (argument->bytes == NULL) end("no memory");
@@ -172,17 +173,14 @@ static void make_bytes(Argument *argument) {
     case 2:
         argument->size = snprintf(argument->bytes, MOST_WRITTEN, "%s", words[one_of(sizeof words / sizeof *words)]);
         break;
-    case 3:
-        argument->size = spoil(argument->bytes, write_date_time(argument->bytes));
-        break;
-    default:
-        argument->size = write_date_time(argument->bytes);
+    case 3: argument->size = spoil(argument->bytes, write_date_time(argument->bytes)); break;
+    default: argument->size = write_date_time(argument->bytes);
     }
 }
 
 static sqlite3_int64 some_number(void) {
-    static const sqlite3_int64 ends[] = {INT64_MIN, INT64_MAX, INT32_MIN, INT32_MAX, UINT32_MAX, -31619087596800, 31494784780799,
-                                         93599, -93599, 999999999, 0};
+    static const sqlite3_int64 ends[] = {INT64_MIN,      INT64_MAX, INT32_MIN, INT32_MAX, UINT32_MAX, -31619087596800,
+                                         31494784780799, 93599,     -93599,    999999999, 0};
     switch (one_of(4)) {
     case 0: return (sqlite3_int64)next();
     case 1: return (sqlite3_int64)((uint64_t)ends[one_of(sizeof ends / sizeof *ends)] + one_of(5) - 2);
@@ -203,9 +201,10 @@ static double some_real(void) {
 }
 
 static Argument some_argument(void) {
-    static const int types[] = {SQLITE_NULL, SQLITE_BLOB, SQLITE_FLOAT, SQLITE_INTEGER, SQLITE_INTEGER, SQLITE_TEXT, SQLITE_TEXT,
-                                SQLITE_TEXT, SQLITE_TEXT, SQLITE_TEXT};
-    Argument argument = {.type = types[one_of(sizeof types / sizeof *types)], .number = some_number(), .real = some_real()};
+    static const int types[] = {SQLITE_NULL, SQLITE_BLOB, SQLITE_FLOAT, SQLITE_INTEGER, SQLITE_INTEGER,
+                                SQLITE_TEXT, SQLITE_TEXT, SQLITE_TEXT,  SQLITE_TEXT,    SQLITE_TEXT};
+    Argument argument = {
+        .type = types[one_of(sizeof types / sizeof *types)], .number = some_number(), .real = some_real()};
     if (argument.type == SQLITE_NULL && one_of(4)) argument.type = SQLITE_TEXT;
     if (argument.type == SQLITE_TEXT || argument.type == SQLITE_BLOB) make_bytes(&argument);
     return argument;
@@ -216,8 +215,12 @@ static void bind(sqlite3_stmt *statement, int place, const Argument *argument) {
     switch (argument->type) {
     case SQLITE_INTEGER: status = sqlite3_bind_int64(statement, place, argument->number); break;
     case SQLITE_FLOAT: status = sqlite3_bind_double(statement, place, argument->real); break;
-    case SQLITE_TEXT: status = sqlite3_bind_text(statement, place, argument->bytes, argument->size, SQLITE_TRANSIENT); break;
-    case SQLITE_BLOB: status = sqlite3_bind_blob(statement, place, argument->bytes, argument->size, SQLITE_TRANSIENT); break;
+    case SQLITE_TEXT:
+        status = sqlite3_bind_text(statement, place, argument->bytes, argument->size, SQLITE_TRANSIENT);
+        break;
+    case SQLITE_BLOB:
+        status = sqlite3_bind_blob(statement, place, argument->bytes, argument->size, SQLITE_TRANSIENT);
+        break;
     default: status = sqlite3_bind_null(statement, place);
     }
     if (status != SQLITE_OK) end("an argument is not bound");
@@ -235,7 +238,8 @@ static void write_row(sqlite3_stmt *statement, Said *said) {
     for (int column = 0; column < sqlite3_column_count(statement); column++) {
         const char *text = (const char *)sqlite3_column_text(statement, column);
         if (text != NULL) said->is_null = 0;
-        at += (size_t)snprintf(said->text + at, sizeof said->text - at, "%d:%s|", sqlite3_column_type(statement, column), text ? text : "");
+        at += (size_t)snprintf(said->text + at, sizeof said->text - at, "%d:%s|",
+                               sqlite3_column_type(statement, column), text ? text : "");
         if (at >= sizeof said->text) end("a row that is too long");
     }
 }
@@ -293,7 +297,8 @@ static void make_call(int connection) {
     int has_null = 0;
     for (int at = 0; at < call->arguments; at++) {
         arguments[at] = some_argument();
-        has_null |= arguments[at].type == SQLITE_NULL || (arguments[at].type == SQLITE_FLOAT && isnan(arguments[at].real));
+        has_null |=
+            arguments[at].type == SQLITE_NULL || (arguments[at].type == SQLITE_FLOAT && isnan(arguments[at].real));
     }
     ask(call->plain[connection], arguments, call->arguments, -1, &plain);
     ask(call->or_null[connection], arguments, call->arguments, -1, &or_null);
@@ -301,7 +306,8 @@ static void make_call(int connection) {
     if (one_of(8) == 0) {
         ask(call->plain[connection], arguments, call->arguments, (int)one_of(6), &scarce);
         int is_same = scarce.status == plain.status && strcmp(scarce.text, plain.text) == 0;
-        count(is_same || scarce.status == SQLITE_NOMEM ? NULL : "another answer without memory", call->shown, scarce.text);
+        count(is_same || scarce.status == SQLITE_NOMEM ? NULL : "another answer without memory", call->shown,
+              scarce.text);
     }
     if (strcmp(call->name, "muxandu_unix") == 0) {
         ask(refused[connection], arguments, 1, -1, &or_null);
