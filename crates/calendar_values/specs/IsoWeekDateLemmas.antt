@@ -40,10 +40,10 @@ ShowsIsoWeekDate-day y week weekday first last bound =
     }
 
 -- the ISO week that a day shows is one of its ISO year
-iso_week_of-first : (n : ℤ) → 1 ≤ iso_week_of n
+pub iso_week_of-first : (n : ℤ) → 1 ≤ iso_week_of n
 iso_week_of-first n = let place = IsOrdinalDate-of (thursday_of n) in omega (arith, iso_week_of-closed n, place.first)
 
-iso_week_of-last : (n : ℤ) → iso_week_of n ≤ weeks_in_year (iso_year_of n)
+pub iso_week_of-last : (n : ℤ) → iso_week_of n ≤ weeks_in_year (iso_year_of n)
 iso_week_of-last n =
     let t = thursday_of n in
     let place = IsOrdinalDate-of t in

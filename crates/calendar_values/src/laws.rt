@@ -3,6 +3,8 @@
 ghost use Rattle.calendar_values.specs.Laws.{YearsFollow, YearIsUnique, CalendarDatesAreDays, OrdinalDatesAreDays, RangeIsWholeYears};
 ghost use Rattle.calendar_values.specs.Laws.{ReplacementsKeepTheRest, ClockReplacementsKeepTheRest, TruncationIsGreatestMultiple, OutcomesAreAnswers};
 ghost use Rattle.calendar_values.specs.Laws.{IsoWeekDatesAreDays, WeekdaysRepeat};
+ghost use Rattle.calendar_values.specs.OnlyCalendar.{IsOnlyCalendar};
+ghost use Rattle.calendar_values.specs.OnlyWeeks.{IsOnlyWeekday, IsOnlyIsoWeek};
 
 /// 1970 begins on day 0, and each year begins after the days of the year before.
 pub fn years_follow()
@@ -62,4 +64,21 @@ pub fn outcomes_are_answers()
 /// Whole weeks later it is the same day of the week.
 pub fn weekdays_repeat()
     ensures { WeekdaysRepeat }
+{}
+
+/// The calendar is the only one that begins at 1 January 1970 on day 0 and goes from each date to the next: any three
+/// functions of the day number that do so show the same dates.
+pub fn is_only_calendar()
+    ensures { IsOnlyCalendar }
+{}
+
+/// The weekday is the only one that is a Thursday on day 0 and the next weekday on each next day.
+pub fn is_only_weekday()
+    ensures { IsOnlyWeekday }
+{}
+
+/// The ISO year and week are the only ones with these steps. A Monday begins the next week of its year, or week 1 of the next year.
+/// Each other day lies in the week of the day before. 4 January lies in week 1 of its year.
+pub fn is_only_iso_week()
+    ensures { IsOnlyIsoWeek }
 {}
