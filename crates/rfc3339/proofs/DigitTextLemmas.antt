@@ -56,7 +56,7 @@ value-cut k n low few =
     (simp digit_value-written (omega arith)) (simp digit_value-written (omega arith)) (simp digit_value-written (omega arith))
     (simp digit_value-written (omega arith)) k few
 
-IsFraction-digits : (k n : ℕ) → n < 1_000_000_000 → k ≤ 9 → IsFraction (fraction_of_digits k n) (n / 10 ^ (9 - k) * 10 ^ (9 - k))
+pub IsFraction-digits : (k n : ℕ) → n < 1_000_000_000 → k ≤ 9 → IsFraction (fraction_of_digits k n) (n / 10 ^ (9 - k) * 10 ^ (9 - k))
 unfolding fraction_of_digits last_digits
 IsFraction-digits zero n low few = inl (refl, omega arith)
 IsFraction-digits (suc k) n low few =

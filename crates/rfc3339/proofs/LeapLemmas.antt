@@ -19,7 +19,7 @@ use Rattle.rfc3339.specs.TextLemmas.{parts_takes, parts_again}
 use Rattle.rfc3339.specs.Texts.{HasText}
 
 -- with a mark
-abbrev marked : Bool → Result Local TextRefusal → Result (Local × Bool) TextRefusal
+abbrev pub marked : Bool → Result Local TextRefusal → Result (Local × Bool) TextRefusal
 marked mark r = result_map_both (λ at. (at, mark)) (λ refusal. refusal) r
 
 leap_reading_of-parts : (text : List ℕ) (o : Option Parts) → parts_at text ≡ o → leap_reading_of text ≡ leap_meaning_if_any o

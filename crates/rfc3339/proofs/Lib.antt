@@ -1,8 +1,9 @@
+mod GrammarLemmas
 mod ByteLemmas
 mod DigitOrderLemmas
-mod DigitTextLemmas
+pub mod DigitTextLemmas
 mod FaultLemmas
-mod FaultFormLemmas
+pub mod FaultFormLemmas
 pub mod FrontLemmas
 mod RangeLemmas
 pub mod LeapLemmas

@@ -2,6 +2,9 @@ pub mod Reading
 pub mod Front
 pub mod Faults
 pub mod Form
+pub mod Abnf
+pub mod Grammar
+pub mod Printed
 pub mod FullDates
 pub mod Meaning
 pub mod LeapSeconds

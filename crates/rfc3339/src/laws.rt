@@ -1,6 +1,8 @@
 //! Laws of the texts: each function here proves one, and does nothing when it is called.
 ghost use Rattle.rfc3339.specs.Laws.{TextsHaveOneReading, ReadingsAreOfTheForm, WrittenTextsReadBack, TextsTellValues};
 ghost use Rattle.rfc3339.specs.Laws.{FixedTextsHaveOneWidth, FixedTextsKeepTheOrder};
+ghost use Rattle.rfc3339.specs.Grammar.{FormsAreOfTheGrammar, RefusalsAreOfTheGrammar, WrittenTextsAreOfTheGrammar, BeginningsAreOfTheGrammar};
+ghost use Rattle.rfc3339.specs.Printed.{GrammarIsPrinted};
 ghost use Rattle.rfc3339.specs.DigitLaws.{TextsOfDigitsTruncate, TextsOfDigitsKeepTheOrder};
 
 /// A text spells one list of parts at most.
@@ -41,4 +43,31 @@ pub fn texts_of_digits_truncate()
 /// The texts of so many digits at one offset compare, byte by byte, as the date-times truncated to the last of them do.
 pub fn texts_of_digits_keep_the_order()
     ensures { TextsOfDigitsKeepTheOrder }
+{}
+
+/// A text has the form of a date-time exactly where the grammar of RFC 3339 derives it. The grammar has the rule `date-time`, and
+/// a space in place of the T, as a note of the RFC allows. A text has the form of a date exactly where `full-date` derives it.
+pub fn forms_are_of_the_grammar()
+    ensures { FormsAreOfTheGrammar }
+{}
+
+/// A text is refused for its form exactly where the grammar does not derive it.
+pub fn refusals_are_of_the_grammar()
+    ensures { RefusalsAreOfTheGrammar }
+{}
+
+/// The grammar derives each text that the library writes, by the RFC's own `date-time` or `full-date`.
+pub fn written_texts_are_of_the_grammar()
+    ensures { WrittenTextsAreOfTheGrammar }
+{}
+
+/// No text that the grammar derives begins another. The front of a text is refused for its form exactly where the grammar derives
+/// no beginning of it. The fault of a text follows its longest beginning that also begins a derived text.
+pub fn beginnings_are_of_the_grammar()
+    ensures { BeginningsAreOfTheGrammar }
+{}
+
+/// The rules of the grammar, printed as RFC 5234 prints rules, are the lines of RFC 3339, section 5.6.
+pub fn grammar_is_printed()
+    ensures { GrammarIsPrinted }
 {}
