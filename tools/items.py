@@ -15,10 +15,13 @@ NO_LIBRARIES = ("uses", "times_bench", "stamps")
 BLOCK = re.compile(r"(?P<pub>pub )?(?P<kind>impl|trait)\b(?:<[^{]*?>)? ?(?:(?P<of>\w[\w:]*(?:<[^{]*?>)?) for )?(?P<type>\w+)")
 FUNCTION = re.compile(r"(?P<indent> *)(?P<pub>pub )?(?:pub\(crate\) )?(?:const |unsafe )*fn (?P<name>\w+)")
 CONSTANT = re.compile(r"(?P<indent> *)pub const (?P<name>\w+): (?P<type>[^=]+) =")
+EXPORT = re.compile(r'pub extern "C" fn (?P<name>\w+)')
 TYPE = re.compile(r"pub (?P<kind>struct|enum|trait) (?P<name>\w+)")
 REEXPORTS = re.compile(r"pub use [\w:]*?(?:(\w+);|\{([^}]*)\};)")
 DERIVED = re.compile(r"#\[derive\((.*)\)\]")
 CLAUSE = re.compile(r"\s*(?:requires|ensures|ghost|//|#\[)")
+NAMED_LINK = re.compile(r"\[(`[^`]+`)\](?!\()")
+SENTENCE = re.compile(r"(.+?\.)(?= [A-Z`\[]|$)", re.DOTALL)
 
 
 @dataclass
@@ -44,6 +47,13 @@ class Item:
 
     def full_name(self):
         return "::".join(word for word in (self.module, self.owner, self.name) if word)
+
+
+def first_sentence(doc):
+    """The first sentence of a doc comment, with its links as plain names."""
+    text = " ".join(doc.split("\n\n")[0].split())
+    found = SENTENCE.match(text)
+    return NAMED_LINK.sub(r"\1", found[1] if found else text)
 
 
 def reexported(text):
@@ -183,12 +193,38 @@ def implementations(text):
             yield head["type"], head["of"], number
 
 
+def exports_of(path, text):
+    """The calls of a file for other languages."""
+    lines = text.split("\n")
+    for number, line in enumerate(lines):
+        found = EXPORT.match(line)
+        if found:
+            head, clauses = head_from(lines, number)
+            yield Item(
+                crate_of(path),
+                path,
+                number + 1,
+                "fn",
+                "",
+                found["name"],
+                one_line(head),
+                doc_above(lines, number),
+                "\n".join(clauses),
+            )
+
+
+def is_library(path):
+    """Whether a file is one of a library, and no test."""
+    crate = crate_of(path)
+    return crate not in NO_LIBRARIES and not crate.endswith("_tests") and os.path.basename(path) != "tests.rt"
+
+
 def public_items(files):
     """All public items of the libraries."""
     found = []
     for path, text in files.items():
         root = f"crates/{crate_of(path)}/src/lib.rt"
-        if root not in files or crate_of(path) in NO_LIBRARIES or os.path.basename(path) == "tests.rt":
+        if root not in files or not is_library(path):
             continue
         found += items_of(path, text, is_public_module(path, files), reexported(files[root]))
     return found
