@@ -20,8 +20,8 @@ SECONDS = 60
 # What a browser says by itself of a page that is not well.
 COMPLAINTS = ("Runtime.exceptionThrown", "Runtime.consoleAPICalled", "Log.entryAdded")
 
-# What holds once a page is there.
-READY = "location.href !== 'about:blank' && document.readyState === 'complete'"
+# What holds once a page is there. A field with `autofocus` gets the keys after the page is complete.
+READY = "location.href !== 'about:blank' && document.readyState === 'complete' && document.activeElement !== document.body"
 
 # The number of each key, and what it types.
 KEYS = {"Tab": (9, None), "Enter": (13, "\r"), " ": (32, " ")}
