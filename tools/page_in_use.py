@@ -1,6 +1,7 @@
 """How tools/javascript uses docs/try.html in a browser as a person would: by keys, and by looking."""
 
 import os
+import time
 
 from browser import COMPLAINTS, Browser, Page
 from gate import TOOLS
@@ -41,7 +42,15 @@ STATES = {
     "last": "#at=31494784780799.999999999&offset=-12:00&other=-31619087596800",
     "long": f"#at={'9' * 3_000}&offset=Z",
 }
+# Time zones, and the offset that `now` types in each.
+ZONES = {"Asia/Kathmandu": "+05:45", "America/Caracas": "-04:00", "UTC": "Z"}
+PRESS_NOW = "[...document.querySelectorAll('#examples button')].at(-1).click()"
+TYPED = "['at', 'offset'].map((id) => document.getElementById(id).value)"
+
 LOOKS = {"light": (900, False), "dark": (900, True), "narrow": (360, False), "narrow_dark": (320, True)}
+
+# How many things are tried: by keys, in zones, by looks, and of the browser's complaints and requests.
+CASES = 6 + len(ZONES) + 2 * len(LOOKS) * len(STATES) + 1 + 2
 
 
 def fields_of(page):
@@ -84,6 +93,17 @@ def use_keys(browser, address):
     yield "an example is shown by the space bar", None if said == "DAY_OF_MONTH" else f"but {said}"
 
 
+def use_now(browser, address):
+    """Has the page type what the clock of this machine shows, in some zones."""
+    for zone, offset in ZONES.items():
+        page = Page(browser, address, 900)
+        page.ask("Emulation.setTimezoneOverride", timezoneId=zone)
+        page.value(PRESS_NOW)
+        at, typed = page.value(TYPED)
+        fine = typed == offset and abs(int(at) - time.time()) < 60
+        yield f"now in {zone}", None if fine else f"{at} at {typed}"
+
+
 def look(browser, address, pictures):
     """Looks at the page, light and dark, wide and narrow, and writes pictures of it where a folder is named."""
     papers = set()
@@ -108,6 +128,7 @@ def use_page(page, pictures):
     browser, address = Browser(), f"file://{page}"
     try:
         yield from use_keys(browser, address)
+        yield from use_now(browser, address)
         yield from look(browser, address, pictures)
         told = [event["params"] for event in browser.events if event["method"] in COMPLAINTS]
         yield "the browser complains of nothing", str(told[:3]) if told else None

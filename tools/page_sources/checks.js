@@ -1,7 +1,6 @@
 // What the page must say, in a browser by its fields and its table, and elsewhere by the functions that fill them. It stands
-// after the page's own script. The last line is 'N passed, M failed'.
-
-const RANDOM_INSTANTS = 100_000;
+// after the page's own script, and after ROUNDS, the number of random instants. It shows its cases as JSON: pairs of a name and
+// what is wrong, or null.
 
 // What is typed, and the rows that must come: of the instant and of what is refused.
 const ROWS = [
@@ -81,12 +80,17 @@ const ROWS = [
 ];
 
 const isPage = typeof document !== "undefined";
-const told = [];
-let passed = 0, failed = 0;
+const cases = [];
 
-function count(problem) {
-    if (problem === null) passed++;
-    else if (failed++ < 20) told.push(problem);
+/** Keeps a case: what is wrong with it, or that nothing is. */
+function check(name, problem) {
+    cases.push([name, problem]);
+}
+
+/** Keeps a case whose value must be another program's. */
+function checkSame(name, value, wanted) {
+    const [text, other] = [value, wanted].map((each) => JSON.stringify(each));
+    check(name, text === other ? null : `${text}, and not ${other}`);
 }
 
 /** What the page shows, once this is typed. */
@@ -119,9 +123,98 @@ function shownByFunctions(typed) {
     }
 }
 
-for (const [typed, wanted] of ROWS) {
-    const shown = (isPage ? shownByFields : shownByFunctions)(typed);
-    count(shown === wanted ? null : `${String(typed).slice(0, 200)}: ${shown}, and not ${wanted}`);
+const shownBy = isPage ? shownByFields : shownByFunctions;
+
+/** What is typed, short enough for the name of a case. */
+function named(typed) {
+    const text = JSON.stringify(typed);
+    return text.length > 90 ? `${text.slice(0, 60)}.. of ${text.length} characters` : text;
+}
+
+for (const [typed, wanted] of ROWS) checkSame(named(typed), shownBy(typed), wanted);
+
+// What each example shows of what its name says.
+const SHOWN_BY_EXAMPLES = {
+    "a leap day": /\|At the offset=\d+-02-29T/,
+    "no such day": /^at DAY_OF_MONTH/,
+    "the first second": /^In UTC=1970-01-01T00:00:00Z\|/,
+    "a leap second": /^at SECOND/,
+    "week 53": /\|ISO week=\d+-W53-\d\|/,
+    "year 10000": /^In UTC=\+10000-01-01 /,
+    "the last nanosecond": /^In UTC=\+999999-12-31 23:59:59\.999999999 /,
+};
+
+for (const [name, ...typed] of EXAMPLES) {
+    const shown = shownBy(typed);
+    check(`the example ${name}`, SHOWN_BY_EXAMPLES[name]?.test(shown) ? null : `shows ${shown}`);
+}
+checkSame("the examples, by their names", EXAMPLES.map(([name]) => name), Object.keys(SHOWN_BY_EXAMPLES));
+
+/** The parts of a date-time that the clocks of this machine show by `Date`, from the year to the second. */
+function localParts(date) {
+    const day = [date.getFullYear(), date.getMonth() + 1, date.getDate()];
+    return [...day, date.getHours(), date.getMinutes(), date.getSeconds()];
+}
+
+function checkNow() {
+    const [typed, offset] = now(), date = new Date(Number(typed) * 1_000);
+    const { year, month, day, hour, minute, second } = answers(typed, offset, "").there;
+    checkSame("now is what the clock of this machine shows", [year, month, day, hour, minute, second], localParts(date));
+    check("now is of this minute", Math.abs(Date.now() - date) < 60_000 ? null : typed);
+}
+
+checkNow();
+
+/** The name of a refusal, or what is answered. */
+function refusedOf(text) {
+    try {
+        return answers(text, "Z", "").rows[0][1];
+    } catch (error) {
+        return error.refusal;
+    }
+}
+
+/** What is wrong with the range that the page names where an instant is beyond it. */
+function problemOfRange() {
+    let told;
+    try {
+        answers("9".repeat(20), "Z", "");
+    } catch (error) {
+        told = refusal(error, "").meaning;
+    }
+    const numbers = told?.match(/-?\d{7,}/g) ?? [];
+    if (numbers.length !== 2) return `no range: ${told}`;
+    const [least, most] = numbers.map(BigInt), ends = [least - 1n, least, most, most + 1n].map((end) => refusedOf(String(end)));
+    const fine = ends[0] === "TIMESTAMP" && ends[1].startsWith("-999999-01-01 0:00:00") && ends[2].startsWith("+999999-12-31 23:59:59");
+    return fine && ends[3] === "TIMESTAMP" ? null : `${told}: ${ends}`;
+}
+
+check("the range that the page names", problemOfRange());
+
+// Days of each month and of each weekday, as the browser's own English names them.
+const ENGLISH = new Intl.DateTimeFormat("en-US", { timeZone: "UTC", weekday: "short", day: "numeric", month: "short" });
+
+function dayNamed(date) {
+    const parts = Object.fromEntries(ENGLISH.formatToParts(date).map(({ type, value }) => [type, value]));
+    return `${parts.weekday} ${parts.day} ${parts.month}`;
+}
+
+const fifteenths = Array.from({ length: 12 }, (_, at) => new Date(Date.UTC(2024, at, 15, 12)));
+const dayTexts = fifteenths.map((date) => dayText(Timestamp.fromDate(date).toOffset(0)));
+checkSame("the picture's names of months and days", dayTexts, fifteenths.map(dayNamed));
+
+// The picture has half a day on each side: the hours of midnight at 1970-01-01, and where they are.
+const HOURS = [12, 15, 18, 21, 0, 3, 6, 9, 12];
+const around = hoursAround(new Timestamp(0).toOffset(0), 3).map(({ at, then }) => [at, then.hour]);
+checkSame("the hours of the picture", around, HOURS.map((hour, at) => [at / 4 - 1, hour]));
+
+if (isPage) {
+    shownByFields(["2024-06-15T00:00:00Z", "Z", ""]);
+    const textsOf = (kind) => [...document.querySelectorAll(kind)].map((text) => text.textContent);
+    const hours = HOURS.filter((hour) => hour !== 0).map((hour) => String(hour).padStart(2, "0"));
+    checkSame("the hours in the picture", textsOf("svg text.quiet"), [...hours, ...hours]);
+    const days = ["Fri 14 Jun 2024", "Sat 15 Jun 2024"];
+    checkSame("the days in the picture", textsOf("svg text:not([class])"), [...days, ...days]);
 }
 
 const LINKS = [
@@ -141,35 +234,34 @@ const ADDRESSES = [
 // A link holds what was typed, and the fields have it again; each example shows something, and what is wrong is told aloud.
 if (isPage) {
     const fields = FIELDS.map((id) => document.getElementById(id)), link = document.getElementById("link");
-    const restored = (hash, wanted) => {
+    const restored = (hash) => {
         location.hash = hash;
         restore(fields);
-        const values = fields.map((field) => field.value);
-        count(values.every((value, at) => value === wanted[at]) ? null : `after ${hash} the fields have ${values}`);
+        return fields.map((field) => field.value);
     };
     for (const typed of LINKS) {
         shownByFields(typed);
         const { hash } = link;
-        count(location.hash === hash ? null : `the address has ${location.hash}, and the link ${hash}`);
+        checkSame(`the address of ${named(typed)}`, location.hash, hash);
         shownByFields(["0", "Z", "1"]);
-        restored(hash, typed);
+        checkSame(`the link of ${named(typed)}`, restored(hash), typed);
     }
-    for (const [hash, wanted] of ADDRESSES) restored(hash, wanted);
+    for (const [hash, wanted] of ADDRESSES) checkSame(`the address ${hash}`, restored(hash), wanted);
     const refused = document.getElementById("refused"), tbody = document.querySelector("tbody");
     for (const button of document.querySelectorAll("#examples button")) {
         button.click();
-        count(tbody.rows.length > 0 || !refused.hidden ? null : `${button.textContent}: nothing is shown`);
+        check(`the button ${button.textContent}`, tbody.rows.length > 0 || !refused.hidden ? null : "shows nothing");
     }
     shownByFields(["0", "+24:00", ""]);
     const told = document.getElementById("said").textContent;
-    count(/^At the offset ?OFFSET_HOUR /.test(told) ? null : `what is told aloud is ${told}`);
+    check("what is refused is told aloud", /^At the offset ?OFFSET_HOUR /.test(told) ? null : told);
     shownByFields(["0", "+01:00", "1"]);
     const name = document.querySelector("svg").getAttribute("aria-label");
-    count(name === "00:00:00 in UTC is 01:00:00 at the offset" ? null : `the picture is called ${name}`);
+    checkSame("the picture's name", name, "00:00:00 in UTC is 01:00:00 at the offset");
     const isAsked = await fetch("data:,x").then(() => true, () => false);
-    count(isAsked ? "the page may ask something of a network" : null);
+    check("the policy of the page", isAsked ? "lets it ask something of a network" : null);
     const isWithin = document.documentElement.scrollWidth <= innerWidth;
-    count(isWithin ? null : `the page is ${document.documentElement.scrollWidth} wide`);
+    check("the page is no wider than the window", isWithin ? null : `it is ${document.documentElement.scrollWidth} wide`);
 }
 
 let state = 7n;
@@ -197,17 +289,19 @@ function beside(second, minutes) {
     return isSame ? null : `${second} at ${offset}: ${parts}, and not ${wanted}; ${rows[0][1]}, and not ${utc}`;
 }
 
-for (let round = 0; round < RANDOM_INSTANTS; round++) {
-    const second = round % 2 ? random(-62_167_219_200, 253_402_300_799) : random(-8.639e12, 8.639e12);
-    count(beside(second, random(-1_439, 1_439)));
+const differences = [];
+for (let round = 0; round < ROUNDS; round++) {
+    const instant = round % 2 ? random(-62_167_219_200, 253_402_300_799) : random(-8.639e12, 8.639e12);
+    const difference = beside(instant, random(-1_439, 1_439));
+    if (difference !== null) differences.push(difference);
 }
+check(`${ROUNDS} random instants of the page beside Date`, differences.length ? differences.slice(0, 5).join("\n") : null);
 
-const end = [...told, `${passed} passed, ${failed} failed`].join("\n");
 if (isPage) {
     const checked = document.createElement("pre");
     checked.id = "checked";
-    checked.textContent = end;
+    checked.textContent = JSON.stringify(cases);
     document.body.append(checked);
 } else {
-    console.log(end);
+    console.log(JSON.stringify(cases));
 }

@@ -1,13 +1,15 @@
-// index.d.ts declares what the package has, and nothing else.
+// index.d.ts declares what the package has, and nothing else; tsc finds it, and reads each member in types.ts.
 import assert from "node:assert/strict";
-import { readFileSync } from "node:fs";
+import { existsSync, readFileSync } from "node:fs";
 import { createRequire } from "node:module";
+import { dirname, join } from "node:path";
 import test from "node:test";
 
 import * as muxandu from "muxandu";
 
-const path = createRequire(import.meta.url).resolve("muxandu").replace(/index\.js$/, "index.d.ts");
-const declared = readFileSync(path, "utf8");
+const folder = dirname(createRequire(import.meta.url).resolve("muxandu"));
+const declared = readFileSync(join(folder, "index.d.ts"), "utf8");
+const used = readFileSync(new URL("types.ts", import.meta.url), "utf8");
 
 const sorted = (names) => [...names].sort();
 
@@ -18,9 +20,28 @@ function members(made) {
     return sorted([...own, ...statics.map((name) => `static ${name}`)]);
 }
 
+/** Whether types.ts has a call or a property of that name. */
+const isUsed = (name) => new RegExp(`\\.${name.replace("static ", "")}\\b`).test(used);
+
 test("its exports", () => {
     const names = [...declared.matchAll(/^export (?:class|function) (\w+)/gm)].map(([, name]) => name);
     assert.deepEqual(sorted(names), sorted(Object.keys(muxandu)));
+});
+
+test("package.json names the declarations", () => {
+    const { types, exports } = JSON.parse(readFileSync(join(folder, "package.json"), "utf8"));
+    // tsc takes the first condition that it knows
+    assert.equal(Object.keys(exports["."])[0], "types");
+    for (const path of [types, exports["."].types, exports["."].default]) {
+        assert.match(String(path), /^\.\/index\.(d\.ts|js)$/);
+        assert.ok(existsSync(join(folder, path)), path);
+    }
+    assert.equal(types, "./index.d.ts");
+    assert.equal(exports["."].types, types);
+});
+
+test("no type is any", () => {
+    assert.doesNotMatch(declared, /[:<|&,(]\s*(?:any|unknown)\b/);
 });
 
 for (const [name, made] of Object.entries(muxandu)) {
@@ -31,5 +52,6 @@ for (const [name, made] of Object.entries(muxandu)) {
         // the name of a refusal is kept in each
         const kept = name === "Refused" ? ["refusal"] : [];
         assert.deepEqual(sorted(new Set(names.filter((each) => each !== "constructor"))), sorted([...members(made), ...kept]));
+        assert.deepEqual(names.filter((each) => each !== "constructor" && !isUsed(each)), [], "types.ts does not use them");
     });
 }

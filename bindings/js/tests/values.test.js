@@ -2,20 +2,12 @@
 import assert from "node:assert/strict";
 import test from "node:test";
 
-import { Duration, OffsetDateTime, Refused, Timestamp, daysInMonth, parseOffset } from "muxandu";
+import { Duration, OffsetDateTime, Timestamp, daysInMonth, parseOffset } from "muxandu";
+
+import { refuses } from "./refuses.js";
 
 const FIRST = new Timestamp(-31_619_087_596_800n);
 const LAST = new Timestamp(31_494_784_780_799n, 999_999_999);
-
-function refuses(name, call) {
-    assert.throws(call, (error) => {
-        assert.ok(error instanceof Refused && error instanceof RangeError, String(error));
-        assert.equal(error.refusal, name);
-        assert.equal(error.name, "Refused");
-        assert.match(error.message, new RegExp(`^${name}: [A-Z].*\\.$`));
-        return true;
-    });
-}
 
 test("texts are read", () => {
     for (const [text, seconds, nanosecond] of [
@@ -117,6 +109,56 @@ test("sums, differences and order", () => {
     const kept = JSON.parse(JSON.stringify({ gap: LAST.since(FIRST) })).gap;
     assert.equal(kept, "63113872377599999999999");
     assert.equal(new Duration(BigInt(kept)).nanoseconds, LAST.since(FIRST).nanoseconds);
+});
+
+test("each unit of a duration, and its negation", () => {
+    const units = [["days", 86_400_000_000_000n], ["hours", 3_600_000_000_000n], ["minutes", 60_000_000_000n]];
+    units.push(["seconds", 1_000_000_000n], ["milliseconds", 1_000_000n], ["microseconds", 1_000n], ["nanoseconds", 1n]);
+    for (const [name, size] of units) {
+        const seven = Duration.of({ [name]: 7 });
+        assert.equal(seven.nanoseconds, 7n * size, name);
+        assert.equal(Duration.of({ [name]: -7n }).nanoseconds, -7n * size, name);
+        assert.equal(seven.whole(name), 7n, name);
+        assert.equal(new Duration(1n - 7n * size).whole(name), -6n, name);
+        assert.equal(seven.negated().nanoseconds, -7n * size, name);
+        assert.equal(new Timestamp(0).add({ [name]: 7 }).nanoseconds, 7n * size, name);
+        assert.equal(seven.negated().negated().valueOf(), 7n * size, name);
+    }
+    assert.equal(Duration.of({ days: 1, hours: -2, nanoseconds: 3 }).nanoseconds, 79_200_000_000_003n);
+    assert.ok(new Duration(1) < new Duration(2) && new Duration(-1) < new Duration(0));
+});
+
+test("sums that end at the ends of the range", () => {
+    const ends = [FIRST, LAST, FIRST.toOffset(0), LAST.toOffset(0)];
+    const [first, last, firstShown, lastShown] = ends, day = { days: 1 }, one = { nanoseconds: 1 };
+    for (const end of ends) {
+        const isFirst = end === first || end === firstShown, inward = isFirst ? "Add" : "Subtract", outward = isFirst ? "Subtract" : "Add";
+        assert.ok(end[`saturating${outward}`](day).equals(end), outward);
+        assert.ok(end[`saturating${outward}`](one).equals(end), outward);
+        assert.equal(end[`saturating${inward}`](one).since(end).nanoseconds, isFirst ? 1n : -1n, inward);
+        refuses("RESULT", () => end[outward.toLowerCase()](one));
+    }
+    for (const at of [new Timestamp(5), new Timestamp(5).toOffset(-60)]) {
+        assert.equal(at.saturatingAdd(day).since(at).nanoseconds, 86_400_000_000_000n);
+        assert.equal(at.saturatingSubtract(day).since(at).nanoseconds, -86_400_000_000_000n);
+        assert.equal(at.subtract(day).since(at).nanoseconds, -86_400_000_000_000n);
+    }
+    assert.ok(last > lastShown.subtract(one) && first < firstShown.add(one));
+});
+
+test("values that are compared are nanoseconds", () => {
+    const at = new Timestamp(0), later = at.add({ nanoseconds: 1 });
+    for (const [one, other] of [[at, later], [at.toOffset(60), later.toOffset(-60)], [new Duration(0), later.since(at)]]) {
+        assert.deepEqual([one.valueOf(), other.valueOf()], [0n, 1n]);
+        assert.ok(one < other && !(other < one));
+    }
+    assert.equal(LAST.toOffset(-60).valueOf(), LAST.nanoseconds);
+});
+
+test("a Date at an offset", () => {
+    const at = OffsetDateTime.fromDate(new Date(0), 3_600), before = OffsetDateTime.fromDate(new Date(-1), -5_400);
+    assert.deepEqual([at.hour, at.offsetSeconds, OffsetDateTime.fromDate(new Date(0)).hour], [1, 3_600, 0]);
+    assert.equal(before.toRfc3339(), "1969-12-31T22:29:59.999-01:30");
 });
 
 test("date-times at an offset", () => {
