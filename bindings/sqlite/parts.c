@@ -48,8 +48,9 @@ typedef struct Table {
 
 typedef struct Cursor {
     sqlite3_vtab_cursor base;
-    /* What the row was made from. */
+    /* What the row was made from, and how many arguments were passed. */
     sqlite3_value *arguments[ARGUMENTS];
+    int passed;
     int64_t parts[PARTS];
     /* Whether the row has parts, and not NULLs. */
     int has_parts;
@@ -170,10 +171,17 @@ static uint32_t read_parts(Cursor *cursor, int count, sqlite3_value **values) {
     return status == MUXANDU_OK ? split(shown, cursor->parts) : status;
 }
 
-static int refuse(sqlite3_vtab *base, const char *name, uint32_t status) {
+/* Has SQLite report a message, which it frees. The message is NULL where there is no memory. */
+static int fail(sqlite3_vtab *base, char *message) {
     sqlite3_free(base->zErrMsg);
-    base->zErrMsg = refusal_message(name, status);
-    return base->zErrMsg == NULL ? SQLITE_NOMEM : SQLITE_ERROR;
+    base->zErrMsg = message;
+    return message == NULL ? SQLITE_NOMEM : SQLITE_ERROR;
+}
+
+/* What an error says of an argument that is not passed. In a CROSS JOIN SQLite passes none of a table that comes later. */
+static char *missing(const Form *form, const char *argument) {
+    return sqlite3_mprintf("%s: the %s is missing: pass it, and in a CROSS JOIN name its table before %s", form->name,
+                           argument, form->name);
 }
 
 /* Makes the row. It has NULLs where an argument is NULL. */
@@ -185,11 +193,8 @@ static int filter(sqlite3_vtab_cursor *base, int number, const char *text, int c
     free_arguments(cursor);
     cursor->is_past_the_row = 0;
     cursor->has_parts = 0;
-    if (number == TEXT_IS_MISSING) {
-        sqlite3_free(base->pVtab->zErrMsg);
-        base->pVtab->zErrMsg = sqlite3_mprintf("%s: the text is missing", form->name);
-        return base->pVtab->zErrMsg == NULL ? SQLITE_NOMEM : SQLITE_ERROR;
-    }
+    cursor->passed = count;
+    if (number == TEXT_IS_MISSING) return fail(base->pVtab, missing(form, "text"));
     for (int at = 0; at < count; at++) {
         if (sqlite3_value_type(values[at]) == SQLITE_NULL) return SQLITE_OK;
     }
@@ -199,7 +204,7 @@ static int filter(sqlite3_vtab_cursor *base, int number, const char *text, int c
     }
     status = read_parts(cursor, count, values);
     if (status == OUT_OF_MEMORY) return SQLITE_NOMEM;
-    if (status != MUXANDU_OK && !form->is_or_null) return refuse(base->pVtab, form->name, status);
+    if (status != MUXANDU_OK && !form->is_or_null) return fail(base->pVtab, refusal_message(form->name, status));
     cursor->has_parts = status == MUXANDU_OK;
     return SQLITE_OK;
 }
@@ -213,13 +218,18 @@ static int is_at_the_end(sqlite3_vtab_cursor *cursor) {
     return ((Cursor *)cursor)->is_past_the_row;
 }
 
+/* A column of an argument that is not passed has no answer: SQLite would compare it with the argument that it did not pass. */
+static int answer_argument(Cursor *cursor, sqlite3_context *context, int argument) {
+    sqlite3_vtab *table = cursor->base.pVtab;
+    if (argument >= cursor->passed) return fail(table, missing(((Table *)table)->form, "offset"));
+    if (cursor->arguments[argument] != NULL) sqlite3_result_value(context, cursor->arguments[argument]);
+    return SQLITE_OK;
+}
+
 static int answer_column(sqlite3_vtab_cursor *base, sqlite3_context *context, int column) {
     Cursor *cursor = (Cursor *)base;
-    if (column >= PARTS) {
-        if (cursor->arguments[column - PARTS] != NULL) sqlite3_result_value(context, cursor->arguments[column - PARTS]);
-    } else if (cursor->has_parts) {
-        sqlite3_result_int64(context, cursor->parts[column]);
-    }
+    if (column >= PARTS) return answer_argument(cursor, context, column - PARTS);
+    if (cursor->has_parts) sqlite3_result_int64(context, cursor->parts[column]);
     return SQLITE_OK;
 }
 
