@@ -48,9 +48,9 @@ typedef struct Table {
 
 typedef struct Cursor {
     sqlite3_vtab_cursor base;
-    /* What the row was made from, and how many arguments were passed. */
+    /* What the row is made from, and how many arguments the plan passes. */
     sqlite3_value *arguments[ARGUMENTS];
-    int passed;
+    int argument_count;
     int64_t parts[PARTS];
     /* Whether the row has parts, and not NULLs. */
     int has_parts;
@@ -179,7 +179,7 @@ static int fail(sqlite3_vtab *base, char *message) {
 }
 
 /* What an error says of an argument that is not passed. In a CROSS JOIN SQLite passes none of a table that comes later. */
-static char *missing(const Form *form, const char *argument) {
+static char *missing_message(const Form *form, const char *argument) {
     return sqlite3_mprintf("%s: the %s is missing: pass it, and in a CROSS JOIN name its table before %s", form->name,
                            argument, form->name);
 }
@@ -193,8 +193,8 @@ static int filter(sqlite3_vtab_cursor *base, int number, const char *text, int c
     free_arguments(cursor);
     cursor->is_past_the_row = 0;
     cursor->has_parts = 0;
-    cursor->passed = count;
-    if (number == TEXT_IS_MISSING) return fail(base->pVtab, missing(form, "text"));
+    cursor->argument_count = count;
+    if (number == TEXT_IS_MISSING) return fail(base->pVtab, missing_message(form, "text"));
     for (int at = 0; at < count; at++) {
         if (sqlite3_value_type(values[at]) == SQLITE_NULL) return SQLITE_OK;
     }
@@ -221,7 +221,7 @@ static int is_at_the_end(sqlite3_vtab_cursor *cursor) {
 /* A column of an argument that is not passed has no answer: SQLite would compare it with the argument that it did not pass. */
 static int answer_argument(Cursor *cursor, sqlite3_context *context, int argument) {
     sqlite3_vtab *table = cursor->base.pVtab;
-    if (argument >= cursor->passed) return fail(table, missing(((Table *)table)->form, "offset"));
+    if (argument >= cursor->argument_count) return fail(table, missing_message(((Table *)table)->form, "offset"));
     if (cursor->arguments[argument] != NULL) sqlite3_result_value(context, cursor->arguments[argument]);
     return SQLITE_OK;
 }

@@ -254,7 +254,7 @@ if (isPage) {
     }
     shownByFields(["0", "+24:00", ""]);
     const told = document.getElementById("said").textContent;
-    check("what is refused is told aloud", /^At the offset ?OFFSET_HOUR /.test(told) ? null : told);
+    check("what is refused is read aloud", /^At the offset ?OFFSET_HOUR /.test(told) ? null : told);
     shownByFields(["0", "+01:00", "1"]);
     const name = document.querySelector("svg").getAttribute("aria-label");
     checkSame("the picture's name", name, "00:00:00 in UTC is 01:00:00 at the offset");
@@ -295,7 +295,7 @@ for (let round = 0; round < ROUNDS; round++) {
     const difference = beside(instant, random(-1_439, 1_439));
     if (difference !== null) differences.push(difference);
 }
-check(`${ROUNDS} random instants of the page beside Date`, differences.length ? differences.slice(0, 5).join("\n") : null);
+check(`${ROUNDS} random instants of the page compared with Date`, differences.length ? differences.slice(0, 5).join("\n") : null);
 
 if (isPage) {
     const checked = document.createElement("pre");

@@ -241,14 +241,20 @@ test("what names no part is no duration, and no part of a date-time", () => {
 });
 
 test("a stack that overflows within a call leaves the calls as they were", () => {
-    const at = Timestamp.parse("2024-02-28T23:30:00.123-01:00");
-    const deep = () => {
-        at.toOffset(60).add({ hours: 1 }).truncate("minute").toRfc3339();
-        deep();
-    };
-    for (let time = 0; time < 200; time++) {
-        assert.throws(deep, RangeError);
-        assert.equal(at.toOffset(60).add({ hours: 1 }).truncate("minute").toRfc3339(), "2024-02-29T01:31:00+00:01");
+    const text = "2024-02-28T23:30:00.123-01:00", at = Timestamp.parse(text), shown = OffsetDateTime.parse(text);
+    const moved = () => at.toOffset(60).add({ hours: 1 }).truncate("minute").toRfc3339();
+    const calls = [moved, () => at.toRfc3339(), () => shown.toRfc3339(), () => shown.add({ days: 1 }), () => Timestamp.parse(text)];
+    for (const call of calls) {
+        const deep = () => {
+            call();
+            deep();
+        };
+        // from some depths the stack ends within a call of the module
+        const deepFrom = (depth) => (depth === 0 ? deep() : deepFrom(depth - 1));
+        for (let depth = 0; depth < 16; depth++) {
+            assert.throws(() => deepFrom(depth), RangeError);
+            assert.equal(moved(), "2024-02-29T01:31:00+00:01");
+        }
     }
 });
 

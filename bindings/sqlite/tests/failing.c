@@ -34,7 +34,7 @@ static void end(const char *what) {
     exit(2);
 }
 
-/* Memory that runs out after so many allocations, and does not where that is negative. */
+/* Memory runs out after this many allocations, and never where the number is negative. */
 static int allocations_left = -1;
 static sqlite3_mem_methods memory;
 
@@ -70,7 +70,8 @@ static void say(Said *said, const char *text) {
     snprintf(said->text + size, sizeof said->text - size, "%s", text);
 }
 
-/* Prepares a statement and takes its first step, with so many allocations. Whether they were enough is in `was_enough`. */
+/* Prepares a statement and takes its first step, with that many allocations. Sets `was_enough` to whether they
+ * were enough. */
 static Said ask(sqlite3 *db, const char *text, int allocations, int *was_enough) {
     Said said = {0, ""};
     sqlite3_stmt *statement = NULL;
@@ -106,7 +107,8 @@ static void load(sqlite3 *db, const char *extension) {
 static const char *const ENCODINGS[] = {"PRAGMA encoding = 'UTF-8'; CREATE TABLE t(x)",
                                         "PRAGMA encoding = 'UTF-16'; CREATE TABLE t(x)"};
 
-/* Has memory run out at one allocation of a statement. Gives what is wrong, if anything, and what is said with memory. */
+/* Has memory run out at one allocation of a statement. Returns what is wrong, or NULL. Sets `wanted` where memory does
+ * not run out. */
 static const char *run_out_at(sqlite3 *db, const char *text, int allocations, Said *wanted, int *was_enough) {
     static char problem[LONGEST + 30];
     Said said = ask(db, text, allocations, was_enough);
@@ -164,7 +166,7 @@ static int keep_routines(sqlite3 *db, char **error, const sqlite3_api_routines *
     return SQLITE_OK;
 }
 
-/* The calls of SQLite as it gives them to extensions. */
+/* Keeps the calls of SQLite that it passes to extensions. */
 static void find_routines(void) {
     sqlite3 *db;
     if (sqlite3_auto_extension((void (*)(void))keep_routines) != SQLITE_OK) end("no calls of SQLite");
@@ -213,8 +215,8 @@ static const unsigned char *no_text(sqlite3_value *value) {
     return NULL;
 }
 
-/* Has SQLite give no text, since it has no memory to convert one: then no answer and no refusal is due. */
-static void give_no_text(Entry *entry, const char *text) {
+/* Has SQLite return no text, as where it has no memory to convert one. Then an answer is wrong, and so is a refusal. */
+static void return_no_text(Entry *entry, const char *text) {
     sqlite3_api_routines own = routines;
     sqlite3 *db = connected(ENCODINGS[1]);
     char name[LONGEST], *error = NULL;
@@ -223,7 +225,7 @@ static void give_no_text(Entry *entry, const char *text) {
     own.value_text = no_text;
     if (entry(db, &error, &own) != SQLITE_OK) end(error);
     said = ask(db, text, -1, &was_enough);
-    snprintf(name, sizeof name, "SQLite gives no text: %s", text);
+    snprintf(name, sizeof name, "SQLite returns no text: %s", text);
     count(name, said.status == SQLITE_NOMEM ? NULL : said.text);
     sqlite3_close(db);
 }
@@ -272,7 +274,7 @@ int main(int words, char **word) {
     entry = entry_of(word[1]);
     load_into(entry, 3030001, 1);
     load_into(entry, 3031000, 0);
-    for (size_t at = 0; at < COUNT(OF_TEXTS); at++) give_no_text(entry, OF_TEXTS[at]);
+    for (size_t at = 0; at < COUNT(OF_TEXTS); at++) return_no_text(entry, OF_TEXTS[at]);
     printf("%d passed, %d failed\n", passed, failed);
     return failed != 0 || passed == 0;
 }
