@@ -20,39 +20,39 @@ export type RefusalName =
     | "WEEK"
     /** Week 53 of an ISO year that has 52. */
     | "WEEK_OF_YEAR"
-    /** A day of the week above 6. */
+    /** A number that is not a day of the week. */
     | "WEEKDAY"
-    /** An hour above 23. */
+    /** An hour that is not 0 to 23. */
     | "HOUR"
-    /** A minute above 59. */
+    /** A minute that is not 0 to 59. */
     | "MINUTE"
-    /** A second above 59. */
+    /** A second that is not 0 to 59. */
     | "SECOND"
-    /** A nanosecond above 999999999. */
+    /** A nanosecond that is not 0 to 999999999. */
     | "NANOSECOND"
-    /** An offset below -93599 seconds or above 93599. */
+    /** An offset that is not -93599 to 93599 seconds, or whose part in seconds is not -59 to 59. */
     | "OFFSET_SECONDS"
-    /** A Unix second, or a count of milliseconds, outside the range of timestamps. */
+    /** A Unix second, or a count of another unit from 1970-01-01, outside the range of timestamps. */
     | "TIMESTAMP"
-    /** A day number before -365961662 or after 364522971. */
+    /** A day number that is not -365961662 to 364522971, or a Julian day outside the range of dates. */
     | "DAY_NUMBER"
-    /** The seconds and nanoseconds of a duration that together are beyond its range. */
+    /** A duration whose whole seconds do not fit in 64 bits. */
     | "DURATION"
-    /** A number that is no unit. */
+    /** A number that is not a unit, or not a part of a date-time. */
     | "UNIT"
-    /** A result outside the range, or one that its type does not hold. */
+    /** A result that is outside the range, or that its type cannot hold. */
     | "RESULT"
-    /** A buffer that is too short for the result. */
+    /** A buffer that is too short for what the call writes. */
     | "BUFFER"
     /** A span that does not lie in the block of texts. */
     | "SPAN"
-    /** A text that is no date-time of RFC 3339. */
+    /** A text that does not have the form that the call reads, such as a date-time of RFC 3339. */
     | "SYNTAX"
-    /** In a text, hours of the offset above 23. */
+    /** Hours of an offset that are out of range: above 23 in a text of RFC 3339, not -25 to 25 elsewhere. */
     | "OFFSET_HOUR"
-    /** In a text, minutes of the offset above 59. */
+    /** Minutes of an offset that are not -59 to 59. */
     | "OFFSET_MINUTE"
-    /** A value that RFC 3339 has no text for: its year is not 0 to 9999, or its offset has seconds or is of 24 hours or more. */
+    /** A value that has no text in RFC 3339: a year outside 0 to 9999, or an offset with seconds or beyond 23:59. */
     | "NO_TEXT";
 
 /** A unit to round down to. */

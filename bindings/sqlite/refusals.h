@@ -22,37 +22,37 @@ static const Refusal REFUSALS[] = {
     [MUXANDU_REFUSED_WEEK_OF_YEAR] =
         {"WEEK_OF_YEAR", "Week 53 of an ISO year that has 52."},
     [MUXANDU_REFUSED_WEEKDAY] =
-        {"WEEKDAY", "A day of the week above 6."},
+        {"WEEKDAY", "A number that is not a day of the week."},
     [MUXANDU_REFUSED_HOUR] =
-        {"HOUR", "An hour above 23."},
+        {"HOUR", "An hour that is not 0 to 23."},
     [MUXANDU_REFUSED_MINUTE] =
-        {"MINUTE", "A minute above 59."},
+        {"MINUTE", "A minute that is not 0 to 59."},
     [MUXANDU_REFUSED_SECOND] =
-        {"SECOND", "A second above 59."},
+        {"SECOND", "A second that is not 0 to 59."},
     [MUXANDU_REFUSED_NANOSECOND] =
-        {"NANOSECOND", "A nanosecond above 999999999."},
+        {"NANOSECOND", "A nanosecond that is not 0 to 999999999."},
     [MUXANDU_REFUSED_OFFSET_SECONDS] =
-        {"OFFSET_SECONDS", "An offset below -93599 seconds or above 93599."},
+        {"OFFSET_SECONDS", "An offset that is not -93599 to 93599 seconds, or whose part in seconds is not -59 to 59."},
     [MUXANDU_REFUSED_TIMESTAMP] =
-        {"TIMESTAMP", "A Unix second, or a count of milliseconds, outside the range of timestamps."},
+        {"TIMESTAMP", "A Unix second, or a count of another unit from 1970-01-01, outside the range of timestamps."},
     [MUXANDU_REFUSED_DAY_NUMBER] =
-        {"DAY_NUMBER", "A day number before -365961662 or after 364522971."},
+        {"DAY_NUMBER", "A day number that is not -365961662 to 364522971, or a Julian day outside the range of dates."},
     [MUXANDU_REFUSED_DURATION] =
-        {"DURATION", "The seconds and nanoseconds of a duration that together are beyond its range."},
+        {"DURATION", "A duration whose whole seconds do not fit in 64 bits."},
     [MUXANDU_REFUSED_UNIT] =
-        {"UNIT", "A number that is no unit."},
+        {"UNIT", "A number that is not a unit, or not a part of a date-time."},
     [MUXANDU_REFUSED_RESULT] =
-        {"RESULT", "A result outside the range, or one that its type does not hold."},
+        {"RESULT", "A result that is outside the range, or that its type cannot hold."},
     [MUXANDU_REFUSED_BUFFER] =
-        {"BUFFER", "A buffer that is too short for the result."},
+        {"BUFFER", "A buffer that is too short for what the call writes."},
     [MUXANDU_REFUSED_SPAN] =
         {"SPAN", "A span that does not lie in the block of texts."},
     [MUXANDU_REFUSED_SYNTAX] =
-        {"SYNTAX", "A text that is no date-time of RFC 3339."},
+        {"SYNTAX", "A text that does not have the form that the call reads, such as a date-time of RFC 3339."},
     [MUXANDU_REFUSED_OFFSET_HOUR] =
-        {"OFFSET_HOUR", "In a text, hours of the offset above 23."},
+        {"OFFSET_HOUR", "Hours of an offset that are out of range: above 23 in a text of RFC 3339, not -25 to 25 elsewhere."},
     [MUXANDU_REFUSED_OFFSET_MINUTE] =
-        {"OFFSET_MINUTE", "In a text, minutes of the offset above 59."},
+        {"OFFSET_MINUTE", "Minutes of an offset that are not -59 to 59."},
     [MUXANDU_REFUSED_NO_TEXT] =
-        {"NO_TEXT", "A value that RFC 3339 has no text for: its year is not 0 to 9999, or its offset has seconds or is of 24 hours or more."},
+        {"NO_TEXT", "A value that has no text in RFC 3339: a year outside 0 to 9999, or an offset with seconds or beyond 23:59."},
 };

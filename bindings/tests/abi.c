@@ -28,7 +28,7 @@ static void statuses_have_names(void) {
     CHECK(is_told(muxandu_status_name, MUXANDU_REFUSED_NO_TEXT + 1, "UNKNOWN"));
     CHECK(is_told(muxandu_status_name, UINT32_MAX, "UNKNOWN"));
     CHECK(is_told(muxandu_status_text, MUXANDU_OK, "Nothing is refused."));
-    CHECK(is_told(muxandu_status_text, MUXANDU_REFUSED_HOUR, "An hour above 23."));
+    CHECK(is_told(muxandu_status_text, MUXANDU_REFUSED_HOUR, "An hour that is not 0 to 23."));
     CHECK(is_told(muxandu_status_text, UINT32_MAX, "A number that is no status of this version."));
 }
 

@@ -90,84 +90,84 @@ class RefusedWeekOfYear(Refused):
 
 
 class RefusedWeekday(Refused):
-    """A day of the week above 6."""
+    """A number that is not a day of the week."""
 
     name = "WEEKDAY"
     status = 9
 
 
 class RefusedHour(Refused):
-    """An hour above 23."""
+    """An hour that is not 0 to 23."""
 
     name = "HOUR"
     status = 10
 
 
 class RefusedMinute(Refused):
-    """A minute above 59."""
+    """A minute that is not 0 to 59."""
 
     name = "MINUTE"
     status = 11
 
 
 class RefusedSecond(Refused):
-    """A second above 59."""
+    """A second that is not 0 to 59."""
 
     name = "SECOND"
     status = 12
 
 
 class RefusedNanosecond(Refused):
-    """A nanosecond above 999999999."""
+    """A nanosecond that is not 0 to 999999999."""
 
     name = "NANOSECOND"
     status = 13
 
 
 class RefusedOffsetSeconds(Refused):
-    """An offset below -93599 seconds or above 93599."""
+    """An offset that is not -93599 to 93599 seconds, or whose part in seconds is not -59 to 59."""
 
     name = "OFFSET_SECONDS"
     status = 14
 
 
 class RefusedTimestamp(Refused):
-    """A Unix second, or a count of milliseconds, outside the range of timestamps."""
+    """A Unix second, or a count of another unit from 1970-01-01, outside the range of timestamps."""
 
     name = "TIMESTAMP"
     status = 15
 
 
 class RefusedDayNumber(Refused):
-    """A day number before -365961662 or after 364522971."""
+    """A day number that is not -365961662 to 364522971, or a Julian day outside the range of dates."""
 
     name = "DAY_NUMBER"
     status = 16
 
 
 class RefusedDuration(Refused):
-    """The seconds and nanoseconds of a duration that together are beyond its range."""
+    """A duration whose whole seconds do not fit in 64 bits."""
 
     name = "DURATION"
     status = 17
 
 
 class RefusedUnit(Refused):
-    """A number that is no unit."""
+    """A number that is not a unit, or not a part of a date-time."""
 
     name = "UNIT"
     status = 18
 
 
 class RefusedResult(Refused):
-    """A result outside the range, or one that its type does not hold."""
+    """A result that is outside the range, or that its type cannot hold."""
 
     name = "RESULT"
     status = 19
 
 
 class RefusedBuffer(Refused):
-    """A buffer that is too short for the result."""
+    """A buffer that is too short for what the call writes."""
 
     name = "BUFFER"
     status = 20
@@ -181,29 +181,28 @@ class RefusedSpan(Refused):
 
 
 class RefusedSyntax(Refused):
-    """A text that is no date-time of RFC 3339."""
+    """A text that does not have the form that the call reads, such as a date-time of RFC 3339."""
 
     name = "SYNTAX"
     status = 22
 
 
 class RefusedOffsetHour(Refused):
-    """In a text, hours of the offset above 23."""
+    """Hours of an offset that are out of range: above 23 in a text of RFC 3339, not -25 to 25 elsewhere."""
 
     name = "OFFSET_HOUR"
     status = 23
 
 
 class RefusedOffsetMinute(Refused):
-    """In a text, minutes of the offset above 59."""
+    """Minutes of an offset that are not -59 to 59."""
 
     name = "OFFSET_MINUTE"
     status = 24
 
 
 class RefusedNoText(Refused):
-    """A value that RFC 3339 has no text for: its year is not 0 to 9999, or its offset has seconds or is of 24 hours or
-    more."""
+    """A value that has no text in RFC 3339: a year outside 0 to 9999, or an offset with seconds or beyond 23:59."""
 
     name = "NO_TEXT"
     status = 25

@@ -57,40 +57,39 @@ class Refused:
     WEEK = 7
     # Week 53 of an ISO year that has 52.
     WEEK_OF_YEAR = 8
-    # A day of the week above 6.
+    # A number that is not a day of the week.
     WEEKDAY = 9
-    # An hour above 23.
+    # An hour that is not 0 to 23.
     HOUR = 10
-    # A minute above 59.
+    # A minute that is not 0 to 59.
     MINUTE = 11
-    # A second above 59.
+    # A second that is not 0 to 59.
     SECOND = 12
-    # A nanosecond above 999999999.
+    # A nanosecond that is not 0 to 999999999.
     NANOSECOND = 13
-    # An offset below -93599 seconds or above 93599.
+    # An offset that is not -93599 to 93599 seconds, or whose part in seconds is not -59 to 59.
     OFFSET_SECONDS = 14
-    # A Unix second, or a count of milliseconds, outside the range of timestamps.
+    # A Unix second, or a count of another unit from 1970-01-01, outside the range of timestamps.
     TIMESTAMP = 15
-    # A day number before -365961662 or after 364522971.
+    # A day number that is not -365961662 to 364522971, or a Julian day outside the range of dates.
     DAY_NUMBER = 16
-    # The seconds and nanoseconds of a duration that together are beyond its range.
+    # A duration whose whole seconds do not fit in 64 bits.
     DURATION = 17
-    # A number that is no unit.
+    # A number that is not a unit, or not a part of a date-time.
     UNIT = 18
-    # A result outside the range, or one that its type does not hold.
+    # A result that is outside the range, or that its type cannot hold.
     RESULT = 19
-    # A buffer that is too short for the result.
+    # A buffer that is too short for what the call writes.
     BUFFER = 20
     # A span that does not lie in the block of texts.
     SPAN = 21
-    # A text that is no date-time of RFC 3339.
+    # A text that does not have the form that the call reads, such as a date-time of RFC 3339.
     SYNTAX = 22
-    # In a text, hours of the offset above 23.
+    # Hours of an offset that are out of range: above 23 in a text of RFC 3339, not -25 to 25 elsewhere.
     OFFSET_HOUR = 23
-    # In a text, minutes of the offset above 59.
+    # Minutes of an offset that are not -59 to 59.
     OFFSET_MINUTE = 24
-    # A value that RFC 3339 has no text for: its year is not 0 to 9999, or its offset has seconds or is of 24 hours or
-    # more.
+    # A value that has no text in RFC 3339: a year outside 0 to 9999, or an offset with seconds or beyond 23:59.
     NO_TEXT = 25
 
 
@@ -104,23 +103,23 @@ REFUSALS = {
     6: ("ORDINAL_OF_YEAR", "Day 366 of a year that has 365."),
     7: ("WEEK", "An ISO week that is not 1 to 53."),
     8: ("WEEK_OF_YEAR", "Week 53 of an ISO year that has 52."),
-    9: ("WEEKDAY", "A day of the week above 6."),
-    10: ("HOUR", "An hour above 23."),
-    11: ("MINUTE", "A minute above 59."),
-    12: ("SECOND", "A second above 59."),
-    13: ("NANOSECOND", "A nanosecond above 999999999."),
-    14: ("OFFSET_SECONDS", "An offset below -93599 seconds or above 93599."),
-    15: ("TIMESTAMP", "A Unix second, or a count of milliseconds, outside the range of timestamps."),
-    16: ("DAY_NUMBER", "A day number before -365961662 or after 364522971."),
-    17: ("DURATION", "The seconds and nanoseconds of a duration that together are beyond its range."),
-    18: ("UNIT", "A number that is no unit."),
-    19: ("RESULT", "A result outside the range, or one that its type does not hold."),
-    20: ("BUFFER", "A buffer that is too short for the result."),
+    9: ("WEEKDAY", "A number that is not a day of the week."),
+    10: ("HOUR", "An hour that is not 0 to 23."),
+    11: ("MINUTE", "A minute that is not 0 to 59."),
+    12: ("SECOND", "A second that is not 0 to 59."),
+    13: ("NANOSECOND", "A nanosecond that is not 0 to 999999999."),
+    14: ("OFFSET_SECONDS", "An offset that is not -93599 to 93599 seconds, or whose part in seconds is not -59 to 59."),
+    15: ("TIMESTAMP", "A Unix second, or a count of another unit from 1970-01-01, outside the range of timestamps."),
+    16: ("DAY_NUMBER", "A day number that is not -365961662 to 364522971, or a Julian day outside the range of dates."),
+    17: ("DURATION", "A duration whose whole seconds do not fit in 64 bits."),
+    18: ("UNIT", "A number that is not a unit, or not a part of a date-time."),
+    19: ("RESULT", "A result that is outside the range, or that its type cannot hold."),
+    20: ("BUFFER", "A buffer that is too short for what the call writes."),
     21: ("SPAN", "A span that does not lie in the block of texts."),
-    22: ("SYNTAX", "A text that is no date-time of RFC 3339."),
-    23: ("OFFSET_HOUR", "In a text, hours of the offset above 23."),
-    24: ("OFFSET_MINUTE", "In a text, minutes of the offset above 59."),
-    25: ("NO_TEXT", "A value that RFC 3339 has no text for: its year is not 0 to 9999, or its offset has seconds or is of 24 hours or more."),
+    22: ("SYNTAX", "A text that does not have the form that the call reads, such as a date-time of RFC 3339."),
+    23: ("OFFSET_HOUR", "Hours of an offset that are out of range: above 23 in a text of RFC 3339, not -25 to 25 elsewhere."),
+    24: ("OFFSET_MINUTE", "Minutes of an offset that are not -59 to 59."),
+    25: ("NO_TEXT", "A value that has no text in RFC 3339: a year outside 0 to 9999, or an offset with seconds or beyond 23:59."),
 }
 
 

@@ -356,12 +356,7 @@ pub const fn of_form<T: Copy>(literal: Option<T>, message: &str) -> T {
 
 #[track_caller]
 const fn refused(refusal: Refusal) -> ! {
-    let mut at = 0;
-    while Refusal::ALL[at] as u8 != refusal as u8 {
-        at += 1;
-    }
-    let (_, _, explanation) = sys::REFUSALS[at];
-    panic!("{}", explanation)
+    panic!("{}", refusal.explanation())
 }
 
 macro_rules! values {

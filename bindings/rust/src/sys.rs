@@ -41,70 +41,99 @@ pub const REFUSED_ORDINAL_OF_YEAR: u32 = 6;
 pub const REFUSED_WEEK: u32 = 7;
 /// Week 53 of an ISO year that has 52.
 pub const REFUSED_WEEK_OF_YEAR: u32 = 8;
-/// A day of the week above 6.
+/// A number that is not a day of the week.
 pub const REFUSED_WEEKDAY: u32 = 9;
-/// An hour above 23.
+/// An hour that is not 0 to 23.
 pub const REFUSED_HOUR: u32 = 10;
-/// A minute above 59.
+/// A minute that is not 0 to 59.
 pub const REFUSED_MINUTE: u32 = 11;
-/// A second above 59.
+/// A second that is not 0 to 59.
 pub const REFUSED_SECOND: u32 = 12;
-/// A nanosecond above 999999999.
+/// A nanosecond that is not 0 to 999999999.
 pub const REFUSED_NANOSECOND: u32 = 13;
-/// An offset below -93599 seconds or above 93599.
+/// An offset that is not -93599 to 93599 seconds, or whose part in seconds is not -59 to 59.
 pub const REFUSED_OFFSET_SECONDS: u32 = 14;
-/// A Unix second, or a count of milliseconds, outside the range of timestamps.
+/// A Unix second, or a count of another unit from 1970-01-01, outside the range of timestamps.
 pub const REFUSED_TIMESTAMP: u32 = 15;
-/// A day number before -365961662 or after 364522971.
+/// A day number that is not -365961662 to 364522971, or a Julian day outside the range of dates.
 pub const REFUSED_DAY_NUMBER: u32 = 16;
-/// The seconds and nanoseconds of a duration that together are beyond its range.
+/// A duration whose whole seconds do not fit in 64 bits.
 pub const REFUSED_DURATION: u32 = 17;
-/// A number that is no unit.
+/// A number that is not a unit, or not a part of a date-time.
 pub const REFUSED_UNIT: u32 = 18;
-/// A result outside the range, or one that its type does not hold.
+/// A result that is outside the range, or that its type cannot hold.
 pub const REFUSED_RESULT: u32 = 19;
-/// A buffer that is too short for the result.
+/// A buffer that is too short for what the call writes.
 pub const REFUSED_BUFFER: u32 = 20;
 /// A span that does not lie in the block of texts.
 pub const REFUSED_SPAN: u32 = 21;
-/// A text that is no date-time of RFC 3339.
+/// A text that does not have the form that the call reads, such as a date-time of RFC 3339.
 pub const REFUSED_SYNTAX: u32 = 22;
-/// In a text, hours of the offset above 23.
+/// Hours of an offset that are out of range: above 23 in a text of RFC 3339, not -25 to 25 elsewhere.
 pub const REFUSED_OFFSET_HOUR: u32 = 23;
-/// In a text, minutes of the offset above 59.
+/// Minutes of an offset that are not -59 to 59.
 pub const REFUSED_OFFSET_MINUTE: u32 = 24;
-/// A value that RFC 3339 has no text for: its year is not 0 to 9999, or its offset has seconds or is of 24 hours or
-/// more.
+/// A value that has no text in RFC 3339: a year outside 0 to 9999, or an offset with seconds or beyond 23:59.
 pub const REFUSED_NO_TEXT: u32 = 25;
 
-/// Each status of a refusal, its name, and what it says.
-pub const REFUSALS: &[(u32, &str, &str)] = &[
-    (1, "YEAR", "A year before -999999 or after 999999."),
-    (2, "MONTH", "A month that is not 1 to 12."),
-    (3, "DAY", "A day that is not 1 to 31."),
-    (4, "DAY_OF_MONTH", "A day of 1 to 31 that its month does not have in its year."),
-    (5, "ORDINAL", "A day of the year that is not 1 to 366."),
-    (6, "ORDINAL_OF_YEAR", "Day 366 of a year that has 365."),
-    (7, "WEEK", "An ISO week that is not 1 to 53."),
-    (8, "WEEK_OF_YEAR", "Week 53 of an ISO year that has 52."),
-    (9, "WEEKDAY", "A day of the week above 6."),
-    (10, "HOUR", "An hour above 23."),
-    (11, "MINUTE", "A minute above 59."),
-    (12, "SECOND", "A second above 59."),
-    (13, "NANOSECOND", "A nanosecond above 999999999."),
-    (14, "OFFSET_SECONDS", "An offset below -93599 seconds or above 93599."),
-    (15, "TIMESTAMP", "A Unix second, or a count of milliseconds, outside the range of timestamps."),
-    (16, "DAY_NUMBER", "A day number before -365961662 or after 364522971."),
-    (17, "DURATION", "The seconds and nanoseconds of a duration that together are beyond its range."),
-    (18, "UNIT", "A number that is no unit."),
-    (19, "RESULT", "A result outside the range, or one that its type does not hold."),
-    (20, "BUFFER", "A buffer that is too short for the result."),
-    (21, "SPAN", "A span that does not lie in the block of texts."),
-    (22, "SYNTAX", "A text that is no date-time of RFC 3339."),
-    (23, "OFFSET_HOUR", "In a text, hours of the offset above 23."),
-    (24, "OFFSET_MINUTE", "In a text, minutes of the offset above 59."),
-    (25, "NO_TEXT", "A value that RFC 3339 has no text for: its year is not 0 to 9999, or its offset has seconds or is of 24 hours or more."),
-];
+/// Gives each refusal to a macro: its sentence, its variant, its status and its name.
+macro_rules! refusals {
+    ($declare:ident) => {
+        $declare! {
+            #[doc = "A year before -999999 or after 999999."]
+            Year = REFUSED_YEAR, "YEAR";
+            #[doc = "A month that is not 1 to 12."]
+            Month = REFUSED_MONTH, "MONTH";
+            #[doc = "A day that is not 1 to 31."]
+            Day = REFUSED_DAY, "DAY";
+            #[doc = "A day of 1 to 31 that its month does not have in its year."]
+            DayOfMonth = REFUSED_DAY_OF_MONTH, "DAY_OF_MONTH";
+            #[doc = "A day of the year that is not 1 to 366."]
+            Ordinal = REFUSED_ORDINAL, "ORDINAL";
+            #[doc = "Day 366 of a year that has 365."]
+            OrdinalOfYear = REFUSED_ORDINAL_OF_YEAR, "ORDINAL_OF_YEAR";
+            #[doc = "An ISO week that is not 1 to 53."]
+            Week = REFUSED_WEEK, "WEEK";
+            #[doc = "Week 53 of an ISO year that has 52."]
+            WeekOfYear = REFUSED_WEEK_OF_YEAR, "WEEK_OF_YEAR";
+            #[doc = "A number that is not a day of the week."]
+            Weekday = REFUSED_WEEKDAY, "WEEKDAY";
+            #[doc = "An hour that is not 0 to 23."]
+            Hour = REFUSED_HOUR, "HOUR";
+            #[doc = "A minute that is not 0 to 59."]
+            Minute = REFUSED_MINUTE, "MINUTE";
+            #[doc = "A second that is not 0 to 59."]
+            Second = REFUSED_SECOND, "SECOND";
+            #[doc = "A nanosecond that is not 0 to 999999999."]
+            Nanosecond = REFUSED_NANOSECOND, "NANOSECOND";
+            #[doc = "An offset that is not -93599 to 93599 seconds, or whose part in seconds is not -59 to 59."]
+            OffsetSeconds = REFUSED_OFFSET_SECONDS, "OFFSET_SECONDS";
+            #[doc = "A Unix second, or a count of another unit from 1970-01-01, outside the range of timestamps."]
+            Timestamp = REFUSED_TIMESTAMP, "TIMESTAMP";
+            #[doc = "A day number that is not -365961662 to 364522971, or a Julian day outside the range of dates."]
+            DayNumber = REFUSED_DAY_NUMBER, "DAY_NUMBER";
+            #[doc = "A duration whose whole seconds do not fit in 64 bits."]
+            Duration = REFUSED_DURATION, "DURATION";
+            #[doc = "A number that is not a unit, or not a part of a date-time."]
+            Unit = REFUSED_UNIT, "UNIT";
+            #[doc = "A result that is outside the range, or that its type cannot hold."]
+            Result = REFUSED_RESULT, "RESULT";
+            #[doc = "A buffer that is too short for what the call writes."]
+            Buffer = REFUSED_BUFFER, "BUFFER";
+            #[doc = "A span that does not lie in the block of texts."]
+            Span = REFUSED_SPAN, "SPAN";
+            #[doc = "A text that does not have the form that the call reads, such as a date-time of RFC 3339."]
+            Syntax = REFUSED_SYNTAX, "SYNTAX";
+            #[doc = "Hours of an offset that are out of range: above 23 in a text of RFC 3339, not -25 to 25 elsewhere."]
+            OffsetHour = REFUSED_OFFSET_HOUR, "OFFSET_HOUR";
+            #[doc = "Minutes of an offset that are not -59 to 59."]
+            OffsetMinute = REFUSED_OFFSET_MINUTE, "OFFSET_MINUTE";
+            #[doc = "A value that has no text in RFC 3339: a year outside 0 to 9999, or an offset with seconds or beyond 23:59."]
+            NoText = REFUSED_NO_TEXT, "NO_TEXT";
+        }
+    };
+}
+pub(crate) use refusals;
 
 /// A day.
 pub const UNIT_DAY: u32 = 1;

@@ -170,7 +170,7 @@ fn texts_in_a_block() {
     let refused = timestamps_from_rfc3339(block, &spans[2..], &mut out).unwrap_err();
     assert_eq!(
         refused.to_string(),
-        "item 0: SYNTAX: A text that is no date-time of RFC 3339."
+        "item 0: SYNTAX: A text that does not have the form that the call reads, such as a date-time of RFC 3339."
     );
 }
 

@@ -90,26 +90,29 @@ fn refused_words(refused: Refused) -> &'static str
         Refused::OrdinalOfYear => "Day 366 of a year that has 365.",
         Refused::Week => "An ISO week that is not 1 to 53.",
         Refused::WeekOfYear => "Week 53 of an ISO year that has 52.",
-        Refused::Weekday => "A day of the week above 6.",
-        Refused::Hour => "An hour above 23.",
-        Refused::Minute => "A minute above 59.",
-        Refused::Second => "A second above 59.",
-        Refused::Nanosecond => "A nanosecond above 999999999.",
-        Refused::OffsetSeconds => "An offset below -93599 seconds or above 93599.",
+        Refused::Weekday => "A number that is not a day of the week.",
+        Refused::Hour => "An hour that is not 0 to 23.",
+        Refused::Minute => "A minute that is not 0 to 59.",
+        Refused::Second => "A second that is not 0 to 59.",
+        Refused::Nanosecond => "A nanosecond that is not 0 to 999999999.",
+        Refused::OffsetSeconds =>
+            "An offset that is not -93599 to 93599 seconds, or whose part in seconds is not -59 to 59.",
         Refused::Timestamp =>
-            "A Unix second, or a count of milliseconds, outside the range of timestamps.",
-        Refused::DayNumber => "A day number before -365961662 or after 364522971.",
-        Refused::Duration =>
-            "The seconds and nanoseconds of a duration that together are beyond its range.",
-        Refused::Unit => "A number that is no unit.",
-        Refused::Result => "A result outside the range, or one that its type does not hold.",
-        Refused::Buffer => "A buffer that is too short for the result.",
+            "A Unix second, or a count of another unit from 1970-01-01, outside the range of timestamps.",
+        Refused::DayNumber =>
+            "A day number that is not -365961662 to 364522971, or a Julian day outside the range of dates.",
+        Refused::Duration => "A duration whose whole seconds do not fit in 64 bits.",
+        Refused::Unit => "A number that is not a unit, or not a part of a date-time.",
+        Refused::Result => "A result that is outside the range, or that its type cannot hold.",
+        Refused::Buffer => "A buffer that is too short for what the call writes.",
         Refused::Span => "A span that does not lie in the block of texts.",
-        Refused::Syntax => "A text that is no date-time of RFC 3339.",
-        Refused::OffsetHour => "In a text, hours of the offset above 23.",
-        Refused::OffsetMinute => "In a text, minutes of the offset above 59.",
+        Refused::Syntax =>
+            "A text that does not have the form that the call reads, such as a date-time of RFC 3339.",
+        Refused::OffsetHour =>
+            "Hours of an offset that are out of range: above 23 in a text of RFC 3339, not -25 to 25 elsewhere.",
+        Refused::OffsetMinute => "Minutes of an offset that are not -59 to 59.",
         Refused::NoText =>
-            "A value that RFC 3339 has no text for: its year is not 0 to 9999, or its offset has seconds or is of 24 hours or more.",
+            "A value that has no text in RFC 3339: a year outside 0 to 9999, or an offset with seconds or beyond 23:59.",
     }
 }
 
