@@ -6,6 +6,7 @@ mod FaultFormLemmas
 pub mod FrontLemmas
 mod RangeLemmas
 pub mod LeapLemmas
+pub mod LeapOrderLemmas
 pub mod LengthLemmas
 mod ShortestLemmas
 pub mod TextOrderLemmas

@@ -5,6 +5,7 @@ pub mod Form
 pub mod FullDates
 pub mod Meaning
 pub mod LeapSeconds
+pub mod LeapLaws
 pub mod Texts
 pub mod UnixTexts
 pub mod Refusals

@@ -2,6 +2,7 @@
 ghost use Rattle.rfc3339.specs.Laws.{TextsHaveOneReading, ReadingsAreOfTheForm, WrittenTextsReadBack, TextsTellValues};
 ghost use Rattle.rfc3339.specs.Laws.{FixedTextsHaveOneWidth, FixedTextsKeepTheOrder};
 ghost use Rattle.rfc3339.specs.DigitLaws.{TextsOfDigitsTruncate, TextsOfDigitsKeepTheOrder};
+ghost use Rattle.rfc3339.specs.LeapLaws.{LeapReadingsKeepTheOrder};
 
 /// A text spells one list of parts at most.
 pub fn texts_have_one_reading()
@@ -41,4 +42,10 @@ pub fn texts_of_digits_truncate()
 /// The texts of so many digits at one offset compare, byte by byte, as the date-times truncated to the last of them do.
 pub fn texts_of_digits_keep_the_order()
     ensures { TextsOfDigitsKeepTheOrder }
+{}
+
+/// What is written earlier, with seconds of 0 to 60, is read by `parse_rfc3339_leap` as an earlier instant, or as the same
+/// where the later is a leap second.
+pub fn leap_readings_keep_the_order()
+    ensures { LeapReadingsKeepTheOrder }
 {}
