@@ -118,6 +118,11 @@ export class OffsetDateTime implements Readonly<OffsetDateTimeParts> {
     static of(parts: DateParts & Partial<OffsetDateTimeParts>): OffsetDateTime;
     /** As `Timestamp.parse`, and keeps the offset. */
     static parse(text: string): OffsetDateTime;
+    /**
+     * As `parse`, and reads a second of 60 too. A leap second can be the last second of a month in UTC alone: it is read as the
+     * last nanosecond before the next month, and `isLeap` is true. Any other second of 60 is refused `SECOND`.
+     */
+    static parseLeap(text: string): { dateTime: OffsetDateTime; isLeap: boolean };
     static fromDate(date: Date, offsetSeconds?: number): OffsetDateTime;
     /** -1, 0 or 1, by their instants. */
     static compare(one: OffsetDateTime, other: OffsetDateTime): -1 | 0 | 1;

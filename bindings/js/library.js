@@ -217,6 +217,10 @@ export const clocks = lasting({
     },
     toTimestamp: (at) => getBy(calls.muxandu_timestamp_from_date_time(putClocks(FIRST, at), out), getTimestamp),
     read: (text) => getBy(calls.muxandu_date_time_from_rfc3339(...putText(text), out), getClocks),
+    readLeap(text) {
+        const parts = getBy(calls.muxandu_date_time_from_rfc3339_leap(...putText(text), out, BigInt(SIZE)), getClocks);
+        return { parts, isLeap: memory[SIZE] === 1 };
+    },
     rfc3339: (at) => textBy(calls.muxandu_date_time_to_rfc3339, putClocks(FIRST, at)),
     text: (at) => textBy(calls.muxandu_date_time_text, putClocks(FIRST, at)),
     day: (at) => getBy(calls.muxandu_date_time_day(putClocks(FIRST, at), out), (place) => view.getInt32(place, true)),

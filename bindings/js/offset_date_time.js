@@ -44,6 +44,11 @@ export class OffsetDateTime {
         return dateTimeOf(clocks.read(text));
     }
 
+    static parseLeap(text) {
+        const { parts, isLeap } = clocks.readLeap(text);
+        return { dateTime: dateTimeOf(parts), isLeap };
+    }
+
     static fromDate(date, offsetSeconds = 0) {
         return Timestamp.fromDate(date).toOffset(offsetSeconds);
     }

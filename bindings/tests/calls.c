@@ -652,7 +652,17 @@ static void other_texts_are_read(void) {
           MUXANDU_REFUSED_DAY_OF_MONTH);
     CHECK(is_date_time(out, JUNK) && is_leap == 7);
     CHECK(muxandu_date_time_from_rfc3339_leap("1990-12-31T15:59:60-08:00", 25, &out, &is_leap) == MUXANDU_OK);
-    CHECK(is_date_time(out, date_time(1990, 12, 31, 15, 59, 59, 0, -28800)) && is_leap == 1);
+    CHECK(is_date_time(out, date_time(1990, 12, 31, 15, 59, 59, 999999999, -28800)) && is_leap == 1);
+    out = JUNK, is_leap = 7;
+    CHECK(muxandu_date_time_from_rfc3339_leap("1990-12-31T23:59:60-08:00", 25, &out, &is_leap) ==
+          MUXANDU_REFUSED_SECOND);
+    CHECK(muxandu_date_time_from_rfc3339_leap("2024-02-28T23:59:60Z", 20, &out, &is_leap) == MUXANDU_REFUSED_SECOND);
+    CHECK(muxandu_date_time_from_rfc3339_leap("2024-02-29T12:34:60Z", 20, &out, &is_leap) == MUXANDU_REFUSED_SECOND);
+    CHECK(muxandu_date_time_from_rfc3339_leap("2024-02-29T12:34:60+24:00", 25, &out, &is_leap) ==
+          MUXANDU_REFUSED_OFFSET_HOUR);
+    CHECK(is_date_time(out, JUNK) && is_leap == 7);
+    CHECK(muxandu_date_time_from_rfc3339_leap("2024-02-29T23:59:60.5Z", 22, &out, &is_leap) == MUXANDU_OK);
+    CHECK(is_date_time(out, date_time(2024, 2, 29, 23, 59, 59, 999999999, 0)) && is_leap == 1);
     CHECK(muxandu_date_time_from_rfc3339_leap("1990-12-31T23:59:59Z", 20, &out, &is_leap) == MUXANDU_OK &&
           is_leap == 0);
     CHECK(muxandu_date_time_from_rfc3339("1990-12-31T23:59:60Z", 20, &out) == MUXANDU_REFUSED_SECOND);

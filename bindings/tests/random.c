@@ -272,6 +272,19 @@ static void compare_reading(int is_date_time_wanted) {
     }
 }
 
+/* The text of the last second of a month in UTC, or of a second a minute, an hour or a day beside it. */
+static size_t last_second_of_month(char *out) {
+    static const int64_t beside[] = {0, 0, 0, 60, -60, 3600, -3600, 86400, -86400};
+    MuxanduDateTime at = date_time_of((Nanoseconds)between(-62167219200, 253402300799) * 1000000000, 0);
+    Nanoseconds last = (Nanoseconds)(era_day(at.year, at.month, 1) * 86400 - 1 + beside[one_of(9)]) * 1000000000;
+    int32_t offset = one_of(4) ? (int32_t)between(-1439, 1439) * 60 : 0;
+    size_t size = reference_to_rfc3339(
+        date_time_of(last + offset * (Nanoseconds)1000000000 + some_nanosecond() % 1000000000, offset), out);
+    if (size == 0) size = reference_to_rfc3339(date_time_of(0, 0), out);
+    out[size] = 0;
+    return size;
+}
+
 /* The same texts with more behind them, with a second of 60, and where they are at fault. */
 static void compare_other_reading(uint32_t kind) {
     static const char *const behind[] = {"", " done", "0", ".", "Z", "+01:00", "1970-01-01T00:00:00Z"};
@@ -287,6 +300,7 @@ static void compare_other_reading(uint32_t kind) {
              status == reference_date_time_from_rfc3339_front(text, &wanted, &wanted_length) &&
                  is_date_time(date_time, wanted) && length == wanted_length);
     } else if (kind == 1) {
+        if (one_of(2)) size = last_second_of_month(text);
         if (size > 18 && one_of(2)) memcpy(text + 17, "60", 2);
         status = muxandu_date_time_from_rfc3339_leap(text, size, &date_time, &is_leap);
         tell("date_time_from_rfc3339_leap",

@@ -129,25 +129,14 @@ fn refused_offset(text: &str) -> Option<&'static str> {
     refused.filter(|refused| before != Err("syntax") && *refused != "syntax")
 }
 
-/// What 0.3.9 reads in place of a second of 60, which it has at the end of a month in UTC alone.
+/// What the call for leap seconds reads, which is what 0.3.9 reads.
 fn leap_second(text: &str) -> Answer<MuxanduDateTime> {
-    let date_time = read(&format!("{}59{}", &text[..17], &text[19..]))?;
-    let date_time = MuxanduDateTime {
-        nanosecond: 999_999_999,
-        ..date_time
-    };
-    let last = answered(|out| sys::muxandu_timestamp_from_date_time(date_time, out))?;
-    let next = MuxanduTimestamp {
-        seconds: last.seconds + 1,
-        nanoseconds: 0,
-    };
-    let next = answered(|out| sys::muxandu_date_time_from_timestamp(next, 0, out))?;
-    let is_first_of_month = (next.day, next.hour, next.minute, next.second) == (1, 0, 0, 0);
-    if is_first_of_month {
-        Ok(date_time)
-    } else {
-        Err("second")
-    }
+    let mut is_leap = 0;
+    let read = answered(|out| unsafe {
+        sys::muxandu_date_time_from_rfc3339_leap(text.as_ptr(), text.len(), out, &mut is_leap)
+    });
+    assert!(read.is_err() || is_leap == 1, "{text} is read unmarked");
+    read
 }
 
 /// What 0.3.9 reads, from what we read, and why it is another thing.

@@ -58,6 +58,30 @@ test("bad texts are refused by name", () => {
     for (const value of [undefined, null, 5, new Date(0)]) assert.throws(() => Timestamp.parse(value), TypeError);
 });
 
+test("a leap second is read as the last nanosecond of a month in UTC", () => {
+    for (const [text, wanted, isLeap] of [
+        ["2016-12-31T23:59:59.9Z", "2016-12-31T23:59:59.9Z", false],
+        ["2016-12-31T23:59:60Z", "2016-12-31T23:59:59.999999999Z", true],
+        ["2016-12-31T23:59:60.5Z", "2016-12-31T23:59:59.999999999Z", true],
+        ["2016-12-31T15:59:60-08:00", "2016-12-31T15:59:59.999999999-08:00", true],
+        ["2017-01-01T00:00:00Z", "2017-01-01T00:00:00Z", false],
+    ]) {
+        const read = OffsetDateTime.parseLeap(text);
+        assert.deepEqual([read.dateTime.toRfc3339(), read.isLeap], [wanted, isLeap], text);
+    }
+    for (const [text, name] of [
+        ["2016-12-31T23:59:60-08:00", "SECOND"],
+        ["2024-02-29T12:34:60Z", "SECOND"],
+        ["2024-02-28T23:59:60Z", "SECOND"],
+        ["2016-12-31T23:59:61Z", "SECOND"],
+        ["2016-12-31T23:59:60+24:00", "OFFSET_HOUR"],
+        ["2016-12-31T23:59:60", "SYNTAX"],
+    ]) {
+        refuses(name, () => OffsetDateTime.parseLeap(text));
+    }
+    assert.throws(() => OffsetDateTime.parseLeap(5), TypeError);
+});
+
 test("a timestamp has bounds", () => {
     refuses("TIMESTAMP", () => new Timestamp(31_494_784_780_800n));
     refuses("TIMESTAMP", () => new Timestamp(-31_619_087_596_801n));

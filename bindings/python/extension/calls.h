@@ -745,8 +745,10 @@ static PyObject *rfc3339_fault(PyObject *self, PyObject *const *words, Py_ssize_
 }
 
 /* Reads a date-time and its offset as muxandu_date_time_from_rfc3339 does, and one whose second is 60 too, as
- * '1990-12-31T23:59:60Z': as that of second 59. Then it writes 1 to 'is_leap', and else 0. Any minute may have such
- * a second here: which have one no rule tells. Refused as that call refuses, SECOND above 60. */
+ * '2016-12-31T23:59:60Z'. A leap second can be the last second of a month in UTC alone. It is read as the last
+ * nanosecond before the next month, whatever its fraction; then 'is_leap' is 1, and else 0. What is read is in the
+ * order of what was written. Refused as that call refuses, SECOND above 60; and SECOND where all parts are in their
+ * ranges and no month ends with the second of 60. */
 static PyObject *date_time_from_rfc3339_leap(PyObject *self, PyObject *const *words, Py_ssize_t count)
 {
     Text word_0;
@@ -1163,7 +1165,7 @@ static PyMethodDef OffsetDateTime_methods[] = {
      "Reads the date-time that a text of RFC 3339 begins with, and its offset, as muxandu_date_time_from_rfc3339 does, and writes the number of its bytes to `size`: of `1985-04-12T23:20:50.52Z done` it is 23. Refused SYNTAX where no beginning of the text has that form, else as that call."},
     {"from_rfc3339_leap", FUNCTION(date_time_from_rfc3339_leap), METH_FASTCALL | METH_CLASS,
      "from_rfc3339_leap($type, text, /)\n--\n\n"
-     "Reads a date-time and its offset as muxandu_date_time_from_rfc3339 does, and one whose second is 60 too, as `1990-12-31T23:59:60Z`: as that of second 59. Then it writes 1 to `is_leap`, and else 0. Any minute may have such a second here: which have one no rule tells. Refused as that call refuses, SECOND above 60."},
+     "Reads a date-time and its offset as muxandu_date_time_from_rfc3339 does, and one whose second is 60 too, as `2016-12-31T23:59:60Z`. A leap second can be the last second of a month in UTC alone. It is read as the last nanosecond before the next month, whatever its fraction; then `is_leap` is 1, and else 0. What is read is in the order of what was written. Refused as that call refuses, SECOND above 60; and SECOND where all parts are in their ranges and no month ends with the second of 60."},
     {"saturating_add", FUNCTION(date_time_saturating_add), METH_FASTCALL,
      "saturating_add($self, duration, /)\n--\n\n"
      "The date-time so much later at the same offset, or the end of the range that it is beyond. Refused as the date-time, then DURATION."},

@@ -666,7 +666,7 @@ CALLS = {
     "muxandu_date_time_from_rfc3339_leap": (
         [ctypes.c_void_p, ctypes.c_size_t, ctypes.POINTER(MuxanduDateTime), ctypes.POINTER(ctypes.c_uint8)],
         ctypes.c_uint32,
-        "Reads a date-time and its offset as muxandu_date_time_from_rfc3339 does, and one whose second is 60 too, as `1990-12-31T23:59:60Z`: as that of second 59. Then it writes 1 to `is_leap`, and else 0. Any minute may have such a second here: which have one no rule tells. Refused as that call refuses, SECOND above 60.",
+        "Reads a date-time and its offset as muxandu_date_time_from_rfc3339 does, and one whose second is 60 too, as `2016-12-31T23:59:60Z`. A leap second can be the last second of a month in UTC alone. It is read as the last nanosecond before the next month, whatever its fraction; then `is_leap` is 1, and else 0. What is read is in the order of what was written. Refused as that call refuses, SECOND above 60; and SECOND where all parts are in their ranges and no month ends with the second of 60.",
     ),
     "muxandu_offset_from_parts": (
         [MuxanduOffset, ctypes.POINTER(ctypes.c_int32)],

@@ -238,9 +238,10 @@ class Texts(unittest.TestCase):
         self.assertRaises(muxandu.RefusedSyntax, OffsetDateTime.from_rfc3339_front, "1985-04-12 done")
         self.assertRaises(muxandu.RefusedDayOfMonth, OffsetDateTime.from_rfc3339_front, b"1985-02-29T23:20:50Z done")
         leap = OffsetDateTime.from_rfc3339_leap("1990-12-31T15:59:60-08:00")
-        self.assertEqual(leap, (OffsetDateTime(1990, 12, 31, 15, 59, 59, 0, -28_800), 1))
+        self.assertEqual(leap, (OffsetDateTime(1990, 12, 31, 15, 59, 59, 999_999_999, -28_800), 1))
         self.assertEqual(OffsetDateTime.from_rfc3339_leap("1990-12-31T23:59:59Z")[1], 0)
-        self.assertRaises(muxandu.RefusedSecond, OffsetDateTime.from_rfc3339_leap, "1990-12-31T23:59:61Z")
+        for text in ("1990-12-31T23:59:61Z", "1990-12-31T23:59:60-08:00", "2024-02-29T12:34:60Z"):
+            self.assertRaises(muxandu.RefusedSecond, OffsetDateTime.from_rfc3339_leap, text)
 
     def test_where_a_text_is_at_fault(self):
         for text, place in (

@@ -294,6 +294,42 @@ impl OffsetDateTime {
         Ok(out)
     }
 
+    /// Reads a text of RFC 3339, and one whose second is 60 too. A leap second can be the last second of a month in UTC alone:
+    /// it is read as the last nanosecond before the next month, with `true` beside it. What is read is in the order of what was
+    /// written.
+    ///
+    /// ```
+    /// use muxandu::{OffsetDateTime, Refusal};
+    ///
+    /// let (at, is_leap) = OffsetDateTime::from_rfc3339_leap("2016-12-31T23:59:60.5Z")?;
+    /// assert_eq!((at.nanosecond(), is_leap), (999_999_999, true));
+    /// let (before, is_leap) = OffsetDateTime::from_rfc3339_leap("2016-12-31T23:59:59.9Z")?;
+    /// assert!(before < at && !is_leap);
+    /// let other = OffsetDateTime::from_rfc3339_leap("2024-02-29T12:34:60Z");
+    /// assert_eq!(other, Err(Refusal::Second));
+    /// # Ok::<(), muxandu::Refusal>(())
+    /// ```
+    ///
+    /// # Errors
+    ///
+    /// As [`OffsetDateTime::from_rfc3339`], and [`Refusal::Second`] for a second of 60 that no month ends with.
+    pub fn from_rfc3339_leap(
+        text: impl AsRef<[u8]>,
+    ) -> core::result::Result<(OffsetDateTime, bool), Refusal> {
+        let text = text.as_ref();
+        let (mut out, mut is_leap) = (OffsetDateTime::UNIX_EPOCH, 0);
+        // SAFETY: the pointer and the count are those of one text.
+        Refusal::test(unsafe {
+            sys::muxandu_date_time_from_rfc3339_leap(
+                text.as_ptr(),
+                text.len(),
+                &mut out.0,
+                &mut is_leap,
+            )
+        })?;
+        Ok((out, is_leap == 1))
+    }
+
     pub(crate) fn spelled(self) -> Text {
         // SAFETY: the pointer and the room are those of one place, and nothing else reaches it.
         let text = Text::written(|place, room, size| unsafe {

@@ -466,6 +466,31 @@ fn texts_of_rfc_3339() {
 }
 
 #[test]
+fn leap_seconds_are_read_in_order() {
+    let written = [
+        ("2016-12-31T23:59:58.999999999Z", false),
+        ("2016-12-31T23:59:59.9Z", false),
+        ("2016-12-31T23:59:60Z", true),
+        ("2016-12-31T15:59:60.5-08:00", true),
+        ("2017-01-01T00:00:00Z", false),
+    ];
+    let read = written.map(|(text, _)| OffsetDateTime::from_rfc3339_leap(text).unwrap());
+    assert_eq!(read.map(|(_, is_leap)| is_leap), written.map(|(_, is)| is));
+    assert!(read.is_sorted_by_key(|(at, _)| *at));
+    let last = datetime!(2016-12-31 15:59:59.999999999 -8);
+    assert!(read[2].0 == last && read[3].0.is_same(last));
+    for (text, refusal) in [
+        ("2016-12-31T23:59:60-08:00", Refusal::Second),
+        ("2024-02-28T23:59:60Z", Refusal::Second),
+        ("2016-12-31T23:59:61Z", Refusal::Second),
+        ("2016-12-31T12:00:60+24:00", Refusal::OffsetHour),
+        ("2016-12-31T23:59:60", Refusal::Syntax),
+    ] {
+        assert_eq!(OffsetDateTime::from_rfc3339_leap(text), Err(refusal));
+    }
+}
+
+#[test]
 fn equal_values_hash_alike() {
     let instants = HashSet::from([
         datetime!(2024-02-29 1:00 +1),

@@ -23,8 +23,10 @@ fn date_time_from_rfc3339_leap(text: &[u8]) -> Result<(MuxanduDateTime, bool), R
 }
 
 /// Reads a date-time and its offset as muxandu_date_time_from_rfc3339 does, and one whose second is 60 too, as
-/// `1990-12-31T23:59:60Z`: as that of second 59. Then it writes 1 to `is_leap`, and else 0. Any minute may have such a
-/// second here: which have one no rule tells. Refused as that call refuses, SECOND above 60.
+/// `2016-12-31T23:59:60Z`. A leap second can be the last second of a month in UTC alone. It is read as the last nanosecond
+/// before the next month, whatever its fraction; then `is_leap` is 1, and else 0. What is read is in the order of what was
+/// written. Refused as that call refuses, SECOND above 60; and SECOND where all parts are in their ranges and no month
+/// ends with the second of 60.
 #[unsafe(no_mangle)]
 pub extern "C" fn muxandu_date_time_from_rfc3339_leap(
     text: &[u8],

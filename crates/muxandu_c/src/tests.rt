@@ -722,6 +722,11 @@ fn texts_of_others(rt: HostRuntime) {
     let leap = b"1990-12-31T23:59:60Z";
     let status = muxandu_date_time_from_rfc3339_leap(leap, &mut out, &mut is_leap);
     assert_eq!(rt; (status, out.second, is_leap), (0, 59, 1));
+    assert_eq!(rt; out.nanosecond, 999_999_999);
+    is_leap = 7;
+    let other = b"1990-12-31T23:59:60-08:00";
+    let status = muxandu_date_time_from_rfc3339_leap(other, &mut out, &mut is_leap);
+    assert_eq!(rt; (status, out.year, is_leap), (12, 1990, 7));
     assert_eq!(rt; muxandu_rfc3339_fault(b"1985-04-12_23:20:50Z"), 10);
 }
 

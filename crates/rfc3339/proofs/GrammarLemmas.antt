@@ -1,6 +1,6 @@
 -- The forms of texts are those of the RFC's grammar.
 use Rattle.std.proofs.Common.{◌≡◌, ◌⊎◌, inl, inr, refl, sym, ap, subst, ◌∙◌, ℕ, zero, suc, ◌+◌, ◌-◌, ◌*◌, ◌/◌, ◌%◌, ◌<◌, ◌≤◌, arith}
-use Rattle.std.proofs.Common.{Bool, true, false, List, [], ◌∷◌, ◌++◌, append-nil, length, take, Option, Some, None, Result, Ok, Err, nat_eq}
+use Rattle.std.proofs.Common.{Bool, true, false, not, ◌&&◌, if◌then◌else◌, List, [], ◌∷◌, ◌++◌, append-nil, length, take, Option, Some, None, Result, Ok, Err, nat_eq}
 use Rattle.std.specs.Prelude.{IsTrue, codes, ℤ, unsigned_abs}
 use Rattle.std.specs.Char.{is_ascii_digit, to_ascii_lowercase}
 use Rattle.std.specs.List.{list_all}
@@ -19,7 +19,7 @@ use Rattle.rfc3339.specs.Texts.{HasText, parts_of, rfc3339_text, digits_text, Ha
 use Rattle.rfc3339.specs.ValueLemmas.{IsFraction-text, IsOffsetText-text}
 use Rattle.rfc3339.specs.WrittenDigitLemmas.{last_digits-are}
 use Rattle.rfc3339.proofs.DigitTextLemmas.{IsFraction-digits}
-use Rattle.offset_times.specs.Local.{Local, local_in_utc}
+use Rattle.offset_times.specs.Local.{Local, local_in_utc, instant_of}
 use Rattle.stamp_times.specs.Texts.{fraction_text}
 use Rattle.calendar_values.specs.Calendar.{year_of, month_of, day_of_month_of}
 use Rattle.calendar_values.specs.Clock.{nanosecond_of}
@@ -34,11 +34,12 @@ use Rattle.rfc3339.specs.Reading.{front_at, reading_of}
 use Rattle.rfc3339.specs.TextLemmas.{front_takes, front_again}
 use Rattle.rfc3339.proofs.FaultFormLemmas.{begins_some, longest_of_form}
 use Rattle.rfc3339.specs.declared.refusal.TextRefusal.{TextRefusal}
-use Rattle.rfc3339.specs.LeapSeconds.{leap_reading_of, with_second_59}
-use Rattle.rfc3339.proofs.LeapLemmas.{syntax_leap, leap_reading_of-spelled, marked}
+use Rattle.rfc3339.specs.LeapSeconds.{leap_reading_of, leap_meaning, leap_outcome, stand_in, is_last_of_month}
+use Rattle.rfc3339.proofs.LeapLemmas.{syntax_leap, leap_reading_of-spelled}
 use Rattle.rfc3339.specs.ReadingLemmas.{reading_of-spelled, reading_of-syntax}
 use Rattle.rfc3339.specs.declared.parts.Parts.{Parts}
-use Rattle.rfc3339.specs.declared.refusal.TextRefusal.TheVariants.{Syntax}
+use Rattle.rfc3339.specs.declared.refusal.Component.TheVariants.{Second}
+use Rattle.rfc3339.specs.declared.refusal.TextRefusal.TheVariants.{Syntax, OutOfRange}
 
 -- ---- a derivation, taken apart
 
@@ -479,9 +480,16 @@ meaning-other p e = absurd (grind arith)
 date-other : (year month day : ℕ) → full_date_meaning year month day ≡ Err Syntax → ⊥
 date-other year month day e = absurd (grind arith)
 
-leap-other : (p : Parts) (m : Result Local TextRefusal) → m ≡ meaning (with_second_59 p) → marked (nat_eq p.second 60) m ≡ Err Syntax → ⊥
-leap-other p (Ok at) e f = absurd cc
-leap-other p (Err d) e f = let same : d ≡ Syntax = cc in meaning-other (with_second_59 p) (sym e ∙ ap Err same)
+leap-other : (is_leap : Bool) (p : Parts) (m : Result Local TextRefusal) → m ≡ meaning (stand_in p) → leap_outcome is_leap m ≡ Err Syntax → ⊥
+leap-other is_leap p (Err d) e f = let same : d ≡ Syntax = cc in meaning-other (stand_in p) (sym e ∙ ap Err same)
+leap-other is_leap p (Ok at) e f = absurd (choose (is_leap && not (is_last_of_month (instant_of at))) f) where
+  choose : (t : Bool) → ◌≡◌ {A = Result (Local × Bool) TextRefusal} (if t then Err (OutOfRange Second) else Ok (at, is_leap)) (Err Syntax) → ⊥
+  choose true f = absurd cc
+  choose false f = absurd cc
+
+leap_meaning-other : (p : Parts) → leap_meaning p ≡ Err Syntax → ⊥
+unfolding leap_meaning
+leap_meaning-other p e = leap-other (nat_eq p.second 60) p (meaning (stand_in p)) refl e
 
 pub date_time-refused : (text : List ℕ) → (reading_of text ≡ Err Syntax) ↔ ¬ Derives rfc3339 date_time text
 date_time-refused text = (
@@ -496,7 +504,7 @@ pub leap-refused : (text : List ℕ) → (leap_reading_of text ≡ Err Syntax) �
 leap-refused text = (
   λ refused d.
       let h = taken text d in
-      leap-other h.0 (meaning (with_second_59 h.0)) refl (sym (leap_reading_of-spelled text h.0 h.1) ∙ refused),
+      leap_meaning-other h.0 (sym (leap_reading_of-spelled text h.0 h.1) ∙ refused),
   λ none. elim (syntax_leap text (leap_reading_of text) refl) [
     | inl refused ↦ refused
     | inr h ↦ absurd (none (derived text h.0 h.1))

@@ -7,6 +7,7 @@ pub mod FaultFormLemmas
 pub mod FrontLemmas
 mod RangeLemmas
 pub mod LeapLemmas
+pub mod LeapOrderLemmas
 pub mod LengthLemmas
 mod ShortestLemmas
 pub mod TextOrderLemmas

@@ -8,6 +8,7 @@ pub mod Printed
 pub mod FullDates
 pub mod Meaning
 pub mod LeapSeconds
+pub mod LeapLaws
 pub mod Texts
 pub mod UnixTexts
 pub mod Refusals

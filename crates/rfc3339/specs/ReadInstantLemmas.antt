@@ -18,9 +18,9 @@ instant_of-read at i e =
     let same : at ≡ local_in_utc i = cc in ap instant_of same ∙ instant_of-utc i
 
 -- a year of four digits lies a year or more from the ends of the range
-pub instant_of-in_range : (at : Local) → HasText at → IsInstant (instant_of at)
+instants_in_range : (at : Local) → HasText at → IsInstant (instant_of at) × IsInstant (instant_of at +ℤ pos 1)
 unfolding instant_of
-instant_of-in_range at h =
+instants_in_range at h =
     let day = wall_day at.wall in
     let year = IsInYear-year_of day in
     let shown : wall_clock day (wall_time at.wall) ≡ at.wall = wall_clock-parts at.wall in
@@ -28,6 +28,13 @@ instant_of-in_range at h =
     let after_first = year_start-later first_year (year_of day) (omega (arith, signed_arith)) in
     let before_last = year_start-later (year_of day +ℤ pos 1) (last_year +ℤ pos 1) (omega (arith, signed_arith)) in
     omega (arith, signed_arith, year_start-first, year_start-after_last)
+
+pub instant_of-in_range : (at : Local) → HasText at → IsInstant (instant_of at)
+instant_of-in_range at h = (instants_in_range at h).0
+
+-- and so does the next nanosecond
+pub instant_of-next_in_range : (at : Local) → HasText at → IsInstant (instant_of at +ℤ pos 1)
+instant_of-next_in_range at h = (instants_in_range at h).1
 
 pub instant_of_read : {E : Type 0} (r : Result Local E) → IfOk r HasText → IfOk r (λ at. IsInstant (instant_of at))
 instant_of_read (Ok at) h = instant_of-in_range at h

@@ -4,6 +4,7 @@ ghost use Rattle.rfc3339.specs.Laws.{FixedTextsHaveOneWidth, FixedTextsKeepTheOr
 ghost use Rattle.rfc3339.specs.Grammar.{FormsAreOfTheGrammar, RefusalsAreOfTheGrammar, WrittenTextsAreOfTheGrammar, BeginningsAreOfTheGrammar};
 ghost use Rattle.rfc3339.specs.Printed.{GrammarIsPrinted};
 ghost use Rattle.rfc3339.specs.DigitLaws.{TextsOfDigitsTruncate, TextsOfDigitsKeepTheOrder};
+ghost use Rattle.rfc3339.specs.LeapLaws.{LeapReadingsKeepTheOrder};
 
 /// A text spells one list of parts at most.
 pub fn texts_have_one_reading()
@@ -70,4 +71,10 @@ pub fn beginnings_are_of_the_grammar()
 /// The rules of the grammar, printed as RFC 5234 prints rules, are the lines of RFC 3339, section 5.6.
 pub fn grammar_is_printed()
     ensures { GrammarIsPrinted }
+{}
+
+/// What is written earlier, with seconds of 0 to 60, is read by `parse_rfc3339_leap` as an earlier instant, or as the same
+/// where the later is a leap second.
+pub fn leap_readings_keep_the_order()
+    ensures { LeapReadingsKeepTheOrder }
 {}

@@ -1,33 +1,47 @@
 //! Texts read whose second may be 60.
-ghost use Rattle.std.specs.Prelude.{◌≡◌, ◌⊎◌, ◌==◌, IfOk, OkIff, Err, Ok, false};
+ghost use Rattle.std.specs.Prelude.{◌≡◌, ◌⊎◌, ◌≤◌, ◌==◌, ◌+ℤ◌, pos, IfOk, OkIff, Err, Ok, true, false};
 ghost use Rattle.calendar_values.specs.WallClock.{IsInstant};
 ghost use Rattle.offset_times.specs.Local.{Local, instant_of};
 ghost use Rattle.rfc3339.specs.Form.{IsDateTime};
-ghost use Rattle.rfc3339.specs.LeapSeconds.{leap_meaning, leap_reading_of, with_second_59};
+ghost use Rattle.rfc3339.specs.LeapSeconds.{leap_meaning, leap_reading_of, stand_in, AreInLeapRange};
+ghost use Rattle.rfc3339.specs.LeapSeconds.{IsLastOfMonth, is_last_of_month};
 ghost use Rattle.rfc3339.specs.Meaning.{value_of, AreInRange};
 ghost use Rattle.rfc3339.specs.Reading.{reading_of};
 ghost use Rattle.rfc3339.specs.Texts.{HasText};
 ghost use Rattle.rfc3339.specs.declared.parts.Parts.{Parts};
-ghost use Rattle.rfc3339.specs.declared.refusal.TextRefusal.TheVariants.{Syntax};
+ghost use Rattle.rfc3339.specs.declared.refusal.Component.TheVariants.{Second};
+ghost use Rattle.rfc3339.specs.declared.refusal.TextRefusal.TheVariants.{Syntax, OutOfRange};
 
 use crate::parse::date_time;
 use crate::reading::parts;
-use crate::{Parts, TextRefusal};
+use crate::{Component, Parts, TextRefusal};
+use calendar_values::{SignedDuration, Time};
 use offset_times::OffsetDateTime;
 
-/// Reads a text as `parse_rfc3339` does, and one whose second is 60 too: as that of second 59, with
-/// `true` beside it, as `1990-12-31T23:59:60Z`. Any minute may have such a second here: which have one no rule tells.
+/// Reads a text as `parse_rfc3339` does, and one whose second is 60 too, as `2016-12-31T23:59:60Z`. A leap second can be
+/// the last second of a month in UTC alone: it is read as the last nanosecond before the next month, whatever its fraction,
+/// with `true` beside it. What is read is in the order of what was written. Refused as `parse_rfc3339` refuses, a second
+/// above 60 with it; and `Second` where all parts are in their ranges and no month ends with the second of 60.
 pub fn parse_rfc3339_leap(text: &[u8]) -> Result<(OffsetDateTime, bool), TextRefusal>
     ensures reading { result ≡ leap_reading_of text.now }
 
-    // A text that spells parts is accepted exactly where they are in their ranges, with 59 for a second of 60.
-    ensures value { (p : Parts) → IsDateTime text.now p → OkIff result
-        (AreInRange (with_second_59 p)) (value_of (with_second_59 p), p.second == 60) }
+    // A text that spells parts is accepted exactly where they are in their ranges, a second of 60 as the last of a month in
+    // UTC. Its value has the last nanosecond of the minute for that second.
+    ensures value { (p : Parts) → IsDateTime text.now p →
+        OkIff result (AreInLeapRange p) (value_of (stand_in p), p.second == 60) }
     ensures equation { (p : Parts) → IsDateTime text.now p → result ≡ leap_meaning p }
     ensures syntax { (result ≡ Err Syntax) ⊎ ((p : Parts) × IsDateTime text.now p) }
 
-    // What is read where no second may be 60 is read the same, without the mark.
+    // What is read with the mark is the last nanosecond of a month in UTC; what is read without it is read by
+    // `parse_rfc3339` too, and what that reads is read the same.
+    ensures marked { IfOk result (λ read. read.1 ≡ true → IsLastOfMonth (instant_of read.0)) }
+    ensures unmarked { IfOk result (λ read. read.1 ≡ false → reading_of text.now ≡ Ok read.0) }
     ensures same { (at : Local) → reading_of text.now ≡ Ok at → result ≡ Ok (at, false) }
+
+    // Where no month ends with a second of 60 it is refused, if nothing else is.
+    ensures no_leap_second { (p : Parts) → IsDateTime text.now p → p.second ≡ 60
+        → AreInRange (stand_in p) → ¬ IsLastOfMonth (instant_of (value_of (stand_in p)))
+        → result ≡ Err (OutOfRange Second) }
 
     // What is read can be written, and its instant lies in the range.
     ensures has_text { IfOk result (λ read. HasText read.0) }
@@ -37,18 +51,63 @@ pub fn parse_rfc3339_leap(text: &[u8]) -> Result<(OffsetDateTime, bool), TextRef
 }
 
 // The same, and that what is read can be written.
-#[tactic(auto, unfolding(crate::specs::LeapSeconds::leap_reading_of))]
 fn read_leap(text: &[u8]) -> Result<(OffsetDateTime, bool), TextRefusal>
     ensures reading { result ≡ leap_reading_of text.now }
     ensures has_text { IfOk result (λ read. HasText read.0) }
 {
-    let Some(parts) = parts(text) else {
-        return Err(TextRefusal::Syntax);
+    match parts(text) {
+        Some(parts) => leap_date_time(parts),
+        None => Err(TextRefusal::Syntax),
+    }
+}
+
+// What the numbers of a text mean where the second may be 60.
+fn leap_date_time(parts: Parts) -> Result<(OffsetDateTime, bool), TextRefusal>
+    requires nanosecond { parts.nanosecond ≤ 999_999_999 }
+    requires year { parts.year ≤ 9_999 }
+    ensures value { result ≡ leap_meaning parts }
+    ensures has_text { IfOk result (λ read. HasText read.0) }
+{
+    if parts.second == 60 {
+        leap_second(parts)
+    } else {
+        match date_time(parts) {
+            Ok(at) => Ok((at, false)),
+            Err(refusal) => Err(refusal),
+        }
+    }
+}
+
+// The last nanosecond of the minute for a second of 60, if a month ends with it.
+fn leap_second(parts: Parts) -> Result<(OffsetDateTime, bool), TextRefusal>
+    requires second { parts.second ≡ 60 }
+    requires year { parts.year ≤ 9_999 }
+    ensures value { result ≡ leap_meaning parts }
+    ensures has_text { IfOk result (λ read. HasText read.0) }
+{
+    let last = Parts {
+        second: 59,
+        nanosecond: 999_999_999,
+        ..parts
     };
-    let is_leap = parts.second == 60;
-    let second = if is_leap { 59 } else { parts.second };
-    match date_time(Parts { second, ..parts }) {
-        Ok(at) => Ok((at, is_leap)),
+    match date_time(last) {
+        Ok(at) => {
+            if is_last_of_month(at) {
+                Ok((at, true))
+            } else {
+                Err(TextRefusal::OutOfRange(Component::Second))
+            }
+        }
         Err(refusal) => Err(refusal),
     }
+}
+
+// Whether the next nanosecond begins a month in UTC.
+fn is_last_of_month(at: OffsetDateTime) -> bool
+    requires instant { IsInstant (instant_of at) }
+    requires next { IsInstant (instant_of at +ℤ pos 1) }
+    ensures { result ≡ is_last_of_month (instant_of at) }
+{
+    let next = at.to_utc() + SignedDuration::nanoseconds(1);
+    next.day() == 1 && next.time() == Time::MIDNIGHT
 }

@@ -1,9 +1,10 @@
 //! Texts for other systems, and of them: columns of milliseconds, lines that begin with a date-time, leap seconds, and where a
 //! text is wrong.
-ghost use Rattle.std.specs.Prelude.{◌≡◌, ◌≤◌, ◌==◌, ◌++◌, ℕ, List, SomeIff, OkIff, IfOk, Ok, Some, false, length};
-ghost use Rattle.offset_times.specs.Local.{Local};
+ghost use Rattle.std.specs.Prelude.{◌≡◌, ◌≤◌, ◌==◌, ◌++◌, ℕ, List, SomeIff, OkIff, IfOk, Ok, Some, true, false, length};
+ghost use Rattle.calendar_values.specs.WallClock.{IsInstant};
+ghost use Rattle.offset_times.specs.Local.{Local, instant_of};
 ghost use Rattle.rfc3339.specs.Form.{IsDateTime};
-ghost use Rattle.rfc3339.specs.LeapSeconds.{with_second_59};
+ghost use Rattle.rfc3339.specs.LeapSeconds.{stand_in, AreInLeapRange, IsLastOfMonth};
 ghost use Rattle.rfc3339.specs.Meaning.{value_of, AreInRange};
 ghost use Rattle.rfc3339.specs.Reading.{reading_of};
 ghost use Rattle.rfc3339.specs.Texts.{HasText, digits_text};
@@ -51,8 +52,28 @@ pub fn after_the_stamp(line: &[u8]) -> &[u8]
 /// What a text of another system means whose second may be 60, and whether it is.
 pub fn with_leap_second(text: &[u8]) -> Option<(OffsetDateTime, bool)>
     ensures value { (p : Parts) → IsDateTime text.now p → SomeIff result
-        (AreInRange (with_second_59 p)) (value_of (with_second_59 p), p.second == 60) }
+        (AreInLeapRange p) (value_of (stand_in p), p.second == 60) }
     ensures same { (at : Local) → reading_of text.now ≡ Ok at → result ≡ Some (at, false) }
 {
     parse_rfc3339_leap(text).ok()
+}
+
+/// An entry of a log that keeps whether its second was a leap second.
+#[derive(Clone, Copy)]
+pub struct Entry {
+    /// The date-time.
+    pub at: OffsetDateTime,
+    /// Whether it is the last nanosecond of a month in place of a leap second.
+    pub is_leap: bool,
+}
+
+/// The entry of a text of a log.
+pub fn entry_of(text: &[u8]) -> Result<Entry, TextRefusal>
+    ensures leap { IfOk result (λ entry. entry.is_leap ≡ true → IsLastOfMonth (instant_of entry.at)) }
+    ensures other { IfOk result (λ entry.
+        entry.is_leap ≡ false → reading_of text.now ≡ Ok entry.at) }
+    ensures instant { IfOk result (λ entry. IsInstant (instant_of entry.at)) }
+{
+    let (at, is_leap) = parse_rfc3339_leap(text)?;
+    Ok(Entry { at, is_leap })
 }

@@ -1,0 +1,34 @@
+-- The order of what texts write, with seconds of 60, and of the instants that they are read as.
+use Rattle.std.specs.Prelude.{◌≡◌, ◌⊎◌, ℕ, ◌+◌, ◌*◌, ◌<◌, Bool, true, List, ℤ, pos, ◌+ℤ◌, ◌-ℤ◌, ◌*ℤ◌, ◌<ℤ◌, Ok}
+use Rattle.calendar_values.specs.Calendar.{day_of_calendar_date}
+use Rattle.offset_times.specs.Local.{Local, instant_of}
+use Rattle.rfc3339.specs.Form.{IsDateTime}
+use Rattle.rfc3339.specs.LeapSeconds.{leap_reading_of}
+use Rattle.rfc3339.specs.Meaning.{offset_of}
+use Rattle.rfc3339.specs.declared.parts.Parts.{Parts}
+
+-- the Unix second at which the minute begins
+abbrev pub minute_begin : Parts → ℤ
+minute_begin p =
+    (day_of_calendar_date (pos p.year) p.month p.day *ℤ pos 86_400) +ℤ pos (p.hour * 3_600 + p.minute * 60)
+    -ℤ offset_of p.is_west p.offset_hour p.offset_minute
+
+-- the first numbers write an earlier moment: an earlier minute in UTC, or an earlier second of it, 0 to 60, or an earlier nanosecond of that
+abbrev pub IsWrittenBefore : Parts → Parts → Type 0
+IsWrittenBefore p q =
+    (minute_begin p <ℤ minute_begin q)
+    ⊎ ((minute_begin p ≡ minute_begin q) × (p.second < q.second))
+    ⊎ ((minute_begin p ≡ minute_begin q) × (p.second ≡ q.second) × (p.nanosecond < q.nanosecond))
+
+-- both write the same moment
+abbrev pub IsWrittenWith : Parts → Parts → Type 0
+IsWrittenWith p q = (minute_begin p ≡ minute_begin q) × (p.second ≡ q.second) × (p.nanosecond ≡ q.nanosecond)
+
+-- what is written earlier is read as an earlier instant, or as the same where the later is a leap second; one moment as one instant
+abbrev pub LeapReadingsKeepTheOrder : Type 0
+LeapReadingsKeepTheOrder =
+    (first second : List ℕ) (p q : Parts) (a b : Local) (is_leap is_later_leap : Bool)
+    → IsDateTime first p → IsDateTime second q
+    → leap_reading_of first ≡ Ok (a, is_leap) → leap_reading_of second ≡ Ok (b, is_later_leap)
+    → (IsWrittenBefore p q → (instant_of a <ℤ instant_of b) ⊎ ((instant_of a ≡ instant_of b) × (is_later_leap ≡ true)))
+    × (IsWrittenWith p q → instant_of a ≡ instant_of b)
