@@ -2,8 +2,16 @@
 # `name`, the crate, and `kind`, program or library; a program also sets `share`, how many hundredths of a first build were
 # measured to go into each crate, and `instead`, what can be done meanwhile.
 
+: "${command:?}" "${name:?}" "${kind:?}" "${instead:=}"
 declare -p share > /dev/null 2>&1 || declare -A share=()
 top="$(dirname "$(dirname "$(realpath "${BASH_SOURCE[0]}")")")"
+
+# What is removed when the command ends, also where it is asked to end early.
+temporary=()
+trap '[ "${#temporary[@]}" -eq 0 ] || rm -rf "${temporary[@]}"' EXIT
+
+source "$top/tools/usage.bash"
+
 if [ "$kind" = program ]; then
     built="$top/crates/$name/out/$name"
 else
@@ -86,10 +94,13 @@ build_what_changed() {
         return
     fi
     log="$(mktemp)"
+    temporary+=("$log")
     began="$(mktemp)"
+    temporary+=("$began")
     if ! build || [ ! -f "$built" ]; then
         tail -n 20 "$log" >&2
         echo "$command: $name was not built; all lines are in $log" >&2
+        temporary=("$began")
         exit 1
     fi
     # What was saved while the build ran is newer than what it made.

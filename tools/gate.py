@@ -1,6 +1,7 @@
 """What the steps of the gate share: how cases are counted, and the copy of the repository that they work on."""
 
 import contextlib
+import errno
 import os
 import shutil
 import signal
@@ -36,6 +37,29 @@ SHOWN = 3_000
 
 # How many seconds a step waits for another.
 LONGEST_WAIT = 10_000
+
+# Programs say the same on every machine, and `bash` does not complain of a locale that is not installed.
+os.environ["LC_ALL"] = "C.UTF-8"
+
+
+def say_full_disk(kind, error, trace):
+    """Ends a step with one line where a disk is full, and as ever otherwise."""
+    if isinstance(error, OSError) and error.errno in (errno.ENOSPC, errno.EDQUOT, errno.EFBIG):
+        place = error.filename or tempfile.gettempdir()
+        print(f"FAILED: no room is left on the disk of {place}: {error.strerror}", file=sys.stderr, flush=True)
+        return
+    sys.__excepthook__(kind, error, trace)
+
+
+sys.excepthook = say_full_disk
+
+
+def has_gnu_parallel():
+    """Whether `parallel` is GNU's, which the pages use: that of moreutils takes other words."""
+    if shutil.which("parallel") is None:
+        return False
+    ended = subprocess.run(["parallel", "--version"], stdin=subprocess.DEVNULL, capture_output=True, check=False)
+    return ended.returncode == 0 and b"GNU parallel" in ended.stdout
 
 
 class Tally:
@@ -131,6 +155,22 @@ def copy_repository(folder, repository=REPOSITORY):
     """The path of a copy of a repository in the folder, with what checks have kept."""
     copy = os.path.join(folder, "copy")
     shutil.copytree(repository, copy, symlinks=True, ignore=shutil.ignore_patterns(".git", "__pycache__"))
+    return copy
+
+
+def fresh_copy(folder, repository=REPOSITORY):
+    """The path of a copy of a repository in the folder, as a clone of it has its files: with the edits that are not committed,
+    and without what checks have kept."""
+    copy = os.path.join(folder, "fresh copy")
+    words = ["git", "ls-files", "-z", "--cached", "--others", "--exclude-standard"]
+    listed = subprocess.run(words, cwd=repository, stdout=subprocess.PIPE, stderr=subprocess.DEVNULL, check=False)
+    if listed.returncode != 0:
+        ignored = shutil.ignore_patterns(".git", "__pycache__", "out", "dist", "target", "*.so")
+        return shutil.copytree(repository, copy, symlinks=True, ignore=ignored)
+    for name in map(os.fsdecode, filter(None, listed.stdout.split(b"\0"))):
+        if os.path.lexists(os.path.join(repository, name)):
+            os.makedirs(os.path.dirname(os.path.join(copy, name)), exist_ok=True)
+            shutil.copy2(os.path.join(repository, name), os.path.join(copy, name), follow_symlinks=False)
     return copy
 
 
