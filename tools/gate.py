@@ -3,6 +3,7 @@
 import contextlib
 import errno
 import os
+import re
 import shutil
 import signal
 import subprocess
@@ -38,6 +39,13 @@ SHOWN = 3_000
 # How many seconds a step waits for another.
 LONGEST_WAIT = 10_000
 
+# The last line of a step: how many cases passed, failed and were skipped.
+COUNT = re.compile(r"(\d+) passed, (\d+) failed(?:, (\d+) skipped)?")
+
+# The least cases, passed and skipped, that each step has.
+FLOORS = os.path.join(TOOLS, "counts.txt")
+FLOORS_HEAD = "# The least cases, passed and skipped, that a step has. Made by tools/counts.\n"
+
 # Programs say the same on every machine, and `bash` does not complain of a locale that is not installed.
 os.environ["LC_ALL"] = "C.UTF-8"
 
@@ -62,6 +70,21 @@ def has_gnu_parallel():
     return ended.returncode == 0 and b"GNU parallel" in ended.stdout
 
 
+def floors():
+    """The least cases of each step, by its name."""
+    if not os.path.exists(FLOORS):
+        return {}
+    with open(FLOORS, encoding="utf-8") as file:
+        lines = [line.rpartition(": ") for line in file.read().splitlines() if not line.startswith("#")]
+    return {name: int(cases) for name, _, cases in lines}
+
+
+def write_floors(found):
+    """Writes the least cases of each step."""
+    with open(FLOORS, "w", encoding="utf-8") as file:
+        file.write(FLOORS_HEAD + "".join(f"{name}: {cases}\n" for name, cases in sorted(found.items())))
+
+
 class Tally:
     """The cases of a step: how many passed, how many failed, and how many were skipped."""
 
@@ -84,13 +107,20 @@ class Tally:
         self.skipped.append((case, reason, cases))
         print(f"{case}: skipped: {reason}", flush=True)
 
+    def skip_rest(self, reason):
+        """Counts all cases that the step has beyond those that were counted as skipped, for a reason: as many as it has on a
+        machine where each can run."""
+        step = os.path.basename(sys.argv[0])
+        counted = self.passed + self.failed + sum(cases for _, _, cases in self.skipped)
+        self.skip(f"the rest of {step}", reason, max(1, floors().get(step, 0) - counted))
+
     def end(self, *others):
         """Prints the count, with those of other halves of the step, and ends the step: as a failure where a case failed,
-        or where none passed in one of the halves."""
+        or where none passed and none was skipped in one of the halves."""
         halves = (self, *others)
         passed, failed = (sum(getattr(half, name) for half in halves) for name in ("passed", "failed"))
         skipped = [case for half in halves for case in half.skipped]
-        if failed == 0 and not all(half.passed for half in halves):
+        if failed == 0 and not all(half.passed or half.skipped for half in halves):
             failed = 1
             print("a part of this step checked nothing", flush=True)
         for case, reason, cases in skipped:
