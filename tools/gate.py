@@ -190,17 +190,18 @@ def copy_repository(folder, repository=REPOSITORY):
 
 def fresh_copy(folder, repository=REPOSITORY):
     """The path of a copy of a repository in the folder, as a clone of it has its files: with the edits that are not committed,
-    and without what checks have kept."""
-    copy = os.path.join(folder, "fresh copy")
+    and without what checks have kept. Wrong bodies are left out, since no command but the gate reads them."""
+    copy, left_out = os.path.join(folder, "fresh copy"), ("wrong", "must-fail")
     words = ["git", "ls-files", "-z", "--cached", "--others", "--exclude-standard"]
     listed = subprocess.run(words, cwd=repository, stdout=subprocess.PIPE, stderr=subprocess.DEVNULL, check=False)
     if listed.returncode != 0:
-        ignored = shutil.ignore_patterns(".git", "__pycache__", "out", "dist", "target", "*.so")
+        ignored = shutil.ignore_patterns(".git", "__pycache__", "out", "dist", "target", "*.so", *left_out)
         return shutil.copytree(repository, copy, symlinks=True, ignore=ignored)
     for name in map(os.fsdecode, filter(None, listed.stdout.split(b"\0"))):
-        if os.path.lexists(os.path.join(repository, name)):
+        path = os.path.join(repository, name)
+        if os.path.lexists(path) and not set(left_out) & set(name.split("/")):
             os.makedirs(os.path.dirname(os.path.join(copy, name)), exist_ok=True)
-            shutil.copy2(os.path.join(repository, name), os.path.join(copy, name), follow_symlinks=False)
+            shutil.copy2(path, os.path.join(copy, name), follow_symlinks=False)
     return copy
 
 
