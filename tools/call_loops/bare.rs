@@ -319,7 +319,7 @@ pub fn written(seconds: &[i64], offsets: &[i32], rounds: u32, out: &mut [u8]) ->
 
 fn write(at: &Local, out: &mut [u8]) -> Option<usize> {
     let size = at.offset.unsigned_abs();
-    if at.year < 0 || at.year > 9_999 || size % 60 != 0 || size >= 86_400 {
+    if at.year < 0 || at.year > 9_999 || !size.is_multiple_of(60) || size >= 86_400 {
         return None;
     }
     let (month, day) = at.month_day();
