@@ -9,6 +9,8 @@ top="$(dirname "$(dirname "$(realpath "${BASH_SOURCE[0]}")")")"
 # What is removed when the command ends, also where it is asked to end early.
 temporary=()
 trap '[ "${#temporary[@]}" -eq 0 ] || rm -rf "${temporary[@]}"' EXIT
+trap 'exit 130' INT
+trap 'exit 143' TERM
 
 source "$top/tools/usage.bash"
 
