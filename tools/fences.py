@@ -34,6 +34,7 @@ READERS = {
     "package_beside_time": {"docs/RUST.md": ("diff", "text")},
     "pages": {
         "README.md": ("rust", "rust program"),
+        "docs/C.md": ("text muxandu.h",),
         "docs/CALLING.md": ("rust", "rust program"),
         "docs/COOKBOOK.md": ("rust",),
         "docs/PROGRAM.md": ("lines", "sh run *"),
