@@ -38,6 +38,7 @@ READERS = {
         "docs/CALLING.md": ("rust", "rust program"),
         "docs/COOKBOOK.md": ("rust",),
         "docs/PROGRAM.md": ("lines", "sh run *"),
+        "docs/DEFINITIONS.md": ("rust", "text"),
         "docs/STATEMENT.md": ("rust", "text"),
     },
     "python": {"docs/PYTHON.md": ("python", "sh", "text")},
