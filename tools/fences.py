@@ -1,7 +1,7 @@
 """The fenced blocks of the pages: which kinds there are, and which tool reads each.
 
-A tool that runs blocks has a function `examples`, which gives them in groups of blocks that belong together. tools/newcomer
-compares what it gives with READERS, and reads the other blocks itself.
+A tool that runs blocks has a function `examples`, which gives them, or their texts, in groups that belong together.
+tools/newcomer compares what it gives with READERS, and reads the other blocks itself.
 """
 
 import glob
