@@ -136,7 +136,7 @@ class FreshClone:
         return os.path.isdir(os.path.join(self.root, "crates", crate, "out"))
 
     def folder(self, name):
-        """A folder beside the clone, which is made where it is not there."""
+        """A folder next to the clone, which is made if there is none."""
         path = os.path.join(self.place, name)
         os.makedirs(path, exist_ok=True)
         return path
