@@ -1,17 +1,19 @@
 """Dates and times over the proleptic Gregorian calendar, the years -999999 to 999999, and Unix time without leap seconds.
 
-Every answer comes from the library muxandu, each function of which is proved to meet its contract. Timestamp is an
-instant, OffsetDateTime what clocks at an offset from UTC show, UtcDateTime what they show in UTC, PlainDateTime what they
-show somewhere, Date a day, Time a time of day, Duration a length of time. A refusal is raised as a Refused, a ValueError, of
-a class of its own:
+The calendar, the clocks, the sums of instants and the texts of RFC 3339 come from the library muxandu, each function of which is
+proved to meet its contract. Conversions from and to Python's own types, and all of Duration, are tested and not proved.
+
+Timestamp is an instant. OffsetDateTime is the date and time of clocks at an offset from UTC, UtcDateTime that of clocks in UTC,
+PlainDateTime that of no known offset. Date is a day, Time a time of day, Duration a length of time. A refusal of the library is
+raised as a Refused, a ValueError, of a class of its own:
 
 >>> from muxandu import Duration, OffsetDateTime, Timestamp
 >>> at = Timestamp.from_rfc3339("2024-02-28T23:30:00-01:00")
 >>> (at + Duration(86_400)).to_utc().to_rfc3339()
 '2024-03-01T00:30:00Z'
->>> OffsetDateTime(2023, 2, 29)
+>>> OffsetDateTime(2023, 2, 29)  # doctest: +ELLIPSIS
 Traceback (most recent call last):
-muxandu.RefusedDayOfMonth: DAY_OF_MONTH: A day of 1 to 31 that its month does not have in its year.
+muxandu.RefusedDayOfMonth: DAY_OF_MONTH: ...: 29
 """
 
 from ._batch import (
@@ -35,6 +37,7 @@ from ._batch import (
 )
 from ._clocks import PlainDateTime, UtcDateTime
 from ._engine import IMPLEMENTATION
+from ._missing import MISSING
 from ._refusals import (
     Part,
     Refused,
@@ -74,6 +77,10 @@ from .muxandu_sys import MuxanduTimestamp as TimestampParts
 
 __version__ = "0.1.0"
 
+# Where users and pickles look for them.
+for _kind in (IsoWeekDate, OrdinalDate, Part, PlainDateTime, Refused, Time, Unit, UtcDateTime, UtcOffset):
+    _kind.__module__ = "muxandu"
+
 __all__ = [
     "Date",
     "DateParts",
@@ -81,6 +88,7 @@ __all__ = [
     "Duration",
     "IMPLEMENTATION",
     "IsoWeekDate",
+    "MISSING",
     "OffsetDateTime",
     "OrdinalDate",
     "Part",

@@ -1,10 +1,10 @@
 """Many items in one call.
 
-What goes in is a buffer of such items, an array.array or a NumPy array, which is read where it lies, or a sequence. What
-comes out is written to `out`, a buffer of so many items or more, and is else a new array: of NumPy, where a NumPy array
-or a pandas column came in, and else an array.array of numbers or a ctypes array of structures, which is a buffer too.
+A call reads a buffer of items, an array.array or a NumPy array, with no copy, or a sequence. It writes to `out`, a buffer of as
+many items or more. Without `out` it returns a new array: of NumPy where it got a NumPy array or a pandas column, else an
+array.array of numbers or a ctypes array of structures.
 
-Where seconds or days go in or out, an array of NumPy's datetime64 can stand in their place, of any unit.
+Calls that read or write seconds or days take an array of NumPy's datetime64 too, of any unit.
 """
 
 from __future__ import annotations
@@ -12,18 +12,32 @@ from __future__ import annotations
 import array
 import ctypes
 import sys
-from typing import Any, Callable, Optional
+from typing import Any, Callable, Iterable, Optional, SupportsIndex, Union
 
-from . import _buffers, _datetime64
+from . import _buffers, _datetime64, _missing
 from ._engine import engine
-from ._refusals import REFUSALS, Refused
-from ._values import Date, OffsetDateTime, Timestamp
+from ._refusals import REFUSALS, Refused, RefusedBuffer, RefusedNoText, RefusedOffsetSeconds, RefusedResult
+from ._values import Date, OffsetDateTime, Timestamp, _parts
 from ._words import ends, held, joined, whole
 from .muxandu_sys import MuxanduDate, MuxanduDateTime, MuxanduSpan, MuxanduTimestamp
+
+# What calls over many items take. A memoryview or a bytes-like object is tested when a call reads it.
+_Buffer = Union[bytes, bytearray, memoryview]
+Numbers = Union[Iterable[SupportsIndex], _Buffer]
+NumbersWithGaps = Union[Iterable[Union[SupportsIndex, float, None]], _Buffer]
+Texts = Union[Iterable[Union[str, _Buffer]], _Buffer]
+TextsWithGaps = Union[Iterable[Union[str, _Buffer, float, None]], _Buffer]
+DateTimes = Union[Iterable[Union[OffsetDateTime, MuxanduDateTime]], _Buffer]
+DateTimesWithGaps = Union[Iterable[Union[OffsetDateTime, MuxanduDateTime, float, None]], _Buffer]
+Dates = Union[Iterable[Union[Date, MuxanduDate]], _Buffer]
+Timestamps = Union[Iterable[Union[Timestamp, MuxanduTimestamp]], _Buffer]
 
 _CODES: dict[Any, str] = {ctypes.c_int32: "i", ctypes.c_uint32: "I", ctypes.c_int64: "q"}
 
 _NANO = 10**9
+
+# The statuses that are of a result, of `out` or of an offset, and not of an item.
+_NOT_OF_ITEMS = {refusal.status for refusal in (RefusedResult, RefusedBuffer, RefusedOffsetSeconds, RefusedNoText)}
 
 # The calls over datetime64 of parts of a second, by its unit.
 _OF_PARTS = {
@@ -48,6 +62,7 @@ def _is_buffer(items: Any) -> bool:
 
 def _as_array(items: Any) -> Any:
     """What can be an array of NumPy, as a column of pandas can, as that; an array of objects as a list of them."""
+    _missing.refuse_mask(items)
     if not hasattr(items, "__array__"):
         return items
     import numpy
@@ -60,9 +75,11 @@ def _is_like_numpy(items: Any) -> bool:
     return hasattr(items, "__array_interface__") or hasattr(items, "__array__")
 
 
-def _test(status: int, count: int) -> None:
+def _test(status: int, count: int, items: Any = None) -> None:
+    """Raises the refusal of a call that converted `count` items, with the next item where these are a list."""
     if status:
-        raise REFUSALS[status](count)
+        is_of_item = isinstance(items, (list, tuple)) and count < len(items) and status not in _NOT_OF_ITEMS
+        raise REFUSALS[status](count, items[count] if is_of_item else None)
 
 
 class _Items:
@@ -110,7 +127,7 @@ def _writing(out: Any, kind: Any) -> _Items:
 
 
 def _room(count: int, kind: Any, is_like_numpy: bool) -> Any:
-    """A new array of so many items."""
+    """A new array of `count` items."""
     if is_like_numpy:
         import numpy
 
@@ -174,17 +191,18 @@ def _held_array(numbers: Any, kind: Any) -> Any:
     return numpy.clip(numbers, max(low, int(own.min)), min(high, int(own.max))).astype(numpy.dtype(kind))
 
 
-def _structures(values: Any, kind: Any, of: Any) -> Any:
-    """Structures as a buffer: those of a sequence of values are copied."""
+def _structures(values: Any, kind: Any, of: Any, missing: Any = ()) -> Any:
+    """Structures as a buffer: those of a sequence of values are copied, with one of zeros for each that is missing."""
     values = _as_array(values)
     if _is_buffer(values):
         return values
     values = list(values)
-    odd = {type(value).__name__ for value in values if not isinstance(value, of)}
+    odd = {type(value).__name__ for place, value in enumerate(values) if not isinstance(value, of) and place not in missing}
     if odd:
         raise TypeError(f"a buffer of structures, or a sequence of {of.__name__}, not of {', '.join(sorted(odd))}")
     names = [name for name, _ in kind._fields_]
-    return (kind * len(values))(*(tuple(getattr(value, name) for name in names) for value in values))
+    parts = ((0,) * len(names) if place in missing else _parts(value, *names) for place, value in enumerate(values))
+    return (kind * len(values))(*parts)
 
 
 def _converted(call: Callable[..., tuple[int, int]], items: Any, given: Any, made: Any, out: Any, like: Any, *words: int) -> Any:
@@ -194,7 +212,7 @@ def _converted(call: Callable[..., tuple[int, int]], items: Any, given: Any, mad
         out = _room(source.count, made, _is_like_numpy(like))
     place = _writing(out, made)
     done, status = call(source.apart_from(place), source.count, *words, place.data, place.count)
-    _test(status, done)
+    _test(status, done, like)
     return out
 
 
@@ -226,7 +244,7 @@ def _shown_by_parts(call: Callable[..., tuple[int, int]], parts: int, counts: An
     return out
 
 
-def date_times_from_seconds(seconds: Any, offset_seconds: Any = 0, out: Any = None) -> Any:
+def date_times_from_seconds(seconds: Numbers, offset_seconds: SupportsIndex = 0, out: Any = None) -> Any:
     """What clocks at an offset show at each Unix second: items of DateTimeParts, of which OffsetDateTime.from_parts makes
     values. Of datetime64 also the nanoseconds are kept."""
     if not _datetime64.is_such(seconds):
@@ -240,22 +258,22 @@ def date_times_from_seconds(seconds: Any, offset_seconds: Any = 0, out: Any = No
     return _datetime64.with_nanoseconds(out, nanoseconds, lambda: date_times_from_seconds(whole, offset_seconds, out))
 
 
-def date_times_from_milliseconds(milliseconds: Any, offset_seconds: Any = 0, out: Any = None) -> Any:
-    """What clocks at an offset show so many milliseconds from 1970-01-01 0:00 UTC, for each count: items of DateTimeParts."""
+def date_times_from_milliseconds(milliseconds: Numbers, offset_seconds: SupportsIndex = 0, out: Any = None) -> Any:
+    """The date-time at an offset of each count of milliseconds from 1970-01-01 0:00 UTC: items of DateTimeParts."""
     return _shown(engine.date_times_from_milliseconds, milliseconds, offset_seconds, out, milliseconds)
 
 
-def date_times_from_microseconds(microseconds: Any, offset_seconds: Any = 0, out: Any = None) -> Any:
-    """What clocks at an offset show so many microseconds from 1970-01-01 0:00 UTC, for each count: items of DateTimeParts."""
+def date_times_from_microseconds(microseconds: Numbers, offset_seconds: SupportsIndex = 0, out: Any = None) -> Any:
+    """The date-time at an offset of each count of microseconds from 1970-01-01 0:00 UTC: items of DateTimeParts."""
     return _shown_by_parts(engine.date_times_from_microseconds, 10**6, microseconds, offset_seconds, out)
 
 
-def date_times_from_nanoseconds(nanoseconds: Any, offset_seconds: Any = 0, out: Any = None) -> Any:
-    """What clocks at an offset show so many nanoseconds from 1970-01-01 0:00 UTC, for each count: items of DateTimeParts."""
+def date_times_from_nanoseconds(nanoseconds: Numbers, offset_seconds: SupportsIndex = 0, out: Any = None) -> Any:
+    """The date-time at an offset of each count of nanoseconds from 1970-01-01 0:00 UTC: items of DateTimeParts."""
     return _shown_by_parts(engine.date_times_from_nanoseconds, _NANO, nanoseconds, offset_seconds, out)
 
 
-def seconds_from_date_times(date_times: Any, out: Any = None) -> Any:
+def seconds_from_date_times(date_times: DateTimes, out: Any = None) -> Any:
     """The Unix second of each date-time, rounded down: of a buffer of DateTimeParts, or of a sequence of OffsetDateTime. An
     `out` of datetime64 gets what its unit holds of the nanoseconds."""
     items = _structures(date_times, MuxanduDateTime, OffsetDateTime)
@@ -270,18 +288,18 @@ def _counted(call: Callable[..., tuple[int, int]], date_times: Any, out: Any) ->
     return _converted(call, items, MuxanduDateTime, ctypes.c_int64, out, date_times)
 
 
-def milliseconds_from_date_times(date_times: Any, out: Any = None) -> Any:
+def milliseconds_from_date_times(date_times: DateTimes, out: Any = None) -> Any:
     """The milliseconds from 1970-01-01 0:00 UTC of each date-time, rounded down."""
     return _counted(engine.milliseconds_from_date_times, date_times, out)
 
 
-def microseconds_from_date_times(date_times: Any, out: Any = None) -> Any:
+def microseconds_from_date_times(date_times: DateTimes, out: Any = None) -> Any:
     """The microseconds from 1970-01-01 0:00 UTC of each date-time, rounded down. RefusedResult where 64 bits do not hold
     them."""
     return _counted(engine.microseconds_from_date_times, date_times, out)
 
 
-def nanoseconds_from_date_times(date_times: Any, out: Any = None) -> Any:
+def nanoseconds_from_date_times(date_times: DateTimes, out: Any = None) -> Any:
     """The nanoseconds from 1970-01-01 0:00 UTC of each date-time. RefusedResult where 64 bits do not hold them."""
     return _counted(engine.nanoseconds_from_date_times, date_times, out)
 
@@ -304,27 +322,61 @@ def _each_converted(
     return out, statuses
 
 
-def date_times_from_each_second(seconds: Any, offset_seconds: Any = 0, out: Any = None, statuses: Any = None) -> tuple[Any, Any]:
-    """What clocks at an offset show at each Unix second, and the status of each: 0, or the `status` of its refusal. Where one
-    is refused, what is in its place stays, and the next follows. Of datetime64 also the nanoseconds are kept."""
+# A second that each call refuses.
+_NO_SECOND = 2**62
+
+
+def _known_seconds(seconds: Any) -> tuple[Any, Any]:
+    """Seconds with one that is refused in place of each that is missing, and the places of these."""
+    seconds, masked = _missing.filled(seconds, _NO_SECOND)
+    found = _as_array(seconds)
+    if _missing.is_float(found) and found.ndim == 1 and _is_array(found):
+        return _missing.whole_of_floats(found, _NO_SECOND)
+    if _is_buffer(found):
+        return found, masked
+    found = list(found)
+    places = _missing.places_of(found)
+    for place in places:
+        found[place] = _NO_SECOND
+    return found, places
+
+
+def date_times_from_each_second(
+    seconds: NumbersWithGaps, offset_seconds: SupportsIndex = 0, out: Any = None, statuses: Any = None
+) -> tuple[Any, Any]:
+    """What clocks at an offset show at each Unix second, and the status of each: 0, or the `status` of its refusal, or MISSING
+    of None, NaN, NA, NaT and a masked item. Where an item has a status, its place in `out` stays as it was, and the next
+    follows. Of datetime64 also the nanoseconds are kept."""
     if not _datetime64.is_such(seconds):
-        items, offset = _numbers(seconds, ctypes.c_int64), held(offset_seconds, ctypes.c_int32)
+        known, missing = _known_seconds(seconds)
+        items, offset = _numbers(known, ctypes.c_int64), held(offset_seconds, ctypes.c_int32)
         call = engine.date_times_from_each_second
-        return _each_converted(call, items, ctypes.c_int64, MuxanduDateTime, out, statuses, seconds, offset)
-    whole, nanoseconds = _datetime64.split(seconds)
-    shown, told = date_times_from_each_second(whole, offset_seconds, out, statuses)
-    _datetime64.put_nanoseconds(shown, nanoseconds, told)
+        shown, told = _each_converted(call, items, ctypes.c_int64, MuxanduDateTime, out, statuses, seconds, offset)
+    else:
+        moments, _ = _missing.filled(seconds, None)
+        whole, nanoseconds = _datetime64.split(moments)
+        missing = _datetime64.missing(moments)
+        shown, told = date_times_from_each_second(whole, offset_seconds, out, statuses)
+        _datetime64.put_nanoseconds(shown, nanoseconds, told)
+    _missing.mark(told, missing)
     return shown, told
 
 
-def seconds_from_each_date_time(date_times: Any, out: Any = None, statuses: Any = None) -> tuple[Any, Any]:
+def seconds_from_each_date_time(date_times: DateTimesWithGaps, out: Any = None, statuses: Any = None) -> tuple[Any, Any]:
     """The Unix second of each date-time, rounded down, and the status of each, in the same way."""
-    items = _structures(date_times, MuxanduDateTime, OffsetDateTime)
+    known, missing = _missing.filled(date_times, None)
+    known = _as_array(known)
+    if not _is_buffer(known):
+        known = list(known)
+        missing = _missing.places_of(known)
+    items = _structures(known, MuxanduDateTime, OffsetDateTime, set(missing))
     call = engine.seconds_from_each_date_time
-    return _each_converted(call, items, MuxanduDateTime, ctypes.c_int64, out, statuses, date_times)
+    seconds, told = _each_converted(call, items, MuxanduDateTime, ctypes.c_int64, out, statuses, date_times)
+    _missing.mark(told, missing)
+    return seconds, told
 
 
-def dates_from_days(days: Any, out: Any = None) -> Any:
+def dates_from_days(days: Numbers, out: Any = None) -> Any:
     """The date of each day number, counted from 1970-01-01: items of DateParts."""
     if _datetime64.is_such(days):
         whole, _ = _datetime64.split(days)
@@ -333,7 +385,7 @@ def dates_from_days(days: Any, out: Any = None) -> Any:
     return _converted(engine.dates_from_days, items, ctypes.c_int32, MuxanduDate, out, days)
 
 
-def days_from_dates(dates: Any, out: Any = None) -> Any:
+def days_from_dates(dates: Dates, out: Any = None) -> Any:
     """The day number of each date: of a buffer of DateParts, or of a sequence of Date."""
     items = _structures(dates, MuxanduDate, Date)
     if _datetime64.is_such(out):
@@ -357,7 +409,7 @@ def _of_block(call: Callable[..., tuple[int, int]], block: Any, spans: Any, made
         out = _room(where.count, made, _is_like_numpy(like))
     place = _writing(out, made)
     done, status = call(read.apart_from(place), read.count, where.copied(), where.count, place.data, place.count)
-    _test(status, done)
+    _test(status, done, like)
     return out, done
 
 
@@ -370,11 +422,11 @@ def _stamps_of_texts(texts: Any, spans: Any, out: Any) -> tuple[Any, int]:
         out = _room(len(each), MuxanduTimestamp, _is_like_numpy(texts))
     place = _writing(out, MuxanduTimestamp)
     done, status = engine.timestamps_from_texts(each, place.data, place.count)
-    _test(status, done)
+    _test(status, done, texts)
     return out, done
 
 
-def timestamps_from_rfc3339(texts: Any, spans: Any = None, out: Any = None) -> Any:
+def timestamps_from_rfc3339(texts: Texts, spans: Any = None, out: Any = None) -> Any:
     """The instant of each text of RFC 3339: items of TimestampParts.
 
     The texts are a sequence of str or bytes, or one block of bytes, of which a buffer of Spans says where each text lies.
@@ -385,7 +437,7 @@ def timestamps_from_rfc3339(texts: Any, spans: Any = None, out: Any = None) -> A
     return _datetime64.filled_by_stamps(out, stamps, lambda: _stamps_of_texts(texts, spans, stamps)[1])
 
 
-def date_times_from_rfc3339(texts: Any, spans: Any = None, out: Any = None) -> Any:
+def date_times_from_rfc3339(texts: Texts, spans: Any = None, out: Any = None) -> Any:
     """The date-time and the offset of each text of RFC 3339: items of DateTimeParts, of which OffsetDateTime.from_parts makes
     values. The texts are as timestamps_from_rfc3339 takes them."""
     block, where = texts, spans
@@ -396,7 +448,7 @@ def date_times_from_rfc3339(texts: Any, spans: Any = None, out: Any = None) -> A
     return _of_block(engine.date_times_from_rfc3339, block, where, MuxanduDateTime, out, like)[0]
 
 
-def rfc3339_from_timestamps(timestamps: Any) -> list[str]:
+def rfc3339_from_timestamps(timestamps: Timestamps) -> list[str]:
     """The shortest text of RFC 3339 in UTC of each instant: of a buffer of TimestampParts, of a sequence of Timestamp, or of
     an array of datetime64."""
     if _datetime64.is_such(timestamps):
@@ -412,6 +464,6 @@ def timestamps_from_datetime64(moments: Any, out: Any = None) -> Any:
     return _datetime64.stamps(moments, _room(len(moments), MuxanduTimestamp, True) if out is None else out)
 
 
-def datetime64_from_timestamps(timestamps: Any, unit: str = "ns") -> Any:
+def datetime64_from_timestamps(timestamps: Timestamps, unit: str = "ns") -> Any:
     """The array of NumPy's datetime64 of instants, rounded down to a unit. RefusedResult where 64 bits do not hold them."""
     return _datetime64.of_stamps(_structures(timestamps, MuxanduTimestamp, Timestamp), unit)

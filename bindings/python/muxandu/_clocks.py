@@ -8,8 +8,9 @@ from __future__ import annotations
 import datetime
 from typing import Any, ClassVar, SupportsIndex, TypeVar, Union
 
-from ._values import _PARTS, Date, Duration, OffsetDateTime, Time, Timestamp, UtcOffset
-from ._values import _datetime, _formatted, _is_length, _parts
+from . import _own_texts
+from ._values import _KEPT, _PARTS, Date, Duration, OffsetDateTime, Time, Timestamp, UtcOffset
+from ._values import _datetime, _formatted, _is_length, _parts, _replaced
 from ._words import nanosecond_of
 
 _Self = TypeVar("_Self", bound="_Clock")
@@ -35,6 +36,11 @@ class _Clock:
         nanosecond: SupportsIndex = 0,
     ) -> _Self:
         return cls._shown_by(OffsetDateTime(year, month, day, hour, minute, second, nanosecond))
+
+    @classmethod
+    def from_text(cls: type[_Self], text: str) -> _Self:
+        """The value that str() writes so. RefusedSyntax of another text."""
+        return _own_texts.read(cls._kind.__name__, text, lambda *parts: cls(*_own_texts.numbers(*parts)))
 
     @classmethod
     def _shown_by(cls: type[_Self], at: OffsetDateTime) -> _Self:
@@ -95,21 +101,31 @@ class _Clock:
         """The days from 1970-01-01."""
         return self._at.day_number()
 
-    def replace(self: _Self, **replaced: SupportsIndex) -> _Self:
+    def replace(
+        self: _Self,
+        *,
+        year: SupportsIndex = _KEPT,
+        month: SupportsIndex = _KEPT,
+        day: SupportsIndex = _KEPT,
+        hour: SupportsIndex = _KEPT,
+        minute: SupportsIndex = _KEPT,
+        second: SupportsIndex = _KEPT,
+        nanosecond: SupportsIndex = _KEPT,
+    ) -> _Self:
         """The same with other parts, by name: replace(day=1, hour=0)."""
-        numbers: dict[str, Any] = {name: getattr(self, name) for name in _PARTS}
-        return type(self)(**{**numbers, **replaced})
+        made: _Self = _replaced(self, (year, month, day, hour, minute, second, nanosecond))
+        return made
 
     def truncated_to(self: _Self, unit: SupportsIndex) -> _Self:
         """Rounded down to a unit, before 1970 too."""
         return self._shown_by(self._at.truncated_to(unit))
 
     def saturating_add(self: _Self, duration: Union[Duration, datetime.timedelta]) -> _Self:
-        """So much later, or the end of the range that it is beyond."""
+        """The value later by a duration, or the end of the range."""
         return self._shown_by(self._at.saturating_add(duration))
 
     def saturating_sub(self: _Self, duration: Union[Duration, datetime.timedelta]) -> _Self:
-        """So much earlier, or the end of the range that it is beyond."""
+        """The value earlier by a duration, or the end of the range."""
         return self._shown_by(self._at.saturating_sub(duration))
 
     def __add__(self: _Self, duration: Union[Duration, datetime.timedelta]) -> _Self:

@@ -1,11 +1,13 @@
-"""Instants, date-times, days and durations. Each answer is the library's."""
+"""Instants, date-times, days and durations: the library's calls as methods, and what is Python's own, as all of Duration."""
 
 from __future__ import annotations
 
 import datetime
+import functools
 import time
 from typing import Any, ClassVar, NamedTuple, SupportsIndex, TypeVar, Union
 
+from . import _own_texts
 from ._engine import engine
 from ._refusals import REFUSALS, RefusedResult
 from ._words import as_bytes, nanosecond_of, nanoseconds_of, whole
@@ -21,9 +23,13 @@ _Shown = TypeVar("_Shown", bound="OffsetDateTime")
 _Date = TypeVar("_Date", bound="Date")
 _Time = TypeVar("_Time", bound="Time")
 _Offset = TypeVar("_Offset", bound="UtcOffset")
+_Length = TypeVar("_Length", bound="Duration")
 
 
 _Kind = TypeVar("_Kind")
+
+# The default of a part that `replace` keeps.
+_KEPT: Any = object()
 
 
 def _completed(kind: type[_Kind]) -> type[_Kind]:
@@ -39,13 +45,13 @@ def _completed(kind: type[_Kind]) -> type[_Kind]:
 
 
 def _formatted(value: Any, form: str) -> str:
-    """A value as a format asks for it: by `strftime` where that has a %, else its text in so many places."""
+    """A value as a format asks for it: by `strftime` where that has a %, else its text, padded."""
     return str(value.to_datetime().strftime(form)) if "%" in form else format(str(value), form)
 
 
 @_completed
 class Duration(engine.Duration):
-    """A length of time, forwards or back: so many seconds and nanoseconds together, by which durations compare."""
+    """A length of time, forwards or back: seconds and nanoseconds of one sign. Durations compare by both together."""
 
     __slots__ = ()
 
@@ -64,13 +70,18 @@ class Duration(engine.Duration):
 
     @classmethod
     def of_nanoseconds(cls, nanoseconds: int) -> Duration:
-        """The duration of so many nanoseconds, however many bits they have."""
+        """The duration of a count of nanoseconds, of any size. RefusedDuration outside the range."""
         return cls(0, nanoseconds)
 
     @classmethod
     def of_days(cls, days: int) -> Duration:
-        """The duration of so many days of 86,400 seconds."""
+        """The duration of a count of days of 86,400 seconds. RefusedDuration outside the range."""
         return cls(whole(days) * _DAY)
+
+    @classmethod
+    def from_text(cls: type[_Length], text: str) -> _Length:
+        """The duration that str() writes so, as -90.5s. RefusedSyntax of another text."""
+        return _own_texts.read("Duration", text, lambda *parts: cls(0, _own_texts.nanoseconds(*parts)))
 
     def whole_nanoseconds(self) -> int:
         """The whole duration in nanoseconds."""
@@ -113,6 +124,18 @@ class Duration(engine.Duration):
     def __divmod__(self, other: Union[Duration, datetime.timedelta]) -> Any:
         return (self // other, self % other) if _is_length(other) else NotImplemented
 
+    def __rfloordiv__(self, other: datetime.timedelta) -> Any:
+        return Duration.of(other) // self if _is_length(other) else NotImplemented
+
+    def __rtruediv__(self, other: datetime.timedelta) -> Any:
+        return Duration.of(other) / self if _is_length(other) else NotImplemented
+
+    def __rmod__(self, other: datetime.timedelta) -> Any:
+        return Duration.of(other) % self if _is_length(other) else NotImplemented
+
+    def __rdivmod__(self, other: datetime.timedelta) -> Any:
+        return divmod(Duration.of(other), self) if _is_length(other) else NotImplemented
+
     def __hash__(self) -> int:
         # That of the datetime.timedelta that it equals, if there is one.
         count = self.whole_nanoseconds()
@@ -138,8 +161,9 @@ def _is_length(value: object) -> bool:
     return isinstance(value, (Duration, datetime.timedelta))
 
 
+@functools.total_ordering
 class UtcOffset:
-    """How far clocks are ahead of UTC, -25:59:59 to 25:59:59. It goes wherever seconds of an offset go."""
+    """How far clocks are ahead of UTC, -25:59:59 to 25:59:59. Calls take it where they take seconds of an offset."""
 
     __slots__ = ("_seconds",)
     _seconds: int
@@ -150,6 +174,11 @@ class UtcOffset:
         offset = object.__new__(cls)
         offset._seconds = OffsetDateTime(1970, 1, 1, offset_seconds=whole_seconds).offset_seconds
         return offset
+
+    @classmethod
+    def from_text(cls: type[_Offset], text: str) -> _Offset:
+        """The offset that str() writes so, as +02:00:00. RefusedSyntax of another text."""
+        return _own_texts.read("UtcOffset", text, lambda *parts: cls(_own_texts.seconds(*parts)))
 
     @classmethod
     def from_hms(cls, hours: int, minutes: int = 0, seconds: int = 0) -> UtcOffset:
@@ -177,6 +206,9 @@ class UtcOffset:
 
     def __eq__(self, other: object) -> Any:
         return self._seconds == other._seconds if isinstance(other, UtcOffset) else NotImplemented
+
+    def __lt__(self, other: UtcOffset) -> bool:
+        return self._seconds < other._seconds if isinstance(other, UtcOffset) else NotImplemented
 
     def __hash__(self) -> int:
         return hash(self._seconds)
@@ -210,15 +242,21 @@ class Timestamp(engine.Timestamp):
         return cls._from_nanoseconds(time.time_ns())
 
     @classmethod
+    def from_text(cls: type[_Stamp], text: str) -> _Stamp:
+        """The instant that str() writes so, a decimal of Unix seconds as -0.5. RefusedSyntax of another text."""
+        return _own_texts.read("Timestamp", text, lambda *parts: cls.from_nanoseconds(_own_texts.nanoseconds(*parts)))
+
+    @classmethod
     def from_microseconds(cls: type[_Stamp], microseconds: int) -> _Stamp:
-        """The instant so many microseconds from 1970-01-01 0:00 UTC."""
+        """The instant that is a count of microseconds from 1970-01-01 0:00 UTC. RefusedTimestamp outside the range."""
         count = whole(microseconds)
         seconds, left = divmod(count, 1_000_000)
         return cls._from_microseconds(count) if -(2**63) <= count < 2**63 else cls(seconds, left * 1_000)
 
     @classmethod
     def from_nanoseconds(cls: type[_Stamp], nanoseconds: int) -> _Stamp:
-        """The instant so many nanoseconds from 1970-01-01 0:00 UTC, as time.time_ns() counts, and past 64 bits."""
+        """The instant that is a count of nanoseconds from 1970-01-01 0:00 UTC, as time.time_ns() counts; also past 64 bits.
+        RefusedTimestamp outside the range."""
         count = whole(nanoseconds)
         return cls._from_nanoseconds(count) if -(2**63) <= count < 2**63 else cls(*divmod(count, _SECOND))
 
@@ -283,6 +321,16 @@ class OffsetDateTime(engine.OffsetDateTime):
         return cls(*_parts(Timestamp.now().to_offset(offset_seconds), *_PARTS, "offset_seconds"))
 
     @classmethod
+    def from_text(cls: type[_Shown], text: str) -> _Shown:
+        """The date-time that str() writes so, as 2024-02-29 4:00:00.0 +02:00:00. RefusedSyntax of another text."""
+
+        def make(*parts: str) -> _Shown:
+            numbers = [*_own_texts.numbers(*parts[:7]), _own_texts.seconds(*parts[7:])]
+            return cls(*numbers)
+
+        return _own_texts.read("OffsetDateTime", text, make)
+
+    @classmethod
     def from_parts(cls: type[_Shown], item: Any) -> _Shown:
         """The date-time of an item of a batch."""
         is_structure = hasattr(item, "offset_seconds")
@@ -305,10 +353,21 @@ class OffsetDateTime(engine.OffsetDateTime):
         """What clocks in UTC show at the same instant."""
         return UtcDateTime._shown_by(self.to_offset(0))
 
-    def replace(self: _Shown, **replaced: SupportsIndex) -> _Shown:
+    def replace(
+        self: _Shown,
+        *,
+        year: SupportsIndex = _KEPT,
+        month: SupportsIndex = _KEPT,
+        day: SupportsIndex = _KEPT,
+        hour: SupportsIndex = _KEPT,
+        minute: SupportsIndex = _KEPT,
+        second: SupportsIndex = _KEPT,
+        nanosecond: SupportsIndex = _KEPT,
+        offset_seconds: SupportsIndex = _KEPT,
+    ) -> _Shown:
         """The same with other parts, by name: replace(day=1, hour=0)."""
-        numbers: dict[str, Any] = {name: getattr(self, name) for name in (*_PARTS, "offset_seconds")}
-        return type(self)(**{**numbers, **replaced})
+        made: _Shown = _replaced(self, (year, month, day, hour, minute, second, nanosecond, offset_seconds))
+        return made
 
     def date(self) -> Date:
         """The date that the clocks show."""
@@ -327,7 +386,7 @@ class OffsetDateTime(engine.OffsetDateTime):
         return PlainDateTime(*_parts(self, *_PARTS))
 
     def is_same(self, other: OffsetDateTime) -> bool:
-        """Whether both show the same at the same offset, not only the same instant."""
+        """Whether both have the same parts and the same offset. `==` compares the instants alone."""
         if not isinstance(other, OffsetDateTime):
             raise TypeError(f"an OffsetDateTime, not {type(other).__name__}")
         return bool(self.__reduce__()[1] == other.__reduce__()[1])
@@ -340,6 +399,12 @@ class OffsetDateTime(engine.OffsetDateTime):
 
     def __repr__(self) -> str:
         return f"{type(self).__name__}{self.__reduce__()[1]}"
+
+
+def _replaced(value: Any, parts: tuple[SupportsIndex, ...]) -> Any:
+    """The value with those of its parts that are not kept."""
+    kind, kept = value.__reduce__()
+    return kind(*(old if part is _KEPT else part for old, part in zip(kept, parts)))
 
 
 def _datetime(shown: Any, zone: Union[datetime.tzinfo, None]) -> datetime.datetime:
@@ -391,6 +456,11 @@ class Date(engine.Date):
         return engine.date_to_rfc3339(self.year, self.month, self.day)
 
     @classmethod
+    def from_text(cls: type[_Date], text: str) -> _Date:
+        """The day that str() writes so, as 2024-02-29 or -0005-03-01. RefusedSyntax of another text."""
+        return _own_texts.read("Date", text, lambda *parts: cls(*_own_texts.numbers(*parts)))
+
+    @classmethod
     def from_date(cls: type[_Date], date: datetime.date) -> _Date:
         """The day of a datetime.date."""
         return cls(date.year, date.month, date.day)
@@ -405,11 +475,12 @@ class Date(engine.Date):
         return datetime.date(self.year, self.month, self.day)
 
     def add_days(self: _Date, days: int) -> _Date:
-        """The day so many days later, or earlier for a negative count. Refused RefusedResult outside the range."""
+        """The day that is `days` days later, or earlier for a negative count. RefusedResult outside the range."""
         return type(self)(*engine.date_add_days(self.year, self.month, self.day, days))
 
     def add_months(self: _Date, months: int) -> _Date:
-        """The same day of the month so many months later, or the month's last day where it is shorter."""
+        """The same day of the month after `months` months, or the month's last day where it is shorter. RefusedResult outside the
+        range."""
         return type(self)(*engine.date_add_months(self.year, self.month, self.day, months))
 
     @classmethod
@@ -444,10 +515,10 @@ class Date(engine.Date):
         """The day of the week, 0 for Monday."""
         return engine.weekday_from_day(self.day_number())
 
-    def replace(self: _Date, **replaced: SupportsIndex) -> _Date:
+    def replace(self: _Date, *, year: SupportsIndex = _KEPT, month: SupportsIndex = _KEPT, day: SupportsIndex = _KEPT) -> _Date:
         """The same with other parts, by name: replace(day=1)."""
-        numbers: dict[str, Any] = {name: getattr(self, name) for name in ("year", "month", "day")}
-        return type(self)(**{**numbers, **replaced})
+        made: _Date = _replaced(self, (year, month, day))
+        return made
 
     def _moved(self: _Date, days: Any, sign: int) -> _Date:
         if _is_length(days):
@@ -457,13 +528,15 @@ class Date(engine.Date):
         return self.from_day_number(self.day_number() + sign * days)
 
     def __add__(self: _Date, days: Union[int, Duration, datetime.timedelta]) -> _Date:
-        """So many days later; of a duration the whole days, rounded towards zero."""
+        """The day that many days later. Of a duration it takes the whole days, rounded towards zero; `datetime.date` takes
+        those of `timedelta.days`, which are rounded down."""
         return self._moved(days, 1)
 
     __radd__ = __add__
 
     def __sub__(self, other: Any) -> Any:
-        """The duration from another day, or so many days earlier."""
+        """The duration from another day, or the day that many days earlier. Of a duration it takes the whole days, rounded
+        towards zero."""
         if isinstance(other, Date):
             return Duration.of_days(self.day_number() - other.day_number())
         return self._moved(other, -1)
@@ -496,6 +569,11 @@ class Time:
         made = object.__new__(cls)
         made._at = OffsetDateTime(1970, 1, 1, hour, minute, second, nanosecond)
         return made
+
+    @classmethod
+    def from_text(cls: type[_Time], text: str) -> _Time:
+        """The time of day that str() writes so, as 4:00:00.0. RefusedSyntax of another text."""
+        return _own_texts.read("Time", text, lambda *parts: cls(*_own_texts.numbers(*parts)))
 
     @classmethod
     def from_time(cls, at: datetime.time) -> Time:

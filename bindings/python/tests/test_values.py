@@ -5,31 +5,18 @@ import datetime
 import fractions
 import importlib.metadata
 import inspect
+import json
 import os
 import pickle
 import random
-import shutil
 import subprocess
 import sys
-import tempfile
 import time
 import unittest
 from pathlib import Path
 
 import muxandu
-from muxandu import (
-    Date,
-    Duration,
-    OffsetDateTime,
-    Part,
-    PlainDateTime,
-    Time,
-    Timestamp,
-    Unit,
-    UtcDateTime,
-    UtcOffset,
-    muxandu_sys,
-)
+from muxandu import Date, Duration, OffsetDateTime, Part, PlainDateTime, Time, Timestamp, Unit, UtcDateTime, UtcOffset
 
 DAY = datetime.timedelta(days=1)
 UTC = datetime.timezone.utc
@@ -61,6 +48,8 @@ class Durations(unittest.TestCase):
                 )
                 if second:
                     self.assertEqual((one // other, one / other), (first // second, first / second))
+                    self.assertEqual((first // other, first / other), (first // second, first / second))
+                    self.assertEqual((first % other, divmod(first, other)), (one % other, divmod(one, other)))
                     self.assertEqual(
                         (one % other, divmod(one, other)), (Duration.of(first % second), (first // second, one % other))
                     )
@@ -138,6 +127,16 @@ class Dates(unittest.TestCase):
         self.assertRaises(muxandu.RefusedDayNumber, lambda: Date.MAX + 1)
         self.assertRaises(muxandu.RefusedDayNumber, lambda: Date.MIN - 1)
         self.assertRaises(TypeError, lambda: date + 0.5)
+
+    def test_moved_by_a_duration(self):
+        """By whole days towards zero, as the crate `time` has it; a datetime.date takes the days of the timedelta, which are
+        rounded down."""
+        date, hour = Date(2024, 2, 29), datetime.timedelta(hours=1)
+        self.assertEqual((date + hour, date - hour, date + -hour), (date, date, date))
+        self.assertEqual((date + 25 * hour, date - 25 * hour), (Date(2024, 3, 1), Date(2024, 2, 28)))
+        self.assertEqual((date.to_date() + hour, date.to_date() - hour), (date.to_date(), date.to_date()))
+        self.assertEqual(date.to_date() + -hour, datetime.date(2024, 2, 28))
+        self.assertEqual([Duration(seconds).whole_days() for seconds in (-86_401, -86_399, 86_399, 86_401)], [-1, 0, 0, 1])
 
     def test_weeks_and_julian_days_beside_date(self):
         source = random.Random(1)
@@ -271,8 +270,17 @@ class Moments(unittest.TestCase):
         self.assertTrue(at < at.to_offset(0) + Duration(1) and at.to_offset(0) + Duration(1) > at)
         there = OffsetDateTime(2024, 2, 29, 12, 34, 56, 790, 3_600)
         self.assertEqual((at - there, there - at), (Duration(3_599, 999_999_999), Duration(-3_599, -999_999_999)))
-        for first, second in ((plain, there), (there, plain), (at, plain), (plain, at), (at, Timestamp(0)), (Timestamp(0), at)):
+        for first, second in (
+            (plain, there),
+            (there, plain),
+            (at, plain),
+            (plain, at),
+            (Timestamp(0), plain),
+            (plain, Timestamp(0)),
+        ):
             self.assertRaises(TypeError, lambda first=first, second=second: first - second)
+            self.assertRaises(TypeError, lambda first=first, second=second: first + second)
+        for first, second in ((at, Timestamp(0)), (Timestamp(0), at), (there, Timestamp(0)), (at, there)):
             self.assertRaises(TypeError, lambda first=first, second=second: first + second)
         self.assertFalse(at == plain)
         self.assertRaises(TypeError, lambda: at < plain)
@@ -285,6 +293,42 @@ class Moments(unittest.TestCase):
             self.assertTrue(one < moved <= moved and moved > one >= one)
             self.assertRaises(TypeError, lambda one=one: one + 1)
         self.assertEqual(UtcDateTime.from_rfc3339("2024-02-29T13:34:56+01:00").to_rfc3339(), "2024-02-29T12:34:56Z")
+
+    def test_all_types_of_an_instant(self):
+        """Equality, order, hashes and differences of instants, beside whole numbers of nanoseconds."""
+        source = random.Random(1)
+        ends = [(at.seconds * 10**9 + at.nanoseconds) + far for at in (Timestamp.MIN, Timestamp.MAX) for far in (-1, 0, 1)]
+        counts = [*(source.randint(ends[1], ends[4]) for _ in range(200)), *(source.randint(-3, 3) for _ in range(100)), *ends]
+
+        def moments(count):
+            stamp = Timestamp.from_nanoseconds(count)
+            yield stamp
+            yield stamp.to_utc()
+            for offset in (0, source.randint(-93_599, 93_599)):
+                try:
+                    yield stamp.to_offset(offset)
+                except muxandu.RefusedResult:
+                    pass
+
+        known = [(count, moment) for count in counts if ends[1] <= count <= ends[4] for moment in moments(count)]
+        # What clocks show past both ends of the range of instants.
+        known.append((ends[4] + 60 * 10**9, OffsetDateTime(999_999, 12, 31, 23, 59, 59, 999_999_999, -60)))
+        known.append((ends[1] - 60 * 10**9, OffsetDateTime(-999_999, 1, 1, offset_seconds=60)))
+        for _ in range(5_000):
+            (one, first), (two, second) = source.choice(known), source.choice(known)
+            orders = (first < second, first <= second, first == second, first != second, first >= second, first > second)
+            self.assertEqual(orders, (one < two, one <= two, one == two, one != two, one >= two, one > two), (first, second))
+            self.assertEqual((first - second).whole_nanoseconds(), one - two, (first, second))
+            self.assertTrue(one != two or hash(first) == hash(second), (first, second))
+        self.assertEqual(len({moment for _, moment in known}), len({count for count, _ in known}))
+        self.assertEqual([count for count, _ in sorted(known, key=lambda pair: pair[1])], sorted(count for count, _ in known))
+
+    def test_a_datetime_is_not_compared(self):
+        for value in (Timestamp(0), UtcDateTime(1970, 1, 1), OffsetDateTime(1970, 1, 1)):
+            epoch = datetime.datetime(1970, 1, 1, tzinfo=UTC)
+            self.assertFalse(value == epoch or epoch == value)
+            for call in (lambda value=value: value < epoch, lambda value=value: epoch - value, lambda value=value: value - epoch):
+                self.assertRaises(TypeError, call)
 
     def test_times(self):
         at = Time(9, 5, 0, 250_000_000)
@@ -301,6 +345,8 @@ class Moments(unittest.TestCase):
         self.assertEqual(Timestamp(0).to_offset(offset), UtcDateTime(1970, 1, 1))
         self.assertEqual(Timestamp(0).to_offset(offset).offset(), offset)
         self.assertEqual((UtcOffset.UTC.is_utc(), len({offset, UtcOffset(-30_600)})), (True, 1))
+        self.assertTrue(offset < UtcOffset.UTC <= UtcOffset(0) < UtcOffset(1) > offset >= UtcOffset(-30_600))
+        self.assertRaises(TypeError, lambda: offset < 5)
         self.assertRaises(muxandu.RefusedOffsetSeconds, UtcOffset, 93_600)
         for parts, seconds in (((1, -1), 3_660), ((-1, 1, 1), -3_661), ((0, -1, 1), -61), ((25, 59, 59), 93_599)):
             self.assertEqual(UtcOffset.from_hms(*parts).whole_seconds(), seconds)
@@ -318,6 +364,50 @@ class Moments(unittest.TestCase):
             for protocol in range(pickle.HIGHEST_PROTOCOL + 1):
                 self.assertEqual(repr(pickle.loads(pickle.dumps(value, protocol))), repr(value))
             self.assertRaises(AttributeError, setattr, value, "other", 1)
+
+    def test_own_texts_are_read(self):
+        """What `str` writes, which is the crate's text and no text of RFC 3339."""
+        for text, value in (
+            ("-0.5", Timestamp(-1, 500_000_000)),
+            ("1709166600", Timestamp(1_709_166_600)),
+            ("2024-02-29 4:00:00.0 +02:00:00", OffsetDateTime(2024, 2, 29, 4, offset_seconds=7_200)),
+            ("-0005-12-31 23:59:59.000000001 -25:59:59", OffsetDateTime(-5, 12, 31, 23, 59, 59, 1, -93_599)),
+            ("+999999-12-31 23:59:59.999999999 +00", UtcDateTime.MAX),
+            ("-999999-01-01 0:00:00.0", PlainDateTime.MIN),
+            ("+10000-01-01", Date(10_000, 1, 1)),
+            ("9:05:00.25", Time(9, 5, 0, 250_000_000)),
+            ("-08:30:00", UtcOffset(-30_600)),
+            ("-0.000000001s", Duration(0, -1)),
+            (str(Duration.MIN), Duration.MIN),
+        ):
+            kind = type(value)
+            self.assertEqual((str(value), format(value, ""), f"{value}"), (text,) * 3)
+            self.assertEqual(repr(kind.from_text(text)), repr(value))
+            for other in ("", f" {text}", f"{text}\n", f"{text}\u0660", f"0{text}", f"+{text}", "1" * 10_000, "x"):
+                with self.assertRaises(muxandu.RefusedSyntax) as caught:
+                    kind.from_text(other)
+                self.assertEqual(caught.exception.value, other)
+            for other in (None, 5, text.encode(), value):
+                self.assertRaises(TypeError, kind.from_text, other)
+        for kind, text, refusal in (
+            (Date, "2024-13-01", muxandu.RefusedMonth),
+            (Time, "24:00:00.0", muxandu.RefusedHour),
+            (OffsetDateTime, "2023-02-29 0:00:00.0 +00:00:00", muxandu.RefusedDayOfMonth),
+            (UtcOffset, "+26:00:00", muxandu.RefusedOffsetSeconds),
+            (Timestamp, "31494784780800", muxandu.RefusedTimestamp),
+            (Duration, "9223372036854775808s", muxandu.RefusedDuration),
+            (OffsetDateTime, "2024-02-29T04:00:00Z", muxandu.RefusedSyntax),
+            (Timestamp, "-0", muxandu.RefusedSyntax),
+        ):
+            self.assertRaises(refusal, kind.from_text, text)
+
+    def test_texts_of_files(self):
+        """`json.dumps` with `default=str` writes the text that `from_text` reads; `isoformat` and `to_rfc3339` write others."""
+        at = OffsetDateTime(2024, 2, 29, 4, offset_seconds=7_200)
+        self.assertEqual(OffsetDateTime.from_text(json.loads(json.dumps({"at": at}, default=str))["at"]), at)
+        written = json.dumps({"at": at}, default=OffsetDateTime.to_rfc3339)
+        self.assertEqual(OffsetDateTime.from_rfc3339(json.loads(written)["at"]), at)
+        self.assertEqual(datetime.datetime.fromisoformat(json.loads(written)["at"]), at.to_datetime())
 
     def test_values_do_not_change(self):
         for value, name in ((Timestamp(0), "seconds"), (OffsetDateTime(1970, 1, 1), "year"), (Date(1970, 1, 1), "day")):
@@ -384,27 +474,6 @@ class Package(unittest.TestCase):
         except importlib.metadata.PackageNotFoundError:
             pass
 
-    @unittest.skipUnless(shutil.which("cc"), "cc is not there")
-    def test_other_libraries_are_not_taken(self):
-        names = [f"unsigned {name}(void) {{ return 0; }}" for name in muxandu_sys.CALLS]
-        with tempfile.TemporaryDirectory() as folder:
-            for name, lines, told in (("other", names, "does not answer"), ("less", names[1:], "is no library")):
-                source, library = Path(folder, f"{name}.c"), Path(folder, f"{name}.so")
-                source.write_text("\n".join(lines), encoding="utf-8")
-                subprocess.run(["cc", "-shared", "-fPIC", "-w", str(source), "-o", str(library)], check=True)
-                self.assertIn(told, self.said_of(library))
-            Path(folder, "text.so").write_text("no library", encoding="utf-8")
-            self.assertIn("is no library", self.said_of(Path(folder, "text.so")))
-
-    def said_of(self, library):
-        """What the package says where another library is named."""
-        folder = str(Path(muxandu.__file__).resolve().parent.parent)
-        variables = {**os.environ, "MUXANDU_LIBRARY": str(library), "MUXANDU_IMPLEMENTATION": "ctypes", "PYTHONPATH": folder}
-        command = [sys.executable, "-B", "-c", "import muxandu"]
-        ended = subprocess.run(command, env=variables, stderr=subprocess.PIPE, encoding="utf-8", check=False)
-        self.assertEqual(ended.returncode, 1)
-        return ended.stderr.strip().split("\n")[-1]
-
     def test_constructors_tell_their_words(self):
         for kind, words in (
             (Timestamp, "seconds nanoseconds"),
@@ -414,6 +483,45 @@ class Package(unittest.TestCase):
         ):
             self.assertEqual(list(inspect.signature(kind).parameters), words.split())
             self.assertGreater(len(kind.__doc__), 40)
+
+    def test_help_names_no_call_of_c(self):
+        for kind in (Timestamp, OffsetDateTime, UtcDateTime, PlainDateTime, Date, Time, Duration, UtcOffset):
+            for name, value in inspect.getmembers(kind):
+                if name.startswith("_") or not callable(value):
+                    continue
+                told = inspect.getdoc(value) or ""
+                self.assertGreater(len(told), 8, (kind, name))
+                for other in ("muxandu_", "MUXANDU_", "BUFFER", "`size`"):
+                    self.assertNotIn(other, told, (kind, name))
+
+    def test_errors_name_the_types_by_their_public_names(self):
+        at, words = OffsetDateTime(2024, 2, 29), "from_rfc3339() takes 1 argument, and 0 were given"
+        is_compiled = muxandu.IMPLEMENTATION == "extension"
+        for call, told in (
+            (lambda: at + 5, "'muxandu.OffsetDateTime' and 'int'" if is_compiled else "'OffsetDateTime' and 'int'"),
+            (lambda: Timestamp(0) < 5, "Timestamp' and 'int'"),
+            (lambda: muxandu.seconds_from_date_times([Timestamp(0)]), "a sequence of OffsetDateTime, not of Timestamp"),
+            (lambda: at.replace(yaer=5), "'yaer'"),
+            (lambda: Timestamp.from_rfc3339(), words),
+            (lambda: OffsetDateTime.from_rfc3339(), words),
+            (lambda: at.with_part(1), "with_part() takes 2 arguments, and 1 was given"),
+            (lambda: Date("2024-02-29"), "Date.from_rfc3339() reads a text" if is_compiled else "'month'"),
+            (lambda: Date(2024, 2), "Date() needs the argument 'day'" if is_compiled else "'day'"),
+            (lambda: Date(2024, 2, 29, week=5), "Date() takes no argument 'week'" if is_compiled else "'week'"),
+            (lambda: Date(2024, 2, 29, day=5), "Date() has the argument 'day' twice" if is_compiled else "'day'"),
+            (
+                lambda: at.to_offset("Z"),
+                "an offset is whole seconds or a UtcOffset, not <class 'str'>" if is_compiled else "'str'",
+            ),
+        ):
+            with self.assertRaises(TypeError) as caught:
+                call()
+            self.assertIn(told, str(caught.exception))
+            self.assertNotIn("_extension", str(caught.exception))
+        for name in muxandu.__all__:
+            kind = getattr(muxandu, name)
+            if isinstance(kind, type) and not name.endswith("Parts") and name != "Span":
+                self.assertEqual((kind.__module__, kind.__qualname__), ("muxandu", name))
 
     def test_names_are_there(self):
         for name in muxandu.__all__:
