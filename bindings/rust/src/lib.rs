@@ -33,11 +33,13 @@ mod shared;
 
 mod batch;
 mod clocks;
+mod constant;
 mod count_batches;
 mod date;
 mod date_texts;
 pub mod error;
 pub mod ext;
+mod fractional;
 #[doc(hidden)]
 pub mod literal;
 pub mod macros;
@@ -49,6 +51,7 @@ mod refusal;
 mod signed_duration;
 mod spelled;
 #[allow(missing_docs)]
+#[doc(hidden)]
 #[rustfmt::skip]
 pub mod sys;
 mod text;
