@@ -60,9 +60,8 @@ fn fault(path: &Path) -> Option<String> {
         }
         Some(_) => {}
     }
-    missing(&archive).map(|name| {
-        format!("has no call {name}: it is not the library of this package's version")
-    })
+    missing(&archive)
+        .map(|name| format!("has no call {name}: it is not the library of this package's version"))
 }
 
 /// The folder of the archive. Cargo keeps this program where a package is moved or packed, so that it asks for the folder of
