@@ -636,3 +636,207 @@ fn a_result_has_any_error() {
     assert_eq!(first("May"), Ok(date!(2024 - 05 - 01)));
     assert_eq!(first("may"), Err(InvalidVariant.into()));
 }
+
+/// 1 January 2021 is a Friday, in week 53 of the ISO year 2020, and the Julian day 2459216.
+macro_rules! reads_of_the_date {
+    ($($value:expr),+) => {
+        $(
+            let value = $value;
+            assert_eq!((value.year(), value.month(), value.day()), (2021, Month::January, 1));
+            assert_eq!(value.to_calendar_date(), (2021, Month::January, 1));
+            assert_eq!((value.ordinal(), value.to_ordinal_date()), (1, (2021, 1)));
+            assert_eq!((value.iso_week(), value.weekday()), (53, Weekday::Friday));
+            assert_eq!(value.to_iso_week_date(), (2020, 53, Weekday::Friday));
+            assert_eq!((value.sunday_based_week(), value.monday_based_week()), (0, 0));
+            assert_eq!(value.to_julian_day(), 2_459_216);
+        )+
+    };
+}
+
+macro_rules! reads_of_the_time {
+    ($($value:expr => $hms:ident $milli:ident $micro:ident $nano:ident;)+) => {
+        $(
+            let value = $value;
+            assert_eq!((value.hour(), value.minute(), value.second()), (12, 34, 56));
+            assert_eq!((value.millisecond(), value.microsecond()), (789, 789_012));
+            assert_eq!(value.nanosecond(), 789_012_345);
+            assert_eq!(value.$hms(), (12, 34, 56));
+            assert_eq!(value.$milli(), (12, 34, 56, 789));
+            assert_eq!(value.$micro(), (12, 34, 56, 789_012));
+            assert_eq!(value.$nano(), (12, 34, 56, 789_012_345));
+        )+
+    };
+}
+
+#[test]
+fn parts_are_those_of_the_date_and_the_time() {
+    let (day, time) = (date!(2021 - 01 - 01), time!(12:34:56.789_012_345));
+    let plain = PlainDateTime::new(day, time);
+    let utc = UtcDateTime::new(day, time);
+    let shown = OffsetDateTime::new_in_offset(day, time, offset!(+1:30));
+    let at = Timestamp::from(utc);
+    reads_of_the_date!(day, plain, utc, shown, at);
+    reads_of_the_time! {
+        time => as_hms as_hms_milli as_hms_micro as_hms_nano;
+        plain => as_hms as_hms_milli as_hms_micro as_hms_nano;
+        utc => as_hms as_hms_milli as_hms_micro as_hms_nano;
+        at => as_hms as_hms_milli as_hms_micro as_hms_nano;
+        shown => to_hms to_hms_milli to_hms_micro to_hms_nano;
+    }
+    assert_eq!(shown.to_hms(), time.as_hms());
+    assert_eq!(shown.to_hms_micro(), time.as_hms_micro());
+    assert_eq!(shown.to_hms_nano(), time.as_hms_nano());
+    assert_eq!((plain.date(), plain.time()), (day, time));
+    assert_eq!((utc.date(), utc.time()), (day, time));
+    assert_eq!((shown.date(), shown.time()), (day, time));
+    assert_eq!((at.date(), at.time()), (day, time));
+    assert_eq!(day.with_hms(12, 34, 56), Ok(day.with_time(time!(12:34:56))));
+    assert_eq!(
+        day.with_hms_milli(12, 34, 56, 789),
+        Ok(day.with_time(time!(12:34:56.789)))
+    );
+    assert_eq!(
+        day.with_hms_micro(12, 34, 56, 789_012),
+        Ok(day.with_time(time!(12:34:56.789_012)))
+    );
+    assert_eq!(day.with_hms_nano(12, 34, 56, 789_012_345), Ok(plain));
+}
+
+/// A replaced part of every type that has a date, made again by what the second gives.
+macro_rules! replace_the_date {
+    ($($value:expr, $with:expr;)+) => {
+        $(
+            let (value, with) = ($value, $with);
+            assert_eq!(value.replace_year(2023), Ok(with(date!(2023-01-31))));
+            assert_eq!(value.replace_month(Month::March), Ok(with(date!(2024-03-31))));
+            assert_eq!(value.replace_day(29), Ok(with(date!(2024-01-29))));
+            assert_eq!(value.replace_ordinal(60), Ok(with(date!(2024-02-29))));
+            for (refused, part, is_conditional) in [
+                (value.replace_year(1_000_000), "year", false),
+                (value.replace_month(Month::February), "day", true),
+                (value.replace_day(0), "day", false),
+                (value.replace_ordinal(367), "ordinal", false),
+            ] {
+                let refused = refused.unwrap_err();
+                assert_eq!((refused.name(), refused.is_conditional()), (part, is_conditional));
+            }
+        )+
+    };
+}
+
+#[test]
+fn parts_of_the_date_are_replaced() {
+    let (day, time) = (date!(2024 - 01 - 31), time!(12:34:56.789));
+    let shown = OffsetDateTime::new_in_offset(day, time, offset!(+1));
+    replace_the_date! {
+        day, |day| day;
+        PlainDateTime::new(day, time), |day: Date| day.with_time(time);
+        UtcDateTime::new(day, time), |day| UtcDateTime::new(day, time);
+        shown, |day| shown.replace_date(day);
+        Timestamp::from(UtcDateTime::new(day, time)), |day| {
+            Timestamp::from(UtcDateTime::new(day, time))
+        };
+    }
+}
+
+/// The same of every type that has a time of day.
+macro_rules! replace_the_time {
+    ($($value:expr, $with:expr;)+) => {
+        $(
+            let (value, with) = ($value, $with);
+            assert_eq!(value.replace_hour(23), Ok(with(time!(23:34:56.789_012_345))));
+            assert_eq!(value.replace_minute(59), Ok(with(time!(12:59:56.789_012_345))));
+            assert_eq!(value.replace_second(0), Ok(with(time!(12:34:00.789_012_345))));
+            assert_eq!(value.replace_millisecond(9), Ok(with(time!(12:34:56.009))));
+            assert_eq!(value.replace_microsecond(9), Ok(with(time!(12:34:56.000_009))));
+            assert_eq!(value.replace_nanosecond(9), Ok(with(time!(12:34:56.000_000_009))));
+            for (refused, part) in [
+                (value.replace_hour(24), "hour"),
+                (value.replace_minute(60), "minute"),
+                (value.replace_second(60), "second"),
+                (value.replace_millisecond(1_000), "millisecond"),
+                (value.replace_microsecond(1_000_000), "microsecond"),
+                (value.replace_nanosecond(1_000_000_000), "nanosecond"),
+            ] {
+                let refused = refused.unwrap_err();
+                assert_eq!((refused.name(), refused.is_conditional()), (part, false));
+            }
+        )+
+    };
+}
+
+#[test]
+fn parts_of_the_time_are_replaced() {
+    let (day, time) = (date!(1969 - 12 - 31), time!(12:34:56.789_012_345));
+    let shown = OffsetDateTime::new_in_offset(day, time, offset!(+1));
+    replace_the_time! {
+        time, |time| time;
+        PlainDateTime::new(day, time), |time| day.with_time(time);
+        UtcDateTime::new(day, time), |time| UtcDateTime::new(day, time);
+        shown, |time| shown.replace_time(time);
+        Timestamp::from(UtcDateTime::new(day, time)), |time| {
+            Timestamp::from(UtcDateTime::new(day, time))
+        };
+    }
+    let plain = date!(2024 - 02 - 29).with_time(time!(1:02));
+    assert_eq!(
+        shown.replace_date_time(plain),
+        plain.assume_offset(offset!(+1))
+    );
+}
+
+#[test]
+fn unix_seconds_of_each_type() {
+    for seconds in [-62_167_219_200, -1, 0, 1_709_164_800] {
+        let at = Timestamp::from_seconds(seconds).unwrap();
+        let nanoseconds = i128::from(seconds) * 1_000_000_000 + 7;
+        let later = at + 7.nanoseconds();
+        assert_eq!(OffsetDateTime::from_unix_timestamp(seconds), Ok(at.into()));
+        assert_eq!(UtcDateTime::from_unix_timestamp(seconds), Ok(at.to_utc()));
+        assert_eq!(
+            OffsetDateTime::from_unix_timestamp_nanos(nanoseconds),
+            Ok(later.into())
+        );
+        assert_eq!(
+            UtcDateTime::from_unix_timestamp_nanos(nanoseconds),
+            Ok(later.to_utc())
+        );
+        assert_eq!(later.to_utc().unix_timestamp_nanos(), nanoseconds);
+        assert_eq!(later.to_utc().unix_timestamp(), seconds);
+    }
+}
+
+#[test]
+fn parts_of_durations() {
+    let duration = SignedDuration::new(-90, -1_002_003);
+    assert_eq!(duration.subsec_milliseconds(), -1);
+    assert_eq!(duration.subsec_microseconds(), -1_002);
+    assert_eq!(duration.subsec_nanoseconds(), -1_002_003);
+    assert_eq!(duration.unsigned_abs(), StdDuration::new(90, 1_002_003));
+    assert_eq!(duration.abs(), SignedDuration::new(90, 1_002_003));
+    assert_eq!(SignedDuration::MIN.abs(), SignedDuration::MAX);
+    for (duration, sign) in [
+        (duration, -1),
+        (SignedDuration::ZERO, 0),
+        (duration.abs(), 1),
+    ] {
+        assert_eq!(duration.is_negative(), sign < 0);
+        assert_eq!(duration.is_zero(), sign == 0);
+        assert_eq!(duration.is_positive(), sign > 0);
+    }
+}
+
+#[cfg(feature = "std")]
+#[test]
+fn now_is_what_the_clock_of_the_machine_shows() {
+    let before = std::time::SystemTime::now();
+    let now = (
+        Timestamp::now(),
+        UtcDateTime::now(),
+        OffsetDateTime::now_utc(),
+    );
+    let after = std::time::SystemTime::now();
+    assert!(before <= now.0 && before <= now.1 && before <= now.2);
+    assert!(now.0 <= after && now.1 <= after && now.2 <= after);
+    assert_eq!(now.2.offset(), UtcOffset::UTC);
+}
