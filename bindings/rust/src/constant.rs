@@ -205,8 +205,7 @@ mod tests {
             .into_iter()
             .flat_map(|week| (0..=8).map(move |day| DateLiteral::Week(year, week, day)));
         for literal in calendar.chain(ordinal).chain(weeks) {
-            let (here, wanted) = (literal.constant(), literal.tested());
-            assert!(here == wanted, "{here:?} {wanted:?}");
+            assert!(literal.constant() == literal.tested(), "{literal:?}");
         }
     }
 

@@ -233,7 +233,7 @@ impl<'a> Rest<'a> {
 }
 
 /// The parts of a date.
-#[derive(Clone, Copy)]
+#[derive(Clone, Copy, Debug)]
 pub enum DateLiteral {
     /// A year, a month and a day of the month.
     Calendar(i32, u8, u8),
