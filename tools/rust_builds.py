@@ -223,7 +223,8 @@ def built_over_a_new_archive(package):
 
 def literals_are_tested(package):
     """The compiler names the line of each literal that names no date, and what the library says of it."""
-    sentences = dict(re.findall(r'\(\d+, "(\w+)", "(.*)"\),', declarations(package)))
+    refusals = re.findall(r'#\[doc = "(.*)"\]\s*\w+ = REFUSED_\w+, "(\w+)";', declarations(package))
+    sentences = {name: sentence for sentence, name in refusals}
     lines = [f"    let _ = muxandu::macros::{literal};" for literal in LITERALS]
     folder = package.caller("literals", "\n".join(["fn main() {", *lines, "}", ""]))
     ended = package.cargo("check", folder=folder, MUXANDU_LIB_DIR=os.path.dirname(package.archive))
