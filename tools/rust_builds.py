@@ -36,7 +36,7 @@ edition = "2024"
 muxandu = {{ path = "{}" }}
 """
 
-VERSION = "fn main() {\n    println!(\"version {}\", muxandu::version());\n}\n"
+VERSION = 'fn main() {\n    println!("version {}", muxandu::version());\n}\n'
 
 # Literals that name no date or time, and what the compiler must say of each in its line.
 LITERALS = {
@@ -96,21 +96,23 @@ class Package:
 
 
 def declarations(package):
+    """The text of sys.rs."""
     with open(os.path.join(package.folder, "src", "sys.rs"), encoding="utf-8") as file:
         return file.read()
 
 
-def built(ended):
+def build_problem(ended):
+    """Why a build failed, or None."""
     return None if ended.returncode == 0 else f"status {ended.returncode}", ended.stdout
 
 
-def refused(ended, *texts):
-    """Why a build did not fail with these texts."""
+def refusal_problem(ended, *texts):
+    """Why a build did not fail with these texts, or None."""
     left = [text for text in texts if text not in ended.stdout]
     return None if ended.returncode != 0 and not left else f"it does not say {left}", ended.stdout
 
 
-def checked_without_an_archive(package):
+def check_without_an_archive(package):
     """A check, the pages and clippy need no archive, and say where it must be."""
     nowhere = package.place("nowhere")
     commands = [("check", "--all-targets"), ("doc", "--no-deps")]
@@ -123,11 +125,11 @@ def checked_without_an_archive(package):
     return None, ""
 
 
-def linked_without_an_archive(package):
+def link_without_an_archive(package):
     """A program and the tests need the archive, and both messages name ./build-library."""
     nowhere = package.place("no_archive")
     for words in (("build",), ("test", "--no-run")):
-        problem, printed = refused(package.cargo(*words, MUXANDU_LIB_DIR=nowhere), WARNING, ERROR)
+        problem, printed = refusal_problem(package.cargo(*words, MUXANDU_LIB_DIR=nowhere), WARNING, ERROR)
         if problem:
             return f"cargo {words[0]}: {problem}", printed
     return None, ""
@@ -141,7 +143,7 @@ def empty_object(package):
         return file.read()
 
 
-def linked_over_another_file(package):
+def link_another_file(package):
     """What is no library, is for another machine, or lacks a call is named, and not linked."""
     empty = empty_object(package)
     cases = {
@@ -153,13 +155,13 @@ def linked_over_another_file(package):
     for text, content in cases.items():
         with open(os.path.join(place, NAME), "wb") as file:
             file.write(content)
-        problem, printed = refused(package.cargo("build", MUXANDU_LIB_DIR=place), text)
+        problem, printed = refusal_problem(package.cargo("build", MUXANDU_LIB_DIR=place), text)
         if problem:
             return problem, printed
     return None, ""
 
 
-def copied(package, name):
+def copy_of(package, name):
     """The folder of a copy of the package, which has its archive where ./build-library lays it out."""
     root = package.place(name)
     folder = os.path.join(root, "bindings", "rust")
@@ -170,22 +172,22 @@ def copied(package, name):
     return folder
 
 
-def built_after_a_move(package):
+def build_after_a_move(package):
     """The package is built, its folder is moved, and it is built again."""
-    folder = copied(package, "before")
+    folder = copy_of(package, "before")
     target = os.path.join(package.work, "moved")
-    problem, printed = built(package.cargo("build", folder=folder, CARGO_TARGET_DIR=target))
+    problem, printed = build_problem(package.cargo("build", folder=folder, CARGO_TARGET_DIR=target))
     if problem:
         return problem, printed
     moved = os.path.join(package.work, "after")
     shutil.move(os.path.join(package.work, "before"), moved)
     folder = os.path.join(moved, "bindings", "rust")
-    return built(package.cargo("build", folder=folder, CARGO_TARGET_DIR=target))
+    return build_problem(package.cargo("build", folder=folder, CARGO_TARGET_DIR=target))
 
 
-def built_after_packing(package):
+def build_after_packing(package):
     """What cargo packs is built, and then the package itself."""
-    folder = copied(package, "packed")
+    folder = copy_of(package, "packed")
     target = os.path.join(package.work, "packing")
     lib = os.path.join(package.work, "packed", "dist", "lib")
     words = ("package", "--allow-dirty")
@@ -193,7 +195,7 @@ def built_after_packing(package):
     warnings = [line for line in re.findall("^warning: (.*)", ended.stdout, re.MULTILINE) if line != NO_ADDRESS]
     if ended.returncode != 0 or warnings:
         return f"cargo package: status {ended.returncode}, {warnings}", ended.stdout
-    return built(package.cargo("build", "--examples", folder=folder, CARGO_TARGET_DIR=target))
+    return build_problem(package.cargo("build", "--examples", folder=folder, CARGO_TARGET_DIR=target))
 
 
 def stub(package, lib, answer):
@@ -209,7 +211,7 @@ def stub(package, lib, answer):
     subprocess.run(["ar", "rcs", path, compiled], check=True)
 
 
-def built_over_a_new_archive(package):
+def build_over_a_new_archive(package):
     """A program has the calls of the archive that is there, also where another was there before."""
     lib = package.place("changed")
     folder = package.caller("version", VERSION)
@@ -221,7 +223,7 @@ def built_over_a_new_archive(package):
     return None, ""
 
 
-def literals_are_tested(package):
+def test_literals(package):
     """The compiler names the line of each literal that names no date, and what the library says of it."""
     refusals = re.findall(r'#\[doc = "(.*)"\]\s*\w+ = REFUSED_\w+, "(\w+)";', declarations(package))
     sentences = {name: sentence for sentence, name in refusals}
@@ -243,13 +245,13 @@ def literals_are_tested(package):
 CASES = {
     case.__name__: case
     for case in (
-        checked_without_an_archive,
-        linked_without_an_archive,
-        linked_over_another_file,
-        built_after_a_move,
-        built_after_packing,
-        built_over_a_new_archive,
-        literals_are_tested,
+        check_without_an_archive,
+        link_without_an_archive,
+        link_another_file,
+        build_after_a_move,
+        build_after_packing,
+        build_over_a_new_archive,
+        test_literals,
     )
 }
 

@@ -243,7 +243,7 @@ fn put_lengths(duration: Duration, input: &Input, out: &mut Answers) {
         i16::from(input.offset.1) * duration,
         Duration::seconds(count) * u32::from(input.ordinal),
         whole / input.month,
-        whole / -i8::from(input.month as i8),
+        whole / -(input.month as i8),
         whole / i16::from(input.month),
         whole / u16::from(input.month),
         whole / (input.offset_seconds | 1),

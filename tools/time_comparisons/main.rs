@@ -7,7 +7,7 @@ use std::fmt::{self, Debug};
 
 mod dates;
 mod instants;
-#[allow(dead_code)]
+#[allow(dead_code, unused_imports, unused_macros)]
 mod muxandu_sys;
 mod offsets;
 mod parts;

@@ -23,7 +23,7 @@ const fn parts(number: f64) -> Option<(u64, i32)> {
 }
 
 /// The number halved so many times, once at least: the nearest whole number, and the even one where two are as near.
-const fn halved(number: u128, times: u32) -> u128 {
+const fn halve(number: u128, times: u32) -> u128 {
     if times >= u128::BITS {
         return 0;
     }
@@ -42,7 +42,7 @@ pub(crate) const fn nanoseconds(count: f64, unit: u64) -> Option<i128> {
     };
     let product = significand as u128 * unit as u128;
     let size = if exponent < 0 {
-        halved(product, exponent.unsigned_abs())
+        halve(product, exponent.unsigned_abs())
     } else if (exponent as u32) < product.leading_zeros() {
         product << exponent
     } else {

@@ -96,7 +96,7 @@ pub type PrimitiveDateTime = PlainDateTime;
 pub type Result<T> = core::result::Result<T, Error>;
 
 /// A result whose error names a part.
-pub(crate) type Tested<T> = core::result::Result<T, error::ComponentRange>;
+pub(crate) type RangeResult<T> = core::result::Result<T, error::ComponentRange>;
 
 /// The version of the library that is linked: ten thousand times the first number, a hundred times the second, and the
 /// third.

@@ -354,7 +354,7 @@ pub const fn of_form<T: Copy>(literal: Option<T>, message: &str) -> T {
 }
 
 /// Ends the compilation, and says of the refusal what the library says.
-const fn refused(refusal: Refusal) -> ! {
+const fn refuse(refusal: Refusal) -> ! {
     panic!("{}", refusal.explanation())
 }
 
@@ -367,7 +367,7 @@ macro_rules! values {
                 pub const fn value(self) -> $Value {
                     match self.constant() {
                         Ok(value) => value,
-                        Err(refusal) => refused(refusal),
+                        Err(refusal) => refuse(refusal),
                     }
                 }
             }

@@ -5,7 +5,9 @@ use core::ops::Sub;
 use core::str::FromStr;
 
 use crate::sys::{self, MuxanduDateTime, MuxanduTimestamp};
-use crate::{Date, OffsetDateTime, PlainDateTime, Refusal, SignedDuration, Tested, Text, Time};
+use crate::{
+    Date, OffsetDateTime, PlainDateTime, RangeResult, Refusal, SignedDuration, Text, Time,
+};
 use crate::{Timestamp, Unit, UtcOffset, spelled};
 
 /// An instant, as clocks in UTC show it.
@@ -48,7 +50,7 @@ impl UtcDateTime {
     ///
     /// `timestamp` outside the range.
     #[inline]
-    pub fn from_unix_timestamp(timestamp: i64) -> Tested<UtcDateTime> {
+    pub fn from_unix_timestamp(timestamp: i64) -> RangeResult<UtcDateTime> {
         let at = MuxanduTimestamp {
             seconds: timestamp,
             nanoseconds: 0,
@@ -64,7 +66,7 @@ impl UtcDateTime {
     ///
     /// `timestamp` outside the range.
     #[inline]
-    pub fn from_unix_timestamp_nanos(timestamp: i128) -> Tested<UtcDateTime> {
+    pub fn from_unix_timestamp_nanos(timestamp: i128) -> RangeResult<UtcDateTime> {
         Ok(Timestamp::from_nanoseconds(timestamp)?.to_utc())
     }
 
