@@ -1,19 +1,20 @@
-//! Finds the archive: in the folder that MUXANDU_LIB_DIR names, or where `./build-library` lays it out. What a linker would
-//! say of an archive that is not there, or is for another machine, is said here in words.
+//! Finds the archive: in the folder that MUXANDU_LIB_DIR names, or where `./build-library` lays it out.
+//!
+//! A check, the pages of documentation and an editor need no archive. Where it is missing, or is another library, a warning
+//! says so, and what links it fails: the linker then asks for a library whose name says how to get it.
 
 use std::path::{Path, PathBuf};
-use std::{env, fs, process};
+use std::{env, fs};
 
-/// The declarations, each call of which the archive must have.
+/// The declarations. The archive must have each call of them.
 const DECLARATIONS: &str = include_str!("src/sys.rs");
 
 /// The machines of objects, by their numbers in ELF, and what cargo calls them.
 const MACHINES: [(u16, &str); 2] = [(62, "x86_64"), (183, "aarch64")];
 
-fn stop(why: &str) -> ! {
-    eprintln!("muxandu: {why}");
-    process::exit(1);
-}
+/// What the linker asks for in place of an archive that it cannot use. A linker repeats the name in its error.
+const IN_ITS_PLACE: &str =
+    "muxandu (./build-library builds it, and MUXANDU_LIB_DIR names its folder)";
 
 /// The machine that the first object of the archive is for, if that is known.
 fn machine(archive: &[u8]) -> Option<&'static str> {
@@ -33,7 +34,7 @@ fn missing(archive: &[u8]) -> Option<&'static str> {
     let mut names = calls
         .filter_map(|(_, call)| call.split_once('('))
         .map(|(name, _)| name);
-    // Behind a name of an object stands a 0, so that one name is not found in a longer one.
+    // A 0 follows a name of an object, so that one name is not found in a longer one.
     names.find(|name| {
         let ended = format!("{name}\0");
         !archive
@@ -42,38 +43,46 @@ fn missing(archive: &[u8]) -> Option<&'static str> {
     })
 }
 
-fn main() {
-    println!("cargo:rerun-if-env-changed=MUXANDU_LIB_DIR");
-    let folder = match env::var_os("MUXANDU_LIB_DIR") {
-        Some(folder) => PathBuf::from(folder),
-        // At run time: cargo keeps this program where the folder is moved or packed.
-        None => {
-            let manifest = env::var_os("CARGO_MANIFEST_DIR").expect("cargo names the folder");
-            Path::new(&manifest).join("../../dist/lib")
-        }
-    };
-    let path = folder.join("libmuxandu.a");
-    println!("cargo:rerun-if-changed={}", path.display());
-    let Ok(archive) = fs::read(&path) else {
-        stop(&format!(
-            "{} is not there: build it with ./build-library, or name its folder in MUXANDU_LIB_DIR",
-            path.display()
+/// Why the archive of this path cannot be linked, if it cannot.
+fn fault(path: &Path) -> Option<String> {
+    let Ok(archive) = fs::read(path) else {
+        return Some(String::from(
+            "is not there: build it with ./build-library, or name its folder in MUXANDU_LIB_DIR",
         ));
     };
     let target = env::var("CARGO_CFG_TARGET_ARCH").unwrap_or_default();
     match machine(&archive) {
-        None => stop(&format!("{} is no archive of objects", path.display())),
-        Some(machine) if machine != target => stop(&format!(
-            "{} is for {machine}, and the program for {target}: build the library for it",
-            path.display()
-        )),
+        None => return Some(String::from("is no archive of objects")),
+        Some(machine) if machine != target => {
+            return Some(format!(
+                "is for {machine}, and the program for {target}: build the library for it"
+            ));
+        }
         Some(_) => {}
     }
-    if let Some(name) = missing(&archive) {
-        stop(&format!(
-            "{} has no call {name}: it is not the library of this package's version",
-            path.display()
-        ));
+    missing(&archive)
+        .map(|name| format!("has no call {name}: it is not the library of this package's version"))
+}
+
+/// The folder of the archive. Cargo keeps this program where a package is moved or packed, so that it asks for the folder of
+/// the package when it runs.
+fn folder() -> PathBuf {
+    if let Some(folder) = env::var_os("MUXANDU_LIB_DIR") {
+        return PathBuf::from(folder);
+    }
+    let package = env::var_os("CARGO_MANIFEST_DIR").expect("cargo names the package's folder");
+    Path::new(&package).join("../../dist/lib")
+}
+
+fn main() {
+    let folder = folder();
+    let path = folder.join("libmuxandu.a");
+    println!("cargo:rerun-if-env-changed=MUXANDU_LIB_DIR");
+    println!("cargo:rerun-if-changed={}", path.display());
+    if let Some(fault) = fault(&path) {
+        println!("cargo:warning={} {fault}", path.display());
+        println!("cargo:rustc-link-lib=static={IN_ITS_PLACE}");
+        return;
     }
     println!("cargo:rustc-link-search=native={}", folder.display());
     println!("cargo:rustc-link-lib=static=muxandu");

@@ -319,6 +319,8 @@ pub fn answers(input: &Input, out: &mut Answers) {
         );
     }
     let duration = duration(input);
+    // 0.3.9 drops what is finer than a nanosecond, and a 512th of a second has nothing finer.
+    let part = f64::from(input.small % 512) / 512.0;
     put!(
         out,
         duration,
@@ -346,9 +348,14 @@ pub fn answers(input: &Input, out: &mut Answers) {
         duration.saturating_mul(input.offset_seconds),
         duration.subsec_nanoseconds(),
         duration.as_seconds_f64().to_bits() as i64,
-        Duration::seconds_f64(input.second as f64 / f64::from(input.offset_seconds | 1)),
-        Duration::seconds(input.second) * (f64::from(input.nanoseconds) / 1e9),
-        duration / f64::from(input.offset_seconds | 1),
+        Duration::seconds_f64(input.second as f64 + part),
+        Duration::seconds(input.second) * part,
+        Duration::seconds(input.second) / f64::from(1_u32 << (input.small % 9)),
+        part.weeks() + part.days() - part.hours(),
+        part.minutes() - part.seconds(),
+        (-part).weeks() - (-part).seconds(),
+        (part.std_weeks() + part.std_hours()).as_nanos() as i128,
+        (part.std_days() + part.std_minutes() + part.std_seconds()).as_nanos() as i128,
         duration < Duration::seconds(input.seconds),
         std::time::Duration::try_from(duration)
             .map(|duration| duration.as_nanos() as i128)

@@ -5,7 +5,7 @@ use core::ops::Sub;
 use core::str::FromStr;
 
 use crate::sys::{self, MuxanduDate, MuxanduDateReads, MuxanduOrdinalDate, MuxanduWeekDate};
-use crate::{Month, PlainDateTime, Refusal, SignedDuration, Tested, Time, Weekday, spelled};
+use crate::{Month, PlainDateTime, RangeResult, Refusal, SignedDuration, Time, Weekday, spelled};
 
 /// A day: a year, a month and a day of the month.
 ///
@@ -118,7 +118,7 @@ impl Date {
     ///
     /// `year`, or `day`, conditionally for one of 1 to 31 that the month does not have.
     #[inline]
-    pub fn from_calendar_date(year: i32, month: Month, day: u8) -> Tested<Date> {
+    pub fn from_calendar_date(year: i32, month: Month, day: u8) -> RangeResult<Date> {
         let month = month as u8;
         Ok(Date::tested(MuxanduDate { year, month, day })?)
     }
@@ -129,7 +129,7 @@ impl Date {
     ///
     /// `year`, or `ordinal`, conditionally for 366.
     #[inline]
-    pub fn from_ordinal_date(year: i32, ordinal: u16) -> Tested<Date> {
+    pub fn from_ordinal_date(year: i32, ordinal: u16) -> RangeResult<Date> {
         Ok(Date::tested_ordinal(year, ordinal)?)
     }
 
@@ -140,7 +140,7 @@ impl Date {
     /// `year`, or `week`, conditionally for 53, or `year` conditionally for the days of the last week that the range does
     /// not have.
     #[inline]
-    pub fn from_iso_week_date(year: i32, week: u8, weekday: Weekday) -> Tested<Date> {
+    pub fn from_iso_week_date(year: i32, week: u8, weekday: Weekday) -> RangeResult<Date> {
         Ok(Date::tested_week(year, week, weekday)?)
     }
 
@@ -150,7 +150,7 @@ impl Date {
     ///
     /// `julian_day` outside the range.
     #[inline]
-    pub fn from_julian_day(julian_day: i32) -> Tested<Date> {
+    pub fn from_julian_day(julian_day: i32) -> RangeResult<Date> {
         let mut out = MuxanduDate::default();
         Refusal::test(sys::muxandu_date_from_julian_day(julian_day, &mut out))?;
         Ok(Date::given(out).told(julian_day - JULIAN_DAY_OF_1970))
@@ -389,7 +389,7 @@ impl Date {
     ///
     /// `year`, or `day` conditionally for 29 February in a year that has none.
     #[inline]
-    pub fn replace_year(self, year: i32) -> Tested<Date> {
+    pub fn replace_year(self, year: i32) -> RangeResult<Date> {
         Ok(Date::tested(MuxanduDate { year, ..self.parts })?)
     }
 
@@ -399,7 +399,7 @@ impl Date {
     ///
     /// `day`, conditionally, where the month does not have it.
     #[inline]
-    pub fn replace_month(self, month: Month) -> Tested<Date> {
+    pub fn replace_month(self, month: Month) -> RangeResult<Date> {
         let month = month as u8;
         Ok(Date::tested(MuxanduDate {
             month,
@@ -413,7 +413,7 @@ impl Date {
     ///
     /// `day`, conditionally for one of 1 to 31.
     #[inline]
-    pub fn replace_day(self, day: u8) -> Tested<Date> {
+    pub fn replace_day(self, day: u8) -> RangeResult<Date> {
         Ok(Date::tested(MuxanduDate { day, ..self.parts })?)
     }
 
@@ -423,7 +423,7 @@ impl Date {
     ///
     /// `ordinal`, conditionally for 366.
     #[inline]
-    pub fn replace_ordinal(self, ordinal: u16) -> Tested<Date> {
+    pub fn replace_ordinal(self, ordinal: u16) -> RangeResult<Date> {
         Date::from_ordinal_date(self.parts.year, ordinal)
     }
 
@@ -447,7 +447,7 @@ impl Date {
     ///
     /// `hour`, `minute` or `second`.
     #[inline]
-    pub fn with_hms(self, hour: u8, minute: u8, second: u8) -> Tested<PlainDateTime> {
+    pub fn with_hms(self, hour: u8, minute: u8, second: u8) -> RangeResult<PlainDateTime> {
         Ok(self.with_time(Time::from_hms(hour, minute, second)?))
     }
 
@@ -463,7 +463,7 @@ impl Date {
         minute: u8,
         second: u8,
         millisecond: u16,
-    ) -> Tested<PlainDateTime> {
+    ) -> RangeResult<PlainDateTime> {
         Ok(self.with_time(Time::from_hms_milli(hour, minute, second, millisecond)?))
     }
 
@@ -479,7 +479,7 @@ impl Date {
         minute: u8,
         second: u8,
         microsecond: u32,
-    ) -> Tested<PlainDateTime> {
+    ) -> RangeResult<PlainDateTime> {
         Ok(self.with_time(Time::from_hms_micro(hour, minute, second, microsecond)?))
     }
 
@@ -495,7 +495,7 @@ impl Date {
         minute: u8,
         second: u8,
         nanosecond: u32,
-    ) -> Tested<PlainDateTime> {
+    ) -> RangeResult<PlainDateTime> {
         Ok(self.with_time(Time::from_hms_nano(hour, minute, second, nanosecond)?))
     }
 }

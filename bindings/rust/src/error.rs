@@ -90,7 +90,7 @@ impl From<Refusal> for ComponentRange {
     }
 }
 
-/// A length of time that the other type does not hold.
+/// A duration that is out of the range of the other type.
 ///
 /// ```
 /// use core::time::Duration;
@@ -104,7 +104,7 @@ pub struct ConversionRange;
 
 impl fmt::Display for ConversionRange {
     fn fmt(&self, f: &mut fmt::Formatter<'_>) -> fmt::Result {
-        f.write_str("the other type does not hold this length of time")
+        f.write_str("the duration is out of the range of the other type")
     }
 }
 
@@ -121,13 +121,13 @@ pub struct InvalidVariant;
 
 impl fmt::Display for InvalidVariant {
     fn fmt(&self, f: &mut fmt::Formatter<'_>) -> fmt::Result {
-        f.write_str("no such name")
+        f.write_str("the text is not the English name of a month or of a day of the week")
     }
 }
 
 impl core::error::Error for InvalidVariant {}
 
-/// An [`Error`] that is another one than is asked for.
+/// An [`Error`] of another kind than the one that is asked for.
 ///
 /// ```
 /// use muxandu::error::{ComponentRange, ConversionRange, DifferentVariant};
@@ -141,7 +141,7 @@ pub struct DifferentVariant;
 
 impl fmt::Display for DifferentVariant {
     fn fmt(&self, f: &mut fmt::Formatter<'_>) -> fmt::Result {
-        f.write_str("the error is another one than is asked for")
+        f.write_str("the error is of another kind than the one that is asked for")
     }
 }
 

@@ -2,7 +2,7 @@
 
 use core::time::Duration;
 
-use crate::SignedDuration;
+use crate::{SignedDuration, fractional};
 
 mod sealed {
     pub trait Sealed {}
@@ -46,6 +46,7 @@ pub trait NumericalDuration: sealed::Sealed {
 /// use muxandu::ext::NumericalStdDuration;
 ///
 /// assert_eq!(5.std_minutes(), core::time::Duration::from_secs(300));
+/// assert_eq!(1.5.std_seconds(), core::time::Duration::from_millis(1_500));
 /// ```
 pub trait NumericalStdDuration: sealed::Sealed {
     /// So many nanoseconds.
@@ -81,13 +82,31 @@ macro_rules! whole {
 
 whole! { nanoseconds microseconds milliseconds seconds minutes hours days weeks }
 
+/// Units for `f64`, of so many nanoseconds.
 macro_rules! fractional {
-    ($($unit:ident = $nanoseconds:literal,)+) => {
+    ($($unit:ident, $std_unit:ident = $nanoseconds:literal;)+) => {
+        /// Rounded to the nearest nanosecond, and to the even one where two are as near.
         impl NumericalDuration for f64 {
             $(
                 #[track_caller]
                 fn $unit(self) -> SignedDuration {
-                    SignedDuration::nanoseconds_f64(self * $nanoseconds)
+                    SignedDuration::of_units(self, $nanoseconds)
+                }
+            )+
+        }
+
+        /// Rounded to the nearest nanosecond, and to the even one where two are as near.
+        ///
+        /// # Panics
+        ///
+        /// The number is negative or NaN, or 64 bits do not hold the whole seconds.
+        impl NumericalStdDuration for f64 {
+            $(
+                #[track_caller]
+                fn $std_unit(self) -> Duration {
+                    assert!(self >= 0.0, "a duration of std is not negative");
+                    fractional::std_duration(self, $nanoseconds)
+                        .expect("64 bits hold the duration")
                 }
             )+
         }
@@ -95,14 +114,14 @@ macro_rules! fractional {
 }
 
 fractional! {
-    nanoseconds = 1.0,
-    microseconds = 1e3,
-    milliseconds = 1e6,
-    seconds = 1e9,
-    minutes = 6e10,
-    hours = 3.6e12,
-    days = 8.64e13,
-    weeks = 6.048e14,
+    nanoseconds, std_nanoseconds = 1;
+    microseconds, std_microseconds = 1_000;
+    milliseconds, std_milliseconds = 1_000_000;
+    seconds, std_seconds = 1_000_000_000;
+    minutes, std_minutes = 60_000_000_000;
+    hours, std_hours = 3_600_000_000_000;
+    days, std_days = 86_400_000_000_000;
+    weeks, std_weeks = 604_800_000_000_000;
 }
 
 macro_rules! of_std {
@@ -127,31 +146,4 @@ of_std! {
     std_hours = from_secs, 3_600;
     std_days = from_secs, 86_400;
     std_weeks = from_secs, 604_800;
-}
-
-macro_rules! of_std_fractional {
-    ($($unit:ident = $nanoseconds:literal,)+) => {
-        impl NumericalStdDuration for f64 {
-            $(
-                #[track_caller]
-                fn $unit(self) -> Duration {
-                    let whole = self * $nanoseconds;
-                    assert!(whole >= 0.0, "a duration of std is not negative");
-                    Duration::try_from(SignedDuration::nanoseconds_f64(whole))
-                        .expect("64 bits hold the duration")
-                }
-            )+
-        }
-    };
-}
-
-of_std_fractional! {
-    std_nanoseconds = 1.0,
-    std_microseconds = 1e3,
-    std_milliseconds = 1e6,
-    std_seconds = 1e9,
-    std_minutes = 6e10,
-    std_hours = 3.6e12,
-    std_days = 8.64e13,
-    std_weeks = 6.048e14,
 }

@@ -1,12 +1,12 @@
 //! Dates and times over the proleptic Gregorian calendar, the years -999999 to 999999, under the names of the crate `time`.
 //!
-//! What days, dates and instants are comes from the library muxandu, each function of which is proved to meet its contract;
-//! this crate gives its calls the types of Rust, and has the arithmetic of durations and the forms of literals besides. A
-//! program over `time` changes `use time::` into `use muxandu::`. What differs: a function that calls the library is no
+//! The library muxandu answers what days, dates and instants are, and each of its functions is proved to meet its contract. This
+//! crate gives its calls the types of Rust, and adds the arithmetic of durations, comparisons and literals, which are tested. A
+//! program over `time` changes `use time::` into `use muxandu::`. Two things differ: a function that calls the library is no
 //! `const fn`, and there are no format descriptions.
 //!
 //! [`PlainDateTime`] is a date and a time of day, [`UtcDateTime`] and [`Timestamp`] are instants, and [`OffsetDateTime`] is
-//! what clocks at an offset from UTC show. What a value holds has been tested, so reads cannot fail.
+//! what clocks at an offset from UTC show. A value has been tested when it was made, so reads cannot fail.
 //!
 //! ```
 //! use muxandu::ext::NumericalDuration as _;
@@ -33,11 +33,13 @@ mod shared;
 
 mod batch;
 mod clocks;
+mod constant;
 mod count_batches;
 mod date;
 mod date_texts;
 pub mod error;
 pub mod ext;
+mod fractional;
 #[doc(hidden)]
 pub mod literal;
 pub mod macros;
@@ -49,6 +51,7 @@ mod refusal;
 mod signed_duration;
 mod spelled;
 #[allow(missing_docs)]
+#[doc(hidden)]
 #[rustfmt::skip]
 pub mod sys;
 mod text;
@@ -89,11 +92,11 @@ pub type Duration = SignedDuration;
 /// The name that `time` gave [`PlainDateTime`].
 pub type PrimitiveDateTime = PlainDateTime;
 
-/// An answer whose refusal is any of the crate's, as `time`'s.
+/// A result with any error of the crate, as `time`'s.
 pub type Result<T> = core::result::Result<T, Error>;
 
-/// An answer that refuses a part.
-pub(crate) type Tested<T> = core::result::Result<T, error::ComponentRange>;
+/// A result whose error names a part.
+pub(crate) type RangeResult<T> = core::result::Result<T, error::ComponentRange>;
 
 /// The version of the library that is linked: ten thousand times the first number, a hundred times the second, and the
 /// third.

@@ -1,5 +1,5 @@
-//! The literals of the macros, read and tested when a program is compiled, by a calendar of their own that `every_literal`
-//! compares with the library for each year. No part of this module is promised.
+//! The forms of literals, and of the texts that `FromStr` reads. The macros read a literal when a program is compiled, and
+//! `FromStr` reads a text when the program runs. This module is no part of the interface.
 
 use core::fmt;
 
@@ -233,7 +233,7 @@ impl<'a> Rest<'a> {
 }
 
 /// The parts of a date.
-#[derive(Clone, Copy)]
+#[derive(Clone, Copy, Debug)]
 pub enum DateLiteral {
     /// A year, a month and a day of the month.
     Calendar(i32, u8, u8),
@@ -246,24 +246,24 @@ pub enum DateLiteral {
 /// The parts of a time of day.
 #[derive(Clone, Copy)]
 pub struct TimeLiteral {
-    hour: u8,
-    minute: u8,
-    second: u8,
-    nanosecond: u32,
+    pub(crate) hour: u8,
+    pub(crate) minute: u8,
+    pub(crate) second: u8,
+    pub(crate) nanosecond: u32,
 }
 
 /// The parts of an offset.
 #[derive(Clone, Copy)]
 pub struct OffsetLiteral {
-    is_negative: bool,
-    parts: [u8; 3],
+    pub(crate) is_negative: bool,
+    pub(crate) parts: [u8; 3],
 }
 
 /// The parts of a date and a time of day.
 #[derive(Clone, Copy)]
 pub struct PlainLiteral {
-    date: DateLiteral,
-    time: TimeLiteral,
+    pub(crate) date: DateLiteral,
+    pub(crate) time: TimeLiteral,
 }
 
 /// The parts of a date and a time of day in UTC.
@@ -273,15 +273,15 @@ pub struct UtcLiteral(PlainLiteral);
 /// The parts of a date and a time of day at an offset.
 #[derive(Clone, Copy)]
 pub struct DateTimeLiteral {
-    plain: PlainLiteral,
-    offset: OffsetLiteral,
+    pub(crate) plain: PlainLiteral,
+    pub(crate) offset: OffsetLiteral,
 }
 
 /// The parts of a timestamp.
 #[derive(Clone, Copy)]
 pub struct TimestampLiteral {
-    seconds: i128,
-    nanosecond: u32,
+    pub(crate) seconds: i128,
+    pub(crate) nanosecond: u32,
 }
 
 const fn ended<T: Copy>(mut rest: Rest<'_>, value: T) -> Option<T> {
@@ -345,8 +345,7 @@ pub const fn timestamp(text: &str) -> Option<TimestampLiteral> {
     ended(rest, timestamp)
 }
 
-/// The literal, or the end of the compilation.
-#[track_caller]
+/// The literal. Another form ends the compilation with the message.
 pub const fn of_form<T: Copy>(literal: Option<T>, message: &str) -> T {
     match literal {
         Some(literal) => literal,
@@ -354,8 +353,8 @@ pub const fn of_form<T: Copy>(literal: Option<T>, message: &str) -> T {
     }
 }
 
-#[track_caller]
-const fn refused(refusal: Refusal) -> ! {
+/// Ends the compilation, and says of the refusal what the library says.
+const fn refuse(refusal: Refusal) -> ! {
     panic!("{}", refusal.explanation())
 }
 
@@ -363,13 +362,12 @@ macro_rules! values {
     ($($Literal:ident => $Value:ident,)+) => {
         $(
             impl $Literal {
-                /// The value, or the end of the compilation, which names what is refused.
+                /// The value. A part that is out of its range ends the compilation.
                 #[must_use]
-                #[track_caller]
                 pub const fn value(self) -> $Value {
                     match self.constant() {
                         Ok(value) => value,
-                        Err(refusal) => refused(refusal),
+                        Err(refusal) => refuse(refusal),
                     }
                 }
             }
@@ -384,155 +382,6 @@ values! {
     PlainLiteral => PlainDateTime,
     DateTimeLiteral => OffsetDateTime,
     TimestampLiteral => Timestamp,
-}
-
-/// The calendar of literals, which are tested before there is a program that could ask the library. `every_literal` compares
-/// it with the library for each year.
-const fn is_leap(year: i32) -> bool {
-    year % 4 == 0 && (year % 100 != 0 || year % 400 == 0)
-}
-
-const fn month_days(year: i32, month: u8) -> u8 {
-    match month {
-        4 | 6 | 9 | 11 => 30,
-        2 => 28 + is_leap(year) as u8,
-        _ => 31,
-    }
-}
-
-/// The day of the week of 1 January, 0 for Monday.
-const fn first_weekday(year: i32) -> i32 {
-    let before = year + 1_000_399; // years of 400-year periods before it, all positive
-    (before * 365 + before / 4 - before / 100 + before / 400 + FIRST).rem_euclid(7)
-}
-
-const FIRST: i32 = 0;
-
-const fn weeks(year: i32) -> u8 {
-    match (first_weekday(year), is_leap(year)) {
-        (3, _) | (2, true) => 53,
-        _ => 52,
-    }
-}
-
-const fn of_ordinal(year: i32, ordinal: u16) -> Date {
-    let (mut month, mut left) = (1, ordinal);
-    while left > month_days(year, month) as u16 {
-        left -= month_days(year, month) as u16;
-        month += 1;
-    }
-    Date::of(year, month, left as u8)
-}
-
-impl DateLiteral {
-    pub(crate) const fn constant(self) -> Result<Date, Refusal> {
-        let (DateLiteral::Calendar(year, ..)
-        | DateLiteral::Ordinal(year, _)
-        | DateLiteral::Week(year, ..)) = self;
-        match self {
-            DateLiteral::Calendar(_, month, _) if !matches!(month, 1..=12) => Err(Refusal::Month),
-            DateLiteral::Week(_, _, day) if !matches!(day, 1..=7) => Err(Refusal::Weekday),
-            _ if year < sys::YEAR_MIN || year > sys::YEAR_MAX => Err(Refusal::Year),
-            DateLiteral::Calendar(_, _, day) if !matches!(day, 1..=31) => Err(Refusal::Day),
-            DateLiteral::Calendar(_, month, day) if day > month_days(year, month) => {
-                Err(Refusal::DayOfMonth)
-            }
-            DateLiteral::Calendar(_, month, day) => Ok(Date::of(year, month, day)),
-            DateLiteral::Ordinal(_, ordinal) if !matches!(ordinal, 1..=366) => {
-                Err(Refusal::Ordinal)
-            }
-            DateLiteral::Ordinal(_, 366) if !is_leap(year) => Err(Refusal::OrdinalOfYear),
-            DateLiteral::Ordinal(_, ordinal) => Ok(of_ordinal(year, ordinal)),
-            DateLiteral::Week(_, week, _) if !matches!(week, 1..=53) => Err(Refusal::Week),
-            DateLiteral::Week(_, 53, _) if weeks(year) == 52 => Err(Refusal::WeekOfYear),
-            DateLiteral::Week(_, week, day) => {
-                // Week 1 has 4 January.
-                let monday = 1 - (first_weekday(year) + 3) % 7 + 3;
-                let ordinal = monday + (week as i32 - 1) * 7 + day as i32 - 1;
-                let days = 365 + is_leap(year) as i32;
-                let before = 365 + is_leap(year - 1) as i32;
-                if ordinal < 1 {
-                    if year == sys::YEAR_MIN {
-                        Err(Refusal::Result)
-                    } else {
-                        Ok(of_ordinal(year - 1, (ordinal + before) as u16))
-                    }
-                } else if ordinal > days {
-                    if year == sys::YEAR_MAX {
-                        Err(Refusal::Result)
-                    } else {
-                        Ok(of_ordinal(year + 1, (ordinal - days) as u16))
-                    }
-                } else {
-                    Ok(of_ordinal(year, ordinal as u16))
-                }
-            }
-        }
-    }
-}
-
-impl TimeLiteral {
-    pub(crate) const fn constant(self) -> Result<Time, Refusal> {
-        match self {
-            TimeLiteral { hour: 24.., .. } => Err(Refusal::Hour),
-            TimeLiteral { minute: 60.., .. } => Err(Refusal::Minute),
-            TimeLiteral { second: 60.., .. } => Err(Refusal::Second),
-            TimeLiteral {
-                nanosecond: 1_000_000_000..,
-                ..
-            } => Err(Refusal::Nanosecond),
-            TimeLiteral {
-                hour,
-                minute,
-                second,
-                nanosecond,
-            } => Ok(Time::of(hour, minute, second, nanosecond)),
-        }
-    }
-}
-
-impl OffsetLiteral {
-    pub(crate) const fn constant(self) -> Result<UtcOffset, Refusal> {
-        let [hours, minutes, seconds] = self.parts;
-        if hours > 25 {
-            return Err(Refusal::OffsetHour);
-        }
-        if minutes > 59 {
-            return Err(Refusal::OffsetMinute);
-        }
-        if seconds > 59 {
-            return Err(Refusal::OffsetSeconds);
-        }
-        let all = hours as i32 * 3_600 + minutes as i32 * 60 + seconds as i32;
-        Ok(UtcOffset::of(if self.is_negative { -all } else { all }))
-    }
-}
-
-impl PlainLiteral {
-    pub(crate) const fn constant(self) -> Result<PlainDateTime, Refusal> {
-        match (self.date.constant(), self.time.constant()) {
-            (Ok(date), Ok(time)) => Ok(PlainDateTime::new(date, time)),
-            (Err(refusal), _) | (_, Err(refusal)) => Err(refusal),
-        }
-    }
-}
-
-impl DateTimeLiteral {
-    pub(crate) const fn constant(self) -> Result<OffsetDateTime, Refusal> {
-        match (self.plain.constant(), self.offset.constant()) {
-            (Ok(plain), Ok(offset)) => Ok(plain.assume_offset(offset)),
-            (Err(refusal), _) | (_, Err(refusal)) => Err(refusal),
-        }
-    }
-}
-
-impl TimestampLiteral {
-    pub(crate) const fn constant(self) -> Result<Timestamp, Refusal> {
-        if self.seconds < sys::SECONDS_MIN as i128 || self.seconds > sys::SECONDS_MAX as i128 {
-            return Err(Refusal::Timestamp);
-        }
-        Ok(Timestamp::of(self.seconds as i64, self.nanosecond))
-    }
 }
 
 impl DateLiteral {
@@ -575,9 +424,8 @@ impl PlainLiteral {
         Ok(PlainDateTime::new(self.date.tested()?, self.time.tested()?))
     }
 
-    /// The value in UTC, or a panic that says what is refused.
+    /// The value in UTC. A part that is out of its range ends the compilation.
     #[must_use]
-    #[track_caller]
     pub const fn value_in_utc(self) -> UtcDateTime {
         self.value().as_utc()
     }
@@ -693,35 +541,5 @@ impl fmt::Display for TimestampLiteral {
         }
         write!(f, "-{}", -(self.seconds + 1))?;
         write_fraction(f, 1_000_000_000 - self.nanosecond)
-    }
-}
-
-#[cfg(test)]
-mod tests {
-    use super::*;
-
-    fn same(literal: DateLiteral) {
-        let (constant, tested) = (literal.constant(), literal.tested());
-        assert!(constant == tested, "{constant:?} {tested:?}");
-    }
-
-    #[test]
-    fn every_literal() {
-        let step = if cfg!(debug_assertions) { 37 } else { 1 };
-        for year in (sys::YEAR_MIN - 1..=sys::YEAR_MAX + 1).step_by(step) {
-            for month in 0..=13 {
-                for day in [0, 1, 28, 29, 30, 31, 32] {
-                    same(DateLiteral::Calendar(year, month, day));
-                }
-            }
-            for ordinal in [0, 1, 31, 32, 59, 60, 61, 365, 366, 367] {
-                same(DateLiteral::Ordinal(year, ordinal));
-            }
-            for week in [0, 1, 2, 52, 53, 54] {
-                for day in 0..=8 {
-                    same(DateLiteral::Week(year, week, day));
-                }
-            }
-        }
     }
 }

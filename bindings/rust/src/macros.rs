@@ -1,6 +1,11 @@
 //! Literals of dates and times, in the forms that `time`'s macros take.
 //!
-//! What is no literal, or names no date or time, as `date!(2023-02-29)`, does not compile. A literal is a constant expression.
+//! A literal is a constant expression. What is no literal, or names no date or time, does not compile, and the compiler's error
+//! names the line of the literal and what is wrong with it:
+//!
+//! ```compile_fail
+//! let date = muxandu::macros::date!(2023-02-29);
+//! ```
 //!
 //! ```
 //! use muxandu::macros::{date, datetime, offset, time, timestamp, utc_datetime};
@@ -94,7 +99,9 @@ macro_rules! datetime {
 macro_rules! __datetime_before_time {
     ($text:tt : $($rest:tt)+) => { $crate::__datetime_after_date!($text $($rest)+) };
     ($text:tt $skipped:tt $($rest:tt)*) => { $crate::__datetime_before_time!($text $($rest)*) };
-    ($text:tt) => { ::core::compile_error!(::core::concat!("no date and time of day: ", $text)) };
+    (($text:expr)) => {
+        ::core::compile_error!(::core::concat!("no date and time of day: ", $text))
+    };
 }
 
 /// Looks for an offset after the time of day.

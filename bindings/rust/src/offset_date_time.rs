@@ -5,7 +5,9 @@ use core::ops::Sub;
 use core::str::FromStr;
 
 use crate::sys::{self, MuxanduDateTime};
-use crate::{Date, PlainDateTime, Refusal, SignedDuration, Tested, Text, Time, Timestamp, Unit};
+use crate::{
+    Date, PlainDateTime, RangeResult, Refusal, SignedDuration, Text, Time, Timestamp, Unit,
+};
 use crate::{UtcDateTime, UtcOffset, spelled};
 
 /// What clocks at an offset from UTC show: a date, a time of day, and the offset.
@@ -51,7 +53,7 @@ impl OffsetDateTime {
     ///
     /// `timestamp` outside the range.
     #[inline]
-    pub fn from_unix_timestamp(timestamp: i64) -> Tested<OffsetDateTime> {
+    pub fn from_unix_timestamp(timestamp: i64) -> RangeResult<OffsetDateTime> {
         Ok(UtcDateTime::from_unix_timestamp(timestamp)?.at_offset_0())
     }
 
@@ -61,7 +63,7 @@ impl OffsetDateTime {
     ///
     /// `timestamp` outside the range.
     #[inline]
-    pub fn from_unix_timestamp_nanos(timestamp: i128) -> Tested<OffsetDateTime> {
+    pub fn from_unix_timestamp_nanos(timestamp: i128) -> RangeResult<OffsetDateTime> {
         Ok(UtcDateTime::from_unix_timestamp_nanos(timestamp)?.at_offset_0())
     }
 

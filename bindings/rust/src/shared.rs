@@ -339,7 +339,7 @@ macro_rules! date_replacements {
             ///
             /// `year`, or `day` conditionally for 29 February in a year that has none.
             #[inline]
-            pub fn replace_year(self, year: i32) -> $crate::Tested<$Type> {
+            pub fn replace_year(self, year: i32) -> $crate::RangeResult<$Type> {
                 Ok(self.replace_date(self.date().replace_year(year)?))
             }
 
@@ -349,7 +349,7 @@ macro_rules! date_replacements {
             ///
             /// `day`, conditionally, where the month does not have it.
             #[inline]
-            pub fn replace_month(self, month: $crate::Month) -> $crate::Tested<$Type> {
+            pub fn replace_month(self, month: $crate::Month) -> $crate::RangeResult<$Type> {
                 Ok(self.replace_date(self.date().replace_month(month)?))
             }
 
@@ -359,7 +359,7 @@ macro_rules! date_replacements {
             ///
             /// `day`, conditionally for one of 1 to 31.
             #[inline]
-            pub fn replace_day(self, day: u8) -> $crate::Tested<$Type> {
+            pub fn replace_day(self, day: u8) -> $crate::RangeResult<$Type> {
                 Ok(self.replace_date(self.date().replace_day(day)?))
             }
 
@@ -369,7 +369,7 @@ macro_rules! date_replacements {
             ///
             /// `ordinal`, conditionally for 366.
             #[inline]
-            pub fn replace_ordinal(self, ordinal: u16) -> $crate::Tested<$Type> {
+            pub fn replace_ordinal(self, ordinal: u16) -> $crate::RangeResult<$Type> {
                 Ok(self.replace_date(self.date().replace_ordinal(ordinal)?))
             }
         })+
@@ -386,7 +386,7 @@ macro_rules! time_replacements {
             ///
             /// `hour` above 23.
             #[inline]
-            pub fn replace_hour(self, hour: u8) -> $crate::Tested<$Type> {
+            pub fn replace_hour(self, hour: u8) -> $crate::RangeResult<$Type> {
                 Ok(self.replace_time(self.time().replace_hour(hour)?))
             }
 
@@ -396,7 +396,7 @@ macro_rules! time_replacements {
             ///
             /// `minute` above 59.
             #[inline]
-            pub fn replace_minute(self, minute: u8) -> $crate::Tested<$Type> {
+            pub fn replace_minute(self, minute: u8) -> $crate::RangeResult<$Type> {
                 Ok(self.replace_time(self.time().replace_minute(minute)?))
             }
 
@@ -406,7 +406,7 @@ macro_rules! time_replacements {
             ///
             /// `second` above 59.
             #[inline]
-            pub fn replace_second(self, second: u8) -> $crate::Tested<$Type> {
+            pub fn replace_second(self, second: u8) -> $crate::RangeResult<$Type> {
                 Ok(self.replace_time(self.time().replace_second(second)?))
             }
 
@@ -416,7 +416,7 @@ macro_rules! time_replacements {
             ///
             /// `millisecond` above 999.
             #[inline]
-            pub fn replace_millisecond(self, millisecond: u16) -> $crate::Tested<$Type> {
+            pub fn replace_millisecond(self, millisecond: u16) -> $crate::RangeResult<$Type> {
                 Ok(self.replace_time(self.time().replace_millisecond(millisecond)?))
             }
 
@@ -426,7 +426,7 @@ macro_rules! time_replacements {
             ///
             /// `microsecond` above 999,999.
             #[inline]
-            pub fn replace_microsecond(self, microsecond: u32) -> $crate::Tested<$Type> {
+            pub fn replace_microsecond(self, microsecond: u32) -> $crate::RangeResult<$Type> {
                 Ok(self.replace_time(self.time().replace_microsecond(microsecond)?))
             }
 
@@ -436,7 +436,7 @@ macro_rules! time_replacements {
             ///
             /// `nanosecond` above 999,999,999.
             #[inline]
-            pub fn replace_nanosecond(self, nanosecond: u32) -> $crate::Tested<$Type> {
+            pub fn replace_nanosecond(self, nanosecond: u32) -> $crate::RangeResult<$Type> {
                 Ok(self.replace_time(self.time().replace_nanosecond(nanosecond)?))
             }
         })+

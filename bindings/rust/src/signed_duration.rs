@@ -7,7 +7,7 @@ use core::time::Duration;
 
 use crate::error::ConversionRange;
 use crate::sys::MuxanduDuration;
-use crate::{Refusal, spelled};
+use crate::{Refusal, fractional, spelled};
 
 const PER_SECOND: i128 = 1_000_000_000;
 
@@ -293,14 +293,14 @@ impl SignedDuration {
         self.nanoseconds
     }
 
-    /// All of it in seconds, as nearly as 64 bits hold it.
+    /// The length in seconds: the nearest `f64`, or one next to it.
     #[must_use]
     #[inline]
     pub fn as_seconds_f64(self) -> f64 {
         self.seconds as f64 + f64::from(self.nanoseconds) / 1e9
     }
 
-    /// All of it in seconds, as nearly as 32 bits hold it.
+    /// The length in seconds: the nearest `f32`, or one next to it.
     #[must_use]
     #[inline]
     pub fn as_seconds_f32(self) -> f32 {
@@ -309,35 +309,56 @@ impl SignedDuration {
 
     /// As [`SignedDuration::seconds_f64`].
     ///
-    /// # Panics
+    /// ```
+    /// use muxandu::SignedDuration;
     ///
-    /// 64 bits do not hold the whole seconds, or there is no number.
-    #[must_use]
-    #[track_caller]
-    #[inline]
-    pub fn seconds_f32(seconds: f32) -> SignedDuration {
-        SignedDuration::seconds_f64(f64::from(seconds))
-    }
-
-    /// The duration of so many seconds, of which what is finer than a nanosecond is dropped.
+    /// assert_eq!(SignedDuration::seconds_f32(-0.5), SignedDuration::milliseconds(-500));
+    /// // The `f32` nearest to 1.001 is 1.00100004673...
+    /// assert_eq!(SignedDuration::seconds_f32(1.001), SignedDuration::nanoseconds(1_001_000_047));
+    /// ```
     ///
     /// # Panics
     ///
-    /// 64 bits do not hold the whole seconds, or there is no number.
+    /// 64 bits do not hold the whole seconds, or the number is NaN.
     #[must_use]
     #[track_caller]
     #[inline]
-    pub fn seconds_f64(seconds: f64) -> SignedDuration {
-        const END: f64 = 9_223_372_036_854_775_808.0;
-        assert!((-END..END).contains(&seconds), "{BEYOND}");
-        SignedDuration::of(seconds as i64, (seconds % 1.0 * 1e9) as i32)
+    pub const fn seconds_f32(seconds: f32) -> SignedDuration {
+        SignedDuration::seconds_f64(seconds as f64)
     }
 
+    /// The duration of so many seconds, rounded to the nearest nanosecond, and to the even one where two are as near.
+    ///
+    /// ```
+    /// use muxandu::SignedDuration;
+    /// use muxandu::ext::NumericalDuration as _;
+    ///
+    /// assert_eq!(SignedDuration::seconds_f64(1.001), SignedDuration::milliseconds(1_001));
+    /// assert_eq!(SignedDuration::seconds_f64(1.001), 1.001.seconds());
+    /// assert_eq!(SignedDuration::seconds_f64(-2.7e-9), SignedDuration::nanoseconds(-3));
+    /// ```
+    ///
+    /// # Panics
+    ///
+    /// 64 bits do not hold the whole seconds, or the number is NaN.
+    #[must_use]
     #[track_caller]
     #[inline]
-    pub(crate) fn nanoseconds_f64(nanoseconds: f64) -> SignedDuration {
-        assert!(nanoseconds.is_finite(), "the duration is no number");
-        SignedDuration::of_nanoseconds(nanoseconds as i128).expect(BEYOND)
+    pub const fn seconds_f64(seconds: f64) -> SignedDuration {
+        SignedDuration::of_units(seconds, 1_000_000_000)
+    }
+
+    /// The duration of `count` units of so many nanoseconds, rounded as [`fractional::nanoseconds`] does.
+    #[track_caller]
+    #[inline]
+    pub(crate) const fn of_units(count: f64, unit: u64) -> SignedDuration {
+        let Some(whole) = fractional::nanoseconds(count, unit) else {
+            panic!("64 bits hold the seconds of the duration")
+        };
+        match SignedDuration::of_nanoseconds(whole) {
+            Some(duration) => duration,
+            None => panic!("64 bits hold the seconds of the duration"),
+        }
     }
 
     /// The sum, if 64 bits hold its seconds.
@@ -406,7 +427,7 @@ impl SignedDuration {
     pub const fn saturating_sub(self, other: SignedDuration) -> SignedDuration {
         match self.checked_sub(other) {
             Some(difference) => difference,
-            // A difference is beyond the end that lies away from what is taken.
+            // To subtract a negative duration adds one, so the difference is above all durations.
             None if other.is_negative() => SignedDuration::MAX,
             None => SignedDuration::MIN,
         }
@@ -607,7 +628,7 @@ macro_rules! factors_assigned {
 
 factors_assigned! { i8 i16 i32 u8 u16 u32 f32 f64 }
 
-/// Products and quotients with others, of which what is finer than a nanosecond is dropped.
+/// Products and quotients with numbers that have a point: those of `as_seconds_f64`, as `seconds_f64` rounds them.
 macro_rules! fractional_factors {
     ($($Factor:ident)+) => {
         $(
@@ -803,14 +824,20 @@ impl PartialEq<Duration> for SignedDuration {
 
 /// The days, the hours, the minutes, the seconds, and what is finer, of which those that are 0 are left out, as `1d2h` or
 /// `-1s500ms`.
+///
+/// With a precision, the number of the greatest unit that the duration has one of, rounded to so many decimals, and to an even
+/// digit where two are as near. More than 24 decimals are taken as 24.
+///
+/// ```
+/// use muxandu::SignedDuration;
+///
+/// let took = SignedDuration::milliseconds(5_750);
+/// assert_eq!(format!("{took}, {took:.1}"), "5s750ms, 5.8s");
+/// assert_eq!(format!("{:.2}", SignedDuration::milliseconds(5)), "5.00ms");
+/// ```
 impl fmt::Display for SignedDuration {
     fn fmt(&self, f: &mut fmt::Formatter<'_>) -> fmt::Result {
-        let Some(digits) = f.precision() else {
-            return spelled::write_padded(f, |text| {
-                spelled::write_duration(text, self.whole_nanoseconds())
-            });
-        };
-        spelled::write_rounded(f, self.as_seconds_f64(), digits)
+        spelled::write_duration(f, self.whole_nanoseconds())
     }
 }
 
@@ -869,6 +896,9 @@ mod tests {
     #[test]
     fn sums_and_products_are_those_of_all_the_nanoseconds() {
         let held = SignedDuration::of_nanoseconds;
+        let (least, most) = (SignedDuration::MIN, SignedDuration::MAX);
+        let ends = (least.whole_nanoseconds(), most.whole_nanoseconds());
+        let nearest = |whole: i128| held(whole.clamp(ends.0, ends.1)).unwrap();
         for first in some() {
             let whole = first.whole_nanoseconds();
             assert_eq!(first.checked_neg(), held(-whole));
@@ -886,6 +916,8 @@ mod tests {
                     held(whole - other),
                     "{first} - {second}"
                 );
+                assert_eq!(first.saturating_add(second), nearest(whole + other));
+                assert_eq!(first.saturating_sub(second), nearest(whole - other));
             }
             for factor in [i32::MIN, -7, -1, 0, 1, 2, 1_000_003, i32::MAX] {
                 let by = i128::from(factor);
@@ -894,6 +926,7 @@ mod tests {
                     held(whole * by),
                     "{first} * {factor}"
                 );
+                assert_eq!(first.saturating_mul(factor), nearest(whole * by));
                 let quotient = (factor != 0).then(|| held(whole / by)).flatten();
                 assert_eq!(first.checked_div(factor), quotient, "{first} / {factor}");
             }

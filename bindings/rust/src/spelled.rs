@@ -61,16 +61,6 @@ pub(crate) fn named<T: Copy + fmt::Display>(all: &[T], name: &str) -> Result<T, 
     found.copied().ok_or(InvalidVariant)
 }
 
-/// Writes a text of several parts with the width and the alignment that are asked for.
-pub(crate) fn write_padded(
-    f: &mut fmt::Formatter<'_>,
-    write: impl FnOnce(&mut Text) -> fmt::Result,
-) -> fmt::Result {
-    let mut text = Text::empty();
-    write(&mut text)?;
-    f.pad(&text)
-}
-
 /// The units that a duration is written in: their nanoseconds, and what follows their number.
 const UNITS: [(u128, &str); 7] = [
     (86_400_000_000_000, "d"),
@@ -82,38 +72,71 @@ const UNITS: [(u128, &str); 7] = [
     (1, "ns"),
 ];
 
-pub(crate) fn write_duration(text: &mut Text, whole_nanoseconds: i128) -> fmt::Result {
-    if whole_nanoseconds == 0 {
-        return text.write_str("0s");
-    }
+/// Writes a duration with the width, the alignment and the precision that are asked for.
+pub(crate) fn write_duration(f: &mut fmt::Formatter<'_>, whole_nanoseconds: i128) -> fmt::Result {
+    let mut text = Text::empty();
     if whole_nanoseconds < 0 {
         text.write_char('-')?;
     }
-    let mut left = whole_nanoseconds.unsigned_abs();
-    for (nanoseconds, unit) in UNITS {
-        let count = left / nanoseconds;
+    let nanoseconds = whole_nanoseconds.unsigned_abs();
+    match f.precision() {
+        None => write_units(&mut text, nanoseconds)?,
+        Some(decimals) => write_rounded(&mut text, nanoseconds, decimals.min(MOST_DECIMALS))?,
+    }
+    write_aligned(f, &text)
+}
+
+/// Each unit and its count, but for the counts of 0.
+fn write_units(text: &mut Text, mut nanoseconds: u128) -> fmt::Result {
+    if nanoseconds == 0 {
+        return text.write_str("0s");
+    }
+    for (length, unit) in UNITS {
+        let count = nanoseconds / length;
         if count > 0 {
             write!(text, "{count}{unit}")?;
         }
-        left %= nanoseconds;
+        nanoseconds %= length;
     }
     Ok(())
 }
 
-/// The greatest unit that the duration has one of, and so many digits past the point, as `1.50m`.
-pub(crate) fn write_rounded(
-    f: &mut fmt::Formatter<'_>,
-    seconds: f64,
-    digits: usize,
-) -> fmt::Result {
-    if seconds == 0.0 {
-        return write!(f, "{:.digits$}s", 0.0);
+/// 128 bits hold the nanoseconds of less than a day, times 10 to the power of this.
+const MOST_DECIMALS: usize = 24;
+
+/// The greatest unit that there is one of, and its count with so many decimals, as `1.50m`.
+fn write_rounded(text: &mut Text, nanoseconds: u128, decimals: usize) -> fmt::Result {
+    const SECONDS: (u128, &str) = UNITS[3];
+    let greatest = UNITS.into_iter().find(|(length, _)| nanoseconds >= *length);
+    let (length, unit) = greatest.unwrap_or(SECONDS);
+    let one = 10_u128.pow(decimals as u32);
+    let scaled = nanoseconds % length * one;
+    let (down, rest) = (scaled / length, scaled % length);
+    let last_is_odd = match decimals {
+        0 => nanoseconds / length % 2 == 1,
+        _ => down % 2 == 1,
+    };
+    let is_nearer_above = rest * 2 > length || rest * 2 == length && last_is_odd;
+    let fraction = down + u128::from(is_nearer_above);
+    write!(text, "{}", nanoseconds / length + fraction / one)?;
+    if decimals > 0 {
+        write!(text, ".{:0decimals$}", fraction % one)?;
     }
-    let units = UNITS.map(|(nanoseconds, unit)| (seconds * 1e9 / nanoseconds as f64, unit));
-    let [.., smallest] = units;
-    let first = units.into_iter().find(|(count, _)| count.abs() >= 1.0);
-    let (count, unit) = first.unwrap_or(smallest);
-    write!(f, "{count:.digits$}{unit}")
+    text.write_str(unit)
+}
+
+/// Writes all of a text, as wide as is asked for: `Formatter::pad` would cut it at the precision.
+fn write_aligned(f: &mut fmt::Formatter<'_>, text: &str) -> fmt::Result {
+    let missing = f.width().unwrap_or(0).saturating_sub(text.chars().count());
+    let before = match f.align() {
+        Some(fmt::Alignment::Right) => missing,
+        Some(fmt::Alignment::Center) => missing / 2,
+        _ => 0,
+    };
+    let fill = f.fill();
+    (0..before).try_for_each(|_| f.write_char(fill))?;
+    f.write_str(text)?;
+    (before..missing).try_for_each(|_| f.write_char(fill))
 }
 
 /// Reads the units in their order, and answers only what is written so.
@@ -139,10 +162,13 @@ pub(crate) fn duration(text: &str) -> Result<SignedDuration, Refusal> {
         whole = whole.saturating_add(count.saturating_mul(unit.0 as i128));
         rest = after;
     }
-    let whole = if is_negative { -whole } else { whole };
     let mut written = Text::empty();
-    if write_duration(&mut written, whole).is_err() || written != text {
+    if is_negative && whole > 0 {
+        written.write_char('-').map_err(|_| Refusal::Syntax)?;
+    }
+    if write_units(&mut written, whole.unsigned_abs()).is_err() || written != text {
         return Err(Refusal::Syntax);
     }
+    let whole = if is_negative { -whole } else { whole };
     SignedDuration::of_nanoseconds(whole).ok_or(Refusal::Duration)
 }

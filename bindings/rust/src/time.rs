@@ -5,7 +5,7 @@ use core::ops::Sub;
 use core::str::FromStr;
 
 use crate::error::ComponentRange;
-use crate::{Date, PlainDateTime, Refusal, SignedDuration, Tested, Unit, spelled, sys};
+use crate::{Date, PlainDateTime, RangeResult, Refusal, SignedDuration, Unit, spelled, sys};
 
 /// A time of day, to the nanosecond.
 ///
@@ -62,7 +62,7 @@ impl Time {
     ///
     /// `hour`, `minute` or `second`, the first that is out of its range.
     #[inline]
-    pub fn from_hms(hour: u8, minute: u8, second: u8) -> Tested<Time> {
+    pub fn from_hms(hour: u8, minute: u8, second: u8) -> RangeResult<Time> {
         Ok(Time::tested(hour, minute, second, 0)?)
     }
 
@@ -72,7 +72,7 @@ impl Time {
     ///
     /// `hour`, `minute`, `second` or `millisecond`, the first that is out of its range.
     #[inline]
-    pub fn from_hms_milli(hour: u8, minute: u8, second: u8, millisecond: u16) -> Tested<Time> {
+    pub fn from_hms_milli(hour: u8, minute: u8, second: u8, millisecond: u16) -> RangeResult<Time> {
         let nanosecond = u32::from(millisecond).saturating_mul(1_000_000);
         Time::tested(hour, minute, second, nanosecond).map_err(in_milliseconds)
     }
@@ -83,7 +83,7 @@ impl Time {
     ///
     /// `hour`, `minute`, `second` or `microsecond`, the first that is out of its range.
     #[inline]
-    pub fn from_hms_micro(hour: u8, minute: u8, second: u8, microsecond: u32) -> Tested<Time> {
+    pub fn from_hms_micro(hour: u8, minute: u8, second: u8, microsecond: u32) -> RangeResult<Time> {
         let nanosecond = microsecond.saturating_mul(1_000);
         Time::tested(hour, minute, second, nanosecond).map_err(in_microseconds)
     }
@@ -94,7 +94,7 @@ impl Time {
     ///
     /// `hour`, `minute`, `second` or `nanosecond`, the first that is out of its range.
     #[inline]
-    pub fn from_hms_nano(hour: u8, minute: u8, second: u8, nanosecond: u32) -> Tested<Time> {
+    pub fn from_hms_nano(hour: u8, minute: u8, second: u8, nanosecond: u32) -> RangeResult<Time> {
         Ok(Time::tested(hour, minute, second, nanosecond)?)
     }
 
@@ -160,7 +160,7 @@ impl Time {
     ///
     /// `hour` above 23.
     #[inline]
-    pub fn replace_hour(self, hour: u8) -> Tested<Time> {
+    pub fn replace_hour(self, hour: u8) -> RangeResult<Time> {
         Time::from_hms_nano(hour, self.minute, self.second, self.nanosecond)
     }
 
@@ -170,7 +170,7 @@ impl Time {
     ///
     /// `minute` above 59.
     #[inline]
-    pub fn replace_minute(self, minute: u8) -> Tested<Time> {
+    pub fn replace_minute(self, minute: u8) -> RangeResult<Time> {
         Time::from_hms_nano(self.hour, minute, self.second, self.nanosecond)
     }
 
@@ -180,7 +180,7 @@ impl Time {
     ///
     /// `second` above 59.
     #[inline]
-    pub fn replace_second(self, second: u8) -> Tested<Time> {
+    pub fn replace_second(self, second: u8) -> RangeResult<Time> {
         Time::from_hms_nano(self.hour, self.minute, second, self.nanosecond)
     }
 
@@ -190,7 +190,7 @@ impl Time {
     ///
     /// `millisecond` above 999.
     #[inline]
-    pub fn replace_millisecond(self, millisecond: u16) -> Tested<Time> {
+    pub fn replace_millisecond(self, millisecond: u16) -> RangeResult<Time> {
         Time::from_hms_milli(self.hour, self.minute, self.second, millisecond)
     }
 
@@ -200,7 +200,7 @@ impl Time {
     ///
     /// `microsecond` above 999,999.
     #[inline]
-    pub fn replace_microsecond(self, microsecond: u32) -> Tested<Time> {
+    pub fn replace_microsecond(self, microsecond: u32) -> RangeResult<Time> {
         Time::from_hms_micro(self.hour, self.minute, self.second, microsecond)
     }
 
@@ -210,7 +210,7 @@ impl Time {
     ///
     /// `nanosecond` above 999,999,999.
     #[inline]
-    pub fn replace_nanosecond(self, nanosecond: u32) -> Tested<Time> {
+    pub fn replace_nanosecond(self, nanosecond: u32) -> RangeResult<Time> {
         Time::from_hms_nano(self.hour, self.minute, self.second, nanosecond)
     }
 

@@ -5,7 +5,7 @@ use core::ops::Sub;
 use core::str::FromStr;
 
 use crate::sys::{self, MuxanduDuration, MuxanduTimestamp};
-use crate::{Date, OffsetDateTime, Refusal, SignedDuration, Tested, Text, Time, Unit};
+use crate::{Date, OffsetDateTime, RangeResult, Refusal, SignedDuration, Text, Time, Unit};
 use crate::{UtcDateTime, UtcOffset, spelled};
 
 /// An instant: a Unix second, and a nanosecond of that second, before 1970 too.
@@ -61,7 +61,7 @@ impl Timestamp {
     ///
     /// `timestamp` outside the range, then `nanosecond` above 999,999,999.
     #[inline]
-    pub fn new(seconds: i64, nanoseconds: u32) -> Tested<Timestamp> {
+    pub fn new(seconds: i64, nanoseconds: u32) -> RangeResult<Timestamp> {
         Ok(Timestamp::tested(seconds, nanoseconds)?)
     }
 
@@ -71,7 +71,7 @@ impl Timestamp {
     ///
     /// `timestamp` outside the range.
     #[inline]
-    pub fn from_seconds(seconds: i64) -> Tested<Timestamp> {
+    pub fn from_seconds(seconds: i64) -> RangeResult<Timestamp> {
         Timestamp::new(seconds, 0)
     }
 
@@ -81,7 +81,7 @@ impl Timestamp {
     ///
     /// `timestamp` outside the range.
     #[inline]
-    pub fn from_milliseconds(milliseconds: i64) -> Tested<Timestamp> {
+    pub fn from_milliseconds(milliseconds: i64) -> RangeResult<Timestamp> {
         let mut out = Timestamp::UNIX_EPOCH;
         Refusal::test(sys::muxandu_timestamp_from_milliseconds(
             milliseconds,
@@ -96,7 +96,7 @@ impl Timestamp {
     ///
     /// `timestamp` outside the range.
     #[inline]
-    pub fn from_microseconds(microseconds: i128) -> Tested<Timestamp> {
+    pub fn from_microseconds(microseconds: i128) -> RangeResult<Timestamp> {
         if let Ok(microseconds) = i64::try_from(microseconds) {
             return Ok(Timestamp(sys::muxandu_timestamp_from_microseconds(
                 microseconds,
@@ -111,7 +111,7 @@ impl Timestamp {
     ///
     /// `timestamp` outside the range.
     #[inline]
-    pub fn from_nanoseconds(nanoseconds: i128) -> Tested<Timestamp> {
+    pub fn from_nanoseconds(nanoseconds: i128) -> RangeResult<Timestamp> {
         if let Ok(nanoseconds) = i64::try_from(nanoseconds) {
             return Ok(Timestamp(sys::muxandu_timestamp_from_nanoseconds(
                 nanoseconds,
@@ -122,7 +122,7 @@ impl Timestamp {
 
     /// The instant of a count, of which there are so many in a second.
     #[inline]
-    fn counted(count: i128, per_second: i128) -> Tested<Timestamp> {
+    fn counted(count: i128, per_second: i128) -> RangeResult<Timestamp> {
         let seconds = count.div_euclid(per_second);
         let seconds = i64::try_from(seconds).unwrap_or(i64::MAX);
         let nanoseconds = count.rem_euclid(per_second) * (1_000_000_000 / per_second);

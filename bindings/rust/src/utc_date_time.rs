@@ -5,7 +5,9 @@ use core::ops::Sub;
 use core::str::FromStr;
 
 use crate::sys::{self, MuxanduDateTime, MuxanduTimestamp};
-use crate::{Date, OffsetDateTime, PlainDateTime, Refusal, SignedDuration, Tested, Text, Time};
+use crate::{
+    Date, OffsetDateTime, PlainDateTime, RangeResult, Refusal, SignedDuration, Text, Time,
+};
 use crate::{Timestamp, Unit, UtcOffset, spelled};
 
 /// An instant, as clocks in UTC show it.
@@ -48,7 +50,7 @@ impl UtcDateTime {
     ///
     /// `timestamp` outside the range.
     #[inline]
-    pub fn from_unix_timestamp(timestamp: i64) -> Tested<UtcDateTime> {
+    pub fn from_unix_timestamp(timestamp: i64) -> RangeResult<UtcDateTime> {
         let at = MuxanduTimestamp {
             seconds: timestamp,
             nanoseconds: 0,
@@ -64,7 +66,7 @@ impl UtcDateTime {
     ///
     /// `timestamp` outside the range.
     #[inline]
-    pub fn from_unix_timestamp_nanos(timestamp: i128) -> Tested<UtcDateTime> {
+    pub fn from_unix_timestamp_nanos(timestamp: i128) -> RangeResult<UtcDateTime> {
         Ok(Timestamp::from_nanoseconds(timestamp)?.to_utc())
     }
 
@@ -167,6 +169,26 @@ impl UtcDateTime {
     pub fn to_rfc3339(self) -> core::result::Result<Text, Refusal> {
         self.at_offset_0().to_rfc3339()
     }
+
+    /// Reads the instant of a text of RFC 3339, as `1996-12-19T16:39:57-08:00`.
+    ///
+    /// ```
+    /// use muxandu::macros::utc_datetime;
+    /// use muxandu::{Refusal, UtcDateTime};
+    ///
+    /// let at = UtcDateTime::from_rfc3339("1996-12-19T16:39:57-08:00")?;
+    /// assert_eq!(at, utc_datetime!(1996-12-20 0:39:57));
+    /// assert_eq!(UtcDateTime::from_rfc3339("1996-12-19T24:00:00Z"), Err(Refusal::Hour));
+    /// # Ok::<(), Refusal>(())
+    /// ```
+    ///
+    /// # Errors
+    ///
+    /// [`Refusal::Syntax`] for another form, else the first part from the left that is out of its range.
+    #[inline]
+    pub fn from_rfc3339(text: impl AsRef<[u8]>) -> core::result::Result<UtcDateTime, Refusal> {
+        Ok(Timestamp::from_rfc3339(text)?.to_utc())
+    }
 }
 
 date_reads!(UtcDateTime, " in UTC", const);
@@ -245,7 +267,7 @@ impl FromStr for UtcDateTime {
 
     fn from_str(text: &str) -> core::result::Result<UtcDateTime, Refusal> {
         match spelled::read(text, crate::literal::utc(text), |literal| literal.tested()) {
-            Err(Refusal::Syntax) => Ok(Timestamp::from_rfc3339(text)?.to_utc()),
+            Err(Refusal::Syntax) => UtcDateTime::from_rfc3339(text),
             answer => answer,
         }
     }

@@ -4,7 +4,7 @@ use core::str::FromStr;
 
 use crate::error::ComponentRange;
 use crate::sys::{self, MuxanduOffset};
-use crate::{Date, Refusal, Tested, spelled};
+use crate::{Date, RangeResult, Refusal, spelled};
 
 /// An offset from UTC, -25:59:59 to 25:59:59; it is positive where clocks show more than in UTC.
 ///
@@ -47,7 +47,7 @@ impl UtcOffset {
     ///
     /// `hours` that are not -25 to 25, `minutes` or `seconds` that are not -59 to 59.
     #[inline]
-    pub fn from_hms(hours: i8, minutes: i8, seconds: i8) -> Tested<UtcOffset> {
+    pub fn from_hms(hours: i8, minutes: i8, seconds: i8) -> RangeResult<UtcOffset> {
         Ok(UtcOffset::tested(MuxanduOffset {
             hours,
             minutes,
@@ -61,7 +61,7 @@ impl UtcOffset {
     ///
     /// `seconds` that are not -93,599 to 93,599.
     #[inline]
-    pub const fn from_whole_seconds(seconds: i32) -> Tested<UtcOffset> {
+    pub const fn from_whole_seconds(seconds: i32) -> RangeResult<UtcOffset> {
         if seconds < sys::OFFSET_MIN || seconds > sys::OFFSET_MAX {
             return Err(ComponentRange::new("seconds", false));
         }

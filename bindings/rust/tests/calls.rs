@@ -1,7 +1,6 @@
 //! Each call of the crate, on values that other programs gave.
 
-use std::collections::HashSet;
-use std::time::{Duration as StdDuration, SystemTime};
+use std::time::Duration as StdDuration;
 
 use muxandu::ext::{NumericalDuration, NumericalStdDuration};
 use muxandu::macros::{date, datetime, offset, time, timestamp, utc_datetime};
@@ -323,8 +322,11 @@ fn instants() {
     );
 }
 
+#[cfg(feature = "std")]
 #[test]
 fn clocks_of_the_machine() {
+    use std::time::SystemTime;
+
     let time = SystemTime::UNIX_EPOCH - StdDuration::from_millis(500);
     assert_eq!(Timestamp::from(time), timestamp!(-0.5));
     assert_eq!(SystemTime::from(utc_datetime!(1969-12-31 23:59:59.5)), time);
@@ -491,23 +493,6 @@ fn leap_seconds_are_read_in_order() {
 }
 
 #[test]
-fn equal_values_hash_alike() {
-    let instants = HashSet::from([
-        datetime!(2024-02-29 1:00 +1),
-        datetime!(2024-02-29 0:00 UTC),
-    ]);
-    assert_eq!(instants.len(), 1);
-    assert_eq!(
-        HashSet::from([date!(2024 - 060), date!(2024 - 02 - 29)]).len(),
-        1
-    );
-    assert_eq!(
-        HashSet::from([SignedDuration::new(1, -1), 999_999_999.nanoseconds()]).len(),
-        1
-    );
-}
-
-#[test]
 fn durations() {
     let duration: Duration = 1.days() + 2.hours() - 3.minutes();
     assert_eq!((duration.whole_days(), duration.whole_hours()), (1, 25));
@@ -569,43 +554,6 @@ fn durations() {
         [1.hours(), 30.minutes()].iter().sum::<SignedDuration>(),
         90.minutes()
     );
-}
-
-#[test]
-fn a_difference_is_beyond_the_end_it_lies_at() {
-    let least = Duration::nanoseconds(-1);
-    assert_eq!(least.saturating_sub(Duration::MIN), Duration::MAX);
-    assert_eq!(
-        Duration::seconds(-2).saturating_sub(Duration::MAX),
-        Duration::MIN
-    );
-    assert_eq!(
-        Duration::nanoseconds(1).saturating_sub(Duration::MIN),
-        Duration::MAX
-    );
-}
-
-#[test]
-fn a_duration_with_a_precision_is_rounded_not_cut() {
-    assert_eq!(format!("{:.2}", Duration::milliseconds(5)), "5.00ms");
-    assert_eq!(format!("{:.1}", Duration::seconds(-90)), "-1.5m");
-    assert_eq!(format!("{:.0}", Duration::days(100)), "100d");
-    assert_eq!(format!("{:.1}", Duration::ZERO), "0.0s");
-}
-
-#[test]
-fn a_literal_is_a_constant() {
-    const DAY: Date = date!(2024 - 02 - 29);
-    static LAST: OffsetDateTime = datetime!(9999-12-31 23:59:59.999_999 utc);
-    assert_eq!((DAY.day(), LAST.year()), (29, 9999));
-}
-
-#[test]
-fn a_result_has_any_refusal() {
-    fn first(month: &str) -> muxandu::Result<Date> {
-        Ok(Date::from_calendar_date(2024, month.parse()?, 1)?)
-    }
-    assert!(first("May").is_ok() && first("may").is_err());
 }
 
 #[test]

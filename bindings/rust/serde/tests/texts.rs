@@ -1,10 +1,11 @@
 //! Values written and read, by serde's own formats.
 
 use muxandu::macros::{date, datetime};
-use muxandu::{Date, OffsetDateTime, Timestamp};
-use serde::Deserialize;
-use serde::de::IntoDeserializer;
+use muxandu::{Date, OffsetDateTime, Timestamp, UtcDateTime};
+use muxandu_serde::text;
 use serde::de::value::{Error, MapDeserializer, StrDeserializer};
+use serde::de::{IntoDeserializer, Visitor};
+use serde::{Deserialize, Deserializer, forward_to_deserialize_any};
 
 #[derive(Debug, Deserialize, PartialEq)]
 struct Invoice {
@@ -65,4 +66,56 @@ fn texts_are_written() {
         )
         .is_err()
     );
+}
+
+/// What a format gives where a value may be missing: `null` as no value, `null` as a unit, or a text.
+enum Given {
+    Nothing,
+    Unit,
+    Text(&'static str),
+}
+
+impl<'de> Deserializer<'de> for Given {
+    type Error = Error;
+
+    fn deserialize_any<V: Visitor<'de>>(self, visitor: V) -> Result<V::Value, Error> {
+        match self {
+            Given::Nothing => visitor.visit_none(),
+            Given::Unit => visitor.visit_unit(),
+            Given::Text(text) => visitor.visit_some(text.into_deserializer()),
+        }
+    }
+
+    forward_to_deserialize_any! {
+        bool i8 i16 i32 i64 u8 u16 u32 u64 f32 f64 char str string bytes byte_buf option unit unit_struct newtype_struct
+        seq tuple tuple_struct map struct enum identifier ignored_any
+    }
+}
+
+#[test]
+fn a_missing_value_is_read() {
+    let read = text::option::deserialize::<Date, Given>;
+    assert_eq!(read(Given::Nothing), Ok(None));
+    assert_eq!(read(Given::Unit), Ok(None));
+    assert_eq!(
+        read(Given::Text("2024-02-29")),
+        Ok(Some(date!(2024 - 02 - 29)))
+    );
+    assert!(read(Given::Text("2023-02-29")).is_err());
+}
+
+#[test]
+fn an_instant_is_read_by_each_type() {
+    let text = "1996-12-19T16:39:57-08:00";
+    let at = datetime!(1996-12-19 16:39:57 -8);
+    macro_rules! read {
+        ($($Type:ident)+) => {
+            $(
+                let given: StrDeserializer<'_, Error> = text.into_deserializer();
+                let value: $Type = muxandu_serde::rfc3339::deserialize(given).unwrap();
+                assert_eq!(value, at);
+            )+
+        };
+    }
+    read! { OffsetDateTime UtcDateTime Timestamp }
 }
