@@ -47,6 +47,9 @@ dateTimes(OffsetDateTime.of({ ...clocks, ...{ year: 2024, month: 2, day: 29, hou
 dateTimes(OffsetDateTime.fromDate(date), OffsetDateTime.fromDate(date, 3_600));
 dateTimes(shown.with({ day: daysInMonth(2024, 2) }), shown.toOffset(0), shown.truncate("microsecond"));
 dateTimes(shown.add(parts), shown.subtract(total), shown.saturatingAdd(total), shown.saturatingSubtract(parts));
+const leap = OffsetDateTime.parseLeap("2016-12-31T23:59:60Z");
+dateTimes(leap.dateTime);
+truths(leap.isLeap);
 numbers(shown.year, shown.month, shown.day, shown.hour, shown.minute, shown.second, shown.nanosecond, shown.offsetSeconds);
 numbers(shown.dayOfYear, shown.weekday, shown.isoWeek, shown.isoYear, shown.dayNumber, daysInMonth(2024, 2), parseOffset("Z"));
 timestamps(shown.toTimestamp());

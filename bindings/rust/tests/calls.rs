@@ -464,7 +464,10 @@ fn texts_of_rfc_3339() {
         "1996-12-19T16:39:57+24:00".parse::<OffsetDateTime>(),
         Err(Refusal::OffsetHour)
     );
-    assert_eq!(Refusal::Hour.to_string(), "HOUR: An hour that is not 0 to 23.");
+    assert_eq!(
+        Refusal::Hour.to_string(),
+        "HOUR: An hour that is not 0 to 23."
+    );
 }
 
 #[test]
