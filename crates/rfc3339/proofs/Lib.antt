@@ -1,3 +1,5 @@
+mod AbnfLemmas
+mod RecogniserLemmas
 mod GrammarLemmas
 mod ByteLemmas
 mod DigitOrderLemmas

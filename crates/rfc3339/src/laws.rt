@@ -3,6 +3,7 @@ ghost use Rattle.rfc3339.specs.Laws.{TextsHaveOneReading, ReadingsAreOfTheForm, 
 ghost use Rattle.rfc3339.specs.Laws.{FixedTextsHaveOneWidth, FixedTextsKeepTheOrder};
 ghost use Rattle.rfc3339.specs.Grammar.{FormsAreOfTheGrammar, RefusalsAreOfTheGrammar, WrittenTextsAreOfTheGrammar, BeginningsAreOfTheGrammar};
 ghost use Rattle.rfc3339.specs.Printed.{GrammarIsPrinted};
+ghost use Rattle.rfc3339.specs.Recogniser.{GrammarsAreDecided};
 ghost use Rattle.rfc3339.specs.DigitLaws.{TextsOfDigitsTruncate, TextsOfDigitsKeepTheOrder};
 
 /// A text spells one list of parts at most.
@@ -70,4 +71,9 @@ pub fn beginnings_are_of_the_grammar()
 /// The rules of the grammar, printed as RFC 5234 prints rules, are the lines of RFC 3339, section 5.6.
 pub fn grammar_is_printed()
     ensures { GrammarIsPrinted }
+{}
+
+/// Of each grammar whose rules do not go round, a recogniser that computes says whether it derives a text. RFC 3339's is one.
+pub fn grammars_are_decided()
+    ensures { GrammarsAreDecided }
 {}
