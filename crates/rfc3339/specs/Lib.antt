@@ -6,6 +6,7 @@ pub mod Abnf
 pub mod Grammar
 pub mod Printed
 pub mod Recogniser
+pub mod Suffixes
 pub mod FullDates
 pub mod Meaning
 pub mod LeapSeconds

@@ -4,6 +4,7 @@ ghost use Rattle.rfc3339.specs.Laws.{FixedTextsHaveOneWidth, FixedTextsKeepTheOr
 ghost use Rattle.rfc3339.specs.Grammar.{FormsAreOfTheGrammar, RefusalsAreOfTheGrammar, WrittenTextsAreOfTheGrammar, BeginningsAreOfTheGrammar};
 ghost use Rattle.rfc3339.specs.Printed.{GrammarIsPrinted};
 ghost use Rattle.rfc3339.specs.Recogniser.{GrammarsAreDecided};
+ghost use Rattle.rfc3339.specs.Suffixes.{SuffixesArePrinted, SuffixesAreDecided, SuffixesAreInBrackets, SuffixesAreCutOff};
 ghost use Rattle.rfc3339.specs.DigitLaws.{TextsOfDigitsTruncate, TextsOfDigitsKeepTheOrder};
 
 /// A text spells one list of parts at most.
@@ -76,4 +77,24 @@ pub fn grammar_is_printed()
 /// Of each grammar whose rules do not go round, a recogniser that computes says whether it derives a text. RFC 3339's is one.
 pub fn grammars_are_decided()
     ensures { GrammarsAreDecided }
+{}
+
+/// The rules of RFC 9557, section 4.1, printed as RFC 5234 prints rules, are the lines of that section.
+pub fn suffixes_are_printed()
+    ensures { SuffixesArePrinted }
+{}
+
+/// The recogniser says of each text whether it is a date-time with a suffix of RFC 9557.
+pub fn suffixes_are_decided()
+    ensures { SuffixesAreDecided }
+{}
+
+/// A suffix begins with `[` and ends with `]`, or is empty. A date-time has no `[`.
+pub fn suffixes_are_in_brackets()
+    ensures { SuffixesAreInBrackets }
+{}
+
+/// A text of `date-time-ext` is a date-time of RFC 3339 and a suffix, in one way: the date-time is what precedes the first `[`.
+pub fn suffixes_are_cut_off()
+    ensures { SuffixesAreCutOff }
 {}
