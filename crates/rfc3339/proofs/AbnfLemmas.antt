@@ -1,6 +1,8 @@
 -- A derivation of any grammar, taken apart.
-use Rattle.std.proofs.Common.{◌≡◌, ◌⊎◌, inl, inr, refl, sym, ap, subst, ◌∙◌, ℕ, suc, ◌≤◌, List, [], ◌∷◌, ◌++◌, append-nil, Option, Some}
+use Rattle.std.proofs.Common.{◌≡◌, ◌⊎◌, inl, inr, refl, sym, ap, subst, ◌∙◌, ℕ, suc, ◌≤◌, List, [], ◌∷◌, ◌++◌, append-nil, Option, Some, arith}
 use Rattle.std.specs.Prelude.{IsTrue}
+use Rattle.std.specs.Char.{to_ascii_lowercase}
+use Rattle.std.proofs.lemmas.Bool.Decides.{nat_tests}
 use Rattle.std.proofs.lemmas.Option.{same_Some}
 use Rattle.rfc3339.specs.Abnf.{Element, quoted, range, rule, ◌then◌, ◌or◌, times, repeat, Grammar, Derives, is_same_text, rule_of, IsAtMost}
 use Rattle.rfc3339.specs.Abnf.Derives.{in_either_case, in_range, by_rule, both, left, right, no_more, one_more, repeated}
@@ -46,3 +48,9 @@ take_once {g} {e} text d =
     let a = take_more d in
     let same : text ≡ a.0 = a.2 ∙ ap (λ (z : List ℕ). a.0 ++ z) (take_none a.4) ∙ append-nil a.0 in
     subst (λ (z : List ℕ). Derives g e z) (sym same) a.3
+
+-- a quoted text of one byte is that byte, or its letter in the other case
+pub same-one : (w : ℕ) (text : List ℕ) → IsTrue (is_same_text (w ∷ []) text) → (c : ℕ) × (text ≡ c ∷ []) × (to_ascii_lowercase w ≡ to_ascii_lowercase c)
+same-one w [] h = absurd cc
+same-one w (c ∷ []) h = (c, refl, grind (arith, nat_tests))
+same-one w (c ∷ d ∷ text) h = absurd (grind (arith, nat_tests))

@@ -10,7 +10,7 @@ use Rattle.std.proofs.lemmas.Option.{same_Some}
 use Rattle.calendar_values.specs.Digits.{last_digits}
 use Rattle.rfc3339.specs.Abnf.{Element, quoted, range, rule, ◌then◌, ◌or◌, times, repeat, optional, Grammar, Derives, is_same_text, rule_of, IsAtMost}
 use Rattle.rfc3339.specs.Abnf.Derives.{in_either_case, in_range, by_rule, both, left, right, no_more, one_more, repeated}
-use Rattle.rfc3339.proofs.AbnfLemmas.{take_quoted, take_range, take_rule, take_both, take_or, take_none, take_more, take_repeat, opened, once, take_once}
+use Rattle.rfc3339.proofs.AbnfLemmas.{take_quoted, take_range, take_rule, take_both, take_or, take_none, take_more, take_repeat, opened, once, take_once, same-one}
 use Rattle.rfc3339.specs.Form.{is_separator, fraction_value, IsFraction, IsOffsetText, IsDateTime, spelling, clock_digits}
 use Rattle.rfc3339.specs.FullDates.{full_date_reading_of, IsFullDate, full_date_digits, full_date_meaning, full_date_text, HasFullDate}
 use Rattle.rfc3339.specs.Grammar.{digit, rfc3339, date_time}
@@ -42,11 +42,6 @@ use Rattle.rfc3339.specs.declared.parts.Parts.{Parts}
 use Rattle.rfc3339.specs.declared.refusal.TextRefusal.TheVariants.{Syntax}
 
 -- ---- quoted texts
-
-same-one : (w : ℕ) (text : List ℕ) → IsTrue (is_same_text (w ∷ []) text) → (c : ℕ) × (text ≡ c ∷ []) × (to_ascii_lowercase w ≡ to_ascii_lowercase c)
-same-one w [] h = absurd cc
-same-one w (c ∷ []) h = (c, refl, grind (arith, nat_tests))
-same-one w (c ∷ d ∷ text) h = absurd (grind (arith, nat_tests))
 
 mark-is : (w c : ℕ) → w < 65 → w ≡ to_ascii_lowercase c → c ≡ w
 mark-is w c low e = grind (arith, nat_tests)
