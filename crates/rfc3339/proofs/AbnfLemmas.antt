@@ -10,10 +10,12 @@ use Rattle.rfc3339.specs.Abnf.Derives.{in_either_case, in_range, by_rule, both, 
 pub take_quoted : {g : Grammar} {wanted text : List ℕ} → Derives g (quoted wanted) text → IsTrue (is_same_text wanted text)
 take_quoted (in_either_case same) = same
 
-pub take_range : {g : Grammar} {first last : ℕ} {text : List ℕ} → Derives g (range first last) text → (c : ℕ) × (text ≡ c ∷ []) × (first ≤ c) × (c ≤ last)
+pub take_range : {g : Grammar} {first last : ℕ} {text : List ℕ} → Derives g (range first last) text
+    → (c : ℕ) × (text ≡ c ∷ []) × (first ≤ c) × (c ≤ last)
 take_range (in_range {c = c} low high) = (c, refl, low, high)
 
-pub take_rule : {g : Grammar} {name text : List ℕ} → Derives g (rule name) text → (e : Element) × (rule_of g name ≡ Some e) × Derives g e text
+pub take_rule : {g : Grammar} {name text : List ℕ} → Derives g (rule name) text
+    → (e : Element) × (rule_of g name ≡ Some e) × Derives g e text
 take_rule (by_rule {e = e} found d) = (e, found, d)
 
 pub take_both : {g : Grammar} {a b : Element} {text : List ℕ} → Derives g (a then b) text
@@ -36,7 +38,8 @@ pub take_repeat : {g : Grammar} {least : ℕ} {most : Option ℕ} {e : Element} 
 take_repeat (repeated {k = k} low high d) = (k, low, high, d)
 
 -- what a rule derives, its elements do
-pub opened : {g : Grammar} {text : List ℕ} {e : Element} (name : List ℕ) → rule_of g name ≡ Some e → Derives g (rule name) text → Derives g e text
+pub opened : {g : Grammar} {text : List ℕ} {e : Element} (name : List ℕ) → rule_of g name ≡ Some e → Derives g (rule name) text
+    → Derives g e text
 opened {g} {text} {e} name found d = let t = take_rule d in subst (λ (z : Element). Derives g z text) (same_Some t.0 e (sym t.1 ∙ found)) t.2
 
 -- once
@@ -50,7 +53,8 @@ take_once {g} {e} text d =
     subst (λ (z : List ℕ). Derives g e z) (sym same) a.3
 
 -- a quoted text of one byte is that byte, or its letter in the other case
-pub same-one : (w : ℕ) (text : List ℕ) → IsTrue (is_same_text (w ∷ []) text) → (c : ℕ) × (text ≡ c ∷ []) × (to_ascii_lowercase w ≡ to_ascii_lowercase c)
+pub same-one : (w : ℕ) (text : List ℕ) → IsTrue (is_same_text (w ∷ []) text)
+    → (c : ℕ) × (text ≡ c ∷ []) × (to_ascii_lowercase w ≡ to_ascii_lowercase c)
 same-one w [] h = absurd cc
 same-one w (c ∷ []) h = (c, refl, grind (arith, nat_tests))
 same-one w (c ∷ d ∷ text) h = absurd (grind (arith, nat_tests))

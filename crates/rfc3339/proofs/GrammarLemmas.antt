@@ -1,6 +1,6 @@
 -- The forms of texts are those of the RFC's grammar.
-use Rattle.std.proofs.Common.{◌≡◌, ◌⊎◌, inl, inr, refl, sym, ap, subst, ◌∙◌, ℕ, zero, suc, ◌+◌, ◌-◌, ◌*◌, ◌/◌, ◌%◌, ◌<◌, ◌≤◌, arith}
-use Rattle.std.proofs.Common.{Bool, true, false, List, [], ◌∷◌, ◌++◌, append-nil, length, take, Option, Some, None, Result, Ok, Err, nat_eq}
+use Rattle.std.proofs.Common.{◌≡◌, ◌⊎◌, inl, inr, refl, sym, ap, ◌∙◌, ℕ, zero, suc, ◌+◌, ◌-◌, ◌*◌, ◌/◌, ◌%◌, ◌<◌, ◌≤◌, arith}
+use Rattle.std.proofs.Common.{Bool, true, false, List, [], ◌∷◌, ◌++◌, length, take, Option, Some, None, Result, Ok, Err, nat_eq}
 use Rattle.std.specs.Prelude.{IsTrue, codes, ℤ, unsigned_abs}
 use Rattle.std.specs.Char.{is_ascii_digit, to_ascii_lowercase}
 use Rattle.std.specs.List.{list_all}
@@ -8,9 +8,9 @@ use Rattle.std.proofs.lemmas.Bool.{and_parts}
 use Rattle.std.proofs.lemmas.Bool.Decides.{nat_tests}
 use Rattle.std.proofs.lemmas.Option.{same_Some}
 use Rattle.calendar_values.specs.Digits.{last_digits}
-use Rattle.rfc3339.specs.Abnf.{Element, quoted, range, rule, ◌then◌, ◌or◌, times, repeat, optional, Grammar, Derives, is_same_text, rule_of, IsAtMost}
+use Rattle.rfc3339.specs.Abnf.{quoted, rule, ◌or◌, times, optional, Grammar, Derives}
 use Rattle.rfc3339.specs.Abnf.Derives.{in_either_case, in_range, by_rule, both, left, right, no_more, one_more, repeated}
-use Rattle.rfc3339.proofs.AbnfLemmas.{take_quoted, take_range, take_rule, take_both, take_or, take_none, take_more, take_repeat, opened, once, take_once, same-one}
+use Rattle.rfc3339.proofs.AbnfLemmas.{take_quoted, take_range, take_both, take_or, take_none, take_more, take_repeat, opened, once, take_once, same-one}
 use Rattle.rfc3339.specs.Form.{is_separator, fraction_value, IsFraction, IsOffsetText, IsDateTime, spelling, clock_digits}
 use Rattle.rfc3339.specs.FullDates.{full_date_reading_of, IsFullDate, full_date_digits, full_date_meaning, full_date_text, HasFullDate}
 use Rattle.rfc3339.specs.Grammar.{digit, rfc3339, date_time}

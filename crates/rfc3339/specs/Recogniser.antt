@@ -1,10 +1,13 @@
 -- Whether a grammar derives a text, by computing, where its rules do not go round.
-use Rattle.std.specs.Prelude.{◌≡◌, ℕ, zero, suc, ◌-◌, Bool, true, false, ◌&&◌, List, [], ◌∷◌, length, Option, Some, None, IsTrue, nat_le, ◌↔◌, codes}
+use Rattle.std.specs.Prelude.{◌≡◌, ◌↔◌, ℕ, zero, suc, ◌-◌, nat_le, Bool, true, false, ◌&&◌, IsTrue, List, [], ◌∷◌, length, codes}
+use Rattle.std.specs.Prelude.{Option, Some, None, Err}
 use Rattle.std.specs.Char.{eq_ignore_ascii_case}
 use Rattle.std.specs.List.{list_all}
 use Rattle.std.specs.Option.{option_map_or}
 use Rattle.rfc3339.specs.Abnf.{Element, quoted, range, rule, ◌then◌, ◌or◌, times, repeat, Grammar, rule_of, Derives}
 use Rattle.rfc3339.specs.Grammar.{rfc3339, date_time}
+use Rattle.rfc3339.specs.Reading.{reading_of}
+use Rattle.rfc3339.specs.declared.refusal.TextRefusal.TheVariants.{Syntax}
 
 -- each rule that the element names passes the test
 abbrev pub each_name : (List ℕ → Bool) → Element → Bool
@@ -93,9 +96,12 @@ is_empty (c ∷ text) = false
 abbrev pub derives : Grammar → Element → List ℕ → Bool
 derives g e text = read_element (read_rule g (suc (length g))) e text is_empty
 
--- of each grammar whose rules do not go round the recogniser says whether it derives a text; RFC 3339's is one
+-- of each grammar whose rules do not go round, the recogniser says what it derives; RFC 3339's is one, so a text is refused for
+-- its form exactly where the recogniser says no; a rule that begins with itself goes round
 pub record GrammarsAreDecided : Type 0 where
   pub decided : (g : Grammar) (e : Element) (text : List ℕ) → IsTrue (is_ranked g) → IsTrue (derives g e text) ↔ Derives g e text
   pub ranked : IsTrue (is_ranked rfc3339)
+  pub refused : (text : List ℕ) → (reading_of text ≡ Err Syntax) ↔ (derives rfc3339 date_time text ≡ false)
   pub derived : IsTrue (derives rfc3339 date_time (codes "1985-04-12T23:20:50.52Z"))
   pub not_derived : derives rfc3339 date_time (codes "1985-04-12T23:20:50.52") ≡ false
+  pub goes_round : is_ranked ((codes "list", rule (codes "list") then quoted (codes ",")) ∷ []) ≡ false

@@ -1,8 +1,11 @@
 -- The grammar of RFC 9557, section 4.1: a date-time with a suffix in brackets.
-use Rattle.std.specs.Prelude.{◌≡◌, ◌⊎◌, ℕ, ◌==◌, Bool, false, List, [], ◌∷◌, ◌++◌, map, None, codes, IsTrue, ◌↔◌}
+use Rattle.std.specs.Prelude.{◌≡◌, ◌⊎◌, ℕ, ◌==◌, Bool, false, List, [], ◌∷◌, ◌++◌, map, length, None, codes, IsTrue, ◌↔◌}
 use Rattle.std.specs.List.{before_first}
+use Rattle.std.specs.Result.{result_map_both}
 use Rattle.rfc3339.specs.Abnf.{Element, quoted, range, rule, ◌then◌, ◌or◌, repeat, optional, Grammar, Derives}
+use Rattle.rfc3339.specs.Front.{front_reading_of}
 use Rattle.rfc3339.specs.Grammar.{digit, rfc3339}
+use Rattle.rfc3339.specs.Reading.{reading_of}
 use Rattle.rfc3339.specs.Printed.{printed_rule}
 use Rattle.rfc3339.specs.Recogniser.{is_ranked, derives}
 
@@ -13,13 +16,16 @@ letter = rule (codes "ALPHA")
 abbrev pub any_times : Element → Element
 any_times e = repeat 0 None e
 
--- the rules, in the order and the words of the RFC, with parentheses about the two of `time-zone`; and the letters of RFC 5234
+-- the rules, in the order and the words of the RFC, the two alternatives of `time-zone` in parentheses; and RFC 5234's letters
 unfoldable pub suffix_rules : Grammar
 suffix_rules =
     (codes "time-zone-initial", letter or quoted (codes ".") or quoted (codes "_"))
     ∷ (codes "time-zone-char", rule (codes "time-zone-initial") or digit or quoted (codes "-") or quoted (codes "+"))
     ∷ (codes "time-zone-part", rule (codes "time-zone-initial") then any_times (rule (codes "time-zone-char")))
-    ∷ (codes "time-zone-name", rule (codes "time-zone-part") then any_times (quoted (codes "/") then rule (codes "time-zone-part")))
+    ∷ (
+      codes "time-zone-name",
+      rule (codes "time-zone-part") then any_times (quoted (codes "/") then rule (codes "time-zone-part")),
+    )
     ∷ (
       codes "time-zone",
       quoted (codes "[") then rule (codes "critical-flag") then (rule (codes "time-zone-name") or rule (codes "time-numoffset"))
@@ -50,7 +56,7 @@ rfc9557 = suffix_rules ++ rfc3339
 abbrev pub date_time_ext : Element
 date_time_ext = rule (codes "date-time-ext")
 
--- the rules of the RFC, word by word
+-- the rules of the RFC, word by word, and RFC 5234's letters
 pub record SuffixesArePrinted : Type 0 where
   pub rules : map printed_rule suffix_rules
       ≡ codes "time-zone-initial = ALPHA / \".\" / \"_\""
@@ -86,23 +92,28 @@ pub record SuffixesAreDecided : Type 0 where
   pub no_end : derives rfc9557 date_time_ext (codes "2022-07-08T00:14:07Z[Europe/Paris") ≡ false
   pub upper_key : derives rfc9557 date_time_ext (codes "2022-07-08T00:14:07Z[U-ca=hebrew]") ≡ false
 
+-- a date-time of RFC 3339, with its T, and a suffix of RFC 9557
+abbrev pub IsDateTimeText : List ℕ → Type 0
+IsDateTimeText text = Derives rfc3339 (rule (codes "date-time")) text
+
+abbrev pub IsSuffixText : List ℕ → Type 0
+IsSuffixText text = Derives rfc9557 (rule (codes "suffix")) text
+
 abbrev pub is_bracket : ℕ → Bool
 is_bracket c = c == 0x5B
 
 -- a suffix begins with `[` and ends with `]`, or is empty; a date-time has no `[`
 pub record SuffixesAreInBrackets : Type 0 where
-  pub suffix : (text : List ℕ) → Derives rfc9557 (rule (codes "suffix")) text
-      → (text ≡ []) ⊎ ((inside : List ℕ) × (text ≡ codes "[" ++ inside ++ codes "]"))
-  pub date_time : (text : List ℕ) → Derives rfc3339 (rule (codes "date-time")) text → before_first is_bracket text ≡ text
+  pub suffix : (text : List ℕ) → IsSuffixText text → (text ≡ []) ⊎ ((inside : List ℕ) × (text ≡ codes "[" ++ inside ++ codes "]"))
+  pub date_time : (text : List ℕ) → IsDateTimeText text → before_first is_bracket text ≡ text
 
 -- a text of `date-time-ext` is a date-time of RFC 3339 and a suffix; the date-time is what stands before the first `[`, so there
--- is one such pair
+-- is one such pair; the front of the text is read as the date-time is alone, with the number of its bytes
 pub record SuffixesAreCutOff : Type 0 where
   pub parts : (text : List ℕ)
-      → Derives rfc9557 date_time_ext text
-      ↔ ((s : List ℕ) × (t : List ℕ) × (text ≡ s ++ t) × Derives rfc3339 (rule (codes "date-time")) s × Derives rfc9557 (rule (codes "suffix")) t)
-  pub cut : (s t : List ℕ) → Derives rfc3339 (rule (codes "date-time")) s → Derives rfc9557 (rule (codes "suffix")) t
-      → before_first is_bracket (s ++ t) ≡ s
-  pub one : (s t s' t' : List ℕ) → s ++ t ≡ s' ++ t'
-      → Derives rfc3339 (rule (codes "date-time")) s → Derives rfc9557 (rule (codes "suffix")) t
-      → Derives rfc3339 (rule (codes "date-time")) s' → Derives rfc9557 (rule (codes "suffix")) t' → (s ≡ s') × (t ≡ t')
+      → Derives rfc9557 date_time_ext text ↔ ((s : List ℕ) × (t : List ℕ) × (text ≡ s ++ t) × IsDateTimeText s × IsSuffixText t)
+  pub cut : (s t : List ℕ) → IsDateTimeText s → IsSuffixText t → before_first is_bracket (s ++ t) ≡ s
+  pub one : (s t s' t' : List ℕ) → s ++ t ≡ s' ++ t' → IsDateTimeText s → IsSuffixText t → IsDateTimeText s' → IsSuffixText t'
+      → (s ≡ s') × (t ≡ t')
+  pub front : (s t : List ℕ) → IsDateTimeText s → IsSuffixText t
+      → front_reading_of (s ++ t) ≡ result_map_both (λ at. (at, length s)) (λ refusal. refusal) (reading_of s)

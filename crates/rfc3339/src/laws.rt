@@ -74,12 +74,14 @@ pub fn grammar_is_printed()
     ensures { GrammarIsPrinted }
 {}
 
-/// Of each grammar whose rules do not go round, a recogniser that computes says whether it derives a text. RFC 3339's is one.
+/// Of each grammar whose rules do not go round, a recogniser that computes says whether it derives a text. RFC 3339's grammar is
+/// one. So a text is refused for its form exactly where the recogniser says no.
 pub fn grammars_are_decided()
     ensures { GrammarsAreDecided }
 {}
 
-/// The rules of RFC 9557, section 4.1, printed as RFC 5234 prints rules, are the lines of that section.
+/// The rules of RFC 9557, section 4.1, printed as RFC 5234 prints rules, are the lines of that section. The two alternatives of
+/// `time-zone` are in parentheses.
 pub fn suffixes_are_printed()
     ensures { SuffixesArePrinted }
 {}
@@ -94,7 +96,8 @@ pub fn suffixes_are_in_brackets()
     ensures { SuffixesAreInBrackets }
 {}
 
-/// A text of `date-time-ext` is a date-time of RFC 3339 and a suffix, in one way: the date-time is what precedes the first `[`.
+/// A text of RFC 9557's `date-time-ext` is a date-time of RFC 3339 and a suffix, in one way: the date-time precedes the first
+/// `[`. [`parse_rfc3339_front`](crate::parse_rfc3339_front) reads it as the date-time is read alone.
 pub fn suffixes_are_cut_off()
     ensures { SuffixesAreCutOff }
 {}
