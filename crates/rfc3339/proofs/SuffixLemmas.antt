@@ -179,7 +179,7 @@ date_time-without : (text : List ℕ) → IsDateTimeText text → IsTrue (is_wit
 unfolding rfc3339
 date_time-without text d = rule_without rfc3339 0x5B 14 (codes "date-time") refl text d
 
--- ---- what stands before the first bracket
+-- ---- what precedes the first bracket
 
 before-cons : (c : ℕ) (text : List ℕ) → IsTrue (not (is_bracket c))
     → before_first is_bracket (c ∷ text) ≡ c ∷ before_first is_bracket text

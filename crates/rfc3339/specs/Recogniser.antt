@@ -1,4 +1,4 @@
--- Whether a grammar derives a text, by computing, where its rules do not go round.
+-- Whether a grammar derives a text, by computing, where no rule leads back to itself.
 use Rattle.std.specs.Prelude.{◌≡◌, ◌↔◌, ℕ, zero, suc, ◌-◌, nat_le, Bool, true, false, ◌&&◌, IsTrue, List, [], ◌∷◌, length, codes}
 use Rattle.std.specs.Prelude.{Option, Some, None, Err}
 use Rattle.std.specs.Char.{eq_ignore_ascii_case}
@@ -24,11 +24,11 @@ abbrev pub ends_within : Grammar → ℕ → List ℕ → Bool
 ends_within g zero name = false
 ends_within g (suc n) name = option_map_or (each_name (ends_within g n)) (rule_of g name) true
 
--- the rules do not go round: no chain has more rules than the grammar
+-- no rule leads back to itself: no chain has more rules than the grammar
 abbrev pub is_ranked : Grammar → Bool
 is_ranked g = list_all (λ r. each_name (ends_within g (length g)) r.1) g
 
--- whether a text has a beginning of a kind, and the rest behind it passes a test
+-- whether a text has a beginning of a kind, and the rest of the text passes a test
 abbrev pub Reader : Type 0
 Reader = List ℕ → (List ℕ → Bool) → Bool
 
@@ -96,12 +96,12 @@ is_empty (c ∷ text) = false
 abbrev pub derives : Grammar → Element → List ℕ → Bool
 derives g e text = read_element (read_rule g (suc (length g))) e text is_empty
 
--- of each grammar whose rules do not go round, the recogniser says what it derives; RFC 3339's is one, so a text is refused for
--- its form exactly where the recogniser says no; a rule that begins with itself goes round
+-- of each grammar in which no rule leads back to itself, the recogniser says what it derives; RFC 3339's is one, so a text is
+-- refused for its form exactly where the recogniser says no; a rule that names itself is no such grammar
 pub record GrammarsAreDecided : Type 0 where
   pub decided : (g : Grammar) (e : Element) (text : List ℕ) → IsTrue (is_ranked g) → IsTrue (derives g e text) ↔ Derives g e text
   pub ranked : IsTrue (is_ranked rfc3339)
   pub refused : (text : List ℕ) → (reading_of text ≡ Err Syntax) ↔ (derives rfc3339 date_time text ≡ false)
   pub derived : IsTrue (derives rfc3339 date_time (codes "1985-04-12T23:20:50.52Z"))
   pub not_derived : derives rfc3339 date_time (codes "1985-04-12T23:20:50.52") ≡ false
-  pub goes_round : is_ranked ((codes "list", rule (codes "list") then quoted (codes ",")) ∷ []) ≡ false
+  pub recursive : is_ranked ((codes "list", rule (codes "list") then quoted (codes ",")) ∷ []) ≡ false

@@ -74,7 +74,7 @@ pub fn grammar_is_printed()
     ensures { GrammarIsPrinted }
 {}
 
-/// Of each grammar whose rules do not go round, a recogniser that computes says whether it derives a text. RFC 3339's grammar is
+/// A recogniser computes whether a grammar derives a text, for each grammar in which no rule leads back to itself. RFC 3339's is
 /// one. So a text is refused for its form exactly where the recogniser says no.
 pub fn grammars_are_decided()
     ensures { GrammarsAreDecided }

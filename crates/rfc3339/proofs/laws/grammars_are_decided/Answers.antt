@@ -11,5 +11,5 @@ returns c = record {
   refused = refused;
   derived = refl;
   not_derived = refl;
-  goes_round = refl;
+  recursive = refl;
 }
