@@ -1,6 +1,7 @@
 -- The forms of texts are those of the RFC's grammar.
-use Rattle.std.proofs.Common.{◌≡◌, ◌⊎◌, inl, inr, refl, sym, ap, subst, ◌∙◌, ℕ, zero, suc, ◌+◌, ◌-◌, ◌*◌, ◌/◌, ◌%◌, ◌<◌, ◌≤◌, arith}
-use Rattle.std.proofs.Common.{Bool, true, false, not, ◌&&◌, if◌then◌else◌, List, [], ◌∷◌, ◌++◌, append-nil, length, take, Option, Some, None, Result, Ok, Err, nat_eq}
+use Rattle.std.proofs.Common.{◌≡◌, ◌⊎◌, inl, inr, refl, sym, ap, ◌∙◌, ℕ, zero, suc, ◌+◌, ◌-◌, ◌*◌, ◌/◌, ◌%◌, ◌<◌, ◌≤◌, arith}
+use Rattle.std.proofs.Common.{Bool, true, false, not, ◌&&◌, if◌then◌else◌}
+use Rattle.std.proofs.Common.{List, [], ◌∷◌, ◌++◌, length, take, Option, Some, None, Result, Ok, Err, nat_eq}
 use Rattle.std.specs.Prelude.{IsTrue, codes, ℤ, unsigned_abs}
 use Rattle.std.specs.Char.{is_ascii_digit, to_ascii_lowercase}
 use Rattle.std.specs.List.{list_all}
@@ -8,8 +9,9 @@ use Rattle.std.proofs.lemmas.Bool.{and_parts}
 use Rattle.std.proofs.lemmas.Bool.Decides.{nat_tests}
 use Rattle.std.proofs.lemmas.Option.{same_Some}
 use Rattle.calendar_values.specs.Digits.{last_digits}
-use Rattle.rfc3339.specs.Abnf.{Element, quoted, range, rule, ◌then◌, ◌or◌, times, repeat, optional, Grammar, Derives, is_same_text, rule_of, IsAtMost}
+use Rattle.rfc3339.specs.Abnf.{quoted, rule, ◌or◌, times, optional, Grammar, Derives}
 use Rattle.rfc3339.specs.Abnf.Derives.{in_either_case, in_range, by_rule, both, left, right, no_more, one_more, repeated}
+use Rattle.rfc3339.proofs.AbnfLemmas.{take_quoted, take_range, take_both, take_or, take_none, take_more, take_repeat, opened, once, take_once, same-one}
 use Rattle.rfc3339.specs.Form.{is_separator, fraction_value, IsFraction, IsOffsetText, IsDateTime, spelling, clock_digits}
 use Rattle.rfc3339.specs.FullDates.{full_date_reading_of, IsFullDate, full_date_digits, full_date_meaning, full_date_text, HasFullDate}
 use Rattle.rfc3339.specs.Grammar.{digit, rfc3339, date_time}
@@ -41,49 +43,7 @@ use Rattle.rfc3339.specs.declared.parts.Parts.{Parts}
 use Rattle.rfc3339.specs.declared.refusal.Component.TheVariants.{Second}
 use Rattle.rfc3339.specs.declared.refusal.TextRefusal.TheVariants.{Syntax, OutOfRange}
 
--- ---- a derivation, taken apart
-
-take_quoted : {g : Grammar} {wanted text : List ℕ} → Derives g (quoted wanted) text → IsTrue (is_same_text wanted text)
-take_quoted (in_either_case same) = same
-
-take_range : {g : Grammar} {first last : ℕ} {text : List ℕ} → Derives g (range first last) text → (c : ℕ) × (text ≡ c ∷ []) × (first ≤ c) × (c ≤ last)
-take_range (in_range {c = c} low high) = (c, refl, low, high)
-
-take_rule : {g : Grammar} {name text : List ℕ} → Derives g (rule name) text → (e : Element) × (rule_of g name ≡ Some e) × Derives g e text
-take_rule (by_rule {e = e} found d) = (e, found, d)
-
-take_both : {g : Grammar} {a b : Element} {text : List ℕ} → Derives g (a then b) text
-    → (s : List ℕ) × (t : List ℕ) × (text ≡ s ++ t) × Derives g a s × Derives g b t
-take_both (both {s = s} {t = t} d e) = (s, t, refl, d, e)
-
-take_or : {g : Grammar} {a b : Element} {text : List ℕ} → Derives g (a or b) text → Derives g a text ⊎ Derives g b text
-take_or (left d) = inl d
-take_or (right d) = inr d
-
-take_none : {g : Grammar} {e : Element} {text : List ℕ} → Derives g (times 0 e) text → text ≡ []
-take_none no_more = refl
-
-take_more : {g : Grammar} {k : ℕ} {e : Element} {text : List ℕ} → Derives g (times (suc k) e) text
-    → (s : List ℕ) × (t : List ℕ) × (text ≡ s ++ t) × Derives g e s × Derives g (times k e) t
-take_more (one_more {s = s} {t = t} d e) = (s, t, refl, d, e)
-
-take_repeat : {g : Grammar} {least : ℕ} {most : Option ℕ} {e : Element} {text : List ℕ} → Derives g (repeat least most e) text
-    → (k : ℕ) × (least ≤ k) × IsAtMost k most × Derives g (times k e) text
-take_repeat (repeated {k = k} low high d) = (k, low, high, d)
-
--- what a rule derives, its elements do
-opened : {g : Grammar} {text : List ℕ} {e : Element} (name : List ℕ) → rule_of g name ≡ Some e → Derives g (rule name) text → Derives g e text
-opened {g} {text} {e} name found d = let t = take_rule d in subst (λ (z : Element). Derives g z text) (same_Some t.0 e (sym t.1 ∙ found)) t.2
-
-joined : {g : Grammar} (a b : Element) (s t text : List ℕ) → text ≡ s ++ t → Derives g a s → Derives g b t → Derives g (a then b) text
-joined a b s t text e d f = rw e (both d f)
-
 -- ---- quoted texts
-
-same-one : (w : ℕ) (text : List ℕ) → IsTrue (is_same_text (w ∷ []) text) → (c : ℕ) × (text ≡ c ∷ []) × (to_ascii_lowercase w ≡ to_ascii_lowercase c)
-same-one w [] h = absurd cc
-same-one w (c ∷ []) h = (c, refl, grind (arith, nat_tests))
-same-one w (c ∷ d ∷ text) h = absurd (grind (arith, nat_tests))
 
 mark-is : (w c : ℕ) → w < 65 → w ≡ to_ascii_lowercase c → c ≡ w
 mark-is w c low e = grind (arith, nat_tests)
@@ -179,16 +139,6 @@ take_all (suc k) text d =
     let a = take_digit k text d in
     let more = take_all k a.rest a.more in
     rw (a.parts, digit-is a.first a.low a.high) (more.0, ap (λ (z : ℕ). suc z) more.1)
-
--- once
-once : {g : Grammar} {e : Element} (text : List ℕ) → Derives g e text → Derives g (times 1 e) text
-once {g} {e} text d = subst (λ (z : List ℕ). Derives g (times 1 e) z) (append-nil text) (one_more d no_more)
-
-take_once : {g : Grammar} {e : Element} (text : List ℕ) → Derives g (times 1 e) text → Derives g e text
-take_once {g} {e} text d =
-    let a = take_more d in
-    let same : text ≡ a.0 = a.2 ∙ ap (λ (z : List ℕ). a.0 ++ z) (take_none a.4) ∙ append-nil a.0 in
-    subst (λ (z : List ℕ). Derives g e z) (sym same) a.3
 
 -- ---- a fraction
 

@@ -16,7 +16,8 @@ use Rattle.rfc3339.specs.declared.refusal.TextRefusal.{TextRefusal}
 use Rattle.rfc3339.specs.declared.refusal.TextRefusal.TheVariants.{Syntax, OutOfRange}
 use Rattle.rfc3339.proofs.FrontLemmas.{has_text_of-front}
 use Rattle.rfc3339.specs.Form.{IsDateTime}
-use Rattle.rfc3339.specs.LeapSeconds.{IsLastOfMonth, is_last_of_month, stand_in, AreInLeapRange, leap_outcome, leap_meaning, leap_meaning_if_any, leap_reading_of}
+use Rattle.rfc3339.specs.LeapSeconds.{IsLastOfMonth, is_last_of_month, stand_in, AreInLeapRange, leap_outcome, leap_meaning}
+use Rattle.rfc3339.specs.LeapSeconds.{leap_meaning_if_any, leap_reading_of}
 use Rattle.rfc3339.specs.Meaning.{AreInRange, value_of, meaning}
 use Rattle.rfc3339.specs.MeaningLemmas.{meaning-ok, meaning-in_range}
 use Rattle.rfc3339.specs.ReadInstantLemmas.{instant_of-in_range}
@@ -82,7 +83,8 @@ outcome-ok : (is_leap last : Bool) (m : Result Local TextRefusal) (x : Local × 
 outcome-ok is_leap last (Err d) x e = absurd cc
 outcome-ok false last (Ok at) x e = let same : x ≡ (at, false) = cc in rw same (refl, refl, λ f. absurd cc)
 outcome-ok true last (Ok at) x e = choose (is_last_of_month (instant_of at)) refl where
-  choose : (t : Bool) → is_last_of_month (instant_of at) ≡ t → (◌≡◌ {A = Result Local TextRefusal} (Ok at) (Ok x.0)) × (x.1 ≡ true) × (true ≡ true → IsLastOfMonth (instant_of x.0))
+  choose : (t : Bool) → is_last_of_month (instant_of at) ≡ t
+      → (◌≡◌ {A = Result Local TextRefusal} (Ok at) (Ok x.0)) × (x.1 ≡ true) × (true ≡ true → IsLastOfMonth (instant_of x.0))
   choose true t =
       let f : ◌≡◌ {A = Result (Local × Bool) TextRefusal} (Ok (at, true)) (Ok x) = rw t at e in
       let same : x ≡ (at, true) = cc in

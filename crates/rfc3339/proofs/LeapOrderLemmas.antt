@@ -100,7 +100,9 @@ instant_of-stand_in p at e =
     let n = day_of_calendar_date (pos p.year) p.month p.day in
     let o = offset_of p.is_west p.offset_hour p.offset_minute in
     rw e (sum n o p.hour p.minute (stand_in p).second (stand_in p).nanosecond) where
-      sum : (n o : ℤ) (h m s x : ℕ) → ((n *ℤ pos 86_400_000_000_000) +ℤ pos (h * 3_600_000_000_000 + m * 60_000_000_000 + s * 1_000_000_000 + x)) -ℤ (o *ℤ pos 1_000_000_000)
+      sum : (n o : ℤ) (h m s x : ℕ)
+          → ((n *ℤ pos 86_400_000_000_000) +ℤ pos (h * 3_600_000_000_000 + m * 60_000_000_000 + s * 1_000_000_000 + x))
+          -ℤ (o *ℤ pos 1_000_000_000)
           ≡ instant_at ((n *ℤ pos 86_400) +ℤ pos (h * 3_600 + m * 60) -ℤ o) s x
       sum n o h m s x = omega (arith, signed_arith)
 

@@ -1,3 +1,6 @@
+mod AbnfLemmas
+mod RecogniserLemmas
+mod SuffixLemmas
 mod GrammarLemmas
 mod ByteLemmas
 mod DigitOrderLemmas

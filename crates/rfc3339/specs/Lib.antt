@@ -5,6 +5,8 @@ pub mod Form
 pub mod Abnf
 pub mod Grammar
 pub mod Printed
+pub mod Recogniser
+pub mod Suffixes
 pub mod FullDates
 pub mod Meaning
 pub mod LeapSeconds

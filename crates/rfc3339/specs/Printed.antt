@@ -39,6 +39,10 @@ abbrev pub most_text : Option ℕ → List ℕ
 most_text None = []
 most_text (Some most) = figure most
 
+-- `1*2`, and `*` alone for at least 0
+abbrev pub times_text : ℕ → Option ℕ → List ℕ
+times_text least most = cond (least == 0) [] (figure least) ++ codes "*" ++ most_text most
+
 -- an element
 abbrev pub printed : Element → List ℕ
 printed (quoted t) = codes "\"" ++ t ++ codes "\""
@@ -48,7 +52,7 @@ printed (a then b) = in_sequence a (printed a) ++ codes " " ++ in_sequence b (pr
 printed (a or b) = printed a ++ codes " / " ++ printed b
 printed (times k e) = figure k ++ repeated_text e (printed e)
 printed (repeat least most e) =
-    cond (is_optional least most) (codes "[" ++ printed e ++ codes "]") (figure least ++ codes "*" ++ most_text most ++ repeated_text e (printed e))
+    cond (is_optional least most) (codes "[" ++ printed e ++ codes "]") (times_text least most ++ repeated_text e (printed e))
 
 -- a rule
 abbrev pub printed_rule : List ℕ × Element → List ℕ

@@ -3,6 +3,8 @@ ghost use Rattle.rfc3339.specs.Laws.{TextsHaveOneReading, ReadingsAreOfTheForm, 
 ghost use Rattle.rfc3339.specs.Laws.{FixedTextsHaveOneWidth, FixedTextsKeepTheOrder};
 ghost use Rattle.rfc3339.specs.Grammar.{FormsAreOfTheGrammar, RefusalsAreOfTheGrammar, WrittenTextsAreOfTheGrammar, BeginningsAreOfTheGrammar};
 ghost use Rattle.rfc3339.specs.Printed.{GrammarIsPrinted};
+ghost use Rattle.rfc3339.specs.Recogniser.{GrammarsAreDecided};
+ghost use Rattle.rfc3339.specs.Suffixes.{SuffixesArePrinted, SuffixesAreDecided, SuffixesAreInBrackets, SuffixesAreCutOff};
 ghost use Rattle.rfc3339.specs.DigitLaws.{TextsOfDigitsTruncate, TextsOfDigitsKeepTheOrder};
 ghost use Rattle.rfc3339.specs.LeapLaws.{LeapReadingsKeepTheOrder};
 
@@ -77,4 +79,32 @@ pub fn grammar_is_printed()
 /// where the later is a leap second.
 pub fn leap_readings_keep_the_order()
     ensures { LeapReadingsKeepTheOrder }
+{}
+
+/// A recogniser computes whether a grammar derives a text, for each grammar in which no rule leads back to itself. RFC 3339's is
+/// one. So a text is refused for its form exactly where the recogniser says no.
+pub fn grammars_are_decided()
+    ensures { GrammarsAreDecided }
+{}
+
+/// The rules of RFC 9557, section 4.1, printed as RFC 5234 prints rules, are the lines of that section. The two alternatives of
+/// `time-zone` are in parentheses.
+pub fn suffixes_are_printed()
+    ensures { SuffixesArePrinted }
+{}
+
+/// The recogniser says of each text whether it is a date-time with a suffix of RFC 9557.
+pub fn suffixes_are_decided()
+    ensures { SuffixesAreDecided }
+{}
+
+/// A suffix begins with `[` and ends with `]`, or is empty. A date-time has no `[`.
+pub fn suffixes_are_in_brackets()
+    ensures { SuffixesAreInBrackets }
+{}
+
+/// A text of RFC 9557's `date-time-ext` is a date-time of RFC 3339 and a suffix, in one way: the date-time precedes the first
+/// `[`. [`parse_rfc3339_front`](crate::parse_rfc3339_front) reads it as the date-time is read alone.
+pub fn suffixes_are_cut_off()
+    ensures { SuffixesAreCutOff }
 {}

@@ -69,7 +69,8 @@ pub struct Entry {
 
 /// The entry of a text of a log.
 pub fn entry_of(text: &[u8]) -> Result<Entry, TextRefusal>
-    ensures leap { IfOk result (λ entry. entry.is_leap ≡ true → IsLastOfMonth (instant_of entry.at)) }
+    ensures leap { IfOk result (λ entry.
+        entry.is_leap ≡ true → IsLastOfMonth (instant_of entry.at)) }
     ensures other { IfOk result (λ entry.
         entry.is_leap ≡ false → reading_of text.now ≡ Ok entry.at) }
     ensures instant { IfOk result (λ entry. IsInstant (instant_of entry.at)) }

@@ -1,5 +1,6 @@
 use Rattle.std.proofs.Common.{◌∙◌}
-use Rattle.rfc3339.proofs.LeapLemmas.{leap_reading_of-spelled, accepted_leap, syntax_leap, same_leap, marked_leap, unmarked_leap, refused_leap, instant_in_range}
+use Rattle.rfc3339.proofs.LeapLemmas.{leap_reading_of-spelled, accepted_leap, syntax_leap, same_leap, marked_leap}
+use Rattle.rfc3339.proofs.LeapLemmas.{unmarked_leap, refused_leap, instant_in_range}
 use Rattle.rfc3339.proofs.leap.parse_rfc3339_leap.Goals as goal
 
 pub returns-clause-value : goal.returns-clause-value
