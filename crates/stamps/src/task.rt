@@ -20,8 +20,9 @@ pub enum Task {
     /// The stamp of each is written in a style. A line that has no text there goes on as it is, or, where the task is
     /// strict, ends the run.
     Write(Style, bool),
-    /// Nothing is written; the first line whose stamp is refused or earlier than the one before ends the run.
-    Check,
+    /// Nothing is written. The first line whose stamp is refused or earlier than the one before ends the run, as does, where
+    /// the task is strict, the first line without a stamp. The end of an input without any stamp ends it too.
+    Check(bool),
     /// Those whose instant is not before one go on.
     Since(UtcDateTime),
     /// Those whose instant is before one go on.
