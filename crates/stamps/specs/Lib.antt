@@ -2,6 +2,7 @@ pub mod Arguments
 pub mod Decisions
 pub mod Faults
 pub mod Findings
+pub mod Laws
 pub mod LineStamps
 pub mod Progress
 pub mod Runs

@@ -4,6 +4,7 @@
 mod arguments;
 mod decide;
 mod finding;
+mod laws;
 mod lines;
 mod stamps;
 mod style;
