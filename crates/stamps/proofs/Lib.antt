@@ -1,6 +1,7 @@
 pub mod BlockLemmas
 pub mod CheckLawLemmas
 pub mod CutLawLemmas
+pub mod FrontLemmas
 pub mod LineLawLemmas
 pub mod LongLineLemmas
 pub mod PartLemmas

@@ -12,7 +12,6 @@ use Rattle.std.proofs.lemmas.Slice.Eq.{starts_is}
 use Rattle.std.specs.Cmp.Lexicographic.{pointwise}
 use Rattle.std.specs.List.{starts_with}
 use Rattle.offset_times.specs.Local.{Local, instant_of}
-use Rattle.rfc3339.specs.Front.{front_reading_of, front_meaning}
 use Rattle.rfc3339.specs.Meaning.{meaning}
 use Rattle.rfc3339.specs.Reading.{front_at}
 use Rattle.rfc3339.specs.declared.parts.Parts.{Parts}
@@ -20,8 +19,7 @@ use Rattle.rfc3339.specs.declared.refusal.TextRefusal.{TextRefusal}
 use Rattle.rfc3339.specs.declared.refusal.TextRefusal.TheVariants.{Syntax, OutOfRange}
 use Rattle.stamps.specs.Decisions.{one_more, as_it_is, with_text, rewritten, is_earlier, stop_if, checked, going_on, goes_on, cause_of, is_first}
 use Rattle.stamps.specs.Decisions.{decision_by, decision_of, state_by, state_after}
-use Rattle.stamps.specs.LineStamps.{behind_mark, byte_order_mark, has_mark, is_continued, line_stamp, longest_head, longest_stamp, mark_text}
-use Rattle.stamps.specs.LineStamps.{stamp, stamp_of, stamp_read}
+use Rattle.stamps.specs.LineStamps.{behind_mark, byte_order_mark, ends, front_stamp, has_mark, line_stamp, longest_head, mark_text, stamp, stamp_of}
 use Rattle.stamps.specs.Progress.{passed, progress_of}
 use Rattle.stamps.specs.Runs.{Run, run, then_on, shown, line_feed, known_after, known_at_end, line_run, last_run}
 use Rattle.stamps.specs.Styles.{text_in}
@@ -70,10 +68,6 @@ behind_mark-long false line long = omega (arith, long)
 
 -- ---- the bytes of a stamp stand in the line
 
-abbrev ReadWithin : Result (Local × ℕ) TextRefusal → ℕ → Type 0
-ReadWithin (Ok read) most = read.1 ≤ most
-ReadWithin (Err refusal) most = ⊤
-
 abbrev StampWithin : Result Stamp TextRefusal → ℕ → Type 0
 StampWithin (Ok stamp) most = stamp.length ≤ most
 StampWithin (Err refusal) most = ⊤
@@ -84,32 +78,23 @@ Within (Keep marked text count) line = (marked ≡ true → 3 ≤ length line) �
 Within Skip line = ⊤
 Within (Stop found) line = ⊤
 
-meaning_within : (text rest : List ℕ) (m : Result Local TextRefusal)
-    → ReadWithin (result_map_both (λ at. (at, length text - length rest)) (λ refusal. refusal) m) (length text)
-meaning_within text rest (Ok at) = omega arith
-meaning_within text rest (Err refusal) = tt
+ended_within : (it_ends : Bool) (m : Result Local TextRefusal) (count most : ℕ) (next : Option ℕ) → count ≤ most
+    → StampWithin (cond it_ends (result_map_both (λ at. stamp (instant_of at) count next) (λ refusal. refusal) m) (Err Syntax)) most
+ended_within false m count most next h = tt
+ended_within true (Ok at) count most next h = h
+ended_within true (Err refusal) count most next h = tt
 
-front_within : (text : List ℕ) (o : Option (Parts × List ℕ)) → ReadWithin (front_meaning text o) (length text)
-front_within text None = tt
-front_within text (Some read) = meaning_within text read.1 (meaning read.0)
-
-test_within : (fails : Bool) (stamp : Stamp) (most : ℕ) → stamp.length ≤ most → StampWithin (cond fails (Err Syntax) (Ok stamp)) most
-test_within true stamp most h = tt
-test_within false stamp most h = h
-
-read_within : (front : List ℕ) (read : Result (Local × ℕ) TextRefusal) (n most : ℕ) → n ≤ most → ReadWithin read n
-    → StampWithin (stamp_read front read) most
-read_within front (Ok read) n most h k =
-    let next = slice_get front read.1 in
-    test_within (nat_lt longest_stamp read.1 || is_continued next) (stamp (instant_of read.0) read.1 next) most (omega (arith, h, k))
-read_within front (Err refusal) n most h k = tt
+front_within : (front : List ℕ) (o : Option (Parts × List ℕ)) (most : ℕ) → length front ≤ most → StampWithin (front_stamp front o) most
+front_within front None most h = tt
+front_within front (Some read) most h =
+    let count = length front - length read.1 in
+    let next = slice_get front count in
+    ended_within (ends count next) (meaning read.0) count most next (omega (arith, h))
 
 stamp_within : (text : List ℕ) → StampWithin (stamp_of text) (length text)
-unfolding stamp_of front_reading_of
+unfolding stamp_of
 stamp_within text =
-    let front = take 1024 text in
-    read_within front (front_reading_of front) (length front) (length text) (omega (arith, length-take 1024 text))
-    (front_within front (front_at front))
+    let front = take 1024 text in front_within front (front_at front) (length text) (omega (arith, length-take 1024 text))
 
 as_it_is-within : (is_strict : Bool) (number : ℕ) (cause : Cause) (line : List ℕ) → Within (as_it_is is_strict number cause) line
 as_it_is-within true number cause line = tt
@@ -186,7 +171,7 @@ kept_within task state line text marked count e =
 stamp_of-longer : (text part : List ℕ) → 1024 ≤ length text → stamp_of (text ++ part) ≡ stamp_of text
 unfolding stamp_of
 stamp_of-longer text part long =
-    ap (λ (z : List ℕ). stamp_read z (front_reading_of z)) (take-append-le 1024 text part long)
+    ap (λ (z : List ℕ). front_stamp z (front_at z)) (take-append-le 1024 text part long)
 
 -- the byte order mark and the stamp are the same
 line_stamp-longer : (is_first : Bool) (line part : List ℕ) → longest_head ≤ length line

@@ -9,9 +9,10 @@ use Rattle.std.specs.declared.cmp.Ordering.TheVariants.{Less}
 use Rattle.line_devices.specs.Lines.{lines_of, pieces_of, unless_empty, whole_lines_of}
 use Rattle.offset_times.specs.Local.{instant_of}
 use Rattle.rfc3339.specs.Form.{IsDateTime}
-use Rattle.rfc3339.specs.Meaning.{AreInRange, value_of}
+use Rattle.rfc3339.specs.Meaning.{AreInRange, meaning, value_of}
 use Rattle.rfc3339.specs.Texts.{fixed_text}
 use Rattle.rfc3339.specs.declared.parts.Parts.{Parts}
+use Rattle.rfc3339.specs.declared.refusal.Component.{Component}
 use Rattle.rfc3339.specs.declared.refusal.TextRefusal.{TextRefusal}
 use Rattle.rfc3339.specs.declared.refusal.TextRefusal.TheVariants.{Syntax, OutOfRange}
 use Rattle.stamps.specs.Decisions.{is_earlier, last_of, rewritten}
@@ -45,10 +46,15 @@ pub record HasStamp (text : List ℕ) (stamp : Stamp) : Type 0 where
   pub count : stamp.length ≡ length spelled
   pub zone : stamp.is_zoned ≡ opens_bracket (slice_get rest 0)
 
--- a text has the stamp that it is read with, and no other
+-- a text has the stamp that it is read with, and no other; a date-time that goes on is none, and a part of a stamp that is out
+-- of its range is refused as that part
 pub record StampsAreDateTimes : Type 0 where
   pub sound : (text : List ℕ) (stamp : Stamp) → stamp_of text ≡ Ok stamp → HasStamp text stamp
   pub complete : (text : List ℕ) (stamp : Stamp) → HasStamp text stamp → stamp_of text ≡ Ok stamp
+  pub continued : (spelled rest : List ℕ) (byte : ℕ) (p : Parts) → IsDateTime spelled p → length spelled ≤ longest_stamp
+      → continues byte ≡ true → stamp_of (spelled ++ byte ∷ rest) ≡ Err Syntax
+  pub refused : (spelled rest : List ℕ) (p : Parts) (component : Component) → IsDateTime spelled p → length spelled ≤ longest_stamp
+      → IsBoundary rest → meaning p ≡ Err (OutOfRange component) → stamp_of (spelled ++ rest) ≡ Err (OutOfRange component)
 
 -- ---- the lines of an input
 

@@ -1,10 +1,13 @@
 -- The stamp of a line.
-use Rattle.std.specs.Prelude.{ℕ, ◌==◌, ◌&&◌, ◌||◌, Bool, true, false, nat_eq, nat_lt, List, [], ◌∷◌, drop, slice_get, take, if◌then◌else◌, ℤ, Option, Some, None}
+use Rattle.std.specs.Prelude.{ℕ, ◌-◌, ◌==◌, ◌&&◌, ◌||◌, Bool, true, false, not, nat_eq, nat_lt, List, [], ◌∷◌, drop, length, slice_get, take, if◌then◌else◌, ℤ, Option, Some, None}
 use Rattle.std.specs.Prelude.{Result, Ok, Err}
 use Rattle.std.specs.Char.{is_ascii_alphanumeric}
 use Rattle.std.specs.List.{starts_with}
+use Rattle.std.specs.Result.{result_map_both}
 use Rattle.offset_times.specs.Local.{Local, instant_of}
-use Rattle.rfc3339.specs.Front.{front_reading_of}
+use Rattle.rfc3339.specs.Meaning.{meaning}
+use Rattle.rfc3339.specs.Reading.{front_at}
+use Rattle.rfc3339.specs.declared.parts.Parts.{Parts}
 use Rattle.rfc3339.specs.declared.refusal.TextRefusal.{TextRefusal}
 use Rattle.rfc3339.specs.declared.refusal.TextRefusal.TheVariants.{Syntax}
 use Rattle.stamps.specs.declared.decide.Stamp.{Stamp}
@@ -53,18 +56,23 @@ opens_bracket None = false
 abbrev pub stamp : ℤ → ℕ → Option ℕ → Stamp
 stamp instant count next = record { instant = instant; length = count; is_zoned = opens_bracket next }
 
--- a date-time of so many bytes, which is a stamp where it has at most 1,023 and none continues it
-abbrev pub ended_stamp : ℤ → ℕ → Option ℕ → Result Stamp TextRefusal
-ended_stamp instant count next = if nat_lt longest_stamp count || is_continued next then Err Syntax else Ok (stamp instant count next)
+-- whether a date-time of so many bytes ends before the next byte, and has at most 1,023
+abbrev pub ends : ℕ → Option ℕ → Bool
+ends count next = not (nat_lt longest_stamp count || is_continued next)
 
--- the stamp in front of a text, by what its front is read as
-abbrev pub stamp_read : List ℕ → Result (Local × ℕ) TextRefusal → Result Stamp TextRefusal
-stamp_read front (Ok read) = ended_stamp (instant_of read.0) read.1 (slice_get front read.1)
-stamp_read front (Err refusal) = Err refusal
+-- what a date-time of so many bytes means as a stamp: where it does not end there, it is none
+abbrev pub ended_stamp : Result Local TextRefusal → ℕ → Option ℕ → Result Stamp TextRefusal
+ended_stamp meaning count next =
+    if ends count next then result_map_both (λ at. stamp (instant_of at) count next) (λ refusal. refusal) meaning else Err Syntax
+
+-- the stamp of a front, by the date-time in it and what follows that
+abbrev pub front_stamp : List ℕ → Option (Parts × List ℕ) → Result Stamp TextRefusal
+front_stamp front None = Err Syntax
+front_stamp front (Some (p, rest)) = let count = length front - length rest in ended_stamp (meaning p) count (slice_get front count)
 
 -- the stamp in front of a text: a date-time of at most 1,023 bytes that ends there; or a refusal
 unfoldable pub stamp_of : List ℕ → Result Stamp TextRefusal
-stamp_of text = let front = take 1024 text in stamp_read front (front_reading_of front)
+stamp_of text = let front = take 1024 text in front_stamp front (front_at front)
 
 -- the stamp of a line, behind its byte order mark
 abbrev pub line_stamp : Bool → List ℕ → Result Stamp TextRefusal

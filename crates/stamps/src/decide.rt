@@ -1,16 +1,18 @@
 //! What becomes of a line.
-ghost use Rattle.std.specs.Prelude.{◌≡◌, ◌≤◌, true, length, take};
-ghost use Rattle.rfc3339.specs.Front.{front_reading_of};
+ghost use Rattle.std.specs.Prelude.{◌≡◌, ◌≢◌, ◌≤◌, true, if◌then◌else◌, length, slice_get, take, Ok, Err};
+ghost use Rattle.rfc3339.specs.Front.{front_meaning};
+ghost use Rattle.rfc3339.specs.Reading.{front_at};
+ghost use Rattle.rfc3339.specs.declared.refusal.TextRefusal.TheVariants.{Syntax};
 ghost use Rattle.stamps.specs.Decisions.{as_it_is, cause_of, checked, decision_by, decision_of, finding_at_end, first_state, going_on};
 ghost use Rattle.stamps.specs.Decisions.{goes_on, in_place, is_earlier, last_of, rewritten, state_after, state_by, stop_if};
-ghost use Rattle.stamps.specs.LineStamps.{behind_mark, continues, ended_stamp, has_mark, is_continued, mark_text, opens_bracket};
-ghost use Rattle.stamps.specs.LineStamps.{stamp_of, stamp_read};
+ghost use Rattle.stamps.specs.LineStamps.{behind_mark, continues, ends, front_stamp, has_mark, is_continued};
+ghost use Rattle.stamps.specs.LineStamps.{mark_text, opens_bracket, stamp, stamp_of};
 
 use crate::finding::{Cause, Finding};
 use crate::style::text_in;
 use crate::task::{Style, Task};
 use calendar_values::Text;
-use rfc3339::{TextRefusal, parse_rfc3339_front};
+use rfc3339::{TextRefusal, parse_rfc3339_front, syntax_fault};
 use utc_times::UtcDateTime;
 
 /// The most bytes of a stamp.
@@ -183,24 +185,21 @@ fn front_of(text: &[u8]) -> &[u8]
 // The stamp in front of a text of at most 1,024 bytes.
 #[inline(always)]
 fn stamp_in(front: &[u8]) -> Result<Stamp, TextRefusal>
-    ensures { result ≡ stamp_read front.now (front_reading_of front.now) }
+    ensures { result ≡ front_stamp front.now (front_at front.now) }
 {
     match parse_rfc3339_front(front) {
-        Ok((at, length)) => ended_stamp(at.to_utc(), length, front.get(length).copied()),
-        Err(refusal) => Err(refusal),
+        Ok((at, length)) => accepted(at.to_utc(), length, byte_at(front, length)),
+        Err(TextRefusal::Syntax) => Err(TextRefusal::Syntax),
+        Err(refusal) => refused(front, refusal),
     }
 }
 
 // A date-time of so many bytes, as a stamp where it ends before the next byte.
 #[inline(always)]
-fn ended_stamp(
-    instant: UtcDateTime,
-    length: usize,
-    next: Option<u8>,
-) -> Result<Stamp, TextRefusal>
-    ensures { result ≡ ended_stamp instant length next }
+fn accepted(instant: UtcDateTime, length: usize, next: Option<u8>) -> Result<Stamp, TextRefusal>
+    ensures { result ≡ if ends length next then Ok (stamp instant length next) else Err Syntax }
 {
-    if length > LONGEST_STAMP || is_continued(next) {
+    if !ends(length, next) {
         return Err(TextRefusal::Syntax);
     }
     Ok(Stamp {
@@ -208,6 +207,36 @@ fn ended_stamp(
         length,
         is_zoned: opens_bracket(next),
     })
+}
+
+// The refusal of the date-time in a front, which is none where it does not end before the next byte.
+fn refused(front: &[u8], refusal: TextRefusal) -> Result<Stamp, TextRefusal>
+    requires meaning { front_meaning front.now (front_at front.now) ≡ Err refusal }
+    requires other { refusal ≢ Syntax }
+    ensures { result ≡ front_stamp front.now (front_at front.now) }
+{
+    let length = syntax_fault(front);
+    if ends(length, byte_at(front, length)) {
+        Err(refusal)
+    } else {
+        Err(TextRefusal::Syntax)
+    }
+}
+
+// The byte at a place of a text, if there is one.
+#[inline(always)]
+fn byte_at(text: &[u8], place: usize) -> Option<u8>
+    ensures { result ≡ slice_get text.now place }
+{
+    text.get(place).copied()
+}
+
+// Whether a date-time of so many bytes ends before the next byte, and has no more than a stamp may have.
+#[inline(always)]
+fn ends(length: usize, next: Option<u8>) -> bool
+    ensures { result ≡ ends length next }
+{
+    !(length > LONGEST_STAMP || is_continued(next))
 }
 
 // Whether the byte behind a date-time continues it.
