@@ -24,23 +24,18 @@ counted count at = (at, count)
 
 -- ---- a date-time that is accepted
 
-both_same : (x y : Local) (m n : ℕ) → ◌≡◌ {A = Result (Local × ℕ) TextRefusal} (Ok (x, m)) (Ok (y, n)) → (x ≡ y) × (m ≡ n)
-both_same x y m n e =
-    let same : ◌≡◌ {A = Local × ℕ} (x, m) (y, n) = cc in
-    (ap (λ (z : Local × ℕ). z.0) same, ap (λ (z : Local × ℕ). z.1) same)
+accepted_at : (front : List ℕ) (count : ℕ) (m : Result Local TextRefusal) (read : Local × ℕ)
+    → result_map_both (counted count) (λ refusal. refusal) m ≡ Ok read
+    → ended_stamp m count (slice_get front count) ≡ ended_stamp (Ok read.0) read.1 (slice_get front read.1)
+accepted_at front count (Ok x) read e =
+    let same : counted count x ≡ read = cc in
+    ap (λ (z : Local × ℕ). ended_stamp (Ok z.0) z.1 (slice_get front z.1)) same
+accepted_at front count (Err refusal) read e = absurd cc
 
-accepted_at : (front : List ℕ) (count : ℕ) (m : Result Local TextRefusal) (at : Local) (n : ℕ)
-    → result_map_both (counted count) (λ refusal. refusal) m ≡ Ok (at, n)
-    → ended_stamp m count (slice_get front count) ≡ ended_stamp (Ok at) n (slice_get front n)
-accepted_at front count (Ok x) at n e =
-    let same = both_same x at count n e in
-    rw (same.0, same.1) refl
-accepted_at front count (Err refusal) at n e = absurd cc
-
-pub front_accepted : (front : List ℕ) (o : Option (Parts × List ℕ)) (at : Local) (n : ℕ) → front_meaning front o ≡ Ok (at, n)
-    → front_stamp front o ≡ ended_stamp (Ok at) n (slice_get front n)
-front_accepted front None at n e = absurd cc
-front_accepted front (Some read) at n e = accepted_at front (length front - length read.1) (meaning read.0) at n e
+pub front_accepted : (front : List ℕ) (o : Option (Parts × List ℕ)) (read : Local × ℕ) → front_meaning front o ≡ Ok read
+    → front_stamp front o ≡ ended_stamp (Ok read.0) read.1 (slice_get front read.1)
+front_accepted front None read e = absurd cc
+front_accepted front (Some taken) read e = accepted_at front (length front - length taken.1) (meaning taken.0) read e
 
 -- ---- no date-time
 

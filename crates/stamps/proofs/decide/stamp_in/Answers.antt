@@ -9,7 +9,7 @@ pub returns-in-Ok : goal.returns-in-Ok
 unfolding front_reading_of
 returns-in-Ok c =
     let front = c.args.front.now in
-    rw (front_accepted front (front_at front) c.in-Ok.at c.in-Ok.length (sym c.in-Ok.ensures.reading)) (
+    rw (front_accepted front (front_at front) _ (sym c.in-Ok.ensures.reading)) (
       rw (c.to_utc.ensures, c.byte_at.ensures) at c.accepted.ensures
     )
 
