@@ -1,4 +1,5 @@
 pub mod BlockLemmas
+pub mod BoundLawLemmas
 pub mod CheckLawLemmas
 pub mod CutLawLemmas
 pub mod FrontLemmas

@@ -1,4 +1,5 @@
 pub mod Arguments
+pub mod BoundLaws
 pub mod Decisions
 pub mod Faults
 pub mod Findings

@@ -1,11 +1,17 @@
 //! Laws of the definitions that the contract of `stamps` cites: each function here proves one, for all inputs, and does
 //! nothing when it is called.
+ghost use Rattle.stamps.specs.BoundLaws.{BoundsAreExact};
 ghost use Rattle.stamps.specs.Laws.{CheckTellsTheOrder, LinesAreWrittenAlone, SinceAndUntilCutInTwo, StampsAreDateTimes};
 ghost use Rattle.stamps.specs.Laws.{UtcTwiceIsOnce, WrittenLinesKeepTheOrder};
 
 /// A text has the stamp that it is read with, and no other: a date-time of RFC 3339 that ends there.
 pub fn stamps_are_date_times()
     ensures { StampsAreDateTimes }
+{}
+
+/// A bound is finer than instants are exactly where a digit of its fraction past the ninth is not 0.
+pub fn bounds_are_exact()
+    ensures { BoundsAreExact }
 {}
 
 /// `since` writes the lines whose instant is not before the bound, and `until` all others: whole, and in their order.
