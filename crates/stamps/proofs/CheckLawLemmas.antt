@@ -1,23 +1,22 @@
 -- Instants in order, of lines that all have a stamp, or of which one has.
-use Rattle.std.proofs.Common.{◌≡◌, ◌↔◌, refl, sym, ap, ap₂, ◌∙◌, subst, ℕ, ◌==◌, Bool, true, false, not, ◌&&◌, ◌||◌, nat_lt, List, [], ◌∷◌, ◌++◌, ℤ, Option, Some, None, Result, Ok, Err, IsOk, IsTrue, arith}
+use Rattle.std.proofs.Common.{◌≡◌, ◌↔◌, refl, sym, ap₂, ◌∙◌, subst, ℕ, Bool, true, false, not, ◌&&◌, ◌||◌, nat_lt, List, [], ◌∷◌, ◌++◌, ℤ, Option, Some, None, Result, Ok, Err, IsOk, IsTrue, arith}
 use Rattle.std.specs.Prelude.{if◌then◌else◌, is_none}
 use Rattle.std.specs.List.{list_all, list_any}
 use Rattle.std.specs.Result.{is_ok}
 use Rattle.std.proofs.lemmas.Bool.{and_parts}
 use Rattle.std.proofs.lemmas.Bool.Decides.{nat_tests}
-use Rattle.line_devices.specs.Lines.{lines_of, pieces_of, unless_empty, whole_lines_of}
+use Rattle.line_devices.specs.Lines.{pieces_of, unless_empty, whole_lines_of}
 use Rattle.rfc3339.specs.declared.refusal.TextRefusal.{TextRefusal}
 use Rattle.rfc3339.specs.declared.refusal.TextRefusal.TheVariants.{Syntax, OutOfRange}
 use Rattle.stamps.specs.Decisions.{checked, decision_of, finding_at_end, first_state, is_earlier, is_first, one_more, state_after, stop_if}
 use Rattle.stamps.specs.Decisions as decisions
 use Rattle.stamps.specs.Laws.{CheckTellsTheOrder, instants, is_empty_or_any, is_out_of_range, line_stamps, none_earlier, stamps_of}
 use Rattle.stamps.specs.LineStamps.{line_stamp}
-use Rattle.stamps.specs.Runs.{Run, input_run, known_after, known_at_end, known_unless, last_of, last_run, line_feed, line_run, run, shown, then_on}
+use Rattle.stamps.specs.Runs.{Run, input_run, known_after, known_at_end, known_unless, last_of, last_run, line_feed, line_run, shown, then_on}
 use Rattle.stamps.specs.declared.decide.Stamp.{Stamp}
 use Rattle.stamps.specs.declared.decide.State.{State}
 use Rattle.stamps.specs.declared.finding.Cause.{Cause}
 use Rattle.stamps.specs.declared.finding.Cause.TheVariants.{Earlier, Missing, Refused}
-use Rattle.stamps.specs.declared.finding.Finding.{Finding}
 use Rattle.stamps.specs.declared.finding.Finding.TheVariants.{NoStamp}
 use Rattle.stamps.specs.declared.task.Task.{Task}
 use Rattle.stamps.specs.declared.task.Task.TheVariants.{Check}

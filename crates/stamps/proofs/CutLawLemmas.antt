@@ -1,16 +1,15 @@
 -- Lines since a bound, and the others.
-use Rattle.std.proofs.Common.{◌≡◌, refl, sym, ap, ◌∙◌, subst, ℕ, Bool, true, false, not, List, [], ◌∷◌, ◌++◌, map, ℤ, int_lt, Option, Some, None, Result, Ok, Err, IsOk}
+use Rattle.std.proofs.Common.{◌≡◌, refl, sym, ap, ◌∙◌, subst, ℕ, Bool, true, false, not, List, [], ◌∷◌, ◌++◌, map, ℤ, int_lt, Option, None, Result, Ok, Err, IsOk}
 use Rattle.std.proofs.lemmas.List.{append-nil}
-use Rattle.line_devices.specs.Lines.{lines_of, pieces_of, unless_empty, whole_lines_of}
+use Rattle.line_devices.specs.Lines.{pieces_of, unless_empty, whole_lines_of}
 use Rattle.rfc3339.specs.declared.refusal.TextRefusal.{TextRefusal}
 use Rattle.stamps.specs.Decisions.{decision_of, first_state, going_on, goes_on, is_first, state_after}
 use Rattle.stamps.specs.Decisions as decisions
-use Rattle.stamps.specs.Laws.{SinceAndUntilCutInTwo, fed, instants_up_to, is_since, line_stamps, line_texts, lines_since, marked_texts}
+use Rattle.stamps.specs.Laws.{SinceAndUntilCutInTwo, fed, instants_up_to, is_since, line_stamps, line_texts, marked_texts}
 use Rattle.stamps.specs.LineStamps.{line_stamp}
-use Rattle.stamps.specs.Runs.{Run, input_run, known_after, known_at_end, last_of, last_run, line_feed, line_run, run, shown, then_on}
+use Rattle.stamps.specs.Runs.{Run, input_run, known_after, known_at_end, last_of, last_run, line_feed, line_run, shown, then_on}
 use Rattle.stamps.specs.declared.decide.Stamp.{Stamp}
 use Rattle.stamps.specs.declared.decide.State.{State}
-use Rattle.stamps.specs.declared.finding.Finding.{Finding}
 use Rattle.stamps.specs.declared.task.Task.{Task}
 use Rattle.stamps.specs.declared.task.Task.TheVariants.{Since, Until}
 use Rattle.stamps.proofs.LineLawLemmas.{later, line_texts-whole}

@@ -1,12 +1,12 @@
 -- A front that was read, and where the date-time in it ends.
-use Rattle.std.proofs.Common.{◌≡◌, ◌≢◌, refl, sym, ap, subst, ◌∙◌, ℕ, ◌+◌, ◌-◌, ◌≤◌, Bool, true, false, cond, List, [], ◌∷◌, ◌++◌, take, length, length-append}
+use Rattle.std.proofs.Common.{◌≡◌, ◌≢◌, refl, sym, ap, subst, ◌∙◌, ℕ, ◌+◌, ◌-◌, ◌≤◌, Bool, true, false, cond, List, [], ◌++◌, take, length, length-append}
 use Rattle.std.proofs.Common.{append_assoc, Option, Some, None, Result, Ok, Err, arith}
 use Rattle.std.specs.Prelude.{slice_get}
 use Rattle.std.specs.Result.{result_map_both}
 use Rattle.std.proofs.Math.Seq.{take-append-add, take-append_seam}
 use Rattle.std.proofs.lemmas.List.{append-nil, length-take}
 use Rattle.std.proofs.lemmas.Option.{same_Some}
-use Rattle.offset_times.specs.Local.{Local, instant_of}
+use Rattle.offset_times.specs.Local.{Local}
 use Rattle.rfc3339.specs.Form.{IsDateTime}
 use Rattle.rfc3339.specs.Front.{front_meaning}
 use Rattle.rfc3339.specs.Meaning.{meaning}
@@ -15,7 +15,7 @@ use Rattle.rfc3339.specs.TextLemmas.{front_again, front_takes}
 use Rattle.rfc3339.specs.declared.parts.Parts.{Parts}
 use Rattle.rfc3339.specs.declared.refusal.TextRefusal.{TextRefusal}
 use Rattle.rfc3339.specs.declared.refusal.TextRefusal.TheVariants.{Syntax}
-use Rattle.stamps.specs.LineStamps.{ended_stamp, ends, front_stamp, stamp}
+use Rattle.stamps.specs.LineStamps.{ended_stamp, ends, front_stamp}
 use Rattle.stamps.specs.declared.decide.Stamp.{Stamp}
 
 -- a value, and a number of bytes

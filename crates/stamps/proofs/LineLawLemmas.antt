@@ -1,5 +1,5 @@
 -- Lines, one after another, and their stamps.
-use Rattle.std.proofs.Common.{◌≡◌, inl, inr, refl, sym, ap, ◌∙◌, ℕ, ◌+◌, ◌-◌, ◌^◌, Bool, true, false, cond, nat_eq, List, [], ◌∷◌, ◌++◌, map, append_assoc, arith, subst}
+use Rattle.std.proofs.Common.{◌≡◌, inl, inr, refl, sym, ap, ◌∙◌, ℕ, false, nat_eq, List, [], ◌∷◌, ◌++◌, map, append_assoc, arith}
 use Rattle.std.specs.List.{concat}
 use Rattle.std.proofs.lemmas.Bool.Decides.{nat_tests}
 use Rattle.std.proofs.lemmas.Bool.{cases_Bool}
@@ -7,8 +7,8 @@ use Rattle.std.proofs.lemmas.List.{append-nil}
 use Rattle.std.proofs.lemmas.List.Folds.{concat-append}
 use Rattle.line_devices.specs.LineLemmas.{whole_lines_of-parts}
 use Rattle.line_devices.specs.LineParts.{ended_from, rest_from}
-use Rattle.line_devices.specs.Lines.{pieces_of, unless_empty, whole_lines_of}
-use Rattle.stamps.specs.Decisions.{is_first, one_more, state_after}
+use Rattle.line_devices.specs.Lines.{pieces_of, unless_empty}
+use Rattle.stamps.specs.Decisions.{is_first, state_after}
 use Rattle.stamps.specs.Laws.{fed, line_texts}
 use Rattle.stamps.specs.Runs.{last_of}
 use Rattle.stamps.specs.declared.decide.State.{State}

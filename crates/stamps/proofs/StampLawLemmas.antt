@@ -1,5 +1,5 @@
 -- Stamps, by the form of RFC 3339.
-use Rattle.std.proofs.Common.{◌≡◌, refl, sym, ap, subst, ◌∙◌, ℕ, ◌+◌, ◌-◌, ◌≤◌, zero, suc, Bool, true, false, not, cond, List, [], ◌∷◌, ◌++◌, take, drop, length}
+use Rattle.std.proofs.Common.{◌≡◌, refl, sym, ap, ◌∙◌, ℕ, ◌+◌, ◌-◌, ◌≤◌, zero, suc, Bool, true, false, not, cond, List, [], ◌∷◌, ◌++◌, take, drop, length}
 use Rattle.std.proofs.Common.{length-append, append_assoc, Option, Some, None, Result, Ok, Err, arith, ℤ}
 use Rattle.std.specs.Prelude.{◌||◌, nat_lt, slice_get}
 use Rattle.std.proofs.Math.Seq.{take-append-add}
@@ -8,7 +8,7 @@ use Rattle.std.proofs.lemmas.List.{append-nil, drop_all, length-take, take-appen
 use Rattle.std.specs.Result.{result_map_both}
 use Rattle.offset_times.specs.Local.{Local, instant_of}
 use Rattle.rfc3339.specs.Form.{IsDateTime}
-use Rattle.rfc3339.specs.Meaning.{AreInRange, meaning, value_of}
+use Rattle.rfc3339.specs.Meaning.{meaning, value_of}
 use Rattle.rfc3339.specs.MeaningLemmas.{meaning-in_range, meaning-ok}
 use Rattle.rfc3339.specs.Reading.{front_at}
 use Rattle.rfc3339.specs.TextLemmas.{front_again, front_takes}

@@ -9,7 +9,7 @@ use Rattle.line_devices.specs.LineParts.{rest_from}
 use Rattle.line_devices.specs.Writing.{Sends}
 use Rattle.stamps.specs.Decisions.{decision_of, state_after}
 use Rattle.stamps.specs.LineStamps.{longest_head}
-use Rattle.stamps.specs.Progress.{Begins, Completes, Decided, Ends, Keeps, Passes, Settled, Stands, WritesPending, is_kept, mark_after, passed, progress_of}
+use Rattle.stamps.specs.Progress.{Begins, Decided, Ends, Keeps, Passes, Settled, Stands, WritesPending, is_kept, mark_after, passed, progress_of}
 use Rattle.stamps.specs.declared.decide.Decision.{Decision}
 use Rattle.stamps.specs.declared.decide.Decision.TheVariants.{Keep, Skip, Stop}
 use Rattle.stamps.specs.declared.decide.State.{State}
@@ -21,7 +21,7 @@ use Rattle.stamps.specs.declared.lines.Work.{Work}
 use Rattle.stamps.specs.declared.task.Task.{Task}
 use Rattle.stamps.proofs.LongLineLemmas.{continues_end, continues_line, continues_long}
 use Rattle.stamps.proofs.PartLemmas.{HasNoFeed, HasNoFeed-take, HasNoFeed-drop, IsLong, part_taken, part_split, begin_fault, begun, decided_more, long_more}
-use Rattle.stamps.proofs.PartLemmas.{pass_fault, stands_fault, stands_flushed, completed, completion_fault}
+use Rattle.stamps.proofs.PartLemmas.{pass_fault, stands_fault, stands_flushed, completion_fault}
 
 progress_of-decided : (decision : Decision) → progress_of decision ≢ Kept
 progress_of-decided (Keep marked text count) is = absurd cc

@@ -1,5 +1,5 @@
 -- Lines written in UTC: their instants, and written twice.
-use Rattle.std.proofs.Common.{◌≡◌, refl, ap, sym, ◌∙◌, ℕ, ◌+◌, Bool, true, false, cond, List, ◌++◌, drop, length, ℤ, Option, Some, None, Result, Ok, Err, arith}
+use Rattle.std.proofs.Common.{◌≡◌, refl, ap, sym, ◌∙◌, ℕ, Bool, true, false, cond, List, ◌++◌, drop, length, ℤ, Option, Some, None, Result, Ok, Err, arith}
 use Rattle.std.proofs.Common.{[], ◌∷◌, Ordering, Less, Equal, Greater, nat_cmp, int_cmp}
 use Rattle.std.specs.Cmp.Lexicographic.{slice_cmp}
 use Rattle.std.specs.Ordering.{ordering_then}
@@ -8,13 +8,13 @@ use Rattle.std.proofs.Math.Seq.{drop-append_seam}
 use Rattle.calendar_values.specs.Calendar.{year_of}
 use Rattle.calendar_values.specs.WallClock.{wall_day}
 use Rattle.offset_times.specs.InstantLemmas.{instant_of-utc}
-use Rattle.offset_times.specs.Local.{local_in_utc, instant_of}
+use Rattle.offset_times.specs.Local.{local_in_utc}
 use Rattle.rfc3339.specs.Laws.{FixedTextsKeepTheOrder}
 use Rattle.rfc3339.specs.Texts.{HasFixedText, fixed_text, parts_of}
 use Rattle.rfc3339.specs.ValueLemmas.{IsDateTime-fixed, meaning-fixed, length-fixed_text}
 use Rattle.rfc3339.specs.declared.refusal.TextRefusal.{TextRefusal}
 use Rattle.stamps.specs.Laws.{HasStamp, UtcTwiceIsOnce, in_utc, line_written}
-use Rattle.stamps.specs.LineStamps.{has_mark, longest_stamp, opens_bracket, stamp, stamp_of}
+use Rattle.stamps.specs.LineStamps.{opens_bracket, stamp, stamp_of}
 use Rattle.stamps.specs.Styles.{text_in, has_four_digits}
 use Rattle.stamps.specs.declared.decide.Stamp.{Stamp}
 use Rattle.stamps.specs.declared.task.Style.TheVariants.{Utc}

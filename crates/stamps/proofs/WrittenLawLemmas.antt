@@ -1,6 +1,5 @@
 -- Lines written, each by itself.
-use Rattle.std.proofs.Common.{◌≡◌, refl, sym, ap, ◌∙◌, subst, ℕ, ◌+◌, ◌<◌, Bool, true, false, nat_eq, List, [], ◌∷◌, ◌++◌, map, drop, length, append_assoc, length-append, inl, inr, Option, Some, None, Result, Ok, Err, IsOk, arith}
-use Rattle.std.specs.Cmp.Lexicographic.{pointwise}
+use Rattle.std.proofs.Common.{◌≡◌, refl, sym, ap, ◌∙◌, subst, ℕ, ◌<◌, Bool, true, false, nat_eq, List, [], ◌∷◌, ◌++◌, map, drop, length, append_assoc, length-append, inl, inr, Option, Some, None, Result, Ok, Err, IsOk, arith}
 use Rattle.std.specs.List.{concat, starts_with}
 use Rattle.std.proofs.lemmas.Bool.{cases_Bool}
 use Rattle.std.proofs.lemmas.Bool.Decides.{Decides-eqb}
@@ -10,15 +9,14 @@ use Rattle.line_devices.specs.LineLemmas.{ended_from-append, ended_from-line_fee
 use Rattle.line_devices.specs.LineParts.{ended_from, rest_from}
 use Rattle.line_devices.specs.Lines.{pieces_of, whole_lines_of}
 use Rattle.rfc3339.specs.declared.refusal.TextRefusal.{TextRefusal}
-use Rattle.stamps.specs.Decisions.{as_it_is, decision_of, first_state, is_first, one_more, rewritten, state_after, with_text}
+use Rattle.stamps.specs.Decisions.{decision_of, first_state, is_first, one_more, rewritten, state_after, with_text}
 use Rattle.stamps.specs.Laws.{LinesAreWrittenAlone, fed, last_written, line_written, lines_written, text_written}
 use Rattle.stamps.specs.LineStamps.{byte_order_mark, has_mark, line_stamp, stamp_of}
-use Rattle.stamps.specs.Runs.{Run, input_run, known_after, known_at_end, last_of, last_run, line_feed, line_run, run, shown, then_on}
+use Rattle.stamps.specs.Runs.{Run, known_after, last_of, last_run, line_feed, line_run, shown, then_on}
 use Rattle.stamps.specs.Styles.{text_in}
 use Rattle.stamps.specs.declared.decide.Stamp.{Stamp}
 use Rattle.stamps.specs.declared.decide.State.{State}
 use Rattle.stamps.specs.declared.task.Style.{Style}
-use Rattle.stamps.specs.declared.task.Task.{Task}
 use Rattle.stamps.specs.declared.task.Task.TheVariants.{Write}
 use Rattle.stamps.proofs.LineLawLemmas.{joined, later}
 use Rattle.stamps.proofs.LongLineLemmas.{mark_and_rest}

@@ -1,5 +1,5 @@
 -- Which bounds are finer than instants are.
-use Rattle.std.specs.Prelude.{◌≡◌, ℕ, ◌==◌, Bool, true, false, not, List, [], ◌++◌, codes, drop}
+use Rattle.std.specs.Prelude.{◌≡◌, ℕ, ◌==◌, Bool, false, not, List, [], ◌++◌, codes, drop}
 use Rattle.std.specs.List.{list_any}
 use Rattle.rfc3339.specs.Form.{IsDateTime}
 use Rattle.rfc3339.specs.declared.parts.Parts.{Parts}

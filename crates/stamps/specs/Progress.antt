@@ -3,7 +3,7 @@ use Rattle.std.specs.Prelude.{◌≡◌, ◌⊎◌, ℕ, ◌≤◌, ◌<◌, Boo
 use Rattle.std.specs.Io.KnownBytes.{Appends}
 use Rattle.line_devices.specs.LineParts.{ended_from, rest_from}
 use Rattle.line_devices.specs.Writing.{AppendsBeginning, Sends}
-use Rattle.stamps.specs.Decisions.{decision_of, finding_at_end, first_state, state_after}
+use Rattle.stamps.specs.Decisions.{decision_of, first_state, state_after}
 use Rattle.stamps.specs.LineStamps.{longest_head}
 use Rattle.stamps.specs.Runs.{run, shown, known_after, lines_run, input_run}
 use Rattle.stamps.specs.declared.decide.Decision.{Decision}

@@ -164,7 +164,10 @@ fn instant_of_text(text: &[u8]) -> Result<UtcDateTime, TextRefusal>
 fn is_finer(text: &[u8]) -> bool
     ensures { result ≡ is_finer text.now }
 {
-    let fraction = text.iter().skip(20).take_while(|byte| byte.is_ascii_digit());
+    let fraction = text
+        .iter()
+        .skip(20)
+        .take_while(|byte| byte.is_ascii_digit());
     fraction.skip(9).any(|digit| *digit != b'0')
 }
 

@@ -8,8 +8,9 @@ ghost use Rattle.stamps.specs.Progress.{Settled, Stands, WritesPending, is_kept,
 ghost use Rattle.stamps.specs.declared.lines.LineFault.TheVariants.{Write};
 ghost use Rattle.stamps.specs.declared.lines.Progress.TheVariants.{Kept};
 
-use crate::decide::{Decision, LONGEST_HEAD, State};
-use crate::decide::{behind_mark, decide, finding_at_end, first_state, mark_text};
+use crate::decide::{
+    Decision, LONGEST_HEAD, State, behind_mark, decide, finding_at_end, first_state, mark_text,
+};
 use crate::finding::Finding;
 use crate::task::Task;
 use line_devices::devices::{DeviceFault, Sink};

@@ -34,7 +34,10 @@ With --strict the first line without a stamp ends the run.";
 
 fn main(rt: HostRuntime) -> ExitCode {
     let Ok(given) = words_given(&rt) else {
-        return misused(&rt, "the words are no text, or too many: use the words below");
+        return misused(
+            &rt,
+            "the words are no text, or too many: use the words below",
+        );
     };
     match asked(&given) {
         Ok(Request::Help) => help(&rt),
