@@ -1,5 +1,6 @@
 -- Instants in order, of lines that all have a stamp, or of which one has.
-use Rattle.std.proofs.Common.{◌≡◌, ◌↔◌, refl, sym, ap₂, ◌∙◌, subst, ℕ, Bool, true, false, not, ◌&&◌, ◌||◌, nat_lt, List, [], ◌∷◌, ◌++◌, ℤ, Option, Some, None, Result, Ok, Err, IsOk, IsTrue, arith}
+use Rattle.std.proofs.Common.{◌≡◌, ◌↔◌, refl, sym, ap₂, ◌∙◌, subst, ℕ, Bool, true, false, not, ◌&&◌, ◌||◌}
+use Rattle.std.proofs.Common.{nat_lt, List, [], ◌∷◌, ◌++◌, ℤ, Option, Some, None, Result, Ok, Err, IsOk, IsTrue, arith}
 use Rattle.std.specs.Prelude.{if◌then◌else◌, is_none}
 use Rattle.std.specs.List.{list_all, list_any}
 use Rattle.std.specs.Result.{is_ok}
@@ -43,8 +44,8 @@ Passes is_strict lines last stamps =
 
 -- a line that passes or not, and all that follows it
 passed_on : (fails : Bool) (number : ℕ) (cause : Cause) (state : State) (line : List ℕ) (next : State → Run)
-    → IsOk (then_on (shown (stop_if fails number cause) line ++ line_feed (stop_if fails number cause)) (known_after (stop_if fails number cause) state) next).end
-    ↔ (IsTrue (not fails) × IsOk (next state).end)
+    → let decision = stop_if fails number cause in
+    IsOk (then_on (shown decision line ++ line_feed decision) (known_after decision state) next).end ↔ (IsTrue (not fails) × IsOk (next state).end)
 passed_on true number cause state line next = (λ e. absurd cc, λ e. let f = e.0 in absurd cc)
 passed_on false number cause state line next = (λ e. (refl, e), λ e. e.1)
 

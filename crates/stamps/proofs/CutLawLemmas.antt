@@ -1,5 +1,6 @@
 -- Lines since a bound, and the others.
-use Rattle.std.proofs.Common.{◌≡◌, refl, sym, ap, ◌∙◌, subst, ℕ, Bool, true, false, not, List, [], ◌∷◌, ◌++◌, map, ℤ, int_lt, Option, None, Result, Ok, Err, IsOk}
+use Rattle.std.proofs.Common.{◌≡◌, refl, sym, ap, ◌∙◌, subst, ℕ, Bool, true, false, not, List}
+use Rattle.std.proofs.Common.{[], ◌∷◌, ◌++◌, map, ℤ, int_lt, Option, None, Result, Ok, Err, IsOk}
 use Rattle.std.proofs.lemmas.List.{append-nil}
 use Rattle.line_devices.specs.Lines.{pieces_of, unless_empty, whole_lines_of}
 use Rattle.rfc3339.specs.declared.refusal.TextRefusal.{TextRefusal}
@@ -61,7 +62,8 @@ abbrev marks_from : ℤ → Bool → Option ℤ → List (List ℕ) → List Boo
 marks_from b first last lines = map (is_since b) (instants_up_to last (line_stamps first lines))
 
 since_all : (b : ℤ) (s : State) (lines : List (List ℕ)) (piece : List ℕ) → s.goes_on ≡ is_since b s.last
-    → (all_run (Since b) s lines piece).text ≡ marked_texts (marks_from b (is_first s) s.last (lines ++ unless_empty piece)) (map fed lines ++ unless_empty piece)
+    → (all_run (Since b) s lines piece).text
+    ≡ marked_texts (marks_from b (is_first s) s.last (lines ++ unless_empty piece)) (map fed lines ++ unless_empty piece)
 unfolding last_run line_run decision_of line_stamps instants_up_to marked_texts state_after
 since_all b s [] [] e = refl
 since_all b s [] (byte ∷ piece) e =

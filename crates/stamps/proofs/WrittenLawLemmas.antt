@@ -1,5 +1,6 @@
 -- Lines written, each by itself.
-use Rattle.std.proofs.Common.{◌≡◌, refl, sym, ap, ◌∙◌, subst, ℕ, ◌<◌, Bool, true, false, nat_eq, List, [], ◌∷◌, ◌++◌, map, drop, length, append_assoc, length-append, inl, inr, Option, Some, None, Result, Ok, Err, IsOk, arith}
+use Rattle.std.proofs.Common.{◌≡◌, refl, sym, ap, ◌∙◌, subst, ℕ, ◌<◌, Bool, true, false, nat_eq, List, [], ◌∷◌}
+use Rattle.std.proofs.Common.{◌++◌, map, drop, length, append_assoc, length-append, inl, inr, Option, Some, None, Result, Ok, Err, IsOk, arith}
 use Rattle.std.specs.List.{concat, starts_with}
 use Rattle.std.proofs.lemmas.Bool.{cases_Bool}
 use Rattle.std.proofs.lemmas.Bool.Decides.{Decides-eqb}
@@ -25,7 +26,8 @@ use Rattle.stamps.proofs.RunLemmas.{all_run, input_run-all, last_of-pieces}
 -- ---- a line
 
 placed_text : (n : ℕ) (marked : Bool) (stamp : Stamp) (o : Option (List ℕ)) (state : State) (line : List ℕ) (next : State → Run)
-    → (then_on (shown (with_text false n marked stamp o) line ++ line_feed (with_text false n marked stamp o)) (known_after (with_text false n marked stamp o) state) next).text
+    → let decision = with_text false n marked stamp o in
+    (then_on (shown decision line ++ line_feed decision) (known_after decision state) next).text
     ≡ fed (shown (with_text false 1 marked stamp o) line) ++ (next state).text
 placed_text n marked stamp None state line next = refl
 placed_text n marked stamp (Some text) state line next = refl
