@@ -188,15 +188,15 @@ fn stamp_in(front: &[u8]) -> Result<Stamp, TextRefusal>
     ensures { result ≡ front_stamp front.now (front_at front.now) }
 {
     match parse_rfc3339_front(front) {
-        Ok((at, length)) => accepted(at.to_utc(), length, byte_at(front, length)),
+        Ok((at, length)) => stamp_before(byte_at(front, length), at.to_utc(), length),
         Err(TextRefusal::Syntax) => Err(TextRefusal::Syntax),
-        Err(refusal) => refused(front, refusal),
+        Err(refusal) => refusal_before(front, refusal),
     }
 }
 
-// A date-time of so many bytes, as a stamp where it ends before the next byte.
+// The stamp of so many bytes before the next byte. Where that byte continues it, there is none.
 #[inline(always)]
-fn accepted(instant: UtcDateTime, length: usize, next: Option<u8>) -> Result<Stamp, TextRefusal>
+fn stamp_before(next: Option<u8>, instant: UtcDateTime, length: usize) -> Result<Stamp, TextRefusal>
     ensures { result ≡ if ends length next then Ok (stamp instant length next) else Err Syntax }
 {
     if !ends(length, next) {
@@ -209,8 +209,8 @@ fn accepted(instant: UtcDateTime, length: usize, next: Option<u8>) -> Result<Sta
     })
 }
 
-// The refusal of the date-time in a front, which is none where it does not end before the next byte.
-fn refused(front: &[u8], refusal: TextRefusal) -> Result<Stamp, TextRefusal>
+// The refusal of the date-time in a front. Where the byte behind it continues it, there is no stamp.
+fn refusal_before(front: &[u8], refusal: TextRefusal) -> Result<Stamp, TextRefusal>
     requires meaning { front_meaning front.now (front_at front.now) ≡ Err refusal }
     requires other { refusal ≢ Syntax }
     ensures { result ≡ front_stamp front.now (front_at front.now) }

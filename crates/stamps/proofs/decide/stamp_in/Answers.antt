@@ -10,7 +10,7 @@ unfolding front_reading_of
 returns-in-Ok c =
     let front = c.args.front.now in
     rw (front_accepted front (front_at front) _ (sym c.in-Ok.ensures.reading)) (
-    rw (c.to_utc.ensures, c.byte_at.ensures) at c.accepted.ensures
+    rw (c.to_utc.ensures, c.byte_at.ensures) at c.stamp_before.ensures
     )
 
 pub returns-in-Err-Syntax : goal.returns-in-Err-Syntax
@@ -19,6 +19,6 @@ returns-in-Err-Syntax c =
     let front = c.args.front.now in
     sym (front_syntax front (front_at front) (sym c.in-Err-Syntax.ensures.reading ∙ ap (λ (z : TextRefusal). Err z) c.in-Err-Syntax.field-0-is))
 
-pub refused-requires-clause-meaning : goal.refused-requires-clause-meaning
+pub refusal_before-requires-clause-meaning : goal.refusal_before-requires-clause-meaning
 unfolding front_reading_of
-refused-requires-clause-meaning c = sym c.in-Err.ensures.reading
+refusal_before-requires-clause-meaning c = sym c.in-Err.ensures.reading

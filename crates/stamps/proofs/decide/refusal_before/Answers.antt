@@ -2,7 +2,7 @@ use Rattle.std.proofs.Common.{sym, ◌∙◌, refl}
 use Rattle.std.specs.Prelude.{slice_get}
 use Rattle.rfc3339.specs.Reading.{front_at}
 use Rattle.stamps.proofs.FrontLemmas.{front_refused, no_refusal_at, refusal_at}
-use Rattle.stamps.proofs.decide.refused.Goals as goal
+use Rattle.stamps.proofs.decide.refusal_before.Goals as goal
 
 pub returns-then-ends : goal.returns-then-ends
 returns-then-ends c =
