@@ -18,7 +18,7 @@ use utc_times::UtcDateTime;
 /// The most bytes of a stamp.
 pub const LONGEST_STAMP: usize = 1_023;
 
-/// The most bytes of a line that decide what becomes of it: a byte order mark, the longest stamp, and the byte behind it.
+/// The most bytes of a line that decide what becomes of it: a byte order mark, the longest stamp, and one byte more.
 pub const LONGEST_HEAD: usize = 1_027;
 
 // The most bytes in which a stamp is looked for.
@@ -34,7 +34,7 @@ pub struct Stamp {
     pub instant: UtcDateTime,
     /// The number of its bytes.
     pub length: usize,
-    /// Whether a bracket opens behind it.
+    /// Whether a bracket follows it.
     pub is_zoned: bool,
 }
 
@@ -45,16 +45,16 @@ pub struct State {
     pub lines: u64,
     /// The instant of the last stamp.
     pub last: Option<UtcDateTime>,
-    /// Whether the last line goes on, where the task asks for some alone.
+    /// Whether the last line is written, where the task asks for some lines alone.
     pub goes_on: bool,
 }
 
 /// What becomes of a line.
 #[derive(Drop)]
 pub enum Decision {
-    /// It goes on: its byte order mark, where the task passes over one, and the text in place of so many bytes behind it.
+    /// It is written: with or without a byte order mark in front, and with the text in place of this number of bytes.
     Keep(bool, Text, usize),
-    /// It does not go on.
+    /// It is not written.
     Skip,
     /// It ends the run.
     Stop(Finding),
@@ -71,7 +71,7 @@ pub fn first_state(task: &Task) -> State
     }
 }
 
-/// What becomes of a line, and what is known behind it.
+/// Decides what becomes of a line, and updates what is known of the lines.
 #[tactic(auto, unfolding(crate::specs::Decisions::decision_of, crate::specs::Decisions::state_after))]
 pub fn decide(task: &Task, state: &mut State, line: &[u8]) -> Decision
     ensures decision { result ≡ decision_of task.now state.old line.now }

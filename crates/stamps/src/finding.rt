@@ -9,7 +9,7 @@ use rfc3339::Component;
 /// What is the matter with a line.
 #[derive(Clone, Copy, Debug, PartialEq, Eq)]
 pub enum Cause {
-    /// No stamp stands at its front.
+    /// It does not begin with a stamp.
     Missing,
     /// The stamp has a part that is out of its range.
     Refused(Component),

@@ -49,7 +49,7 @@ pub enum Progress {
 /// The beginning of a line.
 pub type Head = Table<u8, LONGEST_HEAD>;
 
-/// What is known behind the bytes that were read.
+/// What is known of the bytes that were read.
 #[derive(Drop)]
 pub struct Work {
     /// What is known of the lines before, and of the last one once it is not kept.
