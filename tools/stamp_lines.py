@@ -1,14 +1,19 @@
 """Lines that begin with stamps of RFC 3339, and what `stamps` makes of them: by Python's `re` and `datetime`, nanoseconds by
 hand."""
 
+import codecs
 import random
 import re
 from datetime import datetime, timedelta
 
-FORM = re.compile(rb"(\d{4})-(\d\d)-(\d\d)[Tt ](\d\d):(\d\d):(\d\d)(?:\.(\d+))?(?:([Zz])|([+-])(\d\d):(\d\d))")
+# The form of a stamp, which nothing that belongs to a date-time follows.
+FORM = re.compile(rb"(\d{4})-(\d\d)-(\d\d)[Tt ](\d\d):(\d\d):(\d\d)(?:\.(\d+))?(?:([Zz])|([+-])(\d\d):(\d\d))(?![0-9A-Za-z:.+-])")
 
 # The most bytes of a stamp.
-LONGEST = 1_024
+LONGEST = 1_023
+
+# The byte order mark of UTF-8.
+MARK = codecs.BOM_UTF8
 
 EPOCH = datetime(2000, 1, 1)
 EPOCH_SECONDS = 946_684_800
@@ -35,8 +40,8 @@ def days_of(year, month):
 
 def stamp_of(line):
     """The instant in nanoseconds and the length of the stamp in front, or why there is none: None, or the name of a part."""
-    found = FORM.match(line[:LONGEST])
-    if not found:
+    found = FORM.match(line)
+    if not found or found.end() > LONGEST:
         return None
     year, month, day, hour, minute, second = (int(found[k]) for k in range(1, 7))
     fraction = int(((found[7] or b"") + b"000000000")[:9])
@@ -100,9 +105,10 @@ def offset_of(text):
 
 
 def result_of(words, data):
-    """What `stamps` writes for an input, and the line that it tells of on standard error, if there is one."""
+    """What `stamps` writes for an input, and what it prints on standard error, if anything."""
     word, is_strict = words[0], words[-1] == "--strict"
-    lines = data.split(b"\n")
+    mark = MARK if data.startswith(MARK) else b""
+    lines = data[len(mark) :].split(b"\n")
     written = []
     last = None
     goes_on = word == "until"
@@ -114,7 +120,8 @@ def result_of(words, data):
 
     for number, line in enumerate(lines, 1):
         end = b"\n" if number < len(lines) else b""
-        if not line and not end:
+        front = mark if number == 1 else b""
+        if not front + line + end:
             break
         stamp = stamp_of(line)
         is_read = isinstance(stamp, tuple)
@@ -124,21 +131,25 @@ def result_of(words, data):
             if text is None:
                 if is_strict:
                     return told(number, cause or "its instant has no text")
-                written.append(line + end)
+                written.append(front + line + end)
+            elif is_strict and line[stamp[1] :].startswith(b"["):
+                return told(number, "a zone in brackets follows the stamp")
             else:
-                written.append(text + line[stamp[1] :] + end)
+                written.append(front + text + line[stamp[1] :] + end)
         elif word == "check":
             if is_read:
                 if last is not None and stamp[0] < last:
                     return told(number, "earlier than the one before")
                 last = stamp[0]
-            elif stamp is not None:
+            elif stamp is not None or is_strict:
                 return told(number, cause)
         else:
             if is_read:
                 goes_on = (stamp[0] >= bound) == (word == "since")
             if goes_on:
-                written.append(line + end)
+                written.append(front + line + end)
+    if word == "check" and last is None and data:
+        return b"", b"stamps: no line has a stamp\n"
     return b"".join(written), b""
 
 
@@ -175,6 +186,19 @@ ODD = (
     b"1969-12-31T23:59:59.5Z half a second before 1970",
     b"2024-06-30T12:00:00.1234567899Z ten digits",
     b"2024-06-30T12:00:00ZZ and Z",
+    b"1900-01-01T00:00:00+00:19:32 an offset with a second",
+    b"2024-06-30T12:00:00+05:3099 an offset with more digits",
+    b"2024-06-30T12:00:00Z-1",
+    b"2024-06-30T12:00:00Z.5",
+    b"2024-06-30T12:00:00+05:30+05:30",
+    b"2024-06-30T12:00:00Z, and a comma",
+    b"2024-06-30T12:00:00Z[UTC] and a zone",
+    b"2024-06-30T12:00:00+02:00[Europe/Paris] and a zone",
+    b"2024-06-30T12:00:00Z_",
+    b"2024-06-30T12:00:00Z\xc3\xa9",
+    b"2024-06-31T12:00:00Zulu",
+    b"2024-06-31T12:00:00.25+05:30:15",
+    MARK + b"2024-06-30T12:00:00Z a mark inside",
     b"\xff\xfe no text",
 )
 

@@ -1,8 +1,16 @@
 pub mod BlockLemmas
+pub mod BoundLawLemmas
+pub mod CheckLawLemmas
+pub mod CutLawLemmas
+pub mod FrontLemmas
+pub mod LineLawLemmas
 pub mod LongLineLemmas
 pub mod PartLemmas
 pub mod ReadLemmas
 pub mod RunLemmas
+pub mod StampLawLemmas
 pub mod StepLemmas
 pub mod StyleLemmas
 pub mod TurnLemmas
+pub mod UtcLawLemmas
+pub mod WrittenLawLemmas

@@ -1,5 +1,6 @@
 -- What was sent of an input, as more of it is taken in.
-use Rattle.std.proofs.Common.{◌≡◌, ◌≢◌, inl, inr, ℕ, ◌+◌, ◌≤◌, ◌<◌, List, [], ◌∷◌, ◌++◌, length, length-append, take, drop, Option, Result, Ok}
+use Rattle.std.proofs.Common.{◌≡◌, ◌≢◌, inl, inr, ℕ, ◌+◌, ◌≤◌, ◌<◌, Bool, List, []}
+use Rattle.std.proofs.Common.{◌∷◌, ◌++◌, length, length-append, take, drop, Option, Some, None, Result, Ok}
 use Rattle.std.proofs.Common.{Err}
 use Rattle.std.proofs.Common.{refl, sym, ap, subst, ◌∙◌, arith, append_assoc, append-nil}
 use Rattle.std.specs.Prelude.{IsOk}
@@ -10,9 +11,10 @@ use Rattle.line_devices.specs.LineParts.{ended_from, rest_from, HasNone}
 use Rattle.line_devices.specs.Writing.{AppendsBeginning, Sends}
 use Rattle.line_devices.specs.WritingLemmas.{Appends-flushed, AppendsBeginning-longer, AppendsBeginning-pending, AppendsBeginning-flushed, Sends-append}
 use Rattle.line_devices.specs.WritingLemmas.{Sends-flushed, Sends-nothing}
-use Rattle.stamps.specs.Decisions.{longest_stamp, decision_of, state_after, first_state}
+use Rattle.stamps.specs.Decisions.{decision_of, finding_at_end, first_state, state_after}
+use Rattle.stamps.specs.LineStamps.{behind_mark, longest_head, mark_text}
 use Rattle.stamps.specs.Progress.{Begins, Completes, Decided, Ends, Keeps, KeepsLine, Passes, Settled, Stands, passed, progress_of}
-use Rattle.stamps.specs.Runs.{Run, run, behind, shown, line_feed, known_after, line_run, last_run, lines_run, input_run}
+use Rattle.stamps.specs.Runs.{Run, run, behind, shown, line_feed, known_after, known_at_end, known_unless, line_run, last_run, lines_run, input_run}
 use Rattle.stamps.specs.declared.decide.Decision.{Decision}
 use Rattle.stamps.specs.declared.decide.Decision.TheVariants.{Keep, Skip, Stop}
 use Rattle.stamps.specs.declared.decide.State.{State}
@@ -101,7 +103,7 @@ begin_fault task base b c pending pending' work taken part more line known (Foun
 -- a part is kept
 pub kept_more : (task : Task) (base now : Option (List ℕ)) (pending : List ℕ) (work work' : Work) (taken part : List ℕ)
     → Keeps task base now pending work taken → HasNoFeed part → work'.state ≡ work.state → work'.progress ≡ Kept → work'.head ≡ work.head ++ part
-    → length (work.head ++ part) < longest_stamp → Keeps task base now pending work' (taken ++ part)
+    → length (work.head ++ part) < longest_head → Keeps task base now pending work' (taken ++ part)
 kept_more task base now pending work work' taken part keeps none s p h short =
     let grown = part_taken taken part none in
     let rest : rest_from [] (taken ++ part) ≡ work.head ++ part = grown.1 ∙ ap (λ (z : List ℕ). z ++ part) (sym keeps.head) in
@@ -136,7 +138,7 @@ begun task base b c pending pending' work work' taken part line progress keeps n
 
 -- of a decided line that is as long as a stamp may be
 abbrev pub IsLong : List ℕ → Type 0
-IsLong taken = longest_stamp ≤ length (rest_from [] taken)
+IsLong taken = longest_head ≤ length (rest_from [] taken)
 
 pub long_more : (taken part : List ℕ) → HasNoFeed part → IsLong taken → IsLong (taken ++ part)
 long_more taken part none long =
@@ -198,7 +200,7 @@ line_begins task state line more =
     (known_after (decision_of task state line) (state_after task state line)) (λ next. run_from task next [] more)
 
 line_feed-passed : (decision : Decision) → passed (progress_of decision) (10 ∷ []) ≡ line_feed decision
-line_feed-passed (Keep text count) = refl
+line_feed-passed (Keep marked text count) = refl
 line_feed-passed Skip = refl
 line_feed-passed (Stop found) = refl
 
@@ -255,46 +257,60 @@ open_text : (task : Task) (taken text : List ℕ) (before : State) → lines_run
 open_text task taken text before e = ap (input_run task) (sym (append-nil taken)) ∙ input_run-known task taken [] text before e
 
 -- what the input comes to where it ends here
-last_line : (task : Task) (state : State) (line : List ℕ) → 0 < length line
-    → run_from task state line [] ≡ run (shown (decision_of task state line) line) (known_after (decision_of task state line) (state_after task state line))
+last_line : (task : Task) (state : State) (line : List ℕ) → 0 < length line → run_from task state line []
+    ≡ run (shown (decision_of task state line) line) (known_at_end task (known_after (decision_of task state line) (state_after task state line)))
 last_line task state line some = last_run-some task state line some
 
 -- all is known where it is settled
 whole_text : (task : Task) (base now : Option (List ℕ)) (pending : List ℕ) (work : Work) (taken : List ℕ)
     → Settled task base now pending work taken
-    → (state : State) × (bytes : List ℕ) × Sends base now pending bytes × (input_run task taken ≡ run bytes (Ok state))
+    → (bytes : List ℕ) × Sends base now pending bytes × (input_run task taken ≡ run bytes (known_at_end task (Ok work.state)))
 unfolding last_run
 whole_text task base now pending work taken (inl (keeps, none)) =
     let end = open_text task taken keeps.text work.state keeps.lines ∙ ap (λ (z : List ℕ). behind keeps.text (run_from task work.state z [])) none in
-    (work.state, keeps.text, keeps.sent, end ∙ ap (λ (z : List ℕ). run z (Ok work.state)) (append-nil keeps.text))
+    (keeps.text, keeps.sent, end ∙ ap (λ (z : List ℕ). run z (known_at_end task (Ok work.state))) (append-nil keeps.text))
 whole_text task base now pending work taken (inr (decided, some)) =
     let before = decided.before in
     let line = rest_from [] taken in
     let decision = decision_of task before line in
     let known : known_after decision (state_after task before line) ≡ Ok work.state = subst
     (λ (z : State). known_after decision z ≡ Ok work.state) decided.state decided.known in (
-      work.state,
       decided.text ++ shown decision line,
       decided.sent,
       open_text task taken decided.text before decided.lines ∙ ap (behind decided.text) (last_line task before line some)
-          ∙ ap (run (decided.text ++ shown decision line)) known,
+          ∙ ap (λ (z : Result State Finding). run (decided.text ++ shown decision line) (known_at_end task z)) known,
     )
 
--- all was written
+-- all was written, and this is known then
+all_written : (task : Task) (base b c : Option (List ℕ)) (pending : List ℕ) (work : Work) (taken : List ℕ)
+    → Settled task base b pending work taken → Appends b c pending
+    → Appends base c (input_run task taken).text × ((input_run task taken).end ≡ known_at_end task (Ok work.state))
+all_written task base b c pending work taken settled written =
+    let all = whole_text task base b pending work taken settled in (
+      subst (λ (z : List ℕ). Appends base c z) (sym (ap (λ (z : Run). z.text) all.2)) (Appends-flushed base b c pending all.0 all.1 written),
+      ap (λ (z : Run). z.end) all.2,
+    )
+
 pub completed : (task : Task) (base b c : Option (List ℕ)) (pending : List ℕ) (work : Work) (taken : List ℕ)
-    → Settled task base b pending work taken → Appends b c pending → Completes task base c taken
-completed task base b c pending work taken settled written =
-    let all = whole_text task base b pending work taken settled in
-    record {
-      written = subst (λ (z : List ℕ). Appends base c z) (sym (ap (λ (z : Run). z.text) all.3)) (Appends-flushed base b c pending all.1 all.2 written);
-      well = subst (λ (z : Result State Finding). IsOk z) (sym (ap (λ (z : Run). z.end) all.3)) refl;
-    }
+    → Settled task base b pending work taken → Appends b c pending → finding_at_end task work.state ≡ None → Completes task base c taken
+completed task base b c pending work taken settled written none =
+    let all = all_written task base b c pending work taken settled written in
+    let end = all.1 ∙ ap (λ (z : Option Finding). known_unless z work.state) none in
+    record { written = all.0; well = subst (λ (z : Result State Finding). IsOk z) (sym end) refl }
+
+-- the end of the input ends the run
+pub found_at_end : (task : Task) (base b c : Option (List ℕ)) (pending : List ℕ) (work : Work) (taken : List ℕ) (found : Finding)
+    → Settled task base b pending work taken → Appends b c pending → finding_at_end task work.state ≡ Some found
+    → Ends task base c (Found found) taken
+found_at_end task base b c pending work taken found settled written e =
+    let all = all_written task base b c pending work taken settled written in
+    (all.0, all.1 ∙ ap (λ (z : Option Finding). known_unless z work.state) e)
 
 pub completion_fault : (task : Task) (base b c : Option (List ℕ)) (pending : List ℕ) (work : Work) (taken : List ℕ)
     → Settled task base b pending work taken → AppendsBeginning b c pending → Ends task base c Write taken
 completion_fault task base b c pending work taken settled cut =
     let all = whole_text task base b pending work taken settled in
-    subst (λ (z : List ℕ). AppendsBeginning base c z) (sym (ap (λ (z : Run). z.text) all.3)) (AppendsBeginning-flushed base b c pending all.1 all.2 cut)
+    subst (λ (z : List ℕ). AppendsBeginning base c z) (sym (ap (λ (z : Run). z.text) all.2)) (AppendsBeginning-flushed base b c pending all.0 all.1 cut)
 
 -- ---- between two blocks
 
@@ -341,16 +357,17 @@ stands_flushed task base b c pending pending' work taken (inr (decided, long)) w
 -- ---- a line that goes on
 
 pub begins_kept : (r : Result Progress LineFault) (decision : Decision) (known : State) (old new : Option (List ℕ)) (pending pending' line text : List ℕ)
-    (count : ℕ) → Keep text count ≡ decision → KeepsLine r old new pending' (pending ++ (text ++ drop count line))
+    (marked : Bool) (count : ℕ) → Keep marked text count ≡ decision
+    → KeepsLine r old new pending' (pending ++ (mark_text marked ++ (text ++ drop count (behind_mark marked line))))
     → Begins r decision known old new pending pending' line
-begins_kept (Ok progress) decision known old new pending pending' line text count e h = (
+begins_kept (Ok progress) decision known old new pending pending' line text marked count e h = (
   subst (λ (z : Decision). Sends old new pending' (pending ++ shown z line)) e h.0,
   h.1 ∙ ap progress_of e,
   ap (λ (z : Decision). known_after z known) (sym e),
 )
-begins_kept (Err Write) decision known old new pending pending' line text count e h =
+begins_kept (Err Write) decision known old new pending pending' line text marked count e h =
     subst (λ (z : Decision). AppendsBeginning old new (pending ++ shown z line)) e h
-begins_kept (Err (Found found)) decision known old new pending pending' line text count e h = absurd h
+begins_kept (Err (Found found)) decision known old new pending pending' line text marked count e h = absurd h
 
 -- a line that does not go on
 pub begins_skipped : (decision : Decision) (known : State) (now : Option (List ℕ)) (pending line : List ℕ) → Skip ≡ decision

@@ -7,14 +7,14 @@ use Rattle.std.proofs.lemmas.Bool.Decides.{nat_tests}
 use Rattle.line_devices.specs.LineParts.{ended_from, rest_from}
 use Rattle.line_devices.specs.Writing.{Sends}
 use Rattle.line_devices.specs.WritingLemmas.{Appends-nil, Appends-flushed, Sends-nothing}
-use Rattle.stamps.specs.Decisions.{longest_stamp, decision_of, state_after, first_state}
+use Rattle.stamps.specs.Decisions.{decision_of, state_after, first_state}
+use Rattle.stamps.specs.LineStamps.{longest_head}
 use Rattle.stamps.specs.Progress.{Stands}
 use Rattle.stamps.specs.Runs.{Run, run, behind, shown, known_after, lines_run, begun_run, open_run}
 use Rattle.stamps.specs.declared.decide.State.{State}
 use Rattle.stamps.specs.declared.lines.Progress.TheVariants.{Kept}
 use Rattle.stamps.specs.declared.lines.Work.{Work}
 use Rattle.stamps.specs.declared.task.Task.{Task}
-use Rattle.stamps.proofs.LongLineLemmas.{last_run-some}
 use Rattle.stamps.proofs.RunLemmas.{open_run-known}
 
 -- before anything is read
@@ -32,15 +32,15 @@ stands_first task base pending work s p h none =
     }
 
 -- of the last line nothing was begun
-begun_run-short : (task : Task) (state : State) (line : List ℕ) → length line < longest_stamp → begun_run task state line ≡ run [] (Ok state)
+begun_run-short : (task : Task) (state : State) (line : List ℕ) → length line < longest_head → begun_run task state line ≡ run [] (Ok state)
 begun_run-short task state line short =
-    let t : nat_lt (length line) longest_stamp ≡ true = grind (arith, nat_tests) in rw t refl
+    let t : nat_lt (length line) longest_head ≡ true = grind (arith, nat_tests) in rw t refl
 
-begun_run-long : (task : Task) (state : State) (line : List ℕ) → longest_stamp ≤ length line
+begun_run-long : (task : Task) (state : State) (line : List ℕ) → longest_head ≤ length line
     → begun_run task state line ≡ run (shown (decision_of task state line) line) (known_after (decision_of task state line) (state_after task state line))
 begun_run-long task state line long =
-    let t : nat_lt (length line) longest_stamp ≡ false = grind (arith, nat_tests) in
-    rw t (last_run-some task state line (omega (arith, long)))
+    let t : nat_lt (length line) longest_head ≡ false = grind (arith, nat_tests) in
+    rw t refl
 
 -- where nothing is pending, all that was sent was written
 all_sent : (base now : Option (List ℕ)) (pending bytes : List ℕ) → Sends base now pending bytes → pending ≡ [] → Appends base now bytes

@@ -4,7 +4,7 @@ use Rattle.std.proofs.Common.{Err}
 use Rattle.std.proofs.Common.{refl, sym, ap, ◌∙◌, append_assoc, append-nil}
 use Rattle.line_devices.specs.LineLemmas.{pieces_of-parts, whole_lines_of-parts, ended_from-line_feed}
 use Rattle.line_devices.specs.LineParts.{ended_from, rest_from}
-use Rattle.line_devices.specs.Lines.{pieces_of}
+use Rattle.line_devices.specs.Lines.{lines_of, pieces_of, unless_empty, whole_lines_of, without_empty_last, without_last}
 use Rattle.stamps.specs.Decisions.{first_state}
 use Rattle.stamps.specs.Runs.{Run, run, behind, then_on, line_run, last_run, lines_run, last_of, input_run, begun_run, open_run}
 use Rattle.stamps.specs.declared.decide.State.{State}
@@ -69,7 +69,7 @@ last_of-append [] piece = refl
 last_of-append (x ∷ []) piece = refl
 last_of-append (x ∷ y ∷ xs) piece = last_of-append (y ∷ xs) piece
 
-last_of-pieces : (input : List ℕ) → last_of (pieces_of input) ≡ rest_from [] input
+pub last_of-pieces : (input : List ℕ) → last_of (pieces_of input) ≡ rest_from [] input
 last_of-pieces input = ap last_of (pieces_of-parts input) ∙ last_of-append (ended_from [] input) (rest_from [] input)
 
 -- lines, and what stands behind them
@@ -137,3 +137,35 @@ open_run-known task taken text before e =
     ap (λ (z : List (List ℕ)). open_lines task z (last_of (pieces_of taken))) (whole_lines_of-parts taken)
     ∙ ap (λ (z : List ℕ). open_lines task (ended_from [] taken) z) (last_of-pieces taken)
     ∙ ap (λ (z : Run). then_on z.text z.end (λ next. begun_run task next (rest_from [] taken))) e
+
+-- ---- an input, line by line
+
+-- lines that line feeds end, and what stands behind them
+abbrev pub all_run : Task → State → List (List ℕ) → List ℕ → Run
+all_run task state [] piece = last_run task state piece
+all_run task state (line ∷ lines) piece =
+    then_on (line_run task state line).text (line_run task state line).end (λ next. all_run task next lines piece)
+
+lines_run-all : (task : Task) (state : State) (lines : List (List ℕ)) (piece : List ℕ)
+    → then_on (lines_run task state lines).text (lines_run task state lines).end (λ next. last_run task next piece) ≡ all_run task state lines piece
+unfolding lines_run
+lines_run-all task state [] piece = behind-nil (last_run task state piece)
+lines_run-all task state (line ∷ lines) piece =
+    let r = line_run task state line in
+    then_on-then_on r.text r.end (λ next. lines_run task next lines) (λ next. last_run task next piece)
+    ∙ then_on-same r.text r.end (λ next. then_on (lines_run task next lines).text (lines_run task next lines).end (λ last. last_run task last piece))
+    (λ next. all_run task next lines piece) (λ next. lines_run-all task next lines piece)
+
+pub input_run-all : (task : Task) (input : List ℕ)
+    → input_run task input ≡ all_run task (first_state task) (whole_lines_of input) (last_of (pieces_of input))
+unfolding input_run
+input_run-all task input = lines_run-all task (first_state task) (whole_lines_of input) (last_of (pieces_of input))
+
+-- the lines of an input are those that line feeds end, and what stands behind them
+without_empty-parts : (pieces : List (List ℕ)) → without_empty_last pieces ≡ without_last pieces ++ unless_empty (last_of pieces)
+without_empty-parts [] = refl
+without_empty-parts (piece ∷ []) = refl
+without_empty-parts (piece ∷ next ∷ pieces) = ap (λ (z : List (List ℕ)). piece ∷ z) (without_empty-parts (next ∷ pieces))
+
+pub lines_of-last : (input : List ℕ) → lines_of input ≡ whole_lines_of input ++ unless_empty (last_of (pieces_of input))
+lines_of-last input = without_empty-parts (pieces_of input)

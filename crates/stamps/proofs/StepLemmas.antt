@@ -7,8 +7,9 @@ use Rattle.std.proofs.lemmas.Bool.{false≢true}
 use Rattle.std.specs.Prelude.{IsOk, IfErr, OnOk, Bool, true, false}
 use Rattle.line_devices.specs.LineParts.{rest_from}
 use Rattle.line_devices.specs.Writing.{Sends}
-use Rattle.stamps.specs.Decisions.{longest_stamp, decision_of, state_after}
-use Rattle.stamps.specs.Progress.{Begins, Completes, Decided, Ends, Keeps, Passes, Settled, Stands, WritesPending, is_kept, mark_after, passed, progress_of}
+use Rattle.stamps.specs.Decisions.{decision_of, state_after}
+use Rattle.stamps.specs.LineStamps.{longest_head}
+use Rattle.stamps.specs.Progress.{Begins, Decided, Ends, Keeps, Passes, Settled, Stands, WritesPending, is_kept, mark_after, passed, progress_of}
 use Rattle.stamps.specs.declared.decide.Decision.{Decision}
 use Rattle.stamps.specs.declared.decide.Decision.TheVariants.{Keep, Skip, Stop}
 use Rattle.stamps.specs.declared.decide.State.{State}
@@ -20,10 +21,10 @@ use Rattle.stamps.specs.declared.lines.Work.{Work}
 use Rattle.stamps.specs.declared.task.Task.{Task}
 use Rattle.stamps.proofs.LongLineLemmas.{continues_end, continues_line, continues_long}
 use Rattle.stamps.proofs.PartLemmas.{HasNoFeed, HasNoFeed-take, HasNoFeed-drop, IsLong, part_taken, part_split, begin_fault, begun, decided_more, long_more}
-use Rattle.stamps.proofs.PartLemmas.{pass_fault, stands_fault, stands_flushed, completed, completion_fault}
+use Rattle.stamps.proofs.PartLemmas.{pass_fault, stands_fault, stands_flushed, completion_fault}
 
 progress_of-decided : (decision : Decision) → progress_of decision ≢ Kept
-progress_of-decided (Keep text count) is = absurd cc
+progress_of-decided (Keep marked text count) is = absurd cc
 progress_of-decided Skip is = absurd cc
 progress_of-decided (Stop found) is = absurd cc
 
@@ -76,15 +77,15 @@ pass_ends task b c pending pending' work part (Err fault) none h =
 -- ---- a line that is as long as a stamp may be
 
 -- a table that is filled by the front of a part
-pub front_filled : (head part : List ℕ) (room : ℕ) → length head + room ≡ 1024 → take 1024 (head ++ part) ≡ head ++ take room part
+pub front_filled : (head part : List ℕ) (room : ℕ) → length head + room ≡ 1027 → take 1027 (head ++ part) ≡ head ++ take room part
 front_filled head part room e = rw (← e) (take-append-add head part room)
 
-pub long_enough : (head part : List ℕ) (room : ℕ) → length head + room ≡ 1024 → room ≤ length part → longest_stamp ≤ length (head ++ take room part)
+pub long_enough : (head part : List ℕ) (room : ℕ) → length head + room ≡ 1027 → room ≤ length part → longest_head ≤ length (head ++ take room part)
 long_enough head part room e low = omega (arith, e, low, length-append head (take room part), length-take room part)
 
 -- what is kept and the front of a part are a line that is long enough
 pub filled : (task : Task) (base now : Option (List ℕ)) (pending : List ℕ) (work : Work) (taken part line : List ℕ) (n : ℕ)
-    → Keeps task base now pending work taken → HasNoFeed part → line ≡ work.head ++ take n part → longest_stamp ≤ length line
+    → Keeps task base now pending work taken → HasNoFeed part → line ≡ work.head ++ take n part → longest_head ≤ length line
     → (line ≡ rest_from [] taken ++ take n part) × IsLong (taken ++ take n part)
 filled task base now pending work taken part line n keeps none e long =
     let is = e ∙ ap (λ (z : List ℕ). z ++ take n part) keeps.head in
@@ -92,7 +93,7 @@ filled task base now pending work taken part line n keeps none e long =
     (is, omega (arith, long, ap (length {A = ℕ}) rest))
 
 pub fill_begun : (task : Task) (base b c : Option (List ℕ)) (pending pending' : List ℕ) (work work' : Work) (taken part line : List ℕ) (n : ℕ)
-    (progress : Progress) → Keeps task base b pending work taken → HasNoFeed part → line ≡ work.head ++ take n part → longest_stamp ≤ length line
+    (progress : Progress) → Keeps task base b pending work taken → HasNoFeed part → line ≡ work.head ++ take n part → longest_head ≤ length line
     → work'.state ≡ state_after task work.state line → work'.progress ≡ progress
     → Begins (Ok progress) (decision_of task work.state line) work'.state b c pending pending' line
     → Decided task base c pending' work' (taken ++ take n part) × IsLong (taken ++ take n part)
@@ -102,7 +103,7 @@ fill_begun task base b c pending pending' work work' taken part line n progress 
 
 pub fill_fault : (task : Task) (base b c : Option (List ℕ)) (pending pending' : List ℕ) (work : Work) (taken part more line : List ℕ) (n : ℕ)
     (known : State) (fault : LineFault) → Keeps task base b pending work taken → HasNoFeed part → line ≡ work.head ++ take n part
-    → longest_stamp ≤ length line → Begins (Err fault) (decision_of task work.state line) known b c pending pending' line
+    → longest_head ≤ length line → Begins (Err fault) (decision_of task work.state line) known b c pending pending' line
     → Ends task base c fault ((taken ++ part) ++ more)
 fill_fault task base b c pending pending' work taken part more line n known fault keeps none e long begins =
     let f = filled task base b pending work taken part line n keeps none e long in
@@ -214,16 +215,7 @@ block_ends task a b c before pending first work block (Err Write) cut stands =
 block_ends task a b c before pending first work block (Err (Found found)) none stands = absurd none
 
 -- behind the last line
-pub end_completes : (task : Task) (base b c : Option (List ℕ)) (pending : List ℕ) (work : Work) (taken : List ℕ) (r : Result Unit LineFault)
-    → IsOk r → WritesPending r b c pending → Settled task base b pending work taken → Completes task base c taken
-end_completes task base b c pending work taken (Ok done) ok written settled = completed task base b c pending work taken settled written
-end_completes task base b c pending work taken (Err fault) ok written settled = absurd (false≢true ok)
-
-pub end_ends : (task : Task) (a b c : Option (List ℕ)) (before pending : List ℕ) (first work : Work) (r : Result Unit LineFault)
-    → WritesPending r b c pending
-    → ((base : Option (List ℕ)) (taken : List ℕ) → Stands task base a before first taken → Settled task base b pending work taken)
-    → IfErr r (λ fault. (base : Option (List ℕ)) (taken : List ℕ) → Stands task base a before first taken → Ends task base c fault taken)
-end_ends task a b c before pending first work (Ok done) written settled = tt
-end_ends task a b c before pending first work (Err Write) cut settled =
-    λ base taken h. completion_fault task base b c pending work taken (settled base taken h) cut
-end_ends task a b c before pending first work (Err (Found found)) none settled = absurd none
+pub end_cut : (task : Task) (base b c : Option (List ℕ)) (pending : List ℕ) (work : Work) (taken : List ℕ) (fault : LineFault)
+    → WritesPending {T = Unit} (Err fault) b c pending → Settled task base b pending work taken → Ends task base c fault taken
+end_cut task base b c pending work taken Write cut settled = completion_fault task base b c pending work taken settled cut
+end_cut task base b c pending work taken (Found found) none settled = absurd none

@@ -27,7 +27,7 @@ four_digits : (year : ℤ) → pos 0 ≤ℤ year → year ≤ℤ pos 9_999 → h
 four_digits (pos year) low high = let below : year < 10_000 = omega (arith, signed_arith, high) in grind (arith, nat_tests)
 four_digits (negsuc year) low high = absurd (omega (arith, signed_arith, low))
 
-four_digits-true : (year : ℤ) → has_four_digits year ≡ true → (pos 0 ≤ℤ year) × (year ≤ℤ pos 9_999)
+pub four_digits-true : (year : ℤ) → has_four_digits year ≡ true → (pos 0 ≤ℤ year) × (year ≤ℤ pos 9_999)
 four_digits-true (pos year) e = let below : year < 10_000 = grind (arith, nat_tests) in omega (arith, signed_arith, below)
 four_digits-true (negsuc year) e = absurd cc
 

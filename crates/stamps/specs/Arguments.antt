@@ -1,5 +1,7 @@
 -- What the words of the command line ask for.
-use Rattle.std.specs.Prelude.{ℕ, ℤ, true, false, List, [], ◌∷◌, codes, if◌then◌else◌, Result, Ok, Err}
+use Rattle.std.specs.Prelude.{ℕ, ℤ, ◌==◌, Bool, true, false, not, List, [], ◌∷◌, codes, drop, if◌then◌else◌, Result, Ok, Err}
+use Rattle.std.specs.Char.{is_ascii_digit}
+use Rattle.std.specs.List.{list_any, take_while}
 use Rattle.std.specs.Result.{result_map_both}
 use Rattle.std.specs.Str.{bytes_eq}
 use Rattle.offset_times.specs.Local.{instant_of}
@@ -8,23 +10,25 @@ use Rattle.rfc3339.specs.Reading.{reading_as}
 use Rattle.rfc3339.specs.declared.refusal.TextRefusal.{TextRefusal}
 use Rattle.rfc3339.specs.declared.refusal.TextRefusal.TheVariants.{Syntax, OutOfRange}
 use Rattle.stamps.specs.declared.arguments.Misuse.{Misuse}
-use Rattle.stamps.specs.declared.arguments.Misuse.TheVariants.{NoWord, UnknownWord, NoOffset, Offset, NoInstant, Instant, Extra}
+use Rattle.stamps.specs.declared.arguments.Misuse.TheVariants.{NoWord, UnknownWord, NoOffset, Offset, NoInstant, Instant, TooFine, Extra}
+use Rattle.stamps.specs.declared.arguments.Request.{Request}
+use Rattle.stamps.specs.declared.arguments.Request.TheVariants.{Help, Work}
 use Rattle.stamps.specs.declared.task.Style.{Style}
 use Rattle.stamps.specs.declared.task.Style.TheVariants.{Utc, At, Unix}
 use Rattle.stamps.specs.declared.task.Task.{Task}
 use Rattle.stamps.specs.declared.task.Task.TheVariants.{Write, Check, Since, Until}
 
--- a task that no word follows
-abbrev pub plain : Task → List (List ℕ) → Result Task Misuse
-plain task [] = Ok task
-plain task (word ∷ words) = Err Extra
+-- whether `--strict` follows, and no other word
+abbrev pub strictness : List (List ℕ) → Result Bool Misuse
+strictness [] = Ok false
+strictness (flag ∷ []) = if bytes_eq flag (codes "--strict") then Ok true else Err Extra
+strictness (flag ∷ word ∷ words) = Err Extra
 
--- a style, and whether `--strict` follows
+-- stamps in a style
 abbrev pub written : Style → List (List ℕ) → Result Task Misuse
-written style [] = Ok (Write style false)
-written style (flag ∷ []) = if bytes_eq flag (codes "--strict") then Ok (Write style true) else Err Extra
-written style (flag ∷ word ∷ words) = Err Extra
+written style words = result_map_both (Write style) (λ misuse. misuse) (strictness words)
 
+-- stamps at an offset that was read
 abbrev pub at_offset_read : Result ℤ TextRefusal → List (List ℕ) → Result Task Misuse
 at_offset_read (Ok offset) words = written (At offset) words
 at_offset_read (Err refusal) words = Err (Offset refusal)
@@ -39,14 +43,19 @@ abbrev pub alone : ℤ → List (List ℕ) → Result ℤ Misuse
 alone instant [] = Ok instant
 alone instant (word ∷ words) = Err Extra
 
-abbrev pub bound_read : Result ℤ TextRefusal → List (List ℕ) → Result ℤ Misuse
-bound_read (Ok instant) words = alone instant words
-bound_read (Err refusal) words = Err (Instant refusal)
+-- whether a date-time has a fraction of which a digit past the ninth is not 0: the digits of a fraction begin at byte 20
+unfoldable pub is_finer : List ℕ → Bool
+is_finer text = list_any (λ digit. not (digit == 48)) (drop 9 (take_while is_ascii_digit (drop 20 text)))
+
+-- a bound that was read, which is not finer than instants are
+abbrev pub bound_read : Bool → Result ℤ TextRefusal → List (List ℕ) → Result ℤ Misuse
+bound_read is_finer (Ok instant) words = if is_finer then Err TooFine else alone instant words
+bound_read is_finer (Err refusal) words = Err (Instant refusal)
 
 -- the date-time after `since` or `until`
 abbrev pub bound_of : List (List ℕ) → Result ℤ Misuse
 bound_of [] = Err NoInstant
-bound_of (text ∷ words) = bound_read (reading_as instant_of text) words
+bound_of (text ∷ words) = bound_read (is_finer text) (reading_as instant_of text) words
 
 -- a task that an instant bounds
 unfoldable pub bounded : List ℕ → List (List ℕ) → Result Task Misuse
@@ -55,23 +64,36 @@ bounded word words =
     else (if bytes_eq word (codes "until") then result_map_both Until (λ misuse. misuse) (bound_of words)
     else Err UnknownWord)
 
--- the words after the name of the program
-unfoldable pub task_asked : List (List ℕ) → Result Task Misuse
-task_asked [] = Err NoWord
-task_asked (word ∷ words) =
+-- the task that words ask for, the first of them apart
+unfoldable pub task_asked : List ℕ → List (List ℕ) → Result Task Misuse
+task_asked word words =
     if bytes_eq word (codes "utc") then written Utc words
     else (if bytes_eq word (codes "unix") then written Unix words
     else (if bytes_eq word (codes "at") then at_offset words
-    else (if bytes_eq word (codes "check") then plain Check words
+    else (if bytes_eq word (codes "check") then result_map_both Check (λ misuse. misuse) (strictness words)
     else bounded word words)))
 
+-- the usage, if no word follows
+abbrev pub help_asked : List (List ℕ) → Result Request Misuse
+help_asked [] = Ok Help
+help_asked (word ∷ words) = Err Extra
+
+-- what the words after the name of the program ask for
+unfoldable pub request_of : List (List ℕ) → Result Request Misuse
+request_of [] = Err NoWord
+request_of (word ∷ words) =
+    if bytes_eq word (codes "--help") then help_asked words
+    else result_map_both Work (λ misuse. misuse) (task_asked word words)
+
+-- what is printed of a misuse: what is wrong, and what mends it
 abbrev pub misuse_text : Misuse → List ℕ
-misuse_text NoWord = codes "no word"
-misuse_text UnknownWord = codes "the first word is none of those"
-misuse_text NoOffset = codes "no offset follows"
-misuse_text (Offset Syntax) = codes "the offset is none, as +05:30 or Z is"
-misuse_text (Offset (OutOfRange component)) = codes "the offset is out of range"
-misuse_text NoInstant = codes "no date-time follows"
-misuse_text (Instant Syntax) = codes "the date-time is none of RFC 3339"
-misuse_text (Instant (OutOfRange component)) = codes "the date-time has a part that is out of range"
-misuse_text Extra = codes "a word more than is asked for"
+misuse_text NoWord = codes "no word is given: begin with one of the words below"
+misuse_text UnknownWord = codes "the first word is unknown: begin with one of the words below"
+misuse_text NoOffset = codes "at has no offset: add one, as +05:30 or Z"
+misuse_text (Offset Syntax) = codes "the offset has another form: write it as +05:30 or Z"
+misuse_text (Offset (OutOfRange component)) = codes "the offset is out of range: write one from -23:59 to +23:59"
+misuse_text NoInstant = codes "the bound is missing: add a date-time, as 2024-02-29T12:00:00Z"
+misuse_text (Instant Syntax) = codes "the bound has another form: write a date-time, as 2024-02-29T12:00:00Z"
+misuse_text (Instant (OutOfRange component)) = codes "the bound has a part that is out of range: write a date-time of the calendar"
+misuse_text TooFine = codes "the bound has more than nine digits of a fraction: write nine at most, or 0 for each digit past the ninth"
+misuse_text Extra = codes "a word is unknown or too many: leave it out"

@@ -1,7 +1,10 @@
 pub mod Arguments
+pub mod BoundLaws
 pub mod Decisions
 pub mod Faults
 pub mod Findings
+pub mod Laws
+pub mod LineStamps
 pub mod Progress
 pub mod Runs
 pub mod Styles

@@ -3,7 +3,8 @@ use Rattle.std.specs.Prelude.{◌≡◌, ◌⊎◌, ℕ, ◌≤◌, ◌<◌, Boo
 use Rattle.std.specs.Io.KnownBytes.{Appends}
 use Rattle.line_devices.specs.LineParts.{ended_from, rest_from}
 use Rattle.line_devices.specs.Writing.{AppendsBeginning, Sends}
-use Rattle.stamps.specs.Decisions.{longest_stamp, decision_of, state_after, first_state}
+use Rattle.stamps.specs.Decisions.{decision_of, first_state, state_after}
+use Rattle.stamps.specs.LineStamps.{longest_head}
 use Rattle.stamps.specs.Runs.{run, shown, known_after, lines_run, input_run}
 use Rattle.stamps.specs.declared.decide.Decision.{Decision}
 use Rattle.stamps.specs.declared.decide.Decision.TheVariants.{Keep, Skip, Stop}
@@ -35,7 +36,7 @@ is_kept Skipped = false
 
 -- how far a line is that was decided
 abbrev pub progress_of : Decision → Progress
-progress_of (Keep text count) = Sent
+progress_of (Keep marked text count) = Sent
 progress_of Skip = Skipped
 progress_of (Stop found) = Skipped
 
@@ -75,7 +76,7 @@ pub record Keeps (task : Task) (base now : Option (List ℕ)) (pending : List �
   pub lines : lines_run task (first_state task) (ended_from [] taken) ≡ run text (Ok work.state)
   pub progress : work.progress ≡ Kept
   pub head : work.head ≡ rest_from [] taken
-  pub short : length (rest_from [] taken) < longest_stamp
+  pub short : length (rest_from [] taken) < longest_head
   pub sent : Sends base now pending text
 
 -- the lines that ended were sent, and the last one is decided, and sent as far as it was read
@@ -92,7 +93,7 @@ pub record Decided (task : Task) (base now : Option (List ℕ)) (pending : List 
 abbrev pub Stands : Task → Option (List ℕ) → Option (List ℕ) → List ℕ → Work → List ℕ → Type 0
 Stands task base now pending work taken =
     Keeps task base now pending work taken
-    ⊎ (Decided task base now pending work taken × (longest_stamp ≤ length (rest_from [] taken)))
+    ⊎ (Decided task base now pending work taken × (longest_head ≤ length (rest_from [] taken)))
 
 -- nothing stands behind the last line feed, or it is decided
 abbrev pub Settled : Task → Option (List ℕ) → Option (List ℕ) → List ℕ → Work → List ℕ → Type 0

@@ -1,7 +1,8 @@
 -- What is written of an input, and what ends the run.
-use Rattle.std.specs.Prelude.{ℕ, nat_lt, List, [], ◌∷◌, ◌++◌, length, drop, if◌then◌else◌, Result, Ok, Err}
+use Rattle.std.specs.Prelude.{ℕ, nat_lt, List, [], ◌∷◌, ◌++◌, length, drop, if◌then◌else◌, Option, Some, None, Result, Ok, Err}
 use Rattle.line_devices.specs.Lines.{pieces_of, whole_lines_of}
-use Rattle.stamps.specs.Decisions.{longest_stamp, decision_of, state_after, first_state}
+use Rattle.stamps.specs.Decisions.{decision_of, finding_at_end, first_state, state_after}
+use Rattle.stamps.specs.LineStamps.{behind_mark, longest_head, mark_text}
 use Rattle.stamps.specs.declared.decide.Decision.{Decision}
 use Rattle.stamps.specs.declared.decide.Decision.TheVariants.{Keep, Skip, Stop}
 use Rattle.stamps.specs.declared.decide.State.{State}
@@ -25,21 +26,21 @@ abbrev pub then_on : List ℕ → Result State Finding → (State → Run) → R
 then_on text (Ok state) next = behind text (next state)
 then_on text (Err found) next = run text (Err found)
 
--- a line with the text in place of its first bytes, without its line feed
+-- a line with the text in place of its first bytes behind a byte order mark, without its line feed
 abbrev pub shown : Decision → List ℕ → List ℕ
-shown (Keep text count) line = text ++ drop count line
+shown (Keep marked text count) line = mark_text marked ++ (text ++ drop count (behind_mark marked line))
 shown Skip line = []
 shown (Stop found) line = []
 
 -- a line that goes on keeps its line feed
 abbrev pub line_feed : Decision → List ℕ
-line_feed (Keep text count) = 10 ∷ []
+line_feed (Keep marked text count) = 10 ∷ []
 line_feed Skip = []
 line_feed (Stop found) = []
 
 -- what is known behind a line
 abbrev pub known_after : Decision → State → Result State Finding
-known_after (Keep text count) state = Ok state
+known_after (Keep marked text count) state = Ok state
 known_after Skip state = Ok state
 known_after (Stop found) state = Err found
 
@@ -48,12 +49,22 @@ unfoldable pub line_run : Task → State → List ℕ → Run
 line_run task state line =
     let decision = decision_of task state line in run (shown decision line ++ line_feed decision) (known_after decision (state_after task state line))
 
--- what stands behind the last line feed
+-- what is known at the end of the input, unless it ends the run
+abbrev pub known_unless : Option Finding → State → Result State Finding
+known_unless (Some found) state = Err found
+known_unless None state = Ok state
+
+-- what is known at the end of the input, behind its last line
+abbrev pub known_at_end : Task → Result State Finding → Result State Finding
+known_at_end task (Ok state) = known_unless (finding_at_end task state) state
+known_at_end task (Err found) = Err found
+
+-- what stands behind the last line feed, and the end of the input
 unfoldable pub last_run : Task → State → List ℕ → Run
-last_run task state [] = run [] (Ok state)
+last_run task state [] = run [] (known_at_end task (Ok state))
 last_run task state (byte ∷ line) =
     let decision = decision_of task state (byte ∷ line) in
-    run (shown decision (byte ∷ line)) (known_after decision (state_after task state (byte ∷ line)))
+    run (shown decision (byte ∷ line)) (known_at_end task (known_after decision (state_after task state (byte ∷ line))))
 
 -- lines, one after another
 unfoldable pub lines_run : Task → State → List (List ℕ) → Run
@@ -73,9 +84,12 @@ input_run task input =
     let lines = lines_run task (first_state task) (whole_lines_of input) in
     then_on lines.text lines.end (λ state. last_run task state (last_of (pieces_of input)))
 
--- of a line that has not ended, as much as was read, once that is as long as a stamp may be
+-- of a line that has not ended, as much as was read, once that decides what becomes of it
 abbrev pub begun_run : Task → State → List ℕ → Run
-begun_run task state line = if nat_lt (length line) longest_stamp then run [] (Ok state) else last_run task state line
+begun_run task state line =
+    let decision = decision_of task state line in
+    if nat_lt (length line) longest_head then run [] (Ok state)
+    else run (shown decision line) (known_after decision (state_after task state line))
 
 -- what is written while more may come
 unfoldable pub open_run : Task → List ℕ → Run

@@ -3,11 +3,21 @@ ghost use Rattle.std.specs.Prelude.{◌≡◌, map};
 ghost use Rattle.std.specs.Str.{bytes_eq};
 ghost use Rattle.offset_times.specs.Local.{instant_of};
 ghost use Rattle.rfc3339.specs.Reading.{reading_as};
-ghost use Rattle.stamps.specs.Arguments.{task_asked, bounded, written, at_offset, bound_of, alone, plain, misuse_text};
+ghost use Rattle.stamps.specs.Arguments.{alone, at_offset, bound_of, bounded, help_asked, is_finer, misuse_text, request_of};
+ghost use Rattle.stamps.specs.Arguments.{strictness, task_asked, written};
 
 use crate::task::{Style, Task};
 use rfc3339::{Rfc3339, TextRefusal, parse_rfc3339_offset};
 use utc_times::UtcDateTime;
+
+/// What the words of the command line ask for.
+#[derive(Clone, Copy, Debug)]
+pub enum Request {
+    /// The usage.
+    Help,
+    /// Work on lines.
+    Work(Task),
+}
 
 /// What is wrong with the words of the command line.
 #[derive(Clone, Copy, Debug, PartialEq, Eq)]
@@ -24,28 +34,52 @@ pub enum Misuse {
     NoInstant,
     /// What follows `since` or `until` is refused.
     Instant(TextRefusal),
+    /// What follows `since` or `until` has a fraction of which a digit past the ninth is not 0.
+    TooFine,
     /// A word follows that nothing asks for.
     Extra,
 }
 
 /// What the words after the name of the program ask for.
-#[tactic(auto, unfolding(crate::specs::Arguments::task_asked))]
-pub fn task_asked(words: &[&[u8]]) -> Result<Task, Misuse>
-    ensures { result ≡ task_asked (map (λ word. word.now) words.now) }
+#[tactic(auto, unfolding(crate::specs::Arguments::request_of))]
+pub fn request_of(words: &[&[u8]]) -> Result<Request, Misuse>
+    ensures { result ≡ request_of (map (λ word. word.now) words.now) }
 {
     let Some((word, rest)) = words.split_first() else {
         return Err(Misuse::NoWord);
     };
-    if is(word, "utc") {
-        written(Style::Utc, rest)
-    } else if is(word, "unix") {
-        written(Style::Unix, rest)
-    } else if is(word, "at") {
-        at_offset(rest)
-    } else if is(word, "check") {
-        plain(Task::Check, rest)
+    if is(word, "--help") {
+        return help_asked(rest);
+    }
+    Ok(Request::Work(task_asked(word, rest)?))
+}
+
+// The usage, if no word follows.
+fn help_asked(words: &[&[u8]]) -> Result<Request, Misuse>
+    ensures { result ≡ help_asked (map (λ word. word.now) words.now) }
+{
+    if words.is_empty() {
+        Ok(Request::Help)
     } else {
-        bounded(word, rest)
+        Err(Misuse::Extra)
+    }
+}
+
+// The task that words ask for, the first of them apart.
+#[tactic(auto, unfolding(crate::specs::Arguments::task_asked))]
+fn task_asked(word: &[u8], words: &[&[u8]]) -> Result<Task, Misuse>
+    ensures { result ≡ task_asked word.now (map (λ word. word.now) words.now) }
+{
+    if is(word, "utc") {
+        written(Style::Utc, words)
+    } else if is(word, "unix") {
+        written(Style::Unix, words)
+    } else if is(word, "at") {
+        at_offset(words)
+    } else if is(word, "check") {
+        Ok(Task::Check(strictness(words)?))
+    } else {
+        bounded(word, words)
     }
 }
 
@@ -70,29 +104,28 @@ fn bounded(word: &[u8], words: &[&[u8]]) -> Result<Task, Misuse>
     }
 }
 
-// A task that no word follows.
-fn plain(task: Task, words: &[&[u8]]) -> Result<Task, Misuse>
-    ensures { result ≡ plain task (map (λ word. word.now) words.now) }
+// Stamps in a style.
+fn written(style: Style, words: &[&[u8]]) -> Result<Task, Misuse>
+    ensures { result ≡ written style (map (λ word. word.now) words.now) }
 {
-    if words.is_empty() {
-        Ok(task)
+    Ok(Task::Write(style, strictness(words)?))
+}
+
+// Whether `--strict` follows, and no other word.
+fn strictness(words: &[&[u8]]) -> Result<bool, Misuse>
+    ensures { result ≡ strictness (map (λ word. word.now) words.now) }
+{
+    let Some((flag, rest)) = words.split_first() else {
+        return Ok(false);
+    };
+    if rest.is_empty() && is(flag, "--strict") {
+        Ok(true)
     } else {
         Err(Misuse::Extra)
     }
 }
 
-// The stamps in a style, and whether the task is strict.
-fn written(style: Style, words: &[&[u8]]) -> Result<Task, Misuse>
-    ensures { result ≡ written style (map (λ word. word.now) words.now) }
-{
-    match words {
-        [] => Ok(Task::Write(style, false)),
-        [flag] if *flag == b"--strict".as_slice() => Ok(Task::Write(style, true)),
-        _ => Err(Misuse::Extra),
-    }
-}
-
-// The stamps at an offset.
+// Stamps at an offset.
 fn at_offset(words: &[&[u8]]) -> Result<Task, Misuse>
     ensures { result ≡ at_offset (map (λ word. word.now) words.now) }
 {
@@ -113,6 +146,7 @@ fn bound_of(words: &[&[u8]]) -> Result<UtcDateTime, Misuse>
         return Err(Misuse::NoInstant);
     };
     match instant_of_text(text) {
+        Ok(_) if is_finer(text) => Err(Misuse::TooFine),
         Ok(instant) => alone(instant, rest),
         Err(refusal) => Err(Misuse::Instant(refusal)),
     }
@@ -123,6 +157,18 @@ fn instant_of_text(text: &[u8]) -> Result<UtcDateTime, TextRefusal>
     ensures { result ≡ reading_as instant_of text.now }
 {
     UtcDateTime::from_rfc3339(text)
+}
+
+// Whether a date-time has a fraction of which a digit past the ninth is not 0.
+#[tactic(auto, unfolding(crate::specs::Arguments::is_finer))]
+fn is_finer(text: &[u8]) -> bool
+    ensures { result ≡ is_finer text.now }
+{
+    let fraction = text
+        .iter()
+        .skip(20)
+        .take_while(|byte| byte.is_ascii_digit());
+    fraction.skip(9).any(|digit| *digit != b'0')
 }
 
 // An instant that no word follows.
@@ -136,20 +182,25 @@ fn alone(instant: UtcDateTime, words: &[&[u8]]) -> Result<UtcDateTime, Misuse>
     }
 }
 
-/// What is said of a misuse.
+/// What is printed of a misuse: what is wrong, and what mends it.
 pub fn misuse_line(misuse: Misuse) -> &'static str
     ensures { result.now ≡ misuse_text misuse }
 {
     match misuse {
-        Misuse::NoWord => "no word",
-        Misuse::UnknownWord => "the first word is none of those",
-        Misuse::NoOffset => "no offset follows",
-        Misuse::Offset(TextRefusal::Syntax) => "the offset is none, as +05:30 or Z is",
-        Misuse::Offset(TextRefusal::OutOfRange(_)) => "the offset is out of range",
-        Misuse::NoInstant => "no date-time follows",
-        Misuse::Instant(TextRefusal::Syntax) => "the date-time is none of RFC 3339",
+        Misuse::NoWord => "no word is given: begin with one of the words below",
+        Misuse::UnknownWord => "the first word is unknown: begin with one of the words below",
+        Misuse::NoOffset => "at has no offset: add one, as +05:30 or Z",
+        Misuse::Offset(TextRefusal::Syntax) =>
+            "the offset has another form: write it as +05:30 or Z",
+        Misuse::Offset(TextRefusal::OutOfRange(_)) =>
+            "the offset is out of range: write one from -23:59 to +23:59",
+        Misuse::NoInstant => "the bound is missing: add a date-time, as 2024-02-29T12:00:00Z",
+        Misuse::Instant(TextRefusal::Syntax) =>
+            "the bound has another form: write a date-time, as 2024-02-29T12:00:00Z",
         Misuse::Instant(TextRefusal::OutOfRange(_)) =>
-            "the date-time has a part that is out of range",
-        Misuse::Extra => "a word more than is asked for",
+            "the bound has a part that is out of range: write a date-time of the calendar",
+        Misuse::TooFine =>
+            "the bound has more than nine digits of a fraction: write nine at most, or 0 for each digit past the ninth",
+        Misuse::Extra => "a word is unknown or too many: leave it out",
     }
 }

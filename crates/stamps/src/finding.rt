@@ -1,5 +1,6 @@
 //! Why a line ends the run.
-ghost use Rattle.std.specs.Prelude.{◌≡◌, ◌≤◌, ◌+◌, ◌++◌, IsAscii, length};
+ghost use Rattle.std.specs.Prelude.{◌≡◌, ◌≤◌, ◌+◌, ◌++◌, IsAscii, [], length};
+ghost use Rattle.stamps.specs.declared.finding.Finding.TheVariants.{Line};
 ghost use Rattle.stamps.specs.Findings.{cause_name, cause_end, cause_text, finding_text};
 
 use calendar_values::Text;
@@ -8,45 +9,59 @@ use rfc3339::Component;
 /// What is the matter with a line.
 #[derive(Clone, Copy, Debug, PartialEq, Eq)]
 pub enum Cause {
-    /// No stamp stands at its front.
+    /// It does not begin with a stamp.
     Missing,
     /// The stamp has a part that is out of its range.
     Refused(Component),
     /// The instant of the stamp has no text in the style that is asked for.
     NoText,
+    /// A zone in brackets follows the stamp, and would disagree with another offset.
+    Zone,
     /// The instant is earlier than the one before.
     Earlier,
 }
 
-/// A line that ends the run.
+/// What ends the run.
 #[derive(Clone, Copy, Debug, PartialEq, Eq)]
-pub struct Finding {
-    /// Its number, counted from 1 on, and at most 2^64 - 1.
-    pub line: u64,
-    /// What is the matter with it.
-    pub cause: Cause,
+pub enum Finding {
+    /// A line: its number, counted from 1 on and at most 2^64 - 1, and what is the matter with it.
+    Line(u64, Cause),
+    /// The input is not empty, and no line of it has a stamp.
+    NoStamp,
 }
 
 impl Finding {
     /// The text, as `line 3: second is out of range`.
     pub fn text(&self) -> Text
         ensures text { result ≡ finding_text self.now }
-        ensures length { length result ≤ 57 }
+        ensures length { length result ≤ 63 }
     {
         let mut text = Text::new();
-        text.push_bytes(b"line ");
-        text.push_decimal(self.line);
-        text.push_bytes(b": ");
-        push_cause(&mut text, self.cause);
+        match *self {
+            Finding::Line(line, cause) => push_line(&mut text, line, cause),
+            Finding::NoStamp => text.push_bytes(b"no line has a stamp"),
+        }
         text
     }
+}
+
+// Adds a line and what is the matter with it.
+fn push_line(text: &mut Text, line: u64, cause: Cause)
+    requires { text.old ≡ [] }
+    ensures value { text.new ≡ finding_text (Line line cause) }
+    ensures length { length text.new ≤ 63 }
+{
+    text.push_bytes(b"line ");
+    text.push_decimal(line);
+    text.push_bytes(b": ");
+    push_cause(text, cause);
 }
 
 // Adds what is the matter.
 fn push_cause(text: &mut Text, cause: Cause)
     requires { length text.old ≤ 27 }
     ensures value { text.new ≡ text.old ++ cause_text cause }
-    ensures length { length text.new ≤ length text.old + 29 }
+    ensures length { length text.new ≤ length text.old + 36 }
 {
     text.push_bytes(cause_name(cause).as_bytes());
     text.push_bytes(cause_end(cause).as_bytes());
@@ -56,12 +71,13 @@ fn push_cause(text: &mut Text, cause: Cause)
 fn cause_name(cause: Cause) -> &'static str
     ensures value { result.now ≡ cause_name cause }
     ensures ascii { IsAscii result.now }
-    ensures length { length result.now + length (cause_end cause) ≤ 29 }
+    ensures length { length result.now + length (cause_end cause) ≤ 36 }
 {
     match cause {
         Cause::Missing => "no stamp",
         Cause::Refused(component) => component.name(),
         Cause::NoText => "its instant has no text",
+        Cause::Zone => "a zone in brackets",
         Cause::Earlier => "earlier",
     }
 }
@@ -77,5 +93,6 @@ fn cause_end(cause: Cause) -> &'static str
         Cause::Earlier => " than the one before",
         Cause::Missing => "",
         Cause::NoText => "",
+        Cause::Zone => " follows the stamp",
     }
 }

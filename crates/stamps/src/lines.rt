@@ -8,7 +8,9 @@ ghost use Rattle.stamps.specs.Progress.{Settled, Stands, WritesPending, is_kept,
 ghost use Rattle.stamps.specs.declared.lines.LineFault.TheVariants.{Write};
 ghost use Rattle.stamps.specs.declared.lines.Progress.TheVariants.{Kept};
 
-use crate::decide::{Decision, LONGEST_STAMP, State, decide, first_state};
+use crate::decide::{
+    Decision, LONGEST_HEAD, State, behind_mark, decide, finding_at_end, first_state, mark_text,
+};
 use crate::finding::Finding;
 use crate::task::Task;
 use line_devices::devices::{DeviceFault, Sink};
@@ -45,9 +47,9 @@ pub enum Progress {
 }
 
 /// The beginning of a line.
-pub type Head = Table<u8, LONGEST_STAMP>;
+pub type Head = Table<u8, LONGEST_HEAD>;
 
-/// What is known behind the bytes that were read.
+/// What is known of the bytes that were read.
 #[derive(Drop)]
 pub struct Work {
     /// What is known of the lines before, and of the last one once it is not kept.
@@ -150,7 +152,7 @@ fn take_part<W: Sink>(
     pass(writer, pending, work.progress, part)
 }
 
-// Keeps a part of a line, up to one with which the line is as long as a stamp may be: then it is decided.
+// Keeps a part of a line, up to one with which the line is long enough to be decided.
 fn keep_part<W: Sink>(
     task: &Task,
     writer: &mut W,
@@ -247,7 +249,11 @@ pub fn finish<W: Sink>(
     ensures mark { W.is_marked writer.new ≡ mark_after result (W.is_marked writer.old) }
 {
     decide_rest(task, writer, pending, work)?;
-    write_pending(writer, pending)
+    write_pending(writer, pending)?;
+    match finding_at_end(task, &work.state) {
+        Some(found) => Err(LineFault::Found(found)),
+        None => Ok(()),
+    }
 }
 
 // Writes what is pending.
@@ -321,8 +327,9 @@ fn begin<W: Sink>(
     ensures mark { W.is_marked writer.new ≡ mark_after result (W.is_marked writer.old) }
 {
     match decide(task, state, line) {
-        Decision::Keep(text, count) => {
-            keep_line(writer, pending, text.as_bytes(), rest_of(line, count))
+        Decision::Keep(marked, text, count) => {
+            let rest = rest_of(behind_mark(marked, line), count);
+            keep_line(writer, pending, mark_text(marked), text.as_bytes(), rest)
         }
         Decision::Skip => Ok(Progress::Skipped),
         Decision::Stop(found) => {
@@ -341,19 +348,39 @@ fn rest_of(line: &[u8], count: usize) -> &[u8]
     &line[count..]
 }
 
-// Sends a line that goes on: a text, and the rest of the line.
+// Sends a line that goes on: a byte order mark or nothing, a text, and the rest of the line.
 fn keep_line<W: Sink>(
     writer: &mut W,
     pending: &mut Pending,
+    mark: &[u8],
     text: &[u8],
     rest: &[u8],
 ) -> Result<Progress, LineFault>
     ensures kept { KeepsLine result (W.written writer.old) (W.written writer.new)
-        pending.new (pending.old ++ (text.now ++ rest.now)) }
+        pending.new (pending.old ++ (mark.now ++ (text.now ++ rest.now))) }
     ensures mark { W.is_marked writer.new ≡ mark_after result (W.is_marked writer.old) }
 {
-    send_both(writer, pending, text, rest)?;
+    send_all(writer, pending, mark, text, rest)?;
     Ok(Progress::Sent)
+}
+
+// Sends a byte order mark or nothing, a text, and another behind it.
+fn send_all<W: Sink>(
+    writer: &mut W,
+    pending: &mut Pending,
+    mark: &[u8],
+    first: &[u8],
+    second: &[u8],
+) -> Result<(), DeviceFault>
+    ensures sent { SendsAll result (W.written writer.old) (W.written writer.new)
+        pending.new (pending.old ++ (mark.now ++ (first.now ++ second.now))) }
+    ensures mark { MarksFailure result (W.is_marked writer.old) (W.is_marked writer.new) }
+{
+    if mark.is_empty() {
+        return send_both(writer, pending, first, second);
+    }
+    send(writer, pending, mark)?;
+    send_both(writer, pending, first, second)
 }
 
 // Sends a text, and another behind it.

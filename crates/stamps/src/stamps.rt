@@ -40,7 +40,7 @@ const BLOCK: usize = 65_536;
 
 /// Reads lines to the end of the input, and writes of each what the task says.
 ///
-/// A line is what stands before a line feed, or behind the last one. A fault ends the work: `Read` and `Write` after a
+/// A line ends before a line feed, or with the input. A fault ends the work: `Read` and `Write` after a
 /// failed call of the reader or the writer, and `Found` at the first line that the task names: what the lines before
 /// it come to is written, and nothing of its own. `Read` also comes after 2^64 - 1 reads that reached no end.
 pub fn stamps<R: Source, W: Sink>(

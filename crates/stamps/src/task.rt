@@ -17,13 +17,14 @@ pub enum Style {
 /// What becomes of the lines.
 #[derive(Clone, Copy, Debug)]
 pub enum Task {
-    /// The stamp of each is written in a style. A line that has no text there goes on as it is, or, where the task is
+    /// Write the stamp of each in a style. A line that has no text there is written as it is, or, where the task is
     /// strict, ends the run.
     Write(Style, bool),
-    /// Nothing is written; the first line whose stamp is refused or earlier than the one before ends the run.
-    Check,
-    /// Those whose instant is not before one go on.
+    /// Write nothing. The first line whose stamp is refused or earlier than the one before ends the run, as does, where
+    /// the task is strict, the first line without a stamp. The end of an input without any stamp ends it too.
+    Check(bool),
+    /// Write those whose instant is not before this one.
     Since(UtcDateTime),
-    /// Those whose instant is before one go on.
+    /// Write those whose instant is before this one.
     Until(UtcDateTime),
 }

@@ -2,20 +2,26 @@ use Rattle.std.proofs.Common.{sym}
 use Rattle.std.proofs.lemmas.Result.{err_from_is_err_and}
 use Rattle.line_devices.specs.WritingLemmas.{AppendsBeginning-longer}
 use Rattle.stamps.specs.Decisions.{decision_of}
-use Rattle.stamps.proofs.LongLineLemmas.{count_within}
+use Rattle.stamps.proofs.LongLineLemmas.{kept_within}
 use Rattle.stamps.proofs.PartLemmas.{begins_kept, begins_skipped}
 use Rattle.stamps.proofs.lines.begin.Goals as goal
 
 pub returns-in-Keep-clause-begins : goal.returns-in-Keep-clause-begins
 returns-in-Keep-clause-begins g c =
     let line = c.args.line.now in
-    let kept = rw (c.as_bytes.ensures.value, c.rest_of.ensures) at c.keep_line.ensures.kept in
-    begins_kept c.keep_line.result (decision_of c.args.task.now c.args.state.now line) _ _ _ c.args.pending.now _ line c.in-Keep.text c.in-Keep.count
-    c.in-Keep.ensures.decision kept
+    let kept = rw (c.as_bytes.ensures.value, c.mark_text.ensures, c.rest_of-rest.ensures, c.behind_mark.ensures) at c.keep_line.ensures.kept in
+    begins_kept c.keep_line.result (decision_of c.args.task.now c.args.state.now line) _ _ _ c.args.pending.now _ line c.in-Keep.text c.in-Keep.marked
+    c.in-Keep.count c.in-Keep.ensures.decision kept
 
-pub rest_of-requires : goal.rest_of-requires
-rest_of-requires g c =
-    count_within c.args.task.now c.args.state.now c.args.line.now c.in-Keep.text c.in-Keep.count c.in-Keep.ensures.decision
+pub behind_mark-requires : goal.behind_mark-requires
+behind_mark-requires g c =
+    (kept_within c.args.task.now c.args.state.now c.args.line.now c.in-Keep.text c.in-Keep.marked c.in-Keep.count c.in-Keep.ensures.decision).0
+
+pub rest_of-rest-requires : goal.rest_of-rest-requires
+rest_of-rest-requires g c =
+    let within = kept_within c.args.task.now c.args.state.now c.args.line.now c.in-Keep.text c.in-Keep.marked c.in-Keep.count
+    c.in-Keep.ensures.decision in
+    rw c.behind_mark.ensures within.1
 
 pub returns-in-Skip-clause-begins : goal.returns-in-Skip-clause-begins
 returns-in-Skip-clause-begins g c =
