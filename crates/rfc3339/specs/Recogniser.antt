@@ -88,11 +88,12 @@ abbrev pub read_rule : Grammar → ℕ → List ℕ → Reader
 read_rule g zero name text passes = false
 read_rule g (suc n) name text passes = option_map_or (λ e. read_element (read_rule g n) e text passes) (rule_of g name) false
 
+-- no bytes
 abbrev pub is_empty : List ℕ → Bool
 is_empty [] = true
 is_empty (c ∷ text) = false
 
--- the grammar derives the text from the element
+-- the grammar derives the text from the element: it is a beginning of the text, and the rest is empty
 abbrev pub derives : Grammar → Element → List ℕ → Bool
 derives g e text = read_element (read_rule g (suc (length g))) e text is_empty
 

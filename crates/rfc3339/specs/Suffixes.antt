@@ -9,10 +9,11 @@ use Rattle.rfc3339.specs.Reading.{reading_of}
 use Rattle.rfc3339.specs.Printed.{printed_rule}
 use Rattle.rfc3339.specs.Recogniser.{is_ranked, derives}
 
+-- a letter, A to Z or a to z
 abbrev pub letter : Element
 letter = rule (codes "ALPHA")
 
--- as often as it likes, also not at all
+-- any number of times, also not at all
 abbrev pub any_times : Element → Element
 any_times e = repeat 0 None e
 
@@ -49,10 +50,11 @@ suffix_rules =
     ∷ (codes "ALPHA", range 0x41 0x5A or range 0x61 0x7A)
     ∷ []
 
--- `date-time`, `time-numoffset` and DIGIT are RFC 3339's
+-- these rules in front of RFC 3339's, which has `date-time`, `time-numoffset` and DIGIT
 unfoldable pub rfc9557 : Grammar
 rfc9557 = suffix_rules ++ rfc3339
 
+-- a date-time with a suffix
 abbrev pub date_time_ext : Element
 date_time_ext = rule (codes "date-time-ext")
 
@@ -92,13 +94,15 @@ pub record SuffixesAreDecided : Type 0 where
   pub no_end : derives rfc9557 date_time_ext (codes "2022-07-08T00:14:07Z[Europe/Paris") ≡ false
   pub upper_key : derives rfc9557 date_time_ext (codes "2022-07-08T00:14:07Z[U-ca=hebrew]") ≡ false
 
--- a date-time of RFC 3339, with its T, and a suffix of RFC 9557
+-- a date-time of RFC 3339, with its T
 abbrev pub IsDateTimeText : List ℕ → Type 0
 IsDateTimeText text = Derives rfc3339 (rule (codes "date-time")) text
 
+-- a suffix of RFC 9557
 abbrev pub IsSuffixText : List ℕ → Type 0
 IsSuffixText text = Derives rfc9557 (rule (codes "suffix")) text
 
+-- the byte `[`
 abbrev pub is_bracket : ℕ → Bool
 is_bracket c = c == 0x5B
 
