@@ -228,7 +228,7 @@ def ended(call, each):
     try:
         value = call()
     except each.Refused as refused:
-        return ("refused", refused.name, refused.count), None
+        return ("refused", str(refused), refused.count, repr(refused.value), refused.place), None
     except Exception as error:  # noqa: BLE001
         return ("error", type(error).__name__), None
     try:

@@ -21,6 +21,8 @@ texts: List[str] = muxandu.rfc3339_from_timestamps([at, later])
 each, statuses = muxandu.date_times_from_each_second([0, 1], UtcOffset.UTC)
 length: Duration = 3 * Duration.of(timedelta(hours=1)) % Duration(7)
 order: bool = at < later and shown <= again and utc != shown and length > timedelta(0)
+instants: bool = at < shown and shown >= utc and utc > at and at <= utc
+lengths: Tuple[Duration, Duration, Duration] = (at - shown, shown - utc, utc - at)
 refusal: str = muxandu.RefusedMonth.name
 
 
@@ -34,7 +36,10 @@ Timestamp("5")  # wrong
 Timestamp(0.5)  # wrong
 Timestamp.from_rfc3339(5)  # wrong
 at + 1  # wrong
-at < shown  # wrong
+at < 5  # wrong
+shown.replace(yaer=5)  # wrong
+Date(2024, 2, 29).replace(hour=5)  # wrong
+shown - plain  # wrong
 number: int = later - at  # wrong
 shown.to_offset("Z")  # wrong
 Date(2024, 2)  # wrong

@@ -7,7 +7,7 @@ static PyObject *version(PyObject *self, PyObject *const *words, Py_ssize_t coun
     (void)self;
     uint32_t out;
     (void)words;
-    if (!are(count, 0)) return NULL;
+    if (!are("version", count, 0)) return NULL;
     out = muxandu_version();
     return give_uint32_t(out);
 }
@@ -22,7 +22,7 @@ static PyObject *status_name(PyObject *self, PyObject *const *words, Py_ssize_t 
     char text[MUXANDU_STATUS_ROOM];
     size_t size;
     uint32_t status;
-    if (!are(count, 1) || !take_uint32_t(words[0], &word_0)) return NULL;
+    if (!are("status_name", count, 1) || !take_uint32_t(words[0], &word_0)) return NULL;
     status = muxandu_status_name(word_0, text, sizeof text, &size);
     return status ? refuse(status) : PyUnicode_DecodeASCII(text, (Py_ssize_t)size, NULL);
 }
@@ -35,7 +35,7 @@ static PyObject *status_text(PyObject *self, PyObject *const *words, Py_ssize_t 
     char text[MUXANDU_STATUS_ROOM];
     size_t size;
     uint32_t status;
-    if (!are(count, 1) || !take_uint32_t(words[0], &word_0)) return NULL;
+    if (!are("status_text", count, 1) || !take_uint32_t(words[0], &word_0)) return NULL;
     status = muxandu_status_text(word_0, text, sizeof text, &size);
     return status ? refuse(status) : PyUnicode_DecodeASCII(text, (Py_ssize_t)size, NULL);
 }
@@ -47,7 +47,7 @@ static PyObject *timestamp_add(PyObject *self, PyObject *const *words, Py_ssize_
     MuxanduDuration word_0;
     MuxanduTimestamp out;
     uint32_t status;
-    if (!are(count, 1) || !take_MuxanduDuration(words[0], &word_0)) return NULL;
+    if (!are("timestamp_add", count, 1) || !take_MuxanduDuration(words[0], &word_0)) return NULL;
     status = muxandu_timestamp_add(VALUE(Timestamp, self), word_0, &out);
     return status ? refuse(status) : make_Timestamp(Py_TYPE(self), out);
 }
@@ -59,7 +59,7 @@ static PyObject *timestamp_subtract(PyObject *self, PyObject *const *words, Py_s
     MuxanduDuration word_0;
     MuxanduTimestamp out;
     uint32_t status;
-    if (!are(count, 1) || !take_MuxanduDuration(words[0], &word_0)) return NULL;
+    if (!are("timestamp_subtract", count, 1) || !take_MuxanduDuration(words[0], &word_0)) return NULL;
     status = muxandu_timestamp_subtract(VALUE(Timestamp, self), word_0, &out);
     return status ? refuse(status) : make_Timestamp(Py_TYPE(self), out);
 }
@@ -70,7 +70,7 @@ static PyObject *timestamp_saturating_add(PyObject *self, PyObject *const *words
     MuxanduDuration word_0;
     MuxanduTimestamp out;
     uint32_t status;
-    if (!are(count, 1) || !take_MuxanduDuration(words[0], &word_0)) return NULL;
+    if (!are("saturating_add", count, 1) || !take_MuxanduDuration(words[0], &word_0)) return NULL;
     status = muxandu_timestamp_saturating_add(VALUE(Timestamp, self), word_0, &out);
     return status ? refuse(status) : make_Timestamp(Py_TYPE(self), out);
 }
@@ -81,7 +81,7 @@ static PyObject *timestamp_saturating_subtract(PyObject *self, PyObject *const *
     MuxanduDuration word_0;
     MuxanduTimestamp out;
     uint32_t status;
-    if (!are(count, 1) || !take_MuxanduDuration(words[0], &word_0)) return NULL;
+    if (!are("saturating_sub", count, 1) || !take_MuxanduDuration(words[0], &word_0)) return NULL;
     status = muxandu_timestamp_saturating_subtract(VALUE(Timestamp, self), word_0, &out);
     return status ? refuse(status) : make_Timestamp(Py_TYPE(self), out);
 }
@@ -92,7 +92,7 @@ static PyObject *timestamp_difference(PyObject *self, PyObject *const *words, Py
     MuxanduTimestamp word_0;
     MuxanduDuration out;
     uint32_t status;
-    if (!are(count, 1) || !take_MuxanduTimestamp(words[0], &word_0)) return NULL;
+    if (!are("timestamp_difference", count, 1) || !take_MuxanduTimestamp(words[0], &word_0)) return NULL;
     status = muxandu_timestamp_difference(VALUE(Timestamp, self), word_0, &out);
     return status ? refuse(status) : make_Duration(type_of_Duration, out);
 }
@@ -103,9 +103,9 @@ static PyObject *timestamp_truncate(PyObject *self, PyObject *const *words, Py_s
     uint32_t word_0;
     MuxanduTimestamp out;
     uint32_t status;
-    if (!are(count, 1) || !take_uint32_t(words[0], &word_0)) return NULL;
+    if (!are("truncated_to", count, 1) || !take_uint32_t(words[0], &word_0)) return NULL;
     status = muxandu_timestamp_truncate(VALUE(Timestamp, self), word_0, &out);
-    return status ? refuse(status) : make_Timestamp(Py_TYPE(self), out);
+    return status ? refuse_word(status, words, (const uint8_t[]){18, 0, 0}) : make_Timestamp(Py_TYPE(self), out);
 }
 
 /* The instant so many milliseconds from 1970-01-01 0:00 UTC. Refused TIMESTAMP outside the range. */
@@ -114,9 +114,9 @@ static PyObject *timestamp_from_milliseconds(PyObject *self, PyObject *const *wo
     int64_t word_0;
     MuxanduTimestamp out;
     uint32_t status;
-    if (!are(count, 1) || !take_int64_t(words[0], &word_0)) return NULL;
+    if (!are("from_milliseconds", count, 1) || !take_int64_t(words[0], &word_0)) return NULL;
     status = muxandu_timestamp_from_milliseconds(word_0, &out);
-    return status ? refuse(status) : make_Timestamp((PyTypeObject *)self, out);
+    return status ? refuse_word(status, words, (const uint8_t[]){15, 0, 0}) : make_Timestamp((PyTypeObject *)self, out);
 }
 
 /* The whole milliseconds from 1970-01-01 0:00 UTC, rounded down. Refused as the timestamp. */
@@ -125,7 +125,7 @@ static PyObject *timestamp_to_milliseconds(PyObject *self, PyObject *const *word
     int64_t out;
     uint32_t status;
     (void)words;
-    if (!are(count, 0)) return NULL;
+    if (!are("as_milliseconds", count, 0)) return NULL;
     status = muxandu_timestamp_to_milliseconds(VALUE(Timestamp, self), &out);
     return status ? refuse(status) : give_int64_t(out);
 }
@@ -135,7 +135,7 @@ static PyObject *timestamp_from_microseconds(PyObject *self, PyObject *const *wo
 {
     int64_t word_0;
     MuxanduTimestamp out;
-    if (!are(count, 1) || !take_int64_t(words[0], &word_0)) return NULL;
+    if (!are("_from_microseconds", count, 1) || !take_int64_t(words[0], &word_0)) return NULL;
     out = muxandu_timestamp_from_microseconds(word_0);
     return make_Timestamp((PyTypeObject *)self, out);
 }
@@ -147,7 +147,7 @@ static PyObject *timestamp_to_microseconds(PyObject *self, PyObject *const *word
     int64_t out;
     uint32_t status;
     (void)words;
-    if (!are(count, 0)) return NULL;
+    if (!are("_as_microseconds", count, 0)) return NULL;
     status = muxandu_timestamp_to_microseconds(VALUE(Timestamp, self), &out);
     return status ? refuse(status) : give_int64_t(out);
 }
@@ -157,7 +157,7 @@ static PyObject *timestamp_from_nanoseconds(PyObject *self, PyObject *const *wor
 {
     int64_t word_0;
     MuxanduTimestamp out;
-    if (!are(count, 1) || !take_int64_t(words[0], &word_0)) return NULL;
+    if (!are("_from_nanoseconds", count, 1) || !take_int64_t(words[0], &word_0)) return NULL;
     out = muxandu_timestamp_from_nanoseconds(word_0);
     return make_Timestamp((PyTypeObject *)self, out);
 }
@@ -169,7 +169,7 @@ static PyObject *timestamp_to_nanoseconds(PyObject *self, PyObject *const *words
     int64_t out;
     uint32_t status;
     (void)words;
-    if (!are(count, 0)) return NULL;
+    if (!are("_as_nanoseconds", count, 0)) return NULL;
     status = muxandu_timestamp_to_nanoseconds(VALUE(Timestamp, self), &out);
     return status ? refuse(status) : give_int64_t(out);
 }
@@ -181,9 +181,10 @@ static PyObject *date_time_from_timestamp(PyObject *self, PyObject *const *words
     int32_t word_0;
     MuxanduDateTime out;
     uint32_t status;
-    if (!are(count, 1) || !take_int32_t(words[0], &word_0)) return NULL;
+    if (!are("to_offset", count, 1) || !take_offset(words[0], &word_0)) return NULL;
     status = muxandu_date_time_from_timestamp(VALUE(Timestamp, self), word_0, &out);
-    return status ? refuse(status) : make_OffsetDateTime(type_of_OffsetDateTime, out);
+    return status ? refuse_word(status, words, (const uint8_t[]){14, 0, 0}) :
+            make_OffsetDateTime(type_of_OffsetDateTime, out);
 }
 
 /* The instant at which clocks at its offset show the date-time. Refused as the date-time, then RESULT outside the
@@ -193,7 +194,7 @@ static PyObject *timestamp_from_date_time(PyObject *self, PyObject *const *words
     MuxanduTimestamp out;
     uint32_t status;
     (void)words;
-    if (!are(count, 0)) return NULL;
+    if (!are("to_timestamp", count, 0)) return NULL;
     status = muxandu_timestamp_from_date_time(VALUE(OffsetDateTime, self), &out);
     return status ? refuse(status) : make_Timestamp(type_of_Timestamp, out);
 }
@@ -205,9 +206,9 @@ static PyObject *date_time_to_offset(PyObject *self, PyObject *const *words, Py_
     int32_t word_0;
     MuxanduDateTime out;
     uint32_t status;
-    if (!are(count, 1) || !take_int32_t(words[0], &word_0)) return NULL;
+    if (!are("to_offset", count, 1) || !take_offset(words[0], &word_0)) return NULL;
     status = muxandu_date_time_to_offset(VALUE(OffsetDateTime, self), word_0, &out);
-    return status ? refuse(status) : make_OffsetDateTime(Py_TYPE(self), out);
+    return status ? refuse_word(status, words, (const uint8_t[]){14, 0, 0}) : make_OffsetDateTime(Py_TYPE(self), out);
 }
 
 /* The date-time so much later at the same offset, or earlier for a negative duration. Refused as the date-time, then
@@ -217,7 +218,7 @@ static PyObject *date_time_add(PyObject *self, PyObject *const *words, Py_ssize_
     MuxanduDuration word_0;
     MuxanduDateTime out;
     uint32_t status;
-    if (!are(count, 1) || !take_MuxanduDuration(words[0], &word_0)) return NULL;
+    if (!are("date_time_add", count, 1) || !take_MuxanduDuration(words[0], &word_0)) return NULL;
     status = muxandu_date_time_add(VALUE(OffsetDateTime, self), word_0, &out);
     return status ? refuse(status) : make_OffsetDateTime(Py_TYPE(self), out);
 }
@@ -229,7 +230,7 @@ static PyObject *date_time_subtract(PyObject *self, PyObject *const *words, Py_s
     MuxanduDuration word_0;
     MuxanduDateTime out;
     uint32_t status;
-    if (!are(count, 1) || !take_MuxanduDuration(words[0], &word_0)) return NULL;
+    if (!are("date_time_subtract", count, 1) || !take_MuxanduDuration(words[0], &word_0)) return NULL;
     status = muxandu_date_time_subtract(VALUE(OffsetDateTime, self), word_0, &out);
     return status ? refuse(status) : make_OffsetDateTime(Py_TYPE(self), out);
 }
@@ -241,7 +242,7 @@ static PyObject *date_time_saturating_add(PyObject *self, PyObject *const *words
     MuxanduDuration word_0;
     MuxanduDateTime out;
     uint32_t status;
-    if (!are(count, 1) || !take_MuxanduDuration(words[0], &word_0)) return NULL;
+    if (!are("saturating_add", count, 1) || !take_MuxanduDuration(words[0], &word_0)) return NULL;
     status = muxandu_date_time_saturating_add(VALUE(OffsetDateTime, self), word_0, &out);
     return status ? refuse(status) : make_OffsetDateTime(Py_TYPE(self), out);
 }
@@ -253,7 +254,7 @@ static PyObject *date_time_saturating_subtract(PyObject *self, PyObject *const *
     MuxanduDuration word_0;
     MuxanduDateTime out;
     uint32_t status;
-    if (!are(count, 1) || !take_MuxanduDuration(words[0], &word_0)) return NULL;
+    if (!are("saturating_sub", count, 1) || !take_MuxanduDuration(words[0], &word_0)) return NULL;
     status = muxandu_date_time_saturating_subtract(VALUE(OffsetDateTime, self), word_0, &out);
     return status ? refuse(status) : make_OffsetDateTime(Py_TYPE(self), out);
 }
@@ -265,7 +266,7 @@ static PyObject *date_time_difference(PyObject *self, PyObject *const *words, Py
     MuxanduDateTime word_0;
     MuxanduDuration out;
     uint32_t status;
-    if (!are(count, 1) || !take_MuxanduDateTime(words[0], &word_0)) return NULL;
+    if (!are("date_time_difference", count, 1) || !take_MuxanduDateTime(words[0], &word_0)) return NULL;
     status = muxandu_date_time_difference(VALUE(OffsetDateTime, self), word_0, &out);
     return status ? refuse(status) : make_Duration(type_of_Duration, out);
 }
@@ -276,9 +277,9 @@ static PyObject *date_time_truncate(PyObject *self, PyObject *const *words, Py_s
     uint32_t word_0;
     MuxanduDateTime out;
     uint32_t status;
-    if (!are(count, 1) || !take_uint32_t(words[0], &word_0)) return NULL;
+    if (!are("truncated_to", count, 1) || !take_uint32_t(words[0], &word_0)) return NULL;
     status = muxandu_date_time_truncate(VALUE(OffsetDateTime, self), word_0, &out);
-    return status ? refuse(status) : make_OffsetDateTime(Py_TYPE(self), out);
+    return status ? refuse_word(status, words, (const uint8_t[]){18, 0, 0}) : make_OffsetDateTime(Py_TYPE(self), out);
 }
 
 /* The day number that the clocks show, 0 on 1970-01-01. Refused as the date-time. */
@@ -287,7 +288,7 @@ static PyObject *date_time_day(PyObject *self, PyObject *const *words, Py_ssize_
     int32_t out;
     uint32_t status;
     (void)words;
-    if (!are(count, 0)) return NULL;
+    if (!are("day_number", count, 0)) return NULL;
     status = muxandu_date_time_day(VALUE(OffsetDateTime, self), &out);
     return status ? refuse(status) : give_int32_t(out);
 }
@@ -299,9 +300,10 @@ static PyObject *date_from_day(PyObject *self, PyObject *const *words, Py_ssize_
     int32_t word_0;
     MuxanduDate out;
     uint32_t status;
-    if (!are(count, 1) || !take_int32_t(words[0], &word_0)) return NULL;
+    if (!are("date_from_day", count, 1) || !take_int32_t(words[0], &word_0)) return NULL;
     status = muxandu_date_from_day(word_0, &out);
-    return status ? refuse(status) : Py_BuildValue("(lll)", (long)out.year, (long)out.month, (long)out.day);
+    return status ? refuse_word(status, words, (const uint8_t[]){3, 0, 4, 0, 16, 0, 0}) : Py_BuildValue("(lll)",
+            (long)out.year, (long)out.month, (long)out.day);
 }
 
 /* The day number of a date. Refused MONTH, YEAR, DAY or DAY_OF_MONTH, tested in this order. */
@@ -311,10 +313,10 @@ static PyObject *day_from_date(PyObject *self, PyObject *const *words, Py_ssize_
     MuxanduDate word_0;
     int32_t out;
     uint32_t status;
-    if (!are(count, 3) || !take_int32_t(words[0], &word_0.year) || !take_uint8_t(words[1], &word_0.month) ||
-            !take_uint8_t(words[2], &word_0.day)) return NULL;
+    if (!are("day_from_date", count, 3) || !take_int32_t(words[0], &word_0.year) || !take_uint8_t(words[1],
+            &word_0.month) || !take_uint8_t(words[2], &word_0.day)) return NULL;
     status = muxandu_day_from_date(word_0, &out);
-    return status ? refuse(status) : give_int32_t(out);
+    return status ? refuse_word(status, words, (const uint8_t[]){1, 0, 2, 1, 3, 2, 4, 2, 16, 2, 0}) : give_int32_t(out);
 }
 
 /* The year and the day of the year of a day number. Refused DAY_NUMBER. */
@@ -324,9 +326,10 @@ static PyObject *ordinal_date_from_day(PyObject *self, PyObject *const *words, P
     int32_t word_0;
     MuxanduOrdinalDate out;
     uint32_t status;
-    if (!are(count, 1) || !take_int32_t(words[0], &word_0)) return NULL;
+    if (!are("ordinal_date_from_day", count, 1) || !take_int32_t(words[0], &word_0)) return NULL;
     status = muxandu_ordinal_date_from_day(word_0, &out);
-    return status ? refuse(status) : Py_BuildValue("(ll)", (long)out.year, (long)out.ordinal);
+    return status ? refuse_word(status, words, (const uint8_t[]){3, 0, 4, 0, 16, 0, 0}) : Py_BuildValue("(ll)",
+            (long)out.year, (long)out.ordinal);
 }
 
 /* The day number of a day of a year. Refused YEAR, ORDINAL or ORDINAL_OF_YEAR, tested in this order. */
@@ -336,10 +339,10 @@ static PyObject *day_from_ordinal_date(PyObject *self, PyObject *const *words, P
     MuxanduOrdinalDate word_0;
     int32_t out;
     uint32_t status;
-    if (!are(count, 2) || !take_int32_t(words[0], &word_0.year) || !take_uint16_t(words[1], &word_0.ordinal)) return
-            NULL;
+    if (!are("day_from_ordinal_date", count, 2) || !take_int32_t(words[0], &word_0.year) || !take_uint16_t(words[1],
+            &word_0.ordinal)) return NULL;
     status = muxandu_day_from_ordinal_date(word_0, &out);
-    return status ? refuse(status) : give_int32_t(out);
+    return status ? refuse_word(status, words, (const uint8_t[]){1, 0, 5, 1, 6, 1, 0}) : give_int32_t(out);
 }
 
 /* The ISO year, the ISO week and the day of the week of a day number, of which muxandu_day_from_week_date makes the
@@ -350,9 +353,10 @@ static PyObject *week_date_from_day(PyObject *self, PyObject *const *words, Py_s
     int32_t word_0;
     MuxanduWeekDate out;
     uint32_t status;
-    if (!are(count, 1) || !take_int32_t(words[0], &word_0)) return NULL;
+    if (!are("week_date_from_day", count, 1) || !take_int32_t(words[0], &word_0)) return NULL;
     status = muxandu_week_date_from_day(word_0, &out);
-    return status ? refuse(status) : Py_BuildValue("(lll)", (long)out.year, (long)out.week, (long)out.weekday);
+    return status ? refuse_word(status, words, (const uint8_t[]){3, 0, 4, 0, 16, 0, 0}) : Py_BuildValue("(lll)",
+            (long)out.year, (long)out.week, (long)out.weekday);
 }
 
 /* The day number of an ISO week date. Refused YEAR, WEEK, WEEKDAY or WEEK_OF_YEAR, tested in this order, then RESULT
@@ -363,10 +367,10 @@ static PyObject *day_from_week_date(PyObject *self, PyObject *const *words, Py_s
     MuxanduWeekDate word_0;
     int32_t out;
     uint32_t status;
-    if (!are(count, 3) || !take_int32_t(words[0], &word_0.year) || !take_uint8_t(words[1], &word_0.week) ||
-            !take_uint8_t(words[2], &word_0.weekday)) return NULL;
+    if (!are("day_from_week_date", count, 3) || !take_int32_t(words[0], &word_0.year) || !take_uint8_t(words[1],
+            &word_0.week) || !take_uint8_t(words[2], &word_0.weekday)) return NULL;
     status = muxandu_day_from_week_date(word_0, &out);
-    return status ? refuse(status) : give_int32_t(out);
+    return status ? refuse_word(status, words, (const uint8_t[]){1, 0, 7, 1, 8, 1, 9, 2, 0}) : give_int32_t(out);
 }
 
 /* The day of the week of a day number, 0 for Monday to 6 for Sunday. Refused DAY_NUMBER. */
@@ -376,9 +380,9 @@ static PyObject *weekday_from_day(PyObject *self, PyObject *const *words, Py_ssi
     int32_t word_0;
     uint8_t out;
     uint32_t status;
-    if (!are(count, 1) || !take_int32_t(words[0], &word_0)) return NULL;
+    if (!are("weekday_from_day", count, 1) || !take_int32_t(words[0], &word_0)) return NULL;
     status = muxandu_weekday_from_day(word_0, &out);
-    return status ? refuse(status) : give_uint8_t(out);
+    return status ? refuse_word(status, words, (const uint8_t[]){3, 0, 4, 0, 16, 0, 0}) : give_uint8_t(out);
 }
 
 /* How many days a month of a year has, 28 to 31. Refused MONTH, then YEAR. */
@@ -389,9 +393,10 @@ static PyObject *days_in_month(PyObject *self, PyObject *const *words, Py_ssize_
     uint8_t word_1;
     uint8_t out;
     uint32_t status;
-    if (!are(count, 2) || !take_int32_t(words[0], &word_0) || !take_uint8_t(words[1], &word_1)) return NULL;
+    if (!are("days_in_month", count, 2) || !take_int32_t(words[0], &word_0) || !take_uint8_t(words[1], &word_1)) return
+            NULL;
     status = muxandu_days_in_month(word_0, word_1, &out);
-    return status ? refuse(status) : give_uint8_t(out);
+    return status ? refuse_word(status, words, (const uint8_t[]){1, 0, 2, 1, 0}) : give_uint8_t(out);
 }
 
 /* What clocks at an offset, in seconds, show at each Unix second, up to the first that
@@ -405,7 +410,7 @@ static PyObject *date_times_from_seconds(PyObject *self, PyObject *const *words,
     Items word_3 = {0};
     MuxanduBatch batch;
     PyObject *answer = NULL;
-    if (!are(count, 5)) return NULL;
+    if (!are("date_times_from_seconds", count, 5)) return NULL;
     if (take_items(words + 0, &word_0, 0) && take_int32_t(words[2], &word_2) && take_items(words + 3, &word_3, 1)) {
         Py_BEGIN_ALLOW_THREADS
         batch = muxandu_date_times_from_seconds(word_0.at, word_0.count, word_2, word_3.at, word_3.count);
@@ -426,7 +431,7 @@ static PyObject *seconds_from_date_times(PyObject *self, PyObject *const *words,
     Items word_2 = {0};
     MuxanduBatch batch;
     PyObject *answer = NULL;
-    if (!are(count, 4)) return NULL;
+    if (!are("seconds_from_date_times", count, 4)) return NULL;
     if (take_items(words + 0, &word_0, 0) && take_items(words + 2, &word_2, 1)) {
         Py_BEGIN_ALLOW_THREADS
         batch = muxandu_seconds_from_date_times(word_0.at, word_0.count, word_2.at, word_2.count);
@@ -447,7 +452,7 @@ static PyObject *dates_from_days(PyObject *self, PyObject *const *words, Py_ssiz
     Items word_2 = {0};
     MuxanduBatch batch;
     PyObject *answer = NULL;
-    if (!are(count, 4)) return NULL;
+    if (!are("dates_from_days", count, 4)) return NULL;
     if (take_items(words + 0, &word_0, 0) && take_items(words + 2, &word_2, 1)) {
         Py_BEGIN_ALLOW_THREADS
         batch = muxandu_dates_from_days(word_0.at, word_0.count, word_2.at, word_2.count);
@@ -468,7 +473,7 @@ static PyObject *days_from_dates(PyObject *self, PyObject *const *words, Py_ssiz
     Items word_2 = {0};
     MuxanduBatch batch;
     PyObject *answer = NULL;
-    if (!are(count, 4)) return NULL;
+    if (!are("days_from_dates", count, 4)) return NULL;
     if (take_items(words + 0, &word_0, 0) && take_items(words + 2, &word_2, 1)) {
         Py_BEGIN_ALLOW_THREADS
         batch = muxandu_days_from_dates(word_0.at, word_0.count, word_2.at, word_2.count);
@@ -491,7 +496,7 @@ static PyObject *timestamps_from_rfc3339(PyObject *self, PyObject *const *words,
     Items word_4 = {0};
     MuxanduBatch batch;
     PyObject *answer = NULL;
-    if (!are(count, 6)) return NULL;
+    if (!are("timestamps_from_rfc3339", count, 6)) return NULL;
     if (take_items(words + 0, &word_0, 0) && take_items(words + 2, &word_2, 0) && take_items(words + 4, &word_4, 1)) {
         Py_BEGIN_ALLOW_THREADS
         batch = muxandu_timestamps_from_rfc3339(word_0.at, word_0.count, word_2.at, word_2.count, word_4.at,
@@ -515,7 +520,7 @@ static PyObject *time_check(PyObject *self, PyObject *const *words, Py_ssize_t c
     uint8_t word_2;
     uint32_t word_3;
     uint32_t out;
-    if (!are(count, 4) || !take_uint8_t(words[0], &word_0) || !take_uint8_t(words[1], &word_1) ||
+    if (!are("time_check", count, 4) || !take_uint8_t(words[0], &word_0) || !take_uint8_t(words[1], &word_1) ||
             !take_uint8_t(words[2], &word_2) || !take_uint32_t(words[3], &word_3)) return NULL;
     out = muxandu_time_check(word_0, word_1, word_2, word_3);
     return give_uint32_t(out);
@@ -529,10 +534,11 @@ static PyObject *date_add_days(PyObject *self, PyObject *const *words, Py_ssize_
     int32_t word_3;
     MuxanduDate out;
     uint32_t status;
-    if (!are(count, 4) || !take_int32_t(words[0], &word_0.year) || !take_uint8_t(words[1], &word_0.month) ||
-            !take_uint8_t(words[2], &word_0.day) || !take_int32_t(words[3], &word_3)) return NULL;
+    if (!are("date_add_days", count, 4) || !take_int32_t(words[0], &word_0.year) || !take_uint8_t(words[1],
+            &word_0.month) || !take_uint8_t(words[2], &word_0.day) || !take_int32_t(words[3], &word_3)) return NULL;
     status = muxandu_date_add_days(word_0, word_3, &out);
-    return status ? refuse(status) : Py_BuildValue("(lll)", (long)out.year, (long)out.month, (long)out.day);
+    return status ? refuse_word(status, words, (const uint8_t[]){1, 0, 2, 1, 3, 2, 4, 2, 16, 2, 0}) :
+            Py_BuildValue("(lll)", (long)out.year, (long)out.month, (long)out.day);
 }
 
 /* The same day of the month so many months later, or earlier for a negative count, or the month's last day where it
@@ -544,10 +550,11 @@ static PyObject *date_add_months(PyObject *self, PyObject *const *words, Py_ssiz
     int32_t word_3;
     MuxanduDate out;
     uint32_t status;
-    if (!are(count, 4) || !take_int32_t(words[0], &word_0.year) || !take_uint8_t(words[1], &word_0.month) ||
-            !take_uint8_t(words[2], &word_0.day) || !take_int32_t(words[3], &word_3)) return NULL;
+    if (!are("date_add_months", count, 4) || !take_int32_t(words[0], &word_0.year) || !take_uint8_t(words[1],
+            &word_0.month) || !take_uint8_t(words[2], &word_0.day) || !take_int32_t(words[3], &word_3)) return NULL;
     status = muxandu_date_add_months(word_0, word_3, &out);
-    return status ? refuse(status) : Py_BuildValue("(lll)", (long)out.year, (long)out.month, (long)out.day);
+    return status ? refuse_word(status, words, (const uint8_t[]){1, 0, 2, 1, 3, 2, 4, 2, 16, 2, 0}) :
+            Py_BuildValue("(lll)", (long)out.year, (long)out.month, (long)out.day);
 }
 
 /* Writes the text of a date, as RFC 3339 has a full date, '1985-04-12', of 10 bytes, as muxandu_date_time_text does.
@@ -559,10 +566,11 @@ static PyObject *date_to_rfc3339(PyObject *self, PyObject *const *words, Py_ssiz
     char text[MUXANDU_TEXT_ROOM];
     size_t size;
     uint32_t status;
-    if (!are(count, 3) || !take_int32_t(words[0], &word_0.year) || !take_uint8_t(words[1], &word_0.month) ||
-            !take_uint8_t(words[2], &word_0.day)) return NULL;
+    if (!are("date_to_rfc3339", count, 3) || !take_int32_t(words[0], &word_0.year) || !take_uint8_t(words[1],
+            &word_0.month) || !take_uint8_t(words[2], &word_0.day)) return NULL;
     status = muxandu_date_to_rfc3339(word_0, text, sizeof text, &size);
-    return status ? refuse(status) : PyUnicode_DecodeASCII(text, (Py_ssize_t)size, NULL);
+    return status ? refuse_word(status, words, (const uint8_t[]){1, 0, 2, 1, 3, 2, 4, 2, 16, 2, 0}) :
+            PyUnicode_DecodeASCII(text, (Py_ssize_t)size, NULL);
 }
 
 /* Reads a date from a text of RFC 3339, with nothing before or after it, as '1985-04-12'. Refused SYNTAX where it
@@ -573,10 +581,13 @@ static PyObject *date_from_rfc3339(PyObject *self, PyObject *const *words, Py_ss
     Text word_0;
     MuxanduDate out;
     uint32_t status;
-    if (!are(count, 1) || !take_text(words[0], &word_0)) return NULL;
+    PyObject *answer;
+    if (!are("date_from_rfc3339", count, 1) || !take_text(words[0], &word_0)) return NULL;
     status = muxandu_date_from_rfc3339(word_0.bytes, word_0.size, &out);
+    answer = status ? refuse_text(status, &word_0, words[0], 0) : Py_BuildValue("(lll)", (long)out.year,
+            (long)out.month, (long)out.day);
     drop_text(&word_0);
-    return status ? refuse(status) : Py_BuildValue("(lll)", (long)out.year, (long)out.month, (long)out.day);
+    return answer;
 }
 
 /* Writes the text of RFC 3339 of a date-time with so many digits of the fraction, 0 to 9, and nine where more are
@@ -588,7 +599,7 @@ static PyObject *date_time_to_rfc3339_digits(PyObject *self, PyObject *const *wo
     char text[MUXANDU_TEXT_ROOM];
     size_t size;
     uint32_t status;
-    if (!are(count, 1) || !take_uint8_t(words[0], &word_0)) return NULL;
+    if (!are("to_rfc3339_digits", count, 1) || !take_uint8_t(words[0], &word_0)) return NULL;
     status = muxandu_date_time_to_rfc3339_digits(VALUE(OffsetDateTime, self), word_0, text, sizeof text, &size);
     return status ? refuse(status) : PyUnicode_DecodeASCII(text, (Py_ssize_t)size, NULL);
 }
@@ -606,7 +617,7 @@ static PyObject *date_times_from_each_second(PyObject *self, PyObject *const *wo
     Items word_5 = {0};
     MuxanduBatch batch;
     PyObject *answer = NULL;
-    if (!are(count, 7)) return NULL;
+    if (!are("date_times_from_each_second", count, 7)) return NULL;
     if (take_items(words + 0, &word_0, 0) && take_int32_t(words[2], &word_2) && take_items(words + 3, &word_3, 1) &&
             take_items(words + 5, &word_5, 1)) {
         Py_BEGIN_ALLOW_THREADS
@@ -632,7 +643,7 @@ static PyObject *seconds_from_each_date_time(PyObject *self, PyObject *const *wo
     Items word_4 = {0};
     MuxanduBatch batch;
     PyObject *answer = NULL;
-    if (!are(count, 6)) return NULL;
+    if (!are("seconds_from_each_date_time", count, 6)) return NULL;
     if (take_items(words + 0, &word_0, 0) && take_items(words + 2, &word_2, 1) && take_items(words + 4, &word_4, 1)) {
         Py_BEGIN_ALLOW_THREADS
         batch = muxandu_seconds_from_each_date_time(word_0.at, word_0.count, word_2.at, word_2.count, word_4.at,
@@ -654,7 +665,7 @@ static PyObject *date_time_to_rfc3339(PyObject *self, PyObject *const *words, Py
     size_t size;
     uint32_t status;
     (void)words;
-    if (!are(count, 0)) return NULL;
+    if (!are("to_rfc3339", count, 0)) return NULL;
     status = muxandu_date_time_to_rfc3339(VALUE(OffsetDateTime, self), text, sizeof text, &size);
     return status ? refuse(status) : PyUnicode_DecodeASCII(text, (Py_ssize_t)size, NULL);
 }
@@ -667,7 +678,7 @@ static PyObject *timestamp_to_rfc3339(PyObject *self, PyObject *const *words, Py
     size_t size;
     uint32_t status;
     (void)words;
-    if (!are(count, 0)) return NULL;
+    if (!are("to_rfc3339", count, 0)) return NULL;
     status = muxandu_timestamp_to_rfc3339(VALUE(Timestamp, self), text, sizeof text, &size);
     return status ? refuse(status) : PyUnicode_DecodeASCII(text, (Py_ssize_t)size, NULL);
 }
@@ -681,7 +692,7 @@ static PyObject *timestamp_to_rfc3339_nanos(PyObject *self, PyObject *const *wor
     size_t size;
     uint32_t status;
     (void)words;
-    if (!are(count, 0)) return NULL;
+    if (!are("to_rfc3339_nanos", count, 0)) return NULL;
     status = muxandu_timestamp_to_rfc3339_nanos(VALUE(Timestamp, self), text, sizeof text, &size);
     return status ? refuse(status) : PyUnicode_DecodeASCII(text, (Py_ssize_t)size, NULL);
 }
@@ -696,10 +707,12 @@ static PyObject *date_time_from_rfc3339(PyObject *self, PyObject *const *words, 
     Text word_0;
     MuxanduDateTime out;
     uint32_t status;
-    if (!are(count, 1) || !take_text(words[0], &word_0)) return NULL;
+    PyObject *answer;
+    if (!are("from_rfc3339", count, 1) || !take_text(words[0], &word_0)) return NULL;
     status = muxandu_date_time_from_rfc3339(word_0.bytes, word_0.size, &out);
+    answer = status ? refuse_text(status, &word_0, words[0], 1) : make_OffsetDateTime((PyTypeObject *)self, out);
     drop_text(&word_0);
-    return status ? refuse(status) : make_OffsetDateTime((PyTypeObject *)self, out);
+    return answer;
 }
 
 /* Reads the instant of a text of RFC 3339, as muxandu_date_time_from_rfc3339 does, and with its refusals. */
@@ -708,10 +721,12 @@ static PyObject *timestamp_from_rfc3339(PyObject *self, PyObject *const *words, 
     Text word_0;
     MuxanduTimestamp out;
     uint32_t status;
-    if (!are(count, 1) || !take_text(words[0], &word_0)) return NULL;
+    PyObject *answer;
+    if (!are("from_rfc3339", count, 1) || !take_text(words[0], &word_0)) return NULL;
     status = muxandu_timestamp_from_rfc3339(word_0.bytes, word_0.size, &out);
+    answer = status ? refuse_text(status, &word_0, words[0], 1) : make_Timestamp((PyTypeObject *)self, out);
     drop_text(&word_0);
-    return status ? refuse(status) : make_Timestamp((PyTypeObject *)self, out);
+    return answer;
 }
 
 /* Reads the date-time that a text of RFC 3339 begins with, and its offset, as muxandu_date_time_from_rfc3339 does,
@@ -723,11 +738,13 @@ static PyObject *date_time_from_rfc3339_front(PyObject *self, PyObject *const *w
     MuxanduDateTime out;
     size_t beside;
     uint32_t status;
-    if (!are(count, 1) || !take_text(words[0], &word_0)) return NULL;
+    PyObject *answer;
+    if (!are("from_rfc3339_front", count, 1) || !take_text(words[0], &word_0)) return NULL;
     status = muxandu_date_time_from_rfc3339_front(word_0.bytes, word_0.size, &out, &beside);
+    answer = status ? refuse_text(status, &word_0, words[0], 1) : Py_BuildValue("(NN)",
+            make_OffsetDateTime((PyTypeObject *)self, out), give_size_t(beside));
     drop_text(&word_0);
-    return status ? refuse(status) : Py_BuildValue("(NN)", make_OffsetDateTime((PyTypeObject *)self, out),
-            give_size_t(beside));
+    return answer;
 }
 
 /* The place of the fault in a text that is refused SYNTAX, counted from 0: of '1985-04-12_23:20:50Z' it is 10. There
@@ -738,7 +755,7 @@ static PyObject *rfc3339_fault(PyObject *self, PyObject *const *words, Py_ssize_
     (void)self;
     Text word_0;
     size_t out;
-    if (!are(count, 1) || !take_text(words[0], &word_0)) return NULL;
+    if (!are("rfc3339_fault", count, 1) || !take_text(words[0], &word_0)) return NULL;
     out = muxandu_rfc3339_fault(word_0.bytes, word_0.size);
     drop_text(&word_0);
     return give_size_t(out);
@@ -755,11 +772,13 @@ static PyObject *date_time_from_rfc3339_leap(PyObject *self, PyObject *const *wo
     MuxanduDateTime out;
     uint8_t beside;
     uint32_t status;
-    if (!are(count, 1) || !take_text(words[0], &word_0)) return NULL;
+    PyObject *answer;
+    if (!are("from_rfc3339_leap", count, 1) || !take_text(words[0], &word_0)) return NULL;
     status = muxandu_date_time_from_rfc3339_leap(word_0.bytes, word_0.size, &out, &beside);
+    answer = status ? refuse_text(status, &word_0, words[0], 1) : Py_BuildValue("(NN)",
+            make_OffsetDateTime((PyTypeObject *)self, out), give_uint8_t(beside));
     drop_text(&word_0);
-    return status ? refuse(status) : Py_BuildValue("(NN)", make_OffsetDateTime((PyTypeObject *)self, out),
-            give_uint8_t(beside));
+    return answer;
 }
 
 /* The seconds of an offset of hours, minutes and seconds, of which the smaller take the sign of the hours, or of the
@@ -771,10 +790,10 @@ static PyObject *offset_from_parts(PyObject *self, PyObject *const *words, Py_ss
     MuxanduOffset word_0;
     int32_t out;
     uint32_t status;
-    if (!are(count, 3) || !take_int8_t(words[0], &word_0.hours) || !take_int8_t(words[1], &word_0.minutes) ||
-            !take_int8_t(words[2], &word_0.seconds)) return NULL;
+    if (!are("offset_from_parts", count, 3) || !take_int8_t(words[0], &word_0.hours) || !take_int8_t(words[1],
+            &word_0.minutes) || !take_int8_t(words[2], &word_0.seconds)) return NULL;
     status = muxandu_offset_from_parts(word_0, &out);
-    return status ? refuse(status) : give_int32_t(out);
+    return status ? refuse_word(status, words, (const uint8_t[]){14, 2, 15, 2, 23, 0, 24, 1, 0}) : give_int32_t(out);
 }
 
 /* The hours, the minutes and the seconds of an offset in seconds, all of one sign. Refused OFFSET_SECONDS. */
@@ -784,9 +803,10 @@ static PyObject *offset_to_parts(PyObject *self, PyObject *const *words, Py_ssiz
     int32_t word_0;
     MuxanduOffset out;
     uint32_t status;
-    if (!are(count, 1) || !take_int32_t(words[0], &word_0)) return NULL;
+    if (!are("offset_to_parts", count, 1) || !take_offset(words[0], &word_0)) return NULL;
     status = muxandu_offset_to_parts(word_0, &out);
-    return status ? refuse(status) : Py_BuildValue("(lll)", (long)out.hours, (long)out.minutes, (long)out.seconds);
+    return status ? refuse_word(status, words, (const uint8_t[]){14, 0, 0}) : Py_BuildValue("(lll)", (long)out.hours,
+            (long)out.minutes, (long)out.seconds);
 }
 
 /* All that a date shows: its day number and Julian day, its day of the year and of the week, and its weeks by ISO
@@ -797,12 +817,12 @@ static PyObject *date_reads(PyObject *self, PyObject *const *words, Py_ssize_t c
     MuxanduDate word_0;
     MuxanduDateReads out;
     uint32_t status;
-    if (!are(count, 3) || !take_int32_t(words[0], &word_0.year) || !take_uint8_t(words[1], &word_0.month) ||
-            !take_uint8_t(words[2], &word_0.day)) return NULL;
+    if (!are("date_reads", count, 3) || !take_int32_t(words[0], &word_0.year) || !take_uint8_t(words[1], &word_0.month)
+            || !take_uint8_t(words[2], &word_0.day)) return NULL;
     status = muxandu_date_reads(word_0, &out);
-    return status ? refuse(status) : Py_BuildValue("(llllllll)", (long)out.day, (long)out.julian_day,
-            (long)out.iso_year, (long)out.ordinal, (long)out.iso_week, (long)out.weekday, (long)out.sunday_based_week,
-            (long)out.monday_based_week);
+    return status ? refuse_word(status, words, (const uint8_t[]){1, 0, 2, 1, 3, 2, 4, 2, 16, 2, 0}) :
+            Py_BuildValue("(llllllll)", (long)out.day, (long)out.julian_day, (long)out.iso_year, (long)out.ordinal,
+            (long)out.iso_week, (long)out.weekday, (long)out.sunday_based_week, (long)out.monday_based_week);
 }
 
 /* The date of a Julian day, which is 2440588 on 1970-01-01. Refused DAY_NUMBER where the range has no such day. */
@@ -812,9 +832,10 @@ static PyObject *date_from_julian_day(PyObject *self, PyObject *const *words, Py
     int32_t word_0;
     MuxanduDate out;
     uint32_t status;
-    if (!are(count, 1) || !take_int32_t(words[0], &word_0)) return NULL;
+    if (!are("date_from_julian_day", count, 1) || !take_int32_t(words[0], &word_0)) return NULL;
     status = muxandu_date_from_julian_day(word_0, &out);
-    return status ? refuse(status) : Py_BuildValue("(lll)", (long)out.year, (long)out.month, (long)out.day);
+    return status ? refuse_word(status, words, (const uint8_t[]){16, 0, 0}) : Py_BuildValue("(lll)", (long)out.year,
+            (long)out.month, (long)out.day);
 }
 
 /* The date-time with one part replaced, and the others and the offset kept; a day of the year replaces the month and
@@ -826,9 +847,11 @@ static PyObject *date_time_replace(PyObject *self, PyObject *const *words, Py_ss
     int32_t word_1;
     MuxanduDateTime out;
     uint32_t status;
-    if (!are(count, 2) || !take_uint32_t(words[0], &word_0) || !take_int32_t(words[1], &word_1)) return NULL;
+    if (!are("with_part", count, 2) || !take_uint32_t(words[0], &word_0) || !take_int32_t(words[1], &word_1)) return
+            NULL;
     status = muxandu_date_time_replace(VALUE(OffsetDateTime, self), word_0, word_1, &out);
-    return status ? refuse(status) : make_OffsetDateTime(Py_TYPE(self), out);
+    return status ? refuse_word(status, words, (const uint8_t[]){1, 1, 2, 1, 3, 1, 4, 1, 5, 1, 6, 1, 10, 1, 11, 1, 12,
+            1, 13, 1, 18, 0, 0}) : make_OffsetDateTime(Py_TYPE(self), out);
 }
 
 /* The instant with one part of its date or of its time of day in UTC replaced, and the others kept, as
@@ -839,9 +862,11 @@ static PyObject *timestamp_replace(PyObject *self, PyObject *const *words, Py_ss
     int32_t word_1;
     MuxanduTimestamp out;
     uint32_t status;
-    if (!are(count, 2) || !take_uint32_t(words[0], &word_0) || !take_int32_t(words[1], &word_1)) return NULL;
+    if (!are("with_part", count, 2) || !take_uint32_t(words[0], &word_0) || !take_int32_t(words[1], &word_1)) return
+            NULL;
     status = muxandu_timestamp_replace(VALUE(Timestamp, self), word_0, word_1, &out);
-    return status ? refuse(status) : make_Timestamp(Py_TYPE(self), out);
+    return status ? refuse_word(status, words, (const uint8_t[]){1, 1, 2, 1, 3, 1, 4, 1, 5, 1, 6, 1, 10, 1, 11, 1, 12,
+            1, 13, 1, 18, 0, 0}) : make_Timestamp(Py_TYPE(self), out);
 }
 
 /* What clocks at an offset, in seconds, show so many milliseconds from 1970-01-01 0:00 UTC, for each count, up to
@@ -855,7 +880,7 @@ static PyObject *date_times_from_milliseconds(PyObject *self, PyObject *const *w
     Items word_3 = {0};
     MuxanduBatch batch;
     PyObject *answer = NULL;
-    if (!are(count, 5)) return NULL;
+    if (!are("date_times_from_milliseconds", count, 5)) return NULL;
     if (take_items(words + 0, &word_0, 0) && take_int32_t(words[2], &word_2) && take_items(words + 3, &word_3, 1)) {
         Py_BEGIN_ALLOW_THREADS
         batch = muxandu_date_times_from_milliseconds(word_0.at, word_0.count, word_2, word_3.at, word_3.count);
@@ -877,7 +902,7 @@ static PyObject *milliseconds_from_date_times(PyObject *self, PyObject *const *w
     Items word_2 = {0};
     MuxanduBatch batch;
     PyObject *answer = NULL;
-    if (!are(count, 4)) return NULL;
+    if (!are("milliseconds_from_date_times", count, 4)) return NULL;
     if (take_items(words + 0, &word_0, 0) && take_items(words + 2, &word_2, 1)) {
         Py_BEGIN_ALLOW_THREADS
         batch = muxandu_milliseconds_from_date_times(word_0.at, word_0.count, word_2.at, word_2.count);
@@ -900,7 +925,7 @@ static PyObject *date_times_from_microseconds(PyObject *self, PyObject *const *w
     Items word_3 = {0};
     MuxanduBatch batch;
     PyObject *answer = NULL;
-    if (!are(count, 5)) return NULL;
+    if (!are("date_times_from_microseconds", count, 5)) return NULL;
     if (take_items(words + 0, &word_0, 0) && take_int32_t(words[2], &word_2) && take_items(words + 3, &word_3, 1)) {
         Py_BEGIN_ALLOW_THREADS
         batch = muxandu_date_times_from_microseconds(word_0.at, word_0.count, word_2, word_3.at, word_3.count);
@@ -922,7 +947,7 @@ static PyObject *microseconds_from_date_times(PyObject *self, PyObject *const *w
     Items word_2 = {0};
     MuxanduBatch batch;
     PyObject *answer = NULL;
-    if (!are(count, 4)) return NULL;
+    if (!are("microseconds_from_date_times", count, 4)) return NULL;
     if (take_items(words + 0, &word_0, 0) && take_items(words + 2, &word_2, 1)) {
         Py_BEGIN_ALLOW_THREADS
         batch = muxandu_microseconds_from_date_times(word_0.at, word_0.count, word_2.at, word_2.count);
@@ -945,7 +970,7 @@ static PyObject *date_times_from_nanoseconds(PyObject *self, PyObject *const *wo
     Items word_3 = {0};
     MuxanduBatch batch;
     PyObject *answer = NULL;
-    if (!are(count, 5)) return NULL;
+    if (!are("date_times_from_nanoseconds", count, 5)) return NULL;
     if (take_items(words + 0, &word_0, 0) && take_int32_t(words[2], &word_2) && take_items(words + 3, &word_3, 1)) {
         Py_BEGIN_ALLOW_THREADS
         batch = muxandu_date_times_from_nanoseconds(word_0.at, word_0.count, word_2, word_3.at, word_3.count);
@@ -967,7 +992,7 @@ static PyObject *nanoseconds_from_date_times(PyObject *self, PyObject *const *wo
     Items word_2 = {0};
     MuxanduBatch batch;
     PyObject *answer = NULL;
-    if (!are(count, 4)) return NULL;
+    if (!are("nanoseconds_from_date_times", count, 4)) return NULL;
     if (take_items(words + 0, &word_0, 0) && take_items(words + 2, &word_2, 1)) {
         Py_BEGIN_ALLOW_THREADS
         batch = muxandu_nanoseconds_from_date_times(word_0.at, word_0.count, word_2.at, word_2.count);
@@ -990,7 +1015,7 @@ static PyObject *date_times_from_rfc3339(PyObject *self, PyObject *const *words,
     Items word_4 = {0};
     MuxanduBatch batch;
     PyObject *answer = NULL;
-    if (!are(count, 6)) return NULL;
+    if (!are("date_times_from_rfc3339", count, 6)) return NULL;
     if (take_items(words + 0, &word_0, 0) && take_items(words + 2, &word_2, 0) && take_items(words + 4, &word_4, 1)) {
         Py_BEGIN_ALLOW_THREADS
         batch = muxandu_date_times_from_rfc3339(word_0.at, word_0.count, word_2.at, word_2.count, word_4.at,
@@ -1017,7 +1042,7 @@ static PyObject *date_times_from_each_rfc3339(PyObject *self, PyObject *const *w
     Items word_6 = {0};
     MuxanduBatch batch;
     PyObject *answer = NULL;
-    if (!are(count, 8)) return NULL;
+    if (!are("date_times_from_each_rfc3339", count, 8)) return NULL;
     if (take_items(words + 0, &word_0, 0) && take_items(words + 2, &word_2, 0) && take_items(words + 4, &word_4, 1) &&
             take_items(words + 6, &word_6, 1)) {
         Py_BEGIN_ALLOW_THREADS
@@ -1044,7 +1069,7 @@ static PyObject *date_times_to_rfc3339(PyObject *self, PyObject *const *words, P
     Items word_4 = {0};
     MuxanduBatch batch;
     PyObject *answer = NULL;
-    if (!are(count, 6)) return NULL;
+    if (!are("date_times_to_rfc3339", count, 6)) return NULL;
     if (take_items(words + 0, &word_0, 0) && take_items(words + 2, &word_2, 1) && take_items(words + 4, &word_4, 1)) {
         Py_BEGIN_ALLOW_THREADS
         batch = muxandu_date_times_to_rfc3339(word_0.at, word_0.count, word_2.at, word_2.count, word_4.at,
@@ -1067,7 +1092,7 @@ static PyObject *date_time_text(PyObject *self, PyObject *const *words, Py_ssize
     size_t size;
     uint32_t status;
     (void)words;
-    if (!are(count, 0)) return NULL;
+    if (!are("date_time_text", count, 0)) return NULL;
     status = muxandu_date_time_text(VALUE(OffsetDateTime, self), text, sizeof text, &size);
     return status ? refuse(status) : PyUnicode_DecodeASCII(text, (Py_ssize_t)size, NULL);
 }
@@ -1080,7 +1105,7 @@ static PyObject *timestamp_text(PyObject *self, PyObject *const *words, Py_ssize
     size_t size;
     uint32_t status;
     (void)words;
-    if (!are(count, 0)) return NULL;
+    if (!are("timestamp_text", count, 0)) return NULL;
     status = muxandu_timestamp_text(VALUE(Timestamp, self), text, sizeof text, &size);
     return status ? refuse(status) : PyUnicode_DecodeASCII(text, (Py_ssize_t)size, NULL);
 }
@@ -1112,10 +1137,10 @@ static PyMemberDef Duration_members[] = {
 static PyMethodDef Timestamp_methods[] = {
     {"from_rfc3339", FUNCTION(timestamp_from_rfc3339), METH_FASTCALL | METH_CLASS,
      "from_rfc3339($type, text, /)\n--\n\n"
-     "Reads the instant of a text of RFC 3339, as muxandu_date_time_from_rfc3339 does, and with its refusals."},
+     "The instant of a text of RFC 3339, as 1985-04-12T23:20:50.52Z or 1996-12-19T16:39:57-08:00, a str or bytes. Digits past the ninth of the fraction are dropped. RefusedSyntax where the text does not have that form, else the class of the first part that is out of range, as RefusedMonth."},
     {"from_milliseconds", FUNCTION(timestamp_from_milliseconds), METH_FASTCALL | METH_CLASS,
      "from_milliseconds($type, milliseconds, /)\n--\n\n"
-     "The instant so many milliseconds from 1970-01-01 0:00 UTC. Refused TIMESTAMP outside the range."},
+     "The instant that is a number of milliseconds from 1970-01-01 0:00 UTC. RefusedTimestamp outside the range."},
     {"_from_microseconds", FUNCTION(timestamp_from_microseconds), METH_FASTCALL | METH_CLASS,
      "_from_microseconds($type, microseconds, /)\n--\n\n"
      "The instant so many microseconds from 1970-01-01 0:00 UTC. It is always in the range."},
@@ -1124,7 +1149,7 @@ static PyMethodDef Timestamp_methods[] = {
      "The instant so many nanoseconds from 1970-01-01 0:00 UTC. It is always in the range."},
     {"as_milliseconds", FUNCTION(timestamp_to_milliseconds), METH_FASTCALL,
      "as_milliseconds($self, /)\n--\n\n"
-     "The whole milliseconds from 1970-01-01 0:00 UTC, rounded down. Refused as the timestamp."},
+     "The milliseconds from 1970-01-01 0:00 UTC, rounded down."},
     {"_as_microseconds", FUNCTION(timestamp_to_microseconds), METH_FASTCALL,
      "_as_microseconds($self, /)\n--\n\n"
      "The whole microseconds from 1970-01-01 0:00 UTC, rounded down. Refused as the timestamp, then RESULT where 64 bits do not hold them, as before -290308-12-21 and after 294247-01-10."},
@@ -1133,25 +1158,25 @@ static PyMethodDef Timestamp_methods[] = {
      "The nanoseconds from 1970-01-01 0:00 UTC. Refused as the timestamp, then RESULT where 64 bits do not hold them, as before 1677-09-21 and after 2262-04-11."},
     {"saturating_add", FUNCTION(timestamp_saturating_add), METH_FASTCALL,
      "saturating_add($self, duration, /)\n--\n\n"
-     "The instant so much later, or the end of the range that it is beyond. Refused as the timestamp, then DURATION."},
+     "The instant later by a Duration or a timedelta, or the end of the range. It never raises RefusedResult."},
     {"saturating_sub", FUNCTION(timestamp_saturating_subtract), METH_FASTCALL,
      "saturating_sub($self, duration, /)\n--\n\n"
-     "The instant so much earlier, or the end of the range that it is beyond. Refused as the timestamp, then DURATION."},
+     "The instant earlier by a Duration or a timedelta, or the end of the range. It never raises RefusedResult."},
     {"truncated_to", FUNCTION(timestamp_truncate), METH_FASTCALL,
      "truncated_to($self, unit, /)\n--\n\n"
-     "The instant rounded down to a unit in UTC, before 1970 too. Refused as the timestamp, then UNIT."},
+     "The instant rounded down to a Unit in UTC, before 1970 too. RefusedUnit where it is no unit."},
     {"with_part", FUNCTION(timestamp_replace), METH_FASTCALL,
      "with_part($self, part, value, /)\n--\n\n"
-     "The instant with one part of its date or of its time of day in UTC replaced, and the others kept, as muxandu_date_time_replace does. Refused as the timestamp, then as that call refuses."},
+     "The instant with one Part of its date or time of day in UTC replaced. RefusedUnit where it is no part, else the class of the part, as RefusedHour."},
     {"to_offset", FUNCTION(date_time_from_timestamp), METH_FASTCALL,
      "to_offset($self, offset_seconds, /)\n--\n\n"
-     "What clocks at an offset, in seconds, show at an instant. Refused as the timestamp, then OFFSET_SECONDS, then RESULT where the clocks show a year outside the range."},
+     "What clocks at an offset show at the instant. The offset is whole seconds or a UtcOffset. RefusedOffsetSeconds outside -93599 to 93599, RefusedResult where the clocks show a year outside the range."},
     {"to_rfc3339", FUNCTION(timestamp_to_rfc3339), METH_FASTCALL,
      "to_rfc3339($self, /)\n--\n\n"
-     "Writes the shortest text of RFC 3339 of an instant, in UTC, as `1985-04-12T23:20:50.52Z`, of at most 30 bytes, as muxandu_date_time_text does. Refused as the timestamp, then NO_TEXT, then BUFFER."},
+     "The shortest text of RFC 3339 in UTC, as 1985-04-12T23:20:50.52Z. RefusedNoText outside the years 0 to 9999."},
     {"to_rfc3339_nanos", FUNCTION(timestamp_to_rfc3339_nanos), METH_FASTCALL,
      "to_rfc3339_nanos($self, /)\n--\n\n"
-     "Writes the text of RFC 3339 of an instant, in UTC, always with nine digits of the fraction, as `1985-04-12T23:20:50.520000000Z`, of 30 bytes, as muxandu_date_time_text does. Such texts are in the order of their instants, byte by byte. Refused as the timestamp, then NO_TEXT, then BUFFER."},
+     "The text of RFC 3339 in UTC with nine digits of the fraction, as 1985-04-12T23:20:50.520000000Z. Such texts sort by their instants. RefusedNoText outside the years 0 to 9999."},
     MORE_METHODS_OF_Timestamp
     {0}
 };
@@ -1159,40 +1184,40 @@ static PyMethodDef Timestamp_methods[] = {
 static PyMethodDef OffsetDateTime_methods[] = {
     {"from_rfc3339", FUNCTION(date_time_from_rfc3339), METH_FASTCALL | METH_CLASS,
      "from_rfc3339($type, text, /)\n--\n\n"
-     "Reads a date-time and its offset from a text of RFC 3339, with nothing before or after it, as `1985-04-12T23:20:50.52Z` or `1996-12-19T16:39:57-08:00`. A `t` or a space can stand for the `T`, and `z` for the `Z`; digits past the ninth of the fraction are dropped; `-00:00` is the offset 0. Refused SYNTAX where it has not that form, else MONTH, DAY or DAY_OF_MONTH, HOUR, MINUTE, SECOND, OFFSET_HOUR or OFFSET_MINUTE, by the first from the left that is out of its range."},
+     "The date-time and its offset of a text of RFC 3339, as 1985-04-12T23:20:50.52Z or 1996-12-19T16:39:57-08:00, a str or bytes. Digits past the ninth of the fraction are dropped. RefusedSyntax where the text does not have that form, else the class of the first part that is out of range, as RefusedMonth."},
     {"from_rfc3339_front", FUNCTION(date_time_from_rfc3339_front), METH_FASTCALL | METH_CLASS,
      "from_rfc3339_front($type, text, /)\n--\n\n"
-     "Reads the date-time that a text of RFC 3339 begins with, and its offset, as muxandu_date_time_from_rfc3339 does, and writes the number of its bytes to `size`: of `1985-04-12T23:20:50.52Z done` it is 23. Refused SYNTAX where no beginning of the text has that form, else as that call."},
+     "The date-time at the front of a text, as from_rfc3339 reads it, and the number of its bytes."},
     {"from_rfc3339_leap", FUNCTION(date_time_from_rfc3339_leap), METH_FASTCALL | METH_CLASS,
      "from_rfc3339_leap($type, text, /)\n--\n\n"
-     "Reads a date-time and its offset as muxandu_date_time_from_rfc3339 does, and one whose second is 60 too, as `2016-12-31T23:59:60Z`. A leap second can be the last second of a month in UTC alone. It is read as the last nanosecond before the next month, whatever its fraction; then `is_leap` is 1, and else 0. What is read is in the order of what was written. Refused as that call refuses, SECOND above 60; and SECOND where all parts are in their ranges and no month ends with the second of 60."},
+     "Reads a date-time and its offset as from_rfc3339 does, and one whose second is 60 too, as 2016-12-31T23:59:60Z. A leap second can be the last second of a month in UTC alone. It is read as the last nanosecond before the next month, whatever its fraction; then is_leap is 1, and else 0. What is read is in the order of what was written. Refused as that call refuses, SECOND above 60; and SECOND where all parts are in their ranges and no month ends with the second of 60."},
     {"saturating_add", FUNCTION(date_time_saturating_add), METH_FASTCALL,
      "saturating_add($self, duration, /)\n--\n\n"
-     "The date-time so much later at the same offset, or the end of the range that it is beyond. Refused as the date-time, then DURATION."},
+     "The date-time at the same offset later by a Duration or a timedelta, or the end of the range. It never raises RefusedResult."},
     {"saturating_sub", FUNCTION(date_time_saturating_subtract), METH_FASTCALL,
      "saturating_sub($self, duration, /)\n--\n\n"
-     "The date-time so much earlier at the same offset, or the end of the range that it is beyond. Refused as the date-time, then DURATION."},
+     "The date-time at the same offset earlier by a Duration or a timedelta, or the end of the range. It never raises RefusedResult."},
     {"truncated_to", FUNCTION(date_time_truncate), METH_FASTCALL,
      "truncated_to($self, unit, /)\n--\n\n"
-     "The date-time rounded down to a unit, as its clocks show it. Refused as the date-time, then UNIT."},
+     "The date-time rounded down to a Unit, as its clocks show it. RefusedUnit where it is no unit."},
     {"with_part", FUNCTION(date_time_replace), METH_FASTCALL,
      "with_part($self, part, value, /)\n--\n\n"
-     "The date-time with one part replaced, and the others and the offset kept; a day of the year replaces the month and the day. Refused as the date-time, then UNIT where the number is no part's, then YEAR, MONTH, DAY, DAY_OF_MONTH, ORDINAL, ORDINAL_OF_YEAR, HOUR, MINUTE, SECOND or NANOSECOND."},
+     "The date-time with one Part replaced; a day of the year replaces the month and the day. RefusedUnit where it is no part, else the class of the part, as RefusedHour."},
     {"to_offset", FUNCTION(date_time_to_offset), METH_FASTCALL,
      "to_offset($self, offset_seconds, /)\n--\n\n"
-     "What clocks at another offset, in seconds, show at the same instant. Refused as the date-time, then OFFSET_SECONDS, then RESULT where the clocks there show a year outside the range."},
+     "What clocks at another offset show at the same instant. The offset is whole seconds or a UtcOffset. RefusedOffsetSeconds outside -93599 to 93599, RefusedResult where the clocks show a year outside the range."},
     {"to_timestamp", FUNCTION(timestamp_from_date_time), METH_FASTCALL,
      "to_timestamp($self, /)\n--\n\n"
-     "The instant at which clocks at its offset show the date-time. Refused as the date-time, then RESULT outside the range of timestamps."},
+     "The instant. RefusedResult outside the range of timestamps."},
     {"to_rfc3339", FUNCTION(date_time_to_rfc3339), METH_FASTCALL,
      "to_rfc3339($self, /)\n--\n\n"
-     "Writes the shortest text of RFC 3339 of a date-time, as `1985-04-12T23:20:50.52Z` or `1996-12-19T16:39:57-08:00`, of at most 35 bytes, as muxandu_date_time_text does. Refused as the date-time, then NO_TEXT, then BUFFER."},
+     "The shortest text of RFC 3339, as 1996-12-19T16:39:57-08:00. RefusedNoText outside the years 0 to 9999, and where the offset has seconds or is of 24 hours or more."},
     {"to_rfc3339_digits", FUNCTION(date_time_to_rfc3339_digits), METH_FASTCALL,
      "to_rfc3339_digits($self, digits, /)\n--\n\n"
-     "Writes the text of RFC 3339 of a date-time with so many digits of the fraction, 0 to 9, and nine where more are asked for, as `1985-04-12T23:20:50.520Z` of three, of at most 35 bytes, as muxandu_date_time_text does: what lies past them is left out. Refused as the date-time, then NO_TEXT, then BUFFER."},
+     "The text of RFC 3339 with 0 to 9 digits of the fraction; further digits are left out. RefusedNoText as to_rfc3339."},
     {"day_number", FUNCTION(date_time_day), METH_FASTCALL,
      "day_number($self, /)\n--\n\n"
-     "The day number that the clocks show, 0 on 1970-01-01. Refused as the date-time."},
+     "The days from 1970-01-01 to the date that the clocks show."},
     MORE_METHODS_OF_OffsetDateTime
     {0}
 };

@@ -50,22 +50,47 @@ static PyObject *second_nanoseconds, *half_of_whole;
 /* int.__index__, which gives a whole number as Python's own. */
 static PyObject *index_of_int;
 
-/* A refusal is raised. */
-static PyObject *refuse(uint32_t status) {
+/* The class of a refusal. */
+static PyObject *class_of(uint32_t status) {
     PyObject *number = PyLong_FromUnsignedLong(status);
     PyObject *refusal = number ? PyDict_GetItemWithError(refusals, number) : NULL;
     Py_XDECREF(number);
-    if (refusal) {
-        PyErr_SetNone(refusal);
-    } else if (!PyErr_Occurred()) {
-        PyErr_Format(PyExc_SystemError, "the library refuses by %u, which has no name", status);
+    if (!refusal && !PyErr_Occurred()) {
+        PyErr_Format(PyExc_SystemError, "the library returns the status %u, which has no class", status);
     }
+    return refusal;
+}
+
+/* Raises a refusal. */
+static PyObject *refuse(uint32_t status) {
+    PyObject *refusal = class_of(status);
+    if (refusal) PyErr_SetNone(refusal);
     return NULL;
 }
 
-static int are(Py_ssize_t given, Py_ssize_t wanted) {
+/* Raises a refusal of a value, with the byte of a text at which its fault is where that is not negative. */
+static PyObject *refuse_value(uint32_t status, PyObject *value, Py_ssize_t place) {
+    PyObject *refusal = class_of(status), *made = NULL;
+    if (!refusal) return NULL;
+    made = place < 0 ? PyObject_CallFunction(refusal, "OO", Py_None, value)
+                     : PyObject_CallFunction(refusal, "OOn", Py_None, value, place);
+    if (made) PyErr_SetObject(refusal, made);
+    Py_XDECREF(made);
+    return NULL;
+}
+
+/* Raises a refusal of the word that it is of: `places` has pairs of a status and the place of its word, and 0 at the end. */
+static PyObject *refuse_word(uint32_t status, PyObject *const *words, const uint8_t *places) {
+    for (; *places; places += 2) {
+        if (*places == status && words[places[1]]) return refuse_value(status, words[places[1]], -1);
+    }
+    return refuse(status);
+}
+
+static int are(const char *name, Py_ssize_t given, Py_ssize_t wanted) {
     if (given == wanted) return 1;
-    PyErr_Format(PyExc_TypeError, "%zd arguments are taken, and %zd were given", wanted, given);
+    PyErr_Format(PyExc_TypeError, "%s() takes %zd argument%s, and %zd %s given", name, wanted, wanted == 1 ? "" : "s",
+                 given, given == 1 ? "was" : "were");
     return 0;
 }
 
@@ -98,6 +123,15 @@ TAKE(uint16_t, 0, UINT16_MAX)
 TAKE(uint32_t, 0, UINT32_MAX)
 TAKE(int32_t, INT32_MIN, INT32_MAX)
 TAKE(int64_t, INT64_MIN, INT64_MAX)
+
+/* The seconds of an offset, which are a whole number or a UtcOffset. */
+static inline int take_offset(PyObject *word, int32_t *out) {
+    if (!PyIndex_Check(word)) {
+        PyErr_Format(PyExc_TypeError, "an offset is whole seconds or a UtcOffset, not %R", Py_TYPE(word));
+        return 0;
+    }
+    return take_int32_t(word, out);
+}
 
 static inline PyObject *give_uint8_t(uint8_t number) {
     return PyLong_FromLong(number);
@@ -343,6 +377,15 @@ static inline void drop_text(Text *text) {
     Py_XDECREF(text->held);
 }
 
+/* Raises a refusal of a text, of a date-time or of something else. */
+static PyObject *refuse_text(uint32_t status, const Text *text, PyObject *word, int is_of_date_time) {
+    Py_ssize_t place = -1;
+    if (is_of_date_time && status == MUXANDU_REFUSED_SYNTAX) {
+        place = (Py_ssize_t)muxandu_rfc3339_fault(text->bytes, (size_t)text->size);
+    }
+    return refuse_value(status, word, place);
+}
+
 /* Buffers, whose items the package has tested. */
 
 typedef struct {
@@ -387,7 +430,7 @@ static PyObject *bind(PyObject *self, PyObject *const *words, Py_ssize_t count) 
                            &as_bytes};
     size_t place;
     (void)self;
-    if (!are(count, sizeof places / sizeof *places)) return NULL;
+    if (!are("bind", count, sizeof places / sizeof *places)) return NULL;
     for (place = 0; place < sizeof places / sizeof *places; place++) {
         Py_INCREF(words[place]);
         Py_XDECREF(*places[place]);
@@ -430,7 +473,7 @@ static PyObject *timestamps_from_texts(PyObject *self, PyObject *const *words, P
     Py_ssize_t done = 0, size;
     uint32_t status = 0;
     (void)self;
-    if (!are(count, 3)) return NULL;
+    if (!are("timestamps_from_texts", count, 3)) return NULL;
     size = PyList_Size(words[0]);
     if (size < 0 || !copy_texts(words[0], size) || !take_items(words + 1, &out, 1)) return NULL;
     if ((size_t)size > out.count) status = MUXANDU_REFUSED_BUFFER;
@@ -452,7 +495,7 @@ static PyObject *texts_from_timestamps(PyObject *self, PyObject *const *words, P
     uint32_t status = 0;
     size_t done;
     (void)self;
-    if (!are(count, 2) || !take_items(words, &items, 0)) return NULL;
+    if (!are("texts_from_timestamps", count, 2) || !take_items(words, &items, 0)) return NULL;
     texts = PyList_New(0);
     for (done = 0; texts && done < items.count; done++) {
         char text[MUXANDU_TEXT_ROOM];
@@ -468,24 +511,46 @@ static PyObject *texts_from_timestamps(PyObject *self, PyObject *const *words, P
     return texts ? Py_BuildValue("(NI)", texts, status) : NULL;
 }
 
+/* Says of a word of a constructor that it is not given. A text alone is meant for another call. */
+static int lacks(const char *kind, const char *name, PyObject *given) {
+    PyObject *first = PyTuple_Size(given) ? PyTuple_GetItem(given, 0) : NULL;
+    if (first && PyUnicode_Check(first)) {
+        PyErr_Format(PyExc_TypeError, "%s() takes numbers; %s.from_rfc3339() reads a text", kind, kind);
+    } else {
+        PyErr_Format(PyExc_TypeError, "%s() needs the argument '%s'", kind, name);
+    }
+    return 0;
+}
+
+/* Says which name a constructor does not take, or has by its place already. */
+static int is_not_taken(const char *kind, PyObject *named, const char *const *names, Py_ssize_t count,
+                        Py_ssize_t most) {
+    PyObject *name, *value;
+    Py_ssize_t at = 0, place;
+    while (PyDict_Next(named, &at, &name, &value)) {
+        for (place = 0; place < most && PyUnicode_CompareWithASCIIString(name, names[place]); place++) {}
+        if (place >= count && place < most) continue;
+        PyErr_Format(PyExc_TypeError, place < count ? "%s() has the argument %R twice" : "%s() takes no argument %R", kind,
+                     name);
+        break;
+    }
+    return 0;
+}
+
 /* The words of a constructor in their places, by place and by name. Those that are not given are left NULL. */
-static int take_words(PyObject *given, PyObject *named, const char *const *names, Py_ssize_t least, Py_ssize_t most,
-                      PyObject **words) {
+static int take_words(const char *kind, PyObject *given, PyObject *named, const char *const *names, Py_ssize_t least,
+                      Py_ssize_t most, PyObject **words) {
     Py_ssize_t count = PyTuple_Size(given), place, left = named ? PyDict_Size(named) : 0;
-    if (count > most) return are(count, most);
+    if (count > most) return are(kind, count, most);
     for (place = 0; place < most; place++) {
         words[place] = place < count ? PyTuple_GetItem(given, place) : NULL;
         if (left && !words[place]) {
             words[place] = PyDict_GetItemString(named, names[place]);
             left -= words[place] != NULL;
         }
-        if (!words[place] && place < least) {
-            PyErr_Format(PyExc_TypeError, "the argument '%s' is not given", names[place]);
-            return 0;
-        }
+        if (!words[place] && place < least) return lacks(kind, names[place], given);
     }
-    if (left) PyErr_SetString(PyExc_TypeError, "an argument that is not taken, or one that is given twice");
-    return !left;
+    return left ? is_not_taken(kind, named, names, count, most) : 1;
 }
 
 #define DEALLOC(kind)                                                                                                  \
@@ -510,14 +575,15 @@ static inline Py_hash_t mixed(int64_t seconds, int64_t nanoseconds) {
 
 static PyObject *Timestamp_new(PyTypeObject *type, PyObject *given, PyObject *named) {
     static const char *const names[] = {"seconds", "nanoseconds"};
+    static const uint8_t places[] = {MUXANDU_REFUSED_TIMESTAMP, 0, MUXANDU_REFUSED_NANOSECOND, 1, 0};
     PyObject *words[2];
     MuxanduTimestamp value = {0, 0};
     uint32_t status;
-    if (!take_words(given, named, names, 1, 2, words) || !take_int64_t(words[0], &value.seconds) ||
+    if (!take_words("Timestamp", given, named, names, 1, 2, words) || !take_int64_t(words[0], &value.seconds) ||
         (words[1] && !take_uint32_t(words[1], &value.nanoseconds)))
         return NULL;
     status = muxandu_timestamp_check(value);
-    return status ? refuse(status) : make_Timestamp(type, value);
+    return status ? refuse_word(status, words, places) : make_Timestamp(type, value);
 }
 
 static PyObject *Timestamp_add(PyObject *first, PyObject *second) {
@@ -585,18 +651,37 @@ static PyObject *Timestamp_text(PyObject *self) {
 static PyObject *OffsetDateTime_new(PyTypeObject *type, PyObject *given, PyObject *named) {
     static const char *const names[] = {"year",   "month",  "day",        "hour",
                                         "minute", "second", "nanosecond", "offset_seconds"};
+    static const uint8_t places[] = {MUXANDU_REFUSED_YEAR,
+                                     0,
+                                     MUXANDU_REFUSED_MONTH,
+                                     1,
+                                     MUXANDU_REFUSED_DAY,
+                                     2,
+                                     MUXANDU_REFUSED_DAY_OF_MONTH,
+                                     2,
+                                     MUXANDU_REFUSED_HOUR,
+                                     3,
+                                     MUXANDU_REFUSED_MINUTE,
+                                     4,
+                                     MUXANDU_REFUSED_SECOND,
+                                     5,
+                                     MUXANDU_REFUSED_NANOSECOND,
+                                     6,
+                                     MUXANDU_REFUSED_OFFSET_SECONDS,
+                                     7,
+                                     0};
     PyObject *words[8];
     MuxanduDateTime value = {0};
     uint32_t status;
-    if (!take_words(given, named, names, 3, 8, words) || !take_int32_t(words[0], &value.year) ||
+    if (!take_words("OffsetDateTime", given, named, names, 3, 8, words) || !take_int32_t(words[0], &value.year) ||
         !take_uint8_t(words[1], &value.month) || !take_uint8_t(words[2], &value.day) ||
         (words[3] && !take_uint8_t(words[3], &value.hour)) || (words[4] && !take_uint8_t(words[4], &value.minute)) ||
         (words[5] && !take_uint8_t(words[5], &value.second)) ||
         (words[6] && !take_uint32_t(words[6], &value.nanosecond)) ||
-        (words[7] && !take_int32_t(words[7], &value.offset_seconds)))
+        (words[7] && !take_offset(words[7], &value.offset_seconds)))
         return NULL;
     status = muxandu_date_time_check(value);
-    return status ? refuse(status) : make_OffsetDateTime(type, value);
+    return status ? refuse_word(status, words, places) : make_OffsetDateTime(type, value);
 }
 
 /* The instant of a date-time, and whether it is one of the range: clocks at an end of it may show one that is not. */
@@ -693,7 +778,7 @@ static PyObject *Duration_new(PyTypeObject *type, PyObject *given, PyObject *nam
     static const char *const names[] = {"seconds", "nanoseconds"};
     PyObject *words[2], *zero = NULL, *made = NULL;
     MuxanduDuration value = {0, 0};
-    if (!take_words(given, named, names, 0, 2, words)) return NULL;
+    if (!take_words("Duration", given, named, names, 0, 2, words)) return NULL;
     if (!words[0] && words[1]) words[0] = zero = PyLong_FromLong(0);
     if (!words[0] || take_both(words[0], words[1], &value)) made = make_Duration(type, value);
     Py_XDECREF(zero);
@@ -746,15 +831,17 @@ static PyObject *Duration_compared(PyObject *first, PyObject *second, int how) {
 
 static PyObject *Date_new(PyTypeObject *type, PyObject *given, PyObject *named) {
     static const char *const names[] = {"year", "month", "day"};
+    static const uint8_t places[] = {
+        MUXANDU_REFUSED_YEAR, 0, MUXANDU_REFUSED_MONTH, 1, MUXANDU_REFUSED_DAY, 2, MUXANDU_REFUSED_DAY_OF_MONTH, 2, 0};
     PyObject *words[3];
     MuxanduDate value = {0};
     int32_t number;
     uint32_t status;
-    if (!take_words(given, named, names, 3, 3, words) || !take_int32_t(words[0], &value.year) ||
+    if (!take_words("Date", given, named, names, 3, 3, words) || !take_int32_t(words[0], &value.year) ||
         !take_uint8_t(words[1], &value.month) || !take_uint8_t(words[2], &value.day))
         return NULL;
     status = muxandu_day_from_date(value, &number);
-    return status ? refuse(status) : make_Date(type, value, number);
+    return status ? refuse_word(status, words, places) : make_Date(type, value, number);
 }
 
 static PyObject *date_from_day_number(PyObject *class, PyObject *word) {
@@ -763,7 +850,7 @@ static PyObject *date_from_day_number(PyObject *class, PyObject *word) {
     uint32_t status;
     if (!take_int32_t(word, &number)) return NULL;
     status = muxandu_date_from_day(number, &value);
-    return status ? refuse(status) : make_Date((PyTypeObject *)class, value, number);
+    return status ? refuse_value(status, word, -1) : make_Date((PyTypeObject *)class, value, number);
 }
 
 static PyObject *date_number(PyObject *self, PyObject *unused) {
@@ -844,17 +931,17 @@ static PyType_Slot Date_slots[] = {CONSTRUCTOR(Date, "year, month, day"),
                                    {0, NULL}};
 
 #define SPEC(kind)                                                                                                     \
-    { "muxandu._extension." #kind, sizeof(kind##Object), 0, Py_TPFLAGS_DEFAULT | Py_TPFLAGS_BASETYPE, kind##_slots }
+    { "muxandu." #kind, sizeof(kind##Object), 0, Py_TPFLAGS_DEFAULT | Py_TPFLAGS_BASETYPE, kind##_slots }
 
 static PyType_Spec specs[] = {SPEC(Timestamp), SPEC(OffsetDateTime), SPEC(Duration), SPEC(Date)};
 
-/* The types are of the whole process, and the package completes them: a second interpreter, or a second import, would change
- * those of the first, whose methods would end with the second's. It goes through ctypes. */
+/* The types belong to the process, and the package completes them: a second interpreter, or a second import, would change those
+ * of the first, whose methods would end with the second's. It must go through ctypes. */
 static int fill(PyObject *made) {
     PyTypeObject **bases[] = {&base_of_Timestamp, &base_of_OffsetDateTime, &base_of_Duration, &base_of_Date};
     size_t place;
     if (*bases[0]) {
-        PyErr_SetString(PyExc_ImportError, "muxandu._extension is loaded once in a process");
+        PyErr_SetString(PyExc_ImportError, "muxandu._extension serves one interpreter and one import of a process");
         return -1;
     }
     name_days = PyUnicode_InternFromString("days");

@@ -16,7 +16,7 @@ from typing import Any, Callable, Optional
 
 from . import _buffers, _datetime64
 from ._engine import engine
-from ._refusals import REFUSALS, Refused
+from ._refusals import REFUSALS, Refused, RefusedBuffer, RefusedNoText, RefusedOffsetSeconds, RefusedResult
 from ._values import Date, OffsetDateTime, Timestamp
 from ._words import ends, held, joined, whole
 from .muxandu_sys import MuxanduDate, MuxanduDateTime, MuxanduSpan, MuxanduTimestamp
@@ -24,6 +24,9 @@ from .muxandu_sys import MuxanduDate, MuxanduDateTime, MuxanduSpan, MuxanduTimes
 _CODES: dict[Any, str] = {ctypes.c_int32: "i", ctypes.c_uint32: "I", ctypes.c_int64: "q"}
 
 _NANO = 10**9
+
+# The statuses that are of a result, of `out` or of an offset, and not of an item.
+_NOT_OF_ITEMS = {refusal.status for refusal in (RefusedResult, RefusedBuffer, RefusedOffsetSeconds, RefusedNoText)}
 
 # The calls over datetime64 of parts of a second, by its unit.
 _OF_PARTS = {
@@ -60,9 +63,11 @@ def _is_like_numpy(items: Any) -> bool:
     return hasattr(items, "__array_interface__") or hasattr(items, "__array__")
 
 
-def _test(status: int, count: int) -> None:
+def _test(status: int, count: int, items: Any = None) -> None:
+    """Raises the refusal of a call after it converted so many items, with the item where these are a list."""
     if status:
-        raise REFUSALS[status](count)
+        is_of_item = isinstance(items, (list, tuple)) and count < len(items) and status not in _NOT_OF_ITEMS
+        raise REFUSALS[status](count, items[count] if is_of_item else None)
 
 
 class _Items:
@@ -194,7 +199,7 @@ def _converted(call: Callable[..., tuple[int, int]], items: Any, given: Any, mad
         out = _room(source.count, made, _is_like_numpy(like))
     place = _writing(out, made)
     done, status = call(source.apart_from(place), source.count, *words, place.data, place.count)
-    _test(status, done)
+    _test(status, done, like)
     return out
 
 
@@ -357,7 +362,7 @@ def _of_block(call: Callable[..., tuple[int, int]], block: Any, spans: Any, made
         out = _room(where.count, made, _is_like_numpy(like))
     place = _writing(out, made)
     done, status = call(read.apart_from(place), read.count, where.copied(), where.count, place.data, place.count)
-    _test(status, done)
+    _test(status, done, like)
     return out, done
 
 
@@ -370,7 +375,7 @@ def _stamps_of_texts(texts: Any, spans: Any, out: Any) -> tuple[Any, int]:
         out = _room(len(each), MuxanduTimestamp, _is_like_numpy(texts))
     place = _writing(out, MuxanduTimestamp)
     done, status = engine.timestamps_from_texts(each, place.data, place.count)
-    _test(status, done)
+    _test(status, done, texts)
     return out, done
 
 

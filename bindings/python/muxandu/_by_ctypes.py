@@ -10,6 +10,7 @@ from typing import Any, Callable
 
 from . import _methods, muxandu_sys
 from ._library import library
+from ._places import PLACES
 from ._words import as_bytes, held, joined, nanoseconds_of, whole
 
 # What each call takes, what it returns, and what it says.
@@ -35,6 +36,15 @@ def _test(status: int) -> None:
         raise _refusals[status]
 
 
+def _refused(status: int, name: str, words: tuple[Any, ...], text: Any = None) -> Any:
+    """The refusal of a call, with the word that it is of where that is known."""
+    if text is not None:
+        is_at_fault = status == muxandu_sys.Refused.SYNTAX and not name.startswith("date_from")
+        return _refusals[status](None, words[0], library.muxandu_rfc3339_fault(text, len(text)) if is_at_fault else None)
+    place = PLACES.get(name, {}).get(status)
+    return _refusals[status]() if place is None else _refusals[status](None, words[place])
+
+
 def _of(kind: Any, answer: Any) -> Any:
     """The value of what the library wrote."""
     value = object.__new__(kind)
@@ -46,7 +56,7 @@ class _Call:
     """A call, as the extension has it: which words it takes, and what it gives."""
 
     def __init__(self, name: str) -> None:
-        self.call = getattr(library, f"muxandu_{name}")
+        self.name, self.call = name, getattr(library, f"muxandu_{name}")
         parameters, self.result, self.doc = _CALLS[f"muxandu_{name}"]
         self.parameters = list(parameters)
         self.is_text = self.parameters[-2:] == [ctypes.c_size_t, _SIZE]
@@ -60,6 +70,7 @@ class _Call:
             self.out, self.beside = self.parameters.pop()._type_, self.out
         first = self.parameters[0].__name__ if self.parameters else ""
         self.receiver = _methods.STRUCTURES.get(first)
+        self.is_read = ctypes.c_void_p in self.parameters
         if self.receiver:
             del self.parameters[0]
         self.count = sum(self._words_of(kind) for kind in self.parameters)
@@ -73,7 +84,8 @@ class _Call:
     def _taken(self, given: tuple[Any, ...]) -> list[Any]:
         """The words as the call takes them."""
         if len(given) != self.count:
-            raise TypeError(f"{self.count} arguments are taken, and {len(given)} were given")
+            some = "argument" if self.count == 1 else "arguments"
+            raise TypeError(f"{_methods.name_of(self.name)}() takes {self.count} {some}, and {len(given)} were given")
         taken: list[Any] = []
         words = iter(given)
         for kind in self.parameters:
@@ -101,20 +113,20 @@ class _Call:
         taken = [*first, *self._taken(words)]
         if self.is_text:
             place, size = ctypes.create_string_buffer(muxandu_sys.STATUS_ROOM), ctypes.c_size_t()
-            _test(self.call(*taken, place, len(place), ctypes.byref(size)))
+            status = self.call(*taken, place, len(place), ctypes.byref(size))
+            if status:
+                raise _refused(status, self.name, words)
             return place.raw[: size.value].decode("ascii")
         if self.out is None:
             return self._given(self.call(*taken), of)
-        out = self.out()
-        if self.beside:
-            beside = self.beside()
-            _test(self.call(*taken, ctypes.byref(out), ctypes.byref(beside)))
-            return self._given(out, of), beside.value
-        _test(self.call(*taken, ctypes.byref(out)))
-        return self._given(out, of)
+        out, beside = self.out(), self.beside() if self.beside else None
+        status = self.call(*taken, ctypes.byref(out), *([ctypes.byref(beside)] if self.beside else []))
+        if status:
+            raise _refused(status, self.name, words, taken[0] if self.is_read else None)
+        return self._given(out, of) if beside is None else (self._given(out, of), beside.value)
 
 
-def _method(name: str) -> Any:
+def _method(kind: str, method_name: str, name: str) -> Any:
     """A method, or a class method, that makes a call."""
     call = _Call(name)
 
@@ -125,7 +137,7 @@ def _method(name: str) -> Any:
         return call.run(words, of=cls)
 
     made: Any = method if call.receiver else class_method
-    made.__doc__ = call.doc
+    made.__doc__ = _methods.doc(kind, method_name, name, call.doc)
     return made if call.receiver else classmethod(made)
 
 
@@ -224,10 +236,20 @@ def _shown(moment: Any) -> Any:
     return moment.to_offset(0) if _is(moment, Timestamp) else moment
 
 
+# The statuses of a field of a structure, by its name.
+_STATUSES_OF_FIELDS: dict[int, tuple[str, ...]] = {
+    number: _methods.REFUSED[name] for number, (name, _) in muxandu_sys.REFUSALS.items() if name in _methods.REFUSED
+}
+
+
 def _checked(call: _Call, kind: Any, structure: Any, *words: Any) -> Any:
     """A value of these numbers, which the library tests."""
     answer = structure(*(held(word, number) for word, (_, number) in zip(words, structure._fields_)))
-    _test(call.call(answer))
+    status = call.call(answer)
+    if status:
+        names = [name for name, _ in structure._fields_]
+        found = [names.index(name) for name in _STATUSES_OF_FIELDS.get(status, ()) if name in names]
+        raise _refusals[status](None, words[found[0]]) if found else _refusals[status]()
     return _of(kind, answer)
 
 
@@ -407,7 +429,7 @@ def texts_from_timestamps(items: Any, count: int) -> tuple[list[str], int]:
 
 for _kind, _calls in _methods.METHODS.items():
     for _name, _call in _calls.items():
-        setattr(globals()[_kind], _name, _method(_call))
+        setattr(globals()[_kind], _name, _method(_kind, _name, _call))
 for _name in _methods.FUNCTIONS:
     globals()[_name] = _function(_name)
 for _name in _methods.BATCHES:

@@ -8,8 +8,8 @@ from __future__ import annotations
 import datetime
 from typing import Any, ClassVar, SupportsIndex, TypeVar, Union
 
-from ._values import _PARTS, Date, Duration, OffsetDateTime, Time, Timestamp, UtcOffset
-from ._values import _datetime, _formatted, _is_length, _parts
+from ._values import _KEPT, _PARTS, Date, Duration, OffsetDateTime, Time, Timestamp, UtcOffset
+from ._values import _datetime, _formatted, _is_length, _parts, _replaced
 from ._words import nanosecond_of
 
 _Self = TypeVar("_Self", bound="_Clock")
@@ -95,10 +95,19 @@ class _Clock:
         """The days from 1970-01-01."""
         return self._at.day_number()
 
-    def replace(self: _Self, **replaced: SupportsIndex) -> _Self:
+    def replace(
+        self: _Self,
+        *,
+        year: SupportsIndex = _KEPT,
+        month: SupportsIndex = _KEPT,
+        day: SupportsIndex = _KEPT,
+        hour: SupportsIndex = _KEPT,
+        minute: SupportsIndex = _KEPT,
+        second: SupportsIndex = _KEPT,
+        nanosecond: SupportsIndex = _KEPT,
+    ) -> _Self:
         """The same with other parts, by name: replace(day=1, hour=0)."""
-        numbers: dict[str, Any] = {name: getattr(self, name) for name in _PARTS}
-        return type(self)(**{**numbers, **replaced})
+        return _replaced(self, (year, month, day, hour, minute, second, nanosecond))
 
     def truncated_to(self: _Self, unit: SupportsIndex) -> _Self:
         """Rounded down to a unit, before 1970 too."""

@@ -13,23 +13,43 @@ class Refused(ValueError):
     """A call is refused. `name` is the name that the refusal has in the library, `status` its number.
 
     Each refusal has a class of its own, as RefusedMonth or RefusedDayOfMonth. Where a call over many items is refused,
-    `count` is how many were converted: the next is the one that is refused, and what is behind it is as it was.
+    `count` is how many were converted: the next is the one that is refused, and what is behind it is as it was. `value` is
+    the number or the text that is refused, where one alone is, and `place` the byte of a text at which its fault is.
     """
 
     name: str = ""
     status: int = 0
     count: Optional[int] = None
+    value: object = None
+    place: Optional[int] = None
 
-    def __init__(self, count: Optional[int] = None) -> None:
+    def __init__(self, count: Optional[int] = None, value: object = None, place: Optional[int] = None) -> None:
         told = f"{self.name}: {' '.join((self.__doc__ or '').split())}"
+        shown = _shown(value)
+        if shown:
+            told = f"{told.rstrip('.')}: {shown}" + ("" if place is None else f", at byte {place}")
         super().__init__(told if count is None else f"item {count}: {told}")
-        self.count = count
+        self.count, self.value, self.place = count, value, place
 
-    def __reduce__(self) -> tuple[type[Refused], tuple[Optional[int]]]:
-        return type(self), (self.count,)
+    def __reduce__(self) -> tuple[type[Refused], tuple[Optional[int], object, Optional[int]]]:
+        return type(self), (self.count, self.value, self.place)
 
     def __init_subclass__(cls) -> None:
         cls.__module__ = "muxandu"
+
+
+def _shown(value: object) -> str:
+    """A number or a text as a message shows it, at most so long; of another value, which may say anything, nothing."""
+    if type(value) is int:
+        return str(value) if value.bit_length() <= _MOST_BITS else f"a number of {value.bit_length()} bits"
+    if type(value) not in (str, bytes):
+        return ""
+    shown = ascii(value[: _MOST_SHOWN + 1])  # type: ignore[index]
+    return shown if len(shown) <= _MOST_SHOWN else shown[:_MOST_SHOWN] + ".."
+
+
+# The most bits of a number, and the most characters of a text, that a message shows.
+_MOST_BITS, _MOST_SHOWN = 128, 60
 
 
 

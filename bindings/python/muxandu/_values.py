@@ -25,6 +25,9 @@ _Offset = TypeVar("_Offset", bound="UtcOffset")
 
 _Kind = TypeVar("_Kind")
 
+# The default of a part that `replace` keeps.
+_KEPT: Any = object()
+
 
 def _completed(kind: type[_Kind]) -> type[_Kind]:
     """The type that the library's calls make, with what a class derived from it adds: one type and not two, whose values the
@@ -305,10 +308,20 @@ class OffsetDateTime(engine.OffsetDateTime):
         """What clocks in UTC show at the same instant."""
         return UtcDateTime._shown_by(self.to_offset(0))
 
-    def replace(self: _Shown, **replaced: SupportsIndex) -> _Shown:
+    def replace(
+        self: _Shown,
+        *,
+        year: SupportsIndex = _KEPT,
+        month: SupportsIndex = _KEPT,
+        day: SupportsIndex = _KEPT,
+        hour: SupportsIndex = _KEPT,
+        minute: SupportsIndex = _KEPT,
+        second: SupportsIndex = _KEPT,
+        nanosecond: SupportsIndex = _KEPT,
+        offset_seconds: SupportsIndex = _KEPT,
+    ) -> _Shown:
         """The same with other parts, by name: replace(day=1, hour=0)."""
-        numbers: dict[str, Any] = {name: getattr(self, name) for name in (*_PARTS, "offset_seconds")}
-        return type(self)(**{**numbers, **replaced})
+        return _replaced(self, (year, month, day, hour, minute, second, nanosecond, offset_seconds))
 
     def date(self) -> Date:
         """The date that the clocks show."""
@@ -340,6 +353,13 @@ class OffsetDateTime(engine.OffsetDateTime):
 
     def __repr__(self) -> str:
         return f"{type(self).__name__}{self.__reduce__()[1]}"
+
+
+def _replaced(value: _Kind, parts: tuple[SupportsIndex, ...]) -> _Kind:
+    """The value with those of its parts that are not kept."""
+    kind, kept = value.__reduce__()[:2]
+    made: _Kind = kind(*(old if part is _KEPT else part for old, part in zip(kept, parts)))
+    return made
 
 
 def _datetime(shown: Any, zone: Union[datetime.tzinfo, None]) -> datetime.datetime:
@@ -444,10 +464,11 @@ class Date(engine.Date):
         """The day of the week, 0 for Monday."""
         return engine.weekday_from_day(self.day_number())
 
-    def replace(self: _Date, **replaced: SupportsIndex) -> _Date:
+    def replace(
+        self: _Date, *, year: SupportsIndex = _KEPT, month: SupportsIndex = _KEPT, day: SupportsIndex = _KEPT
+    ) -> _Date:
         """The same with other parts, by name: replace(day=1)."""
-        numbers: dict[str, Any] = {name: getattr(self, name) for name in ("year", "month", "day")}
-        return type(self)(**{**numbers, **replaced})
+        return _replaced(self, (year, month, day))
 
     def _moved(self: _Date, days: Any, sign: int) -> _Date:
         if _is_length(days):

@@ -12,7 +12,7 @@ from pathlib import Path
 import muxandu
 from muxandu._engine import engine
 from muxandu._refusals import REFUSALS
-from muxandu import OffsetDateTime, Date, Duration, IsoWeekDate, OrdinalDate, Refused, Timestamp, Unit, days_in_month
+from muxandu import Date, Duration, IsoWeekDate, OffsetDateTime, OrdinalDate, Refused, Timestamp, Unit, UtcOffset, days_in_month
 
 FIRST = Timestamp(-31_619_087_596_800)
 LAST = Timestamp(31_494_784_780_799, 999_999_999)
@@ -306,7 +306,56 @@ class Rest(unittest.TestCase):
             OffsetDateTime(2023, 2, 29)
         self.assertIsInstance(caught.exception, Refused)
         self.assertEqual((caught.exception.name, caught.exception.status), ("DAY_OF_MONTH", 4))
-        self.assertEqual(str(caught.exception), "DAY_OF_MONTH: A day of 1 to 31 that its month does not have in its year.")
+        self.assertEqual(str(caught.exception), f"DAY_OF_MONTH: {engine.status_text(4).rstrip('.')}: 29")
+
+    def test_refusals_show_what_is_refused(self):
+        """Each message is the library's sentence, and then the number or the text that is refused."""
+        for make, value, place in (
+            (lambda: OffsetDateTime(2024, 13, 1), 13, None),
+            (lambda: OffsetDateTime(2024, 1, 1, minute=60), 60, None),
+            (lambda: OffsetDateTime(2024, 1, 1, offset_seconds=2**40), 2**40, None),
+            (lambda: Timestamp(2**70), 2**70, None),
+            (lambda: Timestamp(0, -1), -1, None),
+            (lambda: Timestamp(0).to_offset(93_600), 93_600, None),
+            (lambda: Timestamp(0).truncated_to(7), 7, None),
+            (lambda: Timestamp(0).with_part(5, 24), 24, None),
+            (lambda: Timestamp(0).with_part(-1, 24), -1, None),
+            (lambda: Date(1_000_000, 1, 1), 1_000_000, None),
+            (lambda: Date.from_day_number(2**40), 2**40, None),
+            (lambda: Date.from_iso_week_date(2021, 53, 0), 53, None),
+            (lambda: Date.from_ordinal_date(2023, 366), 366, None),
+            (lambda: Date.from_julian_day(2**40), 2**40, None),
+            (lambda: UtcOffset.from_hms(0, 60), 60, None),
+            (lambda: days_in_month(2024, 13), 13, None),
+            (lambda: OffsetDateTime.from_rfc3339("2024-02-30T00:00:00Z"), "2024-02-30T00:00:00Z", None),
+            (lambda: Timestamp.from_rfc3339("2024-02-29T12:34:56+0100"), "2024-02-29T12:34:56+0100", 22),
+            (lambda: OffsetDateTime.from_rfc3339_front(b"1985-04-12 done"), b"1985-04-12 done", 11),
+            (lambda: Date.from_rfc3339("20240229"), "20240229", None),
+            (lambda: muxandu.timestamps_from_rfc3339(["1970-01-01T00:00:00Z", "soon"]), "soon", None),
+            (lambda: muxandu.date_times_from_rfc3339(["soon"]), "soon", None),
+            (lambda: muxandu.date_times_from_seconds([0, 2**60]), 2**60, None),
+        ):
+            with self.assertRaises(Refused) as caught:
+                make()
+            refused = caught.exception
+            self.assertEqual((refused.value, refused.place), (value, place))
+            sentence = engine.status_text(refused.status).rstrip(".")
+            count = "" if refused.count is None else f"item {refused.count}: "
+            at = "" if place is None else f", at byte {place}"
+            self.assertEqual(str(refused), f"{count}{refused.name}: {sentence}: {value!r}{at}")
+            again = pickle.loads(pickle.dumps(refused))
+            self.assertEqual((str(again), again.value, again.place), (str(refused), value, place))
+
+    def test_refusals_show_no_more_than_fits_a_line(self):
+        for make, shown in (
+            (lambda: Timestamp(10**5_000), f"a number of {(10**5_000).bit_length()} bits"),
+            (lambda: Timestamp.from_rfc3339("\u00e9" * 10**6), "'" + "\\xe9" * 14 + "\\xe.., at byte 0"),
+            (lambda: Timestamp.from_rfc3339(bytearray(b"soon")), engine.status_text(22).rstrip(".")),
+        ):
+            with self.assertRaises(Refused) as caught:
+                make()
+            self.assertLess(len(str(caught.exception)), 250)
+            self.assertTrue(str(caught.exception).rstrip(".").endswith(shown), str(caught.exception))
 
     def test_values_are_pickled(self):
         values = [LAST, OffsetDateTime(2024, 2, 29, offset_seconds=60), Date(2024, 2, 29), Duration(1, 2), Unit.DAY]

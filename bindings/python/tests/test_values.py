@@ -271,8 +271,10 @@ class Moments(unittest.TestCase):
         self.assertTrue(at < at.to_offset(0) + Duration(1) and at.to_offset(0) + Duration(1) > at)
         there = OffsetDateTime(2024, 2, 29, 12, 34, 56, 790, 3_600)
         self.assertEqual((at - there, there - at), (Duration(3_599, 999_999_999), Duration(-3_599, -999_999_999)))
-        for first, second in ((plain, there), (there, plain), (at, plain), (plain, at), (at, Timestamp(0)), (Timestamp(0), at)):
+        for first, second in ((plain, there), (there, plain), (at, plain), (plain, at), (Timestamp(0), plain), (plain, Timestamp(0))):
             self.assertRaises(TypeError, lambda first=first, second=second: first - second)
+            self.assertRaises(TypeError, lambda first=first, second=second: first + second)
+        for first, second in ((at, Timestamp(0)), (Timestamp(0), at), (there, Timestamp(0)), (at, there)):
             self.assertRaises(TypeError, lambda first=first, second=second: first + second)
         self.assertFalse(at == plain)
         self.assertRaises(TypeError, lambda: at < plain)
@@ -285,6 +287,42 @@ class Moments(unittest.TestCase):
             self.assertTrue(one < moved <= moved and moved > one >= one)
             self.assertRaises(TypeError, lambda one=one: one + 1)
         self.assertEqual(UtcDateTime.from_rfc3339("2024-02-29T13:34:56+01:00").to_rfc3339(), "2024-02-29T12:34:56Z")
+
+    def test_all_types_of_an_instant(self):
+        """Equality, order, hashes and differences of instants, beside whole numbers of nanoseconds."""
+        source = random.Random(1)
+        ends = [(at.seconds * 10**9 + at.nanoseconds) + far for at in (Timestamp.MIN, Timestamp.MAX) for far in (-1, 0, 1)]
+        counts = [*(source.randint(ends[1], ends[4]) for _ in range(200)), *(source.randint(-3, 3) for _ in range(100)), *ends]
+
+        def moments(count):
+            stamp = Timestamp.from_nanoseconds(count)
+            yield stamp
+            yield stamp.to_utc()
+            for offset in (0, source.randint(-93_599, 93_599)):
+                try:
+                    yield stamp.to_offset(offset)
+                except muxandu.RefusedResult:
+                    pass
+
+        known = [(count, moment) for count in counts if ends[1] <= count <= ends[4] for moment in moments(count)]
+        # What clocks show past both ends of the range of instants.
+        known.append((ends[4] + 60 * 10**9, OffsetDateTime(999_999, 12, 31, 23, 59, 59, 999_999_999, -60)))
+        known.append((ends[1] - 60 * 10**9, OffsetDateTime(-999_999, 1, 1, offset_seconds=60)))
+        for _ in range(20_000):
+            (one, first), (two, second) = source.choice(known), source.choice(known)
+            orders = (first < second, first <= second, first == second, first != second, first >= second, first > second)
+            self.assertEqual(orders, (one < two, one <= two, one == two, one != two, one >= two, one > two), (first, second))
+            self.assertEqual((first - second).whole_nanoseconds(), one - two, (first, second))
+            self.assertTrue(one != two or hash(first) == hash(second), (first, second))
+        self.assertEqual(len({moment for _, moment in known}), len({count for count, _ in known}))
+        self.assertEqual([count for count, _ in sorted(known, key=lambda pair: pair[1])], sorted(count for count, _ in known))
+
+    def test_a_datetime_is_not_compared(self):
+        for value in (Timestamp(0), UtcDateTime(1970, 1, 1), OffsetDateTime(1970, 1, 1)):
+            epoch = datetime.datetime(1970, 1, 1, tzinfo=UTC)
+            self.assertFalse(value == epoch or epoch == value)
+            for call in (lambda value=value: value < epoch, lambda value=value: epoch - value, lambda value=value: value - epoch):
+                self.assertRaises(TypeError, call)
 
     def test_times(self):
         at = Time(9, 5, 0, 250_000_000)
