@@ -426,8 +426,8 @@ def lie_over_each_other(first, second):
     return first.first < ends[1] and second.first < ends[0]
 
 
-def judged_each(call, words, items, out, statuses, is_refused):
-    """The same of a call that goes on after an item that is refused, and says of each whether it is."""
+def judged_each(call, words, items, out, statuses, is_refused, missing=()):
+    """The same of a call that goes on after an item that is refused, and says of each whether it is, or is missing."""
     places = (out, statuses)
     before = [bytes(place.memory) for place in places]
     try:
@@ -445,7 +445,9 @@ def judged_each(call, words, items, out, statuses, is_refused):
     if error is not None or result[0] is not words[-2] or result[1] is not words[-1]:
         return f"must be converted, not {error!r}"
     kept = [bytearray(memory) for memory in after]
-    for item, start, told in zip(items, out.starts, statuses.starts):
+    for place, (item, start, told) in enumerate(zip(items, out.starts, statuses.starts)):
+        if (statuses.kind.read(after[1], told)[""] == muxandu.MISSING) != (place in missing):
+            return f"item {place} must {'' if place in missing else 'not '}be missing"
         if (statuses.kind.read(after[1], told)[""] != 0) != (item is None):
             return f"{item} must have another status"
         if item is not None and out.kind.read(after[0], start) != item:
@@ -640,13 +642,15 @@ def compare_moments(source, kinds):
             kind.write(place.memory, start, count_of)
     out = Place(source, source.choice(kinds[made]), source.choice(memories), is_out=True)
     refused = refusal_of_out(out, made)
-    stamps = [kind.stamp(kind.read(place.memory, start)[""]) for start in place.starts]
+    counts = [kind.read(place.memory, start)[""] for start in place.starts]
+    missing = [at for at, found in enumerate(counts) if found == NOT_A_TIME]
+    stamps = [kind.stamp(found) for found in counts]
     items = [None if stamp is None else plain(*stamp) for stamp in stamps]
     words = [place.view, *more, out.view]
     if call is muxandu.date_times_from_each_second:
         statuses = Place(source, kind_of_number("u4", NATIVE), bytearray(ROOM), is_out=True)
         refused = refused or refusal_of_out(statuses, STATUSES)
-        problem = judged_each(call, [*words, statuses.view], items, out, statuses, refused)
+        problem = judged_each(call, [*words, statuses.view], items, out, statuses, refused, missing)
     else:
         problem = judged(call, words, [] if refused else items, out, refused, made, out.count)
     count(problem, call.__name__, place.told(), out.told())

@@ -35,6 +35,7 @@ from ._batch import (
 )
 from ._clocks import PlainDateTime, UtcDateTime
 from ._engine import IMPLEMENTATION
+from ._missing import MISSING
 from ._refusals import (
     Part,
     Refused,
@@ -81,6 +82,7 @@ __all__ = [
     "Duration",
     "IMPLEMENTATION",
     "IsoWeekDate",
+    "MISSING",
     "OffsetDateTime",
     "OrdinalDate",
     "Part",

@@ -14,10 +14,10 @@ import ctypes
 import sys
 from typing import Any, Callable, Optional
 
-from . import _buffers, _datetime64
+from . import _buffers, _datetime64, _missing
 from ._engine import engine
 from ._refusals import REFUSALS, Refused, RefusedBuffer, RefusedNoText, RefusedOffsetSeconds, RefusedResult
-from ._values import Date, OffsetDateTime, Timestamp
+from ._values import Date, OffsetDateTime, Timestamp, _parts
 from ._words import ends, held, joined, whole
 from .muxandu_sys import MuxanduDate, MuxanduDateTime, MuxanduSpan, MuxanduTimestamp
 
@@ -51,6 +51,7 @@ def _is_buffer(items: Any) -> bool:
 
 def _as_array(items: Any) -> Any:
     """What can be an array of NumPy, as a column of pandas can, as that; an array of objects as a list of them."""
+    _missing.refuse_mask(items)
     if not hasattr(items, "__array__"):
         return items
     import numpy
@@ -179,17 +180,18 @@ def _held_array(numbers: Any, kind: Any) -> Any:
     return numpy.clip(numbers, max(low, int(own.min)), min(high, int(own.max))).astype(numpy.dtype(kind))
 
 
-def _structures(values: Any, kind: Any, of: Any) -> Any:
-    """Structures as a buffer: those of a sequence of values are copied."""
+def _structures(values: Any, kind: Any, of: Any, missing: Any = ()) -> Any:
+    """Structures as a buffer: those of a sequence of values are copied, with one of zeros for each that is missing."""
     values = _as_array(values)
     if _is_buffer(values):
         return values
     values = list(values)
-    odd = {type(value).__name__ for value in values if not isinstance(value, of)}
+    odd = {type(value).__name__ for place, value in enumerate(values) if not isinstance(value, of) and place not in missing}
     if odd:
         raise TypeError(f"a buffer of structures, or a sequence of {of.__name__}, not of {', '.join(sorted(odd))}")
     names = [name for name, _ in kind._fields_]
-    return (kind * len(values))(*(tuple(getattr(value, name) for name in names) for value in values))
+    parts = ((0,) * len(names) if place in missing else _parts(value, *names) for place, value in enumerate(values))
+    return (kind * len(values))(*parts)
 
 
 def _converted(call: Callable[..., tuple[int, int]], items: Any, given: Any, made: Any, out: Any, like: Any, *words: int) -> Any:
@@ -309,24 +311,56 @@ def _each_converted(
     return out, statuses
 
 
+# A second that each call refuses.
+_NO_SECOND = 2**62
+
+
+def _known_seconds(seconds: Any) -> tuple[Any, Any]:
+    """Seconds with one that is refused in place of each that is missing, and the places of these."""
+    seconds, masked = _missing.filled(seconds, _NO_SECOND)
+    found = _as_array(seconds)
+    if _missing.is_float(found) and found.ndim == 1 and _is_array(found):
+        return _missing.whole_of_floats(found, _NO_SECOND)
+    if _is_buffer(found):
+        return found, masked
+    found = list(found)
+    places = _missing.places_of(found)
+    for place in places:
+        found[place] = _NO_SECOND
+    return found, places
+
+
 def date_times_from_each_second(seconds: Any, offset_seconds: Any = 0, out: Any = None, statuses: Any = None) -> tuple[Any, Any]:
-    """What clocks at an offset show at each Unix second, and the status of each: 0, or the `status` of its refusal. Where one
-    is refused, what is in its place stays, and the next follows. Of datetime64 also the nanoseconds are kept."""
+    """What clocks at an offset show at each Unix second, and the status of each: 0, or the `status` of its refusal, or MISSING
+    of None, NaN, NA, NaT and a masked item. Where an item has a status, its place in `out` stays as it was, and the next
+    follows. Of datetime64 also the nanoseconds are kept."""
     if not _datetime64.is_such(seconds):
-        items, offset = _numbers(seconds, ctypes.c_int64), held(offset_seconds, ctypes.c_int32)
+        known, missing = _known_seconds(seconds)
+        items, offset = _numbers(known, ctypes.c_int64), held(offset_seconds, ctypes.c_int32)
         call = engine.date_times_from_each_second
-        return _each_converted(call, items, ctypes.c_int64, MuxanduDateTime, out, statuses, seconds, offset)
-    whole, nanoseconds = _datetime64.split(seconds)
-    shown, told = date_times_from_each_second(whole, offset_seconds, out, statuses)
-    _datetime64.put_nanoseconds(shown, nanoseconds, told)
+        shown, told = _each_converted(call, items, ctypes.c_int64, MuxanduDateTime, out, statuses, seconds, offset)
+    else:
+        moments, _ = _missing.filled(seconds, None)
+        whole, nanoseconds = _datetime64.split(moments)
+        missing = _datetime64.missing(moments)
+        shown, told = date_times_from_each_second(whole, offset_seconds, out, statuses)
+        _datetime64.put_nanoseconds(shown, nanoseconds, told)
+    _missing.mark(told, missing)
     return shown, told
 
 
 def seconds_from_each_date_time(date_times: Any, out: Any = None, statuses: Any = None) -> tuple[Any, Any]:
     """The Unix second of each date-time, rounded down, and the status of each, in the same way."""
-    items = _structures(date_times, MuxanduDateTime, OffsetDateTime)
+    known, missing = _missing.filled(date_times, None)
+    known = _as_array(known)
+    if not _is_buffer(known):
+        known = list(known)
+        missing = _missing.places_of(known)
+    items = _structures(known, MuxanduDateTime, OffsetDateTime, set(missing))
     call = engine.seconds_from_each_date_time
-    return _each_converted(call, items, MuxanduDateTime, ctypes.c_int64, out, statuses, date_times)
+    seconds, told = _each_converted(call, items, MuxanduDateTime, ctypes.c_int64, out, statuses, date_times)
+    _missing.mark(told, missing)
+    return seconds, told
 
 
 def dates_from_days(days: Any, out: Any = None) -> Any:

@@ -12,6 +12,8 @@ import re
 import sys
 from typing import Any, NamedTuple, Optional, Union
 
+from ._missing import refuse_mask
+
 # The bytes of a number of each letter, in the order and with the alignment of the machine, and by the standard of `struct`.
 _NATIVE = {letter: size for letters, size in (("bB", 1), ("hH", 2), ("iI", 4), ("lLqQnN", 8)) for letter in letters}
 _STANDARD = {**_NATIVE, "l": 4, "L": 4}
@@ -122,7 +124,8 @@ def _told(fields: tuple[Field, ...]) -> str:
 
 
 def row(items: Any) -> memoryview:
-    """The buffer of one row of items."""
+    """The buffer of one row of items, none of which is masked."""
+    refuse_mask(items)
     try:
         view = memoryview(items)
     except ValueError as problem:

@@ -107,7 +107,8 @@ class _Clock:
         nanosecond: SupportsIndex = _KEPT,
     ) -> _Self:
         """The same with other parts, by name: replace(day=1, hour=0)."""
-        return _replaced(self, (year, month, day, hour, minute, second, nanosecond))
+        made: _Self = _replaced(self, (year, month, day, hour, minute, second, nanosecond))
+        return made
 
     def truncated_to(self: _Self, unit: SupportsIndex) -> _Self:
         """Rounded down to a unit, before 1970 too."""

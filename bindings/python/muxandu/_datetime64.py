@@ -4,6 +4,7 @@ from __future__ import annotations
 
 from typing import Any, Callable
 
+from ._missing import refuse_mask
 from ._refusals import Refused, RefusedBuffer, RefusedNanosecond, RefusedResult, RefusedTimestamp
 from .muxandu_sys import MuxanduDate, MuxanduDateTime, MuxanduTimestamp
 
@@ -26,6 +27,7 @@ def _counts(moments: Any) -> tuple[Any, str, int]:
     """The whole numbers of the moments, their unit, and how many units one is."""
     import numpy
 
+    refuse_mask(moments)
     if is_such(moments) and not isinstance(moments.dtype, numpy.dtype):
         # A column of pandas with a time zone, whose instants are those in UTC.
         moments = moments.to_numpy(f"datetime64[{getattr(moments.dtype, 'unit', 'ns')}]")
@@ -49,6 +51,13 @@ def _unit_of_row(moments: Any) -> tuple[str, int]:
     return unit, many
 
 
+def missing(moments: Any) -> Any:
+    """The places of the moments that are no time at all."""
+    import numpy
+
+    return numpy.flatnonzero(_counts(moments)[0] == _NONE)
+
+
 def counts_of_parts(moments: Any) -> tuple[Any, str]:
     """The whole numbers of the moments and their unit, as calls over parts of a second take them; the unit is empty where
     one is some of that, or where one is no time at all, which calls do not know."""
@@ -63,6 +72,7 @@ def _test_out(out: Any) -> None:
     if not isinstance(out, numpy.ndarray):
         raise TypeError(f"an `out` of datetime64 is an array of NumPy, not {type(out).__name__}")
     _unit_of_row(out)
+    refuse_mask(out)
     if not out.flags.writeable:
         raise TypeError("`out` cannot be written")
 
@@ -241,6 +251,17 @@ def filled_by_stamps(out: Any, place: Any, convert: Callable[[], int]) -> Any:
     return out
 
 
+def _dtype(unit: str) -> Any:
+    """The dtype of a unit, with or without a count before it."""
+    import numpy
+
+    try:
+        return numpy.dtype(f"datetime64[{unit}]")
+    except TypeError:
+        units = ", ".join(("Y", "M", *_SECONDS, *_PARTS))
+        raise TypeError(f"a unit of datetime64 is one of {units}, with or without a count before it, not {unit!r}") from None
+
+
 def of_stamps(items: Any, unit: str) -> Any:
     """An array of datetime64 of instants, up to the first that is refused."""
     import numpy
@@ -251,7 +272,7 @@ def of_stamps(items: Any, unit: str) -> Any:
     seconds, nanoseconds = place["seconds"], place["nanoseconds"]
     is_beyond = (seconds < Timestamp.MIN.seconds) | (seconds > Timestamp.MAX.seconds)
     done = _first(is_beyond | (nanoseconds >= _NANO))
-    out = numpy.zeros(len(place), dtype=f"datetime64[{unit}]")
+    out = numpy.zeros(len(place), dtype=_dtype(unit))
     _test_out(out)
     _put(out, seconds[:done], nanoseconds[:done])
     if done < len(place):

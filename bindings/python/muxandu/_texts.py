@@ -5,10 +5,11 @@ from __future__ import annotations
 import ctypes
 from typing import Any, Union
 
-from ._batch import _is_like_numpy, _reading, _room, _structures, _test, _writing
+from . import _missing
+from ._batch import _is_like_numpy, _reading, _room, _sequence, _structures, _test, _writing
 from ._engine import engine
 from ._values import OffsetDateTime
-from ._words import as_bytes
+from ._words import joined
 from .muxandu_sys import MuxanduDateTime, MuxanduSpan
 
 # The bytes of the longest text of RFC 3339 that is written.
@@ -21,27 +22,27 @@ def rfc3339_fault(text: Union[str, bytes]) -> int:
     return engine.rfc3339_fault(text)
 
 
-def _block_of(texts: Any) -> tuple[bytes, Any]:
-    """One block of texts, and where each lies in it."""
-    if isinstance(texts, (str, bytes, bytearray, memoryview)):
-        raise TypeError("a sequence of texts, or a block of bytes and the spans of its texts")
-    each = [as_bytes(text) for text in texts]
-    spans = (MuxanduSpan * len(each))()
-    start = 0
-    for span, text in zip(spans, each):
-        span.start, span.length = start, len(text)
-        start += len(text)
-    return b"".join(each), spans
+def _known_texts(texts: Any) -> tuple[bytes, Any, list[int]]:
+    """A block of texts, where each lies in it, and the places of those that are missing, which are empty there."""
+    each = list(_sequence(texts))
+    places = _missing.places_of(each)
+    for place in places:
+        each[place] = b""
+    block, numbers = joined(each)
+    return block, (MuxanduSpan * len(each)).from_buffer_copy(numbers), places
 
 
 def date_times_from_each_rfc3339(texts: Any, spans: Any = None, out: Any = None, statuses: Any = None) -> tuple[Any, Any]:
-    """The date-time and the offset of each text of RFC 3339, and the status of each: 0, or the `status` of its refusal. Where
-    one is refused, what is in its place stays, and the next follows. The texts are as timestamps_from_rfc3339 takes them."""
+    """The date-time and the offset of each text of RFC 3339, and the status of each: 0, or the `status` of its refusal, or
+    MISSING of None, NaN, NA and a masked item. Where an item has a status, its place in `out` stays as it was, and the next
+    follows. The texts are as timestamps_from_rfc3339 takes them."""
     if isinstance(texts, str):
         raise TypeError("a block of bytes, not a str")
     like = texts if spans is None else spans
-    block, where = _block_of(texts) if spans is None else (texts, spans)
-    read, places = _reading(block, ctypes.c_uint8), _reading(where, MuxanduSpan)
+    missing: list[int] = []
+    if spans is None:
+        texts, spans, missing = _known_texts(texts)
+    read, places = _reading(texts, ctypes.c_uint8), _reading(spans, MuxanduSpan)
     if out is None:
         out = _room(places.count, MuxanduDateTime, _is_like_numpy(like))
     if statuses is None:
@@ -54,6 +55,7 @@ def date_times_from_each_rfc3339(texts: Any, spans: Any = None, out: Any = None,
         first, read.count, second, places.count, made.data, made.count, told.data, told.count
     )
     _test(status, done)
+    _missing.mark(statuses, missing)
     return out, statuses
 
 

@@ -321,7 +321,8 @@ class OffsetDateTime(engine.OffsetDateTime):
         offset_seconds: SupportsIndex = _KEPT,
     ) -> _Shown:
         """The same with other parts, by name: replace(day=1, hour=0)."""
-        return _replaced(self, (year, month, day, hour, minute, second, nanosecond, offset_seconds))
+        made: _Shown = _replaced(self, (year, month, day, hour, minute, second, nanosecond, offset_seconds))
+        return made
 
     def date(self) -> Date:
         """The date that the clocks show."""
@@ -355,11 +356,10 @@ class OffsetDateTime(engine.OffsetDateTime):
         return f"{type(self).__name__}{self.__reduce__()[1]}"
 
 
-def _replaced(value: _Kind, parts: tuple[SupportsIndex, ...]) -> _Kind:
+def _replaced(value: Any, parts: tuple[SupportsIndex, ...]) -> Any:
     """The value with those of its parts that are not kept."""
-    kind, kept = value.__reduce__()[:2]
-    made: _Kind = kind(*(old if part is _KEPT else part for old, part in zip(kept, parts)))
-    return made
+    kind, kept = value.__reduce__()
+    return kind(*(old if part is _KEPT else part for old, part in zip(kept, parts)))
 
 
 def _datetime(shown: Any, zone: Union[datetime.tzinfo, None]) -> datetime.datetime:
@@ -468,7 +468,8 @@ class Date(engine.Date):
         self: _Date, *, year: SupportsIndex = _KEPT, month: SupportsIndex = _KEPT, day: SupportsIndex = _KEPT
     ) -> _Date:
         """The same with other parts, by name: replace(day=1)."""
-        return _replaced(self, (year, month, day))
+        made: _Date = _replaced(self, (year, month, day))
+        return made
 
     def _moved(self: _Date, days: Any, sign: int) -> _Date:
         if _is_length(days):

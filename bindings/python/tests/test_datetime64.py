@@ -147,7 +147,7 @@ class Moments(unittest.TestCase):
         for unit in ("s", "ms", "7us", "ns"):
             array = numpy.array([5, -(2**63), -1], dtype="int64").view(f"datetime64[{unit}]")
             shown, statuses = muxandu.date_times_from_each_second(array, 60)
-            self.assertEqual(statuses.tolist(), [0, muxandu.RefusedTimestamp.status, 0])
+            self.assertEqual(statuses.tolist(), [0, muxandu.MISSING, 0])
             wanted = muxandu.date_times_from_seconds(array[::2], 60)
             self.assertEqual(shown[::2].tolist(), wanted.tolist())
             self.assertEqual(shown[1].tolist(), (0,) * 8)
@@ -202,7 +202,7 @@ class Columns(unittest.TestCase):
         there = instants.dt.tz_convert("Asia/Tokyo")
         self.assertEqual(muxandu.rfc3339_from_timestamps(there), muxandu.rfc3339_from_timestamps(instants))
         shown, statuses = muxandu.date_times_from_each_second(there.reindex([0, 1, 2]))
-        self.assertEqual((shown["hour"].tolist(), statuses.tolist()), ([12, 23, 0], [0, 0, muxandu.RefusedTimestamp.status]))
+        self.assertEqual((shown["hour"].tolist(), statuses.tolist()), ([12, 23, 0], [0, 0, muxandu.MISSING]))
         self.assertRaises(TypeError, muxandu.timestamps_from_rfc3339, column, out=pandas.Series(out))
         for other in (
             column,

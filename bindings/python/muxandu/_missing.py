@@ -1,0 +1,91 @@
+"""Items that are missing: None, NaN, NA and NaT, and items that an array of NumPy masks.
+
+A call over many items raises a TypeError where an array masks an item, or where a sequence has one that is missing. The calls
+of `each` give such an item the status MISSING.
+"""
+
+from __future__ import annotations
+
+import datetime
+import sys
+from typing import Any
+
+# The status of an item that is missing, above each status of the library.
+MISSING = 1_000
+
+
+def mask_of(items: Any) -> Any:
+    """Which items an array of NumPy masks, as an array; None where it masks none. A structure is masked where a field is."""
+    numpy = sys.modules.get("numpy")
+    if numpy is None or not isinstance(items, numpy.ma.MaskedArray):
+        return None
+    mask = numpy.ma.getmaskarray(items)
+    if mask.dtype.names:
+        mask = mask.copy().view(bool).reshape(*mask.shape, -1).any(axis=-1)
+    return mask if mask.any() else None
+
+
+def refuse_mask(items: Any) -> None:
+    """Raises TypeError where an array masks an item."""
+    if mask_of(items) is not None:
+        raise TypeError("an array that masks items: fill them, or use a call of `each`, which gives them a status")
+
+
+def is_missing(item: Any) -> bool:
+    """Whether an item stands for none: None, NaN, NA, NaT or the masked item of NumPy."""
+    numpy, pandas = sys.modules.get("numpy"), sys.modules.get("pandas")
+    if item is None or pandas is not None and item is pandas.NA or numpy is not None and item is numpy.ma.masked:
+        return True
+    # NaN and NaT alone are not equal to themselves.
+    kinds = (float, datetime.datetime) if numpy is None else (float, datetime.datetime, numpy.generic)
+    return isinstance(item, kinds) and bool(item != item)
+
+
+def places_of(items: list[Any]) -> list[int]:
+    """The places of the items of a list that are missing."""
+    return [place for place, item in enumerate(items) if is_missing(item)]
+
+
+def is_float(items: Any) -> bool:
+    """Whether these are an array of floats, as a column of pandas with a gap is."""
+    return getattr(getattr(items, "dtype", None), "kind", "") == "f"
+
+
+def whole_of_floats(items: Any, filling: int) -> tuple[Any, Any]:
+    """The whole numbers of an array of floats, with `filling` for NaN, and the places of NaN. TypeError of a fraction."""
+    import numpy
+
+    is_nan = numpy.isnan(items)
+    known = numpy.where(is_nan, 0, items)
+    is_part = known != numpy.floor(known)
+    if is_part.any() or numpy.isinf(known).any():
+        place = int((is_part | numpy.isinf(known)).argmax())
+        raise TypeError(f"item {place} is no whole number: {items[place]}")
+    # What 64 bits do not hold is refused as `filling` is.
+    is_held = numpy.abs(known) < 2.0**62
+    whole = numpy.where(is_held, known, 0).astype("int64")
+    return numpy.where(is_held & ~is_nan, whole, filling), numpy.flatnonzero(is_nan)
+
+
+def filled(items: Any, filling: Any) -> tuple[Any, Any]:
+    """An array with `filling` in place of the items that it masks, and the places of these; others as they are."""
+    mask = mask_of(items)
+    if mask is None:
+        return items, ()
+    import numpy
+
+    data: Any = numpy.array(items.data)
+    # A short whole number does not hold the filling.
+    data = data.astype("int64") if data.dtype.kind in "iu" and data.dtype.itemsize < 8 else data
+    # A structure of zeros is no date-time.
+    own = {"f": float("nan"), "M": "NaT", "O": None, "V": numpy.zeros(1, data.dtype)[0]}
+    data[mask] = own.get(data.dtype.kind, filling)
+    return data, numpy.flatnonzero(mask)
+
+
+def mark(statuses: Any, places: Any) -> None:
+    """Writes the status of what is missing in these places."""
+    if len(places):
+        told = memoryview(statuses).cast("B").cast("I")
+        for place in places:
+            told[place] = MISSING
