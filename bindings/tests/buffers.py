@@ -445,9 +445,9 @@ def judged_each(call, words, items, out, statuses, is_refused, missing=()):
     if error is not None or result[0] is not words[-2] or result[1] is not words[-1]:
         return f"must be converted, not {error!r}"
     kept = [bytearray(memory) for memory in after]
-    for place, (item, start, told) in enumerate(zip(items, out.starts, statuses.starts)):
-        if (statuses.kind.read(after[1], told)[""] == muxandu.MISSING) != (place in missing):
-            return f"item {place} must {'' if place in missing else 'not '}be missing"
+    for number, (item, start, told) in enumerate(zip(items, out.starts, statuses.starts)):
+        if (statuses.kind.read(after[1], told)[""] == muxandu.MISSING) != (number in missing):
+            return f"item {number} must {'' if number in missing else 'not '}be missing"
         if (statuses.kind.read(after[1], told)[""] != 0) != (item is None):
             return f"{item} must have another status"
         if item is not None and out.kind.read(after[0], start) != item:

@@ -1,9 +1,13 @@
-"""What an instant is: python -m muxandu TEXT, a text of RFC 3339, or a Unix second with or without a fraction."""
+"""What an instant is: python -m muxandu TEXT, a text of RFC 3339, or a Unix second with or without a fraction.
+
+`--version` prints the version of the package, and whether it is compiled or goes through ctypes.
+"""
 
 import re
 import sys
 
-from . import Refused, RefusedTimestamp, Timestamp
+from . import IMPLEMENTATION, Refused, RefusedTimestamp, Timestamp, __version__
+from ._engine import REASON
 from ._values import OffsetDateTime
 
 
@@ -19,9 +23,18 @@ def _read(text: str) -> OffsetDateTime:
     return OffsetDateTime.from_parts(Timestamp.from_nanoseconds(-whole if sign == "-" else whole).to_offset(0))
 
 
+USAGE = "usage: python -m muxandu TEXT | --version | --help"
+
+
 def main(words: list[str]) -> int:
+    if words == ["--help"]:
+        print(USAGE)
+        return 0
+    if words == ["--version"]:
+        print(f"muxandu {__version__}, {IMPLEMENTATION}{f': {REASON}' if REASON else ''}")
+        return 0
     if len(words) != 1 or words[0].startswith("--"):
-        print("usage: python -m muxandu TEXT", file=sys.stderr)
+        print(USAGE, file=sys.stderr)
         return 2
     try:
         shown = _read(words[0])

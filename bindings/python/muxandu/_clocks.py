@@ -8,6 +8,7 @@ from __future__ import annotations
 import datetime
 from typing import Any, ClassVar, SupportsIndex, TypeVar, Union
 
+from . import _own_texts
 from ._values import _KEPT, _PARTS, Date, Duration, OffsetDateTime, Time, Timestamp, UtcOffset
 from ._values import _datetime, _formatted, _is_length, _parts, _replaced
 from ._words import nanosecond_of
@@ -35,6 +36,11 @@ class _Clock:
         nanosecond: SupportsIndex = 0,
     ) -> _Self:
         return cls._shown_by(OffsetDateTime(year, month, day, hour, minute, second, nanosecond))
+
+    @classmethod
+    def from_text(cls: type[_Self], text: str) -> _Self:
+        """The value that str() writes so. ValueError of another text."""
+        return _own_texts.read(cls._kind.__name__, text, lambda *parts: cls(*_own_texts.numbers(*parts)))
 
     @classmethod
     def _shown_by(cls: type[_Self], at: OffsetDateTime) -> _Self:

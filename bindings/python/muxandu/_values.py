@@ -6,6 +6,7 @@ import datetime
 import time
 from typing import Any, ClassVar, NamedTuple, SupportsIndex, TypeVar, Union
 
+from . import _own_texts
 from ._engine import engine
 from ._refusals import REFUSALS, RefusedResult
 from ._words import as_bytes, nanosecond_of, nanoseconds_of, whole
@@ -21,6 +22,7 @@ _Shown = TypeVar("_Shown", bound="OffsetDateTime")
 _Date = TypeVar("_Date", bound="Date")
 _Time = TypeVar("_Time", bound="Time")
 _Offset = TypeVar("_Offset", bound="UtcOffset")
+_Length = TypeVar("_Length", bound="Duration")
 
 
 _Kind = TypeVar("_Kind")
@@ -74,6 +76,11 @@ class Duration(engine.Duration):
     def of_days(cls, days: int) -> Duration:
         """The duration of so many days of 86,400 seconds."""
         return cls(whole(days) * _DAY)
+
+    @classmethod
+    def from_text(cls: type[_Length], text: str) -> _Length:
+        """The duration that str() writes so, as -90.5s. ValueError of another text."""
+        return _own_texts.read("Duration", text, lambda *parts: cls(0, _own_texts.nanoseconds(*parts)))
 
     def whole_nanoseconds(self) -> int:
         """The whole duration in nanoseconds."""
@@ -155,6 +162,11 @@ class UtcOffset:
         return offset
 
     @classmethod
+    def from_text(cls: type[_Offset], text: str) -> _Offset:
+        """The offset that str() writes so, as +02:00:00. ValueError of another text."""
+        return _own_texts.read("UtcOffset", text, lambda *parts: cls(_own_texts.seconds(*parts)))
+
+    @classmethod
     def from_hms(cls, hours: int, minutes: int = 0, seconds: int = 0) -> UtcOffset:
         """The offset of hours, minutes and seconds: the smaller take the sign of the hours, or of the minutes if these are 0."""
         return cls(engine.offset_from_parts(hours, minutes, seconds))
@@ -211,6 +223,11 @@ class Timestamp(engine.Timestamp):
     def now(cls: type[_Stamp]) -> _Stamp:
         """The instant that the clock of the system shows."""
         return cls._from_nanoseconds(time.time_ns())
+
+    @classmethod
+    def from_text(cls: type[_Stamp], text: str) -> _Stamp:
+        """The instant that str() writes so, a decimal of Unix seconds as -0.5. ValueError of another text."""
+        return _own_texts.read("Timestamp", text, lambda *parts: cls.from_nanoseconds(_own_texts.nanoseconds(*parts)))
 
     @classmethod
     def from_microseconds(cls: type[_Stamp], microseconds: int) -> _Stamp:
@@ -284,6 +301,16 @@ class OffsetDateTime(engine.OffsetDateTime):
     def now(cls: type[_Shown], offset_seconds: SupportsIndex = 0) -> _Shown:
         """What clocks at an offset show now, by the clock of the system."""
         return cls(*_parts(Timestamp.now().to_offset(offset_seconds), *_PARTS, "offset_seconds"))
+
+    @classmethod
+    def from_text(cls: type[_Shown], text: str) -> _Shown:
+        """The date-time that str() writes so, as 2024-02-29 4:00:00.0 +02:00:00. ValueError of another text."""
+
+        def make(*parts: str) -> _Shown:
+            numbers = [*_own_texts.numbers(*parts[:7]), _own_texts.seconds(*parts[7:])]
+            return cls(*numbers)
+
+        return _own_texts.read("OffsetDateTime", text, make)
 
     @classmethod
     def from_parts(cls: type[_Shown], item: Any) -> _Shown:
@@ -411,6 +438,11 @@ class Date(engine.Date):
         return engine.date_to_rfc3339(self.year, self.month, self.day)
 
     @classmethod
+    def from_text(cls: type[_Date], text: str) -> _Date:
+        """The day that str() writes so, as 2024-02-29 or -0005-03-01. ValueError of another text."""
+        return _own_texts.read("Date", text, lambda *parts: cls(*_own_texts.numbers(*parts)))
+
+    @classmethod
     def from_date(cls: type[_Date], date: datetime.date) -> _Date:
         """The day of a datetime.date."""
         return cls(date.year, date.month, date.day)
@@ -518,6 +550,11 @@ class Time:
         made = object.__new__(cls)
         made._at = OffsetDateTime(1970, 1, 1, hour, minute, second, nanosecond)
         return made
+
+    @classmethod
+    def from_text(cls: type[_Time], text: str) -> _Time:
+        """The time of day that str() writes so, as 4:00:00.0. ValueError of another text."""
+        return _own_texts.read("Time", text, lambda *parts: cls(*_own_texts.numbers(*parts)))
 
     @classmethod
     def from_time(cls, at: datetime.time) -> Time:

@@ -8,10 +8,8 @@ import inspect
 import os
 import pickle
 import random
-import shutil
 import subprocess
 import sys
-import tempfile
 import time
 import unittest
 from pathlib import Path
@@ -28,7 +26,6 @@ from muxandu import (
     Unit,
     UtcDateTime,
     UtcOffset,
-    muxandu_sys,
 )
 
 DAY = datetime.timedelta(days=1)
@@ -421,27 +418,6 @@ class Package(unittest.TestCase):
             self.assertEqual(importlib.metadata.version("muxandu"), muxandu.__version__)
         except importlib.metadata.PackageNotFoundError:
             pass
-
-    @unittest.skipUnless(shutil.which("cc"), "cc is not there")
-    def test_other_libraries_are_not_taken(self):
-        names = [f"unsigned {name}(void) {{ return 0; }}" for name in muxandu_sys.CALLS]
-        with tempfile.TemporaryDirectory() as folder:
-            for name, lines, told in (("other", names, "does not answer"), ("less", names[1:], "is no library")):
-                source, library = Path(folder, f"{name}.c"), Path(folder, f"{name}.so")
-                source.write_text("\n".join(lines), encoding="utf-8")
-                subprocess.run(["cc", "-shared", "-fPIC", "-w", str(source), "-o", str(library)], check=True)
-                self.assertIn(told, self.said_of(library))
-            Path(folder, "text.so").write_text("no library", encoding="utf-8")
-            self.assertIn("is no library", self.said_of(Path(folder, "text.so")))
-
-    def said_of(self, library):
-        """What the package says where another library is named."""
-        folder = str(Path(muxandu.__file__).resolve().parent.parent)
-        variables = {**os.environ, "MUXANDU_LIBRARY": str(library), "MUXANDU_IMPLEMENTATION": "ctypes", "PYTHONPATH": folder}
-        command = [sys.executable, "-B", "-c", "import muxandu"]
-        ended = subprocess.run(command, env=variables, stderr=subprocess.PIPE, encoding="utf-8", check=False)
-        self.assertEqual(ended.returncode, 1)
-        return ended.stderr.strip().split("\n")[-1]
 
     def test_constructors_tell_their_words(self):
         for kind, words in (
