@@ -39,7 +39,7 @@ class _Clock:
 
     @classmethod
     def from_text(cls: type[_Self], text: str) -> _Self:
-        """The value that str() writes so. ValueError of another text."""
+        """The value that str() writes so. RefusedSyntax of another text."""
         return _own_texts.read(cls._kind.__name__, text, lambda *parts: cls(*_own_texts.numbers(*parts)))
 
     @classmethod

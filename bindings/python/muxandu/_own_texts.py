@@ -5,6 +5,8 @@ from __future__ import annotations
 import re
 from typing import Any, Callable, TypeVar
 
+from ._refusals import RefusedSyntax
+
 _Made = TypeVar("_Made")
 
 _DATE = r"([+-]?\d{4,6})-(\d\d)-(\d\d)"
@@ -12,31 +14,30 @@ _TIME = r"(\d{1,2}):(\d\d):(\d\d)\.(\d{1,9})"
 _OFFSET = r"([+-])(\d\d):(\d\d):(\d\d)"
 _DECIMAL = r"(-?)(\d{1,20})(?:\.(\d{1,9}))?"
 
-# What `str` writes of each type, and an example of it.
+# What `str` writes of each type.
 _FORMS = {
-    name: (re.compile(form, re.ASCII), example)
-    for name, form, example in (
-        ("Timestamp", _DECIMAL, "1709166600.5"),
-        ("OffsetDateTime", f"{_DATE} {_TIME} {_OFFSET}", "2024-02-29 4:00:00.0 +02:00:00"),
-        ("UtcDateTime", rf"{_DATE} {_TIME} \+00", "2024-02-29 4:00:00.0 +00"),
-        ("PlainDateTime", f"{_DATE} {_TIME}", "2024-02-29 4:00:00.0"),
-        ("Date", _DATE, "2024-02-29"),
-        ("Time", _TIME, "4:00:00.0"),
-        ("UtcOffset", _OFFSET, "+02:00:00"),
-        ("Duration", f"{_DECIMAL}s", "-90.5s"),
+    name: re.compile(form, re.ASCII)
+    for name, form in (
+        ("Timestamp", _DECIMAL),
+        ("OffsetDateTime", f"{_DATE} {_TIME} {_OFFSET}"),
+        ("UtcDateTime", rf"{_DATE} {_TIME} \+00"),
+        ("PlainDateTime", f"{_DATE} {_TIME}"),
+        ("Date", _DATE),
+        ("Time", _TIME),
+        ("UtcOffset", _OFFSET),
+        ("Duration", f"{_DECIMAL}s"),
     )
 }
 
 
 def read(name: str, text: str, make: Callable[..., _Made]) -> _Made:
-    """The value that `str` writes so, made of the parts of its text. ValueError of another text."""
+    """The value that `str` writes so, made of the parts of its text. RefusedSyntax of another text."""
     if not isinstance(text, str):
         raise TypeError(f"{name}.from_text() reads a str, not {type(text).__name__}")
-    form, example = _FORMS[name]
-    found = form.fullmatch(text)
+    found = _FORMS[name].fullmatch(text)
     made = None if found is None else make(*found.groups())
     if made is None or str(made) != text:
-        raise ValueError(f"{name}.from_text() reads what str() writes, as {example!r}, not {text[:60]!r}")
+        raise RefusedSyntax(None, text)
     return made
 
 

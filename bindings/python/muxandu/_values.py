@@ -79,7 +79,7 @@ class Duration(engine.Duration):
 
     @classmethod
     def from_text(cls: type[_Length], text: str) -> _Length:
-        """The duration that str() writes so, as -90.5s. ValueError of another text."""
+        """The duration that str() writes so, as -90.5s. RefusedSyntax of another text."""
         return _own_texts.read("Duration", text, lambda *parts: cls(0, _own_texts.nanoseconds(*parts)))
 
     def whole_nanoseconds(self) -> int:
@@ -163,7 +163,7 @@ class UtcOffset:
 
     @classmethod
     def from_text(cls: type[_Offset], text: str) -> _Offset:
-        """The offset that str() writes so, as +02:00:00. ValueError of another text."""
+        """The offset that str() writes so, as +02:00:00. RefusedSyntax of another text."""
         return _own_texts.read("UtcOffset", text, lambda *parts: cls(_own_texts.seconds(*parts)))
 
     @classmethod
@@ -226,7 +226,7 @@ class Timestamp(engine.Timestamp):
 
     @classmethod
     def from_text(cls: type[_Stamp], text: str) -> _Stamp:
-        """The instant that str() writes so, a decimal of Unix seconds as -0.5. ValueError of another text."""
+        """The instant that str() writes so, a decimal of Unix seconds as -0.5. RefusedSyntax of another text."""
         return _own_texts.read("Timestamp", text, lambda *parts: cls.from_nanoseconds(_own_texts.nanoseconds(*parts)))
 
     @classmethod
@@ -304,7 +304,7 @@ class OffsetDateTime(engine.OffsetDateTime):
 
     @classmethod
     def from_text(cls: type[_Shown], text: str) -> _Shown:
-        """The date-time that str() writes so, as 2024-02-29 4:00:00.0 +02:00:00. ValueError of another text."""
+        """The date-time that str() writes so, as 2024-02-29 4:00:00.0 +02:00:00. RefusedSyntax of another text."""
 
         def make(*parts: str) -> _Shown:
             numbers = [*_own_texts.numbers(*parts[:7]), _own_texts.seconds(*parts[7:])]
@@ -439,7 +439,7 @@ class Date(engine.Date):
 
     @classmethod
     def from_text(cls: type[_Date], text: str) -> _Date:
-        """The day that str() writes so, as 2024-02-29 or -0005-03-01. ValueError of another text."""
+        """The day that str() writes so, as 2024-02-29 or -0005-03-01. RefusedSyntax of another text."""
         return _own_texts.read("Date", text, lambda *parts: cls(*_own_texts.numbers(*parts)))
 
     @classmethod
@@ -553,7 +553,7 @@ class Time:
 
     @classmethod
     def from_text(cls: type[_Time], text: str) -> _Time:
-        """The time of day that str() writes so, as 4:00:00.0. ValueError of another text."""
+        """The time of day that str() writes so, as 4:00:00.0. RefusedSyntax of another text."""
         return _own_texts.read("Time", text, lambda *parts: cls(*_own_texts.numbers(*parts)))
 
     @classmethod

@@ -19,6 +19,11 @@ LAST = Timestamp(31_494_784_780_799, 999_999_999)
 EPOCH = Timestamp(0)
 
 
+def sentence_of(refusal):
+    """What a class of refusals says, without its full stop."""
+    return " ".join(refusal.__doc__.split()).rstrip(".")
+
+
 class Timestamps(unittest.TestCase):
     def test_parts_are_tested(self):
         for parts, refusal in (
@@ -306,7 +311,7 @@ class Rest(unittest.TestCase):
             OffsetDateTime(2023, 2, 29)
         self.assertIsInstance(caught.exception, Refused)
         self.assertEqual((caught.exception.name, caught.exception.status), ("DAY_OF_MONTH", 4))
-        self.assertEqual(str(caught.exception), f"DAY_OF_MONTH: {engine.status_text(4).rstrip('.')}: 29")
+        self.assertEqual(str(caught.exception), f"DAY_OF_MONTH: {sentence_of(muxandu.RefusedDayOfMonth)}: 29")
 
     def test_refusals_show_what_is_refused(self):
         """Each message is the library's sentence, and then the number or the text that is refused."""
@@ -339,7 +344,7 @@ class Rest(unittest.TestCase):
                 make()
             refused = caught.exception
             self.assertEqual((refused.value, refused.place), (value, place))
-            sentence = engine.status_text(refused.status).rstrip(".")
+            sentence = sentence_of(type(refused))
             count = "" if refused.count is None else f"item {refused.count}: "
             at = "" if place is None else f", at byte {place}"
             self.assertEqual(str(refused), f"{count}{refused.name}: {sentence}: {value!r}{at}")
@@ -350,7 +355,7 @@ class Rest(unittest.TestCase):
         for make, shown in (
             (lambda: Timestamp(10**5_000), f"a number of {(10**5_000).bit_length()} bits"),
             (lambda: Timestamp.from_rfc3339("\u00e9" * 10**6), "'" + "\\xe9" * 14 + "\\xe.., at byte 0"),
-            (lambda: Timestamp.from_rfc3339(bytearray(b"soon")), engine.status_text(22).rstrip(".")),
+            (lambda: Timestamp.from_rfc3339(bytearray(b"soon")), sentence_of(muxandu.RefusedSyntax)),
         ):
             with self.assertRaises(Refused) as caught:
                 make()

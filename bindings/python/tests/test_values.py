@@ -5,6 +5,7 @@ import datetime
 import fractions
 import importlib.metadata
 import inspect
+import json
 import os
 import pickle
 import random
@@ -353,6 +354,50 @@ class Moments(unittest.TestCase):
             for protocol in range(pickle.HIGHEST_PROTOCOL + 1):
                 self.assertEqual(repr(pickle.loads(pickle.dumps(value, protocol))), repr(value))
             self.assertRaises(AttributeError, setattr, value, "other", 1)
+
+    def test_own_texts_are_read(self):
+        """What `str` writes, which is the crate's text and no text of RFC 3339."""
+        for text, value in (
+            ("-0.5", Timestamp(-1, 500_000_000)),
+            ("1709166600", Timestamp(1_709_166_600)),
+            ("2024-02-29 4:00:00.0 +02:00:00", OffsetDateTime(2024, 2, 29, 4, offset_seconds=7_200)),
+            ("-0005-12-31 23:59:59.000000001 -25:59:59", OffsetDateTime(-5, 12, 31, 23, 59, 59, 1, -93_599)),
+            ("+999999-12-31 23:59:59.999999999 +00", UtcDateTime.MAX),
+            ("-999999-01-01 0:00:00.0", PlainDateTime.MIN),
+            ("+10000-01-01", Date(10_000, 1, 1)),
+            ("9:05:00.25", Time(9, 5, 0, 250_000_000)),
+            ("-08:30:00", UtcOffset(-30_600)),
+            ("-0.000000001s", Duration(0, -1)),
+            (str(Duration.MIN), Duration.MIN),
+        ):
+            kind = type(value)
+            self.assertEqual((str(value), format(value, ""), f"{value}"), (text,) * 3)
+            self.assertEqual(repr(kind.from_text(text)), repr(value))
+            for other in ("", f" {text}", f"{text}\n", f"{text}\u0660", f"0{text}", f"+{text}", "1" * 10_000, "x"):
+                with self.assertRaises(muxandu.RefusedSyntax) as caught:
+                    kind.from_text(other)
+                self.assertEqual(caught.exception.value, other)
+            for other in (None, 5, text.encode(), value):
+                self.assertRaises(TypeError, kind.from_text, other)
+        for kind, text, refusal in (
+            (Date, "2024-13-01", muxandu.RefusedMonth),
+            (Time, "24:00:00.0", muxandu.RefusedHour),
+            (OffsetDateTime, "2023-02-29 0:00:00.0 +00:00:00", muxandu.RefusedDayOfMonth),
+            (UtcOffset, "+26:00:00", muxandu.RefusedOffsetSeconds),
+            (Timestamp, "31494784780800", muxandu.RefusedTimestamp),
+            (Duration, "9223372036854775808s", muxandu.RefusedDuration),
+            (OffsetDateTime, "2024-02-29T04:00:00Z", muxandu.RefusedSyntax),
+            (Timestamp, "-0", muxandu.RefusedSyntax),
+        ):
+            self.assertRaises(refusal, kind.from_text, text)
+
+    def test_texts_of_files(self):
+        """`json.dumps` with `default=str` writes the text that `from_text` reads; `isoformat` and `to_rfc3339` write others."""
+        at = OffsetDateTime(2024, 2, 29, 4, offset_seconds=7_200)
+        self.assertEqual(OffsetDateTime.from_text(json.loads(json.dumps({"at": at}, default=str))["at"]), at)
+        written = json.dumps({"at": at}, default=OffsetDateTime.to_rfc3339)
+        self.assertEqual(OffsetDateTime.from_rfc3339(json.loads(written)["at"]), at)
+        self.assertEqual(datetime.datetime.fromisoformat(json.loads(written)["at"]), at.to_datetime())
 
     def test_values_do_not_change(self):
         for value, name in ((Timestamp(0), "seconds"), (OffsetDateTime(1970, 1, 1), "year"), (Date(1970, 1, 1), "day")):
