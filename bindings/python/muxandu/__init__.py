@@ -75,6 +75,10 @@ from .muxandu_sys import MuxanduTimestamp as TimestampParts
 
 __version__ = "0.1.0"
 
+# Where users and pickles look for them.
+for _kind in (IsoWeekDate, OrdinalDate, Part, PlainDateTime, Refused, Time, Unit, UtcDateTime, UtcOffset):
+    _kind.__module__ = "muxandu"
+
 __all__ = [
     "Date",
     "DateParts",

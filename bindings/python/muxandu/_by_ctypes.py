@@ -85,7 +85,8 @@ class _Call:
         """The words as the call takes them."""
         if len(given) != self.count:
             some = "argument" if self.count == 1 else "arguments"
-            raise TypeError(f"{_methods.name_of(self.name)}() takes {self.count} {some}, and {len(given)} were given")
+            were = "was" if len(given) == 1 else "were"
+            raise TypeError(f"{_methods.name_of(self.name)}() takes {self.count} {some}, and {len(given)} {were} given")
         taken: list[Any] = []
         words = iter(given)
         for kind in self.parameters:

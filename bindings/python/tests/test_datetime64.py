@@ -74,6 +74,11 @@ class Moments(unittest.TestCase):
                 muxandu.datetime64_from_timestamps(far, unit)
             self.assertEqual(caught.exception.count, 1)
         self.assertRaises(TypeError, muxandu.timestamps_from_datetime64, numpy.array(["NaT"], dtype="datetime64"))
+        for unit in ("minute", "min", "5", ""):
+            with self.assertRaisesRegex(TypeError, "datetime64"):
+                muxandu.datetime64_from_timestamps(far[:1], unit)
+        with self.assertRaisesRegex(TypeError, "one of Y, M, W, D, h, m, s, ms, us, ns, ps, fs, as, .* not 'minute'"):
+            muxandu.datetime64_from_timestamps(far[:1], "minute")
         for other in ("timedelta64[s]", "int64", "float64", "S8", object):
             self.assertRaises(TypeError, muxandu.timestamps_from_datetime64, numpy.zeros(1, dtype=other))
             self.assertRaises(TypeError, muxandu.rfc3339_from_timestamps, numpy.zeros(1, dtype=other))

@@ -406,7 +406,7 @@ class Hypothesis(unittest.TestCase):
 
     def try_all(self, law):
         """Tries a law on what Hypothesis draws."""
-        settings = hypothesis.settings(max_examples=60, deadline=None, database=None, derandomize=True)
+        settings = hypothesis.settings(max_examples=25, deadline=None, database=None, derandomize=True)
         settings(hypothesis.given(strategies.data())(lambda data: law(Drawn(data))))()
 
     def test_order_equality_and_hashes(self):

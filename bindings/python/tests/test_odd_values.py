@@ -11,8 +11,10 @@ import sys
 import threading
 import unittest
 from pathlib import Path
+from unittest import mock
 
 import muxandu
+from muxandu._engine import engine
 from muxandu import Date, Duration, OffsetDateTime, PlainDateTime, Span, Time, Timestamp, UtcDateTime, UtcOffset
 
 TEXT = "1970-01-01T00:00:01Z"
@@ -259,6 +261,20 @@ class Buffers(unittest.TestCase):
             text.extend(b"")
             text.append(text.pop())
         self.assertEqual((len(memory), len(seconds)), (84, 3))
+
+    def test_spans_are_copied_before_a_call_reads_them(self):
+        block, spans, seen = TEXT.encode(), (Span * 1)((0, 20)), []
+        for call in (muxandu.timestamps_from_rfc3339, muxandu.date_times_from_rfc3339):
+
+            def kept(*words):
+                seen.append(words[2])
+                spans[0].length = 2**40
+                return 1, 0
+
+            spans[0].length = 20
+            with mock.patch.object(engine, call.__name__, kept):
+                call(block, spans)
+            self.assertEqual(Span.from_buffer_copy(seen.pop()).length, 20)
 
     def test_spans_that_change_meanwhile(self):
         """Spans that another thread writes: each call reads them once."""

@@ -137,6 +137,16 @@ class Dates(unittest.TestCase):
         self.assertRaises(muxandu.RefusedDayNumber, lambda: Date.MIN - 1)
         self.assertRaises(TypeError, lambda: date + 0.5)
 
+    def test_moved_by_a_duration(self):
+        """By whole days towards zero, as the crate `time` has it; a datetime.date takes the days of the timedelta, which are
+        rounded down."""
+        date, hour = Date(2024, 2, 29), datetime.timedelta(hours=1)
+        self.assertEqual((date + hour, date - hour, date + -hour), (date, date, date))
+        self.assertEqual((date + 25 * hour, date - 25 * hour), (Date(2024, 3, 1), Date(2024, 2, 28)))
+        self.assertEqual((date.to_date() + hour, date.to_date() - hour), (date.to_date(), date.to_date()))
+        self.assertEqual(date.to_date() + -hour, datetime.date(2024, 2, 28))
+        self.assertEqual([Duration(seconds).whole_days() for seconds in (-86_401, -86_399, 86_399, 86_401)], [-1, 0, 0, 1])
+
     def test_weeks_and_julian_days_beside_date(self):
         source = random.Random(1)
         for _ in range(500):
@@ -306,7 +316,7 @@ class Moments(unittest.TestCase):
         # What clocks show past both ends of the range of instants.
         known.append((ends[4] + 60 * 10**9, OffsetDateTime(999_999, 12, 31, 23, 59, 59, 999_999_999, -60)))
         known.append((ends[1] - 60 * 10**9, OffsetDateTime(-999_999, 1, 1, offset_seconds=60)))
-        for _ in range(20_000):
+        for _ in range(5_000):
             (one, first), (two, second) = source.choice(known), source.choice(known)
             orders = (first < second, first <= second, first == second, first != second, first >= second, first > second)
             self.assertEqual(orders, (one < two, one <= two, one == two, one != two, one >= two, one > two), (first, second))
@@ -473,6 +483,43 @@ class Package(unittest.TestCase):
         ):
             self.assertEqual(list(inspect.signature(kind).parameters), words.split())
             self.assertGreater(len(kind.__doc__), 40)
+
+    def test_help_names_no_call_of_c(self):
+        for kind in (Timestamp, OffsetDateTime, UtcDateTime, PlainDateTime, Date, Time, Duration, UtcOffset):
+            for name, value in inspect.getmembers(kind):
+                if name.startswith("_") or not callable(value):
+                    continue
+                told = inspect.getdoc(value) or ""
+                self.assertGreater(len(told), 8, (kind, name))
+                for other in ("muxandu_", "BUFFER", "Refused as", "`size`", "`is_leap`"):
+                    if not name.endswith("_leap"):
+                        self.assertNotIn(other, told, (kind, name))
+
+    def test_errors_name_the_types_by_their_public_names(self):
+        at, words = OffsetDateTime(2024, 2, 29), "from_rfc3339() takes 1 argument, and 0 were given"
+        is_compiled = muxandu.IMPLEMENTATION == "extension"
+        for call, told in (
+            (lambda: at + 5, "'muxandu.OffsetDateTime' and 'int'" if is_compiled else "'OffsetDateTime' and 'int'"),
+            (lambda: Timestamp(0) < 5, "Timestamp' and 'int'"),
+            (lambda: muxandu.seconds_from_date_times([Timestamp(0)]), "a sequence of OffsetDateTime, not of Timestamp"),
+            (lambda: at.replace(yaer=5), "'yaer'"),
+            (lambda: Timestamp.from_rfc3339(), words),
+            (lambda: OffsetDateTime.from_rfc3339(), words),
+            (lambda: at.with_part(1), "with_part() takes 2 arguments, and 1 was given"),
+            (lambda: Date("2024-02-29"), "Date.from_rfc3339() reads a text" if is_compiled else "'month'"),
+            (lambda: Date(2024, 2), "Date() needs the argument 'day'" if is_compiled else "'day'"),
+            (lambda: Date(2024, 2, 29, week=5), "Date() takes no argument 'week'" if is_compiled else "'week'"),
+            (lambda: Date(2024, 2, 29, day=5), "Date() has the argument 'day' twice" if is_compiled else "'day'"),
+            (lambda: at.to_offset("Z"), "an offset is whole seconds or a UtcOffset, not <class 'str'>" if is_compiled else "'str'"),
+        ):
+            with self.assertRaises(TypeError) as caught:
+                call()
+            self.assertIn(told, str(caught.exception))
+            self.assertNotIn("_extension", str(caught.exception))
+        for name in muxandu.__all__:
+            kind = getattr(muxandu, name)
+            if isinstance(kind, type) and not name.endswith("Parts") and name != "Span":
+                self.assertEqual((kind.__module__, kind.__qualname__), ("muxandu", name))
 
     def test_names_are_there(self):
         for name in muxandu.__all__:
