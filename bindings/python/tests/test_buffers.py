@@ -135,6 +135,14 @@ class Places(unittest.TestCase):
         dates = memoryview((DateParts * 3)((1970, 1, 1), (1970, 1, 2), (1970, 1, 3)))
         self.assertEqual(list(muxandu.days_from_dates(dates[::-1])), [2, 1, 0])
 
+    def test_an_out_whose_items_lie_apart_is_not_taken(self):
+        for step in (2, -1):
+            memory = array.array("q", [7] * 6)
+            out = memoryview(memory)[::step]
+            for call in (muxandu.seconds_from_date_times, muxandu.milliseconds_from_date_times):
+                self.assertRaisesRegex(TypeError, "side by side", call, [OffsetDateTime(1970, 1, 1)] * 2, out)
+            self.assertEqual(memory, array.array("q", [7] * 6))
+
     def test_items_that_begin_askew(self):
         memory = bytearray(64)
         for at in range(8):
