@@ -1,4 +1,4 @@
-"""Instants, date-times, days and durations. Each answer is the library's."""
+"""Instants, date-times, days and durations: the library's calls as methods, and what is Python's own, as all of Duration."""
 
 from __future__ import annotations
 
