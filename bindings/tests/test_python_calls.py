@@ -8,7 +8,12 @@ import unittest
 from pathlib import Path
 
 ROOT = Path(__file__).resolve().parent.parent.parent
-NEEDED = ("tools/python_calls", "bindings/muxandu.h", "bindings/python/muxandu/muxandu_sys.py", "bindings/python/muxandu/_methods.py")
+NEEDED = (
+    "tools/python_calls",
+    "bindings/muxandu.h",
+    "bindings/python/muxandu/muxandu_sys.py",
+    "bindings/python/muxandu/_methods.py",
+)
 
 # A call over many items whose name says nothing of what it writes.
 CALL = """
@@ -32,7 +37,12 @@ class Tables(unittest.TestCase):
         self.folder = tempfile.TemporaryDirectory()
         self.addCleanup(self.folder.cleanup)
         self.root = Path(self.folder.name)
-        for name in (*NEEDED, "bindings/python/extension/calls.h", "bindings/python/muxandu/_refusals.py", "bindings/python/muxandu/_places.py"):
+        for name in (
+            *NEEDED,
+            "bindings/python/extension/calls.h",
+            "bindings/python/muxandu/_refusals.py",
+            "bindings/python/muxandu/_places.py",
+        ):
             (self.root / name).parent.mkdir(parents=True, exist_ok=True)
             shutil.copy(ROOT / name, self.root / name)
 
@@ -59,7 +69,9 @@ class Tables(unittest.TestCase):
         status, said = self.run_tool("compare")
         self.assertEqual(status, 1)
         self.assertRegex(said, r"has no row for seconds_in_order: add one with the parameters that it writes")
-        self.change("bindings/python/muxandu/_methods.py", "BATCHES = {\n", 'BATCHES = {\n    "seconds_in_order": ("seconds",),\n')
+        self.change(
+            "bindings/python/muxandu/_methods.py", "BATCHES = {\n", 'BATCHES = {\n    "seconds_in_order": ("seconds",),\n'
+        )
         status, said = self.run_tool("write")
         self.assertEqual(status, 1)
         self.assertRegex(said, r"METHODS, OPERATORS and FUNCTIONS .* have no row for day_of_luck")

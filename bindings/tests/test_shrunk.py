@@ -40,7 +40,11 @@ class Buffers(unittest.TestCase):
                 buffers.count = kept
             self.assertEqual(told, [])
 
-        checks = [hypothesis.HealthCheck.too_slow, hypothesis.HealthCheck.data_too_large, hypothesis.HealthCheck.large_base_example]
+        checks = [
+            hypothesis.HealthCheck.too_slow,
+            hypothesis.HealthCheck.data_too_large,
+            hypothesis.HealthCheck.large_base_example,
+        ]
         settings = hypothesis.settings(
             max_examples=EXAMPLES, deadline=None, database=None, derandomize=True, suppress_health_check=checks
         )

@@ -26,7 +26,11 @@ sys.dont_write_bytecode = True
 
 import wheel_backend  # noqa: E402
 
-IS_COMPILED = sys.version_info >= (3, 11) and shutil.which("cc") and Path(wheel_backend.sysconfig.get_paths()["include"], "Python.h").is_file()
+IS_COMPILED = (
+    sys.version_info >= (3, 11)
+    and shutil.which("cc")
+    and Path(wheel_backend.sysconfig.get_paths()["include"], "Python.h").is_file()
+)
 LICENCES = {"LICENSE-APACHE", "LICENSE-MIT"}
 
 # The day of each file of a wheel: the first that a zip file can have.
@@ -89,7 +93,9 @@ class Wheels(unittest.TestCase):
     def test_metadata_is_that_of_the_project(self):
         project = (SOURCES / "pyproject.toml").read_text(encoding="utf-8")
         fields = dict(re.findall(r"^([\w-]+) = \"?([^\"\n]*)\"?$", project, re.MULTILINE))
-        head = dict(line.split(": ", 1) for line in self.metadata().partition("\n\n")[0].splitlines() if not line.startswith("Classifier"))
+        head = dict(
+            line.split(": ", 1) for line in self.metadata().partition("\n\n")[0].splitlines() if not line.startswith("Classifier")
+        )
         self.assertEqual((head["Name"], head["Version"]), (fields["name"], fields["version"]))
         self.assertEqual((head["Summary"], head["Requires-Python"]), (fields["description"], fields["requires-python"]))
         self.assertEqual(head["License"], re.search(r'license = \{ text = "(.*)" \}', project)[1])
@@ -127,7 +133,9 @@ class Extensions(unittest.TestCase):
         with tempfile.NamedTemporaryFile(suffix=".so") as file:
             file.write(self.extension(wheel(MUXANDU_EXTENSION="must")[0]))
             file.flush()
-            printed = subprocess.run(["nm", "-D", "--defined-only", file.name], capture_output=True, encoding="utf-8", check=True).stdout
+            printed = subprocess.run(
+                ["nm", "-D", "--defined-only", file.name], capture_output=True, encoding="utf-8", check=True
+            ).stdout
         self.assertEqual([line.split()[2] for line in printed.splitlines()], ["PyInit__extension"])
 
     def test_two_builds_are_the_same_bytes(self):

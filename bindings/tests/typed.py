@@ -1,5 +1,6 @@
 """A user's program, for a checker of types: each line that it must refuse says that it is wrong. It is not run."""
 
+from array import array
 from datetime import date, datetime, timedelta
 from typing import List, Tuple
 
@@ -18,7 +19,17 @@ day: date = (Date(2024, 2, 28) + 1).to_date()
 days: int = (Date.today() - Date.MIN).whole_days()
 moment: datetime = at.to_datetime()
 texts: List[str] = muxandu.rfc3339_from_timestamps([at, later])
-each, statuses = muxandu.date_times_from_each_second([0, 1], UtcOffset.UTC)
+each, statuses = muxandu.date_times_from_each_second([0, None, float("nan"), 1], UtcOffset.UTC)
+numbers = muxandu.seconds_from_date_times(muxandu.date_times_from_seconds(array("q", [0]), 3_600))
+parts_of_texts = muxandu.date_times_from_rfc3339(["1970-01-01T00:00:00Z", b"1970-01-01T00:00:00Z"])
+local_texts: List[str] = muxandu.rfc3339_from_date_times([shown, again])
+day_numbers = muxandu.days_from_dates(muxandu.dates_from_days(memoryview(array("i", [0]))))
+read: Tuple[OffsetDateTime, Date, UtcOffset] = (
+    OffsetDateTime.from_text(str(shown)),
+    Date.from_text("2024-02-29"),
+    UtcOffset.from_text("+02:00:00"),
+)
+missing: int = muxandu.MISSING
 length: Duration = 3 * Duration.of(timedelta(hours=1)) % Duration(7)
 order: bool = at < later and shown <= again and utc != shown and length > timedelta(0)
 instants: bool = at < shown and shown >= utc and utc > at and at <= utc
@@ -46,4 +57,11 @@ Date(2024, 2)  # wrong
 OffsetDateTime(2024, 2, 29, zone=0)  # wrong
 at.seconds = 5  # wrong
 at.to_civil()  # wrong
+muxandu.date_times_from_seconds("abc")  # wrong
+muxandu.date_times_from_seconds([0.5])  # wrong
+muxandu.date_times_from_seconds([None])  # wrong
+muxandu.seconds_from_date_times([at])  # wrong
+muxandu.rfc3339_from_timestamps(["1970-01-01T00:00:00Z"])  # wrong
+muxandu.timestamps_from_rfc3339([5])  # wrong
+Date.from_text(5)  # wrong
 one, two, three = muxandu.seconds_from_each_date_time([shown])  # wrong

@@ -530,8 +530,8 @@ static int is_not_taken(const char *kind, PyObject *named, const char *const *na
     while (PyDict_Next(named, &at, &name, &value)) {
         for (place = 0; place < most && PyUnicode_CompareWithASCIIString(name, names[place]); place++) {}
         if (place >= count && place < most) continue;
-        PyErr_Format(PyExc_TypeError, place < count ? "%s() has the argument %R twice" : "%s() takes no argument %R", kind,
-                     name);
+        PyErr_Format(PyExc_TypeError, place < count ? "%s() has the argument %R twice" : "%s() takes no argument %R",
+                     kind, name);
         break;
     }
     return 0;
@@ -875,7 +875,7 @@ static PyMemberDef Date_members[] = {
 
 static PyMethodDef Date_methods[] = {
     {"from_day_number", date_from_day_number, METH_O | METH_CLASS,
-     "from_day_number($type, number, /)\n--\n\nThe day so many days from 1970-01-01."},
+     "from_day_number($type, number, /)\n--\n\nThe day that is 'number' days from 1970-01-01."},
     {"day_number", date_number, METH_NOARGS, "day_number($self, /)\n--\n\nThe days from 1970-01-01."},
     {0}};
 

@@ -1,10 +1,10 @@
 """Many items in one call.
 
-What goes in is a buffer of such items, an array.array or a NumPy array, which is read where it lies, or a sequence. What
-comes out is written to `out`, a buffer of so many items or more, and is else a new array: of NumPy, where a NumPy array
-or a pandas column came in, and else an array.array of numbers or a ctypes array of structures, which is a buffer too.
+A call reads a buffer of items, an array.array or a NumPy array, with no copy, or a sequence. It writes to `out`, a buffer of as
+many items or more. Without `out` it returns a new array: of NumPy where it got a NumPy array or a pandas column, else an
+array.array of numbers or a ctypes array of structures.
 
-Where seconds or days go in or out, an array of NumPy's datetime64 can stand in their place, of any unit.
+Calls that read or write seconds or days take an array of NumPy's datetime64 too, of any unit.
 """
 
 from __future__ import annotations
@@ -12,7 +12,7 @@ from __future__ import annotations
 import array
 import ctypes
 import sys
-from typing import Any, Callable, Optional
+from typing import Any, Callable, Iterable, Optional, SupportsIndex, Union
 
 from . import _buffers, _datetime64, _missing
 from ._engine import engine
@@ -20,6 +20,17 @@ from ._refusals import REFUSALS, Refused, RefusedBuffer, RefusedNoText, RefusedO
 from ._values import Date, OffsetDateTime, Timestamp, _parts
 from ._words import ends, held, joined, whole
 from .muxandu_sys import MuxanduDate, MuxanduDateTime, MuxanduSpan, MuxanduTimestamp
+
+# What calls over many items take. A memoryview or a bytes-like object is tested when a call reads it.
+_Buffer = Union[bytes, bytearray, memoryview]
+Numbers = Union[Iterable[SupportsIndex], _Buffer]
+NumbersWithGaps = Union[Iterable[Union[SupportsIndex, float, None]], _Buffer]
+Texts = Union[Iterable[Union[str, _Buffer]], _Buffer]
+TextsWithGaps = Union[Iterable[Union[str, _Buffer, float, None]], _Buffer]
+DateTimes = Union[Iterable[Union[OffsetDateTime, MuxanduDateTime]], _Buffer]
+DateTimesWithGaps = Union[Iterable[Union[OffsetDateTime, MuxanduDateTime, float, None]], _Buffer]
+Dates = Union[Iterable[Union[Date, MuxanduDate]], _Buffer]
+Timestamps = Union[Iterable[Union[Timestamp, MuxanduTimestamp]], _Buffer]
 
 _CODES: dict[Any, str] = {ctypes.c_int32: "i", ctypes.c_uint32: "I", ctypes.c_int64: "q"}
 
@@ -65,7 +76,7 @@ def _is_like_numpy(items: Any) -> bool:
 
 
 def _test(status: int, count: int, items: Any = None) -> None:
-    """Raises the refusal of a call after it converted so many items, with the item where these are a list."""
+    """Raises the refusal of a call that converted `count` items, with the next item where these are a list."""
     if status:
         is_of_item = isinstance(items, (list, tuple)) and count < len(items) and status not in _NOT_OF_ITEMS
         raise REFUSALS[status](count, items[count] if is_of_item else None)
@@ -116,7 +127,7 @@ def _writing(out: Any, kind: Any) -> _Items:
 
 
 def _room(count: int, kind: Any, is_like_numpy: bool) -> Any:
-    """A new array of so many items."""
+    """A new array of `count` items."""
     if is_like_numpy:
         import numpy
 
@@ -233,7 +244,7 @@ def _shown_by_parts(call: Callable[..., tuple[int, int]], parts: int, counts: An
     return out
 
 
-def date_times_from_seconds(seconds: Any, offset_seconds: Any = 0, out: Any = None) -> Any:
+def date_times_from_seconds(seconds: Numbers, offset_seconds: SupportsIndex = 0, out: Any = None) -> Any:
     """What clocks at an offset show at each Unix second: items of DateTimeParts, of which OffsetDateTime.from_parts makes
     values. Of datetime64 also the nanoseconds are kept."""
     if not _datetime64.is_such(seconds):
@@ -247,22 +258,22 @@ def date_times_from_seconds(seconds: Any, offset_seconds: Any = 0, out: Any = No
     return _datetime64.with_nanoseconds(out, nanoseconds, lambda: date_times_from_seconds(whole, offset_seconds, out))
 
 
-def date_times_from_milliseconds(milliseconds: Any, offset_seconds: Any = 0, out: Any = None) -> Any:
-    """What clocks at an offset show so many milliseconds from 1970-01-01 0:00 UTC, for each count: items of DateTimeParts."""
+def date_times_from_milliseconds(milliseconds: Numbers, offset_seconds: SupportsIndex = 0, out: Any = None) -> Any:
+    """The date-time at an offset of each count of milliseconds from 1970-01-01 0:00 UTC: items of DateTimeParts."""
     return _shown(engine.date_times_from_milliseconds, milliseconds, offset_seconds, out, milliseconds)
 
 
-def date_times_from_microseconds(microseconds: Any, offset_seconds: Any = 0, out: Any = None) -> Any:
-    """What clocks at an offset show so many microseconds from 1970-01-01 0:00 UTC, for each count: items of DateTimeParts."""
+def date_times_from_microseconds(microseconds: Numbers, offset_seconds: SupportsIndex = 0, out: Any = None) -> Any:
+    """The date-time at an offset of each count of microseconds from 1970-01-01 0:00 UTC: items of DateTimeParts."""
     return _shown_by_parts(engine.date_times_from_microseconds, 10**6, microseconds, offset_seconds, out)
 
 
-def date_times_from_nanoseconds(nanoseconds: Any, offset_seconds: Any = 0, out: Any = None) -> Any:
-    """What clocks at an offset show so many nanoseconds from 1970-01-01 0:00 UTC, for each count: items of DateTimeParts."""
+def date_times_from_nanoseconds(nanoseconds: Numbers, offset_seconds: SupportsIndex = 0, out: Any = None) -> Any:
+    """The date-time at an offset of each count of nanoseconds from 1970-01-01 0:00 UTC: items of DateTimeParts."""
     return _shown_by_parts(engine.date_times_from_nanoseconds, _NANO, nanoseconds, offset_seconds, out)
 
 
-def seconds_from_date_times(date_times: Any, out: Any = None) -> Any:
+def seconds_from_date_times(date_times: DateTimes, out: Any = None) -> Any:
     """The Unix second of each date-time, rounded down: of a buffer of DateTimeParts, or of a sequence of OffsetDateTime. An
     `out` of datetime64 gets what its unit holds of the nanoseconds."""
     items = _structures(date_times, MuxanduDateTime, OffsetDateTime)
@@ -277,18 +288,18 @@ def _counted(call: Callable[..., tuple[int, int]], date_times: Any, out: Any) ->
     return _converted(call, items, MuxanduDateTime, ctypes.c_int64, out, date_times)
 
 
-def milliseconds_from_date_times(date_times: Any, out: Any = None) -> Any:
+def milliseconds_from_date_times(date_times: DateTimes, out: Any = None) -> Any:
     """The milliseconds from 1970-01-01 0:00 UTC of each date-time, rounded down."""
     return _counted(engine.milliseconds_from_date_times, date_times, out)
 
 
-def microseconds_from_date_times(date_times: Any, out: Any = None) -> Any:
+def microseconds_from_date_times(date_times: DateTimes, out: Any = None) -> Any:
     """The microseconds from 1970-01-01 0:00 UTC of each date-time, rounded down. RefusedResult where 64 bits do not hold
     them."""
     return _counted(engine.microseconds_from_date_times, date_times, out)
 
 
-def nanoseconds_from_date_times(date_times: Any, out: Any = None) -> Any:
+def nanoseconds_from_date_times(date_times: DateTimes, out: Any = None) -> Any:
     """The nanoseconds from 1970-01-01 0:00 UTC of each date-time. RefusedResult where 64 bits do not hold them."""
     return _counted(engine.nanoseconds_from_date_times, date_times, out)
 
@@ -330,7 +341,9 @@ def _known_seconds(seconds: Any) -> tuple[Any, Any]:
     return found, places
 
 
-def date_times_from_each_second(seconds: Any, offset_seconds: Any = 0, out: Any = None, statuses: Any = None) -> tuple[Any, Any]:
+def date_times_from_each_second(
+    seconds: NumbersWithGaps, offset_seconds: SupportsIndex = 0, out: Any = None, statuses: Any = None
+) -> tuple[Any, Any]:
     """What clocks at an offset show at each Unix second, and the status of each: 0, or the `status` of its refusal, or MISSING
     of None, NaN, NA, NaT and a masked item. Where an item has a status, its place in `out` stays as it was, and the next
     follows. Of datetime64 also the nanoseconds are kept."""
@@ -349,7 +362,7 @@ def date_times_from_each_second(seconds: Any, offset_seconds: Any = 0, out: Any 
     return shown, told
 
 
-def seconds_from_each_date_time(date_times: Any, out: Any = None, statuses: Any = None) -> tuple[Any, Any]:
+def seconds_from_each_date_time(date_times: DateTimesWithGaps, out: Any = None, statuses: Any = None) -> tuple[Any, Any]:
     """The Unix second of each date-time, rounded down, and the status of each, in the same way."""
     known, missing = _missing.filled(date_times, None)
     known = _as_array(known)
@@ -363,7 +376,7 @@ def seconds_from_each_date_time(date_times: Any, out: Any = None, statuses: Any 
     return seconds, told
 
 
-def dates_from_days(days: Any, out: Any = None) -> Any:
+def dates_from_days(days: Numbers, out: Any = None) -> Any:
     """The date of each day number, counted from 1970-01-01: items of DateParts."""
     if _datetime64.is_such(days):
         whole, _ = _datetime64.split(days)
@@ -372,7 +385,7 @@ def dates_from_days(days: Any, out: Any = None) -> Any:
     return _converted(engine.dates_from_days, items, ctypes.c_int32, MuxanduDate, out, days)
 
 
-def days_from_dates(dates: Any, out: Any = None) -> Any:
+def days_from_dates(dates: Dates, out: Any = None) -> Any:
     """The day number of each date: of a buffer of DateParts, or of a sequence of Date."""
     items = _structures(dates, MuxanduDate, Date)
     if _datetime64.is_such(out):
@@ -413,7 +426,7 @@ def _stamps_of_texts(texts: Any, spans: Any, out: Any) -> tuple[Any, int]:
     return out, done
 
 
-def timestamps_from_rfc3339(texts: Any, spans: Any = None, out: Any = None) -> Any:
+def timestamps_from_rfc3339(texts: Texts, spans: Any = None, out: Any = None) -> Any:
     """The instant of each text of RFC 3339: items of TimestampParts.
 
     The texts are a sequence of str or bytes, or one block of bytes, of which a buffer of Spans says where each text lies.
@@ -424,7 +437,7 @@ def timestamps_from_rfc3339(texts: Any, spans: Any = None, out: Any = None) -> A
     return _datetime64.filled_by_stamps(out, stamps, lambda: _stamps_of_texts(texts, spans, stamps)[1])
 
 
-def date_times_from_rfc3339(texts: Any, spans: Any = None, out: Any = None) -> Any:
+def date_times_from_rfc3339(texts: Texts, spans: Any = None, out: Any = None) -> Any:
     """The date-time and the offset of each text of RFC 3339: items of DateTimeParts, of which OffsetDateTime.from_parts makes
     values. The texts are as timestamps_from_rfc3339 takes them."""
     block, where = texts, spans
@@ -435,7 +448,7 @@ def date_times_from_rfc3339(texts: Any, spans: Any = None, out: Any = None) -> A
     return _of_block(engine.date_times_from_rfc3339, block, where, MuxanduDateTime, out, like)[0]
 
 
-def rfc3339_from_timestamps(timestamps: Any) -> list[str]:
+def rfc3339_from_timestamps(timestamps: Timestamps) -> list[str]:
     """The shortest text of RFC 3339 in UTC of each instant: of a buffer of TimestampParts, of a sequence of Timestamp, or of
     an array of datetime64."""
     if _datetime64.is_such(timestamps):
@@ -451,6 +464,6 @@ def timestamps_from_datetime64(moments: Any, out: Any = None) -> Any:
     return _datetime64.stamps(moments, _room(len(moments), MuxanduTimestamp, True) if out is None else out)
 
 
-def datetime64_from_timestamps(timestamps: Any, unit: str = "ns") -> Any:
+def datetime64_from_timestamps(timestamps: Timestamps, unit: str = "ns") -> Any:
     """The array of NumPy's datetime64 of instants, rounded down to a unit. RefusedResult where 64 bits do not hold them."""
     return _datetime64.of_stamps(_structures(timestamps, MuxanduTimestamp, Timestamp), unit)

@@ -35,7 +35,7 @@ class Field(NamedTuple):
 
 
 def _sign(form: str, size: int) -> Optional[bool]:
-    """Whether the number has a sign that a format of one letter stands for, or None where that is no whole number of this
+    """Whether the number of a format of one letter has a sign, or None where that is no whole number of this
     machine and of so many bytes."""
     order, letter = (form[0], form[1:]) if len(form) > 1 else ("@", form)
     is_here = order in _ORDERS or size == 1 and order in "<>!"

@@ -356,7 +356,7 @@ class Date:
 
     @classmethod
     def from_day_number(cls, number: Any) -> Any:
-        """The day so many days from 1970-01-01."""
+        """The day that is `number` days from 1970-01-01."""
         number = whole(number)
         date = _of(cls, muxandu_sys.MuxanduDate(*cls._calls["date"].run((number,))))
         date._number = number

@@ -121,11 +121,11 @@ class _Clock:
         return self._shown_by(self._at.truncated_to(unit))
 
     def saturating_add(self: _Self, duration: Union[Duration, datetime.timedelta]) -> _Self:
-        """So much later, or the end of the range that it is beyond."""
+        """The value later by a duration, or the end of the range."""
         return self._shown_by(self._at.saturating_add(duration))
 
     def saturating_sub(self: _Self, duration: Union[Duration, datetime.timedelta]) -> _Self:
-        """So much earlier, or the end of the range that it is beyond."""
+        """The value earlier by a duration, or the end of the range."""
         return self._shown_by(self._at.saturating_sub(duration))
 
     def __add__(self: _Self, duration: Union[Duration, datetime.timedelta]) -> _Self:

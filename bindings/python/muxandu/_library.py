@@ -13,7 +13,7 @@ NAME = "libmuxandu.so"
 
 
 def _path() -> Path:
-    """The library that MUXANDU_LIBRARY names, or that beside this file, or that which ./build-library lays out."""
+    """The library that MUXANDU_LIBRARY names, or that of this folder, or that which ./build-library lays out."""
     named = os.environ.get("MUXANDU_LIBRARY")
     if named:
         return Path(named)

@@ -32,7 +32,7 @@ def refuse_mask(items: Any) -> None:
 
 
 def is_missing(item: Any) -> bool:
-    """Whether an item stands for none: None, NaN, NA, NaT or the masked item of NumPy."""
+    """Whether an item is missing: None, NaN, NA, NaT or the masked item of NumPy."""
     numpy, pandas = sys.modules.get("numpy"), sys.modules.get("pandas")
     if item is None or pandas is not None and item is pandas.NA or numpy is not None and item is numpy.ma.masked:
         return True

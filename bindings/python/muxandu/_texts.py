@@ -6,7 +6,7 @@ import ctypes
 from typing import Any, Union
 
 from . import _missing
-from ._batch import _is_like_numpy, _reading, _room, _sequence, _structures, _test, _writing
+from ._batch import DateTimes, TextsWithGaps, _is_like_numpy, _reading, _room, _sequence, _structures, _test, _writing
 from ._engine import engine
 from ._values import OffsetDateTime
 from ._words import joined
@@ -32,7 +32,9 @@ def _known_texts(texts: Any) -> tuple[bytes, Any, list[int]]:
     return block, (MuxanduSpan * len(each)).from_buffer_copy(numbers), places
 
 
-def date_times_from_each_rfc3339(texts: Any, spans: Any = None, out: Any = None, statuses: Any = None) -> tuple[Any, Any]:
+def date_times_from_each_rfc3339(
+    texts: TextsWithGaps, spans: Any = None, out: Any = None, statuses: Any = None
+) -> tuple[Any, Any]:
     """The date-time and the offset of each text of RFC 3339, and the status of each: 0, or the `status` of its refusal, or
     MISSING of None, NaN, NA and a masked item. Where an item has a status, its place in `out` stays as it was, and the next
     follows. The texts are as timestamps_from_rfc3339 takes them."""
@@ -59,7 +61,7 @@ def date_times_from_each_rfc3339(texts: Any, spans: Any = None, out: Any = None,
     return out, statuses
 
 
-def rfc3339_from_date_times(date_times: Any) -> list[str]:
+def rfc3339_from_date_times(date_times: DateTimes) -> list[str]:
     """The shortest text of RFC 3339 of each date-time, with its offset: of a buffer of DateTimeParts, or of a sequence of
     OffsetDateTime."""
     source = _reading(_structures(date_times, MuxanduDateTime, OffsetDateTime), MuxanduDateTime)

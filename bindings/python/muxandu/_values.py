@@ -3,6 +3,7 @@
 from __future__ import annotations
 
 import datetime
+import functools
 import time
 from typing import Any, ClassVar, NamedTuple, SupportsIndex, TypeVar, Union
 
@@ -44,13 +45,13 @@ def _completed(kind: type[_Kind]) -> type[_Kind]:
 
 
 def _formatted(value: Any, form: str) -> str:
-    """A value as a format asks for it: by `strftime` where that has a %, else its text in so many places."""
+    """A value as a format asks for it: by `strftime` where that has a %, else its text, padded."""
     return str(value.to_datetime().strftime(form)) if "%" in form else format(str(value), form)
 
 
 @_completed
 class Duration(engine.Duration):
-    """A length of time, forwards or back: so many seconds and nanoseconds together, by which durations compare."""
+    """A length of time, forwards or back: seconds and nanoseconds of one sign. Durations compare by both together."""
 
     __slots__ = ()
 
@@ -69,12 +70,12 @@ class Duration(engine.Duration):
 
     @classmethod
     def of_nanoseconds(cls, nanoseconds: int) -> Duration:
-        """The duration of so many nanoseconds, however many bits they have."""
+        """The duration of a count of nanoseconds, of any size. RefusedDuration outside the range."""
         return cls(0, nanoseconds)
 
     @classmethod
     def of_days(cls, days: int) -> Duration:
-        """The duration of so many days of 86,400 seconds."""
+        """The duration of a count of days of 86,400 seconds. RefusedDuration outside the range."""
         return cls(whole(days) * _DAY)
 
     @classmethod
@@ -123,6 +124,18 @@ class Duration(engine.Duration):
     def __divmod__(self, other: Union[Duration, datetime.timedelta]) -> Any:
         return (self // other, self % other) if _is_length(other) else NotImplemented
 
+    def __rfloordiv__(self, other: datetime.timedelta) -> Any:
+        return Duration.of(other) // self if _is_length(other) else NotImplemented
+
+    def __rtruediv__(self, other: datetime.timedelta) -> Any:
+        return Duration.of(other) / self if _is_length(other) else NotImplemented
+
+    def __rmod__(self, other: datetime.timedelta) -> Any:
+        return Duration.of(other) % self if _is_length(other) else NotImplemented
+
+    def __rdivmod__(self, other: datetime.timedelta) -> Any:
+        return divmod(Duration.of(other), self) if _is_length(other) else NotImplemented
+
     def __hash__(self) -> int:
         # That of the datetime.timedelta that it equals, if there is one.
         count = self.whole_nanoseconds()
@@ -148,8 +161,9 @@ def _is_length(value: object) -> bool:
     return isinstance(value, (Duration, datetime.timedelta))
 
 
+@functools.total_ordering
 class UtcOffset:
-    """How far clocks are ahead of UTC, -25:59:59 to 25:59:59. It goes wherever seconds of an offset go."""
+    """How far clocks are ahead of UTC, -25:59:59 to 25:59:59. Calls take it where they take seconds of an offset."""
 
     __slots__ = ("_seconds",)
     _seconds: int
@@ -193,6 +207,9 @@ class UtcOffset:
     def __eq__(self, other: object) -> Any:
         return self._seconds == other._seconds if isinstance(other, UtcOffset) else NotImplemented
 
+    def __lt__(self, other: UtcOffset) -> bool:
+        return self._seconds < other._seconds if isinstance(other, UtcOffset) else NotImplemented
+
     def __hash__(self) -> int:
         return hash(self._seconds)
 
@@ -231,14 +248,15 @@ class Timestamp(engine.Timestamp):
 
     @classmethod
     def from_microseconds(cls: type[_Stamp], microseconds: int) -> _Stamp:
-        """The instant so many microseconds from 1970-01-01 0:00 UTC."""
+        """The instant that is a count of microseconds from 1970-01-01 0:00 UTC. RefusedTimestamp outside the range."""
         count = whole(microseconds)
         seconds, left = divmod(count, 1_000_000)
         return cls._from_microseconds(count) if -(2**63) <= count < 2**63 else cls(seconds, left * 1_000)
 
     @classmethod
     def from_nanoseconds(cls: type[_Stamp], nanoseconds: int) -> _Stamp:
-        """The instant so many nanoseconds from 1970-01-01 0:00 UTC, as time.time_ns() counts, and past 64 bits."""
+        """The instant that is a count of nanoseconds from 1970-01-01 0:00 UTC, as time.time_ns() counts; also past 64 bits.
+        RefusedTimestamp outside the range."""
         count = whole(nanoseconds)
         return cls._from_nanoseconds(count) if -(2**63) <= count < 2**63 else cls(*divmod(count, _SECOND))
 
@@ -368,7 +386,7 @@ class OffsetDateTime(engine.OffsetDateTime):
         return PlainDateTime(*_parts(self, *_PARTS))
 
     def is_same(self, other: OffsetDateTime) -> bool:
-        """Whether both show the same at the same offset, not only the same instant."""
+        """Whether both have the same parts and the same offset. `==` compares the instants alone."""
         if not isinstance(other, OffsetDateTime):
             raise TypeError(f"an OffsetDateTime, not {type(other).__name__}")
         return bool(self.__reduce__()[1] == other.__reduce__()[1])
@@ -457,11 +475,12 @@ class Date(engine.Date):
         return datetime.date(self.year, self.month, self.day)
 
     def add_days(self: _Date, days: int) -> _Date:
-        """The day so many days later, or earlier for a negative count. Refused RefusedResult outside the range."""
+        """The day that is `days` days later, or earlier for a negative count. RefusedResult outside the range."""
         return type(self)(*engine.date_add_days(self.year, self.month, self.day, days))
 
     def add_months(self: _Date, months: int) -> _Date:
-        """The same day of the month so many months later, or the month's last day where it is shorter."""
+        """The same day of the month after `months` months, or the month's last day where it is shorter. RefusedResult outside the
+        range."""
         return type(self)(*engine.date_add_months(self.year, self.month, self.day, months))
 
     @classmethod
@@ -496,9 +515,7 @@ class Date(engine.Date):
         """The day of the week, 0 for Monday."""
         return engine.weekday_from_day(self.day_number())
 
-    def replace(
-        self: _Date, *, year: SupportsIndex = _KEPT, month: SupportsIndex = _KEPT, day: SupportsIndex = _KEPT
-    ) -> _Date:
+    def replace(self: _Date, *, year: SupportsIndex = _KEPT, month: SupportsIndex = _KEPT, day: SupportsIndex = _KEPT) -> _Date:
         """The same with other parts, by name: replace(day=1)."""
         made: _Date = _replaced(self, (year, month, day))
         return made
@@ -511,13 +528,15 @@ class Date(engine.Date):
         return self.from_day_number(self.day_number() + sign * days)
 
     def __add__(self: _Date, days: Union[int, Duration, datetime.timedelta]) -> _Date:
-        """So many days later; of a duration the whole days, rounded towards zero."""
+        """The day that many days later. Of a duration it takes the whole days, rounded towards zero; `datetime.date` takes
+        those of `timedelta.days`, which are rounded down."""
         return self._moved(days, 1)
 
     __radd__ = __add__
 
     def __sub__(self, other: Any) -> Any:
-        """The duration from another day, or so many days earlier."""
+        """The duration from another day, or the day that many days earlier. Of a duration it takes the whole days, rounded
+        towards zero."""
         if isinstance(other, Date):
             return Duration.of_days(self.day_number() - other.day_number())
         return self._moved(other, -1)

@@ -150,7 +150,12 @@ class Losses(unittest.TestCase):
 
     def test_the_command_line_has_a_usage(self):
         usage = "usage: python -m muxandu TEXT | --version | --help\n"
-        for words, wanted in ((["--help"], (0, usage, "")), (["--other"], (2, "", usage)), ([], (2, "", usage)), (["1", "2"], (2, "", usage))):
+        for words, wanted in (
+            (["--help"], (0, usage, "")),
+            (["--other"], (2, "", usage)),
+            ([], (2, "", usage)),
+            (["1", "2"], (2, "", usage)),
+        ):
             ended = run_package(*words, MUXANDU_IMPLEMENTATION="ctypes")
             self.assertEqual((ended.returncode, ended.stdout, ended.stderr), wanted)
 
@@ -168,7 +173,12 @@ class Libraries(unittest.TestCase):
         """A library that answers as the declarations have it, and is of another version."""
         with tempfile.TemporaryDirectory() as folder:
             shutil.copy(_library._path(), Path(folder, "libmuxandu.so.0"))
-            for version, is_taken in ((0, False), (muxandu_sys.VERSION - 1, False), (muxandu_sys.VERSION, True), (2**32 - 1, True)):
+            for version, is_taken in (
+                (0, False),
+                (muxandu_sys.VERSION - 1, False),
+                (muxandu_sys.VERSION, True),
+                (2**32 - 1, True),
+            ):
                 source, library = Path(folder, f"{version}.c"), Path(folder, f"{version}.so")
                 source.write_text(f"unsigned muxandu_version(void) {{ return {version}u; }}", encoding="utf-8")
                 words = ["cc", "-shared", "-fPIC", "-Wl,--no-as-needed", source, Path(folder, "libmuxandu.so.0"), "-o", library]

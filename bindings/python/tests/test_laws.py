@@ -196,7 +196,10 @@ class Laws(unittest.TestCase):
                     check_copies(self, make(self.draw))
         for seconds in OFFSETS:
             check_copies(self, UtcOffset(seconds))
-        for value in (*(kind.MIN for kind in MAKERS if hasattr(kind, "MIN")), *(kind.MAX for kind in MAKERS if hasattr(kind, "MAX"))):
+        for value in (
+            *(kind.MIN for kind in MAKERS if hasattr(kind, "MIN")),
+            *(kind.MAX for kind in MAKERS if hasattr(kind, "MAX")),
+        ):
             check_copies(self, value)
 
     def test_sums(self):
@@ -318,7 +321,10 @@ class Kept(unittest.TestCase):
         "a list of refused texts": lambda: refused(lambda: muxandu.timestamps_from_rfc3339([TEXT, "x"])),
         "a list of instants": lambda: muxandu.rfc3339_from_timestamps([Timestamp(0)] * 3),
         "seconds": lambda: muxandu.date_times_from_seconds(array("q", [0, 1])),
-        "an instant and a date-time": lambda: (Timestamp(0) - OffsetDateTime(2024, 1, 1), Timestamp(0) < OffsetDateTime(2024, 1, 1)),
+        "an instant and a date-time": lambda: (
+            Timestamp(0) - OffsetDateTime(2024, 1, 1),
+            Timestamp(0) < OffsetDateTime(2024, 1, 1),
+        ),
         "sums and hashes": lambda: hash(Timestamp(5) + Duration(7)),
         "texts": lambda: (str(Timestamp(10**6, 5)), repr(OffsetDateTime(2024, 2, 29)), str(Date(2024, 2, 29))),
     }
@@ -447,7 +453,9 @@ class Hypothesis(unittest.TestCase):
         """Numbers of any size in a buffer go to date-times and back, or the first that is refused is named."""
 
         def law(draw):
-            seconds = array("q", draw.data.draw(strategies.lists(strategies.integers(-(2**63), 2**63 - 1) | SECONDS, max_size=6)))
+            seconds = array(
+                "q", draw.data.draw(strategies.lists(strategies.integers(-(2**63), 2**63 - 1) | SECONDS, max_size=6))
+            )
             offset = draw.number(-93_599, 93_599)
             shown, statuses = muxandu.date_times_from_each_second(seconds, offset)
             wanted = [place_shown(second, offset) for second in seconds]

@@ -16,18 +16,7 @@ import unittest
 from pathlib import Path
 
 import muxandu
-from muxandu import (
-    Date,
-    Duration,
-    OffsetDateTime,
-    Part,
-    PlainDateTime,
-    Time,
-    Timestamp,
-    Unit,
-    UtcDateTime,
-    UtcOffset,
-)
+from muxandu import Date, Duration, OffsetDateTime, Part, PlainDateTime, Time, Timestamp, Unit, UtcDateTime, UtcOffset
 
 DAY = datetime.timedelta(days=1)
 UTC = datetime.timezone.utc
@@ -59,6 +48,8 @@ class Durations(unittest.TestCase):
                 )
                 if second:
                     self.assertEqual((one // other, one / other), (first // second, first / second))
+                    self.assertEqual((first // other, first / other), (first // second, first / second))
+                    self.assertEqual((first % other, divmod(first, other)), (one % other, divmod(one, other)))
                     self.assertEqual(
                         (one % other, divmod(one, other)), (Duration.of(first % second), (first // second, one % other))
                     )
@@ -279,7 +270,14 @@ class Moments(unittest.TestCase):
         self.assertTrue(at < at.to_offset(0) + Duration(1) and at.to_offset(0) + Duration(1) > at)
         there = OffsetDateTime(2024, 2, 29, 12, 34, 56, 790, 3_600)
         self.assertEqual((at - there, there - at), (Duration(3_599, 999_999_999), Duration(-3_599, -999_999_999)))
-        for first, second in ((plain, there), (there, plain), (at, plain), (plain, at), (Timestamp(0), plain), (plain, Timestamp(0))):
+        for first, second in (
+            (plain, there),
+            (there, plain),
+            (at, plain),
+            (plain, at),
+            (Timestamp(0), plain),
+            (plain, Timestamp(0)),
+        ):
             self.assertRaises(TypeError, lambda first=first, second=second: first - second)
             self.assertRaises(TypeError, lambda first=first, second=second: first + second)
         for first, second in ((at, Timestamp(0)), (Timestamp(0), at), (there, Timestamp(0)), (at, there)):
@@ -347,6 +345,8 @@ class Moments(unittest.TestCase):
         self.assertEqual(Timestamp(0).to_offset(offset), UtcDateTime(1970, 1, 1))
         self.assertEqual(Timestamp(0).to_offset(offset).offset(), offset)
         self.assertEqual((UtcOffset.UTC.is_utc(), len({offset, UtcOffset(-30_600)})), (True, 1))
+        self.assertTrue(offset < UtcOffset.UTC <= UtcOffset(0) < UtcOffset(1) > offset >= UtcOffset(-30_600))
+        self.assertRaises(TypeError, lambda: offset < 5)
         self.assertRaises(muxandu.RefusedOffsetSeconds, UtcOffset, 93_600)
         for parts, seconds in (((1, -1), 3_660), ((-1, 1, 1), -3_661), ((0, -1, 1), -61), ((25, 59, 59), 93_599)):
             self.assertEqual(UtcOffset.from_hms(*parts).whole_seconds(), seconds)
@@ -509,7 +509,10 @@ class Package(unittest.TestCase):
             (lambda: Date(2024, 2), "Date() needs the argument 'day'" if is_compiled else "'day'"),
             (lambda: Date(2024, 2, 29, week=5), "Date() takes no argument 'week'" if is_compiled else "'week'"),
             (lambda: Date(2024, 2, 29, day=5), "Date() has the argument 'day' twice" if is_compiled else "'day'"),
-            (lambda: at.to_offset("Z"), "an offset is whole seconds or a UtcOffset, not <class 'str'>" if is_compiled else "'str'"),
+            (
+                lambda: at.to_offset("Z"),
+                "an offset is whole seconds or a UtcOffset, not <class 'str'>" if is_compiled else "'str'",
+            ),
         ):
             with self.assertRaises(TypeError) as caught:
                 call()
