@@ -97,7 +97,7 @@ class Imports(unittest.TestCase):
     @unittest.skipUnless(MODULES, "this Python has no second interpreter")
     def test_a_second_interpreter_leaves_the_first_as_it_is(self):
         program = INTERPRETERS.format(*(BY_OWN if MODULES[0] == "_interpreters" else BY_XX))
-        for asked in ({}, {"MUXANDU_IMPLEMENTATION": "ctypes"}):
+        for asked in ({"PYTHONWARNINGS": "ignore"}, {"MUXANDU_IMPLEMENTATION": "ctypes"}):
             second = ended(program, **asked)
             self.assertEqual((second.returncode, second.stdout, second.stderr), (0, "right\n", ""))
 
