@@ -527,6 +527,7 @@ static int is_not_taken(const char *kind, PyObject *named, const char *const *na
                         Py_ssize_t most) {
     PyObject *name, *value;
     Py_ssize_t at = 0, place;
+    PyErr_Format(PyExc_TypeError, "%s() has a name of an odd class", kind);
     while (PyDict_Next(named, &at, &name, &value)) {
         for (place = 0; place < most && PyUnicode_CompareWithASCIIString(name, names[place]); place++) {}
         if (place >= count && place < most) continue;
