@@ -85,7 +85,9 @@ for _ in range(3):
     assert m.Duration(1) * 3 == m.Duration(3) and hash(m.Date(1970, 1, 1)) == hash(m.Date.from_day_number(0))
 print("right")
 """
-BY_XX = ("import _xxsubinterpreters as s", "i = s.create(); s.run_string(i, program); s.destroy(i)")
+# On 3.12 an interpreter with a lock of its own cannot load ctypes.
+SHARED = "isolated=False" if sys.version_info >= (3, 12) else ""
+BY_XX = ("import _xxsubinterpreters as s", f"i = s.create({SHARED}); s.run_string(i, program); s.destroy(i)")
 BY_OWN = (
     "import _interpreters as s",
     "i = s.create('legacy'); failed = s.run_string(i, program); assert not failed, failed; s.destroy(i)",
