@@ -128,12 +128,12 @@ def result_of(words, data):
         cause = None if is_read else "no stamp" if stamp is None else f"{stamp} is out of range"
         if word in STYLES:
             text = STYLES[word](stamp[0], offset) if is_read else None
+            if is_read and is_strict and line[stamp[1] :].startswith(b"["):
+                return told(number, "a zone in brackets follows the stamp")
             if text is None:
                 if is_strict:
                     return told(number, cause or "its instant has no text")
                 written.append(front + line + end)
-            elif is_strict and line[stamp[1] :].startswith(b"["):
-                return told(number, "a zone in brackets follows the stamp")
             else:
                 written.append(front + text + line[stamp[1] :] + end)
         elif word == "check":

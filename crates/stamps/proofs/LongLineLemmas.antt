@@ -104,22 +104,21 @@ as_it_is-within false number cause line = (λ e. absurd cc, omega arith)
 abbrev Holds : Bool → ℕ → List ℕ → Type 0
 Holds marked count line = (marked ≡ true → 3 ≤ length line) × (count ≤ length (behind_mark marked line))
 
-in_place-within : (fails : Bool) (found : Finding) (marked : Bool) (text : List ℕ) (count : ℕ) (line : List ℕ) → Holds marked count line
-    → Within (cond fails (Stop found) (Keep marked text count)) line
-in_place-within true found marked text count line h = tt
-in_place-within false found marked text count line h = h
-
 with_text-within : (is_strict : Bool) (number : ℕ) (marked : Bool) (stamp : Stamp) (text : Option (List ℕ)) (line : List ℕ)
     → Holds marked stamp.length line → Within (with_text is_strict number marked stamp text) line
-with_text-within is_strict number marked stamp (Some text) line h =
-    in_place-within (is_strict && stamp.is_zoned) _ marked text stamp.length line h
+with_text-within is_strict number marked stamp (Some text) line h = h
 with_text-within is_strict number marked stamp None line h = as_it_is-within is_strict number NoText line
+
+stop_or-within : (fails : Bool) (found : Finding) (decision : Decision) (line : List ℕ) → Within decision line → Within (cond fails (Stop found) decision) line
+stop_or-within true found decision line h = tt
+stop_or-within false found decision line h = h
 
 rewritten-within : (style : Style) (is_strict : Bool) (number : ℕ) (marked : Bool) (stamp : Result Stamp TextRefusal) (line : List ℕ)
     → (marked ≡ true → 3 ≤ length line) → StampWithin stamp (length (behind_mark marked line))
     → Within (rewritten style is_strict number marked stamp) line
 rewritten-within style is_strict number marked (Ok stamp) line m h =
-    with_text-within is_strict number marked stamp (text_in style stamp.instant) line (m, h)
+    stop_or-within (is_strict && stamp.is_zoned) _ (with_text is_strict number marked stamp (text_in style stamp.instant)) line
+    (with_text-within is_strict number marked stamp (text_in style stamp.instant) line (m, h))
 rewritten-within style is_strict number marked (Err refusal) line m h = as_it_is-within is_strict number (cause_of refusal) line
 
 stop_if-within : (fails : Bool) (number : ℕ) (cause : Cause) (line : List ℕ) → Within (stop_if fails number cause) line

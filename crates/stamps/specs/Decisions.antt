@@ -32,19 +32,19 @@ abbrev pub as_it_is : Bool → ℕ → Cause → Decision
 as_it_is true line cause = Stop (Line line cause)
 as_it_is false line cause = Keep false [] 0
 
--- the text takes the place of the stamp, unless the task is strict and a zone in brackets follows
-abbrev pub in_place : Bool → ℕ → Bool → Stamp → List ℕ → Decision
-in_place is_strict line marked stamp text =
-    if is_strict && stamp.is_zoned then Stop (Line line Zone) else Keep marked text stamp.length
-
 -- the line with this text in the place of its stamp, if there is one
 abbrev pub with_text : Bool → ℕ → Bool → Stamp → Option (List ℕ) → Decision
-with_text is_strict line marked stamp (Some text) = in_place is_strict line marked stamp text
+with_text is_strict line marked stamp (Some text) = Keep marked text stamp.length
 with_text is_strict line marked stamp None = as_it_is is_strict line NoText
+
+-- the line with its stamp written in a style, unless the task is strict and a zone in brackets follows the stamp
+abbrev pub in_place : Style → Bool → ℕ → Bool → Stamp → Decision
+in_place style is_strict line marked stamp =
+    if is_strict && stamp.is_zoned then Stop (Line line Zone) else with_text is_strict line marked stamp (text_in style stamp.instant)
 
 -- the line with its stamp written in a style
 abbrev pub rewritten : Style → Bool → ℕ → Bool → Result Stamp TextRefusal → Decision
-rewritten style is_strict line marked (Ok stamp) = with_text is_strict line marked stamp (text_in style stamp.instant)
+rewritten style is_strict line marked (Ok stamp) = in_place style is_strict line marked stamp
 rewritten style is_strict line marked (Err refusal) = as_it_is is_strict line (cause_of refusal)
 
 -- earlier than the instant before, if there was one

@@ -4,7 +4,7 @@ ghost use Rattle.rfc3339.specs.Front.{front_meaning};
 ghost use Rattle.rfc3339.specs.Reading.{front_at};
 ghost use Rattle.rfc3339.specs.declared.refusal.TextRefusal.TheVariants.{Syntax};
 ghost use Rattle.stamps.specs.Decisions.{as_it_is, cause_of, checked, decision_by, decision_of, finding_at_end, first_state, going_on};
-ghost use Rattle.stamps.specs.Decisions.{goes_on, in_place, is_earlier, last_of, rewritten, state_after, state_by, stop_if};
+ghost use Rattle.stamps.specs.Decisions.{goes_on, is_earlier, last_of, rewritten, state_after, state_by};
 ghost use Rattle.stamps.specs.LineStamps.{behind_mark, continues, ends, front_stamp, has_mark, is_continued};
 ghost use Rattle.stamps.specs.LineStamps.{mark_text, opens_bracket, stamp, stamp_of};
 
@@ -245,6 +245,7 @@ fn is_continued(next: Option<u8>) -> bool
     ensures { result ≡ is_continued next }
 {
     match next {
+        Some(b' ') => false,
         Some(byte) => continues(byte),
         None => false,
     }
@@ -293,23 +294,16 @@ fn rewritten(
     ensures { result ≡ rewritten style.now is_strict line marked stamp.now }
 {
     match stamp {
+        Ok(stamp) if is_strict && stamp.is_zoned => Decision::Stop(Finding::Line(
+            line,
+            Cause::Zone,
+        )),
         Ok(stamp) => match text_in(style, stamp.instant) {
-            Some(text) => in_place(is_strict, line, marked, stamp, text),
+            Some(text) => Decision::Keep(marked, text, stamp.length),
             None => as_it_is(is_strict, line, Cause::NoText),
         },
         Err(refusal) => as_it_is(is_strict, line, cause_of(*refusal)),
     }
-}
-
-// The line with the text in place of its stamp, or the end of the run.
-#[inline(always)]
-fn in_place(is_strict: bool, line: u64, marked: bool, stamp: &Stamp, text: Text) -> Decision
-    ensures { result ≡ in_place is_strict line marked stamp.now text }
-{
-    if is_strict && stamp.is_zoned {
-        return Decision::Stop(Finding::Line(line, Cause::Zone));
-    }
-    Decision::Keep(marked, text, stamp.length)
 }
 
 // The line as it is, or the end of the run.
@@ -342,9 +336,19 @@ fn checked(
     ensures { result ≡ checked is_strict line last stamp.now }
 {
     match stamp {
-        Ok(stamp) => stop_if(is_earlier(stamp.instant, last), line, Cause::Earlier),
-        Err(TextRefusal::Syntax) => stop_if(is_strict, line, Cause::Missing),
-        Err(TextRefusal::OutOfRange(component)) => stop_if(true, line, Cause::Refused(*component)),
+        Ok(stamp) if is_earlier(stamp.instant, last) => Decision::Stop(Finding::Line(
+            line,
+            Cause::Earlier,
+        )),
+        Err(TextRefusal::Syntax) if is_strict => Decision::Stop(Finding::Line(
+            line,
+            Cause::Missing,
+        )),
+        Err(TextRefusal::OutOfRange(component)) => Decision::Stop(Finding::Line(
+            line,
+            Cause::Refused(*component),
+        )),
+        Ok(_) | Err(TextRefusal::Syntax) => Decision::Skip,
     }
 }
 
@@ -357,17 +361,6 @@ fn is_earlier(instant: UtcDateTime, last: Option<UtcDateTime>) -> bool
         Some(before) => instant < before,
         None => false,
     }
-}
-
-// The end of the run at a line that the test fails.
-#[inline(always)]
-fn stop_if(fails: bool, line: u64, cause: Cause) -> Decision
-    ensures { result ≡ stop_if fails line cause }
-{
-    if fails {
-        return Decision::Stop(Finding::Line(line, cause));
-    }
-    Decision::Skip
 }
 
 // The line whole, or nothing of it.
