@@ -149,11 +149,14 @@ def is_beside():
     return bool(shared) and os.path.exists(os.path.join(shared, BESIDE))
 
 
-def jobs():
-    """How many jobs a check may have on this machine, as tools/jobs says; one beside other work."""
-    if is_beside():
-        return 1
+def most_jobs():
+    """How many jobs a check may have on this machine, as tools/jobs says."""
     return int(subprocess.run([os.path.join(TOOLS, "jobs")], stdout=subprocess.PIPE, check=True).stdout)
+
+
+def jobs():
+    """How many jobs a check may have now: as many as this machine has room for, or one beside other work."""
+    return 1 if is_beside() else most_jobs()
 
 
 class Room:
