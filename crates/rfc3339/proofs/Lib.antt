@@ -4,6 +4,7 @@ mod SuffixLemmas
 mod GrammarLemmas
 mod ByteLemmas
 mod DigitOrderLemmas
+mod DigitsInUtcLemmas
 pub mod DigitTextLemmas
 mod FaultLemmas
 pub mod FaultFormLemmas

@@ -44,7 +44,7 @@ months-add b m zero = let same : 0 + m ≡ m = omega arith in rw same (omega ari
 months-add b m (suc k) = let next : suc k + m ≡ suc (k + m) = omega arith in rw next (omega (arith, months-add b m k))
 
 -- a later month begins after the days of this one
-month-later : (b : Bool) (m later : ℕ) → 1 ≤ m → m < later → days_before_month b m + days_in_month b m ≤ days_before_month b later
+pub month-later : (b : Bool) (m later : ℕ) → 1 ≤ m → m < later → days_before_month b m + days_in_month b m ≤ days_before_month b later
 unfolding days_in_months
 month-later b zero later first h = absurd (omega arith)
 month-later b (suc m) later first h =

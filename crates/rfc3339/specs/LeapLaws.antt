@@ -1,5 +1,5 @@
 -- The order of what texts write, with seconds of 60, and of the instants that they are read as.
-use Rattle.std.specs.Prelude.{◌≡◌, ◌⊎◌, ℕ, ◌+◌, ◌*◌, ◌<◌, Bool, true, List, ℤ, pos, ◌+ℤ◌, ◌-ℤ◌, ◌*ℤ◌, ◌<ℤ◌, Ok}
+use Rattle.std.specs.Prelude.{◌≡◌, ◌⊎◌, ℕ, ◌+◌, ◌*◌, ◌<◌, Bool, true, List, ℤ, pos, ◌+ℤ◌, ◌-ℤ◌, ◌*ℤ◌, ◌<ℤ◌, ◌≤ℤ◌, Ok}
 use Rattle.calendar_values.specs.Calendar.{day_of_calendar_date}
 use Rattle.offset_times.specs.Local.{Local, instant_of}
 use Rattle.rfc3339.specs.Form.{IsDateTime}
@@ -32,3 +32,31 @@ LeapReadingsKeepTheOrder =
     → leap_reading_of first ≡ Ok (a, is_leap) → leap_reading_of second ≡ Ok (b, is_later_leap)
     → (IsWrittenBefore p q → (instant_of a <ℤ instant_of b) ⊎ ((instant_of a ≡ instant_of b) × (is_later_leap ≡ true)))
     × (IsWrittenWith p q → instant_of a ≡ instant_of b)
+
+-- the offset is 0, with either sign
+abbrev pub IsInUtc : Parts → Type 0
+IsInUtc p = (p.offset_hour ≡ 0) × (p.offset_minute ≡ 0)
+
+abbrev pub IsSameDate : Parts → Parts → Type 0
+IsSameDate p q = (p.year ≡ q.year) × (p.month ≡ q.month) × (p.day ≡ q.day)
+
+abbrev pub IsSameMinute : Parts → Parts → Type 0
+IsSameMinute p q = IsSameDate p q × (p.hour ≡ q.hour) × (p.minute ≡ q.minute)
+
+-- the first digits that differ, from the left, are lower
+abbrev pub AreDigitsBefore : Parts → Parts → Type 0
+AreDigitsBefore p q =
+    (p.year < q.year)
+    ⊎ ((p.year ≡ q.year) × (p.month < q.month))
+    ⊎ ((p.year ≡ q.year) × (p.month ≡ q.month) × (p.day < q.day))
+    ⊎ (IsSameDate p q × (p.hour < q.hour))
+    ⊎ (IsSameDate p q × (p.hour ≡ q.hour) × (p.minute < q.minute))
+    ⊎ (IsSameMinute p q × (p.second < q.second))
+    ⊎ (IsSameMinute p q × (p.second ≡ q.second) × (p.nanosecond < q.nanosecond))
+
+-- of two texts in UTC that are read, the one whose digits are earlier is not read as later
+pub record DigitsInUtcKeepTheOrder : Type 0 where
+  pub order : (first second : List ℕ) (p q : Parts) (a b : Local) (is_leap is_later_leap : Bool)
+      → IsDateTime first p → IsDateTime second q → IsInUtc p → IsInUtc q
+      → leap_reading_of first ≡ Ok (a, is_leap) → leap_reading_of second ≡ Ok (b, is_later_leap)
+      → AreDigitsBefore p q → instant_of a ≤ℤ instant_of b

@@ -6,7 +6,7 @@ ghost use Rattle.rfc3339.specs.Printed.{GrammarIsPrinted};
 ghost use Rattle.rfc3339.specs.Recogniser.{GrammarsAreDecided};
 ghost use Rattle.rfc3339.specs.Suffixes.{SuffixesArePrinted, SuffixesAreDecided, SuffixesAreInBrackets, SuffixesAreCutOff};
 ghost use Rattle.rfc3339.specs.DigitLaws.{TextsOfDigitsTruncate, TextsOfDigitsKeepTheOrder};
-ghost use Rattle.rfc3339.specs.LeapLaws.{LeapReadingsKeepTheOrder};
+ghost use Rattle.rfc3339.specs.LeapLaws.{LeapReadingsKeepTheOrder, DigitsInUtcKeepTheOrder};
 
 /// A text spells one list of parts at most.
 pub fn texts_have_one_reading()
@@ -79,6 +79,11 @@ pub fn grammar_is_printed()
 /// where the later is a leap second.
 pub fn leap_readings_keep_the_order()
     ensures { LeapReadingsKeepTheOrder }
+{}
+
+/// Of two texts in UTC that are read, leap seconds included, the one whose digits are earlier is not read as a later instant.
+pub fn digits_in_utc_keep_the_order()
+    ensures { DigitsInUtcKeepTheOrder }
 {}
 
 /// A recogniser computes whether a grammar derives a text, for each grammar in which no rule leads back to itself. RFC 3339's is
