@@ -1,12 +1,14 @@
--- The order, the counts of units, the sums and the differences of durations, from their seconds and nanoseconds.
-use Rattle.std.proofs.Common.{◌≡◌, ℤ, pos, FitsSigned, w64, to_z, of_z, to_z-of_z, ◌+ℤ◌, ◌-ℤ◌, ◌*ℤ◌, ◌<ℤ◌, ◌≤◌, min, unsigned_abs, arith, int_div}
-use Rattle.std.proofs.lemmas.Int.{by_lt_z, ints}
+-- The order, the counts of units and the sums of durations, from their seconds and nanoseconds, and what makes a duration.
+use Rattle.std.proofs.Common.{◌≡◌, ◌≢◌, ℤ, pos, negsuc, suc, FitsSigned, ◌+ℤ◌, ◌*ℤ◌, ◌<ℤ◌, ◌≤◌, min, unsigned_abs, arith, int_div, Option, Some, None, SomeIff}
+use Rattle.std.proofs.Math.Nat.{div-le_self}
+use Rattle.std.proofs.lemmas.Int.{fits_signed_from_abs, fits_signed_mul, ints}
 use Rattle.std.specs.Ordering.{int_cmp, ordering_then}
 use Rattle.calendar_values.specs.DurationPartLemmas.{duration_signs}
-use Rattle.calendar_values.specs.Durations.{duration_of_parts, greatest_duration, IsDuration, IsDurationParts}
+use Rattle.calendar_values.specs.Durations.{duration_of_parts, greatest_duration, IsDuration, IsDurationParts, SomeDuration, IsNearestDuration, HasQuotient}
 use Rattle.calendar_values.specs.Durations.{whole_seconds_of, whole_minutes_of, whole_hours_of, whole_days_of, whole_weeks_of, subsec_nanoseconds_of}
 use Rattle.calendar_values.specs.Durations.{whole_milliseconds_of, whole_microseconds_of, subsec_milliseconds_of, subsec_microseconds_of}
 use Rattle.calendar_values.specs.SignedArith.{signed_arith, one_part}
+use mir.Syntax.{w128}
 
 -- a duration of fewer seconds is less
 pub duration_below : (s t m n : ℤ) → IsDurationParts s m → IsDurationParts t n → s <ℤ t → duration_of_parts s m <ℤ duration_of_parts t n
@@ -47,14 +49,40 @@ pub whole_microseconds_of-parts : (d : ℤ) → whole_microseconds_of d ≡ (who
 unfolding whole_microseconds_of whole_seconds_of subsec_microseconds_of subsec_nanoseconds_of
 whole_microseconds_of-parts d = omega (arith, signed_arith, one_part d)
 
--- where the difference is in range and that of the seconds does not fit, it is 2^63 seconds, and the nanoseconds are negative
-pub seconds_excess : (s t m n : ℤ) → FitsSigned w64 s → FitsSigned w64 t → IsDurationParts s m → IsDurationParts t n →
-    IsDuration (duration_of_parts s m -ℤ duration_of_parts t n) → ¬ FitsSigned w64 (to_z w64 (of_z w64 s) -ℤ to_z w64 (of_z w64 t)) →
-    (s -ℤ t ≡ pos 9_223_372_036_854_775_808) × ((m -ℤ n) <ℤ pos 0)
-seconds_excess s t m n f g p q r unfit =
-    by_lt_z (s -ℤ t) (pos 9_223_372_036_854_775_808)
-    (λ lt. absurd (unfit (simp to_z-of_z (omega (arith, signed_arith, duration_signs s m p, duration_signs t n q)))))
-    (λ ge. omega (arith, signed_arith, duration_signs s m p, duration_signs t n q))
+-- what `unwrap` gives of a value that is there where a fact holds
+pub unwrapped : {T : Type 0} (r : Option T) (P : Type 0) (v x : T) → SomeIff r P v → r ≡ Some x → x ≡ v
+unwrapped r P v x h e = (rw e at h).1
+
+-- a duration is that of an equal number, and near to it
+pub SomeDuration-same : (r : Option ℤ) (d e : ℤ) → SomeDuration r d → d ≡ e → SomeDuration r e
+SomeDuration-same r d e h same = rw same at h
+
+pub IsNearestDuration-same : (d e n : ℤ) → IsNearestDuration d n → d ≡ e → IsNearestDuration e n
+IsNearestDuration-same d e n h same = rw same at h
+
+-- 128 bits hold a duration's nanoseconds times a number of 32 bits and a sign
+pub FitsSigned-product : (d factor : ℤ) → IsDuration d → unsigned_abs factor ≤ 4_294_967_296 → FitsSigned w128 (d *ℤ factor)
+FitsSigned-product d factor h small =
+    fits_signed_mul w128 d factor 9_223_372_036_854_775_808_999_999_999 4_294_967_296 (omega (arith, signed_arith, one_part d, h)) small
+    (omega arith)
+
+-- a quotient is no larger than what is divided
+unsigned_abs-int_div : (a d : ℤ) → unsigned_abs (int_div a d) ≤ unsigned_abs a
+unsigned_abs-int_div (pos a) (pos b) = div-le_self a b
+unsigned_abs-int_div (pos a) (negsuc b) = omega (arith, signed_arith, div-le_self a (suc b))
+unsigned_abs-int_div (negsuc a) (pos b) = omega (arith, signed_arith, div-le_self (suc a) b)
+unsigned_abs-int_div (negsuc a) (negsuc b) = div-le_self (suc a) (suc b)
+
+-- 128 bits hold the quotients of a duration's nanoseconds
+pub FitsSigned-quotient : (d divisor : ℤ) → IsDuration d → FitsSigned w128 (int_div d divisor)
+FitsSigned-quotient d divisor h =
+    fits_signed_from_abs w128 (int_div d divisor) (omega (arith, signed_arith, one_part d, h, unsigned_abs-int_div d divisor))
+
+-- the quotient by a number that is not 0
+pub HasQuotient-some : (r : Option ℤ) (d divisor : ℤ) → SomeDuration r (int_div d divisor) → divisor ≢ pos 0 →
+    SomeIff r (HasQuotient d divisor) (int_div d divisor)
+HasQuotient-some None d divisor h nonzero = λ quotient. h quotient.1
+HasQuotient-some (Some x) d divisor h nonzero = ((nonzero, h.0), h.1)
 
 -- a duration without its sign counts its parts without theirs
 pub duration_of_parts-abs : (s n : ℤ) → IsDurationParts s n → unsigned_abs s ≤ 9_223_372_036_854_775_807 →

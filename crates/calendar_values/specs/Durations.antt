@@ -1,5 +1,5 @@
 -- A duration is a whole number of nanoseconds. Its seconds and days are whole ones, rounded towards zero.
-use Rattle.std.specs.Prelude.{◌≤◌, ◌⊎◌, ℤ, pos, neg_ℤ, ◌+ℤ◌, ◌*ℤ◌, ◌≤ℤ◌, int_div, int_rem, unsigned_abs}
+use Rattle.std.specs.Prelude.{◌≡◌, ◌≢◌, ◌≤◌, ◌⊎◌, ℤ, pos, neg_ℤ, ◌+ℤ◌, ◌*ℤ◌, ◌≤ℤ◌, ◌<ℤ◌, int_div, int_rem, unsigned_abs, Option, SomeIff}
 use Rattle.calendar_values.specs.Clock.{nanos_per_microsecond, nanos_per_millisecond, nanos_per_second, nanos_per_minute, nanos_per_hour, nanos_per_day}
 use Rattle.calendar_values.specs.Clock.{nanos_per_week}
 
@@ -17,6 +17,20 @@ greatest_duration = pos 9_223_372_036_854_775_807_999_999_999
 -- a duration of the range
 abbrev pub IsDuration : ℤ → Type 0
 IsDuration d = (least_duration ≤ℤ d) × (d ≤ℤ greatest_duration)
+
+-- the result is Some exactly where so many nanoseconds make a duration, and then it
+abbrev pub SomeDuration : Option ℤ → ℤ → Type 0
+SomeDuration result d = SomeIff result (IsDuration d) d
+
+-- n is the duration that is nearest to d nanoseconds
+pub record IsNearestDuration (d n : ℤ) : Type 0 where
+  pub exact : IsDuration d → n ≡ d
+  pub at_the_end : greatest_duration <ℤ d → n ≡ greatest_duration
+  pub at_the_beginning : d <ℤ least_duration → n ≡ least_duration
+
+-- the number is not 0, and the duration divided by it, rounded towards zero, is a duration
+abbrev pub HasQuotient : ℤ → ℤ → Type 0
+HasQuotient d divisor = (divisor ≢ pos 0) × IsDuration (int_div d divisor)
 
 -- its whole seconds
 unfoldable pub whole_seconds_of : ℤ → ℤ

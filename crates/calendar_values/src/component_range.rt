@@ -11,7 +11,7 @@ use std::error::Error;
 use std::fmt;
 use std::marker::Model;
 
-/// The parts that can be refused, by the names of [`ComponentRange::name`].
+/// The parts that can be out of range, by the names of [`ComponentRange::name`].
 #[derive(Clone, Copy, Debug, PartialEq, Eq)]
 pub enum Part {
     Year,
@@ -133,19 +133,39 @@ impl Model for ComponentRange {
 impl ComponentRange {
     ghost use Rattle.calendar_values.specs.Parts.{is_part_name, part_name};
 
-    /// The refusal of the part of this name. `conditional` says that the value is possible for some
+    /// The error for the part of this name. `conditional` says that the value is possible for some
     /// year and month, and not with the other parts.
+    ///
+    /// ```
+    /// let refusal = ComponentRange::new("hour", false);
+    /// assert_eq!(rt; Time::from_hms(24, 0, 0), Err(refusal));
+    /// ```
     pub fn new(name: &'static str, conditional: bool) -> ComponentRange
         requires { IsTrue (is_part_name name.now) }
         ensures { result ≡ record { name = name.now; conditional = conditional } }
     {
-        ComponentRange {
-            part: Part::named(name),
-            conditional,
-        }
+        ComponentRange::of_part(Part::named(name), conditional)
+    }
+
+    /// The error for this part. `conditional` says that the value is possible for some year and
+    /// month, and not with the other parts.
+    ///
+    /// ```
+    /// assert_eq!(rt; ComponentRange::of_part(Part::Day, true), ComponentRange::new("day", true));
+    /// ```
+    #[inline(always)]
+    pub fn of_part(part: Part, conditional: bool) -> ComponentRange
+        ensures { result ≡ record { name = part_name part; conditional = conditional } }
+    {
+        ComponentRange { part, conditional }
     }
 
     /// The part.
+    ///
+    /// ```
+    /// let refusal = ComponentRange::new("minute", false);
+    /// assert_eq!(rt; refusal.part(), Part::Minute);
+    /// ```
     #[inline(always)]
     pub fn part(self) -> Part
         ensures { part_name result ≡ self.name }
@@ -154,6 +174,11 @@ impl ComponentRange {
     }
 
     /// The name of the part: ASCII, and at most 14 bytes long.
+    ///
+    /// ```
+    /// let refusal = ComponentRange::of_part(Part::Second, false);
+    /// assert_eq!(rt; refusal.name(), "second");
+    /// ```
     pub fn name(self) -> &'static str
         ensures value { result.now ≡ self.name }
         ensures ascii { IsAscii result.now }
@@ -163,14 +188,28 @@ impl ComponentRange {
     }
 
     /// Whether the value is possible for some year and month, and not with the other parts.
+    ///
+    /// ```
+    /// let in_april = Date::from_calendar_date(2021, Month::April, 31);
+    /// assert_eq!(rt; in_april.map_err(|refusal| refusal.is_conditional()), Err(true));
+    /// assert_eq!(rt;
+    ///     Time::from_hms(0, 60, 0).map_err(|refusal| refusal.is_conditional()),
+    ///     Err(false)
+    /// );
+    /// ```
     pub fn is_conditional(self) -> bool
         ensures { result ≡ self.conditional }
     {
         self.conditional
     }
 
-    /// The text, as `day is out of range`, followed by ` given the other parts` where the refusal is
-    /// conditional.
+    /// The text, such as `day is out of range`, with ` given the other parts` after it if the error
+    /// is conditional.
+    ///
+    /// ```
+    /// let refusal = ComponentRange::new("hour", false);
+    /// assert_eq!(rt; refusal.text().as_str(), "hour is out of range");
+    /// ```
     #[tactic(auto, unfolding(crate::specs::Texts::refusal_text))]
     pub fn text(self) -> Text
         ensures text { result ≡ refusal_text self }

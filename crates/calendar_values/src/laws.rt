@@ -26,8 +26,8 @@ pub fn ordinal_dates_are_days()
     ensures { OrdinalDatesAreDays }
 {}
 
-/// The ISO year, the ISO week and the day of the week that a day of the range shows give that day, and a day
-/// that such three give shows them.
+/// The ISO year, the ISO week and the day of the week that a day of the range shows give that day,
+/// and a day that such three give shows them.
 pub fn iso_week_dates_are_days()
     ensures { IsoWeekDatesAreDays }
 {}
@@ -38,8 +38,8 @@ pub fn range_is_whole_years()
     ensures { RangeIsWholeYears }
 {}
 
-/// An accepted replacement gives the only day whose named part is as given and whose other parts are
-/// as before.
+/// An accepted replacement gives the only day whose named part is as given and whose other parts
+/// are as before.
 pub fn replacements_keep_the_rest()
     ensures { ReplacementsKeepTheRest }
 {}
@@ -55,8 +55,8 @@ pub fn truncation_is_greatest_multiple()
     ensures { TruncationIsGreatestMultiple }
 {}
 
-/// What a constructor or a replacement comes to is one answer: its value where the arguments fit, and its
-/// refusal where they do not.
+/// A constructor or a replacement has one outcome: its value if the arguments fit, and its error if
+/// they do not.
 pub fn outcomes_are_answers()
     ensures { OutcomesAreAnswers }
 {}
@@ -66,8 +66,8 @@ pub fn weekdays_repeat()
     ensures { WeekdaysRepeat }
 {}
 
-/// The calendar is the only one that begins at 1 January 1970 on day 0 and goes from each date to the next: any three
-/// functions of the day number that do so show the same dates.
+/// The calendar is the only one that begins at 1 January 1970 on day 0 and goes from each date to
+/// the next: any three functions of the day number that do so show the same dates.
 pub fn is_only_calendar()
     ensures { IsOnlyCalendar }
 {}
@@ -77,8 +77,9 @@ pub fn is_only_weekday()
     ensures { IsOnlyWeekday }
 {}
 
-/// The ISO year and week are the only ones with these steps. A Monday begins the next week of its year, or week 1 of the next year.
-/// Each other day lies in the week of the day before. 4 January lies in week 1 of its year.
+/// The ISO year and week are the only ones with these steps. A Monday begins the next week of its
+/// year, or week 1 of the next year. Each other day lies in the week of the day before. 4 January
+/// lies in week 1 of its year.
 pub fn is_only_iso_week()
     ensures { IsOnlyIsoWeek }
 {}

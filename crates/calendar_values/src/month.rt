@@ -3,7 +3,7 @@ ghost use Rattle.std.specs.Prelude.{◌≡◌, ◌≤◌, ◌↔◌, ◌<◌, Is
 ghost use Rattle.std.specs.Fmt.{padded};
 ghost use Rattle.calendar_values.specs.Refusals.{outright_refusal};
 
-use crate::{ComponentRange, Text};
+use crate::{ComponentRange, Part, Text};
 use std::fmt;
 
 /// A month of the year.
@@ -26,14 +26,19 @@ pub enum Month {
 impl Month {
     ghost use Rattle.calendar_values.specs.Month.{month_number, month_name};
 
-    /// The month of this number, 1 for January to 12 for December. Refused `month` otherwise.
+    /// The month of this number, 1 for January to 12 for December. Fails with `month` otherwise.
+    ///
+    /// ```
+    /// assert_eq!(rt; Month::from_number(9), Ok(Month::September));
+    /// assert_eq!(rt; Month::from_number(13), Err(ComponentRange::new("month", false)));
+    /// ```
     pub fn from_number(number: u8) -> Result<Month, ComponentRange>
         ensures accepted { IsOk result ↔ ((1 ≤ number) × (number ≤ 12)) }
         ensures value { IfOk result (λ month. month_number month ≡ number) }
         ensures refused { IfErr result (λ refusal. refusal ≡ outright_refusal (codes "month")) }
     {
         if number == 0 || number > 12 {
-            return Err(ComponentRange::new("month", false));
+            return Err(ComponentRange::of_part(Part::Month, false));
         }
         Ok(Month::numbered(number))
     }
@@ -60,6 +65,10 @@ impl Month {
     }
 
     /// The English name.
+    ///
+    /// ```
+    /// assert_eq!(rt; Month::May.text().as_str(), "May");
+    /// ```
     pub fn text(self) -> Text
         ensures text { result ≡ month_name self }
         ensures length { length result ≤ 9 }

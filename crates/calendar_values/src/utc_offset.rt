@@ -4,7 +4,7 @@ ghost use Rattle.calendar_values.specs.Offsets.{AreSignedOffsetParts, seconds_of
 ghost use Rattle.calendar_values.specs.Offsets.{offset_outcome, offset_seconds_outcome};
 ghost use Rattle.calendar_values.specs.Outcomes.{Gives};
 
-use crate::component_range::ComponentRange;
+use crate::component_range::{ComponentRange, Part};
 use crate::units::SECONDS_PER_HOUR;
 use std::marker::Model;
 
@@ -60,21 +60,26 @@ impl UtcOffset {
         seconds: 0,
     };
 
-    /// The offset of hours, -25 to 25, and of minutes and seconds, -59 to 59. The sign of the hours,
-    /// or of the minutes if the hours are 0, is given to the smaller parts, as the `time` crate
-    /// documents: `from_hms(1, -2, -3)` is 1:02:03. The first part that is out of its range is
-    /// refused, as `hours`, `minutes` or `seconds`, not conditionally.
+    /// The offset of hours, -25 to 25, and of minutes and seconds, -59 to 59. The smaller parts
+    /// take the sign of the hours, or of the minutes if the hours are 0, as the `time` crate
+    /// documents: `from_hms(1, -2, -3)` is 1:02:03. Fails with the first part out of range:
+    /// `hours`, `minutes` or `seconds`, unconditionally.
+    ///
+    /// ```
+    /// assert_eq!(rt; UtcOffset::from_hms(5, 45, 0)?.whole_seconds(), 20_700);
+    /// assert_eq!(rt; UtcOffset::from_hms(26, 0, 0), Err(ComponentRange::new("hours", false)));
+    /// ```
     pub fn from_hms(hours: i8, minutes: i8, seconds: i8) -> Result<UtcOffset, ComponentRange>
         ensures { Gives result (offset_outcome hours minutes seconds) }
     {
         if hours.unsigned_abs() > 25 {
-            return Err(ComponentRange::new("hours", false));
+            return Err(ComponentRange::of_part(Part::Hours, false));
         }
         if minutes.unsigned_abs() > 59 {
-            return Err(ComponentRange::new("minutes", false));
+            return Err(ComponentRange::of_part(Part::Minutes, false));
         }
         if seconds.unsigned_abs() > 59 {
-            return Err(ComponentRange::new("seconds", false));
+            return Err(ComponentRange::of_part(Part::Seconds, false));
         }
         Ok(UtcOffset {
             hours,
@@ -83,14 +88,22 @@ impl UtcOffset {
         })
     }
 
-    /// The offset of so many seconds. Refused `offset_seconds`, not conditionally, outside -93,599 to
-    /// 93,599.
+    /// The offset of a number of seconds. Fails with `offset_seconds`, unconditionally, outside
+    /// -93,599 to 93,599.
+    ///
+    /// ```
+    /// assert_eq!(rt; UtcOffset::from_whole_seconds(-34_200)?, UtcOffset::from_hms(-9, -30, 0)?);
+    /// assert_eq!(rt;
+    ///     UtcOffset::from_whole_seconds(93_600),
+    ///     Err(ComponentRange::new("offset_seconds", false))
+    /// );
+    /// ```
     #[tactic(auto, unfolding(crate::specs::Offsets::offset_of_seconds))]
     pub fn from_whole_seconds(seconds: i32) -> Result<UtcOffset, ComponentRange>
         ensures { Gives result (offset_seconds_outcome seconds) }
     {
         if seconds < -93_599 || seconds > 93_599 {
-            return Err(ComponentRange::new("offset_seconds", false));
+            return Err(ComponentRange::of_part(Part::OffsetSeconds, false));
         }
         Ok(UtcOffset {
             hours: (seconds / SECONDS_PER_HOUR) as i8,

@@ -21,6 +21,11 @@ impl Weekday {
     ghost use Rattle.calendar_values.specs.Weekday.{weekday_number, weekday_name};
 
     /// The number of days from Monday: 0 for Monday to 6 for Sunday.
+    ///
+    /// ```
+    /// assert_eq!(rt; Weekday::Monday.number_days_from_monday(), 0);
+    /// assert_eq!(rt; Weekday::Sunday.number_days_from_monday(), 6);
+    /// ```
     pub fn number_days_from_monday(self) -> u8
         ensures value { result ≡ weekday_number self }
         ensures in_range { result < 7 }
@@ -28,7 +33,13 @@ impl Weekday {
         self as u8
     }
 
-    /// The day of the week so many days after a Monday, 0 for Monday to 6 for Sunday. None above 6.
+    /// The day of the week at a number of days after a Monday, 0 for Monday to 6 for Sunday. None
+    /// above 6.
+    ///
+    /// ```
+    /// assert_eq!(rt; Weekday::from_number_days_from_monday(2), Some(Weekday::Wednesday));
+    /// assert_eq!(rt; Weekday::from_number_days_from_monday(7), None);
+    /// ```
     pub fn from_number_days_from_monday(number: u8) -> Option<Weekday>
         ensures accepted { IsSome result ↔ (number < 7) }
         ensures value { IfSome result (λ weekday. weekday_number weekday ≡ number) }
@@ -39,7 +50,8 @@ impl Weekday {
         Some(Weekday::numbered(number))
     }
 
-    /// As [`Weekday::from_number_days_from_monday`], of a number below 7, which the caller has to show.
+    /// As [`Weekday::from_number_days_from_monday`], of a number below 7. The caller proves that it
+    /// is.
     pub fn numbered(number: u8) -> Weekday
         requires { number < 7 }
         ensures { weekday_number result ≡ number }
@@ -56,6 +68,10 @@ impl Weekday {
     }
 
     /// The English name.
+    ///
+    /// ```
+    /// assert_eq!(rt; Weekday::Friday.text().as_str(), "Friday");
+    /// ```
     pub fn text(self) -> Text
         ensures text { result ≡ weekday_name self }
         ensures length { length result ≤ 9 }

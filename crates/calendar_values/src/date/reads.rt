@@ -18,6 +18,11 @@ impl Date {
     ghost use Rattle.calendar_values.specs.Weeks.{thursday_of, iso_week_of, sunday_week_of, monday_week_of};
 
     /// The year, from that of [`Date::MIN`] to that of [`Date::MAX`].
+    ///
+    /// ```
+    /// let date = Date::from_calendar_date(2019, Month::December, 30)?;
+    /// assert_eq!(rt; date.year(), 2019);
+    /// ```
     #[tactic(auto, using(crate::proofs::DateLemmas::date_parts))]
     pub fn year(self) -> i32
         ensures value { result ≡ year_of self }
@@ -28,6 +33,11 @@ impl Date {
     }
 
     /// The month.
+    ///
+    /// ```
+    /// let date = Date::from_calendar_date(2019, Month::December, 30)?;
+    /// assert_eq!(rt; date.month(), Month::December);
+    /// ```
     pub fn month(self) -> Month
         ensures { month_number result ≡ month_of self }
     {
@@ -35,6 +45,11 @@ impl Date {
     }
 
     /// The day of the month, 1 to 31.
+    ///
+    /// ```
+    /// let date = Date::from_calendar_date(2019, Month::December, 30)?;
+    /// assert_eq!(rt; date.day(), 30);
+    /// ```
     pub fn day(self) -> u8
         ensures value { result ≡ day_of_month_of self }
         ensures in_range { IsInRange 1 31 result }
@@ -43,6 +58,11 @@ impl Date {
     }
 
     /// The day of the year, 1 to 366.
+    ///
+    /// ```
+    /// let date = Date::from_calendar_date(2019, Month::December, 30)?;
+    /// assert_eq!(rt; date.ordinal(), 364);
+    /// ```
     #[tactic(auto, using(crate::proofs::DateLemmas::date_parts))]
     pub fn ordinal(self) -> u16
         ensures value { result ≡ ordinal_of self }
@@ -53,6 +73,11 @@ impl Date {
     }
 
     /// The ISO week, 1 to 53 (ISO 8601): it belongs to the year of its Thursday.
+    ///
+    /// ```
+    /// let date = Date::from_calendar_date(2019, Month::December, 30)?;
+    /// assert_eq!(rt; date.iso_week(), 1);
+    /// ```
     pub fn iso_week(self) -> u8
         ensures value { result ≡ iso_week_of self }
         ensures in_range { IsInRange 1 53 result }
@@ -60,27 +85,44 @@ impl Date {
         self.to_iso_week_date().1
     }
 
-    /// The week counted by Sundays, 0 to 53: how many Sundays of the year lie on or before the date.
+    /// The week counted by Sundays, 0 to 53: how many Sundays of the year lie on or before the
+    /// date.
+    ///
+    /// ```
+    /// let date = Date::from_calendar_date(2019, Month::December, 30)?;
+    /// assert_eq!(rt; date.sunday_based_week(), 52);
+    /// ```
     #[tactic(auto, using(crate::proofs::WeekNumberLemmas::week_numbers))]
     pub fn sunday_based_week(self) -> u8
         ensures value { result ≡ sunday_week_of self }
         ensures in_range { result ≤ 53 }
     {
         let days_from_sunday = (self.weekday().number_days_from_monday() + 1) % 7;
-        ((self.ordinal() + 6 - u16::from(days_from_sunday)) / 7) as u8
+        ((self.ordinal() + 6 - days_from_sunday as u16) / 7) as u8
     }
 
-    /// The week counted by Mondays, 0 to 53: how many Mondays of the year lie on or before the date.
+    /// The week counted by Mondays, 0 to 53: how many Mondays of the year lie on or before the
+    /// date.
+    ///
+    /// ```
+    /// let date = Date::from_calendar_date(2019, Month::December, 30)?;
+    /// assert_eq!(rt; date.monday_based_week(), 52);
+    /// ```
     #[tactic(auto, using(crate::proofs::WeekNumberLemmas::week_numbers))]
     pub fn monday_based_week(self) -> u8
         ensures value { result ≡ monday_week_of self }
         ensures in_range { result ≤ 53 }
     {
         let days_from_monday = self.weekday().number_days_from_monday();
-        ((self.ordinal() + 6 - u16::from(days_from_monday)) / 7) as u8
+        ((self.ordinal() + 6 - days_from_monday as u16) / 7) as u8
     }
 
     /// The year, the month and the day of the month.
+    ///
+    /// ```
+    /// let date = Date::from_calendar_date(2019, Month::December, 30)?;
+    /// assert_eq!(rt; date.to_calendar_date(), (2019, Month::December, 30));
+    /// ```
     pub fn to_calendar_date(self) -> (i32, Month, u8)
         ensures { IsCalendarDateOf self result }
     {
@@ -89,6 +131,11 @@ impl Date {
     }
 
     /// The year and the day of the year.
+    ///
+    /// ```
+    /// let date = Date::from_calendar_date(2019, Month::December, 30)?;
+    /// assert_eq!(rt; date.to_ordinal_date(), (2019, 364));
+    /// ```
     pub fn to_ordinal_date(self) -> (i32, u16)
         ensures { IsOrdinalDateOf self result }
     {
@@ -96,6 +143,11 @@ impl Date {
     }
 
     /// The ISO year, the ISO week and the day of the week (ISO 8601).
+    ///
+    /// ```
+    /// let date = Date::from_calendar_date(2019, Month::December, 30)?;
+    /// assert_eq!(rt; date.to_iso_week_date(), (2020, 1, Weekday::Monday));
+    /// ```
     #[tactic(auto, using(crate::proofs::WeekNumberLemmas::week_numbers))]
     pub fn to_iso_week_date(self) -> (i32, u8, Weekday)
         ensures { IsIsoWeekDateOf self result }
@@ -109,7 +161,7 @@ impl Date {
     fn thursday(self) -> Date
         ensures { result ≡ thursday_of self }
     {
-        let days_from_monday = u16::from(self.weekday().number_days_from_monday());
+        let days_from_monday = self.weekday().number_days_from_monday() as u16;
         let ordinal = self.ordinal + 3;
         if ordinal <= days_from_monday {
             let year = self.year - 1;
@@ -133,6 +185,11 @@ impl Date {
     }
 
     /// The day of the week.
+    ///
+    /// ```
+    /// let date = Date::from_calendar_date(2019, Month::December, 30)?;
+    /// assert_eq!(rt; date.weekday(), Weekday::Monday);
+    /// ```
     pub fn weekday(self) -> Weekday
         ensures { weekday_number result ≡ weekday_of self }
     {
@@ -140,6 +197,11 @@ impl Date {
     }
 
     /// The Julian day, which is 2,440,588 on 1970-01-01.
+    ///
+    /// ```
+    /// let date = Date::from_calendar_date(2019, Month::December, 30)?;
+    /// assert_eq!(rt; date.to_julian_day(), 2_458_848);
+    /// ```
     #[inline(always)]
     pub fn to_julian_day(self) -> i32
         ensures value { result ≡ julian_day_of self }
@@ -149,13 +211,19 @@ impl Date {
     }
 
     /// The day number: the days from 1970-01-01 to the date, negative before it.
+    ///
+    /// ```
+    /// let date = Date::from_calendar_date(2019, Month::December, 30)?;
+    /// assert_eq!(rt; date.days_since_epoch(), 18_260);
+    /// assert_eq!(rt; Date::UNIX_EPOCH.days_since_epoch(), 0);
+    /// ```
     #[inline(always)]
     #[tactic(auto, using(crate::specs::SignedArith::signed_arith))]
     pub fn days_since_epoch(self) -> i32
         ensures value { result ≡ self }
         ensures self_in_range { IsDay self }
     {
-        year_start(self.year) + i32::from(self.ordinal) - 1
+        year_start(self.year) + self.ordinal as i32 - 1
     }
 }
 

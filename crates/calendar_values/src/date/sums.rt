@@ -17,6 +17,12 @@ impl Date {
     ghost use Rattle.calendar_values.specs.Calendar.{days_in_year};
 
     /// The next date, or None at the last.
+    ///
+    /// ```
+    /// let leap_day = Date::from_calendar_date(2024, Month::February, 29)?;
+    /// assert_eq!(rt; leap_day.next_day(), Some(Date::from_calendar_date(2024, Month::March, 1)?));
+    /// assert_eq!(rt; Date::MAX.next_day(), None);
+    /// ```
     pub fn next_day(self) -> Option<Date>
         ensures { SomeDay result (self +ℤ pos 1) }
     {
@@ -36,6 +42,15 @@ impl Date {
     }
 
     /// The date before, or None at the first.
+    ///
+    /// ```
+    /// let march = Date::from_calendar_date(2023, Month::March, 1)?;
+    /// assert_eq!(rt;
+    ///     march.previous_day(),
+    ///     Some(Date::from_calendar_date(2023, Month::February, 28)?)
+    /// );
+    /// assert_eq!(rt; Date::MIN.previous_day(), None);
+    /// ```
     pub fn previous_day(self) -> Option<Date>
         ensures { SomeDay result (self -ℤ pos 1) }
     {
@@ -55,16 +70,32 @@ impl Date {
         })
     }
 
-    /// The date so many whole days later, or earlier for a negative duration, whose days are rounded
-    /// towards zero. None outside the range.
+    /// The date plus the whole days of a duration, rounded towards zero. None if out of range.
+    ///
+    /// ```
+    /// let date = Date::from_calendar_date(2023, Month::December, 31)?;
+    /// assert_eq!(rt;
+    ///     date.checked_add(SignedDuration::hours(47)),
+    ///     Some(Date::from_calendar_date(2024, Month::January, 1)?)
+    /// );
+    /// assert_eq!(rt; Date::MAX.checked_add(SignedDuration::DAY), None);
+    /// ```
     pub fn checked_add(self, duration: SignedDuration) -> Option<Date>
         ensures { SomeDay result (self +ℤ whole_days_of duration) }
     {
         self.checked_add_days(duration.whole_days())
     }
 
-    /// The date so many whole days earlier, or later for a negative duration, whose days are rounded
-    /// towards zero. None outside the range.
+    /// The date minus the whole days of a duration, rounded towards zero. None if out of range.
+    ///
+    /// ```
+    /// let date = Date::from_calendar_date(2023, Month::December, 31)?;
+    /// assert_eq!(rt;
+    ///     date.checked_sub(SignedDuration::WEEK),
+    ///     Some(Date::from_calendar_date(2023, Month::December, 24)?)
+    /// );
+    /// assert_eq!(rt; Date::MIN.checked_sub(SignedDuration::DAY), None);
+    /// ```
     #[tactic(auto, using(crate::specs::SignedArith::signed_arith))]
     pub fn checked_sub(self, duration: SignedDuration) -> Option<Date>
         ensures { SomeDay result (self -ℤ whole_days_of duration) }
@@ -72,14 +103,30 @@ impl Date {
         self.checked_add_days(-duration.whole_days())
     }
 
-    /// The date so many whole days later. None outside the range.
+    /// The date plus the whole days of a duration. None if out of range.
+    ///
+    /// ```
+    /// let date = Date::from_calendar_date(2023, Month::December, 31)?;
+    /// assert_eq!(rt;
+    ///     date.checked_add_std(std::time::Duration::from_secs(86_400)),
+    ///     Some(Date::from_calendar_date(2024, Month::January, 1)?)
+    /// );
+    /// ```
     pub fn checked_add_std(self, duration: Duration) -> Option<Date>
         ensures { SomeDay result (self +ℤ pos (as_nanos duration / nanos_per_day)) }
     {
         self.checked_add_days((duration.as_secs() / SECONDS_PER_DAY as u64) as i64)
     }
 
-    /// The date so many whole days earlier. None outside the range.
+    /// The date minus the whole days of a duration. None if out of range.
+    ///
+    /// ```
+    /// let date = Date::from_calendar_date(2023, Month::December, 31)?;
+    /// assert_eq!(rt;
+    ///     date.checked_sub_std(std::time::Duration::from_secs(86_400)),
+    ///     Some(Date::from_calendar_date(2023, Month::December, 30)?)
+    /// );
+    /// ```
     #[tactic(auto, using(crate::specs::SignedArith::signed_casts))]
     pub fn checked_sub_std(self, duration: Duration) -> Option<Date>
         ensures { SomeDay result (self -ℤ pos (as_nanos duration / nanos_per_day)) }
@@ -87,7 +134,16 @@ impl Date {
         self.checked_add_days(-((duration.as_secs() / SECONDS_PER_DAY as u64) as i64))
     }
 
-    /// The date so many days later, or earlier for a negative number. None outside the range.
+    /// The date a number of days later, or earlier for a negative number. None if out of range.
+    ///
+    /// ```
+    /// let date = Date::from_calendar_date(2023, Month::December, 31)?;
+    /// assert_eq!(rt;
+    ///     date.checked_add_days(-365),
+    ///     Some(Date::from_calendar_date(2022, Month::December, 31)?)
+    /// );
+    /// assert_eq!(rt; Date::MAX.checked_add_days(1), None);
+    /// ```
     pub fn checked_add_days(self, days: i64) -> Option<Date>
         ensures { SomeDay result (self +ℤ days) }
     {

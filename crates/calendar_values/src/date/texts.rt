@@ -9,8 +9,13 @@ use crate::{Date, Text};
 use std::fmt;
 
 impl Date {
-    /// The text, as `1970-01-01`: a year of at least four digits, with `-` before a negative one and `+`
-    /// before one above 9999, a month and a day of two digits each (ISO 8601).
+    /// The text, as `1970-01-01`: a year of at least four digits, with `-` before a negative one
+    /// and `+` before one above 9999, a month and a day of two digits each (ISO 8601).
+    ///
+    /// ```
+    /// let date = Date::from_calendar_date(2024, Month::March, 9)?;
+    /// assert_eq!(rt; date.text().as_str(), "2024-03-09");
+    /// ```
     pub fn text(self) -> Text
         ensures text { result ≡ date_text self }
         ensures length { length result ≤ 13 }

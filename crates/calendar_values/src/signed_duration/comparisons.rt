@@ -1,11 +1,13 @@
-//! Durations compare by their length.
+//! Durations compare, and feed a hasher, by their nanoseconds.
 ghost use Rattle.std.proofs.Common.{rules};
 ghost use Rattle.std.specs.Cmp.{partial_order_from_own_ties};
-ghost use Rattle.std.specs.Cmp.Rules.{comparing};
+ghost use Rattle.std.specs.Cmp.Rules.{comparing, hashing};
+ghost use Rattle.std.specs.Hash as fed;
 ghost use Rattle.std.specs.Ordering.{int_eq, int_cmp, as_partial_cmp};
 
 use crate::SignedDuration;
 use std::cmp::Ordering;
+use std::hash::{Hash, Hasher};
 
 impl PartialEq for SignedDuration {
     ghost eq = { int_eq };
@@ -45,5 +47,15 @@ impl PartialOrd for SignedDuration {
 
     fn partial_cmp(&self, other: &SignedDuration) -> Option<Ordering> {
         Some(self.cmp(other))
+    }
+}
+
+impl Hash for SignedDuration {
+    ghost hash_input = { fed.i128 };
+
+    ghost respects_eq = { Prim.search (hashing, rules) };
+
+    fn hash<H: Hasher>(&self, state: &mut H) {
+        self.whole_nanoseconds().hash(state);
     }
 }

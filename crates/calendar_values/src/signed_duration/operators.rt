@@ -1,10 +1,9 @@
-//! Sums and differences of durations.
-ghost use Rattle.std.specs.Prelude.{◌≡◌, ℤ, ◌+ℤ◌, ◌-ℤ◌};
+//! Sums and differences of durations, and negation.
+ghost use Rattle.std.specs.Prelude.{◌≡◌, neg_ℤ, ◌+ℤ◌, ◌-ℤ◌};
 ghost use Rattle.calendar_values.specs.Durations.{IsDuration};
 
 use crate::SignedDuration;
-use crate::units::NANOS_PER_SECOND;
-use std::ops::{Add, Sub};
+use std::ops::{Add, AddAssign, Neg, Sub, SubAssign};
 
 impl Add for SignedDuration {
     type Output = SignedDuration;
@@ -14,10 +13,17 @@ impl Add for SignedDuration {
     ghost add_gives = { λ a b sum. sum ≡ a +ℤ b };
 
     fn add(self, other: SignedDuration) -> SignedDuration {
-        SignedDuration::new(
-            self.seconds + other.seconds,
-            self.nanoseconds + other.nanoseconds,
-        )
+        self.checked_add(other).unwrap()
+    }
+}
+
+impl AddAssign for SignedDuration {
+    ghost can_add_assign = { λ a b. IsDuration (a +ℤ b) };
+
+    ghost add_assign_gives = { λ a b sum. sum ≡ a +ℤ b };
+
+    fn add_assign(&mut self, other: SignedDuration) {
+        *self = *self + other;
     }
 }
 
@@ -29,11 +35,28 @@ impl Sub for SignedDuration {
     ghost sub_gives = { λ a b difference. difference ≡ a -ℤ b };
 
     fn sub(self, other: SignedDuration) -> SignedDuration {
-        let nanoseconds = self.nanoseconds - other.nanoseconds;
-        match self.seconds.checked_sub(other.seconds) {
-            Some(seconds) => SignedDuration::new(seconds, nanoseconds),
-            // The seconds are 2^63 and the nanoseconds negative, so that they borrow a second.
-            None => SignedDuration::new(i64::MAX, nanoseconds + NANOS_PER_SECOND),
-        }
+        self.checked_sub(other).unwrap()
+    }
+}
+
+impl SubAssign for SignedDuration {
+    ghost can_sub_assign = { λ a b. IsDuration (a -ℤ b) };
+
+    ghost sub_assign_gives = { λ a b difference. difference ≡ a -ℤ b };
+
+    fn sub_assign(&mut self, other: SignedDuration) {
+        *self = *self - other;
+    }
+}
+
+impl Neg for SignedDuration {
+    type Output = SignedDuration;
+
+    ghost can_neg = { λ a. IsDuration (neg_ℤ a) };
+
+    ghost neg_gives = { λ a negative. negative ≡ neg_ℤ a };
+
+    fn neg(self) -> SignedDuration {
+        self.checked_neg().unwrap()
     }
 }

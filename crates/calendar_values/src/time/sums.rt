@@ -11,8 +11,16 @@ use crate::{DateAdjustment, SignedDuration, Time};
 use std::time::Duration;
 
 impl Time {
-    /// The time after a duration whose whole days, rounded towards zero, are left out, and the day
-    /// that this time is on.
+    /// The time after a duration without its whole days, rounded towards zero, and the day of this
+    /// time.
+    ///
+    /// ```
+    /// let late = Time::from_hms(23, 30, 0)?;
+    /// assert_eq!(rt;
+    ///     late.adjusting_add(SignedDuration::HOUR),
+    ///     (DateAdjustment::Next, Time::from_hms(0, 30, 0)?)
+    /// );
+    /// ```
     pub fn adjusting_add(self, duration: SignedDuration) -> (DateAdjustment, Time)
         ensures sum { wall_clock (adjustment_days result.0) result.1 ≡ pos self +ℤ
             subday_nanoseconds_of duration }
@@ -21,8 +29,16 @@ impl Time {
         self.moved_by(subday_nanoseconds(duration))
     }
 
-    /// The time before a duration whose whole days, rounded towards zero, are left out, and the day
-    /// that this time is on.
+    /// The time before a duration without its whole days, rounded towards zero, and the day of this
+    /// time.
+    ///
+    /// ```
+    /// let early = Time::from_hms(0, 30, 0)?;
+    /// assert_eq!(rt;
+    ///     early.adjusting_sub(SignedDuration::HOUR),
+    ///     (DateAdjustment::Previous, Time::from_hms(23, 30, 0)?)
+    /// );
+    /// ```
     pub fn adjusting_sub(self, duration: SignedDuration) -> (DateAdjustment, Time)
         ensures difference { wall_clock (adjustment_days result.0) result.1 ≡ pos self -ℤ
             subday_nanoseconds_of duration }
@@ -31,24 +47,40 @@ impl Time {
         self.moved_by(-subday_nanoseconds(duration))
     }
 
-    /// The time after a duration whose whole days are left out, and whether it is on the next day.
+    /// The time after a duration without its whole days, and whether it is on the next day.
+    ///
+    /// ```
+    /// let late = Time::from_hms(23, 30, 0)?;
+    /// assert_eq!(rt;
+    ///     late.adjusting_add_std(std::time::Duration::from_secs(3_600)),
+    ///     (true, Time::from_hms(0, 30, 0)?)
+    /// );
+    /// ```
     pub fn adjusting_add_std(self, duration: Duration) -> (bool, Time)
         ensures sum { wall_clock (days_if_next result.0) result.1 ≡ pos self +ℤ
             pos (as_nanos duration % nanos_per_day) }
         ensures in_range { IsClock result.1 }
     {
         let (adjustment, time) = self.moved_by(subday_nanoseconds_std(duration));
-        (adjustment == DateAdjustment::Next, time)
+        (matches!(adjustment, DateAdjustment::Next), time)
     }
 
-    /// The time before a duration whose whole days are left out, and whether it is on the day before.
+    /// The time before a duration without its whole days, and whether it is on the day before.
+    ///
+    /// ```
+    /// let early = Time::from_hms(0, 30, 0)?;
+    /// assert_eq!(rt;
+    ///     early.adjusting_sub_std(std::time::Duration::from_secs(3_600)),
+    ///     (true, Time::from_hms(23, 30, 0)?)
+    /// );
+    /// ```
     pub fn adjusting_sub_std(self, duration: Duration) -> (bool, Time)
         ensures difference { wall_clock (days_if_previous result.0) result.1 ≡ pos self -ℤ
             pos (as_nanos duration % nanos_per_day) }
         ensures in_range { IsClock result.1 }
     {
         let (adjustment, time) = self.moved_by(-subday_nanoseconds_std(duration));
-        (adjustment == DateAdjustment::Previous, time)
+        (matches!(adjustment, DateAdjustment::Previous), time)
     }
 
     // The time at so many nanoseconds since midnight.

@@ -11,6 +11,11 @@ impl Time {
     /// The text of the time: the hour with no zero in front, the minute and the second with two
     /// digits each, and the fraction of the second without zeros at its end, but with at least one
     /// digit, as `9:05:00.25`.
+    ///
+    /// ```
+    /// let time = Time::from_hms_milli(9, 4, 0, 250)?;
+    /// assert_eq!(rt; time.text().as_str(), "9:04:00.25");
+    /// ```
     pub fn text(self) -> Text
         ensures text { result ≡ time_text self }
         ensures length { length result ≤ 18 }

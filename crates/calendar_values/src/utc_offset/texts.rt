@@ -10,6 +10,10 @@ use std::fmt;
 
 impl UtcOffset {
     /// The text: `+` or `-`, then hours, minutes and seconds of two digits each, as `+01:02:03`.
+    ///
+    /// ```
+    /// assert_eq!(rt; UtcOffset::from_hms(-3, -30, 0)?.text().as_str(), "-03:30:00");
+    /// ```
     pub fn text(self) -> Text
         ensures text { result ≡ offset_text self }
         ensures length { length result ≡ 9 }

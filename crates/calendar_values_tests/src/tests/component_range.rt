@@ -12,6 +12,12 @@ fn refusals_are_shown_by_their_names(rt: HostRuntime) -> Result<(), Fail> {
     is(&rt, ordinal.name(), "ordinal");
     is(&rt, ordinal.is_conditional(), true);
     is(&rt, ordinal.part(), Part::Ordinal);
+    is(&rt, ComponentRange::of_part(Part::Ordinal, true), ordinal);
+    is(
+        &rt,
+        ComponentRange::of_part(Part::JulianDay, false).name(),
+        "julian_day",
+    );
     is(&rt, day.part(), Part::Day);
     assert_ne!(rt; ordinal, ComponentRange::new("ordinal", false));
     is(

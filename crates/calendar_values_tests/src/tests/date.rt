@@ -99,6 +99,49 @@ fn days_are_counted_from_1970(rt: HostRuntime) {
 }
 
 #[test]
+fn months_later_are_those_of_another_program(rt: HostRuntime) -> Result<(), Fail> {
+    // As `relativedelta` of Python's dateutil has them.
+    for (from, months, wanted) in [
+        (date(2024, 1, 31)?, 1, date(2024, 2, 29).ok()),
+        (date(2023, 1, 31)?, 1, date(2023, 2, 28).ok()),
+        (date(2024, 3, 31)?, -1, date(2024, 2, 29).ok()),
+        (date(2024, 2, 29)?, 12, date(2025, 2, 28).ok()),
+        (date(2024, 2, 29)?, 48, date(2028, 2, 29).ok()),
+        (date(2024, 5, 15)?, -17, date(2022, 12, 15).ok()),
+        (date(1, 1, 1)?, 119_987, date(9999, 12, 1).ok()),
+        // The ends of the range, which that program does not have.
+        (date(0, 1, 31)?, -2, date(-1, 11, 30).ok()),
+        (Date::MAX, 1, None),
+        (Date::MIN, -1, None),
+        (Date::MIN, i32::MIN, None),
+        (Date::MAX, i32::MAX, None),
+    ] {
+        is(&rt, from.checked_add_months(months), wanted);
+    }
+    Ok(())
+}
+
+#[test]
+fn months_begin_and_end(rt: HostRuntime) -> Result<(), Fail> {
+    // As Python's `calendar.monthrange` has their last days.
+    for (year, month, last) in [
+        (2024, 2, 29),
+        (2023, 2, 28),
+        (1900, 2, 28),
+        (2000, 2, 29),
+        (2024, 4, 30),
+        (2024, 12, 31),
+    ] {
+        let day = date(year, month, 15)?;
+        is(&rt, day.first_of_month(), date(year, month, 1)?);
+        is(&rt, day.last_of_month(), date(year, month, last)?);
+    }
+    is(&rt, Date::MIN.first_of_month(), Date::MIN);
+    is(&rt, Date::MAX.last_of_month(), Date::MAX);
+    Ok(())
+}
+
+#[test]
 fn parts_are_those_of_another_calendar(rt: HostRuntime) -> Result<(), Fail> {
     for (year, month, day, julian_day, ordinal, ..) in DAYS {
         let date = Date::from_julian_day(julian_day)?;

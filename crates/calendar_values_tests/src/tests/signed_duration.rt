@@ -1,6 +1,8 @@
 //! Durations and their parts.
 use super::is;
-use calendar_values::SignedDuration;
+use calendar_values::{ConversionRange, SignedDuration};
+use std::cmp::Ordering;
+use std::hash::{DefaultHasher, Hash, Hasher};
 use std::time::Duration;
 
 #[test]
@@ -288,6 +290,271 @@ fn sums_and_differences_carry(rt: HostRuntime) {
         SignedDuration::nanoseconds(-1) - least_seconds,
         greatest,
     );
+    let mut sum = second;
+    sum += most;
+    is(&rt, sum, SignedDuration::new(1, 999_999_999));
+    sum -= nanosecond;
+    is(&rt, sum, SignedDuration::new(1, 999_999_998));
+    is(&rt, -sum, SignedDuration::new(-1, -999_999_998));
+}
+
+#[test]
+fn sums_outside_the_range_are_refused_or_saturate(rt: HostRuntime) {
+    let (second, nanosecond) = (SignedDuration::seconds(1), SignedDuration::nanoseconds(1));
+    let (least, greatest) = (SignedDuration::MIN, SignedDuration::MAX);
+    let (zero, back) = (SignedDuration::ZERO, SignedDuration::nanoseconds(-1));
+    let (five, ten) = (SignedDuration::seconds(5), SignedDuration::seconds(10));
+    let most = SignedDuration::new(0, 999_999_999);
+    let least_seconds = SignedDuration::seconds(i64::MIN);
+    let before = SignedDuration::seconds(-1);
+    let five_before = SignedDuration::seconds(-5);
+    for (first, other, sum, nearest) in [
+        (most, nanosecond, Some(second), second),
+        (five_before, five, Some(zero), zero),
+        (greatest, least, Some(before), before),
+        (greatest, nanosecond, None, greatest),
+        (least, back, None, least),
+        (greatest, greatest, None, greatest),
+        (least, least, None, least),
+    ] {
+        is(&rt, first.checked_add(other), sum);
+        is(&rt, first.saturating_add(other), nearest);
+    }
+    for (first, other, difference, nearest) in [
+        (second, most, Some(nanosecond), nanosecond),
+        (five, ten, Some(five_before), five_before),
+        (back, least_seconds, Some(greatest), greatest),
+        (zero, least_seconds, None, greatest),
+        (back, least, None, greatest),
+        (greatest, back, None, greatest),
+        (least, nanosecond, None, least),
+        (least, greatest, None, least),
+    ] {
+        is(&rt, first.checked_sub(other), difference);
+        is(&rt, first.saturating_sub(other), nearest);
+    }
+    let most_negative = SignedDuration::new(i64::MIN + 1, -999_999_999);
+    for (duration, negative) in [
+        (second, Some(before)),
+        (back, Some(nanosecond)),
+        (zero, Some(zero)),
+        (greatest, Some(most_negative)),
+        (most_negative, Some(greatest)),
+        (least_seconds, None),
+        (least, None),
+    ] {
+        is(&rt, duration.checked_neg(), negative);
+    }
+}
+
+#[test]
+fn products_outside_the_range_are_refused_or_saturate(rt: HostRuntime) {
+    let (least, greatest) = (SignedDuration::MIN, SignedDuration::MAX);
+    let (five, five_before) = (SignedDuration::seconds(5), SignedDuration::seconds(-5));
+    let (ten, ten_before) = (SignedDuration::seconds(10), SignedDuration::seconds(-10));
+    let zero = SignedDuration::ZERO;
+    let most = SignedDuration::new(0, 999_999_999);
+    let most_negative = SignedDuration::new(i64::MIN + 1, -999_999_999);
+    let wide = SignedDuration::new(4_294_967_296, 500_000_000);
+    let wide_before = SignedDuration::seconds(-4_294_967_296);
+    for (duration, factor, is_duration, nearest) in [
+        (five, 2, true, ten),
+        (five, -2, true, ten_before),
+        (five_before, -2, true, ten),
+        (greatest, 0, true, zero),
+        (zero, i32::MIN, true, zero),
+        (
+            most,
+            i32::MAX,
+            true,
+            SignedDuration::new(2_147_483_644, 852_516_353),
+        ),
+        (
+            wide,
+            i32::MAX,
+            true,
+            SignedDuration::new(9_223_372_033_633_550_335, 500_000_000),
+        ),
+        (wide, i32::MIN, false, least),
+        (wide_before, i32::MIN, false, greatest),
+        (greatest, 1, true, greatest),
+        (greatest, -1, true, most_negative),
+        (greatest, 2, false, greatest),
+        (least, 1, true, least),
+        (least, -1, false, greatest),
+        (least, 2, false, least),
+    ] {
+        let product = if is_duration { Some(nearest) } else { None };
+        is(&rt, duration.checked_mul(factor), product);
+        is(&rt, duration.saturating_mul(factor), nearest);
+    }
+}
+
+#[test]
+fn quotients_round_towards_zero(rt: HostRuntime) {
+    let (least, greatest) = (SignedDuration::MIN, SignedDuration::MAX);
+    let (second, ten_before) = (SignedDuration::seconds(1), SignedDuration::seconds(-10));
+    let odd = SignedDuration::new(5, 1);
+    for (duration, divisor, quotient) in [
+        (second, 3, Some(SignedDuration::nanoseconds(333_333_333))),
+        (ten_before, 3, Some(SignedDuration::new(-3, -333_333_333))),
+        (ten_before, -2, Some(SignedDuration::seconds(5))),
+        (odd, 3, Some(SignedDuration::new(1, 666_666_667))),
+        (
+            SignedDuration::nanoseconds(-7),
+            2,
+            Some(SignedDuration::nanoseconds(-3)),
+        ),
+        (
+            greatest,
+            i32::MAX,
+            Some(SignedDuration::seconds(4_294_967_298)),
+        ),
+        (
+            least,
+            i32::MIN,
+            Some(SignedDuration::seconds(4_294_967_296)),
+        ),
+        (
+            least,
+            -2,
+            Some(SignedDuration::new(4_611_686_018_427_387_904, 499_999_999)),
+        ),
+        (
+            greatest,
+            -1,
+            Some(SignedDuration::new(i64::MIN + 1, -999_999_999)),
+        ),
+        (least, -1, None),
+        (least, 0, None),
+        (SignedDuration::ZERO, 0, None),
+    ] {
+        is(&rt, duration.checked_div(divisor), quotient);
+    }
+}
+
+#[test]
+fn whole_numbers_are_factors_and_divisors(rt: HostRuntime) {
+    let duration = SignedDuration::new(3, 500);
+    let (mut product, mut quotient) = (duration, duration);
+    is(&rt, duration * -100_i8, SignedDuration::new(-300, -50_000));
+    is(&rt, -100_i8 * duration, SignedDuration::new(-300, -50_000));
+    is(&rt, duration / -100_i8, SignedDuration::new(0, -30_000_005));
+    is(
+        &rt,
+        duration * -30_000_i16,
+        SignedDuration::new(-90_000, -15_000_000),
+    );
+    is(
+        &rt,
+        -30_000_i16 * duration,
+        SignedDuration::new(-90_000, -15_000_000),
+    );
+    is(
+        &rt,
+        duration / -30_000_i16,
+        SignedDuration::new(0, -100_000),
+    );
+    is(
+        &rt,
+        duration * -2_000_000_000_i32,
+        SignedDuration::new(-6_000_001_000, 0),
+    );
+    is(
+        &rt,
+        -2_000_000_000_i32 * duration,
+        SignedDuration::new(-6_000_001_000, 0),
+    );
+    is(
+        &rt,
+        duration / -2_000_000_000_i32,
+        SignedDuration::new(0, -1),
+    );
+    is(&rt, duration * 200_u8, SignedDuration::new(600, 100_000));
+    is(&rt, 200_u8 * duration, SignedDuration::new(600, 100_000));
+    is(&rt, duration / 200_u8, SignedDuration::new(0, 15_000_002));
+    is(
+        &rt,
+        duration * 60_000_u16,
+        SignedDuration::new(180_000, 30_000_000),
+    );
+    is(
+        &rt,
+        60_000_u16 * duration,
+        SignedDuration::new(180_000, 30_000_000),
+    );
+    is(&rt, duration / 60_000_u16, SignedDuration::new(0, 50_000));
+    is(
+        &rt,
+        duration * 4_000_000_000_u32,
+        SignedDuration::new(12_000_002_000, 0),
+    );
+    is(
+        &rt,
+        4_000_000_000_u32 * duration,
+        SignedDuration::new(12_000_002_000, 0),
+    );
+    is(&rt, duration / 4_000_000_000_u32, SignedDuration::new(0, 0));
+    product *= -2_i8;
+    is(&rt, product, SignedDuration::new(-6, -1_000));
+    quotient /= -2_i8;
+    is(&rt, quotient, SignedDuration::new(-1, -500_000_250));
+    product *= 3_i16;
+    is(&rt, product, SignedDuration::new(-18, -3_000));
+    quotient /= 3_i16;
+    is(&rt, quotient, SignedDuration::new(0, -500_000_083));
+    product *= -5_i32;
+    is(&rt, product, SignedDuration::new(90, 15_000));
+    quotient /= -5_i32;
+    is(&rt, quotient, SignedDuration::new(0, 100_000_016));
+    product *= 7_u8;
+    is(&rt, product, SignedDuration::new(630, 105_000));
+    quotient /= 7_u8;
+    is(&rt, quotient, SignedDuration::new(0, 14_285_716));
+    product *= 11_u16;
+    is(&rt, product, SignedDuration::new(6_930, 1_155_000));
+    quotient /= 11_u16;
+    is(&rt, quotient, SignedDuration::new(0, 1_298_701));
+    product *= 13_u32;
+    is(&rt, product, SignedDuration::new(90_090, 15_015_000));
+    quotient /= 13_u32;
+    is(&rt, quotient, SignedDuration::new(0, 99_900));
+}
+
+#[test]
+fn durations_of_std_are_converted_compared_and_added(rt: HostRuntime) {
+    let (second, half) = (SignedDuration::SECOND, SignedDuration::milliseconds(500));
+    let (std_second, std_half) = (Duration::new(1, 0), Duration::new(0, 500_000_000));
+    let (most, past) = (
+        Duration::new(i64::MAX as u64, 999_999_999),
+        Duration::new(1 << 63, 0),
+    );
+    let before = SignedDuration::milliseconds(-500);
+    is(&rt, SignedDuration::try_from(std_second), Ok(second));
+    is(&rt, SignedDuration::try_from(most), Ok(SignedDuration::MAX));
+    is(&rt, SignedDuration::try_from(past), Err(ConversionRange));
+    assert!(rt; Duration::try_from(second) == Ok(std_second));
+    assert!(rt; Duration::try_from(before) == Err(ConversionRange));
+    is(&rt, second.cmp_std(std_half), Ordering::Greater);
+    is(&rt, half.cmp_std(std_half), Ordering::Equal);
+    is(&rt, before.cmp_std(Duration::ZERO), Ordering::Less);
+    is(&rt, SignedDuration::MAX.cmp_std(past), Ordering::Less);
+    is(&rt, second + std_half, SignedDuration::milliseconds(1_500));
+    is(&rt, std_half + second, SignedDuration::milliseconds(1_500));
+    is(&rt, half - std_second, before);
+    is(&rt, std_half - second, before);
+    // 2^63 seconds alone do not fit.
+    is(
+        &rt,
+        SignedDuration::seconds(-1) + past,
+        SignedDuration::seconds(i64::MAX),
+    );
+    let mut sum = before;
+    sum += std_second;
+    is(&rt, sum, half);
+    let mut std_sum = std_half;
+    std_sum += half;
+    assert!(rt; std_sum == std_second);
 }
 
 #[test]
@@ -303,4 +570,14 @@ fn order_is_that_of_the_nanoseconds(rt: HostRuntime) {
         assert!(rt; smaller < larger && larger > smaller && smaller != larger);
     }
     is(&rt, SignedDuration::hours(24), SignedDuration::days(1));
+    let (day, zero) = (SignedDuration::DAY, SignedDuration::default());
+    is(&rt, hash_of(day), hash_of(SignedDuration::hours(24)));
+    assert_ne!(rt; hash_of(day), hash_of(zero));
+    is(&rt, zero, SignedDuration::ZERO);
+}
+
+fn hash_of(duration: SignedDuration) -> u64 {
+    let mut hasher = DefaultHasher::new();
+    duration.hash(&mut hasher);
+    hasher.finish()
 }

@@ -26,7 +26,7 @@ pub returns-then-week-eq0-clause-value : goal.returns-then-week-eq0-clause-value
 returns-then-week-eq0-clause-value c =
     let year : IsYear c.args.year = (omega (arith, signed_casts), omega (arith, signed_casts)) in
     let out : ((c.args.week == 0) || nat_lt 53 c.args.week) ≡ true = grind (arith, nat_tests, c.then-week-eq0.either) in
-    rw c.new-then-week-eq0.ensures (Gives-week c.args.year c.args.week _ year out (weeks_in_year-most c.args.year))
+    rw c.of_part-then-week-eq0.ensures (Gives-week c.args.year c.args.week _ year out (weeks_in_year-most c.args.year))
 
 pub returns-in-Some-clause-value : goal.returns-in-Some-clause-value
 returns-in-Some-clause-value c =
@@ -47,5 +47,5 @@ returns-in-None-clause-value c =
     let day =
     day_of_iso_week_date-is c.args.year _ _ c.days_to_week_day.result c.args.week (weekday_number c.args.weekday) refl refl
     (simp to_z-of_z at c.days_to_week_day.ensures) in
-    rw c.new-in-None.ensures (Gives-day_past c.args.year _ c.args.week _ year (omega arith) (omega arith) (omega arith)
+    rw c.of_part-in-None.ensures (Gives-day_past c.args.year _ c.args.week _ year (omega arith) (omega arith) (omega arith)
     (simp to_z-of_z at c.in-None.ensures) day)

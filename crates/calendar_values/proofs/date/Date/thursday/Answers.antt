@@ -7,20 +7,22 @@ use Rattle.calendar_values.proofs.WeekNumberLemmas.{IsThursdayOf, IsThursdayOf-p
 use Rattle.calendar_values.proofs.date.Date.thursday.Goals as goal
 
 previous : (c : goal.After-days_in_year) → IsThursdayOf c.args.self (to_z w32 (of_z w32 (to_z w32 (of_z w32 c.self.inside.year) -ℤ pos 1)))
-    (c.days_in_year.result + (c.self.inside.ordinal + 3) - c.from-days_from_monday.result)
+    (c.days_in_year.result + (c.self.inside.ordinal + 3) - c.number_days_from_monday-days_from_monday.result)
 previous c =
     let y = c.self.inside.year in
     let fits : FitsSigned w32 y = search rules in
-    IsThursdayOf-previous c.args.self y _ c.self.inside.ordinal c.from-days_from_monday.result _ c.self.invariant.0 c.self.invariant.1 c.self.view_is
+    IsThursdayOf-previous c.args.self y _ c.self.inside.ordinal c.number_days_from_monday-days_from_monday.result _
+    c.self.invariant.0 c.self.invariant.1 c.self.view_is
     (omega (arith, signed_arith, c.self.invariant.0)) (omega arith) c.if-ordinal-days_from_monday.true (omega arith)
 
 next : (c : goal.After-struct_told-then-ordinal-length-1) → IsThursdayOf c.args.self (to_z w32 (of_z w32 (to_z w32 (of_z w32 c.self.inside.year) +ℤ pos 1)))
-    (c.self.inside.ordinal + 3 - c.from-days_from_monday.result - c.days_in_year-length.result)
+    (c.self.inside.ordinal + 3 - c.number_days_from_monday-days_from_monday.result - c.days_in_year-length.result)
 next c =
     let y = c.self.inside.year in
     let fits : FitsSigned w32 y = search rules in
     let length : c.days_in_year-length.result ≡ days_in_year y = simp to_z-of_z at c.days_in_year-length.ensures in
-    IsThursdayOf-next c.args.self y _ c.self.inside.ordinal c.from-days_from_monday.result _ c.self.invariant.0 c.self.invariant.1 c.self.view_is
+    IsThursdayOf-next c.args.self y _ c.self.inside.ordinal c.number_days_from_monday-days_from_monday.result _
+    c.self.invariant.0 c.self.invariant.1 c.self.view_is
     (omega (arith, signed_arith, c.self.invariant.0)) (omega arith) c.if-ordinal-days_from_monday.false (omega arith) (omega arith)
 
 pub invariant_of-result : goal.invariant_of-result
@@ -56,5 +58,5 @@ invariant_of-result-2 c =
 pub returns : goal.returns
 returns c =
     let fits : FitsSigned w32 c.self.inside.year = search rules in
-    let weekday : c.from-days_from_monday.result ≡ weekday_of c.args.self = cc in
+    let weekday : c.number_days_from_monday-days_from_monday.result ≡ weekday_of c.args.self = cc in
     simp to_z-of_z (omega (arith, signed_arith, c.self.view_is, weekday))

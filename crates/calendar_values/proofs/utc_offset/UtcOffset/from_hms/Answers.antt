@@ -49,7 +49,7 @@ pub returns-then-unsigned_abs-gt25 : goal.returns-then-unsigned_abs-gt25
 returns-then-unsigned_abs-gt25 c =
     let fits : FitsSigned w8 c.args.hours = c.ranges.hours in
     let size = simp to_z-of_z at c.unsigned_abs.ensures.value in
-    rw c.new.ensures (hours_refused _ _ _ (omega arith))
+    rw c.of_part.ensures (hours_refused _ _ _ (omega arith))
 
 pub returns-then-unsigned_abs-gt59 : goal.returns-then-unsigned_abs-gt59
 returns-then-unsigned_abs-gt59 c =
@@ -57,7 +57,7 @@ returns-then-unsigned_abs-gt59 c =
     let m : FitsSigned w8 c.args.minutes = c.ranges.minutes in
     let hours = simp to_z-of_z at c.unsigned_abs.ensures.value in
     let minutes = simp to_z-of_z at c.unsigned_abs-2.ensures.value in
-    rw c.new-then-unsigned_abs-gt59.ensures (minutes_refused _ _ _ (omega arith) (omega arith))
+    rw c.of_part-then-unsigned_abs-gt59.ensures (minutes_refused _ _ _ (omega arith) (omega arith))
 
 pub returns-then-unsigned_abs-gt59-2 : goal.returns-then-unsigned_abs-gt59-2
 returns-then-unsigned_abs-gt59-2 c =
@@ -67,7 +67,7 @@ returns-then-unsigned_abs-gt59-2 c =
     let hours = simp to_z-of_z at c.unsigned_abs.ensures.value in
     let minutes = simp to_z-of_z at c.unsigned_abs-2.ensures.value in
     let seconds = simp to_z-of_z at c.unsigned_abs-3.ensures.value in
-    rw c.new-then-unsigned_abs-gt59-2.ensures (seconds_refused _ _ _ (omega arith) (omega arith) (omega arith))
+    rw c.of_part-then-unsigned_abs-gt59-2.ensures (seconds_refused _ _ _ (omega arith) (omega arith) (omega arith))
 
 pub with_sign_of-requires-3 : goal.with_sign_of-requires-3
 with_sign_of-requires-3 c =

@@ -1,4 +1,4 @@
-use Rattle.std.proofs.Common.{◌≡◌, pos, ◌+ℤ◌, ◌*ℤ◌, FitsSigned, w8, w32, to_z-of_z, arith, rules}
+use Rattle.std.proofs.Common.{◌≡◌, pos, ◌+ℤ◌, ◌*ℤ◌, w8, w32, to_z, of_z, arith, rules}
 use Rattle.calendar_values.specs.SignedArith.{signed_arith}
 use Rattle.calendar_values.proofs.utc_offset.UtcOffset.whole_seconds.Goals as goal
 
@@ -7,7 +7,10 @@ view c = c.self.view_is
 
 pub returns-clause-value : goal.returns-clause-value
 returns-clause-value c =
-    omega (arith, signed_arith, view c, c.in_sixtieths-minutes.ensures, c.in_sixtieths.ensures, c.from.ensures, c.from-2.ensures, c.from-3.ensures)
+    let hours : to_z w8 (of_z w8 c.self.inside.hours) ≡ c.self.inside.hours = search rules in
+    let minutes : to_z w8 (of_z w8 c.self.inside.minutes) ≡ c.self.inside.minutes = search rules in
+    let seconds : to_z w8 (of_z w8 c.self.inside.seconds) ≡ c.self.inside.seconds = search rules in
+    omega (arith, signed_arith, view c, c.in_sixtieths-minutes.ensures, c.in_sixtieths.ensures)
 
 pub returns-clause-self_in_range : goal.returns-clause-self_in_range
 returns-clause-self_in_range c = omega (arith, signed_arith, view c)
@@ -17,21 +20,18 @@ returns-clause-in_range c = rw (returns-clause-value c) (returns-clause-self_in_
 
 pub in_sixtieths-minutes-requires-clause-units : goal.in_sixtieths-minutes-requires-clause-units
 in_sixtieths-minutes-requires-clause-units c =
-    let fits : FitsSigned w8 c.self.inside.hours = search rules in
-    let same = simp to_z-of_z at c.from.ensures in
-    let wide : FitsSigned w32 c.from.result = omega (arith, signed_arith) in
-    simp to_z-of_z (rw same (omega (arith, c.self.invariant.hours_in_range)))
+    let own : to_z w8 (of_z w8 c.self.inside.hours) ≡ c.self.inside.hours = search rules in
+    let wide : to_z w32 (of_z w32 (to_z w8 (of_z w8 c.self.inside.hours))) ≡ c.self.inside.hours = omega (arith, signed_arith) in
+    omega (arith, signed_arith)
 
 pub in_sixtieths-minutes-requires-clause-sixtieths : goal.in_sixtieths-minutes-requires-clause-sixtieths
 in_sixtieths-minutes-requires-clause-sixtieths c =
-    let fits : FitsSigned w8 c.self.inside.minutes = search rules in
-    let same = simp to_z-of_z at c.from-2.ensures in
-    let wide : FitsSigned w32 c.from-2.result = omega (arith, signed_arith) in
-    simp to_z-of_z (rw same (omega (arith, c.self.invariant.minutes_in_range)))
+    let own : to_z w8 (of_z w8 c.self.inside.minutes) ≡ c.self.inside.minutes = search rules in
+    let wide : to_z w32 (of_z w32 (to_z w8 (of_z w8 c.self.inside.minutes))) ≡ c.self.inside.minutes = omega (arith, signed_arith) in
+    omega (arith, signed_arith)
 
 pub in_sixtieths-requires-clause-sixtieths : goal.in_sixtieths-requires-clause-sixtieths
 in_sixtieths-requires-clause-sixtieths c =
-    let fits : FitsSigned w8 c.self.inside.seconds = search rules in
-    let same = simp to_z-of_z at c.from-3.ensures in
-    let wide : FitsSigned w32 c.from-3.result = omega (arith, signed_arith) in
-    simp to_z-of_z (rw same (omega (arith, c.self.invariant.seconds_in_range)))
+    let own : to_z w8 (of_z w8 c.self.inside.seconds) ≡ c.self.inside.seconds = search rules in
+    let wide : to_z w32 (of_z w32 (to_z w8 (of_z w8 c.self.inside.seconds))) ≡ c.self.inside.seconds = omega (arith, signed_arith) in
+    omega (arith, signed_arith)
