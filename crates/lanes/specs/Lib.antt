@@ -1,0 +1,5 @@
+pub mod DateTimes
+pub mod MarchYears
+pub mod MinuteTexts
+pub mod Seconds
+pub mod YearLanes

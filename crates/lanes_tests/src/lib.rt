@@ -1,0 +1,5 @@
+//! Tests of `lanes`.
+#![tactic(auto)]
+
+#[cfg(test)]
+mod tests;

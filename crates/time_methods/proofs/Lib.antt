@@ -1,0 +1,3 @@
+pub mod AgreementLemmas
+pub mod IsoWeekLemmas
+pub mod SumLemmas
