@@ -1,10 +1,12 @@
 -- The order of instants, by dates that lie far apart, by the parts of what clocks at one offset show, and by packed parts.
-use Rattle.std.proofs.Common.{◌≡◌, ℕ, arith, ℤ, pos, ◌+ℤ◌, ◌-ℤ◌, ◌*ℤ◌, ◌<ℤ◌, int_cmp}
+use Rattle.std.proofs.Common.{◌≡◌, ℕ, ap, arith, ℤ, pos, ◌+ℤ◌, ◌-ℤ◌, ◌*ℤ◌, ◌<ℤ◌, int_cmp}
 use Rattle.std.proofs.lemmas.Int.{ints, by_lt_z}
-use Rattle.calendar_values.specs.Calendar.{year_of, ordinal_of, day_of_ordinal_date, IsOrdinalDate}
-use Rattle.calendar_values.specs.Clock.{IsClock}
+use Rattle.calendar_values.specs.Calendar.{year_start, year_of, ordinal_of, day_of_ordinal_date, IsOrdinalDate}
+use Rattle.calendar_values.specs.Clock.{nanos_per_second, hour_of, minute_of, second_of, nanosecond_of, IsClock}
+use Rattle.calendar_values.specs.ClockLemmas.{clock_of_parts-of}
 use Rattle.calendar_values.specs.DayLemmas.{IsOrdinalDate-of, day_of_ordinal_date-of, year_of-ordinal_date, ordinal_of-ordinal_date}
-use Rattle.calendar_values.specs.Offsets.{IsOffset}
+use Rattle.calendar_values.specs.OffsetPartLemmas.{seconds_of_parts-of}
+use Rattle.calendar_values.specs.Offsets.{IsOffset, offset_hours_of, offset_minutes_of, offset_seconds_of}
 use Rattle.calendar_values.specs.OrderLemmas.{int_cmp_agrees}
 use Rattle.calendar_values.specs.SignedArith.{signed_arith}
 use Rattle.calendar_values.specs.WallClock.{wall_clock, wall_day, wall_time}
@@ -86,6 +88,36 @@ unfolding instant_of
 int_cmp-shown a b =
     int_cmp_agrees a.wall (shown_at (b.wall -ℤ offset_nanos b.offset) a.offset) (a.wall -ℤ offset_nanos a.offset) (b.wall -ℤ offset_nanos b.offset)
     (λ lt. omega (arith, ints)) (λ gt. omega (arith, ints)) (λ same. omega (arith, ints))
+
+-- the nanoseconds between instants at which clocks show dates of one year, from the parts that clocks show, less those of the offsets
+pub difference_within_year : (a b : Local) (d h m s f r : ℤ) → year_of (wall_day a.wall) ≡ year_of (wall_day b.wall) →
+    d ≡ pos (ordinal_of (wall_day a.wall)) -ℤ pos (ordinal_of (wall_day b.wall)) →
+    h ≡ (pos (hour_of (wall_time a.wall)) -ℤ offset_hours_of a.offset) -ℤ (pos (hour_of (wall_time b.wall)) -ℤ offset_hours_of b.offset) →
+    m ≡ (pos (minute_of (wall_time a.wall)) -ℤ offset_minutes_of a.offset) -ℤ (pos (minute_of (wall_time b.wall)) -ℤ offset_minutes_of b.offset) →
+    s ≡ (pos (second_of (wall_time a.wall)) -ℤ offset_seconds_of a.offset) -ℤ (pos (second_of (wall_time b.wall)) -ℤ offset_seconds_of b.offset) →
+    f ≡ pos (nanosecond_of (wall_time a.wall)) -ℤ pos (nanosecond_of (wall_time b.wall)) →
+    r ≡ (((d *ℤ pos 24 +ℤ h) *ℤ pos 60 +ℤ m) *ℤ pos 60 +ℤ s) *ℤ pos nanos_per_second +ℤ f → r ≡ instant_of a -ℤ instant_of b
+unfolding instant_of
+difference_within_year a b d h m s f r same days hours minutes seconds fraction sum =
+    let start = ap year_start same in
+    omega (
+      arith,
+      signed_arith,
+      clock_of_parts-of (wall_time a.wall),
+      clock_of_parts-of (wall_time b.wall),
+      seconds_of_parts-of a.offset,
+      seconds_of_parts-of b.offset,
+      day_of_ordinal_date-of (wall_day a.wall),
+      day_of_ordinal_date-of (wall_day b.wall),
+      IsOrdinalDate-of (wall_day a.wall),
+      IsOrdinalDate-of (wall_day b.wall),
+      wall_clock-parts a.wall,
+      wall_clock-parts b.wall,
+    )
+
+-- a difference compares with 0 as what it lies between
+pub int_cmp-difference : (d i j : ℤ) → d ≡ i -ℤ j → int_cmp d (pos 0) ≡ int_cmp i j
+int_cmp-difference d i j e = int_cmp_agrees d (pos 0) i j (λ lt. omega (arith, ints)) (λ gt. omega (arith, ints)) (λ same. omega (arith, ints))
 
 -- the packed parts of a wall clock are its packed number
 pub packed_parts-is : (w y : ℤ) (o c : ℕ) → IsOrdinalDate y o → IsClock c → wall_clock (day_of_ordinal_date y o) c ≡ w →

@@ -1,5 +1,5 @@
 -- The instant of a wall clock at an offset, where the offset or the instant was given.
-use Rattle.std.proofs.Common.{◌≡◌, refl, sym, arith, ℕ, ℤ, pos, ◌+ℤ◌, ◌-ℤ◌, ◌<ℤ◌}
+use Rattle.std.proofs.Common.{◌≡◌, refl, sym, arith, ℤ, pos, ◌+ℤ◌, ◌-ℤ◌, ◌<ℤ◌}
 use Rattle.std.proofs.lemmas.Int.{ints}
 use Rattle.calendar_values.specs.Clock.{nanos_per_day}
 use Rattle.calendar_values.specs.WallClock.{wall_day}

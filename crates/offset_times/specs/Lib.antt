@@ -3,3 +3,5 @@ pub mod InstantLemmas
 pub mod Laws
 pub mod Local
 pub mod Texts
+pub mod Words
+pub mod Callers

@@ -6,17 +6,28 @@ use crate::OffsetDateTime;
 use calendar_values::UtcOffset;
 use plain_times::PlainDateTime;
 
-/// What can be read as a date and a time of day that clocks at an offset show.
+/// A type that has a wall clock, which an offset makes a date-time.
 pub trait Assume {
     /// The wall clock that it shows.
     ghost wall_clock_shown: { Self → ℤ };
 
-    /// The date and the time of day, shown by clocks at the offset.
+    /// The date-time of this wall clock at the offset.
+    ///
+    /// ```
+    /// let east = UtcOffset::from_hms(2, 0, 0)?;
+    /// let at = PlainDateTime::UNIX_EPOCH.assume_offset(east);
+    /// assert_eq!(rt; at.hour(), 0);
+    /// assert_eq!(rt; at.unix_timestamp(), -7_200);
+    /// ```
     fn assume_offset(self, offset: UtcOffset) -> OffsetDateTime
         ensures value { result ≡ wall_at (wall_clock_shown self) offset }
         ensures instant { instant_of result ≡ wall_clock_shown self -ℤ offset_nanos offset };
 
-    /// The date and the time of day, shown by clocks in UTC.
+    /// The date-time of this wall clock in UTC.
+    ///
+    /// ```
+    /// assert_eq!(rt; PlainDateTime::UNIX_EPOCH.assume_utc(), OffsetDateTime::UNIX_EPOCH);
+    /// ```
     fn assume_utc(self) -> OffsetDateTime
         ensures value { result ≡ wall_at (wall_clock_shown self) (pos 0) }
         ensures instant { instant_of result ≡ wall_clock_shown self };

@@ -15,9 +15,9 @@ use calendar_values::{Time, UtcOffset, days_in_year};
 use plain_times::PlainDateTime;
 use utc_times::UtcDateTime;
 
-/// The year, the day of the year and the time of day that clocks at the offset show at the instant of a
-/// date-time. The second, the minute and the hour carry at most 2, 2 and 3, either way, into the minute, the
-/// hour and the day.
+/// The year, the day of the year and the time of day that clocks at the offset show at the instant
+/// of a date-time. The second, the minute and the hour carry at most 2, 2 and 3, either way, into
+/// the minute, the hour and the day.
 #[inline(always)]
 pub fn to_offset_raw(at: OffsetDateTime, offset: UtcOffset) -> (i32, u16, Time)
     ensures date { IsOrdinalDate result.0 result.1 }
@@ -32,9 +32,9 @@ pub fn to_offset_raw(at: OffsetDateTime, offset: UtcOffset) -> (i32, u16, Time)
     parts_at(at.date_time(), at.offset(), offset)
 }
 
-/// The year, the day of the year and the time of day that clocks in UTC show at the instant of a date-time.
-/// The second, the minute and the hour carry at most 1, 1 and 2, either way, into the minute, the hour and
-/// the day.
+/// The year, the day of the year and the time of day that clocks in UTC show at the instant of a
+/// date-time. The second, the minute and the hour carry at most 1, 1 and 2, either way, into the
+/// minute, the hour and the day.
 pub fn to_utc_raw(at: OffsetDateTime) -> (i32, u16, Time)
     ensures date { IsOrdinalDate result.0 result.1 }
     ensures clock { IsClock result.2 }
@@ -47,9 +47,9 @@ pub fn to_utc_raw(at: OffsetDateTime) -> (i32, u16, Time)
     parts_at(at.date_time(), at.offset(), UtcOffset::UTC)
 }
 
-/// The year, the day of the year and the time of day that clocks at the offset show at an instant. The
-/// second, the minute and the hour carry at most 1, 1 and 2, either way, into the minute, the hour and the
-/// day.
+/// The year, the day of the year and the time of day that clocks at the offset show at an instant.
+/// The second, the minute and the hour carry at most 1, 1 and 2, either way, into the minute, the
+/// hour and the day.
 pub fn utc_to_offset_raw(at: UtcDateTime, offset: UtcOffset) -> (i32, u16, Time)
     ensures date { IsOrdinalDate result.0 result.1 }
     ensures clock { IsClock result.2 }

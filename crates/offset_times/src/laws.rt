@@ -10,8 +10,8 @@ ghost use Rattle.plain_times.specs.Laws.{ReplacementsKeepTheRest};
 use crate::OffsetDateTime;
 use std::hash::Hash;
 
-/// Date-times are equal exactly where their instants are, their order is that of their instants, and they feed
-/// a hasher the same exactly where their instants are equal.
+/// Date-times are equal exactly where their instants are, their order is that of their instants,
+/// and they feed a hasher the same exactly where their instants are equal.
 pub fn compared_by_instant()
     ensures equal { (x y : _) → ⟦<OffsetDateTime as PartialEq>⟧.eq x y ≡
         int_eq (instant_of x) (instant_of y) }
@@ -24,8 +24,8 @@ pub fn compared_by_instant()
         instant_of x ≡ instant_of y }
 {}
 
-/// Where a conversion to an offset is accepted, a second one gives what it gives of the original, wall clock
-/// and offset alike, or is refused like it.
+/// Where a conversion to an offset is accepted, a second one gives what it gives of the original,
+/// wall clock and offset alike, or fails like it.
 pub fn conversions_compose()
     ensures { ConversionsCompose }
 {}
@@ -40,14 +40,14 @@ pub fn differences_undo_sums()
     ensures { DifferencesUndoSums }
 {}
 
-/// The difference of two values leads from the second to the instant of the first, at the offset of the
-/// second.
+/// The difference of two values leads from the second to the instant of the first, at the offset of
+/// the second.
 pub fn differences_lead_back()
     ensures { DifferencesLeadBack }
 {}
 
-/// Accepted sums with one duration are in the order of the values; saturating ones, at one offset, do not
-/// leave it.
+/// Accepted sums with one duration are in the order of the values; saturating ones, at one offset,
+/// do not leave it.
 pub fn sums_keep_the_order()
     ensures { SumsKeepTheOrder }
 {}
@@ -57,16 +57,16 @@ pub fn truncations_round_down_once()
     ensures { TruncationsRoundDownOnce }
 {}
 
-/// As [`plain_times::laws::replacements_keep_the_rest`], of the wall clock. What else a replacement leaves as it
-/// was is said by the clauses `value` and `shown` of the calls.
+/// As [`plain_times::laws::replacements_keep_the_rest`], of the wall clock. What else a replacement
+/// leaves as it was is said by the clauses `value` and `shown` of the calls.
 pub fn replacements_keep_the_rest()
     ensures { ReplacementsKeepTheRest }
 {
     plain_times::laws::replacements_keep_the_rest()
 }
 
-/// After an accepted replacement of a part of the date or of the time of day of the wall clock, that part
-/// reads as given.
+/// After an accepted replacement of a part of the date or of the time of day of the wall clock,
+/// that part reads as given.
 pub fn replaced_parts_read_as_given()
     ensures { ReplacedPartsReadAsGiven }
 {

@@ -19,10 +19,11 @@ mod with_utc;
 
 pub(crate) use conversions::date_time_if_any;
 
-/// A date and a time of day, from those of [`PlainDateTime::MIN`] to those of [`PlainDateTime::MAX`], that
-/// clocks at an offset from UTC show. Its instant may lie outside that range, in UTC: such a value compares,
-/// feeds a hasher and converts like any other. A contract sees the wall clock, in nanoseconds, and the
-/// offset, in seconds; the instant is the wall clock less the nanoseconds of the offset.
+/// A date and a time of day, from those of [`PlainDateTime::MIN`] to those of
+/// [`PlainDateTime::MAX`], that clocks at an offset from UTC show. Its instant may lie outside that
+/// range, in UTC: such a value compares, feeds a hasher and converts like any other. A contract
+/// sees the wall clock, in nanoseconds, and the offset, in seconds; the instant is the wall clock
+/// less the nanoseconds of the offset.
 ///
 /// ```
 /// let east = UtcOffset::from_hms(1, 0, 0)?;
@@ -75,6 +76,15 @@ impl OffsetDateTime {
     };
 
     /// The date and the time of day that clocks at the offset show.
+    ///
+    /// ```
+    /// let time = Time::from_hms(12, 0, 0)?;
+    /// let east = UtcOffset::from_hms(5, 30, 0)?;
+    /// let date = Date::from_calendar_date(2024, Month::February, 29)?;
+    /// let at = OffsetDateTime::new_in_offset(date, time, east);
+    /// assert_eq!(rt; at.to_hms(), (12, 0, 0));
+    /// assert_eq!(rt; at.unix_timestamp(), 1_709_188_200);
+    /// ```
     #[tactic(auto, unfolding(crate::specs::Local::instant_of))]
     pub fn new_in_offset(date: Date, time: Time, offset: UtcOffset) -> OffsetDateTime
         ensures value { result ≡ wall_at (wall_clock date time) offset }
@@ -86,6 +96,13 @@ impl OffsetDateTime {
     }
 
     /// The date and the time of day, in UTC.
+    ///
+    /// ```
+    /// let date = Date::from_calendar_date(2024, Month::February, 29)?;
+    /// let at = OffsetDateTime::new_utc(date, Time::MIDNIGHT);
+    /// assert_eq!(rt; at.offset(), UtcOffset::UTC);
+    /// assert_eq!(rt; at.unix_timestamp(), 1_709_164_800);
+    /// ```
     #[tactic(auto, using(crate::specs::InstantLemmas::instants))]
     pub fn new_utc(date: Date, time: Time) -> OffsetDateTime
         ensures value { result ≡ wall_at (wall_clock date time) (pos 0) }
@@ -95,6 +112,12 @@ impl OffsetDateTime {
     }
 
     /// The offset.
+    ///
+    /// ```
+    /// let east = UtcOffset::from_hms(10, 30, 0)?;
+    /// let at = PlainDateTime::UNIX_EPOCH.assume_offset(east);
+    /// assert_eq!(rt; at.offset(), east);
+    /// ```
     pub fn offset(self) -> UtcOffset
         ensures value { result ≡ self.offset }
         ensures self_in_range { IsLocal self }
@@ -103,6 +126,12 @@ impl OffsetDateTime {
     }
 
     /// The date and the time of day, without the offset.
+    ///
+    /// ```
+    /// let east = UtcOffset::from_hms(10, 30, 0)?;
+    /// let at = PlainDateTime::UNIX_EPOCH.assume_offset(east);
+    /// assert_eq!(rt; at.date_time(), PlainDateTime::UNIX_EPOCH);
+    /// ```
     #[tactic(auto, using(calendar_values::specs::WallClockLemmas::wall_clock_parts))]
     pub fn date_time(self) -> PlainDateTime
         ensures value { result ≡ self.wall }
@@ -112,6 +141,12 @@ impl OffsetDateTime {
     }
 
     /// The date and the time of day that clocks at the offset show, and the offset.
+    ///
+    /// ```
+    /// let east = UtcOffset::from_hms(10, 30, 0)?;
+    /// let at = PlainDateTime::UNIX_EPOCH.assume_offset(east);
+    /// assert_eq!(rt; at.parts(), (Date::UNIX_EPOCH, Time::MIDNIGHT, east));
+    /// ```
     pub fn parts(self) -> (Date, Time, UtcOffset)
         ensures date { result.0 ≡ wall_day self.wall }
         ensures time { result.1 ≡ wall_time self.wall }

@@ -9,19 +9,35 @@ use crate::{Assume, OffsetDateTime};
 use calendar_values::UtcOffset;
 use utc_times::UtcDateTime;
 
-/// What has an instant that can be shown at an offset.
+/// A type with an instant that converts to an offset.
 pub trait ToOffset {
     /// Its instant.
     ghost instant_shown: { Self → ℤ };
 
-    /// The same instant at an offset, whose clocks must then show a date of the range: where the `time`
-    /// crate panics, the caller has to show that, or asks [`ToOffset::checked_to_offset`].
+    /// The same instant at an offset, where its date must be in range. The caller proves this, or
+    /// calls [`ToOffset::checked_to_offset`]; the `time` crate panics.
+    ///
+    /// ```
+    /// let west = UtcOffset::from_hms(-8, 0, 0)?;
+    /// let shown = UtcDateTime::UNIX_EPOCH.to_offset(west);
+    /// assert_eq!(rt; shown.hour(), 16);
+    /// assert_eq!(rt; shown.day(), 31);
+    /// ```
     fn to_offset(self, offset: UtcOffset) -> OffsetDateTime
         requires { IsWallClock (shown_at (instant_shown self) offset) }
         ensures value { result ≡ local_at (instant_shown self) offset }
         ensures instant { instant_of result ≡ instant_shown self };
 
-    /// The same instant at an offset. None where the clocks there show a date outside the range.
+    /// The same instant at an offset. None if its date there is out of range.
+    ///
+    /// ```
+    /// let west = UtcOffset::from_hms(-8, 0, 0)?;
+    /// assert_eq!(rt;
+    ///     UtcDateTime::UNIX_EPOCH.checked_to_offset(west).map(|shown| shown.hour()),
+    ///     Some(16)
+    /// );
+    /// assert_eq!(rt; UtcDateTime::MIN.checked_to_offset(west), None);
+    /// ```
     fn checked_to_offset(self, offset: UtcOffset) -> Option<OffsetDateTime>
         ensures value { ShownAt result (instant_shown self) offset }
         ensures instant { IfSome result (λ at. instant_of at ≡ instant_shown self) };
@@ -37,9 +53,12 @@ impl ToOffset for UtcDateTime {
 
     fn checked_to_offset(self, offset: UtcOffset) -> Option<OffsetDateTime> {
         if offset.is_utc() {
-            return Some(OffsetDateTime::from(self));
+            return Some(OffsetDateTime::from_utc(self));
         }
         let (year, ordinal, time) = utc_to_offset_raw(self, offset);
-        Some(date_time_if_any(year, ordinal, time)?.assume_offset(offset))
+        match date_time_if_any(year, ordinal, time) {
+            Some(shown) => Some(shown.assume_offset(offset)),
+            None => None,
+        }
     }
 }

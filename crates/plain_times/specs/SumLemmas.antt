@@ -3,6 +3,7 @@ use Rattle.std.proofs.Common.{◌≡◌, ◌↔◌, refl, sym, ap, ◌∙◌, Bo
 use Rattle.std.proofs.Common.{◌+ℤ◌, ◌-ℤ◌, ◌≤ℤ◌, ◌<ℤ◌, Option, Some, None, SomeIff}
 use Rattle.std.proofs.lemmas.Int.{ints, by_lt_z}
 use Rattle.calendar_values.specs.WallClock.{first_wall_clock, last_wall_clock, IsWallClock}
+use Rattle.plain_times.specs.ReplacementLemmas.{replaced}
 use Rattle.plain_times.specs.Sums.{wall_clock_if_any, nearest_wall_clock, IsSaturatingSum, IsSaturatingDifference}
 
 pub wall_clock_if_any-in : (w : ℤ) → IsWallClock w → wall_clock_if_any w ≡ Some w
@@ -17,8 +18,8 @@ pub wall_clock_if_any-after : (w : ℤ) → last_wall_clock <ℤ w → wall_cloc
 unfolding wall_clock_if_any
 wall_clock_if_any-after w h = grind (arith, ints)
 
--- what callers name who make calls that they know, by `run` or `chain`
-pub ruleset known_calls = (wall_clock_if_any-in, wall_clock_if_any-before, wall_clock_if_any-after)
+-- what callers name who make calls that they know, by `run` or `chain`: sums, and replacements of a date or a time of day
+pub ruleset known_calls = (wall_clock_if_any-in, wall_clock_if_any-before, wall_clock_if_any-after, replaced)
 
 -- an answer that is the sum exactly where the range has it is the checked sum, and the other way round
 pub wall_clock_if_any-SomeIff : (r : Option ℤ) (w : ℤ) → SomeIff r (IsWallClock w) w → r ≡ wall_clock_if_any w

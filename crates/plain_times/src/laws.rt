@@ -9,8 +9,8 @@ ghost use Rattle.plain_times.specs.Laws.{SaturatingSumsKeepTheOrder, OutcomesAre
 use crate::PlainDateTime;
 use std::hash::Hash;
 
-/// Where a wall clock and its sum with a duration lie in the range, taking the duration from the sum
-/// gives the wall clock back.
+/// Where a wall clock and its sum with a duration lie in the range, taking the duration from the
+/// sum gives the wall clock back.
 pub fn differences_undo_sums()
     ensures { DifferencesUndoSums }
 {}
@@ -20,13 +20,14 @@ pub fn differences_lead_back()
     ensures { DifferencesLeadBack }
 {}
 
-/// A replacement gives the only wall clock with the date or the time of day as given and the other as
-/// before.
+/// A replacement gives the only wall clock with the date or the time of day as given and the other
+/// as before.
 pub fn replacements_keep_the_rest()
     ensures { ReplacementsKeepTheRest }
 {}
 
-/// After an accepted replacement of a part of the date or of the time of day, that part reads as given.
+/// After an accepted replacement of a part of the date or of the time of day, that part reads as
+/// given.
 pub fn replaced_parts_read_as_given()
     ensures { ReplacedPartsReadAsGiven }
 {
@@ -62,14 +63,13 @@ pub fn sums_associate()
     ensures { SumsAssociate }
 {}
 
-/// Saturating sums with one duration keep the order of wall clocks, and with one wall clock the order of
-/// durations.
+/// Saturating sums with one duration keep the order of wall clocks, and with one wall clock the
+/// order of durations.
 pub fn saturating_sums_keep_the_order()
     ensures { SaturatingSumsKeepTheOrder }
 {}
 
-/// What a replacement comes to is one answer: its value where the part fits, and its refusal where it does
-/// not.
+/// A replacement has one outcome: its value if the part fits, and its error if it does not.
 pub fn outcomes_are_answers()
     ensures { OutcomesAreAnswers }
 {

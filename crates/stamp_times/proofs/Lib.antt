@@ -1,8 +1,8 @@
+pub mod FarInsideLemmas
 pub mod HeldInstantLemmas
 pub mod LogSearchLemmas
 pub mod MomentLemmas
 pub mod OutcomeLemmas
-pub mod ReciprocalLemmas
 pub mod RunLemmas
 pub mod TimestampOrderLemmas
 pub mod TimestampSumLemmas

@@ -1,6 +1,6 @@
 -- One more step of a chain of conversions.
 use Rattle.std.proofs.Common.{◌≡◌, ℕ, ◌+◌, ◌<◌, ℤ, List, [], ◌∷◌, ◌++◌, Option, Some, None, SomeIff, length, take, drop, get_or, sym}
-use Rattle.std.proofs.Common.{ap, ◌∙◌, refl, arith, add-one, option_map, Bool, true, false, if◌then◌else◌, suc}
+use Rattle.std.proofs.Common.{ap, ◌∙◌, refl, arith, add-one, option_map, Bool, true, false, if◌then◌else◌, suc, IsSome}
 use Rattle.std.proofs.Math.Seq.{drop-cons}
 use Rattle.std.proofs.lemmas.List.{take_more}
 use Rattle.calendar_values.specs.WallClock.{IsWallClock}
@@ -78,3 +78,17 @@ pub travel-ends : (i : ℤ) (steps : List Step) (k : ℕ) (step : Step) → k < 
 travel-ends i steps k step below here h so =
     let from_here : 0 + k ≡ k = omega arith in
     rw (rest steps k step below here, travel-stopped i step (drop (k + 1) steps) h, from_here) at so
+
+-- what the last step leads to
+pub held_after-last : (start next : Held) (i : ℤ) (steps rest : List Step) (last : Step) → steps ≡ rest ++ last ∷ [] → next ≡ held_by last i →
+    next ≡ held_after start i steps
+held_after-last start next i steps rest last e is = is ∙ sym (rw e (held_after-append start i rest (last ∷ [])))
+
+pub held_by-some : (found : Option Held) (next : Held) (i : ℤ) (step : Step) → SomeIff found (IsWallClock (shown_by step i)) (held_by step i) →
+    found ≡ Some next → next ≡ held_by step i
+held_by-some found next i step h e = (rw e at h).1
+
+pub held_by-is_some : (found : Option Held) (i : ℤ) (step : Step) → IsWallClock (shown_by step i) →
+    SomeIff found (IsWallClock (shown_by step i)) (held_by step i) → IsSome found
+held_by-is_some None i step in_range h = absurd (h in_range)
+held_by-is_some (Some next) i step in_range h = refl

@@ -4,8 +4,9 @@ pub mod Laws
 pub mod LogLemmas
 pub mod Numbered
 pub mod NumberedLemmas
-pub mod Reciprocal
 pub mod Refusals
 pub mod Texts
 pub mod TimestampLemmas
 pub mod Travel
+pub mod Words
+pub mod Callers

@@ -1,6 +1,6 @@
 -- Logs in the order of time in which each instant stands once.
 use Rattle.std.proofs.Common.{◌≡◌, ◌↔◌, ◌⊎◌, ℕ, zero, suc, ◌+◌, ◌-◌, ◌<◌, inl, inr, Bool, false, arith, ℤ, ◌≤ℤ◌, int_cmp, List, [], ◌∷◌, ◌++◌}
-use Rattle.std.proofs.Common.{length, take, drop, get_or, All, Option, Some, None, IsNone, IfSome, slice_get, refl, sym, ap, ◌∙◌}
+use Rattle.std.proofs.Common.{length, slice_index_or, take, drop, get_or, All, Option, Some, None, IsNone, IfSome, slice_get, refl, sym, ap, ◌∙◌}
 use Rattle.std.proofs.lemmas.Option.{none-some, slice_get-get_or, get_or_from_slice_get}
 use Rattle.std.proofs.lemmas.Cmp.{int_cmp_total, int_eq_equiv}
 use Rattle.std.proofs.lemmas.Int.{ints}
@@ -9,7 +9,7 @@ use Rattle.std.proofs.lemmas.List.Elements.{Contains-append_left, Contains-appen
 use Rattle.std.proofs.lemmas.List.Filters.{dedup_is}
 use Rattle.std.proofs.lemmas.List.Kept.{IsStrictlySortedBy-dedup, Contains-dedup, Contains-from_dedup}
 use Rattle.std.proofs.lemmas.List.Sorted.{searchable_from_sorted}
-use Rattle.std.specs.List.{AllByRecursion, AllWithin, Contains, insert}
+use Rattle.std.specs.List.{AllByRecursion, AllWithin, Contains, insert, remove}
 use Rattle.std.specs.List.Retain.{IsFiltered, DiffersFromLast}
 use Rattle.std.specs.List.Sorted.{IsSorted, IsStrictlySortedBy, IsNonDecreasingBy, IsPartitionPoint}
 use Rattle.std.specs.Ordering.{int_eq, eq_by_cmp, is_lt, ordering_index}
@@ -77,6 +77,67 @@ Contains-inserted xs ys i x y e there =
       | inl before ↦ Contains-append_left (take i xs) (x ∷ drop i xs) y before
       | inr after ↦ Contains-append_right (take i xs) (x ∷ drop i xs) y (suc after.0, omega (arith, after.1), after.2)
     ])
+
+-- ---- a list in order with one element less
+
+all_removed : (P : ℤ → Type 0) (xs : List ℤ) (i : ℕ) → AllByRecursion P xs → AllByRecursion P (remove xs i)
+all_removed P [] zero p = p
+all_removed P [] (suc i) p = p
+all_removed P (y ∷ ys) zero p = p.1
+all_removed P (y ∷ ys) (suc i) p = (p.0, all_removed P ys i p.1)
+
+pub strictly-removed : (xs : List ℤ) (i : ℕ) → IsStrictlySortedBy int_cmp xs → IsStrictlySortedBy int_cmp (remove xs i)
+unfolding IsStrictlySortedBy
+strictly-removed [] zero h = h
+strictly-removed [] (suc i) h = h
+strictly-removed (x ∷ xs) zero h = h.1
+strictly-removed (x ∷ xs) (suc i) h = (all_removed (λ y. int_cmp x y ≡ Less) xs i h.0, strictly-removed xs i h.1)
+
+-- what was in the list, and is not the element, is in it
+kept_removed : (xs : List ℤ) (i k : ℕ) (x y : ℤ) → i < length xs → slice_index_or xs i x ≡ x → (y ≡ x → ⊥) → k < length xs
+    → slice_index_or xs k y ≡ y → Contains (remove xs i) y
+kept_removed [] i k x y there e other within at = absurd (omega arith)
+kept_removed (z ∷ zs) zero zero x y there e other within at = absurd (other (sym at ∙ e))
+kept_removed (z ∷ zs) zero (suc k) x y there e other within at = (k, omega arith, at)
+kept_removed (z ∷ zs) (suc i) zero x y there e other within at = (zero, omega arith, at)
+kept_removed (z ∷ zs) (suc i) (suc k) x y there e other within at =
+    let rest = kept_removed zs i k x y (omega arith) e other (omega arith) at in (suc rest.0, omega (arith, rest.1), rest.2)
+
+pub Contains-removed : (xs : List ℤ) (i : ℕ) (x y : ℤ) → i < length xs → slice_index_or xs i x ≡ x → (y ≡ x → ⊥) → Contains xs y
+    → Contains (remove xs i) y
+Contains-removed xs i x y there e other h = kept_removed xs i h.0 x y there e other h.1 h.2
+
+-- and nothing else is
+was_in : (xs : List ℤ) (i k : ℕ) (y : ℤ) → k < length (remove xs i) → slice_index_or (remove xs i) k y ≡ y → Contains xs y
+was_in [] zero k y within at = absurd (omega arith)
+was_in [] (suc i) k y within at = absurd (omega arith)
+was_in (z ∷ zs) zero k y within at = (suc k, omega arith, at)
+was_in (z ∷ zs) (suc i) zero y within at = (zero, omega arith, at)
+was_in (z ∷ zs) (suc i) (suc k) y within at = let rest = was_in zs i k y (omega arith) at in (suc rest.0, omega (arith, rest.1), rest.2)
+
+pub Contains-before_removal : (xs : List ℤ) (i : ℕ) (y : ℤ) → Contains (remove xs i) y → Contains xs y
+Contains-before_removal xs i y h = was_in xs i h.0 y h.1 h.2
+
+-- of a list in which it stood once the element is gone
+not_itself : (x y : ℤ) → int_cmp x y ≡ Less → x ≡ y → ⊥
+not_itself x y less e = grind (arith, ints)
+
+above_at : (xs : List ℤ) (x y : ℤ) (k : ℕ) → AllByRecursion (λ z. int_cmp x z ≡ Less) xs → k < length xs → slice_index_or xs k y ≡ y → int_cmp x y ≡ Less
+above_at [] x y k h within at = absurd (omega arith)
+above_at (z ∷ zs) x y zero h within at = rw at at h.0
+above_at (z ∷ zs) x y (suc k) h within at = above_at zs x y k h.1 (omega arith) at
+
+gone : (xs : List ℤ) (i k : ℕ) (x : ℤ) → IsStrictlySortedBy int_cmp xs → i < length xs → slice_index_or xs i x ≡ x → k < length (remove xs i)
+    → slice_index_or (remove xs i) k x ≡ x → ⊥
+unfolding IsStrictlySortedBy
+gone [] i k x h there e within at = absurd (omega arith)
+gone (z ∷ zs) zero k x h there e within at = not_itself z x (above_at zs z x k h.0 within at) e
+gone (z ∷ zs) (suc i) zero x h there e within at = not_itself z x (above_at zs z x i h.0 (omega arith) e) at
+gone (z ∷ zs) (suc i) (suc k) x h there e within at = gone zs i k x h.1 (omega arith) e (omega arith) at
+
+pub not_Contains-removed : (xs : List ℤ) (i : ℕ) (x : ℤ) → IsStrictlySortedBy int_cmp xs → i < length xs → slice_index_or xs i x ≡ x
+    → Contains (remove xs i) x → ⊥
+not_Contains-removed xs i x h there e found = gone xs i found.0 x h there e found.1 found.2
 
 eq_is_cmp : (x y : ℤ) → int_eq x y ≡ eq_by_cmp int_cmp x y
 eq_is_cmp x y = grind (arith, ints)

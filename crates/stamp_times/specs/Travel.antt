@@ -1,5 +1,7 @@
 -- A chain of conversions: where it stops, and what is held.
-use Rattle.std.specs.Prelude.{ℕ, ◌+◌, Bool, List, [], ◌∷◌, ℤ, if◌then◌else◌, Option, Some, None, option_map, is_some}
+use Rattle.std.specs.Prelude.{ℕ, ◌+◌, Bool, List, [], ◌∷◌, ℤ, if◌then◌else◌, Option, Some, None, option_map, is_some, ⊤}
+use Rattle.calendar_values.specs.Offsets.{IsOffset}
+use Rattle.calendar_values.specs.WallClock.{IsWallClock}
 use Rattle.offset_times.specs.Local.{instant_of, shown_at, local_at}
 use Rattle.plain_times.specs.Sums.{wall_clock_if_any}
 use Rattle.stamp_times.specs.declared.chains.steps.Held.{Held}
@@ -38,3 +40,13 @@ stop_index i (step ∷ steps) = if holds step i then option_map (λ k. k + 1) (s
 abbrev pub held_after : Held → ℤ → List Step → Held
 held_after held i [] = held
 held_after held i (step ∷ steps) = held_after (held_by step i) i steps
+
+-- the offset of a step lies in its range
+abbrev pub IsStep : Step → Type 0
+IsStep ToStamp = ⊤
+IsStep ToUtc = ⊤
+IsStep (ToOffset o) = IsOffset o
+
+-- clocks at each offset show a date of the range at the instant
+abbrev pub IsFarInside : ℤ → Type 0
+IsFarInside i = (o : ℤ) → IsOffset o → IsWallClock (shown_at i o)

@@ -8,7 +8,7 @@ use crate::Timestamp;
 use crate::runs::put_in_room;
 use std::alloc::{AllocError, Global};
 
-/// Timestamps, and the place of the count that was refused, if one was.
+/// Timestamps, and the place of the count that was out of range, if one was.
 #[derive(Drop)]
 pub struct Batch {
     pub stamps: Vec<Timestamp>,
@@ -16,9 +16,9 @@ pub struct Batch {
 }
 
 impl Timestamp {
-    /// The beginnings of Unix seconds in their order, up to the first that [`Timestamp::from_seconds`]
-    /// refuses, with the place of that one, counted from 0. `AllocError` where there is no memory for them;
-    /// all of it is taken first, and for no second none is asked for.
+    /// The beginnings of Unix seconds in their order, up to the first that
+    /// [`Timestamp::from_seconds`] rejects, with the index of that one. `AllocError` if there is no
+    /// memory for them. The call takes all memory first, and none for no seconds.
     pub fn from_seconds_slice(alloc: Global, seconds: &[i64]) -> Result<Batch, AllocError>
         ensures all { IfOk result (λ batch. IfNone batch.refused
             (batch.stamps.items ≡ map instant_of_second seconds.now)) }

@@ -1,8 +1,8 @@
 //! Chains of conversions.
-ghost use Rattle.std.specs.Prelude.{◌≡◌, ◌<◌, None, Some, SomeIff, IfOk, IfErr, length, take};
+ghost use Rattle.std.specs.Prelude.{◌≡◌, ◌<◌, None, Some, SomeIff, IfOk, IfErr, length, take, IsTrue};
 ghost use Rattle.calendar_values.specs.WallClock.{IsWallClock, SomeInRange};
 ghost use Rattle.offset_times.specs.Local.{shown_at, local_at, ShownAt};
-ghost use Rattle.stamp_times.specs.Travel.{held_instant, shown_by, held_by, stop_index, held_after};
+ghost use Rattle.stamp_times.specs.Travel.{held_instant, shown_by, held_by, stop_index, held_after, IsStep, IsFarInside};
 
 use crate::chains::steps::{Held, Step, StoppedAt};
 use crate::{Moment, Timestamp};
@@ -12,10 +12,23 @@ use utc_times::UtcDateTime;
 
 pub mod steps;
 
-/// Converts the instant step by step, as far as each target can hold it: a timestamp and a date-time in UTC
-/// hold an instant of the range, and a date-time at an offset holds one at which clocks there show a date of
-/// the range. Ok what the last step gives, or the start where there is no step. Err the first step that
-/// cannot hold the instant, and what the steps before it gave. Either way the instant is that of the start.
+// Seconds and years nearer to 1970 and to the year 0 than these lie days inside the range.
+const FAR_SECOND: u64 = 31_400_000_000_000;
+
+const FAR_YEAR: u32 = 999_999;
+
+/// Converts the instant step by step, as far as each target can hold it. A timestamp and a
+/// date-time in UTC hold an instant of the range. A date-time at an offset holds one with a date
+/// of the range there. Ok is the value of the last step, or the start if there is no step. Err is
+/// the first step that cannot hold the instant, and the value of the steps before it.
+/// Either way the instant is that of the start.
+///
+/// ```
+/// let start = Held::Stamp(Timestamp::MIN);
+/// let west = Step::ToOffset(UtcOffset::from_hms(-1, 0, 0)?);
+/// let stopped = chain(start, &[Step::ToUtc, west]).err();
+/// assert_eq!(rt; stopped.map(|stopped| stopped.index), Some(1));
+/// ```
 pub fn chain(start: Held, steps: &[Step]) -> Result<Held, StoppedAt>
     ensures arrived { IfOk result (λ _. stop_index (held_instant start) steps.now ≡ None) }
     ensures held { IfOk result (λ held. held ≡ held_after start (held_instant start) steps.now) }
@@ -28,6 +41,11 @@ pub fn chain(start: Held, steps: &[Step]) -> Result<Held, StoppedAt>
     ensures kept_instant { IfErr result (λ stopped.
         held_instant stopped.held ≡ held_instant start) }
 {
+    let at = start;
+    if is_far_inside(at) {
+        let from = start;
+        return Ok(held_after(from, steps));
+    }
     let mut held = start;
     for (index, step) in steps.iter().enumerate() {
         let before = held;
@@ -37,6 +55,49 @@ pub fn chain(start: Held, steps: &[Step]) -> Result<Held, StoppedAt>
         }
     }
     Ok(held)
+}
+
+// Whether the target of each step can hold the instant, by its second or the year that clocks show alone: no
+// for instants near an end of the range.
+fn is_far_inside(held: Held) -> bool
+    ensures { IsTrue result → IsFarInside (held_instant held) }
+{
+    match held {
+        Held::Stamp(stamp) => stamp.as_seconds().unsigned_abs() < FAR_SECOND,
+        Held::Utc(at) => at.year().unsigned_abs() < FAR_YEAR,
+        Held::Offset(at) => at.date().year().unsigned_abs() < FAR_YEAR,
+    }
+}
+
+// The instant as the target of the last step holds it, or the start where there is no step.
+fn held_after(start: Held, steps: &[Step]) -> Held
+    requires { IsFarInside (held_instant start) }
+    ensures arrived { stop_index (held_instant start) steps.now ≡ None }
+    ensures held { result ≡ held_after start (held_instant start) steps.now }
+    ensures instant { held_instant result ≡ held_instant start }
+{
+    for step in steps {
+        be_in_range(*step);
+    }
+    let Some((last, _)) = steps.split_last() else {
+        return start;
+    };
+    be_in_range(*last);
+    held_by(start, *last).unwrap()
+}
+
+// For the proof alone: the offset of a step lies in its range.
+#[inline(always)]
+fn be_in_range(step: Step)
+    ensures { IsStep step }
+{
+    match step {
+        Step::ToStamp => {}
+        Step::ToUtc => {}
+        Step::ToOffset(offset) => {
+            let _in_range = offset.whole_seconds();
+        }
+    }
 }
 
 // The instant as the target of the step holds it. None where it cannot.

@@ -13,8 +13,8 @@ use crate::Timestamp;
 use std::hash::Hash;
 use utc_times::UtcDateTime;
 
-/// A timestamp as a date-time in UTC and back is the same timestamp, and so is a date-time in UTC as a
-/// timestamp and back.
+/// A timestamp as a date-time in UTC and back is the same timestamp, and so is a date-time in UTC
+/// as a timestamp and back.
 pub fn conversions_lose_nothing()
     ensures stamps { (stamp at back : _) → ⟦<UtcDateTime as From<Timestamp>>⟧.from_gives stamp at
         → ⟦<Timestamp as From<UtcDateTime>>⟧.from_gives at back → back ≡ stamp }
@@ -94,8 +94,8 @@ pub fn saturating_sums_keep_the_order()
     plain_times::laws::saturating_sums_keep_the_order()
 }
 
-/// As [`utc_times::laws::outcomes_are_answers`]; and a second and a nanosecond of it come to their instant,
-/// or to the refusal of one of them.
+/// As [`utc_times::laws::outcomes_are_answers`]; and a second and a nanosecond of it have their
+/// instant, or the error of one of them.
 pub fn outcomes_are_answers()
     ensures replacements { OutcomesAreAnswers }
     ensures counts { (name : _) (instant : _) → IsOneAnswer (instant_outcome name instant) }
@@ -105,19 +105,19 @@ pub fn outcomes_are_answers()
     utc_times::laws::outcomes_are_answers()
 }
 
-/// A run over calls and then others replies as the run over the first and the run over the others from where the
-/// first end, and ends where that ends.
+/// A run over calls and then others replies as the run over the first and the run over the others
+/// from where the first end, and ends where that ends.
 pub fn runs_compose()
     ensures { RunsCompose }
 {}
 
-/// A refused call changes nothing: what follows it is as if it were left out.
+/// A call that fails changes nothing: later calls reply as if it were absent.
 pub fn refused_calls_change_nothing()
     ensures { RefusedCallsChangeNothing }
 {}
 
-/// A chain over steps and then others stops where the first stop, or else where the others do, and holds what the
-/// others hold after the first.
+/// A chain over steps and then others stops where the first stop, or else where the others do, and
+/// holds what the others hold after the first.
 pub fn chains_compose()
     ensures { ChainsCompose }
 {}

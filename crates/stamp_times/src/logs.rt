@@ -1,14 +1,16 @@
 //! Logs: timestamps in the order of time.
-ghost use Rattle.std.specs.Prelude.{◌≡◌, ◌<◌, ◌↔◌, ◌⊎◌, ◌≤ℤ◌, ℤ, [], All, Contains, IfNone, IfOk, IfSome, IsNone, IsTrue, IsPermutation, IsSorted};
+ghost use Rattle.std.specs.Prelude.{◌≡◌, ◌≢◌, ◌<◌, ◌↔◌, ◌⊎◌, ◌≤ℤ◌, ℤ, [], All, Contains, IfNone, IfOk, IfSome, IsNone, IsTrue, IsPermutation, IsSorted};
 ghost use Rattle.std.specs.Prelude.{IsSortedByKey, OnOk, OnErr, length};
 ghost use Rattle.std.specs.List.{HoldsAt};
 ghost use Rattle.std.specs.List.Sorted.{IsStrictlySortedBy, IsStableByKey};
-ghost use Rattle.std.specs.Ordering.{int_cmp};
+ghost use Rattle.std.specs.Ordering.{int_cmp, on};
+ghost use Rattle.offset_times.specs.Local.{Local, instant_of};
 
 use crate::Timestamp;
+use offset_times::OffsetDateTime;
 use std::alloc::AllocError;
 
-/// A place at which the timestamp stands in a log that is in order. None where it is not in the log.
+/// A place of the timestamp in a log that is in order. None if the log does not have it.
 pub fn find(log: &[Timestamp], at: Timestamp) -> Option<usize>
     requires { IsSorted int_cmp log.now }
     ensures place { IfSome result (λ place. place < length log.now) }
@@ -22,8 +24,8 @@ pub fn find(log: &[Timestamp], at: Timestamp) -> Option<usize>
     }
 }
 
-/// Enters the timestamp in its place in a log in which each stands once. False where it stands there
-/// already; `AllocError`, with the log as before, where there is no memory for one more.
+/// Enters the timestamp in its place in a log that has each once. False if it is there already;
+/// `AllocError`, with the log as before, where there is no memory for one more.
 pub fn enter(log: &mut Vec<Timestamp>, at: Timestamp) -> Result<bool, AllocError>
     requires { IsStrictlySortedBy int_cmp log.old.items }
     ensures in_order { IsStrictlySortedBy int_cmp log.new.items }
@@ -41,7 +43,28 @@ pub fn enter(log: &mut Vec<Timestamp>, at: Timestamp) -> Result<bool, AllocError
     }
 }
 
-/// Puts a log in order, and leaves each timestamp once. `AllocError` where there is no memory to sort it.
+/// Removes the timestamp from a log that has each once, and the others stay. False if it is not
+/// there.
+pub fn remove(log: &mut Vec<Timestamp>, at: Timestamp) -> bool
+    requires { IsStrictlySortedBy int_cmp log.old.items }
+    ensures in_order { IsStrictlySortedBy int_cmp log.new.items }
+    ensures was_there { IsTrue result ↔ Contains log.old.items at }
+    ensures absent { ¬ Contains log.new.items at }
+    ensures kept { (entry : ℤ) → Contains log.old.items entry → entry ≢ at →
+        Contains log.new.items entry }
+    ensures no_other { (entry : ℤ) → Contains log.new.items entry → Contains log.old.items entry }
+{
+    match log.binary_search(&at) {
+        Ok(place) => {
+            log.remove(place);
+            true
+        }
+        Err(_) => false,
+    }
+}
+
+/// Puts a log in order, and leaves each timestamp once. `AllocError` if there is no memory to sort
+/// it.
 pub fn put_in_order(log: &mut Vec<Timestamp>) -> Result<(), AllocError>
     ensures in_order { OnOk result (IsStrictlySortedBy int_cmp log.new.items) }
     ensures kept { (entry : ℤ) → Contains log.old.items entry → Contains log.new.items entry }
@@ -53,8 +76,8 @@ pub fn put_in_order(log: &mut Vec<Timestamp>) -> Result<(), AllocError>
     Ok(())
 }
 
-/// Adds the entries of another list, puts all in order, and leaves each timestamp once. `AllocError`, with the log as
-/// before, where there is no memory for them or to sort them.
+/// Adds the entries of another list, puts all in order, and leaves each timestamp once.
+/// `AllocError`, with the log as before, where there is no memory for them or to sort them.
 pub fn merge(log: &mut Vec<Timestamp>, other: &[Timestamp]) -> Result<(), AllocError>
     ensures in_order { OnOk result (IsStrictlySortedBy int_cmp log.new.items) }
     ensures entered { OnOk result ((entry : ℤ) →
@@ -73,7 +96,7 @@ pub fn merge(log: &mut Vec<Timestamp>, other: &[Timestamp]) -> Result<(), AllocE
     in_order
 }
 
-/// The last entry of a log that is in order: none of the others is later. None where it is empty.
+/// The last entry of a log that is in order: none of the others is later. None if it is empty.
 pub fn last(log: &[Timestamp]) -> Option<Timestamp>
     requires { IsSorted int_cmp log.now }
     ensures none { IsNone result ↔ (log.now ≡ []) }
@@ -83,7 +106,13 @@ pub fn last(log: &[Timestamp]) -> Option<Timestamp>
     log.last().copied()
 }
 
-/// The latest of timestamps that stand in any order. None where there are none.
+/// The latest of timestamps in any order. None if there are none.
+///
+/// ```
+/// let stamps = [Timestamp::UNIX_EPOCH, Timestamp::MIN];
+/// assert_eq!(rt; stamp_times::logs::latest(&stamps), Some(Timestamp::UNIX_EPOCH));
+/// assert_eq!(rt; stamp_times::logs::latest(&[]), None);
+/// ```
 #[tactic(auto, using(std::proofs::lemmas::Int::ints))]
 pub fn latest(stamps: &[Timestamp]) -> Option<Timestamp>
     ensures none { IsNone result ↔ (stamps.now ≡ []) }
@@ -93,7 +122,13 @@ pub fn latest(stamps: &[Timestamp]) -> Option<Timestamp>
     stamps.iter().copied().max()
 }
 
-/// The earliest of timestamps that stand in any order. None where there are none.
+/// The earliest of timestamps in any order. None if there are none.
+///
+/// ```
+/// let stamps = [Timestamp::UNIX_EPOCH, Timestamp::MIN];
+/// assert_eq!(rt; stamp_times::logs::earliest(&stamps), Some(Timestamp::MIN));
+/// assert_eq!(rt; stamp_times::logs::earliest(&[]), None);
+/// ```
 #[tactic(auto, using(std::proofs::lemmas::Int::ints))]
 pub fn earliest(stamps: &[Timestamp]) -> Option<Timestamp>
     ensures none { IsNone result ↔ (stamps.now ≡ []) }
@@ -113,8 +148,8 @@ pub trait Stamped {
         ensures { result ≡ stamp self.now };
 }
 
-/// Puts records into the order of their timestamps; those of one instant stay as they stood to one another. `AllocError`,
-/// with all as before, where there is no memory to sort them.
+/// Puts records into the order of their timestamps; those of one instant keep their order.
+/// `AllocError`, with all as before, where there is no memory to sort them.
 pub fn sort_by_stamp<T: Stamped>(records: &mut Vec<T>) -> Result<(), AllocError>
     ensures same_records { IsPermutation records.old.items records.new.items }
     ensures in_order { OnOk result (IsSortedByKey T.stamp int_cmp records.new.items) }
@@ -122,5 +157,29 @@ pub fn sort_by_stamp<T: Stamped>(records: &mut Vec<T>) -> Result<(), AllocError>
     ensures unchanged { OnErr result (records.new.items ≡ records.old.items) }
 {
     records.sort_by_key(|record| record.stamp())?;
+    Ok(())
+}
+
+/// A record that has a date-time at an offset.
+pub trait Dated {
+    /// The wall clock of its date-time, and the offset.
+    ghost date_time: { Self → Local };
+
+    /// Its date-time.
+    fn date_time(&self) -> OffsetDateTime
+        ensures { result ≡ date_time self.now };
+}
+
+/// Puts records into the order of the instants of their date-times; those of one instant keep their
+/// order. `AllocError`, with all as before, where there is no memory to sort them.
+pub fn sort_by_date_time<T: Dated>(records: &mut Vec<T>) -> Result<(), AllocError>
+    ensures same_records { IsPermutation records.old.items records.new.items }
+    ensures in_order { OnOk result
+        (IsSortedByKey T.date_time (on instant_of int_cmp) records.new.items) }
+    ensures stable { IsStableByKey T.date_time (on instant_of int_cmp)
+        records.old.items records.new.items }
+    ensures unchanged { OnErr result (records.new.items ≡ records.old.items) }
+{
+    records.sort_by_key(|record| record.date_time())?;
     Ok(())
 }

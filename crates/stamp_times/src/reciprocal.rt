@@ -9,8 +9,8 @@ ghost use Rattle.std.specs.Int.{IsInRange};
 ghost use Rattle.calendar_values.specs.Calendar.{is_leap_year, year_of, ordinal_of, day_of_ordinal_date};
 ghost use Rattle.calendar_values.specs.Range.{IsDay};
 ghost use Rattle.calendar_values.specs.Refusals.{IsOrdinalDateOfRange};
-ghost use Rattle.stamp_times.specs.Reciprocal.{shifted_day, IsShiftedDay, century_of, century_fraction_of, julian_count, IsJulianCount};
-ghost use Rattle.stamp_times.specs.Reciprocal.{julian_year_of, julian_year_fraction_of, years_of, step_year, step_leap, step_ordinal};
+ghost use Rattle.calendar_values.specs.Reciprocal.{shifted_day, IsShiftedDay, century_of, century_fraction_of, julian_count, IsJulianCount};
+ghost use Rattle.calendar_values.specs.Reciprocal.{julian_year_of, julian_year_fraction_of, years_of, step_year, step_leap, step_ordinal};
 
 // Days and years are counted from the year 0 by so many spans of 400 years, and from there to 1970.
 const ERAS: i32 = 5_949;
@@ -28,9 +28,10 @@ const YEAR_MULTIPLIER: u64 = 3_010_298_776;
 // 365 * 2^32 / 36,525, rounded down: the fraction of a century up to the end of its first 365 days.
 const FIRST_YEAR_CUT: u32 = 42_920_275;
 
-/// The whole centuries up to a day, on the first day of each 400 years one too few, and the fraction of a
-/// century, times 2^32. They are the high and the low 32 bits of the day times 4 / 146,097. The day is
-/// counted from 1 January of the year -2379600, and must be from 503,888,919 to 1,234,373,552.
+/// The whole centuries up to a day, on the first day of each 400 years one too few, and the
+/// fraction of a century, times 2^32. They are the high and the low 32 bits of the day times 4 /
+/// 146,097. The day is counted from 1 January of the year -2379600, and must be from 503,888,919 to
+/// 1,234,373,552.
 pub fn century(day: u32) -> (u32, u32)
     requires { IsShiftedDay day }
     ensures century { result.0 ≡ century_of day }
@@ -38,12 +39,13 @@ pub fn century(day: u32) -> (u32, u32)
     ensures above { 146_097 * day * 3_853_261_555 < 4 * day * 2 ^ 47 }
     ensures below { 4 * day * 2 ^ 47 < 146_097 * day * 3_853_261_555 + 2 ^ 47 }
 {
-    whole_and_fraction(u64::from(day) * CENTURY_MULTIPLIER >> 15)
+    whole_and_fraction(day as u64 * CENTURY_MULTIPLIER >> 15)
 }
 
-/// The whole years up to a day of a calendar without the rule on centuries, and the fraction of a year,
-/// times 2^32. They are the high and the low 32 bits of the day times 4 / 1,461. The day is counted from
-/// 1 January of the year -2379600 in that calendar, and must be from 503,899,266 to 1,234,398,899.
+/// The whole years up to a day of a calendar without the rule on centuries, and the fraction of a
+/// year, times 2^32. They are the high and the low 32 bits of the day times 4 / 1,461. The day is
+/// counted from 1 January of the year -2379600 in that calendar, and must be from 503,899,266 to
+/// 1,234,398,899.
 pub fn julian_year(julian_day: u32) -> (u32, u32)
     requires { IsJulianCount julian_day }
     ensures year { result.0 ≡ julian_year_of julian_day }
@@ -51,7 +53,7 @@ pub fn julian_year(julian_day: u32) -> (u32, u32)
     ensures above { 4 * julian_day * 2 ^ 40 < 1_461 * julian_day * 3_010_298_776 }
     ensures below { 1_461 * julian_day * 3_010_298_776 < 4 * julian_day * 2 ^ 40 + 2 ^ 40 }
 {
-    whole_and_fraction(u64::from(julian_day) * YEAR_MULTIPLIER >> 8)
+    whole_and_fraction(julian_day as u64 * YEAR_MULTIPLIER >> 8)
 }
 
 // The high and the low 32 bits.
@@ -63,8 +65,9 @@ fn whole_and_fraction(scaled: u64) -> (u32, u32)
 }
 
 /// The year of a day, whether it is a leap year, and the day of the year, counted from 1 (Gregorian
-/// calendar). The day is counted from 1970-01-01, and must be one of the range: the days that [`Date`] has.
-#[tactic(auto, using(crate::proofs::ReciprocalLemmas::shifted_years))]
+/// calendar). The day is counted from 1970-01-01, and must be one of the range: the days that
+/// [`Date`] has.
+#[tactic(auto, using(calendar_values::specs::ReciprocalLemmas::shifted_years))]
 pub fn year_leap_ordinal(day: i32) -> (i32, bool, u16)
     requires { IsDay day }
     ensures year { result.0 ≡ year_of day }
@@ -91,7 +94,7 @@ fn years_leap_ordinal(day: u32) -> (u32, bool, u16)
     let (century, century_fraction) = century(day);
     let is_julian = (century_fraction > FIRST_YEAR_CUT) | (century % 4 == 0);
     let (years, year_fraction) = julian_year(day - century / 4 + century);
-    let ordinal = (u64::from(year_fraction) * 1_461 >> 34) as u16 + u16::from(is_julian);
+    let ordinal = (year_fraction as u64 * 1_461 >> 34) as u16 + is_julian as u16;
     (years, (years % 4 == 0) & is_julian, ordinal)
 }
 

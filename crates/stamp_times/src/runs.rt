@@ -10,12 +10,13 @@ use std::alloc::{AllocError, Global};
 pub mod calls;
 pub mod moment;
 
-/// The replies to the calls in their order, one a call, and the value after the last: those of a counter of
-/// nanoseconds that starts at the instant. A read leaves the value as it is and replies the part. A sum or a
-/// replacement that is accepted goes on from its result and replies the date and the time of day there. One
-/// that is refused replies the refusal, changes nothing, and the run goes on. A conversion to an offset
-/// replies what clocks there show, and the run goes on from the instant. `AllocError` where there is no
-/// memory for the replies; all of it is taken first, and where there is no call none is asked for.
+/// The replies to the calls in their order, one a call, and the value after the last: those of a
+/// counter of nanoseconds that starts at the instant. A read leaves the value as it is and replies
+/// the part. A sum or a replacement that succeeds replies the date and the time of day of its
+/// result, and the next call starts there. One that fails replies the error and changes nothing. A
+/// conversion to an offset replies the date-time there, and the next call starts at the instant.
+/// `AllocError` if there is no memory for the replies. It takes all of it first, and none if there
+/// is no call.
 pub fn run<M: Moment>(
     alloc: Global,
     start: M,
@@ -37,8 +38,8 @@ pub fn run<M: Moment>(
     Ok((replies, held))
 }
 
-/// The replies of [`run`] from a timestamp, and from the same instant as a date-time in UTC. They are equal. Ok
-/// where there is no call.
+/// The replies of [`run`] from a timestamp, and from the same instant as a date-time in UTC. They
+/// are equal. Ok where there is no call.
 pub fn run_both(
     alloc: Global,
     start: Timestamp,

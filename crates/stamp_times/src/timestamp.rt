@@ -6,8 +6,8 @@ ghost use Rattle.utc_times.specs.UnixTime.{instant_of_second, instant_outcome};
 ghost use Rattle.stamp_times.specs.Refusals.{timestamp_outcome};
 ghost use Rattle.stamp_times.specs.Instants.{instant_of_milliseconds, instant_of_microseconds, unix_milliseconds_of, unix_microseconds_of};
 
-use calendar_values::ComponentRange;
 use calendar_values::units::NANOS_PER_SECOND;
+use calendar_values::{ComponentRange, Part};
 use std::marker::Model;
 
 mod comparisons;
@@ -26,9 +26,10 @@ const LAST_SECOND: i64 = 31_494_784_780_799;
 
 const MAX_NANOSECOND: u32 = 999_999_999;
 
-/// An instant by its Unix second and the nanosecond of that second, from the first midnight of the range in
-/// UTC to its last nanosecond. A contract sees the instant: the nanoseconds from 1970-01-01 0:00 UTC, with no
-/// leap seconds. Equality, order and hash go by it; which bytes a hasher is fed is no promise.
+/// An instant by its Unix second and the nanosecond of that second, from the first midnight of the
+/// range in UTC to its last nanosecond. A contract sees the instant: the nanoseconds from
+/// 1970-01-01 0:00 UTC, with no leap seconds. Equality, order and hash go by it; which bytes a
+/// hasher is fed is no promise.
 ///
 /// ```
 /// let before = Timestamp::from_milliseconds(-1)?;
@@ -85,17 +86,26 @@ impl Timestamp {
         nanosecond: 0,
     };
 
-    /// The instant of a Unix second and a nanosecond of that second. Refused `seconds` before that of
-    /// [`Timestamp::MIN`] or after that of [`Timestamp::MAX`], then `nanoseconds` above 999,999,999.
+    /// The instant of a Unix second and a nanosecond of that second. Fails with `seconds` before
+    /// that of [`Timestamp::MIN`] or after that of [`Timestamp::MAX`], then `nanoseconds` above
+    /// 999,999,999.
+    ///
+    /// ```
+    /// assert_eq!(rt; Timestamp::new(-1, 999_000_000)?, Timestamp::from_milliseconds(-1)?);
+    /// assert_eq!(rt;
+    ///     Timestamp::new(0, 1_000_000_000),
+    ///     Err(ComponentRange::new("nanoseconds", false))
+    /// );
+    /// ```
     #[tactic(auto, unfolding(crate::specs::Refusals::timestamp_of_parts))]
     pub fn new(seconds: i64, nanoseconds: u32) -> Result<Timestamp, ComponentRange>
         ensures { Gives result (timestamp_outcome seconds nanoseconds) }
     {
         if seconds < FIRST_SECOND || seconds > LAST_SECOND {
-            return Err(ComponentRange::new("seconds", false));
+            return Err(ComponentRange::of_part(Part::Seconds, false));
         }
         if nanoseconds > MAX_NANOSECOND {
-            return Err(ComponentRange::new("nanoseconds", false));
+            return Err(ComponentRange::of_part(Part::Nanoseconds, false));
         }
         Ok(Timestamp {
             seconds,
@@ -103,14 +113,22 @@ impl Timestamp {
         })
     }
 
-    /// The beginning of a Unix second. Refused `seconds` before that of [`Timestamp::MIN`] or after that of
-    /// [`Timestamp::MAX`].
+    /// The beginning of a Unix second. Fails with `seconds` before that of [`Timestamp::MIN`] or
+    /// after that of [`Timestamp::MAX`].
+    ///
+    /// ```
+    /// assert_eq!(rt; Timestamp::from_seconds(1_000_000_000)?.year(), 2001);
+    /// assert_eq!(rt;
+    ///     Timestamp::from_seconds(i64::MIN),
+    ///     Err(ComponentRange::new("seconds", false))
+    /// );
+    /// ```
     #[tactic(auto, unfolding(utc_times::specs::UnixTime::instant_or_refusal))]
     pub fn from_seconds(seconds: i64) -> Result<Timestamp, ComponentRange>
         ensures { Gives result (instant_outcome (codes "seconds") (instant_of_second seconds)) }
     {
         if seconds < FIRST_SECOND || seconds > LAST_SECOND {
-            return Err(ComponentRange::new("seconds", false));
+            return Err(ComponentRange::of_part(Part::Seconds, false));
         }
         Ok(Timestamp {
             seconds,
@@ -118,15 +136,23 @@ impl Timestamp {
         })
     }
 
-    /// The instant so many milliseconds from 1970-01-01 0:00 UTC. Refused `milliseconds` before
-    /// [`Timestamp::MIN`] or after [`Timestamp::MAX`].
+    /// The instant of a number of milliseconds from 1970-01-01 0:00 UTC. Fails with `milliseconds`
+    /// before [`Timestamp::MIN`] or after [`Timestamp::MAX`].
+    ///
+    /// ```
+    /// assert_eq!(rt; Timestamp::from_milliseconds(1_250)?, Timestamp::new(1, 250_000_000)?);
+    /// assert_eq!(rt;
+    ///     Timestamp::from_milliseconds(i64::MAX),
+    ///     Err(ComponentRange::new("milliseconds", false))
+    /// );
+    /// ```
     #[tactic(auto, unfolding(utc_times::specs::UnixTime::instant_or_refusal))]
     pub fn from_milliseconds(milliseconds: i64) -> Result<Timestamp, ComponentRange>
         ensures { let i = instant_of_milliseconds milliseconds in
             Gives result (instant_outcome (codes "milliseconds") i) }
     {
         if milliseconds < FIRST_SECOND * 1_000 || milliseconds > LAST_SECOND * 1_000 + 999 {
-            return Err(ComponentRange::new("milliseconds", false));
+            return Err(ComponentRange::of_part(Part::Milliseconds, false));
         }
         Ok(Timestamp {
             seconds: milliseconds.div_euclid(1_000),
@@ -134,8 +160,16 @@ impl Timestamp {
         })
     }
 
-    /// The instant so many microseconds from 1970-01-01 0:00 UTC. Refused `microseconds` before
-    /// [`Timestamp::MIN`] or after [`Timestamp::MAX`].
+    /// The instant of a number of microseconds from 1970-01-01 0:00 UTC. Fails with `microseconds`
+    /// before [`Timestamp::MIN`] or after [`Timestamp::MAX`].
+    ///
+    /// ```
+    /// assert_eq!(rt; Timestamp::from_microseconds(1_250)?, Timestamp::new(0, 1_250_000)?);
+    /// assert_eq!(rt;
+    ///     Timestamp::from_microseconds(i128::MAX),
+    ///     Err(ComponentRange::new("microseconds", false))
+    /// );
+    /// ```
     #[tactic(auto, unfolding(utc_times::specs::UnixTime::instant_or_refusal))]
     pub fn from_microseconds(microseconds: i128) -> Result<Timestamp, ComponentRange>
         ensures { let i = instant_of_microseconds microseconds in
@@ -144,7 +178,7 @@ impl Timestamp {
         if microseconds < FIRST_SECOND as i128 * 1_000_000
             || microseconds > LAST_SECOND as i128 * 1_000_000 + 999_999
         {
-            return Err(ComponentRange::new("microseconds", false));
+            return Err(ComponentRange::of_part(Part::Microseconds, false));
         }
         Ok(Timestamp {
             seconds: microseconds.div_euclid(1_000_000) as i64,
@@ -152,8 +186,16 @@ impl Timestamp {
         })
     }
 
-    /// The instant so many nanoseconds from 1970-01-01 0:00 UTC. Refused `nanoseconds` before
-    /// [`Timestamp::MIN`] or after [`Timestamp::MAX`].
+    /// The instant of a number of nanoseconds from 1970-01-01 0:00 UTC. Fails with `nanoseconds`
+    /// before [`Timestamp::MIN`] or after [`Timestamp::MAX`].
+    ///
+    /// ```
+    /// assert_eq!(rt; Timestamp::from_nanoseconds(-1)?, Timestamp::new(-1, 999_999_999)?);
+    /// assert_eq!(rt;
+    ///     Timestamp::from_nanoseconds(i128::MIN),
+    ///     Err(ComponentRange::new("nanoseconds", false))
+    /// );
+    /// ```
     #[tactic(auto, unfolding(utc_times::specs::UnixTime::instant_or_refusal))]
     pub fn from_nanoseconds(nanoseconds: i128) -> Result<Timestamp, ComponentRange>
         ensures { Gives result (instant_outcome (codes "nanoseconds") nanoseconds) }
@@ -162,7 +204,7 @@ impl Timestamp {
             || nanoseconds
                 > LAST_SECOND as i128 * NANOS_PER_SECOND as i128 + MAX_NANOSECOND as i128
         {
-            return Err(ComponentRange::new("nanoseconds", false));
+            return Err(ComponentRange::of_part(Part::Nanoseconds, false));
         }
         Ok(Timestamp {
             seconds: nanoseconds.div_euclid(NANOS_PER_SECOND as i128) as i64,
@@ -171,6 +213,11 @@ impl Timestamp {
     }
 
     /// The Unix second: the whole seconds from 1970-01-01 0:00 UTC, rounded down.
+    ///
+    /// ```
+    /// let at = Timestamp::new(-2, 250_300_004)?;
+    /// assert_eq!(rt; at.as_seconds(), -2);
+    /// ```
     #[tactic(auto, using(crate::proofs::HeldInstantLemmas::unix_parts))]
     pub fn as_seconds(self) -> i64
         ensures value { result ≡ unix_seconds_of self }
@@ -180,6 +227,11 @@ impl Timestamp {
     }
 
     /// The whole milliseconds from 1970-01-01 0:00 UTC, rounded down.
+    ///
+    /// ```
+    /// let at = Timestamp::new(-2, 250_300_004)?;
+    /// assert_eq!(rt; at.as_milliseconds(), -1_750);
+    /// ```
     #[tactic(auto, using(crate::proofs::HeldInstantLemmas::unix_counts))]
     pub fn as_milliseconds(self) -> i64
         ensures value { result ≡ unix_milliseconds_of self }
@@ -189,6 +241,11 @@ impl Timestamp {
     }
 
     /// The whole microseconds from 1970-01-01 0:00 UTC, rounded down.
+    ///
+    /// ```
+    /// let at = Timestamp::new(-2, 250_300_004)?;
+    /// assert_eq!(rt; at.as_microseconds(), -1_749_700);
+    /// ```
     #[tactic(auto, using(crate::proofs::HeldInstantLemmas::unix_counts))]
     pub fn as_microseconds(self) -> i128
         ensures value { result ≡ unix_microseconds_of self }
@@ -198,6 +255,11 @@ impl Timestamp {
     }
 
     /// The nanoseconds from 1970-01-01 0:00 UTC.
+    ///
+    /// ```
+    /// let at = Timestamp::new(-2, 250_300_004)?;
+    /// assert_eq!(rt; at.as_nanoseconds(), -1_749_699_996);
+    /// ```
     #[tactic(auto, using(crate::proofs::HeldInstantLemmas::unix_counts))]
     pub fn as_nanoseconds(self) -> i128
         ensures value { result ≡ self }

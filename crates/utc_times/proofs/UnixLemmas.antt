@@ -1,6 +1,6 @@
 -- Unix seconds as days and times of day.
-use Rattle.std.proofs.Common.{◌≡◌, ℕ, ◌/◌, ◌<◌, ◌∙◌, arith, ℤ, pos, neg_ℤ, ◌+ℤ◌, ◌-ℤ◌, ◌*ℤ◌, ◌≤ℤ◌, FitsSigned}
-use Rattle.std.specs.Int.{w64, w128, int_div_euclid, int_rem_euclid}
+use Rattle.std.proofs.Common.{◌≡◌, ℕ, ◌/◌, ◌<◌, ◌∙◌, arith, ℤ, pos, neg_ℤ, ◌+ℤ◌, ◌*ℤ◌, ◌≤ℤ◌, FitsSigned}
+use Rattle.std.specs.Int.{w128, int_div_euclid, int_rem_euclid}
 use Rattle.calendar_values.specs.Clock.{nanos_per_day, nanos_per_second, nanosecond_of}
 use Rattle.calendar_values.specs.Range.{IsDay}
 use Rattle.calendar_values.specs.SignedArith.{signed_arith, signed_casts}
@@ -37,9 +37,10 @@ pub IsDay-near : (second : ℤ) → IsDay (int_div_euclid second (pos 86_400))
     → (neg_ℤ (pos 34_560_000_000_000) ≤ℤ second) × (second ≤ℤ pos 34_560_000_000_000)
 IsDay-near second day = omega (arith, signed_arith)
 
--- each instant of the range has a second of 64 bits
-pub FitsSigned-second : (w : ℤ) → IsWallClock w → FitsSigned w64 (int_div_euclid w (pos nanos_per_second))
-FitsSigned-second w h = omega (arith, signed_arith)
+-- an instant of the range lies in a second less than 400,000,000 days from 1970
+pub second-near : (w : ℤ) → IsWallClock w → (neg_ℤ (pos 34_560_000_000_000) ≤ℤ int_div_euclid w (pos nanos_per_second)) ×
+    (int_div_euclid w (pos nanos_per_second) ≤ℤ pos 34_560_000_000_000)
+second-near w h = omega (arith, signed_arith)
 
 pub FitsSigned-second-128 : (w : ℤ) → FitsSigned w128 w → FitsSigned w128 (int_div_euclid w (pos nanos_per_second))
 FitsSigned-second-128 w h = omega (arith, signed_arith)

@@ -1,3 +1,5 @@
 pub mod Texts
 pub mod UnixTime
 pub mod UnixTimeLemmas
+pub mod Words
+pub mod Callers

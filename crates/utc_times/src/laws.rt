@@ -75,8 +75,8 @@ pub fn saturating_sums_keep_the_order()
     plain_times::laws::saturating_sums_keep_the_order()
 }
 
-/// As [`plain_times::laws::outcomes_are_answers`]; and the count of an instant comes to the instant where
-/// the range has it, and to the refusal of the count where not.
+/// As [`plain_times::laws::outcomes_are_answers`]; and the count of an instant has the instant if
+/// it is in range, and otherwise the error of the count.
 pub fn outcomes_are_answers()
     ensures replacements { OutcomesAreAnswers }
     ensures counts { (name : _) (instant : _) → IsOneAnswer (instant_outcome name instant) }

@@ -1,54 +1,85 @@
 //! Date-times with an offset compare, and feed a hasher, by their instants.
-ghost use Rattle.std.specs.Prelude.{◌≡◌, pos, neg_ℤ, ◌+ℤ◌, ◌-ℤ◌, ◌*ℤ◌, ◌<ℤ◌};
+ghost use Rattle.std.specs.Prelude.{◌≡◌, ◌<◌, ◌≤◌, pos, neg_ℤ, unsigned_abs, ◌+ℤ◌, ◌-ℤ◌, ◌*ℤ◌, ◌<ℤ◌};
 ghost use Rattle.std.proofs.Common.{rules};
 ghost use Rattle.std.specs.Cmp.{partial_order_from_own_ties};
 ghost use Rattle.std.specs.Cmp.Rules.{comparing, hashing};
 ghost use Rattle.std.specs.Hash as fed;
 ghost use Rattle.std.specs.Ordering.{on, int_eq, int_cmp, as_partial_cmp};
+ghost use Rattle.calendar_values.specs.Calendar.{year_of};
+ghost use Rattle.calendar_values.specs.Clock.{nanos_per_second};
+ghost use Rattle.calendar_values.specs.WallClock.{wall_day, wall_time};
+ghost use Rattle.offset_times.specs.Carries.{IsWithin};
 ghost use Rattle.offset_times.specs.Local.{instant_of, shown_at};
 ghost use Rattle.plain_times.specs.Packed.{IsParts, packed_wall_clock, wall_clock_of_parts};
 
 use crate::OffsetDateTime;
 use crate::carries::{to_offset_raw, to_utc_raw};
 use calendar_values::UtcOffset;
+use calendar_values::units::NANOS_PER_SECOND;
 use plain_times::packed_number;
 use std::cmp::Ordering;
 use std::hash::{Hash, Hasher};
 
 impl OffsetDateTime {
     #[inline(always)]
-    fn by_instant(self, other: OffsetDateTime) -> Ordering
-        ensures { result ≡ int_cmp (instant_of self) (instant_of other) }
+    fn by_instant(&self, other: &OffsetDateTime) -> Ordering
+        ensures { result ≡ int_cmp (instant_of self.now) (instant_of other.now) }
     {
         self.sign_after(other).cmp(&0)
     }
 
     // A number of the sign of the time from the other instant to this one. Dates more than four days apart
-    // decide alone, else what clocks at the offset of this one show does.
+    // decide alone, dates of one year by the nanoseconds between, and others by what clocks show.
     #[inline(always)]
-    fn sign_after(self, other: OffsetDateTime) -> i64
-        ensures { int_cmp result (pos 0) ≡ int_cmp (instant_of self) (instant_of other) }
+    fn sign_after(&self, other: &OffsetDateTime) -> i64
+        ensures { int_cmp result (pos 0) ≡ int_cmp (instant_of self.now)
+            (instant_of other.now) }
     {
-        let days = self.rough_days_from(other);
+        let days = self.rough_days_from(*other);
         if days < -4 || days > 4 {
             return days;
         }
-        self.sign_of_shown_after(other)
-    }
-
-    // The sign by what clocks at the offset of this one show at both instants: the own wall clock of the other,
-    // if it has the same offset.
-    #[inline(always)]
-    fn sign_of_shown_after(self, other: OffsetDateTime) -> i64
-        ensures { int_cmp result (pos 0) ≡ int_cmp (instant_of self) (instant_of other) }
-    {
-        if self.offset() == other.offset() {
-            return sign_of_parts_after(self.raw(), other.raw());
+        if self.year() == other.year() {
+            return self.nanoseconds_within_year(*other);
         }
-        self.sign_converted_after(other)
+        self.sign_converted_after(*other)
     }
 
-    // The same by a conversion. No other call has it in line, so that a comparison stays short.
+    // The nanoseconds from the other instant to this one, where clocks show dates of one year. No branch waits
+    // for a part.
+    #[inline(always)]
+    fn nanoseconds_within_year(self, other: OffsetDateTime) -> i64
+        requires { year_of (wall_day self.wall) ≡ year_of (wall_day other.wall) }
+        ensures value { result ≡ instant_of self -ℤ instant_of other }
+        ensures sign { int_cmp result (pos 0) ≡ int_cmp (instant_of self) (instant_of other) }
+    {
+        let (at, other_at) = (self.time(), other.time());
+        let (from, other_from) = (self.offset(), other.offset());
+        let days = days_between(self.ordinal(), other.ordinal());
+        let hours = part_between(
+            at.hour(),
+            from.whole_hours(),
+            other_at.hour(),
+            other_from.whole_hours(),
+        );
+        let minutes = part_between(
+            at.minute(),
+            from.minutes_past_hour(),
+            other_at.minute(),
+            other_from.minutes_past_hour(),
+        );
+        let seconds = part_between(
+            at.second(),
+            from.seconds_past_minute(),
+            other_at.second(),
+            other_from.seconds_past_minute(),
+        );
+        let fractions = fractions_between(at.nanosecond(), other_at.nanosecond());
+        in_nanoseconds(in_seconds(days, hours, minutes, seconds), fractions)
+    }
+
+    // The sign by what clocks at the offset of this one show at both instants. No other call has it in line, so
+    // that a comparison stays short. It takes copies, which are made for this call alone.
     #[inline(never)]
     fn sign_converted_after(self, other: OffsetDateTime) -> i64
         ensures { int_cmp result (pos 0) ≡ int_cmp (instant_of self) (instant_of other) }
@@ -97,6 +128,105 @@ impl OffsetDateTime {
     }
 }
 
+// The days from the second day of a year to the first.
+#[inline(always)]
+#[tactic(auto, using(calendar_values::specs::SignedArith::signed_casts))]
+fn days_between(ordinal: u16, other: u16) -> i64
+    requires ordinal { ordinal ≤ 366 }
+    requires other { other ≤ 366 }
+    ensures value { result ≡ pos ordinal -ℤ pos other }
+    ensures few { IsWithin 366 result }
+{
+    ordinal as i64 - other as i64
+}
+
+// The nanoseconds from the second fraction of a second to the first.
+#[inline(always)]
+#[tactic(auto, using(calendar_values::specs::SignedArith::signed_casts))]
+fn fractions_between(nanosecond: u32, other: u32) -> i64
+    requires nanosecond { nanosecond < nanos_per_second }
+    requires other { other < nanos_per_second }
+    ensures value { result ≡ pos nanosecond -ℤ pos other }
+    ensures few { IsWithin 1_000_000_000 result }
+{
+    nanosecond as i64 - other as i64
+}
+
+// From the second of two parts of times of day to the first, where each is less that of its offset.
+#[inline(always)]
+#[tactic(auto, using(calendar_values::specs::SignedArith::signed_arith))]
+fn part_between(part: u8, offset: i8, other: u8, other_offset: i8) -> i64
+    requires part { part < 60 }
+    requires offset { unsigned_abs offset ≤ 59 }
+    requires other { other < 60 }
+    requires other_offset { unsigned_abs other_offset ≤ 59 }
+    ensures value { result ≡ (pos part -ℤ offset) -ℤ (pos other -ℤ other_offset) }
+    ensures few { IsWithin 240 result }
+{
+    less_offset(part, offset) - less_offset(other, other_offset)
+}
+
+// A part of a time of day, less that of an offset.
+#[inline(always)]
+#[tactic(auto, using(calendar_values::specs::SignedArith::signed_casts))]
+fn less_offset(part: u8, offset: i8) -> i64
+    requires part { part < 60 }
+    requires offset { unsigned_abs offset ≤ 59 }
+    ensures value { result ≡ pos part -ℤ offset }
+    ensures few { IsWithin 120 result }
+{
+    part as i64 - offset as i64
+}
+
+// Days, hours, minutes and seconds, in seconds.
+#[inline(always)]
+#[tactic(auto, using(calendar_values::specs::SignedArith::signed_arith))]
+fn in_seconds(days: i64, hours: i64, minutes: i64, seconds: i64) -> i64
+    requires days { IsWithin 366 days }
+    requires hours { IsWithin 240 hours }
+    requires minutes { IsWithin 240 minutes }
+    requires seconds { IsWithin 240 seconds }
+    ensures value { result ≡ ((days *ℤ pos 24 +ℤ hours) *ℤ pos 60 +ℤ minutes) *ℤ pos 60 +ℤ
+        seconds }
+    ensures few { IsWithin 100_000_000 result }
+{
+    in_sixtieths(in_sixtieths(in_hours(days, hours), minutes), seconds)
+}
+
+// Days and hours, in hours.
+#[inline(always)]
+#[tactic(auto, using(calendar_values::specs::SignedArith::signed_arith))]
+fn in_hours(days: i64, hours: i64) -> i64
+    requires days { IsWithin 366 days }
+    requires hours { IsWithin 240 hours }
+    ensures value { result ≡ days *ℤ pos 24 +ℤ hours }
+    ensures few { IsWithin 10_000 result }
+{
+    days * 24 + hours
+}
+
+// Units and sixtieths of a unit, in sixtieths.
+#[inline(always)]
+#[tactic(auto, using(calendar_values::specs::SignedArith::signed_arith))]
+fn in_sixtieths(units: i64, sixtieths: i64) -> i64
+    requires units { IsWithin 1_000_000 units }
+    requires sixtieths { IsWithin 240 sixtieths }
+    ensures { result ≡ units *ℤ pos 60 +ℤ sixtieths }
+{
+    units * 60 + sixtieths
+}
+
+// Seconds and nanoseconds, in nanoseconds.
+#[inline(always)]
+#[tactic(auto, using(calendar_values::specs::SignedArith::signed_arith))]
+fn in_nanoseconds(seconds: i64, nanoseconds: i64) -> i64
+    requires seconds { IsWithin 100_000_000 seconds }
+    requires nanoseconds { IsWithin 1_000_000_000 nanoseconds }
+    ensures { result ≡ seconds *ℤ pos nanos_per_second +ℤ nanoseconds }
+{
+    seconds * NANOS_PER_SECOND as i64 + nanoseconds
+}
+
 // A number of the sign of the time from the second wall clock to the first.
 #[inline(always)]
 fn sign_of_parts_after(at: (i32, u16, u64), other: (i32, u16, u64)) -> i64
@@ -129,7 +259,7 @@ impl PartialEq for OffsetDateTime {
     ghost laws = { Prim.search (comparing, rules) };
 
     fn eq(&self, other: &OffsetDateTime) -> bool {
-        self.by_instant(*other).is_eq()
+        self.by_instant(other).is_eq()
     }
 }
 
@@ -147,7 +277,7 @@ impl Ord for OffsetDateTime {
     ghost matches_eq = { Prim.search (comparing, rules) };
 
     fn cmp(&self, other: &OffsetDateTime) -> Ordering {
-        self.by_instant(*other)
+        self.by_instant(other)
     }
 }
 

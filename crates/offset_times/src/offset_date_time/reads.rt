@@ -18,6 +18,13 @@ use plain_times::PlainDateTime;
 
 impl OffsetDateTime {
     /// The date.
+    ///
+    /// ```
+    /// let date = Date::from_calendar_date(2019, Month::December, 30)?;
+    /// let east = UtcOffset::from_hms(9, 0, 0)?;
+    /// let at = OffsetDateTime::new_in_offset(date, Time::MIDNIGHT, east);
+    /// assert_eq!(rt; at.date(), date);
+    /// ```
     pub fn date(self) -> Date
         ensures value { result ≡ wall_day self.wall }
         ensures self_in_range { IsLocal self }
@@ -26,6 +33,13 @@ impl OffsetDateTime {
     }
 
     /// The time of day.
+    ///
+    /// ```
+    /// let time = Time::from_hms_nano(13, 2, 59, 480_300_002)?;
+    /// let date = Date::from_calendar_date(2019, Month::December, 30)?;
+    /// let at = OffsetDateTime::new_in_offset(date, time, UtcOffset::from_hms(9, 0, 0)?);
+    /// assert_eq!(rt; at.time(), time);
+    /// ```
     pub fn time(self) -> Time
         ensures value { result ≡ wall_time self.wall }
         ensures self_in_range { IsLocal self }
@@ -34,6 +48,13 @@ impl OffsetDateTime {
     }
 
     /// As [`Date::year`], of the day of the wall clock.
+    ///
+    /// ```
+    /// let date = Date::from_calendar_date(2019, Month::December, 30)?;
+    /// let east = UtcOffset::from_hms(9, 0, 0)?;
+    /// let at = OffsetDateTime::new_in_offset(date, Time::MIDNIGHT, east);
+    /// assert_eq!(rt; at.year(), 2019);
+    /// ```
     pub fn year(self) -> i32
         ensures value { result ≡ year_of (wall_day self.wall) }
         ensures in_range { IsYear result }
@@ -42,6 +63,13 @@ impl OffsetDateTime {
     }
 
     /// As [`Date::month`], of the day of the wall clock.
+    ///
+    /// ```
+    /// let date = Date::from_calendar_date(2019, Month::December, 30)?;
+    /// let east = UtcOffset::from_hms(9, 0, 0)?;
+    /// let at = OffsetDateTime::new_in_offset(date, Time::MIDNIGHT, east);
+    /// assert_eq!(rt; at.month(), Month::December);
+    /// ```
     pub fn month(self) -> Month
         ensures { month_number result ≡ month_of (wall_day self.wall) }
     {
@@ -49,6 +77,13 @@ impl OffsetDateTime {
     }
 
     /// As [`Date::day`], of the day of the wall clock.
+    ///
+    /// ```
+    /// let date = Date::from_calendar_date(2019, Month::December, 30)?;
+    /// let east = UtcOffset::from_hms(9, 0, 0)?;
+    /// let at = OffsetDateTime::new_in_offset(date, Time::MIDNIGHT, east);
+    /// assert_eq!(rt; at.day(), 30);
+    /// ```
     pub fn day(self) -> u8
         ensures value { result ≡ day_of_month_of (wall_day self.wall) }
         ensures in_range { IsInRange 1 31 result }
@@ -57,6 +92,13 @@ impl OffsetDateTime {
     }
 
     /// As [`Date::ordinal`], of the day of the wall clock.
+    ///
+    /// ```
+    /// let date = Date::from_calendar_date(2019, Month::December, 30)?;
+    /// let east = UtcOffset::from_hms(9, 0, 0)?;
+    /// let at = OffsetDateTime::new_in_offset(date, Time::MIDNIGHT, east);
+    /// assert_eq!(rt; at.ordinal(), 364);
+    /// ```
     pub fn ordinal(self) -> u16
         ensures value { result ≡ ordinal_of (wall_day self.wall) }
         ensures in_range { IsInRange 1 366 result }
@@ -65,6 +107,13 @@ impl OffsetDateTime {
     }
 
     /// As [`Date::iso_week`], of the day of the wall clock.
+    ///
+    /// ```
+    /// let date = Date::from_calendar_date(2019, Month::December, 30)?;
+    /// let east = UtcOffset::from_hms(9, 0, 0)?;
+    /// let at = OffsetDateTime::new_in_offset(date, Time::MIDNIGHT, east);
+    /// assert_eq!(rt; at.iso_week(), 1);
+    /// ```
     pub fn iso_week(self) -> u8
         ensures value { result ≡ iso_week_of (wall_day self.wall) }
         ensures in_range { IsInRange 1 53 result }
@@ -73,6 +122,13 @@ impl OffsetDateTime {
     }
 
     /// As [`Date::sunday_based_week`], of the day of the wall clock.
+    ///
+    /// ```
+    /// let date = Date::from_calendar_date(2019, Month::December, 30)?;
+    /// let east = UtcOffset::from_hms(9, 0, 0)?;
+    /// let at = OffsetDateTime::new_in_offset(date, Time::MIDNIGHT, east);
+    /// assert_eq!(rt; at.sunday_based_week(), 52);
+    /// ```
     pub fn sunday_based_week(self) -> u8
         ensures value { result ≡ sunday_week_of (wall_day self.wall) }
         ensures in_range { result ≤ 53 }
@@ -81,6 +137,13 @@ impl OffsetDateTime {
     }
 
     /// As [`Date::monday_based_week`], of the day of the wall clock.
+    ///
+    /// ```
+    /// let date = Date::from_calendar_date(2019, Month::December, 30)?;
+    /// let east = UtcOffset::from_hms(9, 0, 0)?;
+    /// let at = OffsetDateTime::new_in_offset(date, Time::MIDNIGHT, east);
+    /// assert_eq!(rt; at.monday_based_week(), 52);
+    /// ```
     pub fn monday_based_week(self) -> u8
         ensures value { result ≡ monday_week_of (wall_day self.wall) }
         ensures in_range { result ≤ 53 }
@@ -89,6 +152,13 @@ impl OffsetDateTime {
     }
 
     /// As [`Date::to_calendar_date`], of the day of the wall clock.
+    ///
+    /// ```
+    /// let date = Date::from_calendar_date(2019, Month::December, 30)?;
+    /// let east = UtcOffset::from_hms(9, 0, 0)?;
+    /// let at = OffsetDateTime::new_in_offset(date, Time::MIDNIGHT, east);
+    /// assert_eq!(rt; at.to_calendar_date(), (2019, Month::December, 30));
+    /// ```
     pub fn to_calendar_date(self) -> (i32, Month, u8)
         ensures { IsCalendarDateOf (wall_day self.wall) result }
     {
@@ -96,6 +166,13 @@ impl OffsetDateTime {
     }
 
     /// As [`Date::to_ordinal_date`], of the day of the wall clock.
+    ///
+    /// ```
+    /// let date = Date::from_calendar_date(2019, Month::December, 30)?;
+    /// let east = UtcOffset::from_hms(9, 0, 0)?;
+    /// let at = OffsetDateTime::new_in_offset(date, Time::MIDNIGHT, east);
+    /// assert_eq!(rt; at.to_ordinal_date(), (2019, 364));
+    /// ```
     pub fn to_ordinal_date(self) -> (i32, u16)
         ensures { IsOrdinalDateOf (wall_day self.wall) result }
     {
@@ -103,6 +180,13 @@ impl OffsetDateTime {
     }
 
     /// As [`Date::to_iso_week_date`], of the day of the wall clock.
+    ///
+    /// ```
+    /// let date = Date::from_calendar_date(2019, Month::December, 30)?;
+    /// let east = UtcOffset::from_hms(9, 0, 0)?;
+    /// let at = OffsetDateTime::new_in_offset(date, Time::MIDNIGHT, east);
+    /// assert_eq!(rt; at.to_iso_week_date(), (2020, 1, Weekday::Monday));
+    /// ```
     pub fn to_iso_week_date(self) -> (i32, u8, Weekday)
         ensures { IsIsoWeekDateOf (wall_day self.wall) result }
     {
@@ -110,6 +194,13 @@ impl OffsetDateTime {
     }
 
     /// As [`Date::weekday`], of the day of the wall clock.
+    ///
+    /// ```
+    /// let date = Date::from_calendar_date(2019, Month::December, 30)?;
+    /// let east = UtcOffset::from_hms(9, 0, 0)?;
+    /// let at = OffsetDateTime::new_in_offset(date, Time::MIDNIGHT, east);
+    /// assert_eq!(rt; at.weekday(), Weekday::Monday);
+    /// ```
     pub fn weekday(self) -> Weekday
         ensures { weekday_number result ≡ weekday_of (wall_day self.wall) }
     {
@@ -117,6 +208,13 @@ impl OffsetDateTime {
     }
 
     /// As [`Date::to_julian_day`], of the day of the wall clock.
+    ///
+    /// ```
+    /// let date = Date::from_calendar_date(2019, Month::December, 30)?;
+    /// let east = UtcOffset::from_hms(9, 0, 0)?;
+    /// let at = OffsetDateTime::new_in_offset(date, Time::MIDNIGHT, east);
+    /// assert_eq!(rt; at.to_julian_day(), 2_458_848);
+    /// ```
     pub fn to_julian_day(self) -> i32
         ensures value { result ≡ julian_day_of (wall_day self.wall) }
         ensures self_in_range { IsLocal self }
@@ -125,6 +223,13 @@ impl OffsetDateTime {
     }
 
     /// As [`Time::as_hms`], of the time of day of the wall clock.
+    ///
+    /// ```
+    /// let time = Time::from_hms_nano(13, 2, 59, 480_300_002)?;
+    /// let date = Date::from_calendar_date(2019, Month::December, 30)?;
+    /// let at = OffsetDateTime::new_in_offset(date, time, UtcOffset::from_hms(9, 0, 0)?);
+    /// assert_eq!(rt; at.to_hms(), (13, 2, 59));
+    /// ```
     pub fn to_hms(self) -> (u8, u8, u8)
         ensures value { let c = wall_time self.wall in
             result ≡ (hour_of c, minute_of c, second_of c) }
@@ -134,6 +239,13 @@ impl OffsetDateTime {
     }
 
     /// As [`Time::as_hms_milli`], of the time of day of the wall clock.
+    ///
+    /// ```
+    /// let time = Time::from_hms_nano(13, 2, 59, 480_300_002)?;
+    /// let date = Date::from_calendar_date(2019, Month::December, 30)?;
+    /// let at = OffsetDateTime::new_in_offset(date, time, UtcOffset::from_hms(9, 0, 0)?);
+    /// assert_eq!(rt; at.to_hms_milli(), (13, 2, 59, 480));
+    /// ```
     pub fn to_hms_milli(self) -> (u8, u8, u8, u16)
         ensures value { let c = wall_time self.wall in
             result ≡ (hour_of c, minute_of c, second_of c, millisecond_of c) }
@@ -144,6 +256,13 @@ impl OffsetDateTime {
     }
 
     /// As [`Time::as_hms_micro`], of the time of day of the wall clock.
+    ///
+    /// ```
+    /// let time = Time::from_hms_nano(13, 2, 59, 480_300_002)?;
+    /// let date = Date::from_calendar_date(2019, Month::December, 30)?;
+    /// let at = OffsetDateTime::new_in_offset(date, time, UtcOffset::from_hms(9, 0, 0)?);
+    /// assert_eq!(rt; at.to_hms_micro(), (13, 2, 59, 480_300));
+    /// ```
     pub fn to_hms_micro(self) -> (u8, u8, u8, u32)
         ensures value { let c = wall_time self.wall in
             result ≡ (hour_of c, minute_of c, second_of c, microsecond_of c) }
@@ -154,6 +273,13 @@ impl OffsetDateTime {
     }
 
     /// As [`Time::as_hms_nano`], of the time of day of the wall clock.
+    ///
+    /// ```
+    /// let time = Time::from_hms_nano(13, 2, 59, 480_300_002)?;
+    /// let date = Date::from_calendar_date(2019, Month::December, 30)?;
+    /// let at = OffsetDateTime::new_in_offset(date, time, UtcOffset::from_hms(9, 0, 0)?);
+    /// assert_eq!(rt; at.to_hms_nano(), (13, 2, 59, 480_300_002));
+    /// ```
     pub fn to_hms_nano(self) -> (u8, u8, u8, u32)
         ensures value { let c = wall_time self.wall in
             result ≡ (hour_of c, minute_of c, second_of c, nanosecond_of c) }
@@ -163,6 +289,13 @@ impl OffsetDateTime {
     }
 
     /// As [`Time::hour`], of the time of day of the wall clock.
+    ///
+    /// ```
+    /// let time = Time::from_hms_nano(13, 2, 59, 480_300_002)?;
+    /// let date = Date::from_calendar_date(2019, Month::December, 30)?;
+    /// let at = OffsetDateTime::new_in_offset(date, time, UtcOffset::from_hms(9, 0, 0)?);
+    /// assert_eq!(rt; at.hour(), 13);
+    /// ```
     pub fn hour(self) -> u8
         ensures value { result ≡ hour_of (wall_time self.wall) }
         ensures in_range { result ≤ 23 }
@@ -171,6 +304,13 @@ impl OffsetDateTime {
     }
 
     /// As [`Time::minute`], of the time of day of the wall clock.
+    ///
+    /// ```
+    /// let time = Time::from_hms_nano(13, 2, 59, 480_300_002)?;
+    /// let date = Date::from_calendar_date(2019, Month::December, 30)?;
+    /// let at = OffsetDateTime::new_in_offset(date, time, UtcOffset::from_hms(9, 0, 0)?);
+    /// assert_eq!(rt; at.minute(), 2);
+    /// ```
     pub fn minute(self) -> u8
         ensures value { result ≡ minute_of (wall_time self.wall) }
         ensures in_range { result ≤ 59 }
@@ -179,6 +319,13 @@ impl OffsetDateTime {
     }
 
     /// As [`Time::second`], of the time of day of the wall clock.
+    ///
+    /// ```
+    /// let time = Time::from_hms_nano(13, 2, 59, 480_300_002)?;
+    /// let date = Date::from_calendar_date(2019, Month::December, 30)?;
+    /// let at = OffsetDateTime::new_in_offset(date, time, UtcOffset::from_hms(9, 0, 0)?);
+    /// assert_eq!(rt; at.second(), 59);
+    /// ```
     pub fn second(self) -> u8
         ensures value { result ≡ second_of (wall_time self.wall) }
         ensures in_range { result ≤ 59 }
@@ -187,6 +334,13 @@ impl OffsetDateTime {
     }
 
     /// As [`Time::millisecond`], of the time of day of the wall clock.
+    ///
+    /// ```
+    /// let time = Time::from_hms_nano(13, 2, 59, 480_300_002)?;
+    /// let date = Date::from_calendar_date(2019, Month::December, 30)?;
+    /// let at = OffsetDateTime::new_in_offset(date, time, UtcOffset::from_hms(9, 0, 0)?);
+    /// assert_eq!(rt; at.millisecond(), 480);
+    /// ```
     pub fn millisecond(self) -> u16
         ensures value { result ≡ millisecond_of (wall_time self.wall) }
         ensures in_range { result ≤ 999 }
@@ -195,6 +349,13 @@ impl OffsetDateTime {
     }
 
     /// As [`Time::microsecond`], of the time of day of the wall clock.
+    ///
+    /// ```
+    /// let time = Time::from_hms_nano(13, 2, 59, 480_300_002)?;
+    /// let date = Date::from_calendar_date(2019, Month::December, 30)?;
+    /// let at = OffsetDateTime::new_in_offset(date, time, UtcOffset::from_hms(9, 0, 0)?);
+    /// assert_eq!(rt; at.microsecond(), 480_300);
+    /// ```
     pub fn microsecond(self) -> u32
         ensures value { result ≡ microsecond_of (wall_time self.wall) }
         ensures in_range { result ≤ 999_999 }
@@ -203,6 +364,13 @@ impl OffsetDateTime {
     }
 
     /// As [`Time::nanosecond`], of the time of day of the wall clock.
+    ///
+    /// ```
+    /// let time = Time::from_hms_nano(13, 2, 59, 480_300_002)?;
+    /// let date = Date::from_calendar_date(2019, Month::December, 30)?;
+    /// let at = OffsetDateTime::new_in_offset(date, time, UtcOffset::from_hms(9, 0, 0)?);
+    /// assert_eq!(rt; at.nanosecond(), 480_300_002);
+    /// ```
     pub fn nanosecond(self) -> u32
         ensures value { result ≡ nanosecond_of (wall_time self.wall) }
         ensures in_range { result ≤ 999_999_999 }

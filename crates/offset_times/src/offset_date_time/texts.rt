@@ -9,8 +9,15 @@ use calendar_values::Text;
 use std::fmt;
 
 impl OffsetDateTime {
-    /// The text, as `1970-01-01 0:00:00.0 +00:00:00`: the text of the date and of the time of day, a space, and
-    /// that of the offset.
+    /// The text, as `1970-01-01 0:00:00.0 +00:00:00`: the text of the date and of the time of day,
+    /// a space, and that of the offset.
+    ///
+    /// ```
+    /// let time = Time::from_hms_nano(13, 2, 59, 480_300_002)?;
+    /// let date = Date::from_calendar_date(2019, Month::December, 30)?;
+    /// let at = OffsetDateTime::new_in_offset(date, time, UtcOffset::from_hms(9, 0, 0)?);
+    /// assert_eq!(rt; at.text().as_str(), "2019-12-30 13:02:59.480300002 +09:00:00");
+    /// ```
     pub fn text(self) -> Text
         ensures text { result ≡ offset_date_time_text self }
         ensures length { length result ≤ 42 }

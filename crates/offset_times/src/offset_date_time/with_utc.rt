@@ -10,7 +10,15 @@ use std::ops::Sub;
 use utc_times::UtcDateTime;
 
 impl OffsetDateTime {
-    /// Whether the instant is that of a date-time in UTC, also where its date in UTC does not exist.
+    /// Whether the instant is that of a date-time in UTC, also where its date in UTC does not
+    /// exist.
+    ///
+    /// ```
+    /// let east = UtcOffset::from_hms(1, 0, 0)?;
+    /// let shown = OffsetDateTime::UNIX_EPOCH.checked_to_offset(east).ok_or("no date")?;
+    /// assert_eq!(rt; shown.eq_utc(UtcDateTime::UNIX_EPOCH), true);
+    /// assert_eq!(rt; shown.eq_utc(UtcDateTime::MAX), false);
+    /// ```
     #[tactic(auto, using(crate::specs::InstantLemmas::instants))]
     pub fn eq_utc(self, other: UtcDateTime) -> bool
         ensures { result ≡ int_eq (instant_of self) other }
@@ -19,20 +27,33 @@ impl OffsetDateTime {
     }
 
     /// The order of the instant and that of a date-time in UTC.
+    ///
+    /// ```
+    /// let earlier = PlainDateTime::UNIX_EPOCH.assume_offset(UtcOffset::from_hms(1, 0, 0)?);
+    /// assert_eq!(rt; earlier.cmp_utc(UtcDateTime::UNIX_EPOCH), std::cmp::Ordering::Less);
+    /// ```
     #[tactic(auto, using(crate::specs::InstantLemmas::instants))]
     pub fn cmp_utc(self, other: UtcDateTime) -> Ordering
         ensures { result ≡ int_cmp (instant_of self) other }
     {
         self.cmp(&OffsetDateTime::from(other))
     }
+
+    // The instant, shown in UTC.
+    #[tactic(auto, using(crate::specs::InstantLemmas::instants))]
+    pub(crate) fn from_utc(at: UtcDateTime) -> OffsetDateTime
+        ensures value { result ≡ local_in_utc at }
+        ensures instant { instant_of result ≡ at }
+    {
+        OffsetDateTime::new_utc(at.date(), at.time())
+    }
 }
 
 impl From<UtcDateTime> for OffsetDateTime {
     ghost from_gives = { λ instant at. (at ≡ local_in_utc instant) × (instant_of at ≡ instant) };
 
-    #[tactic(auto, using(crate::specs::InstantLemmas::instants))]
     fn from(at: UtcDateTime) -> OffsetDateTime {
-        OffsetDateTime::new_utc(at.date(), at.time())
+        OffsetDateTime::from_utc(at)
     }
 }
 

@@ -240,6 +240,46 @@ fn order(rt: HostRuntime) -> Result<(), Fail> {
 }
 
 #[test]
+fn order_of_near(rt: HostRuntime) -> Result<(), Fail> {
+    let noon = plain((2019, Month::June, 15), (12, 0, 0))?.assume_offset(offset(1, 0, 0)?);
+    let half_past = plain((2019, Month::June, 15), (12, 30, 0))?;
+    let last_hour = plain((2018, Month::December, 31), (23, 0, 0))?;
+    let new_year = plain((2019, Month::January, 1), (0, 30, 0))?;
+    let in_utc = last_hour.assume_offset(UtcOffset::UTC);
+    for (first, second, order) in [
+        (
+            noon,
+            half_past.assume_offset(offset(1, 30, 0)?),
+            Ordering::Equal,
+        ),
+        (
+            noon,
+            half_past.assume_offset(offset(2, 0, 0)?),
+            Ordering::Greater,
+        ),
+        (
+            in_utc,
+            new_year.assume_offset(UtcOffset::UTC),
+            Ordering::Less,
+        ),
+        (
+            in_utc,
+            new_year.assume_offset(offset(2, 0, 0)?),
+            Ordering::Greater,
+        ),
+        (
+            in_utc,
+            new_year.assume_offset(offset(1, 30, 0)?),
+            Ordering::Equal,
+        ),
+    ] {
+        is(&rt, first.cmp(&second), order);
+        is(&rt, second.cmp(&first), order.reverse());
+    }
+    Ok(())
+}
+
+#[test]
 fn differences(rt: HostRuntime) -> Result<(), Fail> {
     let early = PlainDateTime::MIN.assume_offset(offset(25, 59, 59)?);
     let late = PlainDateTime::MAX.assume_offset(offset(-25, -59, -59)?);

@@ -29,8 +29,8 @@ impl PlainDateTime {
     }
 }
 
-/// The year, the day of the year and the time of day in one number: of two dates of the calendar that of the
-/// earlier wall clock is less.
+/// The year, the day of the year and the time of day in one number: of two dates of the calendar
+/// that of the earlier wall clock is less.
 pub fn packed_number(year: i32, ordinal: u16, time: Time) -> i128
     ensures { result ≡ packed_parts year ordinal time }
 {

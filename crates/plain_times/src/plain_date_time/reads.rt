@@ -16,6 +16,12 @@ use calendar_values::{Date, Month, Time, Weekday};
 
 impl PlainDateTime {
     /// The date.
+    ///
+    /// ```
+    /// let date = Date::from_calendar_date(2019, Month::December, 30)?;
+    /// let at = PlainDateTime::new(date, Time::MIDNIGHT);
+    /// assert_eq!(rt; at.date(), date);
+    /// ```
     #[tactic(auto, using(crate::proofs::DateAndTimeLemmas::wall_clock_fields))]
     pub fn date(self) -> Date
         ensures value { result ≡ wall_day self }
@@ -25,6 +31,12 @@ impl PlainDateTime {
     }
 
     /// The time of day.
+    ///
+    /// ```
+    /// let time = Time::from_hms_nano(13, 2, 59, 480_300_002)?;
+    /// let at = PlainDateTime::new(Date::from_calendar_date(2019, Month::December, 30)?, time);
+    /// assert_eq!(rt; at.time(), time);
+    /// ```
     #[tactic(auto, using(crate::proofs::DateAndTimeLemmas::wall_clock_fields))]
     pub fn time(self) -> Time
         ensures value { result ≡ wall_time self }
@@ -34,6 +46,12 @@ impl PlainDateTime {
     }
 
     /// As [`Date::year`] of the date.
+    ///
+    /// ```
+    /// let date = Date::from_calendar_date(2019, Month::December, 30)?;
+    /// let at = PlainDateTime::new(date, Time::MIDNIGHT);
+    /// assert_eq!(rt; at.year(), 2019);
+    /// ```
     pub fn year(self) -> i32
         ensures value { result ≡ year_of (wall_day self) }
         ensures in_range { IsYear result }
@@ -42,6 +60,12 @@ impl PlainDateTime {
     }
 
     /// As [`Date::month`] of the date.
+    ///
+    /// ```
+    /// let date = Date::from_calendar_date(2019, Month::December, 30)?;
+    /// let at = PlainDateTime::new(date, Time::MIDNIGHT);
+    /// assert_eq!(rt; at.month(), Month::December);
+    /// ```
     pub fn month(self) -> Month
         ensures { month_number result ≡ month_of (wall_day self) }
     {
@@ -49,6 +73,12 @@ impl PlainDateTime {
     }
 
     /// As [`Date::day`] of the date.
+    ///
+    /// ```
+    /// let date = Date::from_calendar_date(2019, Month::December, 30)?;
+    /// let at = PlainDateTime::new(date, Time::MIDNIGHT);
+    /// assert_eq!(rt; at.day(), 30);
+    /// ```
     pub fn day(self) -> u8
         ensures value { result ≡ day_of_month_of (wall_day self) }
         ensures in_range { IsInRange 1 31 result }
@@ -57,6 +87,12 @@ impl PlainDateTime {
     }
 
     /// As [`Date::ordinal`] of the date.
+    ///
+    /// ```
+    /// let date = Date::from_calendar_date(2019, Month::December, 30)?;
+    /// let at = PlainDateTime::new(date, Time::MIDNIGHT);
+    /// assert_eq!(rt; at.ordinal(), 364);
+    /// ```
     pub fn ordinal(self) -> u16
         ensures value { result ≡ ordinal_of (wall_day self) }
         ensures in_range { IsInRange 1 366 result }
@@ -65,6 +101,12 @@ impl PlainDateTime {
     }
 
     /// As [`Date::iso_week`] of the date.
+    ///
+    /// ```
+    /// let date = Date::from_calendar_date(2019, Month::December, 30)?;
+    /// let at = PlainDateTime::new(date, Time::MIDNIGHT);
+    /// assert_eq!(rt; at.iso_week(), 1);
+    /// ```
     pub fn iso_week(self) -> u8
         ensures value { result ≡ iso_week_of (wall_day self) }
         ensures in_range { IsInRange 1 53 result }
@@ -73,6 +115,12 @@ impl PlainDateTime {
     }
 
     /// As [`Date::sunday_based_week`] of the date.
+    ///
+    /// ```
+    /// let date = Date::from_calendar_date(2019, Month::December, 30)?;
+    /// let at = PlainDateTime::new(date, Time::MIDNIGHT);
+    /// assert_eq!(rt; at.sunday_based_week(), 52);
+    /// ```
     pub fn sunday_based_week(self) -> u8
         ensures value { result ≡ sunday_week_of (wall_day self) }
         ensures in_range { result ≤ 53 }
@@ -81,6 +129,12 @@ impl PlainDateTime {
     }
 
     /// As [`Date::monday_based_week`] of the date.
+    ///
+    /// ```
+    /// let date = Date::from_calendar_date(2019, Month::December, 30)?;
+    /// let at = PlainDateTime::new(date, Time::MIDNIGHT);
+    /// assert_eq!(rt; at.monday_based_week(), 52);
+    /// ```
     pub fn monday_based_week(self) -> u8
         ensures value { result ≡ monday_week_of (wall_day self) }
         ensures in_range { result ≤ 53 }
@@ -89,6 +143,12 @@ impl PlainDateTime {
     }
 
     /// As [`Date::to_calendar_date`] of the date.
+    ///
+    /// ```
+    /// let date = Date::from_calendar_date(2019, Month::December, 30)?;
+    /// let at = PlainDateTime::new(date, Time::MIDNIGHT);
+    /// assert_eq!(rt; at.to_calendar_date(), (2019, Month::December, 30));
+    /// ```
     pub fn to_calendar_date(self) -> (i32, Month, u8)
         ensures { IsCalendarDateOf (wall_day self) result }
     {
@@ -96,6 +156,12 @@ impl PlainDateTime {
     }
 
     /// As [`Date::to_ordinal_date`] of the date.
+    ///
+    /// ```
+    /// let date = Date::from_calendar_date(2019, Month::December, 30)?;
+    /// let at = PlainDateTime::new(date, Time::MIDNIGHT);
+    /// assert_eq!(rt; at.to_ordinal_date(), (2019, 364));
+    /// ```
     pub fn to_ordinal_date(self) -> (i32, u16)
         ensures { IsOrdinalDateOf (wall_day self) result }
     {
@@ -103,6 +169,12 @@ impl PlainDateTime {
     }
 
     /// As [`Date::to_iso_week_date`] of the date.
+    ///
+    /// ```
+    /// let date = Date::from_calendar_date(2019, Month::December, 30)?;
+    /// let at = PlainDateTime::new(date, Time::MIDNIGHT);
+    /// assert_eq!(rt; at.to_iso_week_date(), (2020, 1, Weekday::Monday));
+    /// ```
     pub fn to_iso_week_date(self) -> (i32, u8, Weekday)
         ensures { IsIsoWeekDateOf (wall_day self) result }
     {
@@ -110,6 +182,12 @@ impl PlainDateTime {
     }
 
     /// As [`Date::weekday`] of the date.
+    ///
+    /// ```
+    /// let date = Date::from_calendar_date(2019, Month::December, 30)?;
+    /// let at = PlainDateTime::new(date, Time::MIDNIGHT);
+    /// assert_eq!(rt; at.weekday(), Weekday::Monday);
+    /// ```
     pub fn weekday(self) -> Weekday
         ensures { weekday_number result ≡ weekday_of (wall_day self) }
     {
@@ -117,6 +195,12 @@ impl PlainDateTime {
     }
 
     /// As [`Date::to_julian_day`] of the date.
+    ///
+    /// ```
+    /// let date = Date::from_calendar_date(2019, Month::December, 30)?;
+    /// let at = PlainDateTime::new(date, Time::MIDNIGHT);
+    /// assert_eq!(rt; at.to_julian_day(), 2_458_848);
+    /// ```
     pub fn to_julian_day(self) -> i32
         ensures value { result ≡ julian_day_of (wall_day self) }
         ensures self_in_range { IsWallClock self }
@@ -125,6 +209,12 @@ impl PlainDateTime {
     }
 
     /// As [`Time::as_hms`] of the time of day.
+    ///
+    /// ```
+    /// let time = Time::from_hms_nano(13, 2, 59, 480_300_002)?;
+    /// let at = PlainDateTime::new(Date::from_calendar_date(2019, Month::December, 30)?, time);
+    /// assert_eq!(rt; at.as_hms(), (13, 2, 59));
+    /// ```
     pub fn as_hms(self) -> (u8, u8, u8)
         ensures value { let c = wall_time self in result ≡ (hour_of c, minute_of c, second_of c) }
         ensures in_range { AreTimeParts result.0 result.1 result.2 0 }
@@ -133,6 +223,12 @@ impl PlainDateTime {
     }
 
     /// As [`Time::as_hms_milli`] of the time of day.
+    ///
+    /// ```
+    /// let time = Time::from_hms_nano(13, 2, 59, 480_300_002)?;
+    /// let at = PlainDateTime::new(Date::from_calendar_date(2019, Month::December, 30)?, time);
+    /// assert_eq!(rt; at.as_hms_milli(), (13, 2, 59, 480));
+    /// ```
     pub fn as_hms_milli(self) -> (u8, u8, u8, u16)
         ensures value { let c = wall_time self in
             result ≡ (hour_of c, minute_of c, second_of c, millisecond_of c) }
@@ -143,6 +239,12 @@ impl PlainDateTime {
     }
 
     /// As [`Time::as_hms_micro`] of the time of day.
+    ///
+    /// ```
+    /// let time = Time::from_hms_nano(13, 2, 59, 480_300_002)?;
+    /// let at = PlainDateTime::new(Date::from_calendar_date(2019, Month::December, 30)?, time);
+    /// assert_eq!(rt; at.as_hms_micro(), (13, 2, 59, 480_300));
+    /// ```
     pub fn as_hms_micro(self) -> (u8, u8, u8, u32)
         ensures value { let c = wall_time self in
             result ≡ (hour_of c, minute_of c, second_of c, microsecond_of c) }
@@ -153,6 +255,12 @@ impl PlainDateTime {
     }
 
     /// As [`Time::as_hms_nano`] of the time of day.
+    ///
+    /// ```
+    /// let time = Time::from_hms_nano(13, 2, 59, 480_300_002)?;
+    /// let at = PlainDateTime::new(Date::from_calendar_date(2019, Month::December, 30)?, time);
+    /// assert_eq!(rt; at.as_hms_nano(), (13, 2, 59, 480_300_002));
+    /// ```
     pub fn as_hms_nano(self) -> (u8, u8, u8, u32)
         ensures value { let c = wall_time self in
             result ≡ (hour_of c, minute_of c, second_of c, nanosecond_of c) }
@@ -162,6 +270,12 @@ impl PlainDateTime {
     }
 
     /// As [`Time::hour`] of the time of day.
+    ///
+    /// ```
+    /// let time = Time::from_hms_nano(13, 2, 59, 480_300_002)?;
+    /// let at = PlainDateTime::new(Date::from_calendar_date(2019, Month::December, 30)?, time);
+    /// assert_eq!(rt; at.hour(), 13);
+    /// ```
     pub fn hour(self) -> u8
         ensures value { result ≡ hour_of (wall_time self) }
         ensures in_range { result ≤ 23 }
@@ -170,6 +284,12 @@ impl PlainDateTime {
     }
 
     /// As [`Time::minute`] of the time of day.
+    ///
+    /// ```
+    /// let time = Time::from_hms_nano(13, 2, 59, 480_300_002)?;
+    /// let at = PlainDateTime::new(Date::from_calendar_date(2019, Month::December, 30)?, time);
+    /// assert_eq!(rt; at.minute(), 2);
+    /// ```
     pub fn minute(self) -> u8
         ensures value { result ≡ minute_of (wall_time self) }
         ensures in_range { result ≤ 59 }
@@ -178,6 +298,12 @@ impl PlainDateTime {
     }
 
     /// As [`Time::second`] of the time of day.
+    ///
+    /// ```
+    /// let time = Time::from_hms_nano(13, 2, 59, 480_300_002)?;
+    /// let at = PlainDateTime::new(Date::from_calendar_date(2019, Month::December, 30)?, time);
+    /// assert_eq!(rt; at.second(), 59);
+    /// ```
     pub fn second(self) -> u8
         ensures value { result ≡ second_of (wall_time self) }
         ensures in_range { result ≤ 59 }
@@ -186,6 +312,12 @@ impl PlainDateTime {
     }
 
     /// As [`Time::millisecond`] of the time of day.
+    ///
+    /// ```
+    /// let time = Time::from_hms_nano(13, 2, 59, 480_300_002)?;
+    /// let at = PlainDateTime::new(Date::from_calendar_date(2019, Month::December, 30)?, time);
+    /// assert_eq!(rt; at.millisecond(), 480);
+    /// ```
     pub fn millisecond(self) -> u16
         ensures value { result ≡ millisecond_of (wall_time self) }
         ensures in_range { result ≤ 999 }
@@ -194,6 +326,12 @@ impl PlainDateTime {
     }
 
     /// As [`Time::microsecond`] of the time of day.
+    ///
+    /// ```
+    /// let time = Time::from_hms_nano(13, 2, 59, 480_300_002)?;
+    /// let at = PlainDateTime::new(Date::from_calendar_date(2019, Month::December, 30)?, time);
+    /// assert_eq!(rt; at.microsecond(), 480_300);
+    /// ```
     pub fn microsecond(self) -> u32
         ensures value { result ≡ microsecond_of (wall_time self) }
         ensures in_range { result ≤ 999_999 }
@@ -202,6 +340,12 @@ impl PlainDateTime {
     }
 
     /// As [`Time::nanosecond`] of the time of day.
+    ///
+    /// ```
+    /// let time = Time::from_hms_nano(13, 2, 59, 480_300_002)?;
+    /// let at = PlainDateTime::new(Date::from_calendar_date(2019, Month::December, 30)?, time);
+    /// assert_eq!(rt; at.nanosecond(), 480_300_002);
+    /// ```
     pub fn nanosecond(self) -> u32
         ensures value { result ≡ nanosecond_of (wall_time self) }
         ensures in_range { result ≤ 999_999_999 }

@@ -16,6 +16,14 @@ use calendar_values::{ComponentRange, Date, Month, Time};
 
 impl PlainDateTime {
     /// The same date at another time of day.
+    ///
+    /// ```
+    /// let date = Date::from_calendar_date(2024, Month::February, 29)?;
+    /// let at = PlainDateTime::new(date, Time::MIDNIGHT);
+    /// let noon = Time::from_hms(12, 0, 0)?;
+    /// assert_eq!(rt; at.replace_time(noon).time(), noon);
+    /// assert_eq!(rt; at.replace_time(noon).day(), 29);
+    /// ```
     #[tactic(auto, using(crate::specs::ReplacementLemmas::replaced, crate::specs::DaysLaterLemmas::within_a_day), unfolding(crate::specs::Replacements::with_time))]
     pub fn replace_time(self, time: Time) -> PlainDateTime
         ensures { ReplacesTime self time result }
@@ -24,6 +32,15 @@ impl PlainDateTime {
     }
 
     /// The same time of day on another date.
+    ///
+    /// ```
+    /// let time = Time::from_hms_nano(13, 2, 59, 480_300_002)?;
+    /// let at = PlainDateTime::new(Date::from_calendar_date(2019, Month::December, 30)?, time);
+    /// assert_eq!(rt;
+    ///     at.replace_date(Date::from_calendar_date(2024, Month::February, 29)?).as_hms(),
+    ///     (13, 2, 59)
+    /// );
+    /// ```
     #[tactic(auto, using(crate::specs::ReplacementLemmas::replaced), unfolding(crate::specs::Replacements::with_date))]
     pub fn replace_date(self, date: Date) -> PlainDateTime
         ensures { ReplacesDate self date result }
@@ -32,38 +49,84 @@ impl PlainDateTime {
     }
 
     /// As [`Date::replace_year`] of the date, with the time of day kept.
+    ///
+    /// ```
+    /// let date = Date::from_calendar_date(2024, Month::February, 29)?;
+    /// let at = PlainDateTime::new(date, Time::MIDNIGHT);
+    /// assert_eq!(rt; at.replace_year(2028)?.to_ordinal_date(), (2028, 60));
+    /// assert_eq!(rt; at.replace_year(2023), Err(ComponentRange::new("day", true)));
+    /// ```
     pub fn replace_year(self, year: i32) -> Result<PlainDateTime, ComponentRange>
         ensures value { Gives result (wall_year_outcome self year) }
         ensures shown { IfOk result (ShowsYear self year) }
     {
-        Ok(self.replace_date(self.date().replace_year(year)?))
+        match self.date().replace_year(year) {
+            Ok(date) => Ok(self.replace_date(date)),
+            Err(refusal) => Err(refusal),
+        }
     }
 
     /// As [`Date::replace_month`] of the date, with the time of day kept.
+    ///
+    /// ```
+    /// let date = Date::from_calendar_date(2024, Month::January, 31)?;
+    /// let at = PlainDateTime::new(date, Time::MIDNIGHT);
+    /// assert_eq!(rt; at.replace_month(Month::March)?.ordinal(), 91);
+    /// assert_eq!(rt; at.replace_month(Month::April), Err(ComponentRange::new("day", true)));
+    /// ```
     pub fn replace_month(self, month: Month) -> Result<PlainDateTime, ComponentRange>
         ensures value { Gives result (wall_month_outcome self (month_number month)) }
         ensures shown { IfOk result (ShowsMonth self (month_number month)) }
     {
-        Ok(self.replace_date(self.date().replace_month(month)?))
+        match self.date().replace_month(month) {
+            Ok(date) => Ok(self.replace_date(date)),
+            Err(refusal) => Err(refusal),
+        }
     }
 
     /// As [`Date::replace_day`] of the date, with the time of day kept.
+    ///
+    /// ```
+    /// let date = Date::from_calendar_date(2024, Month::February, 29)?;
+    /// let at = PlainDateTime::new(date, Time::MIDNIGHT);
+    /// assert_eq!(rt; at.replace_day(1)?.ordinal(), 32);
+    /// assert_eq!(rt; at.replace_day(30), Err(ComponentRange::new("day", true)));
+    /// ```
     pub fn replace_day(self, day: u8) -> Result<PlainDateTime, ComponentRange>
         ensures value { Gives result (wall_day_outcome self day) }
         ensures shown { IfOk result (ShowsDay self day) }
     {
-        Ok(self.replace_date(self.date().replace_day(day)?))
+        match self.date().replace_day(day) {
+            Ok(date) => Ok(self.replace_date(date)),
+            Err(refusal) => Err(refusal),
+        }
     }
 
     /// As [`Date::replace_ordinal`] of the date, with the time of day kept.
+    ///
+    /// ```
+    /// let date = Date::from_calendar_date(2024, Month::February, 29)?;
+    /// let at = PlainDateTime::new(date, Time::MIDNIGHT);
+    /// assert_eq!(rt; at.replace_ordinal(366)?.to_calendar_date(), (2024, Month::December, 31));
+    /// assert_eq!(rt; at.replace_ordinal(367), Err(ComponentRange::new("ordinal", false)));
+    /// ```
     pub fn replace_ordinal(self, ordinal: u16) -> Result<PlainDateTime, ComponentRange>
         ensures value { Gives result (wall_ordinal_outcome self ordinal) }
         ensures shown { IfOk result (ShowsOrdinal self ordinal) }
     {
-        Ok(self.replace_date(self.date().replace_ordinal(ordinal)?))
+        match self.date().replace_ordinal(ordinal) {
+            Ok(date) => Ok(self.replace_date(date)),
+            Err(refusal) => Err(refusal),
+        }
     }
 
     /// The first nanosecond of the day that it is in.
+    ///
+    /// ```
+    /// let time = Time::from_hms_nano(13, 2, 59, 480_300_002)?;
+    /// let at = PlainDateTime::new(Date::from_calendar_date(2019, Month::December, 30)?, time);
+    /// assert_eq!(rt; at.truncate_to_day().as_hms_nano(), (0, 0, 0, 0));
+    /// ```
     #[tactic(auto, using(crate::proofs::DateAndTimeLemmas::truncations))]
     pub fn truncate_to_day(self) -> PlainDateTime
         ensures value { TruncatesTo nanos_per_day self result }
@@ -75,15 +138,31 @@ impl PlainDateTime {
     }
 
     /// As [`Time::replace_hour`] of the time of day, with the date kept.
+    ///
+    /// ```
+    /// let time = Time::from_hms_nano(13, 2, 59, 480_300_002)?;
+    /// let at = PlainDateTime::new(Date::from_calendar_date(2019, Month::December, 30)?, time);
+    /// assert_eq!(rt; at.replace_hour(0)?.as_hms_nano(), (0, 2, 59, 480_300_002));
+    /// assert_eq!(rt; at.replace_hour(24), Err(ComponentRange::new("hour", false)));
+    /// ```
     #[tactic(auto, using(crate::specs::ReplacementLemmas::replaced_times))]
     pub fn replace_hour(self, hour: u8) -> Result<PlainDateTime, ComponentRange>
         ensures value { Gives result (wall_hour_outcome self hour) }
         ensures shown { IfOk result (ShowsHour self hour) }
     {
-        Ok(self.replace_time(self.time().replace_hour(hour)?))
+        match self.time().replace_hour(hour) {
+            Ok(time) => Ok(self.replace_time(time)),
+            Err(refusal) => Err(refusal),
+        }
     }
 
     /// The first nanosecond of the hour that it is in.
+    ///
+    /// ```
+    /// let time = Time::from_hms_nano(13, 2, 59, 480_300_002)?;
+    /// let at = PlainDateTime::new(Date::from_calendar_date(2019, Month::December, 30)?, time);
+    /// assert_eq!(rt; at.truncate_to_hour().as_hms_nano(), (13, 0, 0, 0));
+    /// ```
     #[tactic(auto, using(crate::proofs::DateAndTimeLemmas::truncations))]
     pub fn truncate_to_hour(self) -> PlainDateTime
         ensures { TruncatesTo nanos_per_hour self result }
@@ -92,15 +171,31 @@ impl PlainDateTime {
     }
 
     /// As [`Time::replace_minute`] of the time of day, with the date kept.
+    ///
+    /// ```
+    /// let time = Time::from_hms_nano(13, 2, 59, 480_300_002)?;
+    /// let at = PlainDateTime::new(Date::from_calendar_date(2019, Month::December, 30)?, time);
+    /// assert_eq!(rt; at.replace_minute(30)?.as_hms_nano(), (13, 30, 59, 480_300_002));
+    /// assert_eq!(rt; at.replace_minute(60), Err(ComponentRange::new("minute", false)));
+    /// ```
     #[tactic(auto, using(crate::specs::ReplacementLemmas::replaced_times))]
     pub fn replace_minute(self, minute: u8) -> Result<PlainDateTime, ComponentRange>
         ensures value { Gives result (wall_minute_outcome self minute) }
         ensures shown { IfOk result (ShowsMinute self minute) }
     {
-        Ok(self.replace_time(self.time().replace_minute(minute)?))
+        match self.time().replace_minute(minute) {
+            Ok(time) => Ok(self.replace_time(time)),
+            Err(refusal) => Err(refusal),
+        }
     }
 
     /// The first nanosecond of the minute that it is in.
+    ///
+    /// ```
+    /// let time = Time::from_hms_nano(13, 2, 59, 480_300_002)?;
+    /// let at = PlainDateTime::new(Date::from_calendar_date(2019, Month::December, 30)?, time);
+    /// assert_eq!(rt; at.truncate_to_minute().as_hms_nano(), (13, 2, 0, 0));
+    /// ```
     #[tactic(auto, using(crate::proofs::DateAndTimeLemmas::truncations))]
     pub fn truncate_to_minute(self) -> PlainDateTime
         ensures { TruncatesTo nanos_per_minute self result }
@@ -109,15 +204,31 @@ impl PlainDateTime {
     }
 
     /// As [`Time::replace_second`] of the time of day, with the date kept.
+    ///
+    /// ```
+    /// let time = Time::from_hms_nano(13, 2, 59, 480_300_002)?;
+    /// let at = PlainDateTime::new(Date::from_calendar_date(2019, Month::December, 30)?, time);
+    /// assert_eq!(rt; at.replace_second(0)?.as_hms_nano(), (13, 2, 0, 480_300_002));
+    /// assert_eq!(rt; at.replace_second(60), Err(ComponentRange::new("second", false)));
+    /// ```
     #[tactic(auto, using(crate::specs::ReplacementLemmas::replaced_times))]
     pub fn replace_second(self, second: u8) -> Result<PlainDateTime, ComponentRange>
         ensures value { Gives result (wall_second_outcome self second) }
         ensures shown { IfOk result (ShowsSecond self second) }
     {
-        Ok(self.replace_time(self.time().replace_second(second)?))
+        match self.time().replace_second(second) {
+            Ok(time) => Ok(self.replace_time(time)),
+            Err(refusal) => Err(refusal),
+        }
     }
 
     /// The first nanosecond of the second that it is in.
+    ///
+    /// ```
+    /// let time = Time::from_hms_nano(13, 2, 59, 480_300_002)?;
+    /// let at = PlainDateTime::new(Date::from_calendar_date(2019, Month::December, 30)?, time);
+    /// assert_eq!(rt; at.truncate_to_second().as_hms_nano(), (13, 2, 59, 0));
+    /// ```
     #[tactic(auto, using(crate::proofs::DateAndTimeLemmas::truncations))]
     pub fn truncate_to_second(self) -> PlainDateTime
         ensures { TruncatesTo nanos_per_second self result }
@@ -126,15 +237,34 @@ impl PlainDateTime {
     }
 
     /// As [`Time::replace_millisecond`] of the time of day, with the date kept.
+    ///
+    /// ```
+    /// let time = Time::from_hms_nano(13, 2, 59, 480_300_002)?;
+    /// let at = PlainDateTime::new(Date::from_calendar_date(2019, Month::December, 30)?, time);
+    /// assert_eq!(rt; at.replace_millisecond(7)?.as_hms_nano(), (13, 2, 59, 7_000_000));
+    /// assert_eq!(rt;
+    ///     at.replace_millisecond(1_000),
+    ///     Err(ComponentRange::new("millisecond", false))
+    /// );
+    /// ```
     #[tactic(auto, using(crate::specs::ReplacementLemmas::replaced_times))]
     pub fn replace_millisecond(self, millisecond: u16) -> Result<PlainDateTime, ComponentRange>
         ensures value { Gives result (wall_millisecond_outcome self millisecond) }
         ensures shown { IfOk result (ShowsMillisecond self millisecond) }
     {
-        Ok(self.replace_time(self.time().replace_millisecond(millisecond)?))
+        match self.time().replace_millisecond(millisecond) {
+            Ok(time) => Ok(self.replace_time(time)),
+            Err(refusal) => Err(refusal),
+        }
     }
 
     /// The first nanosecond of the millisecond that it is in.
+    ///
+    /// ```
+    /// let time = Time::from_hms_nano(13, 2, 59, 480_300_002)?;
+    /// let at = PlainDateTime::new(Date::from_calendar_date(2019, Month::December, 30)?, time);
+    /// assert_eq!(rt; at.truncate_to_millisecond().as_hms_nano(), (13, 2, 59, 480_000_000));
+    /// ```
     #[tactic(auto, using(crate::proofs::DateAndTimeLemmas::truncations))]
     pub fn truncate_to_millisecond(self) -> PlainDateTime
         ensures { TruncatesTo nanos_per_millisecond self result }
@@ -143,15 +273,34 @@ impl PlainDateTime {
     }
 
     /// As [`Time::replace_microsecond`] of the time of day, with the date kept.
+    ///
+    /// ```
+    /// let time = Time::from_hms_nano(13, 2, 59, 480_300_002)?;
+    /// let at = PlainDateTime::new(Date::from_calendar_date(2019, Month::December, 30)?, time);
+    /// assert_eq!(rt; at.replace_microsecond(7)?.as_hms_nano(), (13, 2, 59, 7_000));
+    /// assert_eq!(rt;
+    ///     at.replace_microsecond(1_000_000),
+    ///     Err(ComponentRange::new("microsecond", false))
+    /// );
+    /// ```
     #[tactic(auto, using(crate::specs::ReplacementLemmas::replaced_times))]
     pub fn replace_microsecond(self, microsecond: u32) -> Result<PlainDateTime, ComponentRange>
         ensures value { Gives result (wall_microsecond_outcome self microsecond) }
         ensures shown { IfOk result (ShowsMicrosecond self microsecond) }
     {
-        Ok(self.replace_time(self.time().replace_microsecond(microsecond)?))
+        match self.time().replace_microsecond(microsecond) {
+            Ok(time) => Ok(self.replace_time(time)),
+            Err(refusal) => Err(refusal),
+        }
     }
 
     /// The first nanosecond of the microsecond that it is in.
+    ///
+    /// ```
+    /// let time = Time::from_hms_nano(13, 2, 59, 480_300_002)?;
+    /// let at = PlainDateTime::new(Date::from_calendar_date(2019, Month::December, 30)?, time);
+    /// assert_eq!(rt; at.truncate_to_microsecond().as_hms_nano(), (13, 2, 59, 480_300_000));
+    /// ```
     #[tactic(auto, using(crate::proofs::DateAndTimeLemmas::truncations))]
     pub fn truncate_to_microsecond(self) -> PlainDateTime
         ensures { TruncatesTo nanos_per_microsecond self result }
@@ -160,11 +309,24 @@ impl PlainDateTime {
     }
 
     /// As [`Time::replace_nanosecond`] of the time of day, with the date kept.
+    ///
+    /// ```
+    /// let time = Time::from_hms_nano(13, 2, 59, 480_300_002)?;
+    /// let at = PlainDateTime::new(Date::from_calendar_date(2019, Month::December, 30)?, time);
+    /// assert_eq!(rt; at.replace_nanosecond(7)?.as_hms_nano(), (13, 2, 59, 7));
+    /// assert_eq!(rt;
+    ///     at.replace_nanosecond(1_000_000_000),
+    ///     Err(ComponentRange::new("nanosecond", false))
+    /// );
+    /// ```
     #[tactic(auto, using(crate::specs::ReplacementLemmas::replaced_times))]
     pub fn replace_nanosecond(self, nanosecond: u32) -> Result<PlainDateTime, ComponentRange>
         ensures value { Gives result (wall_nanosecond_outcome self nanosecond) }
         ensures shown { IfOk result (ShowsNanosecond self nanosecond) }
     {
-        Ok(self.replace_time(self.time().replace_nanosecond(nanosecond)?))
+        match self.time().replace_nanosecond(nanosecond) {
+            Ok(time) => Ok(self.replace_time(time)),
+            Err(refusal) => Err(refusal),
+        }
     }
 }

@@ -9,7 +9,14 @@ use calendar_values::Text;
 use std::fmt;
 
 impl PlainDateTime {
-    /// The text, as `1970-01-01 0:00:00.0`: the text of the date, a space, and that of the time of day.
+    /// The text, as `1970-01-01 0:00:00.0`: the text of the date, a space, and that of the time of
+    /// day.
+    ///
+    /// ```
+    /// let time = Time::from_hms_nano(13, 2, 59, 480_300_002)?;
+    /// let at = PlainDateTime::new(Date::from_calendar_date(2019, Month::December, 30)?, time);
+    /// assert_eq!(rt; at.text().as_str(), "2019-12-30 13:02:59.480300002");
+    /// ```
     pub fn text(self) -> Text
         ensures text { result ≡ plain_text self }
         ensures length { length result ≤ 32 }

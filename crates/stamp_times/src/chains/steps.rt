@@ -4,7 +4,7 @@ use calendar_values::UtcOffset;
 use offset_times::OffsetDateTime;
 use utc_times::UtcDateTime;
 
-/// An instant, held by one of the three types. There is no `==`, since it would drop the offset.
+/// An instant in one of the three types. There is no `==`, since it would drop the offset.
 #[derive(Clone, Copy, Debug)]
 pub enum Held {
     Stamp(Timestamp),
@@ -20,7 +20,7 @@ pub enum Step {
     ToOffset(UtcOffset),
 }
 
-/// Where a chain of conversions stopped, counted from 0, and what was held there.
+/// The step at which a chain of conversions stopped, from 0, and the value before it.
 #[derive(Clone, Copy, Debug)]
 pub struct StoppedAt {
     pub index: usize,

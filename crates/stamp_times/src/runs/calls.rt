@@ -19,7 +19,7 @@ pub enum DateRead {
     JulianDay,
 }
 
-/// What a read of the date gives.
+/// The result of a read of the date.
 #[derive(Clone, Copy, Debug, PartialEq, Eq)]
 pub enum DatePart {
     Date(Date),
@@ -53,7 +53,7 @@ pub enum ClockRead {
     Nanosecond,
 }
 
-/// What a read of the time of day gives.
+/// The result of a read of the time of day.
 #[derive(Clone, Copy, Debug, PartialEq, Eq)]
 pub enum ClockPart {
     Time(Time),
@@ -105,8 +105,8 @@ pub enum Call {
     Local(UtcOffset),
 }
 
-/// What a call replies: the part that a read asks for, the date and the time of day after a sum or a
-/// replacement that is accepted, those that clocks at an offset show, or that the call is refused.
+/// The reply to a call: the part of a read, the date and the time of day after a sum or a
+/// replacement that succeeds, the date-time at an offset, or the error of the call.
 #[derive(Clone, Copy, Debug, PartialEq, Eq)]
 pub enum Reply {
     DatePart(DatePart),

@@ -15,28 +15,57 @@ use offset_times::{OffsetDateTime, ToOffset};
 use std::hash::Hash;
 use utc_times::UtcDateTime;
 
-/// An instant of the range, whatever type holds it. Its calls give what a counter of nanoseconds gives, and
-/// values are equal, are ordered and feed a hasher by their instants.
+/// An instant of the range, whatever type holds it. Its calls give what a counter of nanoseconds
+/// gives, and values are equal, are ordered and feed a hasher by their instants.
 pub trait Moment: Copy + Eq + Ord + Hash {
     /// The instant: the nanoseconds from 1970-01-01 0:00 UTC, with no leap seconds.
     ghost instant: { Self → ℤ };
 
     /// A part of the date in UTC.
+    ///
+    /// ```
+    /// assert_eq!(rt;
+    ///     Timestamp::UNIX_EPOCH.date_part(stamp_times::DateRead::Year),
+    ///     stamp_times::DatePart::Year(1970)
+    /// );
+    /// ```
     fn date_part(self, read: DateRead) -> DatePart
         ensures { result ≡ date_part_of (wall_day (instant self)) read };
 
     /// A part of the time of day in UTC.
+    ///
+    /// ```
+    /// assert_eq!(rt;
+    ///     Timestamp::UNIX_EPOCH.clock_part(stamp_times::ClockRead::Hour),
+    ///     stamp_times::ClockPart::Hour(0)
+    /// );
+    /// ```
     fn clock_part(self, read: ClockRead) -> ClockPart
         ensures { result ≡ clock_part_of (wall_time (instant self)) read };
 
-    /// A sum or a difference, or None where a checked one is out of the range.
+    /// A sum or a difference, or None if a checked one is out of the range.
+    ///
+    /// ```
+    /// let day = stamp_times::Shift::CheckedAdd(SignedDuration::DAY);
+    /// assert_eq!(rt; Timestamp::UNIX_EPOCH.shift(day), Some(Timestamp::from_seconds(86_400)?));
+    /// assert_eq!(rt; Timestamp::MAX.shift(day), None);
+    /// ```
     fn shift(self, shift: Shift) -> Option<Self>
         ensures value { option_map instant result ≡ instant_after_shift (instant self) shift }
         ensures sum { Shifts (instant self) shift (option_map instant result) }
         ensures order { IfSome result (λ next. Saturates (instant self) shift (instant next)) };
 
-    /// The value with a part replaced in UTC. Refused as the replacement of that part is, exactly where the part does not
-    /// fit.
+    /// The value with a part replaced in UTC. Fails as the replacement of that part does, exactly
+    /// if the part does not fit.
+    ///
+    /// ```
+    /// let six = stamp_times::Replace::Hour(6);
+    /// assert_eq!(rt; Timestamp::UNIX_EPOCH.replace(six), Ok(Timestamp::from_seconds(21_600)?));
+    /// assert_eq!(rt;
+    ///     Timestamp::UNIX_EPOCH.replace(stamp_times::Replace::Hour(24)),
+    ///     Err(ComponentRange::new("hour", false))
+    /// );
+    /// ```
     fn replace(self, replace: Replace) -> Result<Self, ComponentRange>
         ensures value { result_map_both instant (λ refusal. refusal) result ≡
             instant_after_replacement (instant self) replace }
@@ -46,13 +75,28 @@ pub trait Moment: Copy + Eq + Ord + Hash {
             ShowsReplaced (instant self) replace (instant next)) };
 
     /// The date and the time of day in UTC.
+    ///
+    /// ```
+    /// let (date, time) = Moment::parts(Timestamp::UNIX_EPOCH);
+    /// assert_eq!(rt; date, Date::UNIX_EPOCH);
+    /// assert_eq!(rt; time, Time::MIDNIGHT);
+    /// ```
     fn parts(self) -> (Date, Time)
         ensures date { result.0 ≡ wall_day (instant self) }
         ensures time { result.1 ≡ wall_time (instant self) }
         ensures self_in_range { IsInstant (instant self) };
 
-    /// What clocks at the offset show at the instant, with the offset, as
-    /// [`ToOffset::checked_to_offset`]. None where that is out of the range.
+    /// The wall clock of the instant at the offset, with the offset, as
+    /// [`ToOffset::checked_to_offset`]. None if that is out of the range.
+    ///
+    /// ```
+    /// let west = UtcOffset::from_hms(-8, 0, 0)?;
+    /// assert_eq!(rt;
+    ///     Moment::at_offset(Timestamp::UNIX_EPOCH, west).map(|shown| shown.hour()),
+    ///     Some(16)
+    /// );
+    /// assert_eq!(rt; Moment::at_offset(Timestamp::MIN, west), None);
+    /// ```
     fn at_offset(self, offset: UtcOffset) -> Option<OffsetDateTime>
         ensures value { ShownAt result (instant self) offset }
         ensures instant { IfSome result (λ at. instant_of at ≡ instant self) };

@@ -39,6 +39,11 @@ impl Timestamp {
     }
 
     /// The date.
+    ///
+    /// ```
+    /// let at = Timestamp::from_seconds(1_577_664_000)?;
+    /// assert_eq!(rt; at.date(), Date::from_calendar_date(2019, Month::December, 30)?);
+    /// ```
     pub fn date(self) -> Date
         ensures value { result ≡ wall_day self }
         ensures self_in_range { IsInstant self }
@@ -48,6 +53,11 @@ impl Timestamp {
     }
 
     /// The time of day.
+    ///
+    /// ```
+    /// let at = Timestamp::new(1_577_710_979, 480_300_002)?;
+    /// assert_eq!(rt; at.time(), Time::from_hms_nano(13, 2, 59, 480_300_002)?);
+    /// ```
     pub fn time(self) -> Time
         ensures value { result ≡ wall_time self }
         ensures self_in_range { IsInstant self }
@@ -56,6 +66,11 @@ impl Timestamp {
     }
 
     /// As [`Date::year`], of the day in UTC.
+    ///
+    /// ```
+    /// let at = Timestamp::from_seconds(1_577_664_000)?;
+    /// assert_eq!(rt; at.year(), 2019);
+    /// ```
     pub fn year(self) -> i32
         ensures value { result ≡ year_of (wall_day self) }
         ensures in_range { IsYear result }
@@ -64,6 +79,11 @@ impl Timestamp {
     }
 
     /// As [`Date::month`], of the day in UTC.
+    ///
+    /// ```
+    /// let at = Timestamp::from_seconds(1_577_664_000)?;
+    /// assert_eq!(rt; at.month(), Month::December);
+    /// ```
     pub fn month(self) -> Month
         ensures { month_number result ≡ month_of (wall_day self) }
     {
@@ -72,6 +92,11 @@ impl Timestamp {
     }
 
     /// As [`Date::day`], of the day in UTC.
+    ///
+    /// ```
+    /// let at = Timestamp::from_seconds(1_577_664_000)?;
+    /// assert_eq!(rt; at.day(), 30);
+    /// ```
     pub fn day(self) -> u8
         ensures value { result ≡ day_of_month_of (wall_day self) }
         ensures in_range { IsInRange 1 31 result }
@@ -81,6 +106,11 @@ impl Timestamp {
     }
 
     /// As [`Date::ordinal`], of the day in UTC.
+    ///
+    /// ```
+    /// let at = Timestamp::from_seconds(1_577_664_000)?;
+    /// assert_eq!(rt; at.ordinal(), 364);
+    /// ```
     pub fn ordinal(self) -> u16
         ensures value { result ≡ ordinal_of (wall_day self) }
         ensures in_range { IsInRange 1 366 result }
@@ -89,6 +119,11 @@ impl Timestamp {
     }
 
     /// As [`Date::iso_week`], of the day in UTC.
+    ///
+    /// ```
+    /// let at = Timestamp::from_seconds(1_577_664_000)?;
+    /// assert_eq!(rt; at.iso_week(), 1);
+    /// ```
     pub fn iso_week(self) -> u8
         ensures value { result ≡ iso_week_of (wall_day self) }
         ensures in_range { IsInRange 1 53 result }
@@ -97,6 +132,11 @@ impl Timestamp {
     }
 
     /// As [`Date::sunday_based_week`], of the day in UTC.
+    ///
+    /// ```
+    /// let at = Timestamp::from_seconds(1_577_664_000)?;
+    /// assert_eq!(rt; at.sunday_based_week(), 52);
+    /// ```
     pub fn sunday_based_week(self) -> u8
         ensures value { result ≡ sunday_week_of (wall_day self) }
         ensures in_range { result ≤ 53 }
@@ -105,6 +145,11 @@ impl Timestamp {
     }
 
     /// As [`Date::monday_based_week`], of the day in UTC.
+    ///
+    /// ```
+    /// let at = Timestamp::from_seconds(1_577_664_000)?;
+    /// assert_eq!(rt; at.monday_based_week(), 52);
+    /// ```
     pub fn monday_based_week(self) -> u8
         ensures value { result ≡ monday_week_of (wall_day self) }
         ensures in_range { result ≤ 53 }
@@ -113,6 +158,11 @@ impl Timestamp {
     }
 
     /// As [`Date::to_calendar_date`], of the day in UTC.
+    ///
+    /// ```
+    /// let at = Timestamp::from_seconds(1_577_664_000)?;
+    /// assert_eq!(rt; at.to_calendar_date(), (2019, Month::December, 30));
+    /// ```
     pub fn to_calendar_date(self) -> (i32, Month, u8)
         ensures { IsCalendarDateOf (wall_day self) result }
     {
@@ -122,6 +172,11 @@ impl Timestamp {
     }
 
     /// As [`Date::to_ordinal_date`], of the day in UTC.
+    ///
+    /// ```
+    /// let at = Timestamp::from_seconds(1_577_664_000)?;
+    /// assert_eq!(rt; at.to_ordinal_date(), (2019, 364));
+    /// ```
     pub fn to_ordinal_date(self) -> (i32, u16)
         ensures { IsOrdinalDateOf (wall_day self) result }
     {
@@ -130,6 +185,11 @@ impl Timestamp {
     }
 
     /// As [`Date::to_iso_week_date`], of the day in UTC.
+    ///
+    /// ```
+    /// let at = Timestamp::from_seconds(1_577_664_000)?;
+    /// assert_eq!(rt; at.to_iso_week_date(), (2020, 1, Weekday::Monday));
+    /// ```
     pub fn to_iso_week_date(self) -> (i32, u8, Weekday)
         ensures { IsIsoWeekDateOf (wall_day self) result }
     {
@@ -137,6 +197,11 @@ impl Timestamp {
     }
 
     /// As [`Date::weekday`], of the day in UTC.
+    ///
+    /// ```
+    /// let at = Timestamp::from_seconds(1_577_664_000)?;
+    /// assert_eq!(rt; at.weekday(), Weekday::Monday);
+    /// ```
     pub fn weekday(self) -> Weekday
         ensures { weekday_number result ≡ weekday_of (wall_day self) }
     {
@@ -153,6 +218,11 @@ impl Timestamp {
     }
 
     /// As [`Date::to_julian_day`], of the day in UTC.
+    ///
+    /// ```
+    /// let at = Timestamp::from_seconds(1_577_664_000)?;
+    /// assert_eq!(rt; at.to_julian_day(), 2_458_848);
+    /// ```
     pub fn to_julian_day(self) -> i32
         ensures value { result ≡ julian_day_of (wall_day self) }
         ensures self_in_range { IsInstant self }
@@ -161,6 +231,11 @@ impl Timestamp {
     }
 
     /// As [`Time::as_hms`], of the time of day in UTC.
+    ///
+    /// ```
+    /// let at = Timestamp::new(1_577_710_979, 480_300_002)?;
+    /// assert_eq!(rt; at.as_hms(), (13, 2, 59));
+    /// ```
     pub fn as_hms(self) -> (u8, u8, u8)
         ensures value { let c = wall_time self in result ≡ (hour_of c, minute_of c, second_of c) }
         ensures in_range { AreTimeParts result.0 result.1 result.2 0 }
@@ -169,6 +244,11 @@ impl Timestamp {
     }
 
     /// As [`Time::as_hms_milli`], of the time of day in UTC.
+    ///
+    /// ```
+    /// let at = Timestamp::new(1_577_710_979, 480_300_002)?;
+    /// assert_eq!(rt; at.as_hms_milli(), (13, 2, 59, 480));
+    /// ```
     pub fn as_hms_milli(self) -> (u8, u8, u8, u16)
         ensures value { let c = wall_time self in
             result ≡ (hour_of c, minute_of c, second_of c, millisecond_of c) }
@@ -180,6 +260,11 @@ impl Timestamp {
     }
 
     /// As [`Time::as_hms_micro`], of the time of day in UTC.
+    ///
+    /// ```
+    /// let at = Timestamp::new(1_577_710_979, 480_300_002)?;
+    /// assert_eq!(rt; at.as_hms_micro(), (13, 2, 59, 480_300));
+    /// ```
     pub fn as_hms_micro(self) -> (u8, u8, u8, u32)
         ensures value { let c = wall_time self in
             result ≡ (hour_of c, minute_of c, second_of c, microsecond_of c) }
@@ -191,6 +276,11 @@ impl Timestamp {
     }
 
     /// As [`Time::as_hms_nano`], of the time of day in UTC.
+    ///
+    /// ```
+    /// let at = Timestamp::new(1_577_710_979, 480_300_002)?;
+    /// assert_eq!(rt; at.as_hms_nano(), (13, 2, 59, 480_300_002));
+    /// ```
     pub fn as_hms_nano(self) -> (u8, u8, u8, u32)
         ensures value { let c = wall_time self in
             result ≡ (hour_of c, minute_of c, second_of c, nanosecond_of c) }
@@ -201,6 +291,11 @@ impl Timestamp {
     }
 
     /// As [`Time::hour`], of the time of day in UTC.
+    ///
+    /// ```
+    /// let at = Timestamp::new(1_577_710_979, 480_300_002)?;
+    /// assert_eq!(rt; at.hour(), 13);
+    /// ```
     pub fn hour(self) -> u8
         ensures value { result ≡ hour_of (wall_time self) }
         ensures in_range { result ≤ 23 }
@@ -209,6 +304,11 @@ impl Timestamp {
     }
 
     /// As [`Time::minute`], of the time of day in UTC.
+    ///
+    /// ```
+    /// let at = Timestamp::new(1_577_710_979, 480_300_002)?;
+    /// assert_eq!(rt; at.minute(), 2);
+    /// ```
     pub fn minute(self) -> u8
         ensures value { result ≡ minute_of (wall_time self) }
         ensures in_range { result ≤ 59 }
@@ -217,6 +317,11 @@ impl Timestamp {
     }
 
     /// As [`Time::second`], of the time of day in UTC.
+    ///
+    /// ```
+    /// let at = Timestamp::new(1_577_710_979, 480_300_002)?;
+    /// assert_eq!(rt; at.second(), 59);
+    /// ```
     pub fn second(self) -> u8
         ensures value { result ≡ second_of (wall_time self) }
         ensures in_range { result ≤ 59 }
@@ -225,6 +330,11 @@ impl Timestamp {
     }
 
     /// As [`Time::millisecond`], of the time of day in UTC.
+    ///
+    /// ```
+    /// let at = Timestamp::new(1_577_710_979, 480_300_002)?;
+    /// assert_eq!(rt; at.millisecond(), 480);
+    /// ```
     pub fn millisecond(self) -> u16
         ensures value { result ≡ millisecond_of (wall_time self) }
         ensures in_range { result ≤ 999 }
@@ -233,6 +343,11 @@ impl Timestamp {
     }
 
     /// As [`Time::microsecond`], of the time of day in UTC.
+    ///
+    /// ```
+    /// let at = Timestamp::new(1_577_710_979, 480_300_002)?;
+    /// assert_eq!(rt; at.microsecond(), 480_300);
+    /// ```
     pub fn microsecond(self) -> u32
         ensures value { result ≡ microsecond_of (wall_time self) }
         ensures in_range { result ≤ 999_999 }
@@ -241,6 +356,11 @@ impl Timestamp {
     }
 
     /// As [`Time::nanosecond`], of the time of day in UTC.
+    ///
+    /// ```
+    /// let at = Timestamp::new(1_577_710_979, 480_300_002)?;
+    /// assert_eq!(rt; at.nanosecond(), 480_300_002);
+    /// ```
     #[tactic(auto, using(crate::proofs::HeldInstantLemmas::unix_parts))]
     pub fn nanosecond(self) -> u32
         ensures value { result ≡ nanosecond_of (wall_time self) }

@@ -13,44 +13,94 @@ use calendar_values::units::NANOS_PER_SECOND;
 use std::time::Duration;
 
 impl Timestamp {
-    /// The instant so much later, or earlier for a negative duration. None outside the range.
+    /// The instant later by the duration, or earlier for a negative duration. None out of range.
+    ///
+    /// ```
+    /// assert_eq!(rt;
+    ///     Timestamp::UNIX_EPOCH.checked_add(SignedDuration::hours(30)),
+    ///     Some(Timestamp::from_seconds(108_000)?)
+    /// );
+    /// assert_eq!(rt; Timestamp::MAX.checked_add(SignedDuration::NANOSECOND), None);
+    /// ```
     pub fn checked_add(self, duration: SignedDuration) -> Option<Timestamp>
         ensures { SomeInRange result (self +ℤ duration) }
     {
-        let seconds = self.as_seconds().checked_add(duration.whole_seconds())?;
-        carried(seconds, self.nanosecond(), duration.subsec_nanoseconds())
+        match self.as_seconds().checked_add(duration.whole_seconds()) {
+            Some(seconds) => carried(seconds, self.nanosecond(), duration.subsec_nanoseconds()),
+            None => None,
+        }
     }
 
-    /// The instant so much earlier, or later for a negative duration. None outside the range.
+    /// The instant earlier by the duration, or later for a negative duration. None out of range.
+    ///
+    /// ```
+    /// assert_eq!(rt;
+    ///     Timestamp::UNIX_EPOCH.checked_sub(SignedDuration::hours(30)),
+    ///     Some(Timestamp::from_seconds(-108_000)?)
+    /// );
+    /// assert_eq!(rt; Timestamp::MIN.checked_sub(SignedDuration::NANOSECOND), None);
+    /// ```
     pub fn checked_sub(self, duration: SignedDuration) -> Option<Timestamp>
         ensures { SomeInRange result (self -ℤ duration) }
     {
-        let seconds = self.as_seconds().checked_sub(duration.whole_seconds())?;
-        carried(seconds, self.nanosecond(), -duration.subsec_nanoseconds())
+        match self.as_seconds().checked_sub(duration.whole_seconds()) {
+            Some(seconds) => carried(seconds, self.nanosecond(), -duration.subsec_nanoseconds()),
+            None => None,
+        }
     }
 
-    /// The instant so much later. None outside the range.
+    /// The instant later by the duration. None out of range.
+    ///
+    /// ```
+    /// let day = std::time::Duration::from_secs(86_400);
+    /// assert_eq!(rt;
+    ///     Timestamp::UNIX_EPOCH.checked_add_std(day),
+    ///     Some(Timestamp::from_seconds(86_400)?)
+    /// );
+    /// assert_eq!(rt; Timestamp::MAX.checked_add_std(day), None);
+    /// ```
     pub fn checked_add_std(self, duration: Duration) -> Option<Timestamp>
         ensures { SomeInRange result (self +ℤ pos (as_nanos duration)) }
     {
-        let seconds = self.as_seconds().checked_add_unsigned(duration.as_secs())?;
-        carried(seconds, self.nanosecond(), duration.subsec_nanos() as i32)
+        match self.as_seconds().checked_add_unsigned(duration.as_secs()) {
+            Some(seconds) => carried(seconds, self.nanosecond(), duration.subsec_nanos() as i32),
+            None => None,
+        }
     }
 
-    /// The instant so much earlier. None outside the range.
+    /// The instant earlier by the duration. None out of range.
+    ///
+    /// ```
+    /// let day = std::time::Duration::from_secs(86_400);
+    /// assert_eq!(rt;
+    ///     Timestamp::UNIX_EPOCH.checked_sub_std(day),
+    ///     Some(Timestamp::from_seconds(-86_400)?)
+    /// );
+    /// assert_eq!(rt; Timestamp::MIN.checked_sub_std(day), None);
+    /// ```
     pub fn checked_sub_std(self, duration: Duration) -> Option<Timestamp>
         ensures { SomeInRange result (self -ℤ pos (as_nanos duration)) }
     {
-        let seconds = self.as_seconds().checked_sub_unsigned(duration.as_secs())?;
-        carried(
-            seconds,
-            self.nanosecond(),
-            -(duration.subsec_nanos() as i32),
-        )
+        match self.as_seconds().checked_sub_unsigned(duration.as_secs()) {
+            Some(seconds) => carried(
+                seconds,
+                self.nanosecond(),
+                -(duration.subsec_nanos() as i32),
+            ),
+            None => None,
+        }
     }
 
-    /// The instant so much later, or earlier for a negative duration; outside the range the end of it that lies
-    /// in this direction.
+    /// The instant later by the duration, or earlier for a negative duration. If that is out of
+    /// range, the nearest end of the range.
+    ///
+    /// ```
+    /// assert_eq!(rt;
+    ///     Timestamp::UNIX_EPOCH.saturating_add(SignedDuration::hours(30)),
+    ///     Timestamp::from_seconds(108_000)?
+    /// );
+    /// assert_eq!(rt; Timestamp::MAX.saturating_add(SignedDuration::DAY), Timestamp::MAX);
+    /// ```
     pub fn saturating_add(self, duration: SignedDuration) -> Timestamp
         ensures { IsSaturatingSum self duration result }
     {
@@ -63,8 +113,16 @@ impl Timestamp {
         }
     }
 
-    /// The instant so much earlier, or later for a negative duration; outside the range the end of it that lies
-    /// in this direction.
+    /// The instant earlier by the duration, or later for a negative duration. If that is out of
+    /// range, the nearest end of the range.
+    ///
+    /// ```
+    /// assert_eq!(rt;
+    ///     Timestamp::UNIX_EPOCH.saturating_sub(SignedDuration::hours(30)),
+    ///     Timestamp::from_seconds(-108_000)?
+    /// );
+    /// assert_eq!(rt; Timestamp::MIN.saturating_sub(SignedDuration::DAY), Timestamp::MIN);
+    /// ```
     pub fn saturating_sub(self, duration: SignedDuration) -> Timestamp
         ensures { IsSaturatingDifference self duration result }
     {
@@ -87,17 +145,17 @@ fn carried(seconds: i64, nanosecond: u32, change: i32) -> Option<Timestamp>
 {
     let nanoseconds = nanosecond as i32 + change;
     if nanoseconds < 0 {
-        from_parts(
-            seconds.checked_sub(1)?,
-            (nanoseconds + NANOS_PER_SECOND) as u32,
-        )
+        match seconds.checked_sub(1) {
+            Some(seconds) => from_parts(seconds, (nanoseconds + NANOS_PER_SECOND) as u32),
+            None => None,
+        }
     } else if nanoseconds < NANOS_PER_SECOND {
         from_parts(seconds, nanoseconds as u32)
     } else {
-        from_parts(
-            seconds.checked_add(1)?,
-            (nanoseconds - NANOS_PER_SECOND) as u32,
-        )
+        match seconds.checked_add(1) {
+            Some(seconds) => from_parts(seconds, (nanoseconds - NANOS_PER_SECOND) as u32),
+            None => None,
+        }
     }
 }
 

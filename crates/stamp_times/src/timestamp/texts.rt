@@ -11,8 +11,13 @@ use calendar_values::units::NANOS_PER_SECOND;
 use std::fmt;
 
 impl Timestamp {
-    /// The text: the signed decimal of the instant in seconds, as `-0.5`. The fraction has no zeros at its
-    /// end, and is left out where it is 0.
+    /// The text: the signed decimal of the instant in seconds, as `-0.5`. The fraction has no zeros
+    /// at its end, and is left out where it is 0.
+    ///
+    /// ```
+    /// let at = Timestamp::new(1_577_710_979, 480_300_002)?;
+    /// assert_eq!(rt; at.text().as_str(), "1577710979.480300002");
+    /// ```
     pub fn text(self) -> Text
         ensures text { result ≡ timestamp_text self }
         ensures length { length result ≤ 25 }

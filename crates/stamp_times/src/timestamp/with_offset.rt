@@ -11,8 +11,15 @@ use std::cmp::Ordering;
 use std::ops::Sub;
 
 impl Timestamp {
-    /// The same instant at an offset, whose clocks must then show a date of the range: where the `time`
-    /// crate panics, the caller has to show that, or asks [`Timestamp::checked_to_offset`].
+    /// The same instant at an offset, where its date must be in range. The caller proves this, or
+    /// calls [`Timestamp::checked_to_offset`]; the `time` crate panics.
+    ///
+    /// ```
+    /// let west = UtcOffset::from_hms(-8, 0, 0)?;
+    /// let shown = Timestamp::UNIX_EPOCH.to_offset(west);
+    /// assert_eq!(rt; shown.hour(), 16);
+    /// assert_eq!(rt; shown.day(), 31);
+    /// ```
     pub fn to_offset(self, offset: UtcOffset) -> OffsetDateTime
         requires { IsWallClock (shown_at self offset) }
         ensures value { result ≡ local_at self offset }
@@ -21,7 +28,16 @@ impl Timestamp {
         self.to_utc().to_offset(offset)
     }
 
-    /// The same instant at an offset. None where the clocks there show a date outside the range.
+    /// The same instant at an offset. None if its date there is out of range.
+    ///
+    /// ```
+    /// let west = UtcOffset::from_hms(-8, 0, 0)?;
+    /// assert_eq!(rt;
+    ///     Timestamp::UNIX_EPOCH.checked_to_offset(west).map(|shown| shown.hour()),
+    ///     Some(16)
+    /// );
+    /// assert_eq!(rt; Timestamp::MIN.checked_to_offset(west), None);
+    /// ```
     pub fn checked_to_offset(self, offset: UtcOffset) -> Option<OffsetDateTime>
         ensures value { ShownAt result self offset }
         ensures instant { IfSome result (λ at. instant_of at ≡ self) }
@@ -30,6 +46,11 @@ impl Timestamp {
     }
 
     /// Whether both are one instant.
+    ///
+    /// ```
+    /// assert_eq!(rt; Timestamp::UNIX_EPOCH.eq_offset(OffsetDateTime::UNIX_EPOCH), true);
+    /// assert_eq!(rt; Timestamp::MAX.eq_offset(OffsetDateTime::UNIX_EPOCH), false);
+    /// ```
     #[tactic(auto, using(offset_times::specs::InstantLemmas::instants))]
     pub fn eq_offset(self, other: OffsetDateTime) -> bool
         ensures { result ≡ int_eq self (instant_of other) }
@@ -38,6 +59,11 @@ impl Timestamp {
     }
 
     /// Which instant comes first.
+    ///
+    /// ```
+    /// let earlier = PlainDateTime::UNIX_EPOCH.assume_offset(UtcOffset::from_hms(1, 0, 0)?);
+    /// assert_eq!(rt; Timestamp::UNIX_EPOCH.cmp_offset(earlier), std::cmp::Ordering::Greater);
+    /// ```
     #[tactic(auto, using(offset_times::specs::InstantLemmas::instants))]
     pub fn cmp_offset(self, other: OffsetDateTime) -> Ordering
         ensures { result ≡ int_cmp self (instant_of other) }

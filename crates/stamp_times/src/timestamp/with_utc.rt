@@ -10,6 +10,10 @@ use utc_times::UtcDateTime;
 
 impl Timestamp {
     /// The same instant as a date with a time of day in UTC.
+    ///
+    /// ```
+    /// assert_eq!(rt; Timestamp::UNIX_EPOCH.to_utc(), UtcDateTime::UNIX_EPOCH);
+    /// ```
     #[tactic(auto, using(calendar_values::specs::WallClockLemmas::wall_clock_parts))]
     pub fn to_utc(self) -> UtcDateTime
         ensures { result ≡ self }
@@ -18,6 +22,11 @@ impl Timestamp {
     }
 
     /// Whether both are one instant.
+    ///
+    /// ```
+    /// assert_eq!(rt; Timestamp::UNIX_EPOCH.eq_utc(UtcDateTime::UNIX_EPOCH), true);
+    /// assert_eq!(rt; Timestamp::UNIX_EPOCH.eq_utc(UtcDateTime::MIN), false);
+    /// ```
     pub fn eq_utc(self, other: UtcDateTime) -> bool
         ensures { result ≡ int_eq self other }
     {
@@ -25,22 +34,36 @@ impl Timestamp {
     }
 
     /// Which instant comes first.
+    ///
+    /// ```
+    /// assert_eq!(rt;
+    ///     Timestamp::UNIX_EPOCH.cmp_utc(UtcDateTime::MIN),
+    ///     std::cmp::Ordering::Greater
+    /// );
+    /// ```
     pub fn cmp_utc(self, other: UtcDateTime) -> Ordering
         ensures { result ≡ int_cmp self other }
     {
         self.cmp(&Timestamp::from(other))
+    }
+
+    // The instant, by its Unix second.
+    #[tactic(auto, using(crate::specs::TimestampLemmas::instant_parts))]
+    pub(crate) fn from_utc(at: UtcDateTime) -> Timestamp
+        ensures { result ≡ at }
+    {
+        Timestamp {
+            seconds: at.unix_timestamp(),
+            nanosecond: at.nanosecond(),
+        }
     }
 }
 
 impl From<UtcDateTime> for Timestamp {
     ghost from_gives = { λ at stamp. stamp ≡ at };
 
-    #[tactic(auto, using(crate::specs::TimestampLemmas::instant_parts))]
     fn from(at: UtcDateTime) -> Timestamp {
-        Timestamp {
-            seconds: at.unix_timestamp(),
-            nanosecond: at.nanosecond(),
-        }
+        Timestamp::from_utc(at)
     }
 }
 

@@ -1,6 +1,8 @@
 //! Logs in the order of time.
 use super::is;
-use stamp_times::logs::Stamped;
+use calendar_values::UtcOffset;
+use offset_times::{OffsetDateTime, ToOffset};
+use stamp_times::logs::{Dated, Stamped};
 use stamp_times::{Timestamp, logs};
 use std::test::Fail;
 
@@ -12,6 +14,19 @@ fn each_timestamp_once(rt: HostRuntime) -> Result<(), Fail> {
     assert!(rt; logs::enter(&mut log, Timestamp::MAX)?);
     assert!(rt; !logs::enter(&mut log, epoch)?);
     is(&rt, log.len(), 3);
+    Ok(())
+}
+
+#[test]
+fn removed(rt: HostRuntime) -> Result<(), Fail> {
+    let epoch = Timestamp::UNIX_EPOCH;
+    let mut log = [Timestamp::MIN, epoch, Timestamp::MAX].to_vec(rt.alloc())?;
+    logs::put_in_order(&mut log)?;
+    assert!(rt; logs::remove(&mut log, epoch));
+    assert!(rt; !logs::remove(&mut log, epoch));
+    is(&rt, log.len(), 2);
+    is(&rt, log.get(0).copied(), Some(Timestamp::MIN));
+    is(&rt, log.get(1).copied(), Some(Timestamp::MAX));
     Ok(())
 }
 
@@ -86,5 +101,53 @@ fn records_by_their_stamps(rt: HostRuntime) -> Result<(), Fail> {
         is(&rt, line.number, *number);
     }
     is(&rt, numbered(epoch, 1).stamp(), epoch);
+    Ok(())
+}
+
+#[derive(Clone, Copy)]
+struct Sale {
+    at: OffsetDateTime,
+    number: u8,
+}
+
+impl Dated for Sale {
+    ghost date_time = { λ sale. sale.at };
+
+    fn date_time(&self) -> OffsetDateTime {
+        self.at
+    }
+}
+
+#[test]
+fn records_by_their_date_times(rt: HostRuntime) -> Result<(), Fail> {
+    // Clocks at the later instant show the earlier time.
+    let noon = Timestamp::from_seconds(1_700_000_000)?;
+    let later = Timestamp::from_seconds(1_700_003_600)?;
+    let east = noon.to_utc().to_offset(UtcOffset::from_hms(2, 0, 0)?);
+    let west = later.to_utc().to_offset(UtcOffset::from_hms(-8, 0, 0)?);
+    let mut sales = [
+        Sale {
+            at: west,
+            number: 1,
+        },
+        Sale {
+            at: east,
+            number: 2,
+        },
+    ]
+    .to_vec(rt.alloc())?;
+    logs::sort_by_date_time(&mut sales)?;
+    for (sale, number) in sales.iter().zip([2_u8, 1].iter()) {
+        is(&rt, sale.number, *number);
+    }
+    is(
+        &rt,
+        Sale {
+            at: east,
+            number: 1,
+        }
+        .date_time(),
+        east,
+    );
     Ok(())
 }

@@ -17,6 +17,13 @@ use plain_times::PlainDateTime;
 
 impl UtcDateTime {
     /// The same date in UTC at another time of day.
+    ///
+    /// ```
+    /// let at = UtcDateTime::from_unix_timestamp(1_709_164_800)?;
+    /// let noon = Time::from_hms(12, 0, 0)?;
+    /// assert_eq!(rt; at.replace_time(noon).time(), noon);
+    /// assert_eq!(rt; at.replace_time(noon).day(), 29);
+    /// ```
     pub fn replace_time(self, time: Time) -> UtcDateTime
         ensures { ReplacesTime self time result }
     {
@@ -24,6 +31,14 @@ impl UtcDateTime {
     }
 
     /// The same time of day in UTC on another date.
+    ///
+    /// ```
+    /// let at = UtcDateTime::from_unix_timestamp_nanos(1_577_710_979_480_300_002)?;
+    /// assert_eq!(rt;
+    ///     at.replace_date(Date::from_calendar_date(2024, Month::February, 29)?).as_hms(),
+    ///     (13, 2, 59)
+    /// );
+    /// ```
     pub fn replace_date(self, date: Date) -> UtcDateTime
         ensures { ReplacesDate self date result }
     {
@@ -31,6 +46,12 @@ impl UtcDateTime {
     }
 
     /// As [`Date::replace_year`], of the day in UTC, with the time of day kept.
+    ///
+    /// ```
+    /// let at = UtcDateTime::from_unix_timestamp(1_709_164_800)?;
+    /// assert_eq!(rt; at.replace_year(2028)?.to_ordinal_date(), (2028, 60));
+    /// assert_eq!(rt; at.replace_year(2023), Err(ComponentRange::new("day", true)));
+    /// ```
     pub fn replace_year(self, year: i32) -> Result<UtcDateTime, ComponentRange>
         ensures value { Gives result (wall_year_outcome self year) }
         ensures shown { IfOk result (ShowsYear self year) }
@@ -39,6 +60,12 @@ impl UtcDateTime {
     }
 
     /// As [`Date::replace_month`], of the day in UTC, with the time of day kept.
+    ///
+    /// ```
+    /// let at = UtcDateTime::from_unix_timestamp(1_706_659_200)?;
+    /// assert_eq!(rt; at.replace_month(Month::March)?.ordinal(), 91);
+    /// assert_eq!(rt; at.replace_month(Month::April), Err(ComponentRange::new("day", true)));
+    /// ```
     pub fn replace_month(self, month: Month) -> Result<UtcDateTime, ComponentRange>
         ensures value { Gives result (wall_month_outcome self (month_number month)) }
         ensures shown { IfOk result (ShowsMonth self (month_number month)) }
@@ -47,6 +74,12 @@ impl UtcDateTime {
     }
 
     /// As [`Date::replace_day`], of the day in UTC, with the time of day kept.
+    ///
+    /// ```
+    /// let at = UtcDateTime::from_unix_timestamp(1_709_164_800)?;
+    /// assert_eq!(rt; at.replace_day(1)?.ordinal(), 32);
+    /// assert_eq!(rt; at.replace_day(30), Err(ComponentRange::new("day", true)));
+    /// ```
     pub fn replace_day(self, day: u8) -> Result<UtcDateTime, ComponentRange>
         ensures value { Gives result (wall_day_outcome self day) }
         ensures shown { IfOk result (ShowsDay self day) }
@@ -55,6 +88,12 @@ impl UtcDateTime {
     }
 
     /// As [`Date::replace_ordinal`], of the day in UTC, with the time of day kept.
+    ///
+    /// ```
+    /// let at = UtcDateTime::from_unix_timestamp(1_709_164_800)?;
+    /// assert_eq!(rt; at.replace_ordinal(366)?.to_calendar_date(), (2024, Month::December, 31));
+    /// assert_eq!(rt; at.replace_ordinal(367), Err(ComponentRange::new("ordinal", false)));
+    /// ```
     pub fn replace_ordinal(self, ordinal: u16) -> Result<UtcDateTime, ComponentRange>
         ensures value { Gives result (wall_ordinal_outcome self ordinal) }
         ensures shown { IfOk result (ShowsOrdinal self ordinal) }
@@ -63,6 +102,11 @@ impl UtcDateTime {
     }
 
     /// The first nanosecond of the day that it is in, in UTC.
+    ///
+    /// ```
+    /// let at = UtcDateTime::from_unix_timestamp_nanos(1_577_710_979_480_300_002)?;
+    /// assert_eq!(rt; at.truncate_to_day().as_hms_nano(), (0, 0, 0, 0));
+    /// ```
     pub fn truncate_to_day(self) -> UtcDateTime
         ensures value { TruncatesTo nanos_per_day self result }
         ensures midnight { result ≡ wall_clock (wall_day self) 0 }
@@ -73,6 +117,12 @@ impl UtcDateTime {
     }
 
     /// As [`Time::replace_hour`], of the time of day in UTC, with the date kept.
+    ///
+    /// ```
+    /// let at = UtcDateTime::from_unix_timestamp_nanos(1_577_710_979_480_300_002)?;
+    /// assert_eq!(rt; at.replace_hour(0)?.as_hms_nano(), (0, 2, 59, 480_300_002));
+    /// assert_eq!(rt; at.replace_hour(24), Err(ComponentRange::new("hour", false)));
+    /// ```
     pub fn replace_hour(self, hour: u8) -> Result<UtcDateTime, ComponentRange>
         ensures value { Gives result (wall_hour_outcome self hour) }
         ensures shown { IfOk result (ShowsHour self hour) }
@@ -81,6 +131,11 @@ impl UtcDateTime {
     }
 
     /// The first nanosecond of the hour that it is in, in UTC.
+    ///
+    /// ```
+    /// let at = UtcDateTime::from_unix_timestamp_nanos(1_577_710_979_480_300_002)?;
+    /// assert_eq!(rt; at.truncate_to_hour().as_hms_nano(), (13, 0, 0, 0));
+    /// ```
     pub fn truncate_to_hour(self) -> UtcDateTime
         ensures { TruncatesTo nanos_per_hour self result }
     {
@@ -88,6 +143,12 @@ impl UtcDateTime {
     }
 
     /// As [`Time::replace_minute`], of the time of day in UTC, with the date kept.
+    ///
+    /// ```
+    /// let at = UtcDateTime::from_unix_timestamp_nanos(1_577_710_979_480_300_002)?;
+    /// assert_eq!(rt; at.replace_minute(30)?.as_hms_nano(), (13, 30, 59, 480_300_002));
+    /// assert_eq!(rt; at.replace_minute(60), Err(ComponentRange::new("minute", false)));
+    /// ```
     pub fn replace_minute(self, minute: u8) -> Result<UtcDateTime, ComponentRange>
         ensures value { Gives result (wall_minute_outcome self minute) }
         ensures shown { IfOk result (ShowsMinute self minute) }
@@ -96,6 +157,11 @@ impl UtcDateTime {
     }
 
     /// The first nanosecond of the minute that it is in, in UTC.
+    ///
+    /// ```
+    /// let at = UtcDateTime::from_unix_timestamp_nanos(1_577_710_979_480_300_002)?;
+    /// assert_eq!(rt; at.truncate_to_minute().as_hms_nano(), (13, 2, 0, 0));
+    /// ```
     pub fn truncate_to_minute(self) -> UtcDateTime
         ensures { TruncatesTo nanos_per_minute self result }
     {
@@ -103,6 +169,12 @@ impl UtcDateTime {
     }
 
     /// As [`Time::replace_second`], of the time of day in UTC, with the date kept.
+    ///
+    /// ```
+    /// let at = UtcDateTime::from_unix_timestamp_nanos(1_577_710_979_480_300_002)?;
+    /// assert_eq!(rt; at.replace_second(0)?.as_hms_nano(), (13, 2, 0, 480_300_002));
+    /// assert_eq!(rt; at.replace_second(60), Err(ComponentRange::new("second", false)));
+    /// ```
     pub fn replace_second(self, second: u8) -> Result<UtcDateTime, ComponentRange>
         ensures value { Gives result (wall_second_outcome self second) }
         ensures shown { IfOk result (ShowsSecond self second) }
@@ -111,6 +183,11 @@ impl UtcDateTime {
     }
 
     /// The first nanosecond of the second that it is in, in UTC.
+    ///
+    /// ```
+    /// let at = UtcDateTime::from_unix_timestamp_nanos(1_577_710_979_480_300_002)?;
+    /// assert_eq!(rt; at.truncate_to_second().as_hms_nano(), (13, 2, 59, 0));
+    /// ```
     pub fn truncate_to_second(self) -> UtcDateTime
         ensures { TruncatesTo nanos_per_second self result }
     {
@@ -118,6 +195,15 @@ impl UtcDateTime {
     }
 
     /// As [`Time::replace_millisecond`], of the time of day in UTC, with the date kept.
+    ///
+    /// ```
+    /// let at = UtcDateTime::from_unix_timestamp_nanos(1_577_710_979_480_300_002)?;
+    /// assert_eq!(rt; at.replace_millisecond(7)?.as_hms_nano(), (13, 2, 59, 7_000_000));
+    /// assert_eq!(rt;
+    ///     at.replace_millisecond(1_000),
+    ///     Err(ComponentRange::new("millisecond", false))
+    /// );
+    /// ```
     pub fn replace_millisecond(self, millisecond: u16) -> Result<UtcDateTime, ComponentRange>
         ensures value { Gives result (wall_millisecond_outcome self millisecond) }
         ensures shown { IfOk result (ShowsMillisecond self millisecond) }
@@ -126,6 +212,11 @@ impl UtcDateTime {
     }
 
     /// The first nanosecond of the millisecond that it is in, in UTC.
+    ///
+    /// ```
+    /// let at = UtcDateTime::from_unix_timestamp_nanos(1_577_710_979_480_300_002)?;
+    /// assert_eq!(rt; at.truncate_to_millisecond().as_hms_nano(), (13, 2, 59, 480_000_000));
+    /// ```
     pub fn truncate_to_millisecond(self) -> UtcDateTime
         ensures { TruncatesTo nanos_per_millisecond self result }
     {
@@ -133,6 +224,15 @@ impl UtcDateTime {
     }
 
     /// As [`Time::replace_microsecond`], of the time of day in UTC, with the date kept.
+    ///
+    /// ```
+    /// let at = UtcDateTime::from_unix_timestamp_nanos(1_577_710_979_480_300_002)?;
+    /// assert_eq!(rt; at.replace_microsecond(7)?.as_hms_nano(), (13, 2, 59, 7_000));
+    /// assert_eq!(rt;
+    ///     at.replace_microsecond(1_000_000),
+    ///     Err(ComponentRange::new("microsecond", false))
+    /// );
+    /// ```
     pub fn replace_microsecond(self, microsecond: u32) -> Result<UtcDateTime, ComponentRange>
         ensures value { Gives result (wall_microsecond_outcome self microsecond) }
         ensures shown { IfOk result (ShowsMicrosecond self microsecond) }
@@ -141,6 +241,11 @@ impl UtcDateTime {
     }
 
     /// The first nanosecond of the microsecond that it is in, in UTC.
+    ///
+    /// ```
+    /// let at = UtcDateTime::from_unix_timestamp_nanos(1_577_710_979_480_300_002)?;
+    /// assert_eq!(rt; at.truncate_to_microsecond().as_hms_nano(), (13, 2, 59, 480_300_000));
+    /// ```
     pub fn truncate_to_microsecond(self) -> UtcDateTime
         ensures { TruncatesTo nanos_per_microsecond self result }
     {
@@ -148,6 +253,15 @@ impl UtcDateTime {
     }
 
     /// As [`Time::replace_nanosecond`], of the time of day in UTC, with the date kept.
+    ///
+    /// ```
+    /// let at = UtcDateTime::from_unix_timestamp_nanos(1_577_710_979_480_300_002)?;
+    /// assert_eq!(rt; at.replace_nanosecond(7)?.as_hms_nano(), (13, 2, 59, 7));
+    /// assert_eq!(rt;
+    ///     at.replace_nanosecond(1_000_000_000),
+    ///     Err(ComponentRange::new("nanosecond", false))
+    /// );
+    /// ```
     pub fn replace_nanosecond(self, nanosecond: u32) -> Result<UtcDateTime, ComponentRange>
         ensures value { Gives result (wall_nanosecond_outcome self nanosecond) }
         ensures shown { IfOk result (ShowsNanosecond self nanosecond) }
@@ -161,6 +275,9 @@ impl UtcDateTime {
     ) -> Result<UtcDateTime, ComponentRange>
         ensures { result ≡ plain }
     {
-        Ok(UtcDateTime::from_plain(plain?))
+        match plain {
+            Ok(plain) => Ok(UtcDateTime::from_plain(plain)),
+            Err(refusal) => Err(refusal),
+        }
     }
 }

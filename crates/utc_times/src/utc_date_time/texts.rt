@@ -10,6 +10,11 @@ use std::fmt;
 
 impl UtcDateTime {
     /// The text, as `1970-01-01 0:00:00.0 +00`: the date, a space, the time of day, and ` +00`.
+    ///
+    /// ```
+    /// let at = UtcDateTime::from_unix_timestamp_nanos(1_577_710_979_480_300_002)?;
+    /// assert_eq!(rt; at.text().as_str(), "2019-12-30 13:02:59.480300002 +00");
+    /// ```
     pub fn text(self) -> Text
         ensures text { result ≡ utc_text self }
         ensures length { length result ≤ 36 }

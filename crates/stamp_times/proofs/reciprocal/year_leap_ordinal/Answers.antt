@@ -1,7 +1,7 @@
 use Rattle.std.proofs.Common.{◌≡◌, ◌∙◌, sym, rules, w32, to_z, of_z}
-use Rattle.stamp_times.specs.Reciprocal.{shifted_day, step_year, step_leap, step_ordinal}
-use Rattle.stamp_times.proofs.ReciprocalLemmas.{year_of-step, is_leap_year-step, ordinal_of-step, IsOrdinalDateOfRange-found, day_of_ordinal_date-step}
-use Rattle.stamp_times.proofs.ReciprocalLemmas.{IsInRange-found}
+use Rattle.calendar_values.specs.Reciprocal.{shifted_day, step_year, step_leap, step_ordinal}
+use Rattle.calendar_values.specs.ReciprocalLemmas.{year_of-step, is_leap_year-step, ordinal_of-step, IsOrdinalDateOfRange-found, day_of_ordinal_date-step}
+use Rattle.calendar_values.specs.ReciprocalLemmas.{IsInRange-found}
 use Rattle.stamp_times.proofs.reciprocal.year_leap_ordinal.Goals as goal
 
 -- what the steps found

@@ -5,11 +5,11 @@ use Rattle.offset_times.specs.Local.{instant_of}
 use Rattle.offset_times.specs.InstantLemmas.{instant_of-in_utc}
 use Rattle.offset_times.proofs.offset_date_time.OffsetDateTime.checked_to_utc.Goals as goal
 
-pub returns-in_err-date_time_if_any : goal.returns-in_err-date_time_if_any
-returns-in_err-date_time_if_any c =
+pub returns-in-None : goal.returns-in-None
+returns-in-None c =
     let shown : wall_clock (day_of_ordinal_date (to_z w32 (of_z w32 c.to_utc_raw-year.result.0)) c.to_utc_raw-year.result.1) c.to_utc_raw-year.result.2 ≡
     instant_of c.args.self = search rules in
-    rw c.from_residual.ensures (λ in_range. c.in_err-date_time_if_any.ensures (subst (λ (w : ℤ). IsWallClock w) (sym shown) in_range))
+    λ in_range. c.in-None.ensures (subst (λ (w : ℤ). IsWallClock w) (sym shown) in_range)
 
 pub returns-then-is_utc : goal.returns-then-is_utc
 returns-then-is_utc c =
@@ -19,8 +19,8 @@ returns-then-is_utc c =
       c.as_utc.ensures ∙ c.date_time.ensures.value ∙ sym own,
     )
 
-pub returns : goal.returns
-returns c =
+pub returns-in-Some : goal.returns-in-Some
+returns-in-Some c =
     let shown : wall_clock (day_of_ordinal_date (to_z w32 (of_z w32 c.to_utc_raw-year.result.0)) c.to_utc_raw-year.result.1) c.to_utc_raw-year.result.2 ≡
     instant_of c.args.self = search rules in
-    (subst (λ (w : ℤ). IsWallClock w) shown c.in_ok-date_time_if_any.ensures.0, c.as_utc-2.ensures ∙ c.in_ok-date_time_if_any.ensures.1 ∙ shown)
+    (subst (λ (w : ℤ). IsWallClock w) shown c.in-Some.ensures.0, c.as_utc-in-Some.ensures ∙ c.in-Some.ensures.1 ∙ shown)

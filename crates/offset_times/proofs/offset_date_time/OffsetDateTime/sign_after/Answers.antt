@@ -13,8 +13,10 @@ returns-then-days-ltminus4 c =
     ap (λ (d : ℤ). int_cmp d (pos 0)) back ∙ elim c.then-days-ltminus4.branch [
       | then-days-ltminus4-via-then-days-ltminus4 w ↦
           let far : days <ℤ neg_ℤ (pos 4) = omega (arith, signed_casts, w.if-days-ltminus4) in
-          int_cmp-earlier days (instant_of c.args.self) (instant_of c.args.other) (omega (arith, signed_casts)) (c.rough_days_from-days.ensures.earlier far)
+          int_cmp-earlier days (instant_of c.args.self.now) (instant_of c.args.other.now) (omega (arith, signed_casts))
+          (c.rough_days_from-days.ensures.earlier far)
       | then-days-ltminus4-via-else-days-ltminus4+then-days-gt4 w ↦
           let far : pos 4 <ℤ days = omega (arith, signed_casts, w.if-days-gt4) in
-          int_cmp-later days (instant_of c.args.self) (instant_of c.args.other) (omega (arith, signed_casts)) (c.rough_days_from-days.ensures.later far)
+          int_cmp-later days (instant_of c.args.self.now) (instant_of c.args.other.now) (omega (arith, signed_casts))
+          (c.rough_days_from-days.ensures.later far)
     ]

@@ -16,26 +16,26 @@ returns-then-is_utc-clause-value c =
     let utc : c.args.offset ≡ pos 0 = search rules in
     let in_range : IsWallClock instant = search rules in
     let shown = shown_at-utc instant c.args.offset utc in
-    let made : c.from.result ≡ local_in_utc instant = c.from.ensures.0 in (
+    let made : c.from_utc.result ≡ local_in_utc instant = c.from_utc.ensures.value in (
       subst (λ (w : ℤ). IsWallClock w) (sym shown) in_range,
       made ∙ ap (λ (w : ℤ). local_in_utc w) (sym shown) ∙ ap (λ (o : ℤ). wall_at (shown_at instant c.args.offset) o) (sym utc),
     )
 
-pub returns-in_err-date_time_if_any-clause-value : goal.returns-in_err-date_time_if_any-clause-value
-returns-in_err-date_time_if_any-clause-value c =
+pub returns-in-None-clause-value : goal.returns-in-None-clause-value
+returns-in-None-clause-value c =
     let shown : wall_clock (day_of_ordinal_date (to_z w32 (of_z w32 c.utc_to_offset_raw-year.result.0)) c.utc_to_offset_raw-year.result.1)
     c.utc_to_offset_raw-year.result.2 ≡ shown_at c.args.self c.args.offset = search rules in
-    rw c.from_residual.ensures (λ in_range. c.in_err-date_time_if_any.ensures (subst (λ (w : ℤ). IsWallClock w) (sym shown) in_range))
+    λ in_range. c.in-None.ensures (subst (λ (w : ℤ). IsWallClock w) (sym shown) in_range)
 
-pub returns-clause-instant : goal.returns-clause-instant
-returns-clause-instant c =
+pub returns-in-Some-clause-instant : goal.returns-in-Some-clause-instant
+returns-in-Some-clause-instant c =
     let kept : c.assume_offset.result ≡ local_at c.args.self c.args.offset = search rules in
     ap instant_of kept ∙ instant_of-local_at c.args.self c.args.offset
 
-pub returns-clause-value : goal.returns-clause-value
-returns-clause-value c =
+pub returns-in-Some-clause-value : goal.returns-in-Some-clause-value
+returns-in-Some-clause-value c =
     let shown : wall_clock (day_of_ordinal_date (to_z w32 (of_z w32 c.utc_to_offset_raw-year.result.0)) c.utc_to_offset_raw-year.result.1)
     c.utc_to_offset_raw-year.result.2 ≡ shown_at c.args.self c.args.offset = search rules in (
-      subst (λ (w : ℤ). IsWallClock w) shown c.in_ok-date_time_if_any.ensures.0,
-      c.assume_offset.ensures.value ∙ ap (λ (w : ℤ). wall_at w c.args.offset) (c.in_ok-date_time_if_any.ensures.1 ∙ shown),
+      subst (λ (w : ℤ). IsWallClock w) shown c.in-Some.ensures.0,
+      c.assume_offset.ensures.value ∙ ap (λ (w : ℤ). wall_at w c.args.offset) (c.in-Some.ensures.1 ∙ shown),
     )

@@ -1,5 +1,5 @@
 use Rattle.plain_times.specs.ReplacementLemmas.{OnOrdinalDate-shown}
 use Rattle.plain_times.proofs.plain_date_time.PlainDateTime.replace_ordinal.Goals as goal
 
-pub returns-clause-shown : goal.returns-clause-shown
-returns-clause-shown c = OnOrdinalDate-shown _ _ _ _ _ (rw c.date.ensures.value at c.in_ok-replace_ordinal.ensures.shown) c.replace_date.ensures
+pub returns-in-Ok-clause-shown : goal.returns-in-Ok-clause-shown
+returns-in-Ok-clause-shown c = OnOrdinalDate-shown _ _ _ _ _ (rw c.date.ensures.value at c.in-Ok.ensures.shown) c.replace_date.ensures

@@ -5,16 +5,16 @@ use Rattle.stamp_times.specs.TimestampLemmas.{instant_of_parts-of}
 use Rattle.stamp_times.proofs.TimestampSumLemmas.{IsWallClock-same}
 use Rattle.stamp_times.proofs.timestamp.Timestamp.checked_add.Goals as goal
 
-pub returns-in_err-seconds : goal.returns-in_err-seconds
-returns-in_err-seconds c =
+pub returns-in-None : goal.returns-in-None
+returns-in-None c =
     let here = instant_of_parts-of c.args.self in
     let sum = duration_of_parts-of c.args.duration in
     let parts = IsDurationParts-of c.args.duration in
-    rw c.from_residual.ensures (λ within. c.in_err-seconds.ensures (omega (arith, signed_casts)))
+    λ within. c.in-None.ensures (omega (arith, signed_casts))
 
-pub returns : goal.returns
-returns c =
+pub returns-in-Some : goal.returns-in-Some
+returns-in-Some c =
     let here = instant_of_parts-of c.args.self in
     let sum = duration_of_parts-of c.args.duration in
-    let seconds = c.in_ok-seconds.ensures in
+    let seconds = c.in-Some.ensures in
     IsWallClock-same _ _ _ c.carried.ensures (omega (arith, signed_casts))

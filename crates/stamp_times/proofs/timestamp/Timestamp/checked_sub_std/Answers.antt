@@ -4,8 +4,8 @@ use Rattle.stamp_times.specs.TimestampLemmas.{instant_of_parts-of}
 use Rattle.stamp_times.proofs.TimestampSumLemmas.{IsWallClock-same}
 use Rattle.stamp_times.proofs.timestamp.Timestamp.checked_sub_std.Goals as goal
 
-pub returns : goal.returns
-returns c =
+pub returns-in-Some : goal.returns-in-Some
+returns-in-Some c =
     let here = instant_of_parts-of c.args.self in
-    let seconds = c.in_ok-seconds.ensures in
+    let seconds = c.in-Some.ensures in
     IsWallClock-same _ _ _ c.carried.ensures (omega (arith, signed_casts))

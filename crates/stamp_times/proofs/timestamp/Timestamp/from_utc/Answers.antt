@@ -1,6 +1,6 @@
 use Rattle.std.proofs.Common.{◌≡◌, arith, rules, to_z, of_z, w64}
 use Rattle.stamp_times.specs.TimestampLemmas.{instant_of_parts-of}
-use Rattle.stamp_times.proofs.timestamp.with_utc.TimestampFromUtcDateTime.from.Goals as goal
+use Rattle.stamp_times.proofs.timestamp.Timestamp.from_utc.Goals as goal
 
 pub invariant_of-result : goal.invariant_of-result
 invariant_of-result c =
