@@ -1,6 +1,6 @@
 -- What the front of a text is read as.
-use Rattle.std.proofs.Common.{◌≡◌, ℕ, ℤ, ◌-◌, ◌≤◌, ◌<◌, Bool, true, false, cond, nat_lt, List, [], ◌++◌, length, length-append, append-nil, Some, Result, Ok}
-use Rattle.std.proofs.Common.{Err}
+use Rattle.std.proofs.Common.{◌≡◌, ℕ, ℤ, ◌-◌, ◌≤◌, ◌<◌, Bool, true, false, cond, nat_lt, List, [], ◌++◌, length}
+use Rattle.std.proofs.Common.{Err, drop, length-append, append-nil, Option, Some, None, Result, Ok}
 use Rattle.std.proofs.Common.{refl, sym, ap, ◌∙◌, arith}
 use Rattle.std.specs.Prelude.{IfOk, OkIff}
 use Rattle.std.specs.Result.{result_map_both}
@@ -11,7 +11,8 @@ use Rattle.rfc3339.specs.declared.refusal.TextRefusal.{TextRefusal}
 use Rattle.rfc3339.specs.declared.refusal.Component.TheVariants.{OffsetHour, OffsetMinute}
 use Rattle.rfc3339.specs.declared.refusal.TextRefusal.TheVariants.{OutOfRange}
 use Rattle.rfc3339.specs.Form.{IsDateTime, IsOffsetText}
-use Rattle.rfc3339.specs.Front.{front_reading_of, offset_reading_of}
+use Rattle.std.proofs.Math.Seq.{drop-append_seam}
+use Rattle.rfc3339.specs.Front.{front_meaning, front_reading_of, offset_reading_of}
 use Rattle.rfc3339.specs.ReadInstantLemmas.{instant_of-in_range}
 use Rattle.rfc3339.specs.Meaning.{AreInRange, offset_of, value_of, meaning}
 use Rattle.rfc3339.specs.Reading.{front_at}
@@ -53,6 +54,35 @@ pub accepted_front : (text : List ℕ) (r : Result (Local × ℕ) TextRefusal) �
     → text ≡ stamp ++ rest → IsDateTime stamp p → OkIff r (AreInRange p) (value_of p, length stamp)
 accepted_front text r e stamp rest p s h =
     rw (e, front_reading_of-spelled text stamp rest p s h) (accepted-with_length p (length stamp) (meaning p) refl)
+
+-- what is accepted begins with a stamp that spells parts in their ranges
+spelled_with : (text stamp rest : List ℕ) (p : Parts) (m : Result Local TextRefusal) (x : Local × ℕ) → text ≡ stamp ++ rest → IsDateTime stamp p
+    → meaning p ≡ m → with_length (length text - length rest) m ≡ Ok x
+    → (text ≡ stamp ++ rest) × (length stamp ≡ x.1) × (rest ≡ drop x.1 text) × IsDateTime stamp p × AreInRange p × (x.0 ≡ value_of p)
+spelled_with text stamp rest p (Err d) x e h means given = absurd cc
+spelled_with text stamp rest p (Ok at) x e h means given =
+    let same : (at, length text - length rest) ≡ x = cc in
+    let ok = meaning-ok p at means in
+    let size : length text - length rest ≡ length stamp = omega (arith, ap (length {A = ℕ}) e, length-append stamp rest) in
+    let count : length stamp ≡ x.1 = sym size ∙ ap (λ (z : Local × ℕ). z.1) same in
+    let behind : rest ≡ drop x.1 text = rw (← count, e) (sym (drop-append_seam stamp rest)) in
+    (e, count, behind, h, ok.0, sym (ap (λ (z : Local × ℕ). z.0) same) ∙ ok.1)
+
+spelled_at : (text : List ℕ) (o : Option (Parts × List ℕ)) (x : Local × ℕ) → front_at text ≡ o → front_meaning text o ≡ Ok x
+    → (stamp : List ℕ) × (rest : List ℕ) × (p : Parts) × (text ≡ stamp ++ rest) × (length stamp ≡ x.1) × (rest ≡ drop x.1 text)
+    × IsDateTime stamp p × AreInRange p × (x.0 ≡ value_of p)
+spelled_at text None x e given = absurd cc
+spelled_at text (Some read) x e given =
+    let front = front_takes text read.0 read.1 e in
+    let s = spelled_with text front.0 read.1 read.0 (meaning read.0) x front.1.parts front.1.is refl given in
+    (front.0, read.1, read.0, s.0, s.1, s.2, s.3, s.4, s.5)
+
+pub spelled_front : (text : List ℕ) (r : Result (Local × ℕ) TextRefusal) → r ≡ front_reading_of text
+    → IfOk r (λ read. (stamp : List ℕ) × (rest : List ℕ) × (p : Parts) × (text ≡ stamp ++ rest) × (length stamp ≡ read.1)
+    × (rest ≡ drop read.1 text) × IsDateTime stamp p × AreInRange p × (read.0 ≡ value_of p))
+unfolding front_reading_of
+spelled_front text (Err d) e = tt
+spelled_front text (Ok x) e = spelled_at text (front_at text) x refl (sym e)
 
 longest_with : (n : ℕ) (m : Result Local TextRefusal) → IfOk (with_length n m) (λ read. n ≤ read.1)
 longest_with n (Ok at) = omega arith

@@ -201,6 +201,15 @@ pub leap_reading_of-accepted : (text : List ℕ) (x : Local × Bool) → leap_re
     → (p : Parts) × IsDateTime text p × (leap_meaning p ≡ Ok x)
 leap_reading_of-accepted text x r = spelled_of text (parts_at text) x refl r
 
+-- and they are in their ranges
+pub spelled_leap : (text : List ℕ) (r : Result (Local × Bool) TextRefusal) → r ≡ leap_reading_of text
+    → IfOk r (λ read. (p : Parts) × IsDateTime text p × AreInLeapRange p × (read ≡ (value_of (stand_in p), nat_eq p.second 60)))
+spelled_leap text (Err d) e = tt
+spelled_leap text (Ok x) e =
+    let read = leap_reading_of-accepted text x (sym e) in
+    let ok = leap_meaning-ok read.0 x read.2 in
+    (read.0, read.1, ok.0, pair_is x (value_of (stand_in read.0)) (nat_eq read.0.second 60) ok.1 ok.2)
+
 -- with the mark it is the last nanosecond of a month
 pub marked_leap : (text : List ℕ) (r : Result (Local × Bool) TextRefusal) → r ≡ leap_reading_of text
     → IfOk r (λ read. read.1 ≡ true → IsLastOfMonth (instant_of read.0))

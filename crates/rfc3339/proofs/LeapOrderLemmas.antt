@@ -1,7 +1,7 @@
 -- What is read keeps the order of what was written, with seconds of 60.
 use Rattle.std.proofs.Common.{◌≡◌, ℕ, ◌+◌, ◌*◌, ◌<◌, ◌≤◌, Bool, true, false, nat_eq, nat_lt, List, refl, sym, ◌∙◌, inl, inr, arith}
 use Rattle.std.proofs.Common.{ℤ, pos, ◌+ℤ◌, ◌-ℤ◌, ◌*ℤ◌}
-use Rattle.std.specs.Prelude.{◌⊎◌, ◌<ℤ◌, if◌then◌else◌}
+use Rattle.std.specs.Prelude.{◌⊎◌, ◌<ℤ◌, if◌then◌else◌, Ok}
 use Rattle.std.proofs.lemmas.Bool.Decides.{nat_tests}
 use Rattle.calendar_values.specs.Calendar.{day_of_calendar_date}
 use Rattle.calendar_values.specs.SignedArith.{signed_arith}
@@ -9,8 +9,8 @@ use Rattle.offset_times.specs.Local.{Local, instant_of}
 use Rattle.rfc3339.specs.declared.parts.Parts.{Parts}
 use Rattle.rfc3339.specs.Form.{IsDateTime}
 use Rattle.rfc3339.specs.FractionLemmas.{IsFraction-below}
-use Rattle.rfc3339.specs.LeapLaws.{minute_begin, LeapReadingsKeepTheOrder}
-use Rattle.rfc3339.specs.LeapSeconds.{stand_in}
+use Rattle.rfc3339.specs.LeapLaws.{minute_begin, IsWrittenBefore, IsWrittenWith}
+use Rattle.rfc3339.specs.LeapSeconds.{leap_reading_of, stand_in}
 use Rattle.rfc3339.specs.Meaning.{AreInRange, offset_of, value_of}
 use Rattle.rfc3339.proofs.LeapLemmas.{leap_meaning-ok, leap_reading_of-spelled}
 
@@ -111,7 +111,11 @@ is_read : (text : List ℕ) (p : Parts) → IsDateTime text p → AreInRange (st
 is_read text p h r =
     is_read_as p.second p.nanosecond (nat_eq p.second 60) refl r.second (IsFraction-below h.fraction p.nanosecond h.is_fraction)
 
-pub leap_reading_of-order : LeapReadingsKeepTheOrder
+pub leap_reading_of-order : (first second : List ℕ) (p q : Parts) (a b : Local) (is_leap is_later_leap : Bool)
+    → IsDateTime first p → IsDateTime second q
+    → leap_reading_of first ≡ Ok (a, is_leap) → leap_reading_of second ≡ Ok (b, is_later_leap)
+    → (IsWrittenBefore p q → (instant_of a <ℤ instant_of b) ⊎ ((instant_of a ≡ instant_of b) × (is_later_leap ≡ true)))
+    × (IsWrittenWith p q → instant_of a ≡ instant_of b)
 leap_reading_of-order first second p q a b is_leap is_later_leap h k r t =
     let x = leap_meaning-ok p (a, is_leap) (sym (leap_reading_of-spelled first p h) ∙ r) in
     let y = leap_meaning-ok q (b, is_later_leap) (sym (leap_reading_of-spelled second q k) ∙ t) in

@@ -9,6 +9,9 @@ pub mod DigitTextLemmas
 mod FaultLemmas
 pub mod FaultFormLemmas
 pub mod FrontLemmas
+mod PairLemmas
+mod PointLemmas
+mod PutLemmas
 mod RangeLemmas
 pub mod LeapLemmas
 pub mod LeapOrderLemmas
@@ -16,5 +19,6 @@ pub mod LengthLemmas
 mod ShortestLemmas
 pub mod TextOrderLemmas
 pub mod UnixLemmas
+mod WallLemmas
 pub mod WriteLemmas
 mod ZoneLemmas

@@ -1,4 +1,5 @@
 pub mod Reading
+pub mod Walls
 pub mod Front
 pub mod Faults
 pub mod Form
@@ -27,3 +28,5 @@ pub mod ValueLemmas
 pub mod ReadInstantLemmas
 pub mod FullDateLemmas
 pub mod ReadingLemmas
+pub mod Words
+pub mod Callers

@@ -54,13 +54,13 @@ offset_of-parts o false t e = omega (arith, signed_arith, one_part o)
 pub year_is : (y : ℤ) → pos 0 ≤ℤ y → pos (unsigned_abs y) ≡ y
 year_is y h = omega (arith, signed_arith, one_part y)
 
-value_of-parts : (at : Local) → HasText at → value_of (parts_of at) ≡ at
+pub value_of-parts : (at : Local) → HasText at → value_of (parts_of at) ≡ at
 value_of-parts at h =
     let year = year_is (year_of (wall_day at.wall)) h.year_first in
     let offset = offset_of-parts at.offset _ refl h.whole_minutes in
     rw (year, day_of_calendar_date-of (wall_day at.wall), clock_of_parts-of (wall_time at.wall), offset, wall_clock-parts at.wall) refl
 
-parts-in_range : (at : Local) → HasText at → AreInRange (parts_of at)
+pub parts-in_range : (at : Local) → HasText at → AreInRange (parts_of at)
 parts-in_range at h =
     let day = wall_day at.wall in
     let date = IsCalendarDate-of day in
@@ -68,6 +68,12 @@ parts-in_range at h =
     let year = year_is (year_of day) h.year_first in
     let last = subst (λ (y : ℤ). day_of_month_of day ≤ days_in_month (is_leap_year y) (month_of day)) (sym year) date.day_last in
     omega arith
+
+pub parts-year : (at : Local) → HasText at → (parts_of at).year ≤ 9_999
+parts-year at h = omega (arith, signed_arith, h.year_first, h.year_last)
+
+pub parts-nanosecond : (at : Local) → (parts_of at).nanosecond ≤ 999_999_999
+parts-nanosecond at = omega arith
 
 -- what was written means what was written
 pub meaning-text : (at : Local) → HasText at → meaning (parts_of at) ≡ Ok at

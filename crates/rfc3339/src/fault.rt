@@ -4,13 +4,33 @@ ghost use Rattle.rfc3339.specs.Faults.{may_stand, next_place, place_in_offset, s
 ghost use Rattle.rfc3339.specs.Form.{IsDateTime};
 ghost use Rattle.rfc3339.specs.declared.parts.Parts.{Parts};
 
-// The place behind the end of the form, and that of a byte that may not stand where it does.
+// The places of the form after the 19 bytes of the date and of the time of day: before a point or an offset,
+const AFTER_SECOND: u8 = 19;
+
+// after the point,
+const AFTER_POINT: u8 = 20;
+
+// after a digit of the fraction,
+const IN_FRACTION: u8 = 21;
+
+// after the sign of an offset, with the hours, a colon and the minutes from there on,
+const AFTER_SIGN: u8 = 22;
+
+// before that colon,
+const BEFORE_COLON: u8 = 24;
+
+// and after the end. A byte that may not be where it is leads nowhere.
 const END: u8 = 27;
 
 const NOWHERE: u8 = 28;
 
-/// The place of the fault in a text that is refused `Syntax`, counted from 0: of `1985-04-12_23:20:50Z` it is 10. There the
-/// text has a byte with which no text of the form goes on, or its end. Of a text of the form it is the number of its bytes.
+/// The index of the fault in a text that fails with `Syntax`: 10 for `1985-04-12_23:20:50Z`. No
+/// text of the form continues with the byte at that index; or the text ends there, too early. For a
+/// text of the form it is the length of the text.
+///
+/// ```
+/// assert_eq!(rt; rfc3339::syntax_fault(b"1937-01-01T12:00"), 16);
+/// ```
 pub fn syntax_fault(text: &[u8]) -> usize
     ensures place { result ≡ standing 0 text.now }
     ensures at_most { result ≤ length text.now }
@@ -43,23 +63,23 @@ fn standing(text: &[u8]) -> usize
 fn next_place(place: u8, byte: u8) -> u8
     ensures { result ≡ next_place place byte }
 {
-    if place < 19 {
+    if place < AFTER_SECOND {
         return next_if(may_stand(place, byte), place);
     }
     match place {
-        19 => if byte == b'.' {
-            20
+        AFTER_SECOND => if byte == b'.' {
+            AFTER_POINT
         } else {
             place_in_offset(byte)
         },
-        20 => next_if(byte.is_ascii_digit(), 20),
-        21 => if byte.is_ascii_digit() {
-            21
+        AFTER_POINT => next_if(byte.is_ascii_digit(), AFTER_POINT),
+        IN_FRACTION => if byte.is_ascii_digit() {
+            IN_FRACTION
         } else {
             place_in_offset(byte)
         },
-        24 => next_if(byte == b':', 24),
-        22 | 23 | 25 | 26 => next_if(byte.is_ascii_digit(), place),
+        BEFORE_COLON => next_if(byte == b':', BEFORE_COLON),
+        AFTER_SIGN..END => next_if(byte.is_ascii_digit(), place),
         _ => NOWHERE,
     }
 }
@@ -92,7 +112,7 @@ fn place_in_offset(byte: u8) -> u8
 {
     match byte {
         b'Z' | b'z' => END,
-        b'+' | b'-' => 22,
+        b'+' | b'-' => AFTER_SIGN,
         _ => NOWHERE,
     }
 }

@@ -1,5 +1,5 @@
 //! Texts read that stand in front of others, and offsets alone.
-ghost use Rattle.std.specs.Prelude.{◌≡◌, ◌≤◌, ◌<◌, ◌++◌, List, ℕ, Bool, IfOk, OkIff, length};
+ghost use Rattle.std.specs.Prelude.{◌≡◌, ◌≤◌, ◌<◌, ◌++◌, List, ℕ, Bool, IfOk, OkIff, length, drop};
 ghost use Rattle.calendar_values.specs.WallClock.{IsInstant};
 ghost use Rattle.offset_times.specs.Local.{instant_of};
 ghost use Rattle.rfc3339.specs.Form.{IsDateTime, IsOffsetText};
@@ -14,14 +14,24 @@ use crate::{Component, TextRefusal};
 use calendar_values::UtcOffset;
 use offset_times::OffsetDateTime;
 
-/// Reads the `date-time` of RFC 3339 that a text begins with, and gives the number of its bytes too: of
-/// `1985-04-12T23:20:50.52Z done` the first 23. It is read as [`parse_rfc3339`](crate::parse_rfc3339) reads it alone.
-/// Refused `Syntax` where no beginning of the text has that form.
+/// The wall clock and the offset at the front of a text, and the number of bytes read: 23 for
+/// `1985-04-12T23:20:50.52Z done`. It reads them as [`parse_rfc3339`](crate::parse_rfc3339) reads
+/// these bytes alone. Fails with `Syntax` if no front of the text has that form.
+///
+/// ```
+/// let (at, length) = rfc3339::parse_rfc3339_front(b"1990-12-31T23:59:59Z ready")?;
+/// assert_eq!(rt; at.year(), 1990);
+/// assert_eq!(rt; length, 20);
+/// ```
 pub fn parse_rfc3339_front(text: &[u8]) -> Result<(OffsetDateTime, usize), TextRefusal>
     ensures reading { result ≡ front_reading_of text.now }
     // A beginning that spells parts is accepted exactly where they are in their ranges, and then as what they mean.
     ensures value { (stamp rest : List ℕ) (p : Parts) → text.now ≡ stamp ++ rest
         → IsDateTime stamp p → OkIff result (AreInRange p) (value_of p, length stamp) }
+    // What is accepted begins with such a stamp, in its ranges, and the rest follows it.
+    ensures accepted { IfOk result (λ read. (stamp : List ℕ) × (rest : List ℕ) × (p : Parts) ×
+        (text.now ≡ stamp ++ rest) × (length stamp ≡ read.1) × (rest ≡ drop read.1 text.now) ×
+        IsDateTime stamp p × AreInRange p × (read.0 ≡ value_of p)) }
     // It is the longest beginning that has the form.
     ensures longest { (stamp rest : List ℕ) (p : Parts) → text.now ≡ stamp ++ rest
         → IsDateTime stamp p → IfOk result (λ read. length stamp ≤ read.1) }
@@ -50,8 +60,16 @@ fn read_front(text: &[u8]) -> Result<(OffsetDateTime, usize), TextRefusal>
     }
 }
 
-/// Reads an offset of RFC 3339 with nothing before or after it, as `+05:30` or `Z`. Refused `Syntax` where the text has
-/// not that form, else by the first of its numbers that is out of its range.
+/// Reads an offset of RFC 3339 with nothing before or after it, as `+05:30` or `Z`. Fails with
+/// `Syntax` if the text has another form, else with the first of its numbers that is out of range.
+///
+/// ```
+/// assert_eq!(rt; rfc3339::parse_rfc3339_offset(b"-02:30"), Ok(UtcOffset::from_hms(-2, -30, 0)?));
+/// assert_eq!(rt;
+///     rfc3339::parse_rfc3339_offset(b"+24:00"),
+///     Err(TextRefusal::OutOfRange(Component::OffsetHour))
+/// );
+/// ```
 pub fn parse_rfc3339_offset(text: &[u8]) -> Result<UtcOffset, TextRefusal>
     ensures reading { result ≡ offset_reading_of text.now }
     ensures value { (is_west : Bool) (hour minute : ℕ)

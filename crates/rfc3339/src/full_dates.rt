@@ -9,8 +9,14 @@ use crate::write::push_date;
 use crate::{Component, TextRefusal};
 use calendar_values::{Date, Month, Text};
 
-/// The text of a day, as RFC 3339 writes a `full-date`: `1985-04-12`, of 10 bytes. None where its year is not one of 0 to
-/// 9999.
+/// The text of a day, as RFC 3339 writes a `full-date`: `1985-04-12`, of 10 bytes. None if its year
+/// is not one of 0 to 9999.
+///
+/// ```
+/// let text = rfc3339::date_to_rfc3339(Date::UNIX_EPOCH).ok_or("no text")?;
+/// assert_eq!(rt; text.as_str(), "1970-01-01");
+/// assert_eq!(rt; rfc3339::date_to_rfc3339(Date::MAX).is_none(), true);
+/// ```
 #[tactic(auto, unfolding(crate::specs::FullDates::full_date_text))]
 pub fn date_to_rfc3339(date: Date) -> Option<Text>
     ensures text { SomeIff result (HasFullDate date) (full_date_text date) }
@@ -25,8 +31,20 @@ pub fn date_to_rfc3339(date: Date) -> Option<Text>
     Some(text)
 }
 
-/// Reads a `full-date` of RFC 3339, section 5.6, with nothing before or after it, as `1985-04-12`. Refused `Syntax` where
-/// the text has not that form, else by its month or its day, the first that is out of its range.
+/// Reads a `full-date` of RFC 3339, section 5.6, with nothing before or after it, as `1985-04-12`.
+/// Fails with `Syntax` if the text has another form, else with its month or its day, the first that
+/// is out of range.
+///
+/// ```
+/// assert_eq!(rt;
+///     rfc3339::date_from_rfc3339(b"1937-01-01"),
+///     Ok(Date::from_calendar_date(1937, Month::January, 1)?)
+/// );
+/// assert_eq!(rt;
+///     rfc3339::date_from_rfc3339(b"1937-13-01"),
+///     Err(TextRefusal::OutOfRange(Component::Month))
+/// );
+/// ```
 #[tactic(auto, unfolding(crate::specs::FullDates::full_date_reading_of))]
 pub fn date_from_rfc3339(text: &[u8]) -> Result<Date, TextRefusal>
     // The whole answer, as a word that computes.

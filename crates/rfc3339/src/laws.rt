@@ -13,12 +13,13 @@ pub fn texts_have_one_reading()
     ensures { TextsHaveOneReading }
 {}
 
-/// What a text is read as is what the numbers that it spells mean, or else a refusal of its form.
+/// The reading of a text is the meaning of the numbers that it spells, or else an error of its
+/// form.
 pub fn readings_are_of_the_form()
     ensures { ReadingsAreOfTheForm }
 {}
 
-/// What is written has the form, and means the value that was written, offset included.
+/// A written text has the form, and means the value that was written, offset included.
 pub fn written_texts_read_back()
     ensures { WrittenTextsReadBack }
 {}
@@ -38,62 +39,69 @@ pub fn fixed_texts_keep_the_order()
     ensures { FixedTextsKeepTheOrder }
 {}
 
-/// A text of so many digits is read as the date-time truncated to the last of them.
+/// A text of a number of digits reads as the date-time truncated to the last of them.
 pub fn texts_of_digits_truncate()
     ensures { TextsOfDigitsTruncate }
 {}
 
-/// The texts of so many digits at one offset compare, byte by byte, as the date-times truncated to the last of them do.
+/// The texts of one number of digits at one offset compare, byte by byte, as the date-times
+/// truncated to the last of them do.
 pub fn texts_of_digits_keep_the_order()
     ensures { TextsOfDigitsKeepTheOrder }
 {}
 
-/// A text has the form of a date-time exactly where the grammar of RFC 3339 derives it. The grammar has the rule `date-time`, and
-/// a space in place of the T, as a note of the RFC allows. A text has the form of a date exactly where `full-date` derives it.
+/// A text has the form of a date-time exactly where the grammar of RFC 3339 derives it. The grammar
+/// has the rule `date-time`, and a space in place of the T, as a note of the RFC allows. A text has
+/// the form of a date exactly where `full-date` derives it.
 pub fn forms_are_of_the_grammar()
     ensures { FormsAreOfTheGrammar }
 {}
 
-/// A text is refused for its form exactly where the grammar does not derive it.
+/// A text fails for its form exactly if the grammar does not derive it.
 pub fn refusals_are_of_the_grammar()
     ensures { RefusalsAreOfTheGrammar }
 {}
 
-/// The grammar derives each text that the library writes, by the RFC's own `date-time` or `full-date`.
+/// The grammar derives each text that the library writes, by the RFC's own `date-time` or
+/// `full-date`.
 pub fn written_texts_are_of_the_grammar()
     ensures { WrittenTextsAreOfTheGrammar }
 {}
 
-/// No text that the grammar derives begins another. The front of a text is refused for its form exactly where the grammar derives
-/// no beginning of it. The fault of a text follows its longest beginning that also begins a derived text.
+/// No text that the grammar derives begins another. The front of a text fails for its form exactly
+/// if the grammar derives no beginning of it. The fault of a text follows its longest beginning
+/// that also begins a derived text.
 pub fn beginnings_are_of_the_grammar()
     ensures { BeginningsAreOfTheGrammar }
 {}
 
-/// The rules of the grammar, printed as RFC 5234 prints rules, are the lines of RFC 3339, section 5.6.
+/// The rules of the grammar, printed as RFC 5234 prints rules, are the lines of RFC 3339, section
+/// 5.6.
 pub fn grammar_is_printed()
     ensures { GrammarIsPrinted }
 {}
 
-/// What is written earlier, with seconds of 0 to 60, is read by `parse_rfc3339_leap` as an earlier instant, or as the same
-/// where the later is a leap second.
+/// `parse_rfc3339_leap` reads an earlier text, with seconds of 0 to 60, as an earlier instant, or
+/// as the same if the later is a leap second.
 pub fn leap_readings_keep_the_order()
     ensures { LeapReadingsKeepTheOrder }
 {}
 
-/// Of two texts in UTC that are read, leap seconds included, the one whose digits are earlier is not read as a later instant.
+/// Of two texts in UTC that are read, leap seconds included, the one whose digits are earlier is
+/// not read as a later instant.
 pub fn digits_in_utc_keep_the_order()
     ensures { DigitsInUtcKeepTheOrder }
 {}
 
-/// A recogniser computes whether a grammar derives a text, for each grammar in which no rule leads back to itself. RFC 3339's is
-/// one. So a text is refused for its form exactly where the recogniser says no.
+/// A recogniser computes whether a grammar derives a text, for each grammar in which no rule leads
+/// back to itself. RFC 3339's is one. So a text fails for its form exactly if the recogniser
+/// rejects it.
 pub fn grammars_are_decided()
     ensures { GrammarsAreDecided }
 {}
 
-/// The rules of RFC 9557, section 4.1, printed as RFC 5234 prints rules, are the lines of that section. The two alternatives of
-/// `time-zone` are in parentheses.
+/// The rules of RFC 9557, section 4.1, printed as RFC 5234 prints rules, are the lines of that
+/// section. The two alternatives of `time-zone` are in parentheses.
 pub fn suffixes_are_printed()
     ensures { SuffixesArePrinted }
 {}
@@ -108,8 +116,9 @@ pub fn suffixes_are_in_brackets()
     ensures { SuffixesAreInBrackets }
 {}
 
-/// A text of RFC 9557's `date-time-ext` is a date-time of RFC 3339 and a suffix, in one way: the date-time precedes the first
-/// `[`. [`parse_rfc3339_front`](crate::parse_rfc3339_front) reads it as the date-time is read alone.
+/// A text of RFC 9557's `date-time-ext` is a date-time of RFC 3339 and a suffix, in one way: the
+/// date-time precedes the first `[`. [`parse_rfc3339_front`](crate::parse_rfc3339_front) reads it
+/// as the date-time is read alone.
 pub fn suffixes_are_cut_off()
     ensures { SuffixesAreCutOff }
 {}

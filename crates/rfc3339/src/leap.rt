@@ -18,10 +18,17 @@ use crate::{Component, Parts, TextRefusal};
 use calendar_values::{SignedDuration, Time};
 use offset_times::OffsetDateTime;
 
-/// Reads a text as `parse_rfc3339` does, and one whose second is 60 too, as `2016-12-31T23:59:60Z`. A leap second can be
-/// the last second of a month in UTC alone: it is read as the last nanosecond before the next month, whatever its fraction,
-/// with `true` beside it. What is read is in the order of what was written. Refused as `parse_rfc3339` refuses, a second
-/// above 60 with it; and `Second` where all parts are in their ranges and no month ends with the second of 60.
+/// Reads a text as `parse_rfc3339` does, also with a second of 60, as in `2016-12-31T23:59:60Z`. A
+/// leap second is valid only as the last second of a month in UTC. It becomes the last nanosecond
+/// before the next month, for any fraction, and the call returns `true` with it. So values keep the
+/// order of their texts. Fails as `parse_rfc3339` does, with `Second` above 60; then with `Second`
+/// if no month ends with a second of 60.
+///
+/// ```
+/// let (at, is_leap) = rfc3339::parse_rfc3339_leap(b"1990-12-31T23:59:60Z")?;
+/// assert_eq!(rt; is_leap, true);
+/// assert_eq!(rt; at.to_hms_nano(), (23, 59, 59, 999_999_999));
+/// ```
 pub fn parse_rfc3339_leap(text: &[u8]) -> Result<(OffsetDateTime, bool), TextRefusal>
     ensures reading { result ≡ leap_reading_of text.now }
 
@@ -31,6 +38,10 @@ pub fn parse_rfc3339_leap(text: &[u8]) -> Result<(OffsetDateTime, bool), TextRef
         OkIff result (AreInLeapRange p) (value_of (stand_in p), p.second == 60) }
     ensures equation { (p : Parts) → IsDateTime text.now p → result ≡ leap_meaning p }
     ensures syntax { (result ≡ Err Syntax) ⊎ ((p : Parts) × IsDateTime text.now p) }
+
+    // What is accepted spells parts in their ranges, and is what they mean.
+    ensures accepted { IfOk result (λ read. (p : Parts) × IsDateTime text.now p ×
+        AreInLeapRange p × (read ≡ (value_of (stand_in p), p.second == 60))) }
 
     // What is read with the mark is the last nanosecond of a month in UTC; what is read without it is read by
     // `parse_rfc3339` too, and what that reads is read the same.

@@ -14,10 +14,19 @@ use crate::{Component, Parts, TextRefusal};
 use calendar_values::{Date, Month, Time, UtcOffset};
 use offset_times::OffsetDateTime;
 
-/// Reads a `date-time` of RFC 3339, section 5.6, with nothing before or after it, as `1985-04-12T23:20:50.52Z` or
-/// `1996-12-19T16:39:57-08:00`. A `t` or a space can stand for the `T`, and `z` for the `Z`; digits of the fraction
-/// past the ninth are dropped, which rounds down; `-00:00` is the offset 0. Refused `Syntax` where the text has not
-/// that form, else by the first part from the left that is out of its range; a second of 60 is.
+/// Reads a `date-time` of RFC 3339, section 5.6, with nothing before or after it, as
+/// `1985-04-12T23:20:50.52Z` or `1996-12-19T16:39:57-08:00`. A `t` or a space can replace the `T`,
+/// and `z` the `Z`. Digits of the fraction past the ninth drop out, which rounds down. `-00:00` is
+/// the offset 0. Fails with `Syntax` if the text has another form, else with the first part from
+/// the left that is out of range. A second of 60 is out of range.
+///
+/// ```
+/// let at = parse_rfc3339(b"1937-01-01T12:00:27.87+00:20")?;
+/// assert_eq!(rt; at.offset().whole_seconds(), 1_200);
+/// assert_eq!(rt; at.unix_timestamp_nanos(), -1_041_337_172_130_000_000);
+/// assert_eq!(rt; parse_rfc3339(b"1937-01-01"), Err(TextRefusal::Syntax));
+/// ```
+#[inline(always)]
 pub fn parse_rfc3339(text: &[u8]) -> Result<OffsetDateTime, TextRefusal>
     // The whole answer, as a word that computes.
     ensures reading { result ≡ reading_of text.now }
@@ -48,6 +57,7 @@ pub fn parse_rfc3339(text: &[u8]) -> Result<OffsetDateTime, TextRefusal>
 
 // What the numbers of a text mean.
 #[tactic(auto, unfolding(crate::specs::Meaning::meaning))]
+#[inline(always)]
 pub(crate) fn date_time(parts: Parts) -> Result<OffsetDateTime, TextRefusal>
     requires nanosecond { parts.nanosecond ≤ 999_999_999 }
     requires year { parts.year ≤ 9_999 }
@@ -79,8 +89,22 @@ pub(crate) fn date_time(parts: Parts) -> Result<OffsetDateTime, TextRefusal>
     Ok(OffsetDateTime::new_in_offset(date, time, offset))
 }
 
-// The offset of a sign, hours and minutes.
+// The offset of a sign, hours and minutes. Most texts are in UTC.
+#[inline(always)]
 pub(crate) fn offset(is_west: bool, hour: u8, minute: u8) -> UtcOffset
+    requires hour { hour ≤ 23 }
+    requires minute { minute ≤ 59 }
+    ensures { result ≡ offset_of is_west hour minute }
+{
+    if (hour == 0) & (minute == 0) {
+        return UtcOffset::UTC;
+    }
+    offset_by_parts(is_west, hour, minute)
+}
+
+// The same of any hours and minutes.
+#[inline(always)]
+fn offset_by_parts(is_west: bool, hour: u8, minute: u8) -> UtcOffset
     requires hour { hour ≤ 23 }
     requires minute { minute ≤ 59 }
     ensures { result ≡ offset_of is_west hour minute }

@@ -1,7 +1,8 @@
 //! The numbers of a text.
 
-/// The numbers that a text of RFC 3339 spells, each as it stands there and not yet tested for its range. No call takes
-/// or gives them: contracts speak of them.
+/// The numbers that a text of RFC 3339 spells, each as the text has it, and not yet tested for its
+/// range. Contracts speak of them, and [`write_rfc3339_parts`](crate::write_rfc3339_parts) writes
+/// them.
 #[derive(Clone, Copy)]
 pub struct Parts {
     /// The year, of four digits.

@@ -1,8 +1,11 @@
 //! The parts of a text, read from its front on.
-ghost use Rattle.std.specs.Prelude.{◌≡◌, ℕ, ◌+◌, ◌-◌, ◌*◌, ◌≤◌, ◌<◌, option_map, IfSome};
+ghost use Rattle.std.specs.Prelude.{◌≡◌, ℕ, ◌+◌, ◌-◌, ◌*◌, ◌≤◌, ◌<◌, ◌&&◌, true, option_map, IfSome};
+ghost use Rattle.std.specs.Char.{is_ascii_digit};
 ghost use Rattle.std.specs.Int.{IsInRange};
 ghost use Rattle.rfc3339.specs.Reading.{digit_at, two_digits_at, mark_at, part_at, year_at};
+ghost use Rattle.rfc3339.specs.Form.{is_separator};
 ghost use Rattle.rfc3339.specs.Reading.{separator_at, digits_at, fraction_at, zone_at, second_on, time_on, front_at, parts_at};
+ghost use Rattle.rfc3339.specs.Walls.{fraction_on};
 
 use crate::Parts;
 
@@ -13,6 +16,7 @@ const SHORTEST: usize = 20;
 
 // The parts of a text, if it has the form.
 #[tactic(auto, unfolding(crate::specs::Reading::parts_at))]
+#[inline(always)]
 pub(crate) fn parts(text: &[u8]) -> Option<Parts>
     ensures value { result ≡ parts_at text.now }
     ensures in_range { IfSome result (λ p. (p.nanosecond ≤ 999_999_999) × (p.year ≤ 9_999)) }
@@ -22,9 +26,110 @@ pub(crate) fn parts(text: &[u8]) -> Option<Parts>
 }
 
 // The parts of the date-time in front of a text, and what follows it.
-#[tactic(auto, unfolding(crate::specs::Reading::front_at))]
 #[inline(always)]
 pub(crate) fn front(text: &[u8]) -> Option<(Parts, &[u8])>
+    ensures value { option_map (λ read. (read.0, read.1.now)) result ≡ front_at text.now }
+    ensures in_range { IfSome result (λ read.
+        (read.0.nanosecond ≤ 999_999_999) × (read.0.year ≤ 9_999)) }
+{
+    match wall(text) {
+        Some((parts, text)) => after_second(parts, text),
+        None => front_by_parts(text),
+    }
+}
+
+// The numbers of the first 19 bytes, tested all at once, and what follows them. None says nothing of the text.
+#[inline(always)]
+fn wall(text: &[u8]) -> Option<(Parts, &[u8])>
+    ensures value { IfSome result (λ read. fraction_on read.0 read.1.now ≡ front_at text.now) }
+    ensures in_range { IfSome result (λ read. read.0.year ≤ 9_999) }
+{
+    let [
+        thousands,
+        hundreds,
+        tens,
+        units,
+        after_year,
+        month_tens,
+        month,
+        after_month,
+        day_tens,
+        day,
+        separator,
+        hour_tens,
+        hour,
+        after_hour,
+        minute_tens,
+        minute,
+        after_minute,
+        second_tens,
+        second,
+        rest @ ..,
+    ] = text
+    else {
+        return None;
+    };
+    if are_digits(*thousands, *hundreds)
+        & are_digits(*tens, *units)
+        & (*after_year == b'-')
+        & are_digits(*month_tens, *month)
+        & (*after_month == b'-')
+        & are_digits(*day_tens, *day)
+        & is_separator(*separator)
+        & are_digits(*hour_tens, *hour)
+        & (*after_hour == b':')
+        & are_digits(*minute_tens, *minute)
+        & (*after_minute == b':')
+        & are_digits(*second_tens, *second)
+    {
+        let parts = Parts {
+            year: of_digits(*thousands, *hundreds) as u16 * 100 + of_digits(*tens, *units) as u16,
+            month: of_digits(*month_tens, *month),
+            day: of_digits(*day_tens, *day),
+            hour: of_digits(*hour_tens, *hour),
+            minute: of_digits(*minute_tens, *minute),
+            second: of_digits(*second_tens, *second),
+            nanosecond: 0,
+            is_west: false,
+            offset_hour: 0,
+            offset_minute: 0,
+        };
+        return Some((parts, rest));
+    }
+    None
+}
+
+// Whether both are digits.
+#[inline(always)]
+fn are_digits(tens: u8, units: u8) -> bool
+    ensures { result ≡ (is_ascii_digit tens && is_ascii_digit units) }
+{
+    tens.is_ascii_digit() & units.is_ascii_digit()
+}
+
+// Whether it is `T`, `t` or a space.
+#[inline(always)]
+fn is_separator(byte: u8) -> bool
+    ensures { result ≡ is_separator byte }
+{
+    (byte == b'T') | (byte == b't') | (byte == b' ')
+}
+
+// The number of two bytes, if they are digits.
+#[inline(always)]
+fn of_digits(tens: u8, units: u8) -> u8
+    ensures { (is_ascii_digit tens && is_ascii_digit units) ≡ true
+        → result ≡ (tens - 48) * 10 + (units - 48) }
+{
+    tens.wrapping_sub(b'0')
+        .wrapping_mul(10)
+        .wrapping_add(units.wrapping_sub(b'0'))
+}
+
+// The same, one part after another. It stands apart, since few texts come here.
+#[tactic(auto, unfolding(crate::specs::Reading::front_at))]
+#[inline(never)]
+fn front_by_parts(text: &[u8]) -> Option<(Parts, &[u8])>
     ensures value { option_map (λ read. (read.0, read.1.now)) result ≡ front_at text.now }
     ensures in_range { IfSome result (λ read.
         (read.0.nanosecond ≤ 999_999_999) × (read.0.year ≤ 9_999)) }
@@ -69,8 +174,6 @@ fn after_minute(
         (read.0.nanosecond ≤ 999_999_999) × (read.0.year ≤ 9_999)) }
 {
     let (second, text) = part(b':', text)?;
-    let (nanosecond, text) = fraction(text)?;
-    let ((is_west, offset_hour, offset_minute), text) = zone(text)?;
     let parts = Parts {
         year,
         month,
@@ -78,10 +181,30 @@ fn after_minute(
         hour,
         minute,
         second,
+        nanosecond: 0,
+        is_west: false,
+        offset_hour: 0,
+        offset_minute: 0,
+    };
+    after_second(parts, text)
+}
+
+// The same, from what follows its second on.
+#[inline(always)]
+fn after_second(parts: Parts, text: &[u8]) -> Option<(Parts, &[u8])>
+    requires { parts.year ≤ 9_999 }
+    ensures value { option_map (λ read. (read.0, read.1.now)) result ≡ fraction_on parts text.now }
+    ensures in_range { IfSome result (λ read.
+        (read.0.nanosecond ≤ 999_999_999) × (read.0.year ≤ 9_999)) }
+{
+    let (nanosecond, text) = fraction(text)?;
+    let ((is_west, offset_hour, offset_minute), text) = zone(text)?;
+    let parts = Parts {
         nanosecond,
         is_west,
         offset_hour,
         offset_minute,
+        ..parts
     };
     Some((parts, text))
 }

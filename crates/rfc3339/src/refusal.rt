@@ -28,6 +28,10 @@ pub enum Component {
 
 impl Component {
     /// The name of the part, as `month` or `offset hour`.
+    ///
+    /// ```
+    /// assert_eq!(rt; Component::OffsetMinute.name(), "offset minute");
+    /// ```
     pub fn name(self) -> &'static str
         ensures value { result.now ≡ component_name self }
         ensures ascii { IsAscii result.now }
@@ -45,17 +49,23 @@ impl Component {
     }
 }
 
-/// Why a text is refused.
+/// The error of a text.
 #[derive(Clone, Copy, Debug, PartialEq, Eq)]
 pub enum TextRefusal {
     /// The text is no date-time of RFC 3339.
     Syntax,
-    /// The text is one by its form, and this part is the first from the left that is out of its range.
+    /// The text is one by its form, and this part is the first from the left that is out of its
+    /// range.
     OutOfRange(Component),
 }
 
 impl TextRefusal {
     /// The text, as `second is out of range`, or `no date-time of RFC 3339`.
+    ///
+    /// ```
+    /// let refusal = TextRefusal::OutOfRange(Component::Second);
+    /// assert_eq!(rt; refusal.text().as_str(), "second is out of range");
+    /// ```
     pub fn text(self) -> Text
         ensures text { result ≡ refusal_text self }
         ensures length { length result ≤ 29 }

@@ -17,16 +17,23 @@ use offset_times::OffsetDateTime;
 use stamp_times::Timestamp;
 use utc_times::UtcDateTime;
 
-/// What is written as a text of RFC 3339, and read from one: a wall clock at an offset, or an instant.
+/// A type with texts of RFC 3339: a wall clock at an offset, or an instant.
 pub trait Rfc3339: Copy {
-    /// The wall clock and the offset that are written: of an instant, what clocks in UTC show.
+    /// The wall clock and the offset that the text has. An instant has those in UTC.
     ghost shown: { Self → Local };
 
-    /// What is read of a wall clock at an offset: itself, or its instant.
+    /// The value of a wall clock at an offset: itself, or its instant.
     ghost value_shown: { Local → Self };
 
-    /// Reads a text as [`parse_rfc3339`] does, as a value of this type, and with its refusals. The instant of such a
-    /// text always exists.
+    /// Reads a text as [`parse_rfc3339`] does, as a value of this type, and with its errors. The
+    /// instant of such a text always exists.
+    ///
+    /// ```
+    /// let at = OffsetDateTime::from_rfc3339(b"1990-12-31T15:59:59-08:00")?;
+    /// assert_eq!(rt; at.hour(), 15);
+    /// assert_eq!(rt; UtcDateTime::from_rfc3339(b"1990-12-31T15:59:59-08:00")?.hour(), 23);
+    /// assert_eq!(rt; Timestamp::from_rfc3339(b"1990-12-31"), Err(TextRefusal::Syntax));
+    /// ```
     fn from_rfc3339(text: &[u8]) -> Result<Self, TextRefusal>
         // The whole answer, as a word that computes.
         ensures reading { result ≡ reading_as value_shown text.now }
@@ -51,10 +58,16 @@ pub trait Rfc3339: Copy {
         ensures written_fixed { (i : ℤ) → HasFixedText i → text.now ≡ fixed_text i →
             result ≡ Ok (value_shown (local_in_utc i)) };
 
-    /// The text, the shortest that there is, as `1985-04-12T23:20:50.52Z` or `1996-12-19T16:39:57-08:00`: `T` between
-    /// the date and the time of day, no fraction for a whole second and else none that ends in 0, `Z` for the offset 0.
-    /// None where the year that clocks there show is not one of 0 to 9999, or the offset has seconds or is of 24 hours
-    /// or more.
+    /// The shortest text, such as `1985-04-12T23:20:50.52Z` or `1996-12-19T16:39:57-08:00`. It has
+    /// `T` between the date and the time of day, and `Z` for the offset 0. A whole second has no
+    /// fraction, and no fraction ends in 0. None if the year there is not one of 0 to 9999, or if
+    /// the offset has seconds or is of 24 hours or more.
+    ///
+    /// ```
+    /// let text = UtcDateTime::UNIX_EPOCH.to_rfc3339().ok_or("no text")?;
+    /// assert_eq!(rt; text.as_str(), "1970-01-01T00:00:00Z");
+    /// assert_eq!(rt; UtcDateTime::MAX.to_rfc3339().is_none(), true);
+    /// ```
     fn to_rfc3339(self) -> Option<Text>
         ensures text { SomeIff result (HasText (shown self)) (rfc3339_text (shown self)) }
         ensures length { IfSome result (λ text. length text ≤ 35) };
@@ -65,10 +78,12 @@ impl Rfc3339 for OffsetDateTime {
 
     ghost value_shown = { λ at. at };
 
+    #[inline(always)]
     fn from_rfc3339(text: &[u8]) -> Result<OffsetDateTime, TextRefusal> {
         parse_rfc3339(text)
     }
 
+    #[inline(always)]
     fn to_rfc3339(self) -> Option<Text> {
         text_of(self)
     }

@@ -9,6 +9,7 @@ use calendar_values::Text;
 use offset_times::OffsetDateTime;
 
 // The shortest text of RFC 3339, if there is one.
+#[inline(always)]
 pub(crate) fn text_of(at: OffsetDateTime) -> Option<Text>
     ensures text { SomeIff result (HasText at) (rfc3339_text at) }
     ensures length { IfSome result (λ text. length text ≤ 35) }
@@ -30,12 +31,59 @@ pub(crate) fn text_with(at: OffsetDateTime, digits: Option<u8>) -> Option<Text>
     }
     let (hour, minute, second, nanosecond) = time.as_hms_nano();
     let mut text = Text::new();
-    push_date(&mut text, year as u32, u8::from(month), day);
-    text.push(b'T');
-    push_clock(&mut text, hour, minute, second);
+    push_wall(
+        &mut text,
+        year as u32,
+        u8::from(month),
+        day,
+        hour,
+        minute,
+        second,
+    );
     push_digits(&mut text, nanosecond, digits);
     push_offset(&mut text, hours, minutes);
     Some(text)
+}
+
+// A date, a `T` and a time of day to the second, as one group of bytes.
+#[tactic(auto, unfolding(calendar_values::specs::Digits::last_digits))]
+pub(crate) fn push_wall(
+    text: &mut Text,
+    year: u32,
+    month: u8,
+    day: u8,
+    hour: u8,
+    minute: u8,
+    second: u8,
+)
+    requires { length text.old + 19 ≤ text_capacity }
+    ensures value { text.new ≡ text.old
+        ++ (last_digits 4 year ++ codes "-" ++ last_digits 2 month
+        ++ codes "-" ++ last_digits 2 day) ++ codes "T" ++ (last_digits 2 hour ++ codes ":"
+        ++ last_digits 2 minute ++ codes ":" ++ last_digits 2 second) }
+    ensures length { length text.new ≡ length text.old + 19 }
+{
+    text.push_bytes(&[
+        b'0' + (year / 1_000 % 10) as u8,
+        b'0' + (year / 100 % 10) as u8,
+        b'0' + (year / 10 % 10) as u8,
+        b'0' + (year % 10) as u8,
+        b'-',
+        b'0' + month / 10 % 10,
+        b'0' + month % 10,
+        b'-',
+        b'0' + day / 10 % 10,
+        b'0' + day % 10,
+        b'T',
+        b'0' + hour / 10 % 10,
+        b'0' + hour % 10,
+        b':',
+        b'0' + minute / 10 % 10,
+        b'0' + minute % 10,
+        b':',
+        b'0' + second / 10 % 10,
+        b'0' + second % 10,
+    ]);
 }
 
 // Adds the date.
@@ -66,7 +114,7 @@ pub(crate) fn push_clock(text: &mut Text, hour: u8, minute: u8, second: u8)
 
 // Adds the fraction, if there is one.
 #[tactic(auto, unfolding(stamp_times::specs::Texts::fraction_text))]
-fn push_fraction(text: &mut Text, nanosecond: u32)
+pub(crate) fn push_fraction(text: &mut Text, nanosecond: u32)
     requires { length text.old + 10 ≤ text_capacity }
     ensures value { text.new ≡ text.old ++ fraction_text nanosecond }
     ensures length { length text.new ≤ length text.old + 10 }

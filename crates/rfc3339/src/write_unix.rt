@@ -7,8 +7,13 @@ use crate::write::push_whole_fraction;
 use calendar_values::Text;
 use utc_times::UtcDateTime;
 
-/// The Unix seconds of an instant, as a signed decimal with a point and nine digits: `1722500000.000000000`, and half a
-/// second before 1970 `-0.500000000`.
+/// The Unix seconds of an instant, as a signed decimal with a point and nine digits:
+/// `1722500000.000000000`, and half a second before 1970 `-0.500000000`.
+///
+/// ```
+/// let before = UtcDateTime::from_unix_timestamp_nanos(-1)?;
+/// assert_eq!(rt; rfc3339::to_unix_nanos(before).as_str(), "-0.000000001");
+/// ```
 #[tactic(auto, unfolding(crate::specs::UnixTexts::unix_text))]
 pub fn to_unix_nanos(at: UtcDateTime) -> Text
     ensures text { result ≡ unix_text at }

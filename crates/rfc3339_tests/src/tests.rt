@@ -7,6 +7,7 @@ mod digits;
 mod faults;
 mod fronts;
 mod leap;
+mod parts;
 mod places;
 mod shortest;
 mod texts;

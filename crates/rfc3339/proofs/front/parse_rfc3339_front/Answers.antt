@@ -1,8 +1,11 @@
-use Rattle.rfc3339.proofs.FrontLemmas.{accepted_front, longest_front, instant_in_range}
+use Rattle.rfc3339.proofs.FrontLemmas.{accepted_front, spelled_front, longest_front, instant_in_range}
 use Rattle.rfc3339.proofs.front.parse_rfc3339_front.Goals as goal
 
 pub returns-clause-value : goal.returns-clause-value
 returns-clause-value c = accepted_front c.args.text.now c.read_front.result c.read_front.ensures.reading
+
+pub returns-clause-accepted : goal.returns-clause-accepted
+returns-clause-accepted c = spelled_front c.args.text.now c.read_front.result c.read_front.ensures.reading
 
 pub returns-clause-longest : goal.returns-clause-longest
 returns-clause-longest c = longest_front c.args.text.now c.read_front.result c.read_front.ensures.reading

@@ -1,5 +1,5 @@
 use Rattle.std.proofs.Common.{◌∙◌}
-use Rattle.rfc3339.proofs.LeapLemmas.{leap_reading_of-spelled, accepted_leap, syntax_leap, same_leap, marked_leap}
+use Rattle.rfc3339.proofs.LeapLemmas.{leap_reading_of-spelled, accepted_leap, spelled_leap, syntax_leap, same_leap, marked_leap}
 use Rattle.rfc3339.proofs.LeapLemmas.{unmarked_leap, refused_leap, instant_in_range}
 use Rattle.rfc3339.proofs.leap.parse_rfc3339_leap.Goals as goal
 
@@ -8,6 +8,9 @@ returns-clause-value c = accepted_leap c.args.text.now c.read_leap.result c.read
 
 pub returns-clause-equation : goal.returns-clause-equation
 returns-clause-equation c p h = c.read_leap.ensures.reading ∙ leap_reading_of-spelled c.args.text.now p h
+
+pub returns-clause-accepted : goal.returns-clause-accepted
+returns-clause-accepted c = spelled_leap c.args.text.now c.read_leap.result c.read_leap.ensures.reading
 
 pub returns-clause-syntax : goal.returns-clause-syntax
 returns-clause-syntax c = syntax_leap c.args.text.now c.read_leap.result c.read_leap.ensures.reading

@@ -54,7 +54,7 @@ returns-clause-text c =
         whole_minutes = minutes.0;
         below_a_day = minutes.1;
       },
-      rw (c.push_offset.ensures.value, c.push_digits.ensures.value, c.push_clock.ensures.value, c.push.ensures.value, c.push_date.ensures.value)
+      rw (c.push_offset.ensures.value, c.push_digits.ensures.value, c.push_wall.ensures.value)
           (rw (c.new-text.ensures, back_hours, back_minutes, signed, same, c.from.ensures, shown.year, shown.month, shown.day, date.date)
           (rw (c.as_hms_nano-hour.ensures.value, date.time) refl)),
     )
@@ -62,14 +62,8 @@ returns-clause-text c =
 pub returns-clause-length : goal.returns-clause-length
 returns-clause-length c = omega (arith, ap (length {A = ℕ}) c.new-text.ensures)
 
-pub push_date-requires : goal.push_date-requires
-push_date-requires c = omega (arith, ap (length {A = ℕ}) c.new-text.ensures)
-
-pub push-requires-clause-room : goal.push-requires-clause-room
-push-requires-clause-room c = omega (arith, ap (length {A = ℕ}) c.new-text.ensures)
-
-pub push_clock-requires : goal.push_clock-requires
-push_clock-requires c = omega (arith, ap (length {A = ℕ}) c.new-text.ensures)
+pub push_wall-requires : goal.push_wall-requires
+push_wall-requires c = omega (arith, ap (length {A = ℕ}) c.new-text.ensures)
 
 pub push_digits-requires : goal.push_digits-requires
 push_digits-requires c = omega (arith, ap (length {A = ℕ}) c.new-text.ensures)

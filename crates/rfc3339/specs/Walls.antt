@@ -1,0 +1,16 @@
+-- The first 19 bytes of a text: a date, a separator, and a time of day to the second.
+use Rattle.std.specs.Prelude.{ℕ, List, [], ◌∷◌, ◌++◌, Option, Some}
+use Rattle.rfc3339.specs.Form.{date_digits, clock_digits}
+use Rattle.rfc3339.specs.Reading.{◌>>=◌, fraction_at, zone_at, parts_read}
+use Rattle.rfc3339.specs.declared.parts.Parts.{Parts}
+
+-- these bytes, with `T` between the date and the time of day
+unfoldable pub wall_text : Parts → List ℕ
+wall_text p = date_digits p ++ 84 ∷ [] ++ clock_digits p
+
+-- a fraction and an offset, after these numbers
+abbrev pub fraction_on : Parts → List ℕ → Option (Parts × List ℕ)
+fraction_on p text = do
+  fraction ← fraction_at text
+  zone ← zone_at fraction.1
+  Some (parts_read p.year p.month p.day p.hour p.minute p.second fraction.0 zone.0, zone.1)
