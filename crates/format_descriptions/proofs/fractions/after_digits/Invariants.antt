@@ -1,0 +1,13 @@
+use Rattle.std.proofs.Common.{◌≡◌, ◌≤◌, length}
+use Rattle.rfc3339.specs.Reading.{digits_at}
+use Rattle.format_descriptions.proofs.fractions.after_digits.Given as goal
+
+-- what follows the digits that are left follows them all
+abbrev pub invariant-loop-more : goal.invariant-loop-more
+invariant-loop-more l = record {
+  value : digits_at 0 l.rest ≡ digits_at 0 l.text;
+  shorter : length l.rest ≤ length l.text;
+}
+
+abbrev pub decreases-loop-more : goal.decreases-loop-more
+decreases-loop-more l = length l.rest

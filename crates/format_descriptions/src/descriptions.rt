@@ -1,0 +1,62 @@
+//! Descriptions that texts give.
+ghost use Rattle.std.specs.Prelude.{◌≡◌, ◌++◌, length, drop, IfOk};
+ghost use Rattle.std.specs.Result.{result_map_both};
+ghost use Rattle.format_descriptions.specs.Descriptions.{described, refusal_of};
+
+use crate::description_steps::{DescriptionVersion, Place, fault_at_end, step};
+use crate::{DescriptionFault, DescriptionRefusal, Item};
+
+/// How many items a text has as a description. They are put at the front of `room`, whose others do not change.
+/// Else why the text is no description, and where: its first fault, which `NoRoom` is too.
+///
+/// ```
+/// use format_descriptions::{DescriptionVersion, Item, parse_description};
+/// let mut room = [Item::Byte(0); 4];
+/// assert_eq!(rt; parse_description(DescriptionVersion::Two, b"[hour]h", &mut room), Ok(2));
+/// assert_eq!(rt; room[1], Item::Byte(b'h'));
+/// assert_eq!(rt; parse_description(DescriptionVersion::Two, b"[hours]", &mut room).is_err(), true);
+/// ```
+pub fn parse_description(
+    version: DescriptionVersion,
+    text: &[u8],
+    room: &mut [Item],
+) -> Result<usize, DescriptionRefusal>
+    ensures count { result ≡ result_map_both (λ items. length items) (refusal_of text.now)
+        (described version (length room.old) text.now) }
+    ensures items { IfOk (described version (length room.old) text.now)
+        (λ items. room.new ≡ items ++ drop (length items) room.old) }
+{
+    let mut place = Place::Outside;
+    let mut rest = text;
+    let mut count = 0;
+    while let Some((first, more)) = rest.split_first() {
+        let (next, item) = match step(version, place, *first, rest) {
+            Ok(read) => read,
+            Err(fault) => return Err(refusal(text, fault)),
+        };
+        if let Some(item) = item {
+            if count >= room.len() {
+                return Err(refusal(text, (DescriptionFault::NoRoom, rest.len())));
+            }
+            room[count] = item;
+            count += 1;
+        }
+        place = next;
+        rest = more;
+    }
+    match fault_at_end(place) {
+        Some(fault) => Err(refusal(text, fault)),
+        None => Ok(count),
+    }
+}
+
+// A fault by its place from the front.
+fn refusal(text: &[u8], fault: (DescriptionFault, usize)) -> DescriptionRefusal
+    ensures { result ≡ refusal_of text.now fault }
+{
+    let (fault, left) = fault;
+    DescriptionRefusal {
+        place: text.len().saturating_sub(left),
+        fault,
+    }
+}

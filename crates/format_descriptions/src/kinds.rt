@@ -1,0 +1,148 @@
+//! Texts of dates, of times of day, of offsets and of wall clocks, which have not every component.
+ghost use Rattle.std.specs.Prelude.{◌≡◌, Some, None, true, false, Err, OkIff, pos};
+ghost use Rattle.calendar_values.specs.WallClock.{wall_day, wall_time};
+ghost use Rattle.format_descriptions.specs.Kinds.{lacking, by_kind};
+ghost use Rattle.format_descriptions.specs.Written.{items_text, Fits};
+ghost use Rattle.format_descriptions.specs.declared.component.Component.{Component};
+ghost use Rattle.format_descriptions.specs.declared.format_refusal.FormatRefusal.TheVariants.{Lacks};
+
+use crate::write::format;
+use crate::{Component, FormatRefusal, Item};
+use calendar_values::{Date, Text, Time, UtcOffset};
+use plain_times::PlainDateTime;
+
+/// The text of a date as the items write it. Fails with `Lacks` for the first component that is none of a date, else
+/// with `NoText` if the text has more than 64 bytes, or one that is not ASCII.
+///
+/// ```
+/// use format_descriptions::{Component, Item, Padding};
+/// let items = [Item::Part(Component::Day(Padding::Zero)), Item::Byte(b'!')];
+/// let text = format_descriptions::format_date(&items, Date::UNIX_EPOCH);
+/// assert_eq!(rt; text.map(|text| text.as_bytes() == b"01!"), Ok(true));
+/// let hour = [Item::Part(Component::Hour(Padding::Zero))];
+/// assert_eq!(rt; format_descriptions::format_date(&hour, Date::UNIX_EPOCH).is_err(), true);
+/// ```
+pub fn format_date(items: &[Item], date: Date) -> Result<Text, FormatRefusal>
+    ensures text { lacking true false false items.now ≡ None →
+        OkIff result (Fits (items_text items.now date 0 (pos 0)))
+        (items_text items.now date 0 (pos 0)) }
+    ensures lacks { (c : Component) → lacking true false false items.now ≡ Some c →
+        result ≡ Err (Lacks c) }
+{
+    match lacking(items, true, false, false) {
+        Some(component) => Err(FormatRefusal::Lacks(component)),
+        None => format(items, date, Time::MIDNIGHT, UtcOffset::UTC).ok_or(FormatRefusal::NoText),
+    }
+}
+
+/// The text of a time of day as the items write it. Fails with `Lacks` for the first component that is none of a time of
+/// day, else with `NoText` if the text has more than 64 bytes, or one that is not ASCII.
+///
+/// ```
+/// use format_descriptions::{Component, Item, Padding};
+/// let items = [Item::Part(Component::Hour(Padding::Space))];
+/// let text = format_descriptions::format_time(&items, Time::from_hms(9, 30, 0)?);
+/// assert_eq!(rt; text.map(|text| text.as_bytes() == b" 9"), Ok(true));
+/// ```
+pub fn format_time(items: &[Item], time: Time) -> Result<Text, FormatRefusal>
+    ensures text { lacking false true false items.now ≡ None →
+        OkIff result (Fits (items_text items.now (pos 0) time (pos 0)))
+        (items_text items.now (pos 0) time (pos 0)) }
+    ensures lacks { (c : Component) → lacking false true false items.now ≡ Some c →
+        result ≡ Err (Lacks c) }
+{
+    match lacking(items, false, true, false) {
+        Some(component) => Err(FormatRefusal::Lacks(component)),
+        None => format(items, Date::UNIX_EPOCH, time, UtcOffset::UTC).ok_or(FormatRefusal::NoText),
+    }
+}
+
+/// The text of an offset as the items write it. Fails with `Lacks` for the first component that is none of an offset,
+/// else with `NoText` if the text has more than 64 bytes, or one that is not ASCII.
+///
+/// ```
+/// use format_descriptions::{Component, Item, Padding, Sign};
+/// let items = [Item::Part(Component::OffsetHour(Sign::Mandatory, Padding::Zero))];
+/// let text = format_descriptions::format_offset(&items, UtcOffset::from_hms(2, 0, 0)?);
+/// assert_eq!(rt; text.map(|text| text.as_bytes() == b"+02"), Ok(true));
+/// ```
+pub fn format_offset(items: &[Item], offset: UtcOffset) -> Result<Text, FormatRefusal>
+    ensures text { lacking false false true items.now ≡ None →
+        OkIff result (Fits (items_text items.now (pos 0) 0 offset))
+        (items_text items.now (pos 0) 0 offset) }
+    ensures lacks { (c : Component) → lacking false false true items.now ≡ Some c →
+        result ≡ Err (Lacks c) }
+{
+    match lacking(items, false, false, true) {
+        Some(component) => Err(FormatRefusal::Lacks(component)),
+        None => format(items, Date::UNIX_EPOCH, Time::MIDNIGHT, offset).ok_or(
+            FormatRefusal::NoText,
+        ),
+    }
+}
+
+/// The text of a wall clock as the items write it. Fails with `Lacks` for the first component that is of an offset, else
+/// with `NoText` if the text has more than 64 bytes, or one that is not ASCII.
+///
+/// ```
+/// use format_descriptions::{Component, Item, Padding};
+/// let items = [Item::Part(Component::Minute(Padding::Bare))];
+/// let text = format_descriptions::format_plain(&items, PlainDateTime::MIN);
+/// assert_eq!(rt; text.map(|text| text.as_bytes() == b"0"), Ok(true));
+/// ```
+pub fn format_plain(items: &[Item], at: PlainDateTime) -> Result<Text, FormatRefusal>
+    ensures text { lacking true true false items.now ≡ None →
+        OkIff result (Fits (items_text items.now (wall_day at) (wall_time at) (pos 0)))
+        (items_text items.now (wall_day at) (wall_time at) (pos 0)) }
+    ensures lacks { (c : Component) → lacking true true false items.now ≡ Some c →
+        result ≡ Err (Lacks c) }
+{
+    match lacking(items, true, true, false) {
+        Some(component) => Err(FormatRefusal::Lacks(component)),
+        None => format(items, at.date(), at.time(), UtcOffset::UTC).ok_or(FormatRefusal::NoText),
+    }
+}
+
+// The first component of another kind than those that a value has.
+#[tactic(auto, unfolding(crate::specs::Kinds::lacking))]
+fn lacking(items: &[Item], date: bool, time: bool, offset: bool) -> Option<Component>
+    ensures { result ≡ lacking date time offset items.now }
+{
+    let Some((item, items)) = items.split_first() else {
+        return None;
+    };
+    if let Item::Part(component) = *item {
+        if !by_kind(component, date, time, offset) {
+            return Some(component);
+        }
+    }
+    lacking(items, date, time, offset)
+}
+
+// One of three, by what a component is of: a date, a time of day or an offset.
+fn by_kind(component: Component, date: bool, time: bool, offset: bool) -> bool
+    ensures { result ≡ by_kind component date time offset }
+{
+    match component {
+        Component::Year(_, _, _, _)
+        | Component::YearCentury(_, _, _, _)
+        | Component::YearLastTwo(_, _)
+        | Component::Month(_)
+        | Component::MonthName(_, _)
+        | Component::Day(_)
+        | Component::Ordinal(_)
+        | Component::WeekdayName(_, _)
+        | Component::WeekdayNumber(_, _)
+        | Component::WeekNumber(_, _) => date,
+        Component::Hour(_)
+        | Component::Hour12(_)
+        | Component::Period(_, _)
+        | Component::Minute(_)
+        | Component::Second(_)
+        | Component::Subsecond(_) => time,
+        Component::OffsetHour(_, _) | Component::OffsetMinute(_) | Component::OffsetSecond(_) =>
+            offset,
+        Component::UnixTimestamp(_, _) => date & (time & offset),
+        Component::Ignore(_) | Component::End => true,
+    }
+}
