@@ -10,17 +10,17 @@ use std::io::{Read, Write};
 #[derive(Clone, Copy, Debug, PartialEq, Eq)]
 pub struct DeviceFault;
 
-/// What bytes are read from, with a mark that tells whether a call failed.
+/// A source of bytes, with a mark that says whether a call failed.
 pub trait Source {
-    /// The bytes that are left to read, where they are known.
+    /// The bytes left to read, if they are known.
     ghost left: { Self → Option (List ℕ) };
 
     /// The mark.
     ghost is_marked: { Self → Bool };
 
-    /// Reads some bytes to the front of the buffer, and gives their number: 0 for a buffer that is
-    /// not empty is the end of the bytes. A failed call reads no byte and sets the mark; no other
-    /// call changes the mark.
+    /// Reads some bytes to the front of the buffer, and returns their number. 0 for a buffer that
+    /// is not empty is the end of the bytes. A failed call reads no byte and sets the mark; no
+    /// other call changes the mark.
     fn read_some(&mut self, buffer: &mut [u8]) -> Result<usize, DeviceFault>
         ensures bound { ReadsAtMost result buffer.new }
         ensures consumed { ReadConsumes (left self.old) (left self.new) result buffer.new }
@@ -31,15 +31,15 @@ pub trait Source {
         ensures { result ≡ is_marked self.now };
 }
 
-/// What bytes are written to, with a mark that tells whether a call failed.
+/// A sink for bytes, with a mark that says whether a call failed.
 pub trait Sink {
-    /// The bytes that were written, where they are known.
+    /// The bytes written, if they are known.
     ghost written: { Self → Option (List ℕ) };
 
     /// The mark.
     ghost is_marked: { Self → Bool };
 
-    /// Writes the first bytes of the text, and gives their number: at least 1, if the text is not
+    /// Writes the first bytes of the text, and returns their number: at least 1, if the text is not
     /// empty. A failed call writes no byte and sets the mark; no other call changes the mark.
     fn write_some(&mut self, text: &[u8]) -> Result<usize, DeviceFault>
         ensures bound { WritesAtMost result text.now }
@@ -53,7 +53,7 @@ pub trait Sink {
 }
 
 /// A reader or a writer of `std::io` with a mark. A write that takes no byte of a text that is not
-/// empty is a failed call.
+/// empty fails.
 #[derive(Drop)]
 pub struct Device<T> {
     inner: T,

@@ -5,13 +5,13 @@ ghost use Rattle.line_devices.specs.Writing.{MarksFailure, SendsAll, WritesAll};
 use crate::devices::{DeviceFault, Sink, write_whole};
 use crate::table::Table;
 
-/// The most bytes that wait to be written.
+/// The most bytes that wait for a write.
 pub const MOST_PENDING: usize = 65_536;
 
-/// Bytes that are still to be written.
+/// Bytes that wait for a write.
 pub type Pending = Table<u8, MOST_PENDING>;
 
-/// Writes what is pending.
+/// Writes the pending bytes.
 pub fn flush<W: Sink>(writer: &mut W, pending: &mut Pending) -> Result<(), DeviceFault>
     ensures written { WritesAll result (W.written writer.old) (W.written writer.new) pending.old }
     ensures empty { OnOk result (pending.new ≡ []) }
@@ -22,7 +22,7 @@ pub fn flush<W: Sink>(writer: &mut W, pending: &mut Pending) -> Result<(), Devic
     Ok(())
 }
 
-/// Sends a text behind what is pending, which is written where both are too much to wait.
+/// Sends a text after the pending bytes, and writes these first if both are too much to wait.
 pub fn send<W: Sink>(writer: &mut W, pending: &mut Pending, text: &[u8]) -> Result<(), DeviceFault>
     ensures sent { SendsAll result (W.written writer.old) (W.written writer.new)
         pending.new (pending.old ++ text.now) }

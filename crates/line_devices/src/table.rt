@@ -21,7 +21,7 @@ impl<T: Copy, const ROOM: usize> Model for Table<T, ROOM> {
 }
 
 impl<T: Copy, const ROOM: usize> Table<T, ROOM> {
-    /// No items. The one that is given fills the room of those to come.
+    /// No items. The argument fills the room of later items.
     pub fn new(fill: T) -> Self
         ensures { result ≡ [] }
     {
@@ -38,7 +38,7 @@ impl<T: Copy, const ROOM: usize> Table<T, ROOM> {
         self.len == 0
     }
 
-    /// The number of items that it has room for beside those that it has.
+    /// The number of items that it has room for, without those that it has.
     pub fn room(&self) -> usize
         ensures { length self.now + result ≡ ROOM }
     {

@@ -1,8 +1,13 @@
 -- What answers lead to, one after another, where each is a value.
 use Rattle.std.proofs.Common.{◌≡◌, ◌∙◌, ap, subst, refl, ℕ, ℤ, Result, Ok}
+use Rattle.calendar_values.specs.Clock.{AreTimeParts, clock_of_parts}
+use Rattle.calendar_values.specs.ClockLemmas.{IsClock-clock_of_parts, hour_of-clock_of_parts, minute_of-clock_of_parts, second_of-clock_of_parts}
+use Rattle.calendar_values.specs.ClockLemmas.{nanosecond_of-clock_of_parts}
 use Rattle.calendar_values.specs.Constructors.{clock_time_nano}
+use Rattle.calendar_values.specs.Dates.{ShowsDate}
 use Rattle.calendar_values.specs.Offsets.{offset_of_seconds}
 use Rattle.calendar_values.specs.WallClock.{wall_clock}
+use Rattle.calendar_values.specs.WallClockLemmas.{wall_day-wall_clock, wall_time-wall_clock}
 use Rattle.offset_times.specs.Local.{Local, instant_of, shown_at, wall_at}
 use Rattle.muxandu_c.specs.Answers.{and_then, as_refused}
 use Rattle.muxandu_c.specs.Values.{date_value, date_time_value, date_time_parts, as_date_time, instant_if_any, local_if_any, shown, date_time_to_offset}
@@ -28,6 +33,17 @@ date_time_value-of v year seconds n c o at y s date time offset made =
     ∙ after (date_value v.year v.month v.day)
     (λ (n : ℤ). and_then (as_refused (clock_time_nano v.hour v.minute v.second v.nanosecond))
     (λ (c : ℕ). and_then (as_refused (offset_of_seconds v.offset_seconds)) (λ (o : ℤ). Ok (wall_at (wall_clock n c) o)))) n date'
+
+-- its parts are those that were read
+pub date_time_parts-of : (v : MuxanduDateTime) (year seconds n : ℤ) (c : ℕ) (o : ℤ) (at : Local) → year ≡ v.year → seconds ≡ v.offset_seconds
+    → ShowsDate year v.month v.day n → AreTimeParts v.hour v.minute v.second v.nanosecond → c ≡ clock_of_parts v.hour v.minute v.second v.nanosecond
+    → o ≡ seconds → at ≡ wall_at (wall_clock n c) o → v ≡ date_time_parts at
+date_time_parts-of v year seconds n c o at y s date parts time offset made =
+    let clock = IsClock-clock_of_parts v.hour v.minute v.second v.nanosecond parts in
+    rw (made, time, wall_day-wall_clock n _ clock, wall_time-wall_clock n _ clock)
+    (rw (date.month, date.day, date.year, offset, y, s)
+    (rw (hour_of-clock_of_parts v.hour v.minute v.second v.nanosecond parts, minute_of-clock_of_parts v.hour v.minute v.second v.nanosecond parts)
+    (rw (second_of-clock_of_parts v.hour v.minute v.second v.nanosecond parts, nanosecond_of-clock_of_parts v.hour v.minute v.second v.nanosecond parts) refl)))
 
 pub date_time_to_offset-of : (v : MuxanduDateTime) (seconds seconds' : ℤ) (at : Local) (o o' : ℤ) (answer : Result MuxanduDateTime Refused)
     → answer ≡ as_date_time (local_if_any (shown_at (instant_of at) o') o') → o' ≡ o → Ok at ≡ date_time_value v

@@ -2,12 +2,19 @@ mod AnswerLemmas
 mod ApartLemmas
 mod BatchLemmas
 mod CarriedDurationLemmas
+mod ClockLemmas
+pub mod DateTimeBatchLemmas
 mod DayDigitLemmas
+mod DigitTextLemmas
 mod EachBatchLemmas
 mod FrontTextLemmas
 mod MonthReplacedLemmas
+mod SecondBatchLemmas
 mod StatusTextLemmas
 mod TextBatchLemmas
 mod TextBlockLemmas
+mod UnitLemmas
+mod UtcTextLemmas
 mod ValuesLemmas
 mod WeekDateLemmas
+mod WrittenTextLemmas

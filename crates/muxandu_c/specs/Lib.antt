@@ -3,6 +3,7 @@ pub mod Batches
 pub mod Clocks
 pub mod DateSums
 pub mod DateTexts
+pub mod DateTimeBatches
 pub mod DigitTexts
 pub mod EachBatches
 pub mod Exchange
@@ -10,9 +11,12 @@ pub mod FrontTexts
 pub mod OffsetParts
 pub mod PartsReplaced
 pub mod Reads
+pub mod SecondBatches
 pub mod StatusTexts
 pub mod SubsecondBatches
 pub mod TextBatches
 pub mod TextBlocks
+pub mod UtcTexts
 pub mod Values
 pub mod WeekDates
+pub mod WrittenTexts

@@ -149,7 +149,8 @@ unit_numbered number =
     else (if number == 4 then Ok unit.Second
     else (if number == 5 then Ok unit.Millisecond
     else (if number == 6 then Ok unit.Microsecond
-    else Err refused.Unit)))))
+    else (if number == 7 then Ok unit.Nanosecond
+    else Err refused.Unit))))))
 
 -- the nanoseconds of a unit
 abbrev pub unit_nanos : Unit → ℕ
@@ -159,6 +160,7 @@ unit_nanos unit.Minute = nanos_per_minute
 unit_nanos unit.Second = nanos_per_second
 unit_nanos unit.Millisecond = nanos_per_millisecond
 unit_nanos unit.Microsecond = nanos_per_microsecond
+unit_nanos unit.Nanosecond = 1
 
 -- a date-time truncated to a unit, and a timestamp, rounded down before 1970 too
 abbrev pub date_time_truncate : MuxanduDateTime → ℕ → Result MuxanduDateTime Refused

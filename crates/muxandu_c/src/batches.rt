@@ -8,14 +8,16 @@ ghost use Rattle.muxandu_c.specs.Values.{date_time_of_second, second_of_date_tim
 ghost use Rattle.muxandu_c.specs.declared.refused.Refused.{Refused};
 ghost use Rattle.muxandu_c.specs.declared.refused.Refused.TheVariants as refused;
 
+use crate::date_time_batches::fill_from_date_times;
 use crate::date_times::date_time_from_timestamp;
 use crate::days::{date_from_day, day_from_date};
 use crate::exchange::timestamp_from_rfc3339;
 use crate::parts::{instant_of_date_time, read_date_time};
 use crate::refused::{Refused, status};
+use crate::second_batches::fill_from_seconds;
 use crate::values::{MuxanduBatch, MuxanduDate, MuxanduDateTime, MuxanduSpan, MuxanduTimestamp};
 
-// What turns each item of a batch into a value, or refuses it.
+// The conversion of each item of a batch into a value, or an error.
 pub(crate) trait Conversion<A, B>: Copy {
     /// The value of an item, or why it is refused.
     ghost value_of: { Self → A → Result B Refused };
@@ -43,7 +45,7 @@ pub(crate) fn convert_all<A: Copy, B: Copy, C: Conversion<A, B>>(
 }
 
 #[inline(always)]
-fn fill<A: Copy, B: Copy, C: Conversion<A, B>>(
+pub(crate) fn fill<A: Copy, B: Copy, C: Conversion<A, B>>(
     conversion: C,
     items: &[A],
     out: &mut [B],
@@ -96,8 +98,9 @@ impl Conversion<i64, MuxanduDateTime> for ToDateTime {
     }
 }
 
-/// What clocks at an offset, in seconds, show at each Unix second, up to the first that muxandu_date_time_from_timestamp
-/// refuses. Refused BUFFER, with nothing written, where `out` has fewer items than `seconds`.
+/// The date-time of each Unix second at an offset in seconds, up to the first that
+/// muxandu_date_time_from_timestamp rejects. Errors: BUFFER if `out` has fewer items than `seconds`
+/// (the call then writes nothing), else that of the first rejected item.
 #[unsafe(no_mangle)]
 pub extern "C" fn muxandu_date_times_from_seconds(
     seconds: &[i64],
@@ -112,7 +115,10 @@ pub extern "C" fn muxandu_date_times_from_seconds(
         batch_values (date_time_of_second offset_seconds) out.old seconds.now
         ++ drop result.count out.old }
 {
-    convert_all(ToDateTime { offset_seconds }, seconds, out)
+    if out.len() < seconds.len() {
+        return stopped(0, Refused::Buffer);
+    }
+    fill_from_seconds(seconds, offset_seconds, out)
 }
 
 #[derive(Clone, Copy)]
@@ -128,8 +134,9 @@ impl Conversion<MuxanduDateTime, i64> for ToSecond {
     }
 }
 
-/// The Unix second of each date-time, rounded down, up to the first that muxandu_timestamp_from_date_time refuses. Refused
-/// BUFFER, with nothing written, where `out` has fewer items than `date_times`.
+/// The Unix second of each date-time, rounded down, up to the first that
+/// muxandu_timestamp_from_date_time rejects. Errors: BUFFER if `out` has fewer items than
+/// `date_times` (the call then writes nothing), else that of the first rejected item.
 #[unsafe(no_mangle)]
 pub extern "C" fn muxandu_seconds_from_date_times(
     date_times: &[MuxanduDateTime],
@@ -141,7 +148,10 @@ pub extern "C" fn muxandu_seconds_from_date_times(
     ensures written { out.new ≡ batch_values second_of_date_time out.old date_times.now
         ++ drop result.count out.old }
 {
-    convert_all(ToSecond, date_times, out)
+    if out.len() < date_times.len() {
+        return stopped(0, Refused::Buffer);
+    }
+    fill_from_date_times(date_times, out)
 }
 
 #[derive(Clone, Copy)]
@@ -156,8 +166,9 @@ impl Conversion<i32, MuxanduDate> for ToDate {
     }
 }
 
-/// The date of each day number, up to the first that muxandu_date_from_day refuses. Refused BUFFER, with nothing
-/// written, where `out` has fewer items than `days`.
+/// The date of each day number, up to the first that muxandu_date_from_day rejects. Errors: BUFFER
+/// if `out` has fewer items than `days` (the call then writes nothing), else that of the first
+/// rejected item.
 #[unsafe(no_mangle)]
 pub extern "C" fn muxandu_dates_from_days(days: &[i32], out: &mut [MuxanduDate]) -> MuxanduBatch
     ensures count { result.count ≡ length (batch_values date_from_day out.old days.now) }
@@ -180,8 +191,9 @@ impl Conversion<MuxanduDate, i32> for ToDay {
     }
 }
 
-/// The day number of each date, up to the first that muxandu_day_from_date refuses. Refused BUFFER, with nothing
-/// written, where `out` has fewer items than `dates`.
+/// The day number of each date, up to the first that muxandu_day_from_date rejects. Errors: BUFFER
+/// if `out` has fewer items than `dates` (the call then writes nothing), else that of the first
+/// rejected item.
 #[unsafe(no_mangle)]
 pub extern "C" fn muxandu_days_from_dates(dates: &[MuxanduDate], out: &mut [i32]) -> MuxanduBatch
     ensures count { result.count ≡ length (batch_values day_from_date out.old dates.now) }
@@ -192,9 +204,9 @@ pub extern "C" fn muxandu_days_from_dates(dates: &[MuxanduDate], out: &mut [i32]
     convert_all(ToDay, dates, out)
 }
 
-/// The instant of each text of RFC 3339, up to the first that muxandu_timestamp_from_rfc3339 refuses, or SPAN, whose
-/// span does not lie in the block `texts`. Refused BUFFER, with nothing written, where `out` has fewer items than
-/// `spans`.
+/// The instant of each text of RFC 3339, up to the first that muxandu_timestamp_from_rfc3339
+/// rejects. A span outside the block `texts` fails with SPAN. Errors: BUFFER if `out` has fewer
+/// items than `spans` (the call then writes nothing), else that of the first rejected item.
 #[unsafe(no_mangle)]
 pub extern "C" fn muxandu_timestamps_from_rfc3339(
     texts: &[u8],
@@ -238,6 +250,7 @@ fn fill_timestamps(
 }
 
 // The instant of the text of a span.
+#[inline(always)]
 fn timestamp_in(texts: &[u8], span: MuxanduSpan) -> Result<MuxanduTimestamp, Refused>
     ensures { IsReadAt texts.now span result }
 {
@@ -247,6 +260,7 @@ fn timestamp_in(texts: &[u8], span: MuxanduSpan) -> Result<MuxanduTimestamp, Ref
     read_timestamp_text(&texts[span.start..span.start + span.length])
 }
 
+#[inline(always)]
 fn read_timestamp_text(text: &[u8]) -> Result<MuxanduTimestamp, Refused>
     ensures { IsRead text.now result }
 {

@@ -1,4 +1,4 @@
-//! Dates so many days or months later.
+//! Dates a number of days or months later.
 ghost use Rattle.std.specs.Prelude.{◌≡◌, ◌+ℤ◌};
 ghost use Rattle.muxandu_c.specs.Answers.{status_of, written};
 ghost use Rattle.muxandu_c.specs.Values.{day_if_any};
@@ -8,11 +8,11 @@ ghost use Rattle.muxandu_c.specs.DateSums.{month_index, year_of_index, month_of_
 use crate::days::days_in_month;
 use crate::limits::{MUXANDU_YEAR_MAX, MUXANDU_YEAR_MIN};
 use crate::parts::{date_parts_of, read_date};
-use crate::refused::{Refused, answer};
+use crate::refused::{MuxanduStatus, Refused, answer};
 use crate::values::MuxanduDate;
 use calendar_values::Date;
 
-// The date so many days later, if the range has it.
+// The date a number of days later, if the range has it.
 fn days_later(date: Date, days: i32) -> Result<Date, Refused>
     ensures { result ≡ day_if_any (date +ℤ days) }
 {
@@ -29,9 +29,14 @@ fn date_add_days(date: MuxanduDate, days: i32) -> Result<MuxanduDate, Refused>
     Ok(date_parts_of(days_later(date, days)?))
 }
 
-/// The date so many days later, or earlier for a negative count. Refused as the date, then RESULT outside the range.
+/// The date that is a number of days later, or earlier if it is negative. Errors, in this order:
+/// those of the date, RESULT if out of range.
 #[unsafe(no_mangle)]
-pub extern "C" fn muxandu_date_add_days(date: MuxanduDate, days: i32, out: &mut MuxanduDate) -> u32
+pub extern "C" fn muxandu_date_add_days(
+    date: MuxanduDate,
+    days: i32,
+    out: &mut MuxanduDate,
+) -> MuxanduStatus
     ensures status { result ≡ status_of (date_add_days date days) }
     ensures written { out.new ≡ written (date_add_days date days) out.old }
 {
@@ -45,7 +50,7 @@ fn month_index(year: i32, month: u8) -> i64
     year as i64 * 12 + month as i64 - 1
 }
 
-// The number of the month that is so many months from January of the year 0.
+// The number of the month at a number of months from January of the year 0.
 fn month_of_index(index: i64) -> u8
     ensures { result ≡ month_of_index index }
 {
@@ -81,7 +86,7 @@ fn day_or_last(year: i32, month: u8, day: u8) -> Result<MuxanduDate, Refused>
     })
 }
 
-// The same of the month that is so many months from January of the year 0, if the range has its year.
+// The same of the month at a number of months from January of the year 0, if the range has its year.
 fn in_month(index: i64, day: u8) -> Result<MuxanduDate, Refused>
     ensures { result ≡ in_month index day }
 {
@@ -89,7 +94,7 @@ fn in_month(index: i64, day: u8) -> Result<MuxanduDate, Refused>
     day_or_last(year, month_of_index(index), day)
 }
 
-// The same day of the month so many months later, of parts that make a date.
+// The same day of the month a number of months later, of parts that make a date.
 fn months_later(date: MuxanduDate, months: i32) -> Result<MuxanduDate, Refused>
     ensures { result ≡ months_later date months }
 {
@@ -105,14 +110,14 @@ fn date_add_months(date: MuxanduDate, months: i32) -> Result<MuxanduDate, Refuse
     }
 }
 
-/// The same day of the month so many months later, or earlier for a negative count, or the month's last day where it is
-/// shorter. Refused as the date, then RESULT outside the range.
+/// The same day of the month a number of months later, or earlier if it is negative; in a shorter
+/// month its last day. Errors, in this order: those of the date, RESULT if out of range.
 #[unsafe(no_mangle)]
 pub extern "C" fn muxandu_date_add_months(
     date: MuxanduDate,
     months: i32,
     out: &mut MuxanduDate,
-) -> u32
+) -> MuxanduStatus
     ensures status { result ≡ status_of (date_add_months date months) }
     ensures written { out.new ≡ written (date_add_months date months) out.old }
 {

@@ -8,7 +8,7 @@ ghost use Rattle.muxandu_c.specs.declared.refused.Refused.TheVariants as refused
 
 use crate::exchange::refused_text;
 use crate::parts::{date_parts_of, read_date};
-use crate::refused::{Refused, answer};
+use crate::refused::{MuxanduStatus, Refused, answer};
 use crate::texts::put;
 use crate::values::MuxanduDate;
 use calendar_values::{Date, Text};
@@ -30,14 +30,14 @@ fn date_to_rfc3339(date: MuxanduDate) -> Result<Text, Refused>
     full_date_of(read_date(date.year, date.month, date.day)?)
 }
 
-/// Writes the text of a date, as RFC 3339 has a full date, `1985-04-12`, of 10 bytes, as muxandu_date_time_text does.
-/// Refused as the date, then NO_TEXT, then BUFFER.
+/// Writes the RFC 3339 text of a date, such as `1985-04-12`, in 10 bytes, as muxandu_date_time_text
+/// does. Errors, in this order: those of the date, NO_TEXT, BUFFER.
 #[unsafe(no_mangle)]
 pub extern "C" fn muxandu_date_to_rfc3339(
     date: MuxanduDate,
     buffer: &mut [u8],
     size: &mut usize,
-) -> u32
+) -> MuxanduStatus
     ensures status { result ≡ status_of (text_if_room (date_to_rfc3339 date) buffer.old) }
     ensures written { buffer.new ≡
         written_over (text_if_room (date_to_rfc3339 date) buffer.old) buffer.old }
@@ -59,10 +59,11 @@ fn date_from_rfc3339(text: &[u8]) -> Result<MuxanduDate, Refused>
     }
 }
 
-/// Reads a date from a text of RFC 3339, with nothing before or after it, as `1985-04-12`. Refused SYNTAX where it has
-/// not that form, else MONTH, DAY or DAY_OF_MONTH, by the first from the left that is out of its range.
+/// The date in an RFC 3339 text such as `1985-04-12`, with nothing before or after it. Errors:
+/// SYNTAX if the text has another form, else MONTH, DAY or DAY_OF_MONTH for the first part out of
+/// range.
 #[unsafe(no_mangle)]
-pub extern "C" fn muxandu_date_from_rfc3339(text: &[u8], out: &mut MuxanduDate) -> u32
+pub extern "C" fn muxandu_date_from_rfc3339(text: &[u8], out: &mut MuxanduDate) -> MuxanduStatus
     ensures status { (year month day : ℕ) → IsFullDate text.now year month day →
         result ≡ status_of (date_spelled year month day) }
     ensures written { (year month day : ℕ) → IsFullDate text.now year month day →

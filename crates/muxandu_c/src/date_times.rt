@@ -1,4 +1,4 @@
-//! Date-times: what clocks at an offset show.
+//! Date-times at an offset from UTC.
 ghost use Rattle.std.specs.Prelude.{◌≡◌};
 ghost use Rattle.calendar_values.specs.Offsets.{IsOffset};
 ghost use Rattle.offset_times.specs.Local.{instant_of, shown_at};
@@ -13,15 +13,16 @@ use crate::parts::{
     in_unit, instant_of_date_time, read_date_time, read_duration, read_timestamp, shown_as_if_utc,
     sign, timestamp_of, to_offset, wall_of, wall_parts,
 };
-use crate::refused::{Refused, answer, status_of};
-use crate::unit::read_unit;
+use crate::refused::{MuxanduStatus, Refused, answer, status_of};
+use crate::unit::{MuxanduUnit, read_unit};
 use crate::values::{MuxanduDateTime, MuxanduDuration, MuxanduTimestamp};
 use offset_times::OffsetDateTime;
 
-/// Whether the parts make a date-time. Refused, as by each call that takes one, MONTH, YEAR, DAY, DAY_OF_MONTH,
-/// HOUR, MINUTE, SECOND, NANOSECOND or OFFSET_SECONDS, tested in this order. To replace a part, write it and ask this.
+/// Checks that the parts make a date-time. To replace a part yourself, write it and then make this
+/// call. Each call that takes a date-time has these errors, in this order: MONTH, YEAR, DAY,
+/// DAY_OF_MONTH, HOUR, MINUTE, SECOND, NANOSECOND, OFFSET_SECONDS.
 #[unsafe(no_mangle)]
-pub extern "C" fn muxandu_date_time_check(date_time: MuxanduDateTime) -> u32
+pub extern "C" fn muxandu_date_time_check(date_time: MuxanduDateTime) -> MuxanduStatus
     ensures status { result ≡ status_of (date_time_value date_time) }
 {
     status_of(read_date_time(date_time))
@@ -39,20 +40,21 @@ pub(crate) fn date_time_from_timestamp(
     Ok(wall_parts(shown_as_if_utc(at, offset_seconds)?, offset_seconds))
 }
 
-/// What clocks at an offset, in seconds, show at an instant. Refused as the timestamp, then OFFSET_SECONDS, then RESULT
-/// where the clocks show a year outside the range.
+/// The date-time of an instant at an offset in seconds. Errors, in this order: those of the
+/// timestamp, OFFSET_SECONDS, RESULT if the year at that offset is out of range.
 #[unsafe(no_mangle)]
 pub extern "C" fn muxandu_date_time_from_timestamp(
     at: MuxanduTimestamp,
     offset_seconds: i32,
     out: &mut MuxanduDateTime,
-) -> u32
+) -> MuxanduStatus
     ensures status { result ≡ status_of (date_time_from_timestamp at offset_seconds) }
     ensures written { out.new ≡ written (date_time_from_timestamp at offset_seconds) out.old }
 {
     answer(date_time_from_timestamp(at, offset_seconds), out)
 }
 
+#[inline(always)]
 pub(crate) fn timestamp_from_date_time(
     date_time: MuxanduDateTime,
 ) -> Result<MuxanduTimestamp, Refused>
@@ -62,13 +64,13 @@ pub(crate) fn timestamp_from_date_time(
     Ok(timestamp_of(instant_of_date_time(at, date_time.offset_seconds)?))
 }
 
-/// The instant at which clocks at its offset show the date-time. Refused as the date-time, then RESULT outside the range
-/// of timestamps.
+/// The instant of a date-time. Errors, in this order: those of the date-time, RESULT outside the
+/// range of timestamps.
 #[unsafe(no_mangle)]
 pub extern "C" fn muxandu_timestamp_from_date_time(
     date_time: MuxanduDateTime,
     out: &mut MuxanduTimestamp,
-) -> u32
+) -> MuxanduStatus
     ensures status { result ≡ status_of (timestamp_from_date_time date_time) }
     ensures written { out.new ≡ written (timestamp_from_date_time date_time) out.old }
 {
@@ -86,6 +88,7 @@ fn shown_parts(at: OffsetDateTime, from: i32, to: i32) -> Result<MuxanduDateTime
     Ok(wall_parts(to_offset(at, from, to)?, to))
 }
 
+#[inline(always)]
 fn date_time_to_offset(
     date_time: MuxanduDateTime,
     offset_seconds: i32,
@@ -100,14 +103,14 @@ fn date_time_to_offset(
     )
 }
 
-/// What clocks at another offset, in seconds, show at the same instant. Refused as the date-time, then OFFSET_SECONDS,
-/// then RESULT where the clocks there show a year outside the range.
+/// The same instant at another offset in seconds. Errors, in this order: those of the date-time,
+/// OFFSET_SECONDS, RESULT if the year at that offset is out of range.
 #[unsafe(no_mangle)]
 pub extern "C" fn muxandu_date_time_to_offset(
     date_time: MuxanduDateTime,
     offset_seconds: i32,
     out: &mut MuxanduDateTime,
-) -> u32
+) -> MuxanduStatus
     ensures status { result ≡ status_of (date_time_to_offset date_time offset_seconds) }
     ensures written { out.new ≡ written (date_time_to_offset date_time offset_seconds) out.old }
 {
@@ -125,14 +128,14 @@ fn date_time_add(
     Ok(wall_parts(wall, date_time.offset_seconds))
 }
 
-/// The date-time so much later at the same offset, or earlier for a negative duration. Refused as the date-time, then
-/// DURATION, then RESULT where the year is outside the range.
+/// The date-time plus a duration, at the same offset. Errors, in this order: those of the
+/// date-time, DURATION, RESULT if the year is out of range.
 #[unsafe(no_mangle)]
 pub extern "C" fn muxandu_date_time_add(
     date_time: MuxanduDateTime,
     duration: MuxanduDuration,
     out: &mut MuxanduDateTime,
-) -> u32
+) -> MuxanduStatus
     ensures status { result ≡ status_of (date_time_add date_time duration) }
     ensures written { out.new ≡ written (date_time_add date_time duration) out.old }
 {
@@ -150,14 +153,14 @@ fn date_time_subtract(
     Ok(wall_parts(wall, date_time.offset_seconds))
 }
 
-/// The date-time so much earlier at the same offset, or later for a negative duration. Refused as the date-time, then
-/// DURATION, then RESULT where the year is outside the range.
+/// The date-time minus a duration, at the same offset. Errors, in this order: those of the
+/// date-time, DURATION, RESULT if the year is out of range.
 #[unsafe(no_mangle)]
 pub extern "C" fn muxandu_date_time_subtract(
     date_time: MuxanduDateTime,
     duration: MuxanduDuration,
     out: &mut MuxanduDateTime,
-) -> u32
+) -> MuxanduStatus
     ensures status { result ≡ status_of (date_time_subtract date_time duration) }
     ensures written { out.new ≡ written (date_time_subtract date_time duration) out.old }
 {
@@ -174,14 +177,14 @@ fn date_time_saturating_add(
     Ok(date_time_of(at.saturating_add(read_duration(duration)?)))
 }
 
-/// The date-time so much later at the same offset, or the end of the range that it is beyond. Refused as the date-time,
-/// then DURATION.
+/// The date-time plus a duration, at the same offset, or the nearer end of the range. Errors, in
+/// this order: those of the date-time, DURATION.
 #[unsafe(no_mangle)]
 pub extern "C" fn muxandu_date_time_saturating_add(
     date_time: MuxanduDateTime,
     duration: MuxanduDuration,
     out: &mut MuxanduDateTime,
-) -> u32
+) -> MuxanduStatus
     ensures status { result ≡ status_of (date_time_saturating_add date_time duration) }
     ensures written { out.new ≡ written (date_time_saturating_add date_time duration) out.old }
 {
@@ -198,14 +201,14 @@ fn date_time_saturating_subtract(
     Ok(date_time_of(at.saturating_sub(read_duration(duration)?)))
 }
 
-/// The date-time so much earlier at the same offset, or the end of the range that it is beyond. Refused as the
-/// date-time, then DURATION.
+/// The date-time minus a duration, at the same offset, or the nearer end of the range. Errors, in
+/// this order: those of the date-time, DURATION.
 #[unsafe(no_mangle)]
 pub extern "C" fn muxandu_date_time_saturating_subtract(
     date_time: MuxanduDateTime,
     duration: MuxanduDuration,
     out: &mut MuxanduDateTime,
-) -> u32
+) -> MuxanduStatus
     ensures status { result ≡ status_of (date_time_saturating_subtract date_time duration) }
     ensures written { out.new ≡ written (date_time_saturating_subtract date_time duration) out.old }
 {
@@ -223,14 +226,14 @@ fn date_time_difference(
     Ok(duration_of(apart(at, from, later.offset_seconds - earlier.offset_seconds)))
 }
 
-/// The duration from the instant of `earlier` to that of `later`, negative where `later` comes first. Refused as
-/// `later`, then as `earlier`.
+/// The duration from the instant of `earlier` to that of `later`, negative if `later` comes first.
+/// Errors, in this order: those of `later`, those of `earlier`.
 #[unsafe(no_mangle)]
 pub extern "C" fn muxandu_date_time_difference(
     later: MuxanduDateTime,
     earlier: MuxanduDateTime,
     out: &mut MuxanduDuration,
-) -> u32
+) -> MuxanduStatus
     ensures status { result ≡ status_of (date_time_difference later earlier) }
     ensures written { out.new ≡ written (date_time_difference later earlier) out.old }
 {
@@ -244,13 +247,14 @@ fn date_time_truncate(date_time: MuxanduDateTime, unit: u32) -> Result<MuxanduDa
     Ok(date_time_of(in_unit(at, read_unit(unit)?)))
 }
 
-/// The date-time rounded down to a unit, as its clocks show it. Refused as the date-time, then UNIT.
+/// The date-time, rounded down to a unit at its own offset. Errors, in this order: those of the
+/// date-time, UNIT.
 #[unsafe(no_mangle)]
 pub extern "C" fn muxandu_date_time_truncate(
     date_time: MuxanduDateTime,
-    unit: u32,
+    unit: MuxanduUnit,
     out: &mut MuxanduDateTime,
-) -> u32
+) -> MuxanduStatus
     ensures status { result ≡ status_of (date_time_truncate date_time unit) }
     ensures written { out.new ≡ written (date_time_truncate date_time unit) out.old }
 {
@@ -264,14 +268,14 @@ fn date_time_compare(first: MuxanduDateTime, second: MuxanduDateTime) -> Result<
     Ok(sign(first.cmp(&read_date_time(second)?)))
 }
 
-/// Which date-time comes first, by their instants: -1 if `first` does, 0 if both are one instant, 1 if `second` does.
-/// Refused as `first`, then as `second`.
+/// The order of two instants: -1 if `first` comes first, 0 if both are one instant, 1 if `second`
+/// comes first. Errors, in this order: those of `first`, those of `second`.
 #[unsafe(no_mangle)]
 pub extern "C" fn muxandu_date_time_compare(
     first: MuxanduDateTime,
     second: MuxanduDateTime,
     out: &mut i32,
-) -> u32
+) -> MuxanduStatus
     ensures status { result ≡ status_of (date_time_compare first second) }
     ensures written { out.new ≡ written (date_time_compare first second) out.old }
 {
@@ -284,9 +288,9 @@ fn date_time_day(date_time: MuxanduDateTime) -> Result<i32, Refused>
     Ok(day_of(read_date_time(date_time)?.date()))
 }
 
-/// The day number that the clocks show, 0 on 1970-01-01. Refused as the date-time.
+/// The day number of the local date, 0 on 1970-01-01. Errors: those of the date-time.
 #[unsafe(no_mangle)]
-pub extern "C" fn muxandu_date_time_day(date_time: MuxanduDateTime, out: &mut i32) -> u32
+pub extern "C" fn muxandu_date_time_day(date_time: MuxanduDateTime, out: &mut i32) -> MuxanduStatus
     ensures status { result ≡ status_of (date_time_day date_time) }
     ensures written { out.new ≡ written (date_time_day date_time) out.old }
 {

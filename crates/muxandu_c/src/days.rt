@@ -1,4 +1,4 @@
-//! Day numbers, 0 on 1970-01-01, and the dates that they stand for.
+//! Day numbers, 0 on 1970-01-01, and their dates.
 ghost use Rattle.std.specs.Prelude.{◌≡◌, IfOk, Ok};
 ghost use Rattle.calendar_values.specs.Range.{IsDay};
 ghost use Rattle.calendar_values.specs.Weeks.{weekday_of};
@@ -9,7 +9,7 @@ ghost use Rattle.muxandu_c.specs.Values.{weekday_from_day, length_of_month};
 ghost use Rattle.muxandu_c.specs.WeekDates.{week_date_from_day, day_from_week_date, refused_with_weekday};
 
 use crate::parts::{date_of, day_of, read_date, read_day};
-use crate::refused::{Refused, answer};
+use crate::refused::{MuxanduStatus, Refused, answer};
 use crate::values::{MuxanduDate, MuxanduOrdinalDate, MuxanduWeekDate};
 use calendar_values::{Date, Month, Weekday};
 
@@ -21,9 +21,9 @@ pub(crate) fn date_from_day(day: i32) -> Result<MuxanduDate, Refused>
     Ok(date_of(day))
 }
 
-/// The date of a day number. Refused DAY_NUMBER.
+/// The date of a day number. Errors: DAY_NUMBER.
 #[unsafe(no_mangle)]
-pub extern "C" fn muxandu_date_from_day(day: i32, out: &mut MuxanduDate) -> u32
+pub extern "C" fn muxandu_date_from_day(day: i32, out: &mut MuxanduDate) -> MuxanduStatus
     ensures status { result ≡ status_of (date_from_day day) }
     ensures written { out.new ≡ written (date_from_day day) out.old }
 {
@@ -37,9 +37,9 @@ pub(crate) fn day_from_date(date: MuxanduDate) -> Result<i32, Refused>
     Ok(day_of(read_date(date.year, date.month, date.day)?))
 }
 
-/// The day number of a date. Refused MONTH, YEAR, DAY or DAY_OF_MONTH, tested in this order.
+/// The day number of a date. Errors, in this order: MONTH, YEAR, DAY, DAY_OF_MONTH.
 #[unsafe(no_mangle)]
-pub extern "C" fn muxandu_day_from_date(date: MuxanduDate, out: &mut i32) -> u32
+pub extern "C" fn muxandu_day_from_date(date: MuxanduDate, out: &mut i32) -> MuxanduStatus
     ensures status { result ≡ status_of (day_from_date date) }
     ensures written { out.new ≡ written (day_from_date date) out.old }
 {
@@ -53,9 +53,12 @@ fn ordinal_date_from_day(day: i32) -> Result<MuxanduOrdinalDate, Refused>
     Ok(MuxanduOrdinalDate { year, ordinal })
 }
 
-/// The year and the day of the year of a day number. Refused DAY_NUMBER.
+/// The year and the day of the year of a day number. Errors: DAY_NUMBER.
 #[unsafe(no_mangle)]
-pub extern "C" fn muxandu_ordinal_date_from_day(day: i32, out: &mut MuxanduOrdinalDate) -> u32
+pub extern "C" fn muxandu_ordinal_date_from_day(
+    day: i32,
+    out: &mut MuxanduOrdinalDate,
+) -> MuxanduStatus
     ensures status { result ≡ status_of (ordinal_date_from_day day) }
     ensures written { out.new ≡ written (ordinal_date_from_day day) out.old }
 {
@@ -68,9 +71,12 @@ fn day_from_ordinal_date(date: MuxanduOrdinalDate) -> Result<i32, Refused>
     Ok(day_of(Date::from_ordinal_date(date.year, date.ordinal)?))
 }
 
-/// The day number of a day of a year. Refused YEAR, ORDINAL or ORDINAL_OF_YEAR, tested in this order.
+/// The day number of a day of a year. Errors, in this order: YEAR, ORDINAL, ORDINAL_OF_YEAR.
 #[unsafe(no_mangle)]
-pub extern "C" fn muxandu_day_from_ordinal_date(date: MuxanduOrdinalDate, out: &mut i32) -> u32
+pub extern "C" fn muxandu_day_from_ordinal_date(
+    date: MuxanduOrdinalDate,
+    out: &mut i32,
+) -> MuxanduStatus
     ensures status { result ≡ status_of (day_from_ordinal_date date) }
     ensures written { out.new ≡ written (day_from_ordinal_date date) out.old }
 {
@@ -88,10 +94,10 @@ fn week_date_from_day(day: i32) -> Result<MuxanduWeekDate, Refused>
     })
 }
 
-/// The ISO year, the ISO week and the day of the week of a day number, of which muxandu_day_from_week_date makes the day
-/// number again. Refused DAY_NUMBER.
+/// The ISO year, the ISO week and the day of the week of a day number. muxandu_day_from_week_date
+/// is the inverse. Errors: DAY_NUMBER.
 #[unsafe(no_mangle)]
-pub extern "C" fn muxandu_week_date_from_day(day: i32, out: &mut MuxanduWeekDate) -> u32
+pub extern "C" fn muxandu_week_date_from_day(day: i32, out: &mut MuxanduWeekDate) -> MuxanduStatus
     ensures status { result ≡ status_of (week_date_from_day day) }
     ensures written { out.new ≡ written (week_date_from_day day) out.old }
     ensures reads_back { IfOk (week_date_from_day day) (λ date. day_from_week_date date ≡ Ok day) }
@@ -120,10 +126,10 @@ fn refused_with_weekday(year: i32, week: u8) -> Refused
     }
 }
 
-/// The day number of an ISO week date. Refused YEAR, WEEK, WEEKDAY or WEEK_OF_YEAR, tested in this order, then RESULT
-/// for the two days of the last week that lie past the range.
+/// The day number of an ISO week date. Errors, in this order: YEAR, WEEK, WEEKDAY, WEEK_OF_YEAR,
+/// RESULT for the two days of the last week past the range.
 #[unsafe(no_mangle)]
-pub extern "C" fn muxandu_day_from_week_date(date: MuxanduWeekDate, out: &mut i32) -> u32
+pub extern "C" fn muxandu_day_from_week_date(date: MuxanduWeekDate, out: &mut i32) -> MuxanduStatus
     ensures status { result ≡ status_of (day_from_week_date date) }
     ensures written { out.new ≡ written (day_from_week_date date) out.old }
     ensures reads_back { IfOk (day_from_week_date date) (λ day. week_date_from_day day ≡ Ok date) }
@@ -147,9 +153,9 @@ fn weekday_from_day(day: i32) -> Result<u8, Refused>
     Ok(weekday_of(day))
 }
 
-/// The day of the week of a day number, 0 for Monday to 6 for Sunday. Refused DAY_NUMBER.
+/// The day of the week of a day number, 0 for Monday to 6 for Sunday. Errors: DAY_NUMBER.
 #[unsafe(no_mangle)]
-pub extern "C" fn muxandu_weekday_from_day(day: i32, out: &mut u8) -> u32
+pub extern "C" fn muxandu_weekday_from_day(day: i32, out: &mut u8) -> MuxanduStatus
     ensures status { result ≡ status_of (weekday_from_day day) }
     ensures written { out.new ≡ written (weekday_from_day day) out.old }
 {
@@ -164,11 +170,20 @@ pub(crate) fn days_in_month(year: i32, month: u8) -> Result<u8, Refused>
     Ok(calendar_values::days_in_month(year, month))
 }
 
-/// How many days a month of a year has, 28 to 31. Refused MONTH, then YEAR.
+fn length_of_month(year: i32, month: u32) -> Result<u8, Refused>
+    ensures { result ≡ length_of_month year month }
+{
+    if month > 12 {
+        return Err(Refused::Month);
+    }
+    days_in_month(year, month as u8)
+}
+
+/// The number of days in a month of a year, 28 to 31. Errors, in this order: MONTH, YEAR.
 #[unsafe(no_mangle)]
-pub extern "C" fn muxandu_days_in_month(year: i32, month: u8, out: &mut u8) -> u32
+pub extern "C" fn muxandu_days_in_month(year: i32, month: u32, out: &mut u8) -> MuxanduStatus
     ensures status { result ≡ status_of (length_of_month year month) }
     ensures written { out.new ≡ written (length_of_month year month) out.old }
 {
-    answer(days_in_month(year, month), out)
+    answer(length_of_month(year, month), out)
 }

@@ -1,4 +1,4 @@
-//! Many values in one call that goes on after refusals.
+//! Many values in one call that continues after errors.
 ghost use Rattle.std.specs.Prelude.{◌≡◌, ◌≤◌, ◌++◌, length, drop};
 ghost use Rattle.muxandu_c.specs.Answers.{written};
 ghost use Rattle.muxandu_c.specs.EachBatches.{written_each, status_of_each, count_of_values, counted};
@@ -6,7 +6,7 @@ ghost use Rattle.muxandu_c.specs.EachBatches.{with_both_rooms, room_status};
 ghost use Rattle.muxandu_c.specs.Values.{date_time_of_second, second_of_date_time};
 
 use crate::batches::{Conversion, ToDateTime, ToSecond, stopped};
-use crate::refused::{Refused, status_of};
+use crate::refused::{MuxanduStatus, Refused, status_of};
 use crate::values::{MuxanduBatch, MuxanduDateTime};
 
 // The value and the status of each item.
@@ -59,7 +59,7 @@ fn fill_each<A: Copy, B: Copy, C: Conversion<A, B>>(
     count
 }
 
-// What an answer leaves in a place.
+// The contents of a place after an answer.
 #[inline(always)]
 fn written<B: Copy>(answer: Result<B, Refused>, there: B) -> B
     ensures { result ≡ written answer there }
@@ -82,15 +82,17 @@ fn counted<B: Copy>(answer: Result<B, Refused>) -> usize
     }
 }
 
-/// What clocks at an offset, in seconds, show at each Unix second, and its status, as muxandu_date_time_from_timestamp
-/// has them: where an item is refused, what is in its place stays, and the next follows. `count` is how many were
-/// converted. Refused BUFFER, with nothing written, where `out` or `statuses` has fewer items than `seconds`.
+/// The date-time of each Unix second at an offset in seconds, and the status of
+/// muxandu_date_time_from_timestamp for it. If an item fails, its place in `out` keeps its
+/// contents, and the call continues with the next. `count` is the number of converted items.
+/// Errors: BUFFER if `out` or `statuses` has fewer items than `seconds`; the call then writes
+/// nothing.
 #[unsafe(no_mangle)]
 pub extern "C" fn muxandu_date_times_from_each_second(
     seconds: &[i64],
     offset_seconds: i32,
     out: &mut [MuxanduDateTime],
-    statuses: &mut [u32],
+    statuses: &mut [MuxanduStatus],
 ) -> MuxanduBatch
     ensures count { result.count ≡ count_of_values (date_time_of_second offset_seconds)
         (with_both_rooms out.old statuses.old seconds.now) }
@@ -104,14 +106,16 @@ pub extern "C" fn muxandu_date_times_from_each_second(
     convert_each(ToDateTime { offset_seconds }, seconds, out, statuses)
 }
 
-/// The Unix second of each date-time, rounded down, and its status, as muxandu_timestamp_from_date_time has them: where
-/// an item is refused, what is in its place stays, and the next follows. `count` is how many were converted. Refused
-/// BUFFER, with nothing written, where `out` or `statuses` has fewer items than `date_times`.
+/// The Unix second of each date-time, rounded down, and the status of
+/// muxandu_timestamp_from_date_time for it. If an item fails, its place in `out` keeps its
+/// contents, and the call continues with the next. `count` is the number of converted items.
+/// Errors: BUFFER if `out` or `statuses` has fewer items than `date_times`; the call then writes
+/// nothing.
 #[unsafe(no_mangle)]
 pub extern "C" fn muxandu_seconds_from_each_date_time(
     date_times: &[MuxanduDateTime],
     out: &mut [i64],
-    statuses: &mut [u32],
+    statuses: &mut [MuxanduStatus],
 ) -> MuxanduBatch
     ensures count { result.count ≡ count_of_values second_of_date_time
         (with_both_rooms out.old statuses.old date_times.now) }

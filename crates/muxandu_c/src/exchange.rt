@@ -13,16 +13,19 @@ ghost use Rattle.muxandu_c.specs.Exchange.{date_time_to_rfc3339, timestamp_to_rf
 ghost use Rattle.muxandu_c.specs.Exchange.{read_parts, date_time_spelled, timestamp_spelled};
 ghost use Rattle.muxandu_c.specs.declared.refused.Refused.TheVariants as refused;
 
-use crate::parts::{date_time_of, read_date_time, read_timestamp, timestamp_of};
-use crate::refused::{Refused, answer};
+use crate::parts::{date_time_of, instant_in_range, read_date_time, read_timestamp, timestamp_of};
+use crate::refused::{MuxanduStatus, Refused, answer};
 use crate::texts::put;
+use crate::utc_texts::read_utc_text;
 use crate::values::{MuxanduDateTime, MuxanduTimestamp};
+use crate::written_texts::{write_date_time, write_timestamp};
 use calendar_values::Text;
 use offset_times::OffsetDateTime;
 use rfc3339::length_laws::texts_in_utc_have_thirty_bytes;
-use rfc3339::{Component, Rfc3339, TextRefusal, parse_rfc3339, to_rfc3339_nanos};
+use rfc3339::{Component, Rfc3339, TEXT_ROOM, TextRefusal, parse_rfc3339, to_rfc3339_nanos};
 use stamp_times::Timestamp;
 
+#[inline(always)]
 fn rfc3339_of(at: OffsetDateTime) -> Result<Text, Refused>
     ensures value { result ≡ rfc3339_of at }
     ensures room { IfOk result (λ text. length text ≤ 35) }
@@ -50,21 +53,25 @@ pub(crate) fn date_time_to_rfc3339(date_time: MuxanduDateTime) -> Result<Text, R
     rfc3339_of(read_date_time(date_time)?)
 }
 
-/// Writes the shortest text of RFC 3339 of a date-time, as `1985-04-12T23:20:50.52Z` or `1996-12-19T16:39:57-08:00`, of
-/// at most 35 bytes, as muxandu_date_time_text does. Refused as the date-time, then NO_TEXT, then BUFFER.
+/// Writes the shortest RFC 3339 text of a date-time, in at most 35 bytes, as muxandu_date_time_text
+/// does. Examples are `1985-04-12T23:20:50.52Z` and `1996-12-19T16:39:57-08:00`. Errors, in this
+/// order: those of the date-time, NO_TEXT, BUFFER.
 #[unsafe(no_mangle)]
 pub extern "C" fn muxandu_date_time_to_rfc3339(
     date_time: MuxanduDateTime,
     buffer: &mut [u8],
     size: &mut usize,
-) -> u32
+) -> MuxanduStatus
     ensures status { result ≡ status_of (text_if_room (date_time_to_rfc3339 date_time) buffer.old) }
     ensures written { buffer.new ≡
         written_over (text_if_room (date_time_to_rfc3339 date_time) buffer.old) buffer.old }
     ensures size { size.new ≡ written (length_of_answer (date_time_to_rfc3339 date_time)) size.old }
     ensures room { IfOk (date_time_to_rfc3339 date_time) (λ text. length text ≤ 35) }
 {
-    put(date_time_to_rfc3339(date_time), buffer, size)
+    if buffer.len() < TEXT_ROOM {
+        return put(date_time_to_rfc3339(date_time), buffer, size);
+    }
+    answer(write_date_time(date_time, buffer), size)
 }
 
 fn timestamp_to_rfc3339(at: MuxanduTimestamp) -> Result<Text, Refused>
@@ -75,6 +82,7 @@ fn timestamp_to_rfc3339(at: MuxanduTimestamp) -> Result<Text, Refused>
 }
 
 // The shortest text of an instant, in UTC.
+#[inline(always)]
 fn utc_rfc3339_of(at: Timestamp) -> Result<Text, Refused>
     ensures value { result ≡ rfc3339_of (local_in_utc at) }
     ensures room { IfOk result (λ text. length text ≤ 30) }
@@ -83,21 +91,25 @@ fn utc_rfc3339_of(at: Timestamp) -> Result<Text, Refused>
     rfc3339_of(OffsetDateTime::from(at))
 }
 
-/// Writes the shortest text of RFC 3339 of an instant, in UTC, as `1985-04-12T23:20:50.52Z`, of at most 30 bytes, as
-/// muxandu_date_time_text does. Refused as the timestamp, then NO_TEXT, then BUFFER.
+/// Writes the shortest RFC 3339 text of an instant in UTC, such as `1985-04-12T23:20:50.52Z`, in at
+/// most 30 bytes, as muxandu_date_time_text does. Errors, in this order: those of the timestamp,
+/// NO_TEXT, BUFFER.
 #[unsafe(no_mangle)]
 pub extern "C" fn muxandu_timestamp_to_rfc3339(
     at: MuxanduTimestamp,
     buffer: &mut [u8],
     size: &mut usize,
-) -> u32
+) -> MuxanduStatus
     ensures status { result ≡ status_of (text_if_room (timestamp_to_rfc3339 at) buffer.old) }
     ensures written { buffer.new ≡
         written_over (text_if_room (timestamp_to_rfc3339 at) buffer.old) buffer.old }
     ensures size { size.new ≡ written (length_of_answer (timestamp_to_rfc3339 at)) size.old }
     ensures room { IfOk (timestamp_to_rfc3339 at) (λ text. length text ≤ 30) }
 {
-    put(timestamp_to_rfc3339(at), buffer, size)
+    if buffer.len() < TEXT_ROOM {
+        return put(timestamp_to_rfc3339(at), buffer, size);
+    }
+    answer(write_timestamp(at, buffer), size)
 }
 
 fn timestamp_to_rfc3339_nanos(at: MuxanduTimestamp) -> Result<Text, Refused>
@@ -107,15 +119,16 @@ fn timestamp_to_rfc3339_nanos(at: MuxanduTimestamp) -> Result<Text, Refused>
     fixed_rfc3339_of(read_timestamp(at)?)
 }
 
-/// Writes the text of RFC 3339 of an instant, in UTC, always with nine digits of the fraction, as
-/// `1985-04-12T23:20:50.520000000Z`, of 30 bytes, as muxandu_date_time_text does. Such texts are in the order of their
-/// instants, byte by byte. Refused as the timestamp, then NO_TEXT, then BUFFER.
+/// Writes the RFC 3339 text of an instant in UTC with nine digits of the fraction, such as
+/// `1985-04-12T23:20:50.520000000Z`, in 30 bytes, as muxandu_date_time_text does. Such texts
+/// compare byte by byte as their instants do. Errors, in this order: those of the timestamp,
+/// NO_TEXT, BUFFER.
 #[unsafe(no_mangle)]
 pub extern "C" fn muxandu_timestamp_to_rfc3339_nanos(
     at: MuxanduTimestamp,
     buffer: &mut [u8],
     size: &mut usize,
-) -> u32
+) -> MuxanduStatus
     ensures status { result ≡ status_of (text_if_room (timestamp_to_rfc3339_nanos at) buffer.old) }
     ensures written { buffer.new ≡
         written_over (text_if_room (timestamp_to_rfc3339_nanos at) buffer.old) buffer.old }
@@ -125,7 +138,21 @@ pub extern "C" fn muxandu_timestamp_to_rfc3339_nanos(
     put(timestamp_to_rfc3339_nanos(at), buffer, size)
 }
 
+#[inline(always)]
 fn read_text(text: &[u8]) -> Result<OffsetDateTime, Refused>
+    ensures spelled { (p : Parts) → IsDateTime text.now p → result ≡ read_parts p }
+    ensures syntax { ((p : Parts) × IsDateTime text.now p) ⊎ (result ≡ Err refused.Syntax) }
+    ensures instant { IfOk result (λ at. IsInstant (instant_of at)) }
+{
+    match read_utc_text(text) {
+        Some(at) => Ok(at),
+        None => read_any_text(text),
+    }
+}
+
+// The same of a text of any length, byte by byte.
+#[inline(always)]
+fn read_any_text(text: &[u8]) -> Result<OffsetDateTime, Refused>
     ensures spelled { (p : Parts) → IsDateTime text.now p → result ≡ read_parts p }
     ensures syntax { ((p : Parts) × IsDateTime text.now p) ⊎ (result ≡ Err refused.Syntax) }
     ensures instant { IfOk result (λ at. IsInstant (instant_of at)) }
@@ -189,6 +216,7 @@ fn is_some_day(tens: u8, units: u8) -> bool
     }
 }
 
+#[inline(always)]
 pub(crate) fn date_time_from_rfc3339(text: &[u8]) -> Result<MuxanduDateTime, Refused>
     ensures spelled { (p : Parts) → IsDateTime text.now p → result ≡ date_time_spelled p }
     ensures syntax { ((p : Parts) × IsDateTime text.now p) ⊎ (result ≡ Err refused.Syntax) }
@@ -196,13 +224,16 @@ pub(crate) fn date_time_from_rfc3339(text: &[u8]) -> Result<MuxanduDateTime, Ref
     Ok(date_time_of(read_text(text)?))
 }
 
-/// Reads a date-time and its offset from a text of RFC 3339, with nothing before or after it, as
-/// `1985-04-12T23:20:50.52Z` or `1996-12-19T16:39:57-08:00`. A `t` or a space can stand for the `T`, and `z` for the
-/// `Z`; digits past the ninth of the fraction are dropped; `-00:00` is the offset 0. Refused SYNTAX where it has not
-/// that form, else MONTH, DAY or DAY_OF_MONTH, HOUR, MINUTE, SECOND, OFFSET_HOUR or OFFSET_MINUTE, by the first from the
-/// left that is out of its range.
+/// The date-time and the offset in an RFC 3339 text, with nothing before or after it. Examples are
+/// `1985-04-12T23:20:50.52Z` and `1996-12-19T16:39:57-08:00`. `t` or a space may replace the `T`,
+/// and `z` the `Z`. The call drops digits past the ninth of the fraction, and reads `-00:00` as the
+/// offset 0. Errors: SYNTAX if the text has another form, else that of the first part out of range:
+/// MONTH, DAY or DAY_OF_MONTH, HOUR, MINUTE, SECOND, OFFSET_HOUR, OFFSET_MINUTE.
 #[unsafe(no_mangle)]
-pub extern "C" fn muxandu_date_time_from_rfc3339(text: &[u8], out: &mut MuxanduDateTime) -> u32
+pub extern "C" fn muxandu_date_time_from_rfc3339(
+    text: &[u8],
+    out: &mut MuxanduDateTime,
+) -> MuxanduStatus
     ensures status { (p : Parts) → IsDateTime text.now p →
         result ≡ status_of (date_time_spelled p) }
     ensures written { (p : Parts) → IsDateTime text.now p →
@@ -213,16 +244,21 @@ pub extern "C" fn muxandu_date_time_from_rfc3339(text: &[u8], out: &mut MuxanduD
     answer(date_time_from_rfc3339(text), out)
 }
 
+#[inline(always)]
 pub(crate) fn timestamp_from_rfc3339(text: &[u8]) -> Result<MuxanduTimestamp, Refused>
     ensures spelled { (p : Parts) → IsDateTime text.now p → result ≡ timestamp_spelled p }
     ensures syntax { ((p : Parts) × IsDateTime text.now p) ⊎ (result ≡ Err refused.Syntax) }
 {
-    Ok(timestamp_of(Timestamp::from(read_text(text)?.to_utc())))
+    Ok(timestamp_of(instant_in_range(read_text(text)?)))
 }
 
-/// Reads the instant of a text of RFC 3339, as muxandu_date_time_from_rfc3339 does, and with its refusals.
+/// The instant of an RFC 3339 text, as muxandu_date_time_from_rfc3339 reads it. Errors: those of
+/// that call.
 #[unsafe(no_mangle)]
-pub extern "C" fn muxandu_timestamp_from_rfc3339(text: &[u8], out: &mut MuxanduTimestamp) -> u32
+pub extern "C" fn muxandu_timestamp_from_rfc3339(
+    text: &[u8],
+    out: &mut MuxanduTimestamp,
+) -> MuxanduStatus
     ensures status { (p : Parts) → IsDateTime text.now p →
         result ≡ status_of (timestamp_spelled p) }
     ensures written { (p : Parts) → IsDateTime text.now p →

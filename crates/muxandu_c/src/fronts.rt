@@ -1,4 +1,4 @@
-//! Date-times read from the front of a text, and where a text has not the form.
+//! Date-times read from the front of a text, and the place of a fault in a text.
 ghost use Rattle.std.specs.Prelude.{◌≡◌, ◌≤◌, ◌++◌, ℕ, List, length, take, Ok};
 ghost use Rattle.rfc3339.specs.Form.{IsDateTime};
 ghost use Rattle.rfc3339.specs.declared.parts.Parts.{Parts};
@@ -8,7 +8,7 @@ ghost use Rattle.muxandu_c.specs.FrontTexts.{date_time_front, first_of, second_o
 
 use crate::exchange::refused_text;
 use crate::parts::date_time_of;
-use crate::refused::{Refused, status};
+use crate::refused::{MuxanduStatus, Refused, status};
 use crate::values::MuxanduDateTime;
 use rfc3339::{parse_rfc3339_front, syntax_fault};
 
@@ -21,15 +21,15 @@ fn date_time_front(text: &[u8]) -> Result<(MuxanduDateTime, usize), Refused>
     }
 }
 
-/// Reads the date-time that a text of RFC 3339 begins with, and its offset, as muxandu_date_time_from_rfc3339 does, and
-/// writes the number of its bytes to `size`: of `1985-04-12T23:20:50.52Z done` it is 23. Refused SYNTAX where no beginning
-/// of the text has that form, else as that call.
+/// The date-time and the offset at the front of a text, as muxandu_date_time_from_rfc3339 reads
+/// them. Writes the number of bytes it read to `size`: 23 for `1985-04-12T23:20:50.52Z done`.
+/// Errors: SYNTAX if no front of the text has that form, else those of that call.
 #[unsafe(no_mangle)]
 pub extern "C" fn muxandu_date_time_from_rfc3339_front(
     text: &[u8],
     out: &mut MuxanduDateTime,
     size: &mut usize,
-) -> u32
+) -> MuxanduStatus
     ensures status { result ≡ status_of (date_time_front text.now) }
     ensures written { out.new ≡ written (first_of (date_time_front text.now)) out.old }
     ensures size { size.new ≡ written (second_of (date_time_front text.now)) size.old }
@@ -48,9 +48,9 @@ pub extern "C" fn muxandu_date_time_from_rfc3339_front(
     }
 }
 
-/// The place of the fault in a text that is refused SYNTAX, counted from 0: of `1985-04-12_23:20:50Z` it is 10. There the
-/// text has a byte with which no date-time of RFC 3339 goes on, or its end. Of a text that has the form it is the number of
-/// its bytes.
+/// The index of the fault in a text that fails with SYNTAX: 10 for `1985-04-12_23:20:50Z`. No RFC
+/// 3339 date-time continues with the byte at that index; or the text ends there, too early. For a
+/// text that has the form it is the length of the text.
 #[unsafe(no_mangle)]
 pub extern "C" fn muxandu_rfc3339_fault(text: &[u8]) -> usize
     ensures at_most { result ≤ length text.now }

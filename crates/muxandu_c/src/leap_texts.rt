@@ -8,7 +8,7 @@ ghost use Rattle.muxandu_c.specs.declared.refused.Refused.TheVariants as refused
 
 use crate::exchange::refused_text;
 use crate::parts::date_time_of;
-use crate::refused::{Refused, status};
+use crate::refused::{MuxanduStatus, Refused, status};
 use crate::values::MuxanduDateTime;
 use rfc3339::parse_rfc3339_leap;
 
@@ -22,17 +22,17 @@ fn date_time_from_rfc3339_leap(text: &[u8]) -> Result<(MuxanduDateTime, bool), R
     }
 }
 
-/// Reads a date-time and its offset as muxandu_date_time_from_rfc3339 does, and one whose second is 60 too, as
-/// `2016-12-31T23:59:60Z`. A leap second can be the last second of a month in UTC alone. It is read as the last nanosecond
-/// before the next month, whatever its fraction; then `is_leap` is 1, and else 0. What is read is in the order of what was
-/// written. Refused as that call refuses, SECOND above 60; and SECOND where all parts are in their ranges and no month
-/// ends with the second of 60.
+/// The date-time and the offset in a text, as muxandu_date_time_from_rfc3339 reads them, also with
+/// a second of 60, as in `2016-12-31T23:59:60Z`. A leap second is valid only as the last second of
+/// a month in UTC. It becomes the last nanosecond before the next month, for any fraction;
+/// `is_leap` is then 1, else 0. So values keep the order of their texts. Errors: those of that
+/// call, with SECOND above 60; then SECOND if no month ends with a second of 60.
 #[unsafe(no_mangle)]
 pub extern "C" fn muxandu_date_time_from_rfc3339_leap(
     text: &[u8],
     out: &mut MuxanduDateTime,
     is_leap: &mut u8,
-) -> u32
+) -> MuxanduStatus
     ensures status { (p : Parts) → IsDateTime text.now p → result ≡ status_of (leap_spelled p) }
     ensures written { (p : Parts) → IsDateTime text.now p →
         out.new ≡ written (first_of (leap_spelled p)) out.old }

@@ -4,7 +4,7 @@ ghost use Rattle.muxandu_c.specs.Answers.{status_of, written};
 ghost use Rattle.muxandu_c.specs.OffsetParts.{offset_from_parts, offset_to_parts, refused_offset_part};
 
 use crate::parts::read_offset;
-use crate::refused::{Refused, answer};
+use crate::refused::{MuxanduStatus, Refused, answer};
 use calendar_values::{ComponentRange, Part, UtcOffset};
 
 /// An offset from UTC as hours, minutes and seconds, all of one sign.
@@ -39,11 +39,11 @@ fn offset_from_parts(parts: MuxanduOffset) -> Result<i32, Refused>
     }
 }
 
-/// The seconds of an offset of hours, minutes and seconds, of which the smaller take the sign of the hours, or of the
-/// minutes if the hours are 0. Refused OFFSET_HOUR where the hours are not -25 to 25, OFFSET_MINUTE where the minutes are
-/// not -59 to 59, then OFFSET_SECONDS where the seconds are not -59 to 59.
+/// The seconds of an offset of hours, minutes and seconds. Smaller parts take the sign of the
+/// hours, or of the minutes if the hours are 0. Errors, in this order: OFFSET_HOUR if not -25 to
+/// 25, OFFSET_MINUTE if not -59 to 59, OFFSET_SECONDS if the seconds are not -59 to 59.
 #[unsafe(no_mangle)]
-pub extern "C" fn muxandu_offset_from_parts(parts: MuxanduOffset, out: &mut i32) -> u32
+pub extern "C" fn muxandu_offset_from_parts(parts: MuxanduOffset, out: &mut i32) -> MuxanduStatus
     ensures status { result ≡ status_of (offset_from_parts parts) }
     ensures written { out.new ≡ written (offset_from_parts parts) out.old }
 {
@@ -61,9 +61,13 @@ fn offset_to_parts(offset_seconds: i32) -> Result<MuxanduOffset, Refused>
     })
 }
 
-/// The hours, the minutes and the seconds of an offset in seconds, all of one sign. Refused OFFSET_SECONDS.
+/// The hours, the minutes and the seconds of an offset in seconds, all of one sign. Errors:
+/// OFFSET_SECONDS.
 #[unsafe(no_mangle)]
-pub extern "C" fn muxandu_offset_to_parts(offset_seconds: i32, out: &mut MuxanduOffset) -> u32
+pub extern "C" fn muxandu_offset_to_parts(
+    offset_seconds: i32,
+    out: &mut MuxanduOffset,
+) -> MuxanduStatus
     ensures status { result ≡ status_of (offset_to_parts offset_seconds) }
     ensures written { out.new ≡ written (offset_to_parts offset_seconds) out.old }
 {

@@ -1,9 +1,10 @@
-//! What crosses, as the values of the library, and back.
+//! The values of callers as those of the library, and back.
 ghost use Rattle.std.specs.Prelude.{◌≡◌, ◌<◌, ◌/◌, ◌+ℤ◌, ◌-ℤ◌, IfOk};
 ghost use Rattle.calendar_values.specs.Calendar.{year_of, month_of, day_of_month_of};
+ghost use Rattle.calendar_values.specs.Dates.{ShowsDate};
 ghost use Rattle.calendar_values.specs.Offsets.{IsOffset, offset_of_seconds};
 ghost use Rattle.calendar_values.specs.Range.{IsDay};
-ghost use Rattle.calendar_values.specs.WallClock.{IsWallClock};
+ghost use Rattle.calendar_values.specs.WallClock.{IsInstant, IsWallClock};
 ghost use Rattle.plain_times.specs.Truncations.{wall_multiple_below};
 ghost use Rattle.offset_times.specs.Local.{local_multiple_below, instant_of, shown_at, wall_at, offset_nanos};
 ghost use Rattle.muxandu_c.specs.Answers.{as_refused};
@@ -25,7 +26,8 @@ use utc_times::{AsUtc, UtcDateTime};
 // The date of its parts.
 #[inline(always)]
 pub(crate) fn read_date(year: i32, month: u8, day: u8) -> Result<Date, Refused>
-    ensures { result ≡ date_value year month day }
+    ensures value { result ≡ date_value year month day }
+    ensures shown { IfOk result (ShowsDate year month day) }
 {
     Ok(Date::from_calendar_date(year, Month::from_number(month)?, day)?)
 }
@@ -34,6 +36,7 @@ pub(crate) fn read_date(year: i32, month: u8, day: u8) -> Result<Date, Refused>
 #[inline(always)]
 pub(crate) fn read_date_time(date_time: MuxanduDateTime) -> Result<OffsetDateTime, Refused>
     ensures value { result ≡ date_time_value date_time }
+    ensures shown { IfOk result (λ at. date_time ≡ date_time_parts at) }
     ensures offset { IfOk result (λ at. at.offset ≡ date_time.offset_seconds) }
     ensures in_range { IfOk result (λ at. IsOffset at.offset) }
 {
@@ -49,6 +52,7 @@ pub(crate) fn read_date_time(date_time: MuxanduDateTime) -> Result<OffsetDateTim
 }
 
 // The parts of a date-time.
+#[inline(always)]
 pub(crate) fn date_time_of(at: OffsetDateTime) -> MuxanduDateTime
     ensures { result ≡ date_time_parts at }
 {
@@ -113,7 +117,7 @@ pub(crate) fn timestamp_of(at: Timestamp) -> MuxanduTimestamp
     }
 }
 
-// The instant of a date-time at an offset of so many seconds, if the range has it.
+// The instant of a date-time at an offset in seconds, if the range has it.
 #[tactic(auto, unfolding(offset_times::specs::Local::instant_of))]
 #[inline(always)]
 pub(crate) fn instant_of_date_time(
@@ -124,6 +128,16 @@ pub(crate) fn instant_of_date_time(
     ensures { result ≡ instant_if_any (instant_of at) }
 {
     checked_difference(wall_of(at), seconds_of(offset_seconds))
+}
+
+// The instant of a date-time, which the range has.
+#[tactic(auto, unfolding(offset_times::specs::Local::instant_of))]
+#[inline(always)]
+pub(crate) fn instant_in_range(at: OffsetDateTime) -> Timestamp
+    requires { IsInstant (instant_of at) }
+    ensures { result ≡ instant_of at }
+{
+    wall_of(at) - seconds_of(at.offset().whole_seconds())
 }
 
 // The duration of its parts together. Most have less than a second of nanoseconds, and carry none.
@@ -158,7 +172,7 @@ pub(crate) fn duration_of(duration: SignedDuration) -> MuxanduDuration
     }
 }
 
-// The offset of so many seconds.
+// The offset of a number of seconds.
 #[inline(always)]
 pub(crate) fn read_offset(seconds: i32) -> Result<UtcOffset, Refused>
     ensures value { result ≡ as_refused (offset_of_seconds seconds) }
@@ -196,7 +210,7 @@ pub(crate) fn shown_as_if_utc(at: Timestamp, offset_seconds: i32) -> Result<Time
     checked_sum(at, seconds_of(offset_seconds))
 }
 
-// The instant so much later, if the range has it.
+// The instant plus a duration, if the range has it.
 #[inline(always)]
 pub(crate) fn checked_sum(at: Timestamp, duration: SignedDuration) -> Result<Timestamp, Refused>
     ensures { result ≡ instant_if_any (at +ℤ duration) }
@@ -207,7 +221,7 @@ pub(crate) fn checked_sum(at: Timestamp, duration: SignedDuration) -> Result<Tim
     }
 }
 
-// The instant so much earlier, if the range has it.
+// The instant minus a duration, if the range has it.
 #[inline(always)]
 pub(crate) fn checked_difference(
     at: Timestamp,
@@ -293,6 +307,7 @@ pub(crate) fn date_of(day: i32) -> MuxanduDate
 }
 
 // The date-time truncated to a unit.
+#[tactic(auto, using(crate::proofs::UnitLemmas::whole_nanoseconds))]
 pub(crate) fn in_unit(at: OffsetDateTime, unit: Unit) -> OffsetDateTime
     ensures { result ≡ local_multiple_below (unit_nanos unit) at }
 {
@@ -303,10 +318,12 @@ pub(crate) fn in_unit(at: OffsetDateTime, unit: Unit) -> OffsetDateTime
         Unit::Second => at.truncate_to_second(),
         Unit::Millisecond => at.truncate_to_millisecond(),
         Unit::Microsecond => at.truncate_to_microsecond(),
+        Unit::Nanosecond => at,
     }
 }
 
 // The instant rounded down to a unit.
+#[tactic(auto, using(crate::proofs::UnitLemmas::whole_nanoseconds))]
 pub(crate) fn utc_in_unit(at: UtcDateTime, unit: Unit) -> UtcDateTime
     ensures { result ≡ wall_multiple_below (unit_nanos unit) at }
 {
@@ -317,6 +334,7 @@ pub(crate) fn utc_in_unit(at: UtcDateTime, unit: Unit) -> UtcDateTime
         Unit::Second => at.truncate_to_second(),
         Unit::Millisecond => at.truncate_to_millisecond(),
         Unit::Microsecond => at.truncate_to_microsecond(),
+        Unit::Nanosecond => at,
     }
 }
 

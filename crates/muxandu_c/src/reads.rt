@@ -1,14 +1,14 @@
-//! All that a date shows, at once, and the date of a Julian day.
+//! Every reading of a date at once, and the date of a Julian day.
 ghost use Rattle.std.specs.Prelude.{◌≡◌};
 ghost use Rattle.muxandu_c.specs.Answers.{status_of, written};
 ghost use Rattle.muxandu_c.specs.Reads.{date_reads, date_from_julian_day};
 
 use crate::parts::{date_of, day_of, read_date};
-use crate::refused::{Refused, answer};
+use crate::refused::{MuxanduStatus, Refused, answer};
 use crate::values::MuxanduDate;
 use calendar_values::Date;
 
-/// All that a date shows.
+/// Every reading of a date: its day numbers, its day of the year and of the week, and its weeks.
 #[repr(C)]
 #[derive(Clone, Copy)]
 pub struct MuxanduDateReads {
@@ -16,7 +16,7 @@ pub struct MuxanduDateReads {
     pub day: i32,
     /// The Julian day, 2440588 on 1970-01-01.
     pub julian_day: i32,
-    /// The year that the ISO week belongs to, which is that of its Thursday.
+    /// The year of the ISO week, which is the year of its Thursday.
     pub iso_year: i32,
     /// The day of the year, 1 to 366.
     pub ordinal: u16,
@@ -24,9 +24,9 @@ pub struct MuxanduDateReads {
     pub iso_week: u8,
     /// The day of the week, 0 for Monday to 6 for Sunday.
     pub weekday: u8,
-    /// How many Sundays of the year lie on or before the date, 0 to 53.
+    /// The number of Sundays in the year up to and including the date, 0 to 53.
     pub sunday_based_week: u8,
-    /// How many Mondays of the year lie on or before the date, 0 to 53.
+    /// The number of Mondays in the year up to and including the date, 0 to 53.
     pub monday_based_week: u8,
 }
 
@@ -47,10 +47,11 @@ fn date_reads(date: MuxanduDate) -> Result<MuxanduDateReads, Refused>
     })
 }
 
-/// All that a date shows: its day number and Julian day, its day of the year and of the week, and its weeks by ISO 8601,
-/// by Sundays and by Mondays. Refused MONTH, YEAR, DAY or DAY_OF_MONTH, tested in this order.
+/// Every reading of a date: its day number and Julian day, its day of the year and of the week, and
+/// its weeks by ISO 8601, by Sundays and by Mondays. Errors, in this order: MONTH, YEAR, DAY,
+/// DAY_OF_MONTH.
 #[unsafe(no_mangle)]
-pub extern "C" fn muxandu_date_reads(date: MuxanduDate, out: &mut MuxanduDateReads) -> u32
+pub extern "C" fn muxandu_date_reads(date: MuxanduDate, out: &mut MuxanduDateReads) -> MuxanduStatus
     ensures status { result ≡ status_of (date_reads date) }
     ensures written { out.new ≡ written (date_reads date) out.old }
 {
@@ -64,9 +65,12 @@ fn date_from_julian_day(julian_day: i32) -> Result<MuxanduDate, Refused>
     Ok(date_of(julian_day - 2_440_588))
 }
 
-/// The date of a Julian day, which is 2440588 on 1970-01-01. Refused DAY_NUMBER where the range has no such day.
+/// The date of a Julian day, which is 2440588 on 1970-01-01. Errors: DAY_NUMBER if out of range.
 #[unsafe(no_mangle)]
-pub extern "C" fn muxandu_date_from_julian_day(julian_day: i32, out: &mut MuxanduDate) -> u32
+pub extern "C" fn muxandu_date_from_julian_day(
+    julian_day: i32,
+    out: &mut MuxanduDate,
+) -> MuxanduStatus
     ensures status { result ≡ status_of (date_from_julian_day julian_day) }
     ensures written { out.new ≡ written (date_from_julian_day julian_day) out.old }
 {

@@ -1,11 +1,14 @@
-//! What a call refuses, and the status that says so.
+//! The errors of calls, and their statuses.
 ghost use Rattle.std.specs.Prelude.{◌≡◌};
 ghost use Rattle.muxandu_c.specs.Answers.{refused_part, status_number, status_of, written};
 
 use calendar_values::{ComponentRange, Part};
 
-/// Why a call refuses. Its status is this number, and 0 where it refuses nothing. Each call says in which order it tests
-/// what it takes, and names the first that is refused.
+/// A status: 0, which is MUXANDU_OK, or the number of an error. Later versions may add errors.
+pub type MuxanduStatus = u32;
+
+/// The error of a call. Its status is this number, or 0 if it succeeds. The comment of each call
+/// lists its errors in the order of its tests; it returns the first.
 #[derive(Clone, Copy, Drop)]
 pub enum Refused {
     /// A year before -999999 or after 999999.
@@ -38,7 +41,8 @@ pub enum Refused {
     OffsetSeconds = 14,
     /// A Unix second, or a count of another unit from 1970-01-01, outside the range of timestamps.
     Timestamp = 15,
-    /// A day number that is not -365961662 to 364522971, or a Julian day outside the range of dates.
+    /// A day number that is not -365961662 to 364522971, or a Julian day outside the range of
+    /// dates.
     DayNumber = 16,
     /// A duration whose whole seconds do not fit in 64 bits.
     Duration = 17,
@@ -52,11 +56,13 @@ pub enum Refused {
     Span = 21,
     /// A text that does not have the form that the call reads, such as a date-time of RFC 3339.
     Syntax = 22,
-    /// Hours of an offset that are out of range: above 23 in a text of RFC 3339, not -25 to 25 elsewhere.
+    /// Hours of an offset that are out of range: above 23 in a text of RFC 3339, not -25 to 25
+    /// elsewhere.
     OffsetHour = 23,
     /// Minutes of an offset that are not -59 to 59.
     OffsetMinute = 24,
-    /// A value that has no text in RFC 3339: a year outside 0 to 9999, or an offset with seconds or beyond 23:59.
+    /// A value that has no text in RFC 3339: a year outside 0 to 9999, or an offset with seconds or
+    /// beyond 23:59.
     NoText = 25,
 }
 
@@ -113,7 +119,7 @@ impl From<ComponentRange> for Refused {
     }
 }
 
-// The status that says what is refused.
+// The status of an error.
 pub(crate) fn status(refused: Refused) -> u32
     ensures { result ≡ status_number refused }
 {
@@ -130,7 +136,7 @@ pub(crate) fn status_of<T: Copy>(answer: Result<T, Refused>) -> u32
     }
 }
 
-// Puts a value where the caller wants it, and leaves what is there where the call refuses.
+// Puts a value into the place of the caller, and leaves the place as it is if the call fails.
 #[inline(always)]
 pub(crate) fn answer<T: Copy>(answer: Result<T, Refused>, out: &mut T) -> u32
     ensures status { result ≡ status_of answer }

@@ -7,12 +7,15 @@ ghost use Rattle.muxandu_c.specs.PartsReplaced.{part_numbered, unsigned_part, re
 ghost use Rattle.muxandu_c.specs.declared.replacements.Part.TheVariants as part;
 
 use crate::parts::{date_time_of, read_date_time, read_timestamp, timestamp_of};
-use crate::refused::{Refused, answer};
+use crate::refused::{MuxanduStatus, Refused, answer};
 use crate::values::{MuxanduDateTime, MuxanduTimestamp};
 use calendar_values::Month;
 use plain_times::PlainDateTime;
 use stamp_times::Timestamp;
 use utc_times::AsUtc;
+
+/// The number of a part of a date-time.
+pub type MuxanduPart = u32;
 
 /// A part of a date-time. A call takes its number.
 #[derive(Clone, Copy, Drop)]
@@ -149,16 +152,17 @@ fn date_time_replace(
     Ok(date_time_of(at.replace_date_time(wall)))
 }
 
-/// The date-time with one part replaced, and the others and the offset kept; a day of the year replaces the month and
-/// the day. Refused as the date-time, then UNIT where the number is no part's, then YEAR, MONTH, DAY, DAY_OF_MONTH,
-/// ORDINAL, ORDINAL_OF_YEAR, HOUR, MINUTE, SECOND or NANOSECOND.
+/// The date-time with one part replaced. It keeps the other parts and the offset; a day of the year
+/// replaces the month and the day. Errors, in this order: those of the date-time, UNIT if `part` is
+/// no number of a part, YEAR, MONTH, DAY, DAY_OF_MONTH, ORDINAL, ORDINAL_OF_YEAR, HOUR, MINUTE,
+/// SECOND, NANOSECOND.
 #[unsafe(no_mangle)]
 pub extern "C" fn muxandu_date_time_replace(
     date_time: MuxanduDateTime,
-    part: u32,
+    part: MuxanduPart,
     value: i32,
     out: &mut MuxanduDateTime,
-) -> u32
+) -> MuxanduStatus
     ensures status { result ≡ status_of (date_time_replace date_time part value) }
     ensures written { out.new ≡ written (date_time_replace date_time part value) out.old }
 {
@@ -177,15 +181,15 @@ fn timestamp_replace(
     Ok(timestamp_of(Timestamp::from(wall.as_utc())))
 }
 
-/// The instant with one part of its date or of its time of day in UTC replaced, and the others kept, as
-/// muxandu_date_time_replace does. Refused as the timestamp, then as that call refuses.
+/// The instant with one part of its date or time in UTC replaced, as muxandu_date_time_replace
+/// does. Errors, in this order: those of the timestamp, those of that call.
 #[unsafe(no_mangle)]
 pub extern "C" fn muxandu_timestamp_replace(
     at: MuxanduTimestamp,
-    part: u32,
+    part: MuxanduPart,
     value: i32,
     out: &mut MuxanduTimestamp,
-) -> u32
+) -> MuxanduStatus
     ensures status { result ≡ status_of (timestamp_replace at part value) }
     ensures written { out.new ≡ written (timestamp_replace at part value) out.old }
 {

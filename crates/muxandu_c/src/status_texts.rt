@@ -1,13 +1,13 @@
-//! What the statuses are called, and what they say.
+//! The names of statuses, and their meanings.
 ghost use Rattle.std.specs.Prelude.{◌≡◌, ◌≤◌, ◌<◌, ◌⊎◌, ℕ, true, length};
 ghost use Rattle.muxandu_c.specs.Answers.{status_of, bytes_if_room, written_over};
 ghost use Rattle.muxandu_c.specs.StatusTexts.{refused_numbered, refused_name, refused_words};
 ghost use Rattle.muxandu_c.specs.StatusTexts.{is_plain, status_name, status_words};
 
-use crate::refused::Refused;
+use crate::refused::{MuxanduStatus, Refused};
 use crate::texts::put_bytes;
 
-/// The bytes of the longest text that muxandu_status_text writes: a buffer of so many is long enough.
+/// The bytes of the longest text that muxandu_status_text writes. Use it as the size of a buffer.
 pub const MUXANDU_STATUS_ROOM: usize = 128;
 
 // The refusal of a status.
@@ -77,7 +77,7 @@ fn refused_name(refused: Refused) -> &'static str
     }
 }
 
-// What is refused, in words: the comment of the variant.
+// The meaning of an error: the comment of the variant.
 fn refused_words(refused: Refused) -> &'static str
     ensures { result.now ≡ refused_words refused }
 {
@@ -128,11 +128,16 @@ fn status_name(status: u32) -> &'static str
     }
 }
 
-/// Writes the name of a status, as `OK` or `DAY_OF_MONTH`, of at most 15 bytes, all ASCII and none 0, at the front of
-/// `buffer`, and its length to `size`. A number that is no status of this version has the name `UNKNOWN`. Refused BUFFER
-/// where the name is longer than `buffer`: then `size` says how long it is, and `buffer` is as it was.
+/// Writes the name of a status, such as `OK` or `DAY_OF_MONTH`, to the front of `buffer`, and its
+/// length to `size`. The name has at most 15 bytes, all ASCII and none 0. A number that is no
+/// status of this version has the name `UNKNOWN`. Errors: BUFFER if the name is longer than
+/// `buffer`; `size` is then the length of the name, and `buffer` is unchanged.
 #[unsafe(no_mangle)]
-pub extern "C" fn muxandu_status_name(status: u32, buffer: &mut [u8], size: &mut usize) -> u32
+pub extern "C" fn muxandu_status_name(
+    status: MuxanduStatus,
+    buffer: &mut [u8],
+    size: &mut usize,
+) -> MuxanduStatus
     ensures status { result ≡ status_of (bytes_if_room buffer.old (status_name status)) }
     ensures written { buffer.new ≡
         written_over (bytes_if_room buffer.old (status_name status)) buffer.old }
@@ -160,9 +165,13 @@ fn status_words(status: u32) -> &'static str
     }
 }
 
-/// Writes what a status says, a sentence of at most 128 bytes, as muxandu_status_name does.
+/// Writes the meaning of a status, a sentence of at most 128 bytes, as muxandu_status_name does.
 #[unsafe(no_mangle)]
-pub extern "C" fn muxandu_status_text(status: u32, buffer: &mut [u8], size: &mut usize) -> u32
+pub extern "C" fn muxandu_status_text(
+    status: MuxanduStatus,
+    buffer: &mut [u8],
+    size: &mut usize,
+) -> MuxanduStatus
     ensures status { result ≡ status_of (bytes_if_room buffer.old (status_words status)) }
     ensures written { buffer.new ≡
         written_over (bytes_if_room buffer.old (status_words status)) buffer.old }

@@ -29,9 +29,10 @@ impl Conversion<i64, MuxanduDateTime> for FromManyMilliseconds {
     }
 }
 
-/// What clocks at an offset, in seconds, show so many milliseconds from 1970-01-01 0:00 UTC, for each count, up to the
-/// first that muxandu_timestamp_from_milliseconds or muxandu_date_time_from_timestamp refuses. Refused BUFFER, with nothing written, where `out` has
-/// fewer items than `milliseconds`.
+/// The date-time of each Unix millisecond at an offset in seconds, up to the first that
+/// muxandu_timestamp_from_milliseconds or muxandu_date_time_from_timestamp rejects. Errors: BUFFER
+/// if `out` has fewer items than `milliseconds` (the call then writes nothing), else that of the
+/// first rejected item.
 #[unsafe(no_mangle)]
 pub extern "C" fn muxandu_date_times_from_milliseconds(
     milliseconds: &[i64],
@@ -62,8 +63,9 @@ impl Conversion<MuxanduDateTime, i64> for ToManyMilliseconds {
 }
 
 /// The milliseconds from 1970-01-01 0:00 UTC of each date-time, rounded down, up to the first that
-/// muxandu_timestamp_from_date_time or muxandu_timestamp_to_milliseconds refuses. Refused BUFFER, with nothing written, where
-/// `out` has fewer items than `date_times`.
+/// muxandu_timestamp_from_date_time or muxandu_timestamp_to_milliseconds rejects. Errors: BUFFER if
+/// `out` has fewer items than `date_times` (the call then writes nothing), else that of the first
+/// rejected item.
 #[unsafe(no_mangle)]
 pub extern "C" fn muxandu_milliseconds_from_date_times(
     date_times: &[MuxanduDateTime],
@@ -95,9 +97,9 @@ impl Conversion<i64, MuxanduDateTime> for FromManyMicroseconds {
     }
 }
 
-/// What clocks at an offset, in seconds, show so many microseconds from 1970-01-01 0:00 UTC, for each count, up to the
-/// first that muxandu_date_time_from_timestamp refuses. Refused BUFFER, with nothing written, where `out` has
-/// fewer items than `microseconds`.
+/// The date-time of each Unix microsecond at an offset in seconds, up to the first that
+/// muxandu_date_time_from_timestamp rejects. Errors: BUFFER if `out` has fewer items than
+/// `microseconds` (the call then writes nothing), else that of the first rejected item.
 #[unsafe(no_mangle)]
 pub extern "C" fn muxandu_date_times_from_microseconds(
     microseconds: &[i64],
@@ -128,8 +130,9 @@ impl Conversion<MuxanduDateTime, i64> for ToManyMicroseconds {
 }
 
 /// The microseconds from 1970-01-01 0:00 UTC of each date-time, rounded down, up to the first that
-/// muxandu_timestamp_from_date_time or muxandu_timestamp_to_microseconds refuses. Refused BUFFER, with nothing written, where
-/// `out` has fewer items than `date_times`.
+/// muxandu_timestamp_from_date_time or muxandu_timestamp_to_microseconds rejects. Errors: BUFFER if
+/// `out` has fewer items than `date_times` (the call then writes nothing), else that of the first
+/// rejected item.
 #[unsafe(no_mangle)]
 pub extern "C" fn muxandu_microseconds_from_date_times(
     date_times: &[MuxanduDateTime],
@@ -161,9 +164,9 @@ impl Conversion<i64, MuxanduDateTime> for FromManyNanoseconds {
     }
 }
 
-/// What clocks at an offset, in seconds, show so many nanoseconds from 1970-01-01 0:00 UTC, for each count, up to the
-/// first that muxandu_date_time_from_timestamp refuses. Refused BUFFER, with nothing written, where `out` has
-/// fewer items than `nanoseconds`.
+/// The date-time of each Unix nanosecond at an offset in seconds, up to the first that
+/// muxandu_date_time_from_timestamp rejects. Errors: BUFFER if `out` has fewer items than
+/// `nanoseconds` (the call then writes nothing), else that of the first rejected item.
 #[unsafe(no_mangle)]
 pub extern "C" fn muxandu_date_times_from_nanoseconds(
     nanoseconds: &[i64],
@@ -194,8 +197,9 @@ impl Conversion<MuxanduDateTime, i64> for ToManyNanoseconds {
 }
 
 /// The nanoseconds from 1970-01-01 0:00 UTC of each date-time, up to the first that
-/// muxandu_timestamp_from_date_time or muxandu_timestamp_to_nanoseconds refuses. Refused BUFFER, with nothing written, where
-/// `out` has fewer items than `date_times`.
+/// muxandu_timestamp_from_date_time or muxandu_timestamp_to_nanoseconds rejects. Errors: BUFFER if
+/// `out` has fewer items than `date_times` (the call then writes nothing), else that of the first
+/// rejected item.
 #[unsafe(no_mangle)]
 pub extern "C" fn muxandu_nanoseconds_from_date_times(
     date_times: &[MuxanduDateTime],

@@ -8,7 +8,7 @@ ghost use Rattle.muxandu_c.specs.TextBatches.{date_time_at, date_time_read};
 use crate::batches::{Conversion, convert_all};
 use crate::each_batches::convert_each;
 use crate::exchange::date_time_from_rfc3339;
-use crate::refused::Refused;
+use crate::refused::{MuxanduStatus, Refused};
 use crate::values::{MuxanduBatch, MuxanduDateTime, MuxanduSpan};
 
 #[derive(Clone, Copy)]
@@ -25,6 +25,7 @@ impl Conversion<MuxanduSpan, MuxanduDateTime> for FromTexts<'_> {
 }
 
 // The date-time of the text of a span.
+#[inline(always)]
 fn date_time_in(texts: &[u8], span: MuxanduSpan) -> Result<MuxanduDateTime, Refused>
     ensures { result ≡ date_time_at texts.now span }
 {
@@ -34,15 +35,17 @@ fn date_time_in(texts: &[u8], span: MuxanduSpan) -> Result<MuxanduDateTime, Refu
     date_time_of_text(&texts[span.start..span.start + span.length])
 }
 
+#[inline(always)]
 fn date_time_of_text(text: &[u8]) -> Result<MuxanduDateTime, Refused>
     ensures { result ≡ date_time_read text.now }
 {
     date_time_from_rfc3339(text)
 }
 
-/// The date-time and the offset of each text of RFC 3339, up to the first that muxandu_date_time_from_rfc3339 refuses, or
-/// SPAN, whose span does not lie in the block `texts`. Refused BUFFER, with nothing written, where `out` has fewer items
-/// than `spans`.
+/// The date-time and the offset in each text of RFC 3339, up to the first that
+/// muxandu_date_time_from_rfc3339 rejects. A span outside the block `texts` fails with SPAN.
+/// Errors: BUFFER if `out` has fewer items than `spans` (the call then writes nothing), else that
+/// of the first rejected item.
 #[unsafe(no_mangle)]
 pub extern "C" fn muxandu_date_times_from_rfc3339(
     texts: &[u8],
@@ -58,16 +61,17 @@ pub extern "C" fn muxandu_date_times_from_rfc3339(
     convert_all(FromTexts { texts }, spans, out)
 }
 
-/// The date-time and the offset of each text of RFC 3339, and its status, as muxandu_date_time_from_rfc3339 has them, or
-/// SPAN where a span does not lie in the block `texts`: where an item is refused, what is in its place stays, and the next
-/// follows. `count` is how many were read. Refused BUFFER, with nothing written, where `out` or `statuses` has fewer items
-/// than `spans`.
+/// The date-time and the offset in each text of RFC 3339, and the status of
+/// muxandu_date_time_from_rfc3339 for it. The status is SPAN for a span outside the block `texts`.
+/// If an item fails, its place in `out` keeps its contents, and the call continues with the next.
+/// `count` is the number of converted items. Errors: BUFFER if `out` or `statuses` has fewer items
+/// than `spans`; the call then writes nothing.
 #[unsafe(no_mangle)]
 pub extern "C" fn muxandu_date_times_from_each_rfc3339(
     texts: &[u8],
     spans: &[MuxanduSpan],
     out: &mut [MuxanduDateTime],
-    statuses: &mut [u32],
+    statuses: &mut [MuxanduStatus],
 ) -> MuxanduBatch
     ensures count { result.count ≡ count_of_values (date_time_at texts.now)
         (with_both_rooms out.old statuses.old spans.now) }

@@ -9,10 +9,13 @@ use crate::batches::stopped;
 use crate::exchange::date_time_to_rfc3339;
 use crate::refused::Refused;
 use crate::values::{MuxanduBatch, MuxanduDateTime, MuxanduSpan};
+use crate::written_texts::write_date_time;
+use rfc3339::TEXT_ROOM;
 
-/// Writes the text of each date-time into the block `texts`, one behind the other with nothing between, and where it lies
-/// to `spans`, up to the first that muxandu_date_time_to_rfc3339 refuses, also BUFFER where what is left of `texts` is too
-/// short. Refused BUFFER, with nothing written, where `spans` has fewer items than `date_times`.
+/// Writes the text of each date-time into the block `texts`, one after the other with nothing
+/// between, and its place to `spans`. It stops at the first that muxandu_date_time_to_rfc3339
+/// rejects, with BUFFER if the rest of `texts` is too short. Errors: BUFFER if `spans` has fewer
+/// items than `date_times` (the call then writes nothing), else that of the first rejected item.
 #[unsafe(no_mangle)]
 pub extern "C" fn muxandu_date_times_to_rfc3339(
     date_times: &[MuxanduDateTime],
@@ -84,6 +87,9 @@ fn write_text(date_time: MuxanduDateTime, block: &mut [u8]) -> Result<usize, Ref
     ensures written { block.new ≡
         written_over (text_if_room (date_time_to_rfc3339 date_time) block.old) block.old }
 {
+    if block.len() >= TEXT_ROOM {
+        return write_date_time(date_time, block);
+    }
     let text = date_time_to_rfc3339(date_time)?;
     let bytes = text.as_bytes();
     if block.len() < bytes.len() {

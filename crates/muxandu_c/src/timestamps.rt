@@ -14,23 +14,24 @@ use crate::parts::{
     checked_difference, checked_sum, duration_of, read_duration, read_timestamp, sign,
     timestamp_of, utc_in_unit,
 };
-use crate::refused::{Refused, answer, status_of};
-use crate::unit::read_unit;
+use crate::refused::{MuxanduStatus, Refused, answer, status_of};
+use crate::unit::{MuxanduUnit, read_unit};
 use crate::values::{MuxanduDuration, MuxanduTimestamp};
 use calendar_values::SignedDuration;
 use calendar_values::units::NANOS_PER_SECOND;
 use stamp_times::Timestamp;
 
-/// Whether the parts make a timestamp. Refused TIMESTAMP, then NANOSECOND.
+/// Checks that the parts make a timestamp. Errors, in this order: TIMESTAMP, NANOSECOND.
 #[unsafe(no_mangle)]
-pub extern "C" fn muxandu_timestamp_check(at: MuxanduTimestamp) -> u32
+pub extern "C" fn muxandu_timestamp_check(at: MuxanduTimestamp) -> MuxanduStatus
     ensures status { result ≡ status_of (timestamp_value at) }
 {
     status_of(read_timestamp(at))
 }
 
-/// Which timestamp comes first: -1 if `first` does, 0 if both are one instant, 1 if `second` does. It takes any parts,
-/// also those that other calls refuse, and goes by seconds and nanoseconds together, so that it can sort.
+/// The order of two timestamps: -1 if `first` comes first, 0 if both are one instant, 1 if `second`
+/// comes first. It compares seconds and nanoseconds together, and takes any parts, also invalid
+/// ones, so you can sort with it.
 #[unsafe(no_mangle)]
 pub extern "C" fn muxandu_timestamp_compare(
     first: MuxanduTimestamp,
@@ -57,14 +58,14 @@ fn timestamp_add(
     Ok(timestamp_of(checked_sum(at, read_duration(duration)?)?))
 }
 
-/// The instant so much later, or earlier for a negative duration. Refused as the timestamp, then DURATION, then RESULT
-/// outside the range.
+/// The instant plus a duration. Errors, in this order: those of the timestamp, DURATION, RESULT if
+/// out of range.
 #[unsafe(no_mangle)]
 pub extern "C" fn muxandu_timestamp_add(
     at: MuxanduTimestamp,
     duration: MuxanduDuration,
     out: &mut MuxanduTimestamp,
-) -> u32
+) -> MuxanduStatus
     ensures status { result ≡ status_of (timestamp_add at duration) }
     ensures written { out.new ≡ written (timestamp_add at duration) out.old }
 {
@@ -81,14 +82,14 @@ fn timestamp_subtract(
     Ok(timestamp_of(checked_difference(at, read_duration(duration)?)?))
 }
 
-/// The instant so much earlier, or later for a negative duration. Refused as the timestamp, then DURATION, then RESULT
-/// outside the range.
+/// The instant minus a duration. Errors, in this order: those of the timestamp, DURATION, RESULT if
+/// out of range.
 #[unsafe(no_mangle)]
 pub extern "C" fn muxandu_timestamp_subtract(
     at: MuxanduTimestamp,
     duration: MuxanduDuration,
     out: &mut MuxanduTimestamp,
-) -> u32
+) -> MuxanduStatus
     ensures status { result ≡ status_of (timestamp_subtract at duration) }
     ensures written { out.new ≡ written (timestamp_subtract at duration) out.old }
 {
@@ -105,13 +106,14 @@ fn timestamp_saturating_add(
     Ok(timestamp_of(at.saturating_add(read_duration(duration)?)))
 }
 
-/// The instant so much later, or the end of the range that it is beyond. Refused as the timestamp, then DURATION.
+/// The instant plus a duration, or the nearer end of the range. Errors, in this order: those of the
+/// timestamp, DURATION.
 #[unsafe(no_mangle)]
 pub extern "C" fn muxandu_timestamp_saturating_add(
     at: MuxanduTimestamp,
     duration: MuxanduDuration,
     out: &mut MuxanduTimestamp,
-) -> u32
+) -> MuxanduStatus
     ensures status { result ≡ status_of (timestamp_saturating_add at duration) }
     ensures written { out.new ≡ written (timestamp_saturating_add at duration) out.old }
 {
@@ -128,13 +130,14 @@ fn timestamp_saturating_subtract(
     Ok(timestamp_of(at.saturating_sub(read_duration(duration)?)))
 }
 
-/// The instant so much earlier, or the end of the range that it is beyond. Refused as the timestamp, then DURATION.
+/// The instant minus a duration, or the nearer end of the range. Errors, in this order: those of
+/// the timestamp, DURATION.
 #[unsafe(no_mangle)]
 pub extern "C" fn muxandu_timestamp_saturating_subtract(
     at: MuxanduTimestamp,
     duration: MuxanduDuration,
     out: &mut MuxanduTimestamp,
-) -> u32
+) -> MuxanduStatus
     ensures status { result ≡ status_of (timestamp_saturating_subtract at duration) }
     ensures written { out.new ≡ written (timestamp_saturating_subtract at duration) out.old }
 {
@@ -151,13 +154,14 @@ fn timestamp_difference(
     Ok(duration_of(later - read_timestamp(earlier)?))
 }
 
-/// The duration from `earlier` to `later`, negative where `later` comes first. Refused as `later`, then as `earlier`.
+/// The duration from `earlier` to `later`, negative if `later` comes first. Errors, in this order:
+/// those of `later`, those of `earlier`.
 #[unsafe(no_mangle)]
 pub extern "C" fn muxandu_timestamp_difference(
     later: MuxanduTimestamp,
     earlier: MuxanduTimestamp,
     out: &mut MuxanduDuration,
-) -> u32
+) -> MuxanduStatus
     ensures status { result ≡ status_of (timestamp_difference later earlier) }
     ensures written { out.new ≡ written (timestamp_difference later earlier) out.old }
 {
@@ -171,13 +175,14 @@ fn timestamp_truncate(at: MuxanduTimestamp, unit: u32) -> Result<MuxanduTimestam
     Ok(timestamp_of(Timestamp::from(utc_in_unit(at, read_unit(unit)?))))
 }
 
-/// The instant rounded down to a unit in UTC, before 1970 too. Refused as the timestamp, then UNIT.
+/// The instant, rounded down to a unit in UTC, also before 1970. Errors, in this order: those of
+/// the timestamp, UNIT.
 #[unsafe(no_mangle)]
 pub extern "C" fn muxandu_timestamp_truncate(
     at: MuxanduTimestamp,
-    unit: u32,
+    unit: MuxanduUnit,
     out: &mut MuxanduTimestamp,
-) -> u32
+) -> MuxanduStatus
     ensures status { result ≡ status_of (timestamp_truncate at unit) }
     ensures written { out.new ≡ written (timestamp_truncate at unit) out.old }
 {
@@ -199,12 +204,13 @@ pub(crate) fn timestamp_from_milliseconds(milliseconds: i64) -> Result<MuxanduTi
     Ok(timestamp_of(from_milliseconds(milliseconds)?))
 }
 
-/// The instant so many milliseconds from 1970-01-01 0:00 UTC. Refused TIMESTAMP outside the range.
+/// The instant of a number of milliseconds from 1970-01-01 0:00 UTC. Errors: TIMESTAMP if out of
+/// range.
 #[unsafe(no_mangle)]
 pub extern "C" fn muxandu_timestamp_from_milliseconds(
     milliseconds: i64,
     out: &mut MuxanduTimestamp,
-) -> u32
+) -> MuxanduStatus
     ensures status { result ≡ status_of (timestamp_from_milliseconds milliseconds) }
     ensures written { out.new ≡ written (timestamp_from_milliseconds milliseconds) out.old }
 {
@@ -217,16 +223,19 @@ pub(crate) fn timestamp_to_milliseconds(at: MuxanduTimestamp) -> Result<i64, Ref
     Ok(read_timestamp(at)?.as_milliseconds())
 }
 
-/// The whole milliseconds from 1970-01-01 0:00 UTC, rounded down. Refused as the timestamp.
+/// The whole milliseconds from 1970-01-01 0:00 UTC, rounded down. Errors: those of the timestamp.
 #[unsafe(no_mangle)]
-pub extern "C" fn muxandu_timestamp_to_milliseconds(at: MuxanduTimestamp, out: &mut i64) -> u32
+pub extern "C" fn muxandu_timestamp_to_milliseconds(
+    at: MuxanduTimestamp,
+    out: &mut i64,
+) -> MuxanduStatus
     ensures status { result ≡ status_of (timestamp_to_milliseconds at) }
     ensures written { out.new ≡ written (timestamp_to_milliseconds at) out.old }
 {
     answer(timestamp_to_milliseconds(at), out)
 }
 
-/// The instant so many microseconds from 1970-01-01 0:00 UTC. It is always in the range.
+/// The instant of a number of microseconds from 1970-01-01 0:00 UTC. It is always in range.
 #[unsafe(no_mangle)]
 pub extern "C" fn muxandu_timestamp_from_microseconds(microseconds: i64) -> MuxanduTimestamp
     ensures { result ≡ timestamp_parts (instant_of_microseconds microseconds) }
@@ -240,17 +249,21 @@ pub(crate) fn timestamp_to_microseconds(at: MuxanduTimestamp) -> Result<i64, Ref
     in_64_bits(read_timestamp(at)?.as_microseconds())
 }
 
-/// The whole microseconds from 1970-01-01 0:00 UTC, rounded down. Refused as the timestamp, then RESULT where 64 bits do
-/// not hold them, as before -290308-12-21 and after 294247-01-10.
+/// The whole microseconds from 1970-01-01 0:00 UTC, rounded down. They fit in 64 bits from
+/// -290308-12-21 to 294247-01-10. Errors, in this order: those of the timestamp, RESULT if they do
+/// not fit.
 #[unsafe(no_mangle)]
-pub extern "C" fn muxandu_timestamp_to_microseconds(at: MuxanduTimestamp, out: &mut i64) -> u32
+pub extern "C" fn muxandu_timestamp_to_microseconds(
+    at: MuxanduTimestamp,
+    out: &mut i64,
+) -> MuxanduStatus
     ensures status { result ≡ status_of (timestamp_to_microseconds at) }
     ensures written { out.new ≡ written (timestamp_to_microseconds at) out.old }
 {
     answer(timestamp_to_microseconds(at), out)
 }
 
-/// The instant so many nanoseconds from 1970-01-01 0:00 UTC. It is always in the range.
+/// The instant of a number of nanoseconds from 1970-01-01 0:00 UTC. It is always in range.
 #[unsafe(no_mangle)]
 pub extern "C" fn muxandu_timestamp_from_nanoseconds(nanoseconds: i64) -> MuxanduTimestamp
     ensures { result ≡ timestamp_parts nanoseconds }
@@ -264,10 +277,13 @@ pub(crate) fn timestamp_to_nanoseconds(at: MuxanduTimestamp) -> Result<i64, Refu
     in_64_bits(read_timestamp(at)?.as_nanoseconds())
 }
 
-/// The nanoseconds from 1970-01-01 0:00 UTC. Refused as the timestamp, then RESULT where 64 bits do not hold them, as
-/// before 1677-09-21 and after 2262-04-11.
+/// The nanoseconds from 1970-01-01 0:00 UTC. They fit in 64 bits from 1677-09-21 to 2262-04-11.
+/// Errors, in this order: those of the timestamp, RESULT if they do not fit.
 #[unsafe(no_mangle)]
-pub extern "C" fn muxandu_timestamp_to_nanoseconds(at: MuxanduTimestamp, out: &mut i64) -> u32
+pub extern "C" fn muxandu_timestamp_to_nanoseconds(
+    at: MuxanduTimestamp,
+    out: &mut i64,
+) -> MuxanduStatus
     ensures status { result ≡ status_of (timestamp_to_nanoseconds at) }
     ensures written { out.new ≡ written (timestamp_to_nanoseconds at) out.old }
 {

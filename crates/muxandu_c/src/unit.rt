@@ -4,6 +4,9 @@ ghost use Rattle.muxandu_c.specs.Values.{unit_numbered};
 
 use crate::refused::Refused;
 
+/// The number of a unit of time.
+pub type MuxanduUnit = u32;
+
 /// A unit of time. A call takes its number.
 #[derive(Clone, Copy, Drop)]
 pub enum Unit {
@@ -19,6 +22,8 @@ pub enum Unit {
     Millisecond = 5,
     /// A microsecond.
     Microsecond = 6,
+    /// A nanosecond.
+    Nanosecond = 7,
 }
 
 // The unit of a number.
@@ -32,6 +37,7 @@ pub(crate) fn read_unit(number: u32) -> Result<Unit, Refused>
         4 => Ok(Unit::Second),
         5 => Ok(Unit::Millisecond),
         6 => Ok(Unit::Microsecond),
+        7 => Ok(Unit::Nanosecond),
         _ => Err(Refused::Unit),
     }
 }

@@ -1,6 +1,7 @@
 //! The values that cross: plain numbers, which each call tests.
+use crate::refused::MuxanduStatus;
 
-/// The bytes of the longest text that a call writes: a buffer of so many is long enough.
+/// The bytes of the longest text of a value that a call writes. Use it as the size of a buffer.
 pub const MUXANDU_TEXT_ROOM: usize = 42;
 
 /// An instant: a Unix second and a nanosecond of that second, before 1970 too.
@@ -13,19 +14,19 @@ pub struct MuxanduTimestamp {
     pub nanoseconds: u32,
 }
 
-/// A duration: so many seconds and nanoseconds together. A call gives both of one sign and less than a second of
-/// nanoseconds, and takes any whose sum is at least -2^63 seconds - 999999999 ns and at most 2^63 - 1 seconds +
-/// 999999999 ns.
+/// A duration: the sum of its seconds and its nanoseconds. A call writes both with one sign, and
+/// less than a second of nanoseconds. It takes any whose sum is at least -2^63 seconds - 999999999
+/// ns and at most 2^63 - 1 seconds + 999999999 ns.
 #[repr(C)]
 #[derive(Clone, Copy)]
 pub struct MuxanduDuration {
     /// The seconds.
     pub seconds: i64,
-    /// The nanoseconds besides.
+    /// The nanoseconds to add to the seconds.
     pub nanoseconds: i32,
 }
 
-/// What clocks at an offset from UTC show, in the proleptic Gregorian calendar.
+/// A date and a time of day in the proleptic Gregorian calendar, and their offset from UTC.
 #[repr(C)]
 #[derive(Clone, Copy)]
 pub struct MuxanduDateTime {
@@ -43,7 +44,7 @@ pub struct MuxanduDateTime {
     pub second: u8,
     /// The nanosecond of the second, 0 to 999999999.
     pub nanosecond: u32,
-    /// The seconds by which the clocks are ahead of UTC, -93599 to 93599.
+    /// The offset: the seconds by which local clocks are ahead of UTC, -93599 to 93599.
     pub offset_seconds: i32,
 }
 
@@ -69,34 +70,36 @@ pub struct MuxanduOrdinalDate {
     pub ordinal: u16,
 }
 
-/// A date as an ISO year, an ISO week and a day of the week (ISO 8601). The week belongs to the year of its Thursday.
+/// A date as an ISO year, an ISO week and a day of the week (ISO 8601). The week belongs to the
+/// year of its Thursday.
 #[repr(C)]
 #[derive(Clone, Copy)]
 pub struct MuxanduWeekDate {
     /// The ISO year, -999999 to 999999.
     pub year: i32,
-    /// The ISO week, 1 to 52, or 53 in a year that has so many.
+    /// The ISO week, 1 to 52, or 53 in a year of 53 weeks.
     pub week: u8,
     /// The day of the week, 0 for Monday to 6 for Sunday.
     pub weekday: u8,
 }
 
-/// Where a text lies in a block of texts.
+/// The place of a text in a block of texts.
 #[repr(C)]
 #[derive(Clone, Copy)]
 pub struct MuxanduSpan {
-    /// How many bytes of the block come before the text.
+    /// The index of its first byte in the block.
     pub start: usize,
-    /// How many bytes the text has.
+    /// The number of its bytes.
     pub length: usize,
 }
 
-/// What a call with many items did: it goes through them in their order, up to the first that is refused.
+/// The result of a call with many items. It converts them in their order, up to the first that it
+/// rejects.
 #[repr(C)]
 #[derive(Clone, Copy)]
 pub struct MuxanduBatch {
-    /// How many items were converted and written.
+    /// The number of items that it converted and wrote.
     pub count: usize,
-    /// 0 if that is all of them, else why the next was refused.
-    pub status: u32,
+    /// 0 if these are all items, else the error of the next.
+    pub status: MuxanduStatus,
 }

@@ -13,7 +13,7 @@ use Rattle.calendar_values.specs.Digits.{last_digits}
 use Rattle.rfc3339.specs.Form.{IsDateTime, IsFraction, IsOffsetText, clock_digits, date_digits, spelling}
 use Rattle.rfc3339.specs.declared.parts.Parts.{Parts}
 use Rattle.stamps.specs.Arguments.{is_finer}
-use Rattle.stamps.specs.BoundLaws.{BoundsAreExact, is_not_zero}
+use Rattle.stamps.specs.BoundLaws.{is_not_zero}
 
 -- ---- digits, and what follows them
 
@@ -87,7 +87,7 @@ finer_by text rest e = ap (λ (z : List ℕ). list_any is_not_zero (drop 9 (take
 none : (xs : List ℕ) → length xs ≤ 9 → list_any is_not_zero (drop 9 xs) ≡ false
 none xs few = rw (drop_all 9 xs few) refl
 
-whole : (text : List ℕ) (p : Parts) (h : IsDateTime text p) → h.fraction ≡ [] → is_finer text ≡ false
+pub whole : (text : List ℕ) (p : Parts) (h : IsDateTime text p) → h.fraction ≡ [] → is_finer text ≡ false
 whole text p h e =
     let bytes = offset_bytes h.offset p.is_west p.offset_hour p.offset_minute h.is_offset in
     let rest : drop 20 text ≡ bytes.more = text_from_20 text p h [] e ∙ ap (drop 1) bytes.are in
@@ -101,7 +101,7 @@ digits_of fraction digits nanosecond e (inl (empty, zero_nanos)) = absurd cc
 digits_of fraction digits nanosecond e (inr (others, are, _, all, _)) =
     let same : others ≡ digits = ap (drop 1) (sym are ∙ e) in subst (λ (z : List ℕ). list_all is_ascii_digit z ≡ true) same all
 
-with_digits : (text : List ℕ) (p : Parts) (h : IsDateTime text p) (digits : List ℕ) → h.fraction ≡ codes "." ++ digits
+pub with_digits : (text : List ℕ) (p : Parts) (h : IsDateTime text p) (digits : List ℕ) → h.fraction ≡ codes "." ++ digits
     → is_finer text ≡ list_any is_not_zero (drop 9 digits)
 with_digits text p h digits e =
     let bytes = offset_bytes h.offset p.is_west p.offset_hour p.offset_minute h.is_offset in
@@ -110,6 +110,3 @@ with_digits text p h digits e =
     finer_by text (digits ++ bytes.first ∷ bytes.more) rest
     ∙ ap (λ (z : List ℕ). list_any is_not_zero (drop 9 z))
     (stops digits bytes.first bytes.more (digits_of h.fraction digits p.nanosecond e h.is_fraction) bytes.no_digit)
-
-pub bounds_exact : BoundsAreExact
-bounds_exact = record { whole = whole; digits = with_digits }

@@ -11,7 +11,7 @@ use Rattle.rfc3339.specs.declared.refusal.TextRefusal.{TextRefusal}
 use Rattle.rfc3339.specs.declared.refusal.TextRefusal.TheVariants.{Syntax, OutOfRange}
 use Rattle.stamps.specs.Decisions.{checked, decision_of, finding_at_end, first_state, is_earlier, is_first, one_more, state_after, stop_if}
 use Rattle.stamps.specs.Decisions as decisions
-use Rattle.stamps.specs.Laws.{CheckTellsTheOrder, instants, is_empty_or_any, is_out_of_range, line_stamps, none_earlier, stamps_of}
+use Rattle.stamps.specs.Laws.{instants, is_empty_or_any, is_out_of_range, line_stamps, none_earlier, stamps_of}
 use Rattle.stamps.specs.LineStamps.{line_stamp}
 use Rattle.stamps.specs.Runs.{Run, input_run, known_after, known_at_end, known_unless, last_of, last_run, line_feed, line_run, shown, then_on}
 use Rattle.stamps.specs.declared.decide.Stamp.{Stamp}
@@ -183,7 +183,7 @@ check_input is_strict input =
     (sym (input_run-all (Check is_strict) input))
     (check_all is_strict (first_state (Check is_strict)) (whole_lines_of input) (last_of (pieces_of input))))
 
-lenient : (input : List ℕ) → IsOk (input_run (Check false) input).end
+pub lenient : (input : List ℕ) → IsOk (input_run (Check false) input).end
     ↔ (IsTrue (list_all (λ stamp. not (is_out_of_range stamp)) (stamps_of input)) × IsTrue (none_earlier None (instants (stamps_of input)))
     × IsTrue (is_empty_or_any is_ok (stamps_of input)))
 lenient input =
@@ -197,7 +197,7 @@ lenient input =
       λ e. h.1 (all ∙ e.0, e.1, any ∙ e.2),
     )
 
-strict : (input : List ℕ) → IsOk (input_run (Check true) input).end
+pub strict : (input : List ℕ) → IsOk (input_run (Check true) input).end
     ↔ (IsTrue (list_all is_ok (stamps_of input)) × IsTrue (none_earlier None (instants (stamps_of input))))
 strict input =
     let stamps = stamps_of input in
@@ -209,6 +209,3 @@ strict input =
           (sym all ∙ f.0, f.1),
       λ e. h.1 (all ∙ e.0, e.1, any ∙ any_of_all stamps e.0),
     )
-
-pub check_tells : CheckTellsTheOrder
-check_tells = record { lenient = lenient; strict = strict }

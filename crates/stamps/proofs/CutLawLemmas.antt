@@ -6,14 +6,14 @@ use Rattle.line_devices.specs.Lines.{pieces_of, unless_empty, whole_lines_of}
 use Rattle.rfc3339.specs.declared.refusal.TextRefusal.{TextRefusal}
 use Rattle.stamps.specs.Decisions.{decision_of, first_state, going_on, goes_on, is_first, state_after}
 use Rattle.stamps.specs.Decisions as decisions
-use Rattle.stamps.specs.Laws.{SinceAndUntilCutInTwo, fed, instants_up_to, is_since, line_stamps, line_texts, marked_texts}
+use Rattle.stamps.specs.Laws.{fed, instants_up_to, is_since, line_stamps, line_texts, lines_since, marked_texts}
 use Rattle.stamps.specs.LineStamps.{line_stamp}
 use Rattle.stamps.specs.Runs.{Run, input_run, known_after, known_at_end, last_of, last_run, line_feed, line_run, shown, then_on}
 use Rattle.stamps.specs.declared.decide.Stamp.{Stamp}
 use Rattle.stamps.specs.declared.decide.State.{State}
 use Rattle.stamps.specs.declared.task.Task.{Task}
 use Rattle.stamps.specs.declared.task.Task.TheVariants.{Since, Until}
-use Rattle.stamps.proofs.LineLawLemmas.{later, line_texts-whole}
+use Rattle.stamps.proofs.LineLawLemmas.{later}
 use Rattle.stamps.proofs.RunLemmas.{all_run, input_run-all, lines_of-last}
 
 -- ---- whether a line goes on is told by the instant that it belongs to
@@ -139,13 +139,20 @@ text_of task input = ap (λ (z : Run). z.text) (input_run-all task input)
 end_of : (task : Task) (input : List ℕ) → IsOk (all_run task (first_state task) (whole input) (piece_of input)).end → IsOk (input_run task input).end
 end_of task input h = subst (λ (z : Run). IsOk z.end) (sym (input_run-all task input)) h
 
-pub since_and_until : SinceAndUntilCutInTwo
-since_and_until = record {
-  since = λ b input. text_of (Since b) input ∙ since_all b (first_state (Since b)) (whole input) (piece_of input) refl
-      ∙ ap (λ (z : List (List ℕ)). marked_texts (marks_from b true None z) (line_texts input)) (sym (lines_of-last input));
-  until = λ b input. text_of (Until b) input ∙ until_all b (first_state (Until b)) (whole input) (piece_of input) refl
-      ∙ ap (λ (z : List (List ℕ)). marked_texts (map not (marks_from b true None z)) (line_texts input)) (sym (lines_of-last input));
-  whole = line_texts-whole;
-  since_ends = λ b input. end_of (Since b) input (since_ends b (first_state (Since b)) (whole input) (piece_of input));
-  until_ends = λ b input. end_of (Until b) input (until_ends b (first_state (Until b)) (whole input) (piece_of input));
-}
+pub since_text : (bound : ℤ) (input : List ℕ)
+    → (input_run (Since bound) input).text ≡ marked_texts (lines_since bound input) (line_texts input)
+since_text b input =
+    text_of (Since b) input ∙ since_all b (first_state (Since b)) (whole input) (piece_of input) refl
+    ∙ ap (λ (z : List (List ℕ)). marked_texts (marks_from b true None z) (line_texts input)) (sym (lines_of-last input))
+
+pub until_text : (bound : ℤ) (input : List ℕ)
+    → (input_run (Until bound) input).text ≡ marked_texts (map not (lines_since bound input)) (line_texts input)
+until_text b input =
+    text_of (Until b) input ∙ until_all b (first_state (Until b)) (whole input) (piece_of input) refl
+    ∙ ap (λ (z : List (List ℕ)). marked_texts (map not (marks_from b true None z)) (line_texts input)) (sym (lines_of-last input))
+
+pub since_end : (bound : ℤ) (input : List ℕ) → IsOk (input_run (Since bound) input).end
+since_end b input = end_of (Since b) input (since_ends b (first_state (Since b)) (whole input) (piece_of input))
+
+pub until_end : (bound : ℤ) (input : List ℕ) → IsOk (input_run (Until bound) input).end
+until_end b input = end_of (Until b) input (until_ends b (first_state (Until b)) (whole input) (piece_of input))

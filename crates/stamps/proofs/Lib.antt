@@ -12,5 +12,6 @@ pub mod StampLawLemmas
 pub mod StepLemmas
 pub mod StyleLemmas
 pub mod TurnLemmas
+pub mod UsageLawLemmas
 pub mod UtcLawLemmas
 pub mod WrittenLawLemmas

@@ -16,7 +16,7 @@ use Rattle.rfc3339.specs.declared.parts.Parts.{Parts}
 use Rattle.rfc3339.specs.declared.refusal.Component.{Component}
 use Rattle.rfc3339.specs.declared.refusal.TextRefusal.{TextRefusal}
 use Rattle.rfc3339.specs.declared.refusal.TextRefusal.TheVariants.{Syntax, OutOfRange}
-use Rattle.stamps.specs.Laws.{HasStamp, IsBoundary, StampsAreDateTimes}
+use Rattle.stamps.specs.Laws.{HasStamp, IsBoundary}
 use Rattle.stamps.specs.LineStamps.{continues, ended_stamp, ends, front_stamp, is_continued, longest_stamp, opens_bracket, stamp, stamp_of}
 use Rattle.stamps.specs.declared.decide.Stamp.{Stamp}
 
@@ -71,7 +71,7 @@ stamp_again spelled rest p at form e short ends =
     form_again spelled rest p form short ∙ ended_at (meaning p) (length spelled) next short (boundary_is rest ends)
     ∙ ap (result_map_both (λ (at : Local). stamp (instant_of at) (length spelled) next) (λ (refusal : TextRefusal). refusal)) e
 
-refused : (spelled rest : List ℕ) (p : Parts) (component : Component) → IsDateTime spelled p → length spelled ≤ longest_stamp
+pub refused : (spelled rest : List ℕ) (p : Parts) (component : Component) → IsDateTime spelled p → length spelled ≤ longest_stamp
     → IsBoundary rest → meaning p ≡ Err (OutOfRange component) → stamp_of (spelled ++ rest) ≡ Err (OutOfRange component)
 refused spelled rest p component form short ends e =
     let next = slice_get rest 0 in
@@ -83,7 +83,7 @@ not_ended : (late on : Bool) (m : Result Local TextRefusal) (n : ℕ) (next : Op
 not_ended true on m n next e f = rw e refl
 not_ended false on m n next e f = rw (e, f) refl
 
-continued : (spelled rest : List ℕ) (byte : ℕ) (p : Parts) → IsDateTime spelled p → length spelled ≤ longest_stamp
+pub continued : (spelled rest : List ℕ) (byte : ℕ) (p : Parts) → IsDateTime spelled p → length spelled ≤ longest_stamp
     → continues byte ≡ true → stamp_of (spelled ++ byte ∷ rest) ≡ Err Syntax
 continued spelled rest byte p form short e =
     form_again spelled (byte ∷ rest) p form short
@@ -92,7 +92,7 @@ continued spelled rest byte p form short e =
 stamp_is : (s : Stamp) (i : ℤ) (n : ℕ) (next : Option ℕ) → s.instant ≡ i → s.length ≡ n → s.is_zoned ≡ opens_bracket next → stamp i n next ≡ s
 stamp_is s i n next a b c = rw (← a, ← b, ← c) refl
 
-complete : (text : List ℕ) (s : Stamp) → HasStamp text s → stamp_of text ≡ Ok s
+pub complete : (text : List ℕ) (s : Stamp) → HasStamp text s → stamp_of text ≡ Ok s
 complete text s h =
     ap stamp_of h.split
     ∙ stamp_again h.spelled h.rest h.parts (value_of h.parts) h.form (meaning-in_range h.parts h.ranges) h.short h.ends
@@ -167,6 +167,3 @@ sound_in text s (Some read) e h = sound_at text read.1 s read.0 (meaning read.0)
 pub sound : (text : List ℕ) (s : Stamp) → stamp_of text ≡ Ok s → HasStamp text s
 unfolding stamp_of
 sound text s e = sound_in text s (front_at (take 1024 text)) refl e
-
-pub stamps_are : StampsAreDateTimes
-stamps_are = record { sound = sound; complete = complete; continued = continued; refused = refused }

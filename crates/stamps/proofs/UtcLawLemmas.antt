@@ -13,7 +13,7 @@ use Rattle.rfc3339.specs.Laws.{FixedTextsKeepTheOrder}
 use Rattle.rfc3339.specs.Texts.{HasFixedText, fixed_text, parts_of}
 use Rattle.rfc3339.specs.ValueLemmas.{IsDateTime-fixed, meaning-fixed, length-fixed_text}
 use Rattle.rfc3339.specs.declared.refusal.TextRefusal.{TextRefusal}
-use Rattle.stamps.specs.Laws.{HasStamp, UtcTwiceIsOnce, in_utc, line_written}
+use Rattle.stamps.specs.Laws.{HasStamp, in_utc, line_written}
 use Rattle.stamps.specs.LineStamps.{opens_bracket, stamp, stamp_of}
 use Rattle.stamps.specs.Styles.{text_in, has_four_digits}
 use Rattle.stamps.specs.declared.decide.Stamp.{Stamp}
@@ -57,11 +57,11 @@ written_as : (line : List ℕ) (s : Stamp) (text : List ℕ) → stamp_of line �
     → line_written Utc false line ≡ text ++ drop s.length line
 written_as line s text e f = rw (no_mark-later line, e, f) refl
 
-rest_stays : (line : List ℕ) (s : Stamp) (text : List ℕ) → stamp_of line ≡ Ok s → text_in Utc s.instant ≡ Some text
+pub rest_stays : (line : List ℕ) (s : Stamp) (text : List ℕ) → stamp_of line ≡ Ok s → text_in Utc s.instant ≡ Some text
     → line_written Utc false line ≡ fixed_text s.instant ++ drop s.length line
 rest_stays line s text e f = written_as line s text e f ∙ ap (λ (z : List ℕ). z ++ drop s.length line) (fixed_of s.instant text f).1
 
-same_instant : (line : List ℕ) (s : Stamp) (text : List ℕ) → stamp_of line ≡ Ok s → text_in Utc s.instant ≡ Some text
+pub same_instant : (line : List ℕ) (s : Stamp) (text : List ℕ) → stamp_of line ≡ Ok s → text_in Utc s.instant ≡ Some text
     → stamp_of (line_written Utc false line) ≡ Ok (in_utc s)
 same_instant line s text e f = ap stamp_of (rest_stays line s text e f) ∙ stamp-fixed line s e (fixed_of s.instant text f).0
 
@@ -99,8 +99,8 @@ twice-stamp : (line : List ℕ) (r : Result Stamp TextRefusal) → stamp_of line
 twice-stamp line (Ok s) e = twice-text line s (text_in Utc s.instant) e refl
 twice-stamp line (Err r) e = as_it_stood line (no_stamp line r e)
 
-pub utc_twice : UtcTwiceIsOnce
-utc_twice = record { same_instant = same_instant; rest_stays = rest_stays; twice = λ line. twice-stamp line (stamp_of line) refl }
+pub twice : (line : List ℕ) → line_written Utc false (line_written Utc false line) ≡ line_written Utc false line
+twice line = twice-stamp line (stamp_of line) refl
 
 -- ---- in the order of bytes
 

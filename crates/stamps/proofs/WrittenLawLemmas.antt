@@ -11,9 +11,9 @@ use Rattle.line_devices.specs.LineParts.{ended_from, rest_from}
 use Rattle.line_devices.specs.Lines.{pieces_of, whole_lines_of}
 use Rattle.rfc3339.specs.declared.refusal.TextRefusal.{TextRefusal}
 use Rattle.stamps.specs.Decisions.{decision_of, first_state, is_first, one_more, rewritten, state_after, with_text}
-use Rattle.stamps.specs.Laws.{LinesAreWrittenAlone, fed, last_written, line_written, lines_written, text_written}
+use Rattle.stamps.specs.Laws.{fed, last_written, line_written, lines_written, text_written}
 use Rattle.stamps.specs.LineStamps.{byte_order_mark, has_mark, line_stamp, stamp_of}
-use Rattle.stamps.specs.Runs.{Run, known_after, last_of, last_run, line_feed, line_run, shown, then_on}
+use Rattle.stamps.specs.Runs.{Run, input_run, known_after, last_of, last_run, line_feed, line_run, shown, then_on}
 use Rattle.stamps.specs.Styles.{text_in}
 use Rattle.stamps.specs.declared.decide.Stamp.{Stamp}
 use Rattle.stamps.specs.declared.decide.State.{State}
@@ -86,7 +86,7 @@ written_ends style s (line ∷ lines) piece =
     let after = state_after (Write style false) s line in
     rw (written_known style (one_more s.lines) (has_mark (is_first s) line) (line_stamp (is_first s) line) after) (written_ends style after lines piece)
 
-text_of : (style : Style) (input : List ℕ)
+pub text_of : (style : Style) (input : List ℕ)
     → text_written style input ≡ lines_written style true (whole_lines_of input) (last_of (pieces_of input))
 text_of style input =
     ap (λ (z : Run). z.text) (input_run-all (Write style false) input)
@@ -150,7 +150,7 @@ lines_same style (line ∷ lines) piece text e none =
     let whole = e ∙ append_assoc (fed line) (concat (map fed lines)) piece ∙ append_assoc line (10 ∷ []) (concat (map fed lines) ++ piece) in
     ap (λ (z : List ℕ). fed z ++ lines_written style false lines piece) (same_written style line (no_mark-front line more text whole none))
 
-cut : (style : Style) (first second : List ℕ) → starts_with nat_eq second byte_order_mark ≡ false
+pub cut : (style : Style) (first second : List ℕ) → starts_with nat_eq second byte_order_mark ≡ false
     → text_written style (first ++ 10 ∷ second) ≡ text_written style (fed first) ++ text_written style second
 cut style first second none =
     let whole : first ++ 10 ∷ second ≡ fed first ++ second = sym (append_assoc first (10 ∷ []) second) in
@@ -187,14 +187,10 @@ rewritten_marked : (style : Style) (stamp : Result Stamp TextRefusal) (line : Li
 rewritten_marked style (Ok stamp) line = placed_marked stamp (text_in style stamp.instant) line
 rewritten_marked style (Err refusal) line = refl
 
-marked : (style : Style) (line : List ℕ) → line_written style true (byte_order_mark ++ line) ≡ byte_order_mark ++ line_written style false line
+pub marked : (style : Style) (line : List ℕ) → line_written style true (byte_order_mark ++ line) ≡ byte_order_mark ++ line_written style false line
 marked style line = rw (mark_first line, no_mark-later line) (rewritten_marked style (stamp_of line) line)
 
-pub lines_alone : LinesAreWrittenAlone
-lines_alone = record {
-  text = text_of;
-  cut = cut;
-  marked = marked;
-  ends = λ style input. subst (λ (z : Run). IsOk z.end) (sym (input_run-all (Write style false) input))
-      (written_ends style (first_state (Write style false)) (whole_lines_of input) (last_of (pieces_of input)));
-}
+pub ends : (style : Style) (input : List ℕ) → IsOk (input_run (Write style false) input).end
+ends style input =
+    subst (λ (z : Run). IsOk z.end) (sym (input_run-all (Write style false) input))
+    (written_ends style (first_state (Write style false)) (whole_lines_of input) (last_of (pieces_of input)))

@@ -9,3 +9,4 @@ pub mod Progress
 pub mod Runs
 pub mod Styles
 pub mod Turns
+pub mod Usage

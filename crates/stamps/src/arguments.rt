@@ -10,7 +10,7 @@ use crate::task::{Style, Task};
 use rfc3339::{Rfc3339, TextRefusal, parse_rfc3339_offset};
 use utc_times::UtcDateTime;
 
-/// What the words of the command line ask for.
+/// The request of the words of the command line.
 #[derive(Clone, Copy, Debug)]
 pub enum Request {
     /// The usage.
@@ -19,7 +19,7 @@ pub enum Request {
     Work(Task),
 }
 
-/// What is wrong with the words of the command line.
+/// The misuse of the words of the command line.
 #[derive(Clone, Copy, Debug, PartialEq, Eq)]
 pub enum Misuse {
     /// There is none.
@@ -28,19 +28,19 @@ pub enum Misuse {
     UnknownWord,
     /// No offset follows `at`.
     NoOffset,
-    /// What follows `at` is no offset.
+    /// No offset follows `at`.
     Offset(TextRefusal),
     /// No instant follows `since` or `until`.
     NoInstant,
-    /// What follows `since` or `until` is refused.
+    /// An invalid date-time follows `since` or `until`.
     Instant(TextRefusal),
-    /// What follows `since` or `until` has a fraction of which a digit past the ninth is not 0.
+    /// The fraction after `since` or `until` has a digit past the ninth that is not 0.
     TooFine,
     /// A word follows that nothing asks for.
     Extra,
 }
 
-/// What the words after the name of the program ask for.
+/// The request of the words after the name of the program.
 #[tactic(auto, unfolding(crate::specs::Arguments::request_of))]
 pub fn request_of(words: &[&[u8]]) -> Result<Request, Misuse>
     ensures { result ≡ request_of (map (λ word. word.now) words.now) }
@@ -182,7 +182,7 @@ fn alone(instant: UtcDateTime, words: &[&[u8]]) -> Result<UtcDateTime, Misuse>
     }
 }
 
-/// What is printed of a misuse: what is wrong, and what mends it.
+/// The text of a misuse: the error and its remedy.
 pub fn misuse_line(misuse: Misuse) -> &'static str
     ensures { result.now ≡ misuse_text misuse }
 {

@@ -18,7 +18,8 @@ use utc_times::UtcDateTime;
 /// The most bytes of a stamp.
 pub const LONGEST_STAMP: usize = 1_023;
 
-/// The most bytes of a line that decide what becomes of it: a byte order mark, the longest stamp, and one byte more.
+/// The most bytes of a line that decide what becomes of it: a byte order mark, the longest stamp,
+/// and one byte more.
 pub const LONGEST_HEAD: usize = 1_027;
 
 // The most bytes in which a stamp is looked for.
@@ -38,7 +39,7 @@ pub struct Stamp {
     pub is_zoned: bool,
 }
 
-/// What is known of the lines before.
+/// The state after the lines before.
 #[derive(Clone, Copy, Debug)]
 pub struct State {
     /// Their number, at most 2^64 - 1.
@@ -49,10 +50,11 @@ pub struct State {
     pub goes_on: bool,
 }
 
-/// What becomes of a line.
+/// The decision on a line.
 #[derive(Drop)]
 pub enum Decision {
-    /// It is written: with or without a byte order mark in front, and with the text in place of this number of bytes.
+    /// It is written: with or without a byte order mark in front, and with the text in place of
+    /// this number of bytes.
     Keep(bool, Text, usize),
     /// It is not written.
     Skip,
@@ -60,7 +62,7 @@ pub enum Decision {
     Stop(Finding),
 }
 
-/// What is known before the first line.
+/// The state before the first line.
 pub fn first_state(task: &Task) -> State
     ensures { result ≡ first_state task.now }
 {
@@ -84,7 +86,7 @@ pub fn decide(task: &Task, state: &mut State, line: &[u8]) -> Decision
     decision
 }
 
-/// What ends the run at the end of the input.
+/// The finding at the end of the input, if there is one.
 pub fn finding_at_end(task: &Task, state: &State) -> Option<Finding>
     ensures { result ≡ finding_at_end task.now state.now }
 {

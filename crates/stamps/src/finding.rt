@@ -6,7 +6,7 @@ ghost use Rattle.stamps.specs.Findings.{cause_name, cause_end, cause_text, findi
 use calendar_values::Text;
 use rfc3339::Component;
 
-/// What is the matter with a line.
+/// The reason why a line is at fault.
 #[derive(Clone, Copy, Debug, PartialEq, Eq)]
 pub enum Cause {
     /// It does not begin with a stamp.
@@ -21,10 +21,10 @@ pub enum Cause {
     Earlier,
 }
 
-/// What ends the run.
+/// The finding that ends the run.
 #[derive(Clone, Copy, Debug, PartialEq, Eq)]
 pub enum Finding {
-    /// A line: its number, counted from 1 on and at most 2^64 - 1, and what is the matter with it.
+    /// A line: its number, counted from 1 on and at most 2^64 - 1, and its fault.
     Line(u64, Cause),
     /// The input is not empty, and no line of it has a stamp.
     NoStamp,

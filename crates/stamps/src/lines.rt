@@ -18,7 +18,7 @@ use line_devices::places::place_of;
 use line_devices::sending::{Pending, flush, send};
 use line_devices::table::Table;
 
-/// What ended the work before the end of the input.
+/// The reason why the work ended before the end of the input.
 #[derive(Clone, Copy, Debug, PartialEq, Eq)]
 pub enum LineFault {
     /// A write failed.
@@ -40,7 +40,7 @@ impl From<DeviceFault> for LineFault {
 pub enum Progress {
     /// Its beginning is kept, and nothing of it was sent.
     Kept,
-    /// What was read of it was sent.
+    /// It is sent so far.
     Sent,
     /// Nothing of it is to be sent.
     Skipped,
@@ -49,19 +49,19 @@ pub enum Progress {
 /// The beginning of a line.
 pub type Head = Table<u8, LONGEST_HEAD>;
 
-/// What is known of the bytes that were read.
+/// The state after the bytes that were read.
 #[derive(Drop)]
 pub struct Work {
-    /// What is known of the lines before, and of the last one once it is not kept.
+    /// The state after the lines before, and after the last one once it is not kept.
     pub state: State,
     /// How far the last line is.
     pub progress: Progress,
-    /// What is kept of it.
+    /// The bytes of it that are kept.
     pub head: Head,
 }
 
 impl Work {
-    /// What is known before anything is read.
+    /// The state before anything is read.
     pub fn new(task: &Task) -> Work
         ensures state { result.state ≡ first_state task.now }
         ensures progress { result.progress ≡ Kept }
@@ -75,7 +75,8 @@ impl Work {
     }
 }
 
-/// Takes in a block, and writes what is to be written of the lines in it, up to one that ends the run.
+/// Takes in a block, and writes what is to be written of the lines in it, up to one that ends the
+/// run.
 pub fn feed<W: Sink>(
     task: &Task,
     writer: &mut W,
@@ -233,7 +234,7 @@ fn decide_line<W: Sink>(
     Ok(())
 }
 
-/// Sends what is left of the last line, which no line feed ends, and writes all.
+/// Sends the rest of the last line, which no line feed ends, and writes all.
 pub fn finish<W: Sink>(
     task: &Task,
     writer: &mut W,

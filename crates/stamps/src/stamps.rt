@@ -13,7 +13,7 @@ use crate::task::Task;
 use line_devices::devices::{Sink, Source};
 use line_devices::sending::Pending;
 
-/// What ended the work before the end of the input.
+/// The reason why the work ended before the end of the input.
 #[derive(Clone, Copy, Debug, PartialEq, Eq)]
 pub enum StampFault {
     /// A read failed.
@@ -40,9 +40,10 @@ const BLOCK: usize = 65_536;
 
 /// Reads lines to the end of the input, and writes of each what the task says.
 ///
-/// A line ends before a line feed, or with the input. A fault ends the work: `Read` and `Write` after a
-/// failed call of the reader or the writer, and `Found` at the first line that the task names: what the lines before
-/// it come to is written, and nothing of its own. `Read` also comes after 2^64 - 1 reads that reached no end.
+/// A line ends before a line feed, or with the input. A fault ends the work: `Read` and `Write`
+/// after a failed call of the reader or the writer, and `Found` at the first line that the task
+/// names. Then it writes the output of the lines before, and none of that line. `Read` also comes
+/// after 2^64 - 1 reads that reached no end.
 pub fn stamps<R: Source, W: Sink>(
     task: &Task,
     reader: &mut R,
@@ -95,8 +96,8 @@ pub fn stamps<R: Source, W: Sink>(
     Err(StampFault::Read)
 }
 
-/// Reads a block, and writes what is to be written of the lines in it. Where there is none to read, it writes what is
-/// left of the last line. Gives how many bytes it read.
+/// Reads a block, and writes what is to be written of the lines in it. Where there is none to read,
+/// it writes the rest of the last line. Returns the number of bytes that it read.
 fn take_block<R: Source, W: Sink>(
     task: &Task,
     reader: &mut R,

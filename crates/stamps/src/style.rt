@@ -9,7 +9,8 @@ use offset_times::ToOffset;
 use rfc3339::{to_rfc3339_nanos, to_rfc3339_nanos_at, to_unix_nanos};
 use utc_times::UtcDateTime;
 
-/// The text of an instant in a style. None where the year that clocks there show is not one of 0 to 9999.
+/// The text of an instant in a style. None if the year that clocks there show is not one of 0 to
+/// 9999.
 #[tactic(auto, unfolding(crate::specs::Styles::text_in))]
 pub fn text_in(style: &Style, at: UtcDateTime) -> Option<Text>
     ensures { result ≡ text_in style.now at }

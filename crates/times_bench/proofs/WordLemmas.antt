@@ -1,11 +1,14 @@
 -- Words, cut at a separator.
 use Rattle.std.proofs.Common.{◌≡◌, ◌≢◌, ℕ, ◌+◌, ◌<◌, ◌≤◌, true, false, ◌==◌, get_or, take, drop, List, [], ◌∷◌, ◌++◌, length, refl, ◌∙◌, ap, arith, None}
-use Rattle.std.specs.Prelude.{All}
+use Rattle.std.specs.List.{starts_with}
+use Rattle.std.specs.Prelude.{All, nat_eq}
+use Rattle.std.specs.Str.{bytes_eq}
 use Rattle.std.proofs.lemmas.Bool.Decides.{nat_tests}
 use Rattle.std.proofs.lemmas.Grind.{common_steps}
 use Rattle.std.proofs.lemmas.List.{length-take, take_all}
 use Rattle.std.proofs.lemmas.List.Splits.{slice_split_none, slice_split_at, length-slice_split}
 use Rattle.std.proofs.lemmas.List.Sums.{count_by-le-length}
+use Rattle.std.proofs.lemmas.Slice.Eq.{bytes_eq-Decides}
 use Rattle.line_devices.specs.LineParts.{HasNone}
 use Rattle.times_bench.specs.Words.{cut_at, exactly_one}
 
@@ -44,3 +47,7 @@ pub no_field_more : (separator : ℕ) (field text : List ℕ) → exactly_one (f
 unfolding exactly_one
 no_field_more separator field text = elim (cut_at separator text) as (λ fields. 0 < length fields → exactly_one (field ∷ fields) ≡ None)
     [ [] ↦ λ some. absurd (omega arith) | next ∷ fields ↦ λ some. refl ] (length-cut_at-some separator text)
+
+-- one as long is the text where that begins with it
+pub bytes_eq-as_long : (word text : List ℕ) → length word ≡ length text → starts_with nat_eq text word ≡ bytes_eq word text
+bytes_eq-as_long word text same = let whole = take_all (length word) text (omega arith) in rw whole refl

@@ -25,7 +25,7 @@ use utc_times::UtcDateTime;
 // The most bytes of a reply, and of `; ` behind it.
 const REPLY_ROOM: usize = 64;
 
-/// Puts the answer to a line behind what is pending, and nothing where there is no memory for its
+/// Puts the answer to a line after the pending bytes, and nothing if there is no memory for its
 /// replies.
 pub fn put_answer(
     alloc: Global,

@@ -1,13 +1,12 @@
 //! The words of a run.
 ghost use Rattle.std.specs.Prelude.{◌≡◌, ◌≤◌, length, OnSome};
-ghost use Rattle.std.specs.Str.{bytes_eq};
 ghost use Rattle.times_bench.specs.CallWords.{entry_of, date_reads, clock_reads, read_of, call_with, shift_with, replace_with, date_part_with};
 ghost use Rattle.times_bench.specs.CallWords.{clock_part_with, fraction_part_with, parse_duration, parse_time, parse_month, parse_date, call_of};
 ghost use Rattle.times_bench.specs.Words.{arguments_of};
 
 use super::numbers::{parse_i32, parse_i64, parse_u8, parse_u16, parse_u32};
 use super::step_words::parse_offset;
-use super::words::{cut_at, four_fields, one_field, three_fields, two_fields};
+use super::words::{cut_at, four_fields, is, one_field, three_fields, two_fields};
 use calendar_values::{Date, Month, SignedDuration, Time};
 use stamp_times::{Call, ClockRead, DateRead, Replace, Shift};
 
@@ -26,14 +25,6 @@ pub fn call_of(word: &[u8]) -> Option<Call>
         return None;
     }
     call_with(name, arguments)
-}
-
-// Whether a name is this text.
-#[inline(always)]
-fn is(name: &[u8], text: &str) -> bool
-    ensures { result ≡ bytes_eq name.now text.now }
-{
-    name == text.as_bytes()
 }
 
 // The read of this name.

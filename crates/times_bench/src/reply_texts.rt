@@ -11,7 +11,8 @@ use offset_times::OffsetDateTime;
 use stamp_times::{Call, ClockPart, DatePart, Held, Moment};
 use utc_times::UtcDateTime;
 
-/// Adds what a call replies to an empty text: its parts, with one space between. Gives where the call leads.
+/// Adds what a call replies to an empty text: its parts, with one space between. Gives where the
+/// call leads.
 #[tactic(auto, unfolding(crate::specs::ReplyTexts::reply_text))]
 pub fn push_reply(text: &mut Text, at: UtcDateTime, call: Call) -> UtcDateTime
     requires { length text.old ≡ 0 }
@@ -262,11 +263,18 @@ fn push_next(text: &mut Text, number: u32)
     push_number(text, number);
 }
 
-// Adds a number in decimal digits.
+// Adds a number in decimal digits. Those of one or two digits are the common ones.
+#[tactic(auto, using(crate::proofs::ReplyLemmas::short_numbers))]
 fn push_number(text: &mut Text, number: u32)
     requires { length text.old ≤ 44 }
     ensures value { text.new ≡ text.old ++ decimal number }
     ensures length { length text.new ≤ length text.old + 10 }
 {
-    text.push_decimal(u64::from(number));
+    if number < 10 {
+        text.push(b'0' + number as u8);
+    } else if number < 100 {
+        text.push_bytes(&[b'0' + (number / 10) as u8, b'0' + (number % 10) as u8]);
+    } else {
+        text.push_decimal(u64::from(number));
+    }
 }

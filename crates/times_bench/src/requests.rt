@@ -56,7 +56,8 @@ pub fn read_stamp(words: &[u8]) -> Option<(i64, u32)>
     Some((parse_i64(second)?, parse_u32(nanosecond)?))
 }
 
-/// The second and the nanosecond of the words after `run`. Their calls take the place of those in the table.
+/// The second and the nanosecond of the words after `run`. Their calls take the place of those in
+/// the table.
 #[tactic(auto, unfolding(crate::specs::Requests::run_request))]
 pub fn read_run(words: &[u8], calls: &mut Calls) -> Option<(i64, u32)>
     requires { length words.now < 1024 }
@@ -68,8 +69,8 @@ pub fn read_run(words: &[u8], calls: &mut Calls) -> Option<(i64, u32)>
     Some((second, nanosecond))
 }
 
-/// The second, the nanosecond and the start of the words after `chain`. Their steps take the place of those in
-/// the table.
+/// The second, the nanosecond and the start of the words after `chain`. Their steps take the place
+/// of those in the table.
 #[tactic(auto, unfolding(crate::specs::Requests::chain_request))]
 pub fn read_chain(words: &[u8], steps: &mut Steps) -> Option<(i64, u32, Step)>
     requires { length words.now < 1024 }

@@ -12,7 +12,7 @@ use std::alloc::Global;
 // More bytes than an answer has.
 const ANSWER_ROOM: usize = 16_640;
 
-/// What ended the work before all lines were answered.
+/// The reason why the work ended before all lines had an answer.
 #[derive(Clone, Copy, Debug, PartialEq, Eq)]
 pub enum AnswerFault {
     /// A write failed.
@@ -21,7 +21,7 @@ pub enum AnswerFault {
     Memory,
 }
 
-/// Writes what is pending.
+/// Writes the pending bytes.
 pub fn flush<W: Sink>(writer: &mut W, pending: &mut Pending) -> Result<(), AnswerFault>
     ensures written { WritesPending result
         (W.written writer.old) (W.written writer.new) pending.old }

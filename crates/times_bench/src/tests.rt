@@ -6,7 +6,7 @@ use std::io;
 use std::io::{Read, Write};
 use std::test::Fail;
 
-/// What is written where no call fails and there is memory.
+/// The output if no call fails and there is memory.
 fn answered(alloc: Global, input: &[u8]) -> Result<Vec<u8>, Fail> {
     let mut page = Vec::new(alloc);
     match bench(alloc, &mut Device::new(input), &mut Device::new(&mut page)) {
@@ -81,7 +81,7 @@ fn answers_many_lines(rt: HostRuntime) -> Result<(), Fail> {
     Ok(())
 }
 
-/// Seconds of so many digits that they are read in another way each, and their texts.
+/// Seconds whose numbers of digits take different ways of reading, and their texts.
 const NUMBERS: [(&str, &str); 11] = [
     ("1", "1970-01-01 0:00:01.0 +00"),
     ("1234567", "1970-01-15 6:56:07.0 +00"),
@@ -186,8 +186,8 @@ const LINES: &str = "unix 0\nunix -1\nrun 0 0 year\nchain 0 0 stamp\n";
 /// Their answers, which end after 25, 51, 63 and 71 bytes.
 const ANSWERS: &str = "1970-01-01 0:00:00.0 +00\n1969-12-31 23:59:59.0 +00\n1970; end 0\nstamp 0\n";
 
-/// What was written when the lines are read 5 bytes a call and the answers written so many bytes a
-/// call, and what ended the work.
+/// The output if the reader returns 5 bytes a call and the writer takes this number of bytes a
+/// call, and the reason for the end.
 fn run(
     alloc: Global,
     step: usize,

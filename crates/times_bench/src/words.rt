@@ -1,11 +1,30 @@
 //! What stands between separators.
 ghost use Rattle.std.specs.Prelude.{◌≡◌, [], ◌∷◌, option_map};
 ghost use Rattle.std.specs.Option.{option_map_or};
+ghost use Rattle.std.specs.Str.{bytes_eq};
 ghost use Rattle.times_bench.specs.Words.{cut_at, exactly_one, exactly_two, exactly_three, exactly_four};
 
 use line_devices::places::place_of;
 
-/// What stands before the first separator, and what stands after it if there is one.
+// The most bytes that are compared as a number.
+const LONGEST_NUMBER: usize = 8;
+
+/// Whether a word is this text.
+#[inline(always)]
+pub fn is(word: &[u8], text: &str) -> bool
+    ensures { result ≡ bytes_eq word.now text.now }
+{
+    if text.len() > LONGEST_NUMBER {
+        return word == text.as_bytes();
+    }
+    if word.len() != text.len() {
+        return false;
+    }
+    // Where the text is constant, this is a comparison of numbers or two.
+    text.as_bytes().starts_with(word)
+}
+
+/// The text before the first separator, and the text after it if there is one.
 pub fn cut_at(separator: u8, text: &[u8]) -> (&[u8], Option<&[u8]>)
     ensures { cut_at separator text.now
         ≡ result.0.now ∷ option_map_or (λ rest. cut_at separator rest.now) result.1 [] }

@@ -1,5 +1,5 @@
-use Rattle.stamps.proofs.StampLawLemmas.{stamps_are}
+use Rattle.stamps.proofs.StampLawLemmas.{complete, continued, refused, sound}
 use Rattle.stamps.proofs.laws.stamps_are_date_times.Goals as goal
 
 pub returns : goal.returns
-returns c = stamps_are
+returns c = record { sound = sound; complete = complete; continued = continued; refused = refused }

@@ -14,23 +14,23 @@ returns-in_err-parse_offset-clause-value c =
     let utc : bytes_eq c.args.word.now (codes "utc") ≡ false = search rules in
     rw (stamp, utc) (c.from_residual.ensures ∙ ap (option_map ToOffset) c.in_err-parse_offset.ensures)
 
-pub returns-then-eq-clause-value : goal.returns-then-eq-clause-value
+pub returns-then-is-clause-value : goal.returns-then-is-clause-value
 unfolding step_of
-returns-then-eq-clause-value c = let stamp : bytes_eq c.args.word.now (codes "stamp") ≡ true = search rules in rw stamp refl
+returns-then-is-clause-value c = let stamp : bytes_eq c.args.word.now (codes "stamp") ≡ true = search rules in rw stamp refl
 
-pub returns-then-eq-2-clause-value : goal.returns-then-eq-2-clause-value
+pub returns-then-is-2-clause-value : goal.returns-then-is-2-clause-value
 unfolding step_of
-returns-then-eq-2-clause-value c =
+returns-then-is-2-clause-value c =
     let stamp : bytes_eq c.args.word.now (codes "stamp") ≡ false = search rules in
     let utc : bytes_eq c.args.word.now (codes "utc") ≡ true = search rules in
     rw (stamp, utc) refl
 
-pub returns-in_ok-parse_offset-clause-value : goal.returns-in_ok-parse_offset-clause-value
+pub returns-clause-value : goal.returns-clause-value
 unfolding step_of
-returns-in_ok-parse_offset-clause-value c =
+returns-clause-value c =
     let stamp : bytes_eq c.args.word.now (codes "stamp") ≡ false = search rules in
     let utc : bytes_eq c.args.word.now (codes "utc") ≡ false = search rules in
     rw (stamp, utc) (ap (option_map ToOffset) c.in_ok-parse_offset.ensures)
 
-pub returns-in_ok-parse_offset-clause-three_bytes : goal.returns-in_ok-parse_offset-clause-three_bytes
-returns-in_ok-parse_offset-clause-three_bytes c = parse_offset-length c.args.word.now c.in_ok-parse_offset.field-0 (sym c.in_ok-parse_offset.ensures)
+pub returns-clause-three_bytes : goal.returns-clause-three_bytes
+returns-clause-three_bytes c = parse_offset-length c.args.word.now c.in_ok-parse_offset.field-0 (sym c.in_ok-parse_offset.ensures)

@@ -1,0 +1,12 @@
+use Rattle.std.proofs.Common.{◌≡◌, rules, refl, w32, w64, to_z, of_z}
+use Rattle.muxandu_c.proofs.second_batches.put_date_times.Goals as goal
+
+pub returns : goal.returns
+returns c =
+    let offset : to_z w32 (of_z w32 c.args.offset_seconds) ≡ c.args.offset_seconds = search rules in
+    let a : to_z w64 (of_z w64 c.args.a) ≡ c.args.a = search rules in
+    let b : to_z w64 (of_z w64 c.args.b) ≡ c.args.b = search rules in
+    let third : to_z w64 (of_z w64 c.args.c) ≡ c.args.c = search rules in
+    let d : to_z w64 (of_z w64 c.args.d) ≡ c.args.d = search rules in
+    let values = rw (offset, a, b, third, d) at c.date_times-values.ensures in
+    rw (c.date_time_of_lane.ensures, c.date_time_of_lane-2.ensures, c.date_time_of_lane-3.ensures, c.date_time_of_lane-4.ensures, values) refl

@@ -1,0 +1,275 @@
+-- Words make a request, or are a misuse, exactly where the usage has it so.
+use Rattle.std.proofs.Common.{◌≡◌, refl, ap, subst, ◌∙◌, ℕ, ℤ, Bool, true, false, ◌||◌, List, [], ◌∷◌, Result, Ok, Err}
+use Rattle.std.specs.List.{list_any}
+use Rattle.std.specs.Prelude.{codes, if◌then◌else◌}
+use Rattle.std.specs.Result.{result_map_both}
+use Rattle.std.specs.Str.{bytes_eq}
+use Rattle.std.proofs.lemmas.Slice.Eq.{bytes_eq-Decides}
+use Rattle.offset_times.specs.Local.{instant_of}
+use Rattle.rfc3339.specs.Front.{offset_reading_of}
+use Rattle.rfc3339.specs.Reading.{reading_as}
+use Rattle.rfc3339.specs.declared.refusal.TextRefusal.{TextRefusal}
+use Rattle.stamps.specs.Arguments.{alone, at_offset, at_offset_read, bound_of, bound_read, bounded as bounded_words}
+use Rattle.stamps.specs.Arguments.{help_asked, is_finer, request_of, strictness, task_asked}
+use Rattle.stamps.specs.Usage.{BoundWord, FrontWords, IsBound, MisuseWords, RequestWords, StrictWords, first_words}
+use Rattle.stamps.specs.Usage.BoundWord.{since, until}
+use Rattle.stamps.specs.Usage.FrontWords.{utc, unix, at, check}
+use Rattle.stamps.specs.Usage.MisuseWords.{no_word, unknown_word, no_offset, offset, no_instant, instant, too_fine, after_help, after_task, after_bound}
+use Rattle.stamps.specs.Usage.RequestWords.{help, task, bounded}
+use Rattle.stamps.specs.Usage.StrictWords.{lenient, strict}
+use Rattle.stamps.specs.declared.arguments.Misuse.{Misuse}
+use Rattle.stamps.specs.declared.arguments.Misuse.TheVariants.{UnknownWord, Extra}
+use Rattle.stamps.specs.declared.arguments.Request.{Request}
+use Rattle.stamps.specs.declared.arguments.Request.TheVariants.{Work}
+use Rattle.stamps.specs.declared.task.Style.TheVariants.{Utc, At, Unix}
+use Rattle.stamps.specs.declared.task.Task.{Task}
+use Rattle.stamps.specs.declared.task.Task.TheVariants.{Write, Check, Since, Until}
+
+-- ---- what words ask for
+
+-- a request or a misuse, as the usage has it
+data Outcome (words : List (List ℕ)) : Result Request Misuse → Type 0 where
+  asked : {request : Request} → RequestWords words request → Outcome words (Ok request)
+  misused : {misuse : Misuse} → MisuseWords words misuse → Outcome words (Err misuse)
+
+same_word : (word known : List ℕ) → bytes_eq word known ≡ true → word ≡ known
+same_word word known e = (bytes_eq-Decides word known).0 e
+
+other_word : (word known : List ℕ) → bytes_eq word known ≡ false → ¬ (word ≡ known)
+other_word word known e same = let found = (bytes_eq-Decides word known).1 same in absurd cc
+
+same_only : (word known : List ℕ) → word ∷ [] ≡ known ∷ [] → word ≡ known
+same_only word known e = cc
+
+same_first : (word known : List ℕ) (more : List (List ℕ)) → bytes_eq word known ≡ true → word ∷ more ≡ known ∷ more
+same_first word known more e = ap (λ (z : List ℕ). z ∷ more) (same_word word known e)
+
+-- ---- a task that `--strict` may follow
+
+by_flag : (words : List (List ℕ)) (work : Bool → Task) (flag : List ℕ) (b : Bool) → FrontWords words (flag ∷ []) work
+    → bytes_eq flag (codes "--strict") ≡ b
+    → Outcome words (result_map_both Work (λ misuse. misuse) (result_map_both work (λ misuse. misuse) (if b then Ok true else Err Extra)))
+by_flag words work flag true h e = asked (task h (strict (same_first flag (codes "--strict") [] e)))
+by_flag words work flag false h e =
+    misused (after_task h (λ (same : flag ∷ [] ≡ codes "--strict" ∷ []). other_word flag (codes "--strict") e (same_only flag (codes "--strict") same)))
+
+by_strictness : (words more : List (List ℕ)) (work : Bool → Task) → FrontWords words more work
+    → Outcome words (result_map_both Work (λ misuse. misuse) (result_map_both work (λ misuse. misuse) (strictness more)))
+by_strictness words [] work h = asked (task h (lenient refl))
+by_strictness words (flag ∷ []) work h = by_flag words work flag (bytes_eq flag (codes "--strict")) h refl
+by_strictness words (flag ∷ word ∷ more) work h = misused (after_task h (λ (same : flag ∷ word ∷ more ≡ codes "--strict" ∷ []). absurd cc))
+
+by_offset : (words : List (List ℕ)) (text : List ℕ) (more : List (List ℕ)) (read : Result ℤ TextRefusal) → words ≡ codes "at" ∷ text ∷ more
+    → offset_reading_of text ≡ read → Outcome words (result_map_both Work (λ misuse. misuse) (at_offset_read read more))
+by_offset words text more (Ok local) front e = by_strictness words more (λ (b : Bool). Write (At local) b) (at front e)
+by_offset words text more (Err refusal) front e = misused (offset front e)
+
+by_at : (words more : List (List ℕ)) → words ≡ codes "at" ∷ more → Outcome words (result_map_both Work (λ misuse. misuse) (at_offset more))
+by_at words [] front = misused (no_offset front)
+by_at words (text ∷ more) front = by_offset words text more (offset_reading_of text) front refl
+
+-- ---- a task with a bound
+
+by_rest : (words : List (List ℕ)) (word text : List ℕ) (more : List (List ℕ)) (work : ℤ → Task) (bound : ℤ) → BoundWord word work
+    → words ≡ word ∷ text ∷ more → IsBound text bound
+    → Outcome words (result_map_both Work (λ misuse. misuse) (result_map_both work (λ misuse. misuse) (alone bound more)))
+by_rest words word text [] work bound h front read = asked (bounded h front read)
+by_rest words word text (other ∷ more) work bound h front read = misused (after_bound h front read)
+
+by_fraction : (words : List (List ℕ)) (word text : List ℕ) (more : List (List ℕ)) (work : ℤ → Task) (bound : ℤ) (finer : Bool) → BoundWord word work
+    → words ≡ word ∷ text ∷ more → reading_as instant_of text ≡ Ok bound → is_finer text ≡ finer
+    → Outcome words (result_map_both Work (λ misuse. misuse) (result_map_both work (λ misuse. misuse) (bound_read finer (Ok bound) more)))
+by_fraction words word text more work bound true h front read e = misused (too_fine h front read e)
+by_fraction words word text more work bound false h front read e = by_rest words word text more work bound h front (record { instant = read; not_finer = e })
+
+by_reading : (words : List (List ℕ)) (word text : List ℕ) (more : List (List ℕ)) (work : ℤ → Task) (read : Result ℤ TextRefusal) → BoundWord word work
+    → words ≡ word ∷ text ∷ more → reading_as instant_of text ≡ read
+    → Outcome words (result_map_both Work (λ misuse. misuse) (result_map_both work (λ misuse. misuse) (bound_read (is_finer text) read more)))
+by_reading words word text more work (Ok bound) h front e = by_fraction words word text more work bound (is_finer text) h front e refl
+by_reading words word text more work (Err refusal) h front e = misused (instant h front e)
+
+by_bound : (word : List ℕ) (more : List (List ℕ)) (work : ℤ → Task) → BoundWord word work
+    → Outcome (word ∷ more) (result_map_both Work (λ misuse. misuse) (result_map_both work (λ misuse. misuse) (bound_of more)))
+by_bound word [] work h = misused (no_instant h refl)
+by_bound word (text ∷ more) work h = by_reading (word ∷ text ∷ more) word text more work (reading_as instant_of text) h refl refl
+
+-- ---- the first word
+
+by_help : (words more : List (List ℕ)) → words ≡ codes "--help" ∷ more → Outcome words (help_asked more)
+by_help words [] front = asked (help front)
+by_help words (word ∷ more) front = misused (after_help front)
+
+-- a first word that is none of those before
+record IsOther (word : List ℕ) : Type 0 where
+  help : bytes_eq word (codes "--help") ≡ false
+  utc : bytes_eq word (codes "utc") ≡ false
+  unix : bytes_eq word (codes "unix") ≡ false
+  at : bytes_eq word (codes "at") ≡ false
+  check : bytes_eq word (codes "check") ≡ false
+
+unknown : (word : List ℕ) → IsOther word → bytes_eq word (codes "since") ≡ false → bytes_eq word (codes "until") ≡ false
+    → list_any (bytes_eq word) first_words ≡ false
+unknown word h s u = rw (h.help, h.utc, h.unix, h.at, h.check, s, u) refl
+
+after_since : (word : List ℕ) (more : List (List ℕ)) (b : Bool) → IsOther word → bytes_eq word (codes "since") ≡ false → bytes_eq word (codes "until") ≡ b
+    → Outcome (word ∷ more) (result_map_both Work (λ misuse. misuse)
+    (if b then result_map_both Until (λ misuse. misuse) (bound_of more) else Err UnknownWord))
+after_since word more true h s e = by_bound word more Until (until (same_word word (codes "until") e))
+after_since word more false h s e = misused (unknown_word refl (unknown word h s e))
+
+by_bounded : (word : List ℕ) (more : List (List ℕ)) (b : Bool) → IsOther word → bytes_eq word (codes "since") ≡ b
+    → Outcome (word ∷ more) (result_map_both Work (λ misuse. misuse)
+    (if b then result_map_both Since (λ misuse. misuse) (bound_of more)
+    else (if bytes_eq word (codes "until") then result_map_both Until (λ misuse. misuse) (bound_of more) else Err UnknownWord)))
+by_bounded word more true h e = by_bound word more Since (since (same_word word (codes "since") e))
+by_bounded word more false h e = after_since word more (bytes_eq word (codes "until")) h e refl
+
+by_words : (word : List ℕ) (more : List (List ℕ)) → IsOther word
+    → Outcome (word ∷ more) (result_map_both Work (λ misuse. misuse) (bounded_words word more))
+unfolding bounded_words
+by_words word more h = by_bounded word more (bytes_eq word (codes "since")) h refl
+
+by_check : (word : List ℕ) (more : List (List ℕ)) (b : Bool) → bytes_eq word (codes "--help") ≡ false → bytes_eq word (codes "utc") ≡ false
+    → bytes_eq word (codes "unix") ≡ false → bytes_eq word (codes "at") ≡ false → bytes_eq word (codes "check") ≡ b
+    → Outcome (word ∷ more) (result_map_both Work (λ misuse. misuse)
+    (if b then result_map_both Check (λ misuse. misuse) (strictness more) else bounded_words word more))
+by_check word more true no_help no_utc no_unix no_at e = by_strictness (word ∷ more) more Check (check (same_first word (codes "check") more e))
+by_check word more false no_help no_utc no_unix no_at e =
+    by_words word more (record { help = no_help; utc = no_utc; unix = no_unix; at = no_at; check = e })
+
+by_at_word : (word : List ℕ) (more : List (List ℕ)) (b : Bool) → bytes_eq word (codes "--help") ≡ false → bytes_eq word (codes "utc") ≡ false
+    → bytes_eq word (codes "unix") ≡ false → bytes_eq word (codes "at") ≡ b
+    → Outcome (word ∷ more) (result_map_both Work (λ misuse. misuse)
+    (if b then at_offset more
+    else (if bytes_eq word (codes "check") then result_map_both Check (λ misuse. misuse) (strictness more) else bounded_words word more)))
+by_at_word word more true no_help no_utc no_unix e = by_at (word ∷ more) more (same_first word (codes "at") more e)
+by_at_word word more false no_help no_utc no_unix e = by_check word more (bytes_eq word (codes "check")) no_help no_utc no_unix e refl
+
+by_unix : (word : List ℕ) (more : List (List ℕ)) (b : Bool) → bytes_eq word (codes "--help") ≡ false → bytes_eq word (codes "utc") ≡ false
+    → bytes_eq word (codes "unix") ≡ b
+    → Outcome (word ∷ more) (result_map_both Work (λ misuse. misuse)
+    (if b then result_map_both (Write Unix) (λ misuse. misuse) (strictness more)
+    else (if bytes_eq word (codes "at") then at_offset more
+    else (if bytes_eq word (codes "check") then result_map_both Check (λ misuse. misuse) (strictness more) else bounded_words word more))))
+by_unix word more true no_help no_utc e = by_strictness (word ∷ more) more (Write Unix) (unix (same_first word (codes "unix") more e))
+by_unix word more false no_help no_utc e = by_at_word word more (bytes_eq word (codes "at")) no_help no_utc e refl
+
+by_utc : (word : List ℕ) (more : List (List ℕ)) (b : Bool) → bytes_eq word (codes "--help") ≡ false → bytes_eq word (codes "utc") ≡ b
+    → Outcome (word ∷ more) (result_map_both Work (λ misuse. misuse)
+    (if b then result_map_both (Write Utc) (λ misuse. misuse) (strictness more)
+    else (if bytes_eq word (codes "unix") then result_map_both (Write Unix) (λ misuse. misuse) (strictness more)
+    else (if bytes_eq word (codes "at") then at_offset more
+    else (if bytes_eq word (codes "check") then result_map_both Check (λ misuse. misuse) (strictness more) else bounded_words word more)))))
+by_utc word more true no_help e = by_strictness (word ∷ more) more (Write Utc) (utc (same_first word (codes "utc") more e))
+by_utc word more false no_help e = by_unix word more (bytes_eq word (codes "unix")) no_help e refl
+
+by_task : (word : List ℕ) (more : List (List ℕ)) → bytes_eq word (codes "--help") ≡ false
+    → Outcome (word ∷ more) (result_map_both Work (λ misuse. misuse) (task_asked word more))
+unfolding task_asked
+by_task word more no_help = by_utc word more (bytes_eq word (codes "utc")) no_help refl
+
+by_first : (word : List ℕ) (more : List (List ℕ)) (b : Bool) → bytes_eq word (codes "--help") ≡ b
+    → Outcome (word ∷ more) (if b then help_asked more else result_map_both Work (λ misuse. misuse) (task_asked word more))
+by_first word more true e = by_help (word ∷ more) more (same_first word (codes "--help") more e)
+by_first word more false e = by_task word more e
+
+outcome : (words : List (List ℕ)) → Outcome words (request_of words)
+unfolding request_of
+outcome [] = misused (no_word refl)
+outcome (word ∷ more) = by_first word more (bytes_eq word (codes "--help")) refl
+
+taken_request : (words : List (List ℕ)) (request : Request) → Outcome words (Ok request) → RequestWords words request
+taken_request words request (asked h) = h
+
+taken_misuse : (words : List (List ℕ)) (misuse : Misuse) → Outcome words (Err misuse) → MisuseWords words misuse
+taken_misuse words misuse (misused h) = h
+
+-- ---- the way back
+
+neither : (a b : Bool) → (a || b) ≡ false → (a ≡ false) × (b ≡ false)
+neither true b e = absurd cc
+neither false b e = (refl, e)
+
+strict_task : (words more : List (List ℕ)) (work : Bool → Task) (found : Result Bool Misuse) → FrontWords words more work → strictness more ≡ found
+    → request_of words ≡ result_map_both Work (λ misuse. misuse) (result_map_both work (λ misuse. misuse) found)
+unfolding request_of task_asked
+strict_task words more work found (utc e) s = rw (e, s) refl
+strict_task words more work found (unix e) s = rw (e, s) refl
+strict_task words more work found (at e read) s = rw (e, read, s) refl
+strict_task words more work found (check e) s = rw (e, s) refl
+
+strict_is : (more : List (List ℕ)) (is_strict : Bool) → StrictWords more is_strict → strictness more ≡ Ok is_strict
+strict_is more is_strict (lenient e) = rw e refl
+strict_is more is_strict (strict e) = rw e refl
+
+-- the strictness of one flag
+abbrev strict_if : Bool → Result Bool Misuse
+strict_if b = if b then Ok true else Err Extra
+
+flag_is_extra : (flag : List ℕ) (b : Bool) → bytes_eq flag (codes "--strict") ≡ b → ¬ (flag ∷ [] ≡ codes "--strict" ∷ [])
+    → strict_if b ≡ Err Extra
+flag_is_extra flag true e none = absurd (none (same_first flag (codes "--strict") [] e))
+flag_is_extra flag false e none = refl
+
+extra_is : (word : List ℕ) (more : List (List ℕ)) → ¬ (word ∷ more ≡ codes "--strict" ∷ []) → strictness (word ∷ more) ≡ Err Extra
+extra_is word [] none = flag_is_extra word (bytes_eq word (codes "--strict")) refl none
+extra_is word (other ∷ more) none = refl
+
+bound_is : (words : List (List ℕ)) (word : List ℕ) (more : List (List ℕ)) (work : ℤ → Task) → BoundWord word work → words ≡ word ∷ more
+    → request_of words ≡ result_map_both Work (λ misuse. misuse) (result_map_both work (λ misuse. misuse) (bound_of more))
+unfolding request_of task_asked bounded_words
+bound_is words word more work (since w) e = rw (e, w) refl
+bound_is words word more work (until w) e = rw (e, w) refl
+
+pub request_is : (words : List (List ℕ)) (request : Request) → RequestWords words request → request_of words ≡ Ok request
+unfolding request_of
+request_is words request (help e) = rw e refl
+request_is words request (task {work = work} {more = more} {is_strict = b} front h) =
+    strict_task words more work (Ok b) front (strict_is more b h)
+request_is words request (bounded {work = work} {word = word} {text = text} {bound = bound} h e read) =
+    bound_is words word (text ∷ []) work h e ∙ rw (read.instant, read.not_finer) refl
+
+not_first : (word known : List ℕ) (others : List (List ℕ)) → list_any (bytes_eq word) (known ∷ others) ≡ false
+    → (bytes_eq word known ≡ false) × (list_any (bytes_eq word) others ≡ false)
+not_first word known others e = neither (bytes_eq word known) (list_any (bytes_eq word) others) e
+
+after_at : List (List ℕ)
+after_at = codes "check" ∷ codes "since" ∷ codes "until" ∷ []
+
+unknown_is : (words : List (List ℕ)) (word : List ℕ) (more : List (List ℕ)) → words ≡ word ∷ more → list_any (bytes_eq word) first_words ≡ false
+    → request_of words ≡ Err UnknownWord
+unfolding request_of task_asked bounded_words after_at
+unknown_is words word more e none =
+    let one = not_first word (codes "--help") (codes "utc" ∷ codes "unix" ∷ codes "at" ∷ after_at) none in
+    let two = not_first word (codes "utc") (codes "unix" ∷ codes "at" ∷ after_at) one.1 in
+    let three = not_first word (codes "unix") (codes "at" ∷ after_at) two.1 in
+    let four = not_first word (codes "at") after_at three.1 in
+    let five = not_first word (codes "check") (codes "since" ∷ codes "until" ∷ []) four.1 in
+    let six = not_first word (codes "since") (codes "until" ∷ []) five.1 in
+    let seven = not_first word (codes "until") [] six.1 in
+    rw (e, one.0, two.0, three.0, four.0, five.0, six.0, seven.0) refl
+
+pub misuse_is : (words : List (List ℕ)) (misuse : Misuse) → MisuseWords words misuse → request_of words ≡ Err misuse
+unfolding request_of task_asked
+misuse_is words misuse (no_word e) = rw e refl
+misuse_is words misuse (unknown_word {word = word} {more = more} e none) = unknown_is words word more e none
+misuse_is words misuse (no_offset e) = rw e refl
+misuse_is words misuse (offset e read) = rw (e, read) refl
+misuse_is words misuse (no_instant {work = work} {word = word} h e) = bound_is words word [] work h e
+misuse_is words misuse (instant {work = work} {word = word} {text = text} {more = more} h e read) =
+    bound_is words word (text ∷ more) work h e ∙ rw read refl
+misuse_is words misuse (too_fine {work = work} {word = word} {text = text} {more = more} h e read finer) =
+    bound_is words word (text ∷ more) work h e ∙ rw (read, finer) refl
+misuse_is words misuse (after_help e) = rw e refl
+misuse_is words misuse (after_task {work = work} {word = word} {more = more} front none) =
+    strict_task words (word ∷ more) work (Err Extra) front (extra_is word more none)
+misuse_is words misuse (after_bound {work = work} {word = word} {text = text} {other = other} {more = more} h e read) =
+    bound_is words word (text ∷ other ∷ more) work h e ∙ rw (read.instant, read.not_finer) refl
+
+-- ---- both ways
+
+pub request_found : (words : List (List ℕ)) (request : Request) → request_of words ≡ Ok request → RequestWords words request
+request_found words request e = taken_request words request (subst (Outcome words) e (outcome words))
+
+pub misuse_found : (words : List (List ℕ)) (misuse : Misuse) → request_of words ≡ Err misuse → MisuseWords words misuse
+misuse_found words misuse e = taken_misuse words misuse (subst (Outcome words) e (outcome words))
