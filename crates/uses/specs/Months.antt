@@ -1,7 +1,7 @@
 -- Days of months, as invoices name them.
 use Rattle.std.specs.Prelude.{ℕ, ℤ, pos, ◌+ℤ◌, ◌==◌, if◌then◌else◌, min}
 use Rattle.calendar_values.specs.Calendar.{is_leap_year, days_in_month, day_of_calendar_date}
-use Rattle.plain_times.specs.Months.{last_of_month}
+use Rattle.calendar_values.specs.Months.{last_of_month}
 
 -- the day of a month, or the month's last day where it is shorter
 abbrev pub day_or_last : ℤ → ℕ → ℕ → ℤ

@@ -1,5 +1,4 @@
 //! Months that are billed, by the clocks of the customer.
-#![tactic(auto, using(calendar_values::specs::Constants::constants, plain_times::specs::MonthLemmas::month_days, plain_times::specs::MonthLemmas::next_months))]
 
 ghost use Rattle.std.specs.Prelude.{◌≡◌, ◌<◌, ◌≤◌, ◌+◌, ◌+ℤ◌, pos, IfOk, IfSome, SomeIff};
 ghost use Rattle.calendar_values.specs.Calendar.{year_of, month_of, day_of_month_of};

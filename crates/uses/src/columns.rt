@@ -10,7 +10,7 @@ ghost use Rattle.calendar_values.specs.Weekday.{weekday_number};
 use calendar_values::{ComponentRange, Date, Part, Time, Weekday, day_and_second};
 use plain_times::PlainDateTime;
 
-/// What a column of dates stores: the days since 1970-01-01.
+/// The number that a column of dates stores: the days since 1970-01-01.
 pub fn stored_date(date: Date) -> i32
     ensures { result ≡ date }
 {
@@ -38,7 +38,7 @@ pub fn in_order(first: Date, second: Date) -> bool
     first.days_since_epoch() <= second.days_since_epoch()
 }
 
-/// What a column of seconds stores of a time of day: finer parts are left out.
+/// The number that a column of seconds stores for a time of day, without finer parts.
 pub fn stored_second(time: Time) -> i32
     ensures { result ≡ pos (time / nanos_per_second) }
 {
@@ -89,7 +89,7 @@ pub fn time_by_default() -> Time
     Time::at_second_of_day(29_700, 0)
 }
 
-/// The time of day that stands for an end that is open: the last whole second.
+/// The time of day of an open end: the last whole second.
 pub fn last_whole_second() -> Time
     ensures hour { hour_of result ≡ 23 }
     ensures minute { minute_of result ≡ 59 }
@@ -104,7 +104,7 @@ pub fn date_by_default() -> Date
     Date::at_ordinal_date(2_000, 1)
 }
 
-/// What a column of nanoseconds stores of a time of day.
+/// The number that a column of nanoseconds stores for a time of day.
 pub fn stored_nanosecond(time: Time) -> i64
     ensures { result ≡ pos time }
 {

@@ -18,7 +18,7 @@ pub fn started_at(first: Option<UtcDateTime>) -> UtcDateTime
     first.unwrap_or(UtcDateTime::UNIX_EPOCH)
 }
 
-/// When something expires: the last instant of the range stands for never.
+/// The expiry of something: the last instant of the range means never.
 pub fn expires_or_never(expires: Option<UtcDateTime>) -> UtcDateTime
     ensures some { IfSome expires (λ at. result ≡ at) }
     ensures none { IfNone expires (result ≡ last_wall_clock) }
@@ -79,7 +79,7 @@ pub fn is_stamp_after_epoch(at: Timestamp) -> bool
     at > Timestamp::UNIX_EPOCH
 }
 
-/// Whether the timestamp is the last, which stands for never.
+/// Whether the timestamp is the last, which means never.
 pub fn is_never(at: Timestamp) -> bool
     ensures { IsTrue result ↔ (at ≡ last_wall_clock) }
 {

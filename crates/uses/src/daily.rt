@@ -1,5 +1,4 @@
 //! Work that is done each day at 9:00.
-#![tactic(auto)]
 
 ghost use Rattle.std.specs.Prelude.{◌≡◌, ◌*◌, ◌+ℤ◌, ◌≤ℤ◌, ◌<ℤ◌, pos, IfSome};
 ghost use Rattle.calendar_values.specs.Clock.{nanos_per_day, nanos_per_hour};
@@ -35,7 +34,6 @@ pub fn run_today(now: OffsetDateTime) -> Option<OffsetDateTime>
 }
 
 /// The run after a run: the same time tomorrow, by the same clocks. None outside the range.
-#[tactic(auto, using(plain_times::specs::DaysLaterLemmas::days_later))]
 pub fn run_after(run: OffsetDateTime) -> Option<OffsetDateTime>
     ensures offset { IfSome result (λ next. next.offset ≡ run.offset) }
     ensures time { IfSome result (λ next. wall_time next.wall ≡ wall_time run.wall) }

@@ -31,7 +31,6 @@ pub fn is_day(field: &[u8]) -> bool
 }
 
 /// The same by the numbers of the field.
-#[tactic(auto, using(rfc3339::specs::ReadingLemmas::readings))]
 pub fn has_day(field: &[u8]) -> bool
     ensures numbers { (year month day : ℕ) → IsFullDate field.now year month day →
         result ≡ is_ok (full_date_meaning year month day) }

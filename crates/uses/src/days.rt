@@ -1,12 +1,11 @@
 //! Days that are counted.
-#![tactic(auto, using(calendar_values::specs::Constants::constants, calendar_values::specs::WeekLemmas::weekdays, calendar_values::specs::MonthNumberLemmas::months))]
 
 ghost use Rattle.std.specs.Prelude.{◌≡◌, ◌↔◌, ◌<◌, ◌≤◌, ◌+◌, ◌+ℤ◌, ◌-ℤ◌, ◌*ℤ◌, ◌≤ℤ◌, ◌<ℤ◌, pos, IfSome, IsTrue, SomeIff};
 ghost use Rattle.calendar_values.specs.Calendar.{days_in_month, is_leap_year, year_of, month_of, day_of_month_of};
 ghost use Rattle.calendar_values.specs.Clock.{hour_of, minute_of};
 ghost use Rattle.calendar_values.specs.Range.{IsDay};
 ghost use Rattle.calendar_values.specs.Weekday.{weekday_number};
-ghost use Rattle.calendar_values.specs.Weeks.{iso_week_of, iso_year_of, weekday_of};
+ghost use Rattle.calendar_values.specs.Weeks.{iso_week_of, iso_year_of, monday_of, weekday_of, weeks_in_year};
 
 use calendar_values::{Date, Month, SignedDuration, Time, Weekday, days_in_month};
 
@@ -58,7 +57,8 @@ pub fn at_half_past(time: Time) -> Time
     time.replace_minute(30).unwrap()
 }
 
-/// The day of the week so many weeks later, or earlier for a negative number, in the range or not.
+/// The day of the week a number of weeks later, or earlier for a negative number, in the range or
+/// not.
 pub fn weekday_weeks_later(date: Date, weeks: i32) -> Weekday
     ensures { weekday_number result ≡ weekday_of (date +ℤ weeks *ℤ pos 7) }
 {
@@ -66,7 +66,7 @@ pub fn weekday_weeks_later(date: Date, weeks: i32) -> Weekday
     date.weekday()
 }
 
-/// So many days before the date, or None before the range.
+/// The day a number of days before the date, or None before the range.
 pub fn days_before(date: Date, days: u8) -> Option<Date>
     ensures { IfSome result (λ earlier. earlier ≡ date -ℤ pos days) }
 {
@@ -81,7 +81,7 @@ pub fn monday_of(date: Date) -> Option<Date>
     days_before(date, date.weekday().number_days_from_monday())
 }
 
-/// So many days after the date, or None past the range.
+/// The day a number of days after the date, or None past the range.
 pub fn days_after(date: Date, days: u8) -> Option<Date>
     ensures { IfSome result (λ later. later ≡ date +ℤ pos days) }
 {
@@ -132,4 +132,19 @@ pub fn days_left_in_its_month(date: Date) -> u8
         days_in_month (is_leap_year (year_of date)) (month_of date) }
 {
     days_in_month(date.year(), date.month()) - date.day()
+}
+
+/// The Monday of the week of a date, by the number of the week.
+pub fn monday_by_week(date: Date) -> Option<Date>
+    ensures { IfSome result (λ monday. monday ≡ monday_of date) }
+{
+    let (year, week, _) = date.to_iso_week_date();
+    Some(Date::from_iso_week_date(year, week, Weekday::Monday).ok()?)
+}
+
+/// Whether the year has a week 53: then it has 53 weeks.
+pub fn has_week_53(year: i32) -> bool
+    ensures { IsTrue result → weeks_in_year year ≡ 53 }
+{
+    Date::from_iso_week_date(year, 53, Weekday::Monday).is_ok()
 }

@@ -85,7 +85,7 @@ pub fn rewritten(stamp: &[u8]) -> Result<Text, TextRefusal>
     Ok(parse_rfc3339(stamp)?.to_rfc3339().unwrap())
 }
 
-/// What the receiver reads of a date-time that is sent: it, offset included.
+/// The date-time that the receiver reads: the one that was sent, offset included.
 pub fn received(sent: OffsetDateTime) -> Option<OffsetDateTime>
     ensures { SomeIff result (HasText sent) sent }
 {

@@ -9,7 +9,8 @@ use utc_times::UtcDateTime;
 // The most days that a duration has.
 const MOST_DAYS: u64 = 106_751_991_167_300;
 
-/// The instant so many days after the issue, or None where the range has no such instant.
+/// The instant a number of days after the issue, or None if it is out of range.
+#[tactic(auto, using(calendar_values::specs::Constants::constants))]
 pub fn expires_at(issued: UtcDateTime, days: i64) -> Option<UtcDateTime>
     ensures { let at = issued +ℤ (days *ℤ pos nanos_per_day) in SomeIff result (IsWallClock at) at }
 {
@@ -35,7 +36,7 @@ pub fn tomorrow(at: UtcDateTime) -> Option<UtcDateTime>
     Some(at + day)
 }
 
-/// The end of a lease: exactly so much later where the range has it.
+/// The end of a lease: exactly later by its term, if that is in range.
 pub fn lease_end(from: UtcDateTime, lasts: SignedDuration) -> UtcDateTime
     ensures exact { IsWallClock (from +ℤ lasts) → result ≡ from +ℤ lasts }
     ensures at_the_end { last_wall_clock <ℤ (from +ℤ lasts) → result ≡ last_wall_clock }
@@ -57,7 +58,7 @@ pub fn since_ever(until: UtcDateTime) -> UtcDateTime
     until.saturating_sub(SignedDuration::MAX)
 }
 
-/// So many minutes later, or None past the range.
+/// The instant a number of minutes later, or None past the range.
 pub fn minutes_later(at: UtcDateTime, minutes: u16) -> Option<UtcDateTime>
     ensures { IfSome result (λ later. later ≡ at +ℤ pos (minutes * nanos_per_minute)) }
 {

@@ -1,6 +1,6 @@
 //! Texts for other systems, and of them: columns of milliseconds, lines that begin with a date-time, leap seconds, and where a
 //! text is wrong.
-ghost use Rattle.std.specs.Prelude.{◌≡◌, ◌≤◌, ◌==◌, ◌++◌, ℕ, List, SomeIff, OkIff, IfOk, Ok, Some, true, false, length};
+ghost use Rattle.std.specs.Prelude.{◌≡◌, ◌≤◌, ◌==◌, ◌++◌, ℕ, List, SomeIff, OkIff, IfOk, IfSome, Ok, Some, true, false, length};
 ghost use Rattle.calendar_values.specs.WallClock.{IsInstant};
 ghost use Rattle.offset_times.specs.Local.{Local, instant_of};
 ghost use Rattle.rfc3339.specs.Form.{IsDateTime};
@@ -23,7 +23,7 @@ pub fn column_of_milliseconds(at: OffsetDateTime) -> Option<Text>
     to_rfc3339_digits(at, 3)
 }
 
-/// What of a text can stand in front of a date-time: a message marks what follows.
+/// The part of a text that may begin a date-time: a message marks the rest.
 pub fn before_the_fault(text: &[u8]) -> &[u8]
     ensures { (rest : List ℕ) × (p : Parts) × IsDateTime (result.now ++ rest) p }
 {
@@ -39,7 +39,7 @@ pub fn stamp_of(line: &[u8]) -> Result<(OffsetDateTime, usize), TextRefusal>
     parse_rfc3339_front(line)
 }
 
-/// What of a line follows its date-time: all of it where it begins with none.
+/// The part of a line after its date-time: all of it if it begins with none.
 pub fn after_the_stamp(line: &[u8]) -> &[u8]
     ensures { length result.now ≤ length line.now }
 {
@@ -49,7 +49,7 @@ pub fn after_the_stamp(line: &[u8]) -> &[u8]
     }
 }
 
-/// What a text of another system means whose second may be 60, and whether it is.
+/// The date-time of a text of another system whose second may be 60, and whether it is.
 pub fn with_leap_second(text: &[u8]) -> Option<(OffsetDateTime, bool)>
     ensures value { (p : Parts) → IsDateTime text.now p → SomeIff result
         (AreInLeapRange p) (value_of (stand_in p), p.second == 60) }
@@ -77,4 +77,37 @@ pub fn entry_of(text: &[u8]) -> Result<Entry, TextRefusal>
 {
     let (at, is_leap) = parse_rfc3339_leap(text)?;
     Ok(Entry { at, is_leap })
+}
+
+/// The part of a line after its date-time. None if it begins with none.
+pub fn words_of(line: &[u8]) -> Option<&[u8]>
+    ensures { IfSome result (λ words.
+        (stamp : List ℕ) × (p : Parts) × IsDateTime stamp p × (line.now ≡ stamp ++ words.now)) }
+{
+    let Ok((_, count)) = parse_rfc3339_front(line) else {
+        return None;
+    };
+    Some(&line[count..])
+}
+
+/// The date-time that a line begins with. None if it begins with none.
+pub fn date_time_of(line: &[u8]) -> Option<OffsetDateTime>
+    ensures { IfSome result (λ at. (stamp : List ℕ) × (rest : List ℕ) × (p : Parts) ×
+        (line.now ≡ stamp ++ rest) × IsDateTime stamp p × (at ≡ value_of p)) }
+{
+    let Ok((at, _)) = parse_rfc3339_front(line) else {
+        return None;
+    };
+    Some(at)
+}
+
+/// The instant of a text whose second may be 60.
+pub fn instant_of_leap(text: &[u8]) -> Option<OffsetDateTime>
+    ensures { IfSome result (λ at.
+        (p : Parts) × IsDateTime text.now p × (at ≡ value_of (stand_in p))) }
+{
+    let Ok((at, _)) = parse_rfc3339_leap(text) else {
+        return None;
+    };
+    Some(at)
 }

@@ -1,23 +1,20 @@
 //! Days on which invoices are due.
-#![tactic(auto, using(calendar_values::specs::MonthNumberLemmas::months))]
 
 ghost use Rattle.std.specs.Prelude.{◌≡◌, ◌≤◌, if◌then◌else◌, nat_lt, ◌==◌, ◌||◌, SomeIff, OkIff, IfErr, codes};
 ghost use Rattle.calendar_values.specs.Calendar.{day_of_calendar_date, year_of, month_of, day_of_month_of};
 ghost use Rattle.calendar_values.specs.Month.{month_number};
 ghost use Rattle.calendar_values.specs.Range.{IsYear, IsDay};
 ghost use Rattle.calendar_values.specs.Refusals.{IsDateOfRange, date_refusal, outright_refusal};
-ghost use Rattle.plain_times.specs.Months.{last_of_month};
+ghost use Rattle.calendar_values.specs.Months.{last_of_month};
 ghost use Rattle.uses.specs.Months as months;
 
 use calendar_values::{ComponentRange, Date, Month, days_in_month};
 
 /// The last day of the date's month.
-#[tactic(auto, using(calendar_values::specs::MonthNumberLemmas::months), unfolding(plain_times::specs::Months::last_of_month))]
 pub fn last_day_of_month(date: Date) -> Date
     ensures { result ≡ last_of_month date }
 {
-    date.replace_day(days_in_month(date.year(), date.month()))
-        .unwrap()
+    date.last_of_month()
 }
 
 /// The day of a month, or the month's last day where it is shorter. Refused `year` outside the range.

@@ -1,7 +1,8 @@
 //! Callers of the library, as its readers would write them: each with a contract in the words of the
 //! definitions, and none with a proof of its own.
-#![tactic(auto, using(calendar_values::specs::Constants::constants, offset_times::specs::InstantLemmas::instants))]
+#![tactic(auto, using(rfc3339::specs::Callers::callers))]
 
+pub mod any_moments;
 pub mod audit;
 pub mod batches;
 pub mod billing;
@@ -10,8 +11,6 @@ pub mod constants;
 pub mod daily;
 pub mod date_texts;
 pub mod days;
-#[cfg(test)]
-mod examples;
 pub mod exchange;
 pub mod expiry;
 pub mod fronts;
@@ -23,6 +22,7 @@ pub mod milliseconds;
 pub mod moments;
 pub mod months;
 pub mod offsets;
+pub mod patterns;
 pub mod periods;
 pub mod programs;
 pub mod replays;
@@ -30,8 +30,8 @@ pub mod reports;
 pub mod retry;
 pub mod seen;
 pub mod shown;
-#[cfg(test)]
-mod tests;
 pub mod timeouts;
 pub mod values;
+pub mod wholes;
 pub mod windows;
+pub mod words;

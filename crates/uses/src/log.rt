@@ -1,19 +1,18 @@
 //! A log in the order of instants.
-#![tactic(auto, using(calendar_values::specs::Constants::constants, stamp_times::specs::LogLemmas::without_repeats))]
 
 ghost use Rattle.std.specs.Prelude.{◌≡◌, ◌↔◌, ◌-ℤ◌, ◌<ℤ◌, ℤ, All, IsSortedByKey, true, ◌++◌, [], ◌∷◌, Contains, IfOk, IfSome, IsPermutation};
 ghost use Rattle.std.specs.Prelude.{IsSorted, IsTrue, OnOk, if◌then◌else◌};
 ghost use Rattle.std.specs.List.{HoldsAt};
 ghost use Rattle.std.specs.List.Sorted.{IsStrictlySortedBy};
-ghost use Rattle.std.specs.Ordering.{int_cmp};
+ghost use Rattle.std.specs.Ordering.{int_cmp, on};
 ghost use Rattle.std.specs.declared.cmp.Ordering.TheVariants.{Equal};
 ghost use Rattle.calendar_values.specs.WallClock.{IsWallClock};
-ghost use Rattle.offset_times.specs.Local.{IsLocal};
+ghost use Rattle.offset_times.specs.Local.{IsLocal, instant_of};
 
 use calendar_values::SignedDuration;
 use offset_times::OffsetDateTime;
 use plain_times::PlainDateTime;
-use stamp_times::logs::Stamped;
+use stamp_times::logs::{Dated, Stamped};
 use stamp_times::{Timestamp, logs};
 use std::alloc::AllocError;
 use std::hash::Hash;
@@ -27,7 +26,7 @@ pub fn sort(entries: &mut Vec<UtcDateTime>) -> Result<(), AllocError>
     entries.sort()
 }
 
-/// Where an entry of that instant stands in a sorted log.
+/// The place of an entry of that instant in a sorted log.
 pub fn position(entries: &[UtcDateTime], at: UtcDateTime) -> Option<usize>
     ensures { IfSome result (HoldsAt (λ entry. int_cmp entry at ≡ Equal) entries.now) }
 {
@@ -54,7 +53,7 @@ pub fn has(entries: &[Timestamp], at: Timestamp) -> bool
     logs::find(entries, at).is_some()
 }
 
-/// Enters an instant in a log in which each stands once, whether it is new or not.
+/// Enters an instant in a log that has each instant once, whether it is new or not.
 pub fn enter(log: &mut Vec<Timestamp>, at: Timestamp) -> Result<(), AllocError>
     requires { IsStrictlySortedBy int_cmp log.old.items }
     ensures in_order { IsStrictlySortedBy int_cmp log.new.items }
@@ -65,7 +64,7 @@ pub fn enter(log: &mut Vec<Timestamp>, at: Timestamp) -> Result<(), AllocError>
     Ok(())
 }
 
-/// Enters the two ends of a shift in a log in which each instant stands once.
+/// Enters the two ends of a shift in a log that has each instant once.
 pub fn enter_shift(
     log: &mut Vec<Timestamp>,
     from: Timestamp,
@@ -107,7 +106,17 @@ pub fn is_news(log: &[Timestamp], at: Timestamp) -> bool
     logs::last(log).is_none_or(|last| last < at)
 }
 
-/// How long it is from the earliest of the entries to the latest, in whatever order they stand.
+/// Takes an instant out of a log that has each instant once. Whether it was there.
+pub fn withdraw(log: &mut Vec<Timestamp>, at: Timestamp) -> bool
+    requires { IsStrictlySortedBy int_cmp log.old.items }
+    ensures in_order { IsStrictlySortedBy int_cmp log.new.items }
+    ensures gone { ¬ Contains log.new.items at }
+    ensures was_there { IsTrue result ↔ Contains log.old.items at }
+{
+    logs::remove(log, at)
+}
+
+/// The duration from the earliest of the entries to the latest, in any order.
 pub fn span(entries: &[Timestamp]) -> Option<SignedDuration>
     ensures { IfSome result (λ span. (first : ℤ) × (last : ℤ) × Contains entries.now first ×
         Contains entries.now last × (span ≡ last -ℤ first)) }
@@ -132,12 +141,36 @@ impl Stamped for Entry {
     }
 }
 
-/// Puts lines into the order of their stamps; lines of one instant stay as they stood.
+/// Puts lines into the order of their stamps; lines of one instant keep their order.
 pub fn sort_lines(lines: &mut Vec<Entry>) -> Result<(), AllocError>
     ensures same_lines { IsPermutation lines.old.items lines.new.items }
     ensures in_order { OnOk result (IsSortedByKey (λ line. line.at) int_cmp lines.new.items) }
 {
     logs::sort_by_stamp(lines)
+}
+
+/// A sale, with the date-time where it was made.
+#[derive(Clone, Copy)]
+pub struct Sale {
+    pub at: OffsetDateTime,
+    pub price: u32,
+}
+
+impl Dated for Sale {
+    ghost date_time = { λ sale. sale.at };
+
+    fn date_time(&self) -> OffsetDateTime {
+        self.at
+    }
+}
+
+/// Puts sales into the order of their instants, wherever they were made; those of one instant keep their order.
+pub fn sort_sales(sales: &mut Vec<Sale>) -> Result<(), AllocError>
+    ensures same_sales { IsPermutation sales.old.items sales.new.items }
+    ensures in_order { OnOk result
+        (IsSortedByKey (λ sale. sale.at) (on instant_of int_cmp) sales.new.items) }
+{
+    logs::sort_by_date_time(sales)
 }
 
 /// Entries under one key of a hash table that compares what its hasher was fed are one instant, in whatever

@@ -7,8 +7,8 @@ ghost use Rattle.offset_times.specs.Local.{instant_of, shown_at, local_at};
 use calendar_values::{ComponentRange, UtcOffset};
 use offset_times::OffsetDateTime;
 
-/// What clocks at the offset show at the meeting. Refused `offset_seconds`, conditionally, where it would be
-/// a date outside the range: other meetings can be shown there.
+/// The meeting at the offset. Refused `offset_seconds`, conditionally, if the date there is out of range:
+/// other meetings have a date there.
 pub fn shown_to(
     meeting: OffsetDateTime,
     offset: UtcOffset,

@@ -1,5 +1,4 @@
 //! The next midnight in UTC.
-#![tactic(auto, using(calendar_values::specs::WallClockLemmas::wall_clock_parts))]
 
 ghost use Rattle.std.specs.Prelude.{◌≡◌, ◌+ℤ◌, ◌≤ℤ◌, ◌<ℤ◌, pos, IfSome, IfNone};
 ghost use Rattle.calendar_values.specs.Clock.{nanos_per_day};

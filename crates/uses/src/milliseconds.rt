@@ -1,11 +1,13 @@
 //! Instants as a browser counts them: Unix milliseconds.
-ghost use Rattle.std.specs.Prelude.{◌≡◌, IfSome};
+ghost use Rattle.std.specs.Prelude.{◌≡◌, ◌≤ℤ◌, ◌<ℤ◌, ◌+ℤ◌, pos, IfSome};
+ghost use Rattle.calendar_values.specs.WallClock.{unix_seconds_of};
 ghost use Rattle.offset_times.specs.Local.{instant_of};
 ghost use Rattle.stamp_times.specs.Instants.{instant_of_milliseconds, unix_milliseconds_of};
 
 use calendar_values::UtcOffset;
 use offset_times::OffsetDateTime;
 use stamp_times::{Timestamp, ToTimestamp};
+use utc_times::UtcDateTime;
 
 /// The instant of Unix milliseconds. None where the range has no such instant.
 pub fn stamp_of(milliseconds: i64) -> Option<Timestamp>
@@ -28,4 +30,20 @@ pub fn milliseconds_of(at: OffsetDateTime) -> Option<i64>
     ensures { IfSome result (λ count. count ≡ unix_milliseconds_of (instant_of at)) }
 {
     Some(at.checked_to_timestamp()?.as_milliseconds())
+}
+
+/// The Unix milliseconds of the hour of an instant: at most an hour of them before its own.
+pub fn hour_in_milliseconds(at: UtcDateTime) -> i64
+    ensures not_above { result ≤ℤ unix_milliseconds_of at }
+    ensures within { unix_milliseconds_of at <ℤ (result +ℤ pos 3_600_000) }
+{
+    Timestamp::from(at.truncate_to_hour()).as_milliseconds()
+}
+
+/// The Unix seconds of the day of an instant.
+pub fn day_in_seconds(at: UtcDateTime) -> i64
+    ensures not_above { result ≤ℤ unix_seconds_of at }
+    ensures within { unix_seconds_of at <ℤ (result +ℤ pos 86_400) }
+{
+    at.truncate_to_day().unix_timestamp()
 }

@@ -1,11 +1,10 @@
 //! Days that come each month or each year: a month that is too short has its last day in their place.
-#![tactic(auto, using(calendar_values::specs::Constants::constants, plain_times::specs::MonthLemmas::month_days))]
 
-ghost use Rattle.std.specs.Prelude.{◌≡◌, ◌≤◌, ◌<◌, ◌+◌, ◌+ℤ◌, ◌-ℤ◌, pos, min, IfOk, IfSome, IfNone, OkIff, SomeIff, neg_ℤ, ◌≤ℤ◌};
+ghost use Rattle.std.specs.Prelude.{◌≡◌, ◌≤◌, ◌<◌, ◌+◌, ◌+ℤ◌, ◌-ℤ◌, pos, min, IfOk, IfSome, IfNone, OkIff, SomeIff, neg_ℤ, ◌≤ℤ◌, ◌<ℤ◌};
 ghost use Rattle.calendar_values.specs.Calendar.{days_in_month, is_leap_year, year_of, month_of, day_of_month_of};
 ghost use Rattle.calendar_values.specs.Month.{month_number};
 ghost use Rattle.calendar_values.specs.Range.{IsYear};
-ghost use Rattle.plain_times.specs.Months.{month_index};
+ghost use Rattle.calendar_values.specs.Months.{last_of_month, month_index};
 ghost use Rattle.uses.specs.Months as months;
 
 use crate::invoices::{day_or_last, last_day_of_month};
@@ -38,14 +37,13 @@ pub fn a_year_later(date: Date) -> Option<Date>
     ensures year { IfSome result (λ later. year_of later ≡ year_of date +ℤ pos 1) }
     ensures month { IfSome result (λ later. month_of later ≡ month_of date) }
 {
-    match billing_day(year_after(date), date.month(), date.day()) {
+    match billing_day(date.year() + 1, date.month(), date.day()) {
         Ok(later) => Some(later),
         Err(_) => None,
     }
 }
 
 /// The first day of the next month. None in the last month of the range.
-#[tactic(auto, using(calendar_values::specs::Constants::constants, plain_times::specs::MonthLemmas::next_months))]
 pub fn next_month(date: Date) -> Option<Date>
     ensures month { IfSome result (λ first. month_index first ≡ month_index date +ℤ pos 1) }
     ensures first { IfSome result (λ first. day_of_month_of first ≡ 1) }
@@ -75,6 +73,30 @@ pub fn a_month_later(date: Date) -> Option<Date>
     Some(day_in_month_of(first, date.day()))
 }
 
+/// The same day a number of months later, or the last of a month that is shorter. None outside the range.
+pub fn renewal(date: Date, months: i32) -> Option<Date>
+    ensures month { IfSome result (λ later. month_index later ≡ month_index date +ℤ months) }
+    ensures same_day { IfSome result (λ later. day_of_month_of date ≤ 28 →
+        day_of_month_of later ≡ day_of_month_of date) }
+{
+    Some(date.checked_add_months(months)?)
+}
+
+/// The last day of the month before. None in the first month of the range.
+pub fn end_of_last_month(date: Date) -> Option<Date>
+    ensures { IfSome result (λ end. end <ℤ date) }
+{
+    Some(date.first_of_month().previous_day()?)
+}
+
+/// How many days of its month follow the date.
+pub fn days_left_in_month(date: Date) -> i32
+    ensures value { result ≡ last_of_month date -ℤ date }
+    ensures not_negative { pos 0 ≤ℤ result }
+{
+    date.last_of_month().to_julian_day() - date.to_julian_day()
+}
+
 /// The month after that of the date, in the same year. None after December.
 pub fn month_after(date: Date) -> Option<Month>
     ensures next { IfSome result (λ next. month_number next ≡ month_of date + 1) }
@@ -97,7 +119,7 @@ pub fn same_day_next_month(date: Date) -> Result<Date, ComponentRange>
 }
 
 /// The number of the month of a date, counted from January of the year 0.
-#[tactic(auto, using(plain_times::specs::MonthLemmas::month_days, calendar_values::specs::SignedArith::signed_casts))]
+#[tactic(auto, using(calendar_values::specs::MonthLemmas::month_days, calendar_values::specs::SignedArith::signed_casts))]
 pub fn month_number_from_year_0(date: Date) -> i32
     ensures value { result ≡ month_index date }
     ensures not_below { neg_ℤ (pos 13_000_000) ≤ℤ result }

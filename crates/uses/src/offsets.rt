@@ -45,7 +45,6 @@ pub fn shown_like(first: OffsetDateTime, second: OffsetDateTime) -> Option<Offse
 }
 
 /// The seconds from one offset to another, both given in seconds.
-#[tactic(auto, using(calendar_values::specs::OffsetPartLemmas::offsets_apart))]
 pub fn seconds_apart(there: i32, here: i32) -> i32
     requires there { IsOffset there }
     requires here { IsOffset here }
@@ -61,9 +60,8 @@ pub fn ahead(there: UtcOffset, here: UtcOffset) -> i32
     seconds_apart(there.whole_seconds(), here.whole_seconds())
 }
 
-/// What clocks here and there show at an instant: the one is as far ahead as the offsets are apart. None where
-/// one of them shows no date of the range.
-#[tactic(auto, using(calendar_values::specs::Constants::constants, offset_times::specs::InstantLemmas::instants, offset_times::specs::InstantLemmas::two_offsets))]
+/// The wall clocks of two offsets at an instant: they are as far apart as the offsets. None if the date of one is
+/// out of range.
 pub fn shown_in_both(
     at: Timestamp,
     here: UtcOffset,
@@ -92,8 +90,8 @@ pub fn put_back_at(first: OffsetDateTime, second: OffsetDateTime) -> Option<Offs
     first.checked_sub(first - second)
 }
 
-/// What was noted by clocks of another offset than was written down, put at that offset: the clocks stay, and the
-/// instant is that of the clocks there.
+/// A date-time with its offset corrected: the wall clock stays, and the instant is that of the wall clock at the
+/// new offset.
 pub fn noted_at(noted: OffsetDateTime, offset: UtcOffset) -> OffsetDateTime
     ensures clocks { result.wall ≡ noted.wall }
     ensures instant { instant_of result ≡ noted.wall -ℤ offset_nanos offset }
@@ -101,7 +99,7 @@ pub fn noted_at(noted: OffsetDateTime, offset: UtcOffset) -> OffsetDateTime
     noted.replace_offset(offset)
 }
 
-/// The offset of so many seconds, exactly where there is one.
+/// The offset of a number of seconds, exactly if there is one.
 pub fn offset_of(seconds: i32) -> Option<UtcOffset>
     ensures { SomeIff result (IsOffset seconds) seconds }
 {

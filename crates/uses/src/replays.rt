@@ -1,19 +1,19 @@
 //! Conversions and calls that come as lists.
 ghost use Rattle.std.specs.Prelude.{◌≡◌, ◌≤◌, ◌+ℤ◌, ◌∷◌, ◌++◌, [], pos, IfOk, IfSome, Some, length, vec_len};
 ghost use Rattle.calendar_values.specs.Clock.{nanos_per_day};
-ghost use Rattle.calendar_values.specs.WallClock.{IsWallClock};
+ghost use Rattle.calendar_values.specs.WallClock.{IsWallClock, wall_day, wall_time};
 ghost use Rattle.offset_times.specs.Local.{instant_of};
 ghost use Rattle.stamp_times.specs.Counter.{last_instant, replies, reply, reply_of_instant};
 ghost use Rattle.stamp_times.specs.Travel.{held_instant, held_after, stop_index};
 ghost use Rattle.stamp_times.specs.declared.runs.calls.Reply.TheVariants.{Refused};
 
-use calendar_values::{SignedDuration, UtcOffset};
+use calendar_values::{SignedDuration, Time, UtcOffset};
 use offset_times::OffsetDateTime;
-use stamp_times::{Call, Held, Reply, Shift, Step, Timestamp, chain, run};
+use stamp_times::{Call, Held, Replace, Reply, Shift, Step, Timestamp, chain, run};
 use std::alloc::{AllocError, Global};
 use utc_times::UtcDateTime;
 
-/// What the steps give, or what was held where they stopped: the same instant.
+/// The result of the steps, or the value before the step that stopped: the same instant.
 pub fn converted(start: Held, steps: &[Step]) -> Held
     ensures { held_instant result ≡ held_instant start }
 {
@@ -33,7 +33,7 @@ pub fn steps_made(start: Held, steps: &[Step]) -> usize
     }
 }
 
-/// What clocks at the offset show, by way of UTC. None where they show no date of the range.
+/// The timestamp at the offset, by way of UTC. None if the date there is out of range.
 pub fn by_way_of_utc(stamp: Timestamp, offset: UtcOffset) -> Option<OffsetDateTime>
     ensures { IfSome result (λ shown. instant_of shown ≡ stamp) }
 {
@@ -99,7 +99,6 @@ pub fn led_without(
 }
 
 /// Where a day forward and a day back lead: to where they began.
-#[tactic(auto, using(plain_times::specs::SumLemmas::known_calls))]
 pub fn day_and_back(alloc: Global, at: Timestamp) -> Result<Timestamp, AllocError>
     requires { IsWallClock (at +ℤ pos nanos_per_day) }
     ensures { IfOk result (λ end. end ≡ at) }
@@ -111,8 +110,7 @@ pub fn day_and_back(alloc: Global, at: Timestamp) -> Result<Timestamp, AllocErro
     Ok(end)
 }
 
-/// What a day forward replies, where the range has it.
-#[tactic(auto, using(plain_times::specs::SumLemmas::known_calls))]
+/// The reply to a step of a day, if it is in range.
 pub fn replies_to_a_day(alloc: Global, at: Timestamp) -> Result<Vec<Reply>, AllocError>
     requires { IsWallClock (at +ℤ pos nanos_per_day) }
     ensures { IfOk result (λ replies.
@@ -124,14 +122,13 @@ pub fn replies_to_a_day(alloc: Global, at: Timestamp) -> Result<Vec<Reply>, Allo
 }
 
 /// By way of a timestamp to UTC again: neither step can be refused.
-#[tactic(auto, using(plain_times::specs::SumLemmas::known_calls))]
 pub fn by_way_of_stamp(at: UtcDateTime) -> Held
     ensures { result ≡ Held.Utc at }
 {
     chain(Held::Utc(at), &[Step::ToStamp, Step::ToUtc]).unwrap()
 }
 
-/// What steps and then others lead to, where all of them can be made.
+/// The result of some steps and then others, if all of them succeed.
 pub fn converted_by_both(start: Held, first: &[Step], rest: &[Step]) -> Option<Held>
     ensures { IfSome result (λ held.
         held ≡ held_after start (held_instant start) (first.now ++ rest.now)) }
@@ -152,4 +149,12 @@ pub fn stop_in_both(start: Held, first: &[Step], rest: &[Step]) -> Option<usize>
         Ok(between) => Some(first.len() + chain(between, rest).err()?.index),
         Err(stopped) => Some(stopped.index),
     }
+}
+
+/// The midnight of the day of an instant, by a replacement that is made as a call.
+pub fn midnight(alloc: Global, at: Timestamp) -> Result<Timestamp, AllocError>
+    ensures { IfOk result (λ end. (wall_day end ≡ wall_day at) × (wall_time end ≡ 0)) }
+{
+    let (_, end) = run(alloc, at, &[Call::Replace(Replace::Time(Time::MIDNIGHT))])?;
+    Ok(end)
 }

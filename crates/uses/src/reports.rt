@@ -20,7 +20,6 @@ pub fn hour_of(at: UtcDateTime) -> UtcDateTime
 }
 
 /// The hour after the one that an instant is reported under. None past the range.
-#[tactic(auto, using(calendar_values::specs::Constants::constants, plain_times::specs::TruncationLemmas::multiples))]
 pub fn next_hour(at: UtcDateTime) -> Option<UtcDateTime>
     ensures whole { IfSome result (λ next. wall_multiple_below nanos_per_hour next ≡ next) }
     ensures later { IfSome result (λ next. at <ℤ next) }
@@ -30,7 +29,6 @@ pub fn next_hour(at: UtcDateTime) -> Option<UtcDateTime>
 }
 
 /// The hour that a sale is reported under where it was made: on the same date, in the same hour, at its first nanosecond.
-#[tactic(auto, using(plain_times::specs::TruncationLemmas::multiples))]
 pub fn hour_there(sale: OffsetDateTime) -> OffsetDateTime
     ensures whole { wall_multiple_below nanos_per_hour result.wall ≡ result.wall }
     ensures date { wall_day result.wall ≡ wall_day sale.wall }

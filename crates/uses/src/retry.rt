@@ -39,7 +39,7 @@ pub fn after_both(at: Timestamp, first: SignedDuration, second: SignedDuration) 
     at.checked_add(first)?.checked_add(second)
 }
 
-/// The pause after so many attempts: 1, 2, 4 seconds, and so on, and never more than an hour.
+/// The pause after a number of attempts: 1, 2, 4 seconds, and so on, and never more than an hour.
 pub fn pause(attempts: u32) -> SignedDuration
     ensures some { pos 0 ≤ℤ result }
     ensures few { result ≤ℤ pos nanos_per_hour }

@@ -18,7 +18,7 @@ pub fn has_timed_out(started: OffsetDateTime, limit: SignedDuration, now: Offset
     now - started >= limit
 }
 
-/// What is left until the deadline, and nothing after it.
+/// The time left until the deadline, and zero after it.
 pub fn remaining(now: OffsetDateTime, deadline: OffsetDateTime) -> SignedDuration
     ensures before { instant_of now <ℤ instant_of deadline →
         result ≡ instant_of deadline -ℤ instant_of now }
@@ -73,7 +73,7 @@ pub fn apart_either_way(first: OffsetDateTime, second: OffsetDateTime) -> Durati
     (second - first).unsigned_abs()
 }
 
-/// How far a clock is off, whether it is ahead or behind.
+/// The size of the error of a clock, fast or slow.
 pub fn drift(clock: OffsetDateTime, reference: OffsetDateTime) -> SignedDuration
     ensures not_negative { pos 0 ≤ℤ result }
     ensures size { unsigned_abs result ≤ unsigned_abs (instant_of clock -ℤ instant_of reference) }
@@ -81,7 +81,7 @@ pub fn drift(clock: OffsetDateTime, reference: OffsetDateTime) -> SignedDuration
     (clock - reference).abs()
 }
 
-/// The size of a lag of at most a day, whether it is ahead or behind.
+/// The size of a lag of at most a day, fast or slow.
 pub fn size_of_lag(lag: SignedDuration) -> SignedDuration
     requires { unsigned_abs lag ≤ nanos_per_day }
     ensures { result ≡ pos (unsigned_abs lag) }
@@ -89,14 +89,14 @@ pub fn size_of_lag(lag: SignedDuration) -> SignedDuration
     lag.abs()
 }
 
-/// The deadline, so much later. None outside the range.
+/// The deadline, later by the extension. None out of range.
 pub fn extended(deadline: OffsetDateTime, by: SignedDuration) -> Option<OffsetDateTime>
     ensures { IfSome result (λ later. instant_of later ≡ instant_of deadline +ℤ by) }
 {
     deadline.checked_add(by)
 }
 
-/// Two deadlines, each so much later, in the order in which they were. None where one is outside the range.
+/// Two deadlines, each later by the extension, in the order of before. None if one is out of range.
 pub fn both_extended(
     first: OffsetDateTime,
     second: OffsetDateTime,
@@ -109,7 +109,8 @@ pub fn both_extended(
     Some((first.checked_add(by)?, second.checked_add(by)?))
 }
 
-/// Two deadlines of one place, each so much later or at the end of the range: the first is not after the second.
+/// Two deadlines of one place, each later by the extension or at the end of the range: the first is not after
+/// the second.
 pub fn both_put_off(
     first: OffsetDateTime,
     second: OffsetDateTime,

@@ -90,7 +90,7 @@ pub fn months()
     ensures numbered { month_numbered 2 ≡ February }
 {}
 
-/// What a day shows: 1970-03-01, and 1969-12-31.
+/// The date of a day: 1970-03-01, and 1969-12-31.
 pub fn days()
     ensures year { year_of (pos 59) ≡ pos 1970 }
     ensures ordinal { ordinal_of (pos 59) ≡ 60 }
@@ -129,7 +129,7 @@ pub fn clocks()
         ≡ neg_ℤ (pos 12_600) }
 {}
 
-/// What is refused: 29 February in a common year, the day 366 of one, hour 24.
+/// Refusals: 29 February in a common year, the day 366 of one, hour 24.
 pub fn refused_dates()
     ensures date { calendar_date (pos 2023) 2 29 ≡ Err (conditional_refusal (codes "day")) }
     ensures ordinal { ordinal_date (pos 2023) 366 ≡ Err (conditional_refusal (codes "ordinal")) }
@@ -215,7 +215,7 @@ pub fn texts_of_exchange()
     ensures fixed { fixed_text (neg_ℤ (pos 1)) ≡ codes "1969-12-31T23:59:59.999999999Z" }
 {}
 
-/// What the numbers of RFC 3339's first example mean; month 13 is refused.
+/// The meaning of the numbers of RFC 3339's first example; month 13 is refused.
 pub fn meanings()
     ensures value { value_of (parts_read 1985 4 12 23 20 50 520_000_000 (false, 0, 0))
         ≡ wall_at (pos 482_196_050_520_000_000) (pos 0) }

@@ -1,0 +1,5 @@
+//! Tests of `uses`, and of the examples at the heads of the types.
+#![tactic(auto, using(calendar_values::specs::Constants::constants))]
+
+#[cfg(test)]
+mod tests;

@@ -1,0 +1,586 @@
+//! Each caller is called.
+use super::is;
+use calendar_values::{ComponentRange, Date, Month, SignedDuration, Time, UtcOffset, Weekday};
+use offset_times::OffsetDateTime;
+use stamp_times::{Call, ClockRead, Held, Shift, Step, Timestamp, ToTimestamp};
+use std::cmp::Ordering;
+use std::test::Fail;
+use uses::audit::Audit;
+use uses::periods::Period;
+use uses::{
+    audit, batches, billing, constants, daily, date_texts, days, exchange, expiry, invoices, log,
+    meeting, midnight, milliseconds, moments, months, offsets, patterns, periods, replays, reports,
+    retry, timeouts,
+};
+use utc_times::UtcDateTime;
+
+fn utc(second: i64) -> Result<UtcDateTime, Fail> {
+    Ok(UtcDateTime::from_unix_timestamp(second)?)
+}
+
+#[test]
+fn expiry_and_retries_are_called(rt: HostRuntime) -> Result<(), Fail> {
+    let issued = utc(1_709_164_800)?;
+    is(
+        &rt,
+        expiry::expires_at(issued, 30),
+        Some(utc(1_711_756_800)?),
+    );
+    is(&rt, expiry::is_expired(utc(1_711_756_800)?, issued), true);
+    is(&rt, expiry::tomorrow(UtcDateTime::MAX), None);
+    Ok(())
+}
+
+#[test]
+fn midnights_and_starts_are_called(rt: HostRuntime) -> Result<(), Fail> {
+    is(&rt, midnight::next_midnight(utc(-1)?), Some(utc(0)?));
+    is(&rt, retry::retry_at(utc(0)?, 3), utc(8)?);
+    is(&rt, constants::started_at(None), UtcDateTime::UNIX_EPOCH);
+    Ok(())
+}
+
+#[test]
+fn invoices_are_called(rt: HostRuntime) -> Result<(), Fail> {
+    is(
+        &rt,
+        invoices::date_of_form(2023, 2, 29),
+        Err(ComponentRange::new("day", true)),
+    );
+    let january = Date::from_calendar_date(2024, Month::January, 31)?;
+    is(
+        &rt,
+        invoices::due_next_month(january),
+        Some(Date::from_calendar_date(2024, Month::February, 29)?),
+    );
+    is(&rt, invoices::due_next_month(Date::MAX), None);
+    Ok(())
+}
+
+#[test]
+fn logs_are_called(rt: HostRuntime) -> Result<(), Fail> {
+    let alloc = rt.alloc();
+    let mut entries = [utc(5)?, utc(3)?].to_vec(alloc)?;
+    log::sort(&mut entries)?;
+    is(&rt, log::position(entries.as_slice(), utc(5)?), Some(1));
+    is(&rt, log::accept(&mut entries, utc(4)?)?, false);
+    Ok(())
+}
+
+#[test]
+fn meetings_are_called(rt: HostRuntime) -> Result<(), Fail> {
+    let hour = UtcOffset::from_hms(1, 0, 0)?;
+    let shown = meeting::shown_to(OffsetDateTime::from(utc(0)?), hour)?;
+    is(&rt, shown.date_time().time(), Time::from_hms(1, 0, 0)?);
+    is(&rt, moments::first_of_day(utc(86_399)?), utc(0)?);
+    is(
+        &rt,
+        moments::first_of_day(Timestamp::from_seconds(-1)?),
+        Timestamp::from_seconds(-86_400)?,
+    );
+    Ok(())
+}
+
+#[test]
+fn moments_replay_calls(rt: HostRuntime) -> Result<(), Fail> {
+    let calls = [Call::ReadClock(ClockRead::Hour)];
+    let (of_timestamp, of_utc) = moments::replay(rt.alloc(), Timestamp::UNIX_EPOCH, &calls)?;
+    is(&rt, of_timestamp == of_utc, true);
+    Ok(())
+}
+
+#[test]
+fn texts_are_exchanged(rt: HostRuntime) -> Result<(), Fail> {
+    let stamp = b"1996-12-19T16:39:57-08:00";
+    let east = UtcOffset::from_hms(1, 0, 0)?;
+    let shown = exchange::stamp_at(stamp, east);
+    is(
+        &rt,
+        shown.is_some_and(|text| text.as_str() == "1996-12-20T01:39:57+01:00"),
+        true,
+    );
+    is(&rt, exchange::instant(stamp)?, utc(851_042_397)?);
+    is(
+        &rt,
+        exchange::rewritten(b"1996-12-20 00:39:57.50z")?.as_str() == "1996-12-20T00:39:57.5Z",
+        true,
+    );
+    Ok(())
+}
+
+#[test]
+fn date_times_are_received(rt: HostRuntime) -> Result<(), Fail> {
+    let sent = OffsetDateTime::from(utc(851_042_397)?);
+    is(&rt, exchange::received(sent), Some(sent));
+    Ok(())
+}
+
+#[test]
+fn texts_of_fixed_width_are_sorted(rt: HostRuntime) -> Result<(), Fail> {
+    let (first, second) = (
+        "1969-12-31T23:59:59.999999999Z",
+        "1970-01-01T00:00:00.000000000Z",
+    );
+    is(
+        &rt,
+        exchange::compared(first.as_bytes(), second.as_bytes()),
+        Ordering::Less,
+    );
+    let mut texts = [second.as_bytes(), first.as_bytes()].to_vec(rt.alloc())?;
+    exchange::sort(&mut texts)?;
+    assert_eq!(rt; texts.len(), 2);
+    is(&rt, texts[0] == first.as_bytes(), true);
+    Ok(())
+}
+
+// The instant of a Unix second, as clocks so many hours ahead of UTC show it.
+fn local(second: i64, hours: i8) -> Result<OffsetDateTime, Fail> {
+    let offset = UtcOffset::from_hms(hours, 0, 0)?;
+    let shown = OffsetDateTime::from_unix_timestamp(second)?.checked_to_offset(offset);
+    Ok(shown.ok_or("no date of the range")?)
+}
+
+#[test]
+fn callers_at_offsets_are_called(rt: HostRuntime) -> Result<(), Fail> {
+    is(&rt, offsets::is_before(local(0, 1)?, local(1, -5)?), true);
+    is(&rt, offsets::is_same(local(0, 1)?, local(0, -5)?), true);
+    is(
+        &rt,
+        offsets::earlier(local(9, 1)?, local(8, -5)?),
+        local(8, 0)?,
+    );
+    is(
+        &rt,
+        offsets::apart(local(0, 1)?, local(7, -5)?),
+        SignedDuration::seconds(7),
+    );
+    Ok(())
+}
+
+#[test]
+fn callers_at_an_offset_of_another_are_called(rt: HostRuntime) -> Result<(), Fail> {
+    let shown = offsets::shown_like(local(0, 1)?, local(0, -5)?).ok_or("shown")?;
+    is(&rt, shown.date_time().time(), Time::from_hms(1, 0, 0)?);
+    is(
+        &rt,
+        offsets::put_at(local(0, 1)?, local(0, -5)?),
+        Some(shown),
+    );
+    is(
+        &rt,
+        offsets::put_back_at(local(0, 1)?, local(0, -5)?),
+        Some(shown),
+    );
+    is(
+        &rt,
+        offsets::noted_at(local(0, 1)?, UtcOffset::UTC),
+        local(3_600, 0)?,
+    );
+
+    Ok(())
+}
+
+#[test]
+fn periods_and_timeouts_are_called(rt: HostRuntime) -> Result<(), Fail> {
+    let period = Period {
+        from: local(0, 1)?,
+        until: local(10, -5)?,
+    };
+    is(&rt, periods::is_in(period, local(9, 3)?), true);
+    is(&rt, periods::is_in(period, local(10, 3)?), false);
+    is(&rt, periods::overlap(period, period), true);
+    Ok(())
+}
+
+#[test]
+fn timeouts_are_called(rt: HostRuntime) -> Result<(), Fail> {
+    let limit = SignedDuration::seconds(5);
+    is(
+        &rt,
+        timeouts::has_timed_out(local(0, 1)?, limit, local(5, 2)?),
+        true,
+    );
+    is(&rt, timeouts::remaining(local(0, 1)?, local(5, 3)?), limit);
+    is(
+        &rt,
+        timeouts::remaining(local(6, 1)?, local(5, 3)?),
+        SignedDuration::ZERO,
+    );
+    is(
+        &rt,
+        timeouts::extended(local(0, 1)?, limit),
+        Some(local(5, 1)?),
+    );
+    Ok(())
+}
+
+#[test]
+fn plans_of_days_and_months_are_called(rt: HostRuntime) -> Result<(), Fail> {
+    is(&rt, daily::run_today(local(0, 1)?), Some(local(28_800, 1)?));
+    is(&rt, daily::run_today(local(28_800, 1)?), None);
+    is(
+        &rt,
+        daily::run_after(local(28_800, 1)?),
+        Some(local(115_200, 1)?),
+    );
+    Ok(())
+}
+
+#[test]
+fn next_runs_are_called(rt: HostRuntime) -> Result<(), Fail> {
+    is(
+        &rt,
+        daily::next_run(local(28_799, 1)?),
+        Some(local(28_800, 1)?),
+    );
+    is(
+        &rt,
+        daily::next_run(local(28_800, 1)?),
+        Some(local(115_200, 1)?),
+    );
+    is(
+        &rt,
+        billing::period_start(local(1_709_164_800, 1)?),
+        Ok(local(1_706_742_000, 1)?),
+    );
+    Ok(())
+}
+
+#[test]
+fn billing_is_called(rt: HostRuntime) -> Result<(), Fail> {
+    let december = Date::from_calendar_date(2023, Month::December, 15)?;
+    is(
+        &rt,
+        billing::next_period(december),
+        Some(Date::from_calendar_date(2024, Month::January, 1)?),
+    );
+    is(&rt, billing::next_period(Date::MAX), None);
+    Ok(())
+}
+
+#[test]
+fn days_of_billing_are_called(rt: HostRuntime) -> Result<(), Fail> {
+    is(
+        &rt,
+        billing::first_day(2024, Month::February),
+        Date::from_calendar_date(2024, Month::February, 1),
+    );
+    is(
+        &rt,
+        billing::due_day(2024, Month::February, 31),
+        Date::from_calendar_date(2024, Month::February, 29),
+    );
+
+    Ok(())
+}
+
+#[test]
+fn months_are_counted_on(rt: HostRuntime) -> Result<(), Fail> {
+    let january = Date::from_calendar_date(2024, Month::January, 31)?;
+    let leap_day = Date::from_calendar_date(2024, Month::February, 29)?;
+    let december = Date::from_calendar_date(2023, Month::December, 31)?;
+    is(&rt, months::a_month_later(january), Some(leap_day));
+    is(&rt, months::same_day_next_month(january), Ok(leap_day));
+    is(&rt, months::same_day_next_month(december), Ok(january));
+    Ok(())
+}
+
+#[test]
+fn months_between_and_later(rt: HostRuntime) -> Result<(), Fail> {
+    let leap_day = Date::from_calendar_date(2024, Month::February, 29)?;
+    let december = Date::from_calendar_date(2023, Month::December, 31)?;
+    is(&rt, months::months_between(leap_day, december), -2);
+    is(
+        &rt,
+        months::billing_day(2024, Month::February, 30),
+        Ok(leap_day),
+    );
+    is(
+        &rt,
+        months::a_year_later(leap_day),
+        Some(Date::from_calendar_date(2025, Month::February, 28)?),
+    );
+    Ok(())
+}
+
+#[test]
+fn weeks_are_counted_on(rt: HostRuntime) -> Result<(), Fail> {
+    let monday = Date::from_calendar_date(2024, Month::February, 26)?;
+    let friday = Date::from_calendar_date(2024, Month::March, 1)?;
+    let next_monday = Date::from_calendar_date(2024, Month::March, 4)?;
+    is(&rt, days::monday_of(friday), Some(monday));
+    is(&rt, days::next_working_day(friday), Some(next_monday));
+    is(&rt, days::next_week(monday), Some(next_monday));
+    is(&rt, days::days_left_in_its_month(monday), 3);
+    Ok(())
+}
+
+#[test]
+fn records_at_offsets_are_called(rt: HostRuntime) -> Result<(), Fail> {
+    let ahead = UtcOffset::from_hms(1, 0, 0)?;
+    let shown = milliseconds::at_offset(-1, ahead).ok_or("shown")?;
+    is(&rt, milliseconds::milliseconds_of(shown), Some(-1));
+    Ok(())
+}
+
+#[test]
+fn audits_are_called(rt: HostRuntime) -> Result<(), Fail> {
+    let ahead = UtcOffset::from_hms(1, 0, 0)?;
+    let earlier = Audit {
+        user: 7,
+        at: local(0, 1)?,
+    };
+    let later = Audit {
+        user: 8,
+        at: local(1, -5)?,
+    };
+    is(&rt, audit::comes_before(&earlier, &later), true);
+    is(&rt, audit::shown_at(later, ahead).ok_or("shown")?.user, 8);
+    Ok(())
+}
+
+#[test]
+fn callers_of_lists_are_called(rt: HostRuntime) -> Result<(), Fail> {
+    let alloc = rt.alloc();
+    let epoch = Timestamp::UNIX_EPOCH;
+    let all = batches::imported(alloc, &[0, 60])?;
+    is(&rt, all.map(|stamps| stamps.len()), Ok(2));
+    let refused = batches::imported(alloc, &[0, i64::MAX])?;
+    is(&rt, refused.map(|stamps| stamps.len()), Err(1));
+    Ok(())
+}
+
+#[test]
+fn replays_are_called(rt: HostRuntime) -> Result<(), Fail> {
+    let epoch = Timestamp::UNIX_EPOCH;
+    is(
+        &rt,
+        replays::steps_made(Held::Stamp(epoch), &[Step::ToUtc]),
+        1,
+    );
+    let ahead = UtcOffset::from_hms(1, 0, 0)?;
+    is(
+        &rt,
+        replays::by_way_of_utc(epoch, ahead),
+        Some(local(0, 1)?),
+    );
+    let replies = replays::replies_to(rt.alloc(), epoch, &[Call::ReadClock(ClockRead::Hour)])?;
+    is(&rt, replies.len(), 1);
+
+    Ok(())
+}
+
+#[test]
+fn callers_of_timestamps_are_called(rt: HostRuntime) -> Result<(), Fail> {
+    let epoch = Timestamp::UNIX_EPOCH;
+    is(
+        &rt,
+        retry::next_attempt(epoch, 3),
+        Timestamp::from_seconds(3)?,
+    );
+    is(
+        &rt,
+        retry::next_attempt(epoch, 99),
+        Timestamp::from_seconds(60)?,
+    );
+    Ok(())
+}
+
+#[test]
+fn days_and_logs_of_timestamps_are_called(rt: HostRuntime) -> Result<(), Fail> {
+    let epoch = Timestamp::UNIX_EPOCH;
+    is(
+        &rt,
+        moments::tomorrow(epoch),
+        Some(Timestamp::from_seconds(86_400)?),
+    );
+    is(&rt, log::has(&[epoch], epoch), true);
+    is(&rt, reports::hour_of(utc(3_700)?), utc(3_600)?);
+    Ok(())
+}
+
+#[test]
+fn logs_without_repeats_are_called(rt: HostRuntime) -> Result<(), Fail> {
+    let epoch = Timestamp::UNIX_EPOCH;
+    let mut log = [epoch, Timestamp::MIN, epoch].to_vec(rt.alloc())?;
+    is(&rt, log::joined_has(&mut log, epoch)?, true);
+    log::enter_shift(&mut log, epoch, Timestamp::MAX)?;
+    is(&rt, log.len(), 3);
+    Ok(())
+}
+
+#[test]
+fn callers_of_what_replacements_show_are_called(rt: HostRuntime) -> Result<(), Fail> {
+    let leap_day = Date::from_calendar_date(2024, Month::February, 29)?;
+    is(
+        &rt,
+        days::first_of_its_month(leap_day),
+        Date::from_calendar_date(2024, Month::February, 1)?,
+    );
+    is(&rt, days::first_of_year(1970), Some(Date::UNIX_EPOCH));
+    is(&rt, days::first_of_year(1_000_000), None);
+    Ok(())
+}
+
+#[test]
+fn weeks_of_replacements_are_called(rt: HostRuntime) -> Result<(), Fail> {
+    let leap_day = Date::from_calendar_date(2024, Month::February, 29)?;
+    is(
+        &rt,
+        days::monday_of_week(1970, 1),
+        Some(Date::from_julian_day(2_440_585)?),
+    );
+    is(&rt, days::monday_of_week(2021, 53), None);
+    is(
+        &rt,
+        days::weekday_weeks_later(leap_day, -3),
+        Weekday::Thursday,
+    );
+    is(
+        &rt,
+        days::at_half_past(Time::MIDNIGHT),
+        Time::from_hms(0, 30, 0)?,
+    );
+    Ok(())
+}
+
+#[test]
+fn moments_of_replacements_are_called(rt: HostRuntime) -> Result<(), Fail> {
+    is(
+        &rt,
+        moments::first_of_month(utc(1_709_164_800)?),
+        utc(1_706_745_600)?,
+    );
+    is(&rt, moments::in_the_last_hour(utc(60)?), utc(82_860)?);
+    is(&rt, moments::an_hour_on(UtcDateTime::MAX), UtcDateTime::MAX);
+    Ok(())
+}
+
+#[test]
+fn callers_of_sums_in_order_are_called(rt: HostRuntime) -> Result<(), Fail> {
+    let epoch = Timestamp::UNIX_EPOCH;
+    let second = SignedDuration::seconds(1);
+    let (first, later) = retry::in_turn(epoch, Timestamp::MAX, second);
+    is(&rt, first, Timestamp::from_seconds(1)?);
+    is(&rt, later, Timestamp::MAX);
+    is(
+        &rt,
+        retry::after_both(epoch, second, second),
+        Some(Timestamp::from_seconds(2)?),
+    );
+    Ok(())
+}
+
+#[test]
+fn replays_in_order_are_called(rt: HostRuntime) -> Result<(), Fail> {
+    let alloc = rt.alloc();
+    let epoch = Timestamp::UNIX_EPOCH;
+    let second = SignedDuration::seconds(1);
+    let shift = [Call::Shift(Shift::CheckedAdd(second))];
+    let end = replays::led_by_both(alloc, epoch, &shift, &shift)?;
+    is(&rt, end, Timestamp::from_seconds(2)?);
+    let (one, other) = replays::replies_to_both(alloc, epoch, &shift, &shift)?;
+    is(&rt, one.len() == 1 && other.len() == 1, true);
+    Ok(())
+}
+
+#[test]
+fn replays_without_a_call(rt: HostRuntime) -> Result<(), Fail> {
+    let alloc = rt.alloc();
+    let epoch = Timestamp::UNIX_EPOCH;
+    let second = SignedDuration::seconds(1);
+    let shift = [Call::Shift(Shift::CheckedAdd(second))];
+    let refused = Call::Shift(Shift::CheckedSub(second));
+    let end = replays::led_without(alloc, Timestamp::MIN, &[], refused, &shift)?;
+    is(&rt, Timestamp::MIN.checked_add(second), Some(end));
+    let both = replays::converted_by_both(Held::Stamp(epoch), &[Step::ToUtc], &[Step::ToStamp]);
+    is(&rt, both.is_some(), true);
+    Ok(())
+}
+
+#[test]
+fn timeouts_in_order_are_called(rt: HostRuntime) -> Result<(), Fail> {
+    let second = SignedDuration::seconds(1);
+    is(
+        &rt,
+        timeouts::both_extended(local(0, 1)?, local(5, 2)?, second),
+        Some((local(1, 1)?, local(6, 2)?)),
+    );
+    let (first, later) = timeouts::both_put_off(
+        OffsetDateTime::from(utc(0)?),
+        OffsetDateTime::from(UtcDateTime::MAX),
+        second,
+    );
+    is(&rt, first, local(1, 0)?);
+    is(&rt, later, OffsetDateTime::from(UtcDateTime::MAX));
+    Ok(())
+}
+
+#[test]
+fn hours_pauses_and_periods(rt: HostRuntime) -> Result<(), Fail> {
+    let stamp = Timestamp::from_seconds(1_709_164_800)?;
+    let shown = offsets::at_seconds(stamp, 20_700).ok_or("no date")?;
+    is(&rt, (shown.hour(), shown.minute()), (5, 45));
+    is(&rt, offsets::offset_of(93_600), None);
+    Ok(())
+}
+
+#[test]
+fn reports_and_periods(rt: HostRuntime) -> Result<(), Fail> {
+    let stamp = Timestamp::from_seconds(1_709_164_800)?;
+    let shown = offsets::at_seconds(stamp, 20_700).ok_or("no date")?;
+    let next = reports::next_hour_there(shown).ok_or("past the range")?;
+    is(
+        &rt,
+        next.checked_to_timestamp(),
+        Some(Timestamp::from_seconds(1_709_165_700)?),
+    );
+    Ok(())
+}
+
+#[test]
+fn pauses_and_days(rt: HostRuntime) -> Result<(), Fail> {
+    is(&rt, retry::after_pause(utc(0)?, 5), utc(32)?);
+    is(&rt, retry::after_pause(utc(0)?, 40), utc(3_600)?);
+    is(&rt, date_texts::is_day(b"2024-02-29"), true);
+    is(&rt, date_texts::is_day(b"2023-02-29"), false);
+    Ok(())
+}
+
+#[test]
+fn periods_in_common(rt: HostRuntime) -> Result<(), Fail> {
+    let (shown, next) = (local(1_709_164_800, 5)?, local(1_709_165_700, 5)?);
+    let first = Period {
+        from: shown,
+        until: next,
+    };
+    let common = periods::common(
+        first,
+        Period {
+            from: next,
+            until: shown,
+        },
+    );
+    is(&rt, common.is_none(), true);
+    is(
+        &rt,
+        periods::common(first, first) == Some((shown, next)),
+        true,
+    );
+    Ok(())
+}
+
+#[test]
+fn headings_of_days(rt: HostRuntime) -> Result<(), Fail> {
+    let day = Date::from_ordinal_date(2024, 60)?;
+    match patterns::heading(day) {
+        Some(text) => is(&rt, text.as_str(), "2024-02-29"),
+        None => is(&rt, "no heading", "2024-02-29"),
+    }
+    is(
+        &rt,
+        patterns::parts_of_heading(b"2024-02-29").map(|parts| parts.day),
+        Ok(Some(29)),
+    );
+    is(&rt, patterns::parts_of_heading(b"2024-02").err(), Some(7));
+    Ok(())
+}
