@@ -17,7 +17,7 @@ impl Timestamp {
 }
 
 impl UtcDateTime {
-    /// What the clock of the machine shows, in UTC.
+    /// The time of the clock of the machine, in UTC.
     #[must_use]
     #[inline]
     pub fn now() -> UtcDateTime {
@@ -26,7 +26,7 @@ impl UtcDateTime {
 }
 
 impl OffsetDateTime {
-    /// What the clock of the machine shows, at the offset 0.
+    /// The time of the clock of the machine, at the offset 0.
     #[must_use]
     #[inline]
     pub fn now_utc() -> OffsetDateTime {

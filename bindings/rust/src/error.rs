@@ -1,92 +1,18 @@
 //! The refusals that have the names of `time`.
 
 use core::fmt;
+use core::hash::{Hash, Hasher};
+
+use alloc::string::String;
 
 use crate::Refusal;
+use crate::proved::{Component, Part, TextRefusal};
 
-/// A part that is out of its range.
-///
-/// ```
-/// use muxandu::{Date, Month};
-///
-/// let refused = Date::from_calendar_date(2023, Month::February, 29).unwrap_err();
-/// assert_eq!((refused.name(), refused.is_conditional()), ("day", true));
-/// ```
-#[derive(Clone, Copy, PartialEq, Eq, Hash)]
-pub struct ComponentRange {
-    name: &'static str,
-    /// 0 or 1. A `bool` has values to spare, in which a `Result` would keep whether it is an `Err`: it would be written as
-    /// one byte and read as part of eight, for which a processor waits.
-    conditional: u8,
-}
+pub use crate::proved::ComponentRange;
 
-impl ComponentRange {
-    pub(crate) const fn new(name: &'static str, conditional: bool) -> ComponentRange {
-        ComponentRange {
-            name,
-            conditional: conditional as u8,
-        }
-    }
-
-    /// The name of the part, as `day`.
-    #[must_use]
-    pub const fn name(self) -> &'static str {
-        self.name
-    }
-
-    /// Whether the part is possible beside others, as day 29 beside February.
-    #[must_use]
-    pub const fn is_conditional(self) -> bool {
-        self.conditional != 0
-    }
-}
-
-impl fmt::Display for ComponentRange {
-    fn fmt(&self, f: &mut fmt::Formatter<'_>) -> fmt::Result {
-        let besides = if self.is_conditional() {
-            ", given the other parts"
-        } else {
-            ""
-        };
-        write!(f, "{} is out of its range{besides}", self.name)
-    }
-}
-
-impl fmt::Debug for ComponentRange {
-    fn fmt(&self, f: &mut fmt::Formatter<'_>) -> fmt::Result {
-        f.debug_struct("ComponentRange")
-            .field("name", &self.name)
-            .field("conditional", &self.is_conditional())
-            .finish()
-    }
-}
-
-impl core::error::Error for ComponentRange {}
-
-impl From<Refusal> for ComponentRange {
-    fn from(refusal: Refusal) -> ComponentRange {
-        let (name, conditional) = match refusal {
-            Refusal::Year => ("year", false),
-            Refusal::Month => ("month", false),
-            Refusal::Day => ("day", false),
-            Refusal::DayOfMonth => ("day", true),
-            Refusal::Ordinal => ("ordinal", false),
-            Refusal::OrdinalOfYear => ("ordinal", true),
-            Refusal::Week => ("week", false),
-            Refusal::WeekOfYear => ("week", true),
-            Refusal::Weekday => ("weekday", false),
-            Refusal::Hour => ("hour", false),
-            Refusal::Minute => ("minute", false),
-            Refusal::Second => ("second", false),
-            Refusal::Nanosecond => ("nanosecond", false),
-            Refusal::OffsetHour => ("hours", false),
-            Refusal::OffsetMinute => ("minutes", false),
-            Refusal::OffsetSeconds => ("seconds", false),
-            Refusal::DayNumber => ("julian_day", false),
-            Refusal::Result => ("year", true),
-            _ => ("timestamp", false),
-        };
-        ComponentRange::new(name, conditional)
+impl Hash for ComponentRange {
+    fn hash<H: Hasher>(&self, state: &mut H) {
+        (self.name(), self.is_conditional()).hash(state);
     }
 }
 
@@ -99,8 +25,11 @@ impl From<Refusal> for ComponentRange {
 ///
 /// assert_eq!(Duration::try_from(SignedDuration::seconds(-1)), Err(ConversionRange));
 /// ```
-#[derive(Clone, Copy, Debug, PartialEq, Eq, Hash)]
-pub struct ConversionRange;
+pub use crate::proved::calendar_values::ConversionRange;
+
+impl Hash for ConversionRange {
+    fn hash<H: Hasher>(&self, _: &mut H) {}
+}
 
 impl fmt::Display for ConversionRange {
     fn fmt(&self, f: &mut fmt::Formatter<'_>) -> fmt::Result {
@@ -127,13 +56,346 @@ impl fmt::Display for InvalidVariant {
 
 impl core::error::Error for InvalidVariant {}
 
-/// An [`Error`] of another kind than the one that is asked for.
+/// Why a value is not written by a format.
+///
+/// ```
+/// use muxandu::UtcDateTime;
+/// use muxandu::error::Format;
+/// use muxandu::format_description::well_known::Rfc3339;
+///
+/// assert_eq!(UtcDateTime::MAX.format(&Rfc3339), Err(Format::InvalidComponent("year")));
+/// ```
+#[non_exhaustive]
+#[derive(Debug)]
+pub enum Format {
+    /// The value has no part for a component, as a date has none for an hour.
+    InsufficientTypeInformation,
+    /// The component has no text in a well-known format.
+    InvalidComponent(&'static str),
+    /// The writer failed.
+    #[cfg(feature = "std")]
+    StdIo(std::io::Error),
+}
+
+/// Failures of writers are equal if they are of one kind.
+impl PartialEq for Format {
+    fn eq(&self, other: &Format) -> bool {
+        match (self, other) {
+            (Format::InsufficientTypeInformation, Format::InsufficientTypeInformation) => true,
+            (Format::InvalidComponent(name), Format::InvalidComponent(other)) => name == other,
+            #[cfg(feature = "std")]
+            (Format::StdIo(error), Format::StdIo(other)) => error.kind() == other.kind(),
+            _ => false,
+        }
+    }
+}
+
+impl Eq for Format {}
+
+impl fmt::Display for Format {
+    fn fmt(&self, f: &mut fmt::Formatter<'_>) -> fmt::Result {
+        match self {
+            Format::InsufficientTypeInformation => {
+                f.write_str("the value has no part for a component of the format")
+            }
+            Format::InvalidComponent(name) => {
+                write!(f, "the component {name} has no text in the format")
+            }
+            #[cfg(feature = "std")]
+            Format::StdIo(error) => error.fmt(f),
+        }
+    }
+}
+
+impl core::error::Error for Format {
+    fn source(&self) -> Option<&(dyn core::error::Error + 'static)> {
+        match self {
+            #[cfg(feature = "std")]
+            Format::StdIo(error) => Some(error),
+            _ => None,
+        }
+    }
+}
+
+#[cfg(feature = "std")]
+impl From<std::io::Error> for Format {
+    fn from(error: std::io::Error) -> Format {
+        Format::StdIo(error)
+    }
+}
+
+#[cfg(feature = "std")]
+impl TryFrom<Format> for std::io::Error {
+    type Error = DifferentVariant;
+
+    fn try_from(error: Format) -> Result<std::io::Error, DifferentVariant> {
+        match error {
+            Format::StdIo(error) => Ok(error),
+            _ => Err(DifferentVariant),
+        }
+    }
+}
+
+/// Why a text is not written as a description says.
+#[non_exhaustive]
+#[derive(Clone, Copy, Debug, PartialEq, Eq, Hash)]
+pub enum ParseFromDescription {
+    /// Other bytes stand in the place of a literal.
+    InvalidLiteral,
+    /// The component of this name cannot be read, or contradicts a part before it.
+    InvalidComponent(&'static str),
+}
+
+impl fmt::Display for ParseFromDescription {
+    fn fmt(&self, f: &mut fmt::Formatter<'_>) -> fmt::Result {
+        match self {
+            ParseFromDescription::InvalidLiteral => {
+                f.write_str("the text has other bytes than a literal of the format")
+            }
+            ParseFromDescription::InvalidComponent(name) => {
+                write!(f, "the component {name} cannot be read")
+            }
+        }
+    }
+}
+
+impl core::error::Error for ParseFromDescription {}
+
+/// Why parts are no value.
+#[non_exhaustive]
+#[derive(Clone, Copy, Debug, PartialEq, Eq, Hash)]
+pub enum TryFromParsed {
+    /// A part is missing.
+    InsufficientInformation,
+    /// A part is out of its range, or contradicts another.
+    ComponentRange(ComponentRange),
+}
+
+impl fmt::Display for TryFromParsed {
+    fn fmt(&self, f: &mut fmt::Formatter<'_>) -> fmt::Result {
+        match self {
+            TryFromParsed::InsufficientInformation => {
+                f.write_str("the text has too few parts for the value")
+            }
+            TryFromParsed::ComponentRange(refused) => refused.fmt(f),
+        }
+    }
+}
+
+impl core::error::Error for TryFromParsed {
+    fn source(&self) -> Option<&(dyn core::error::Error + 'static)> {
+        match self {
+            TryFromParsed::InsufficientInformation => None,
+            TryFromParsed::ComponentRange(refused) => Some(refused),
+        }
+    }
+}
+
+impl From<ComponentRange> for TryFromParsed {
+    fn from(refused: ComponentRange) -> TryFromParsed {
+        TryFromParsed::ComponentRange(refused)
+    }
+}
+
+impl TryFrom<TryFromParsed> for ComponentRange {
+    type Error = DifferentVariant;
+
+    fn try_from(refused: TryFromParsed) -> Result<ComponentRange, DifferentVariant> {
+        match refused {
+            TryFromParsed::ComponentRange(refused) => Ok(refused),
+            TryFromParsed::InsufficientInformation => Err(DifferentVariant),
+        }
+    }
+}
+
+/// Why a text is not read by a format.
+#[non_exhaustive]
+#[derive(Clone, Copy, Debug, PartialEq, Eq, Hash)]
+pub enum Parse {
+    /// The parts are no value.
+    TryFromParsed(TryFromParsed),
+    /// The text is not written so.
+    ParseFromDescription(ParseFromDescription),
+    /// More follows.
+    UnexpectedTrailingCharacters,
+}
+
+impl fmt::Display for Parse {
+    fn fmt(&self, f: &mut fmt::Formatter<'_>) -> fmt::Result {
+        match self {
+            Parse::TryFromParsed(refused) => refused.fmt(f),
+            Parse::ParseFromDescription(refused) => refused.fmt(f),
+            Parse::UnexpectedTrailingCharacters => {
+                f.write_str("more follows the text of the format")
+            }
+        }
+    }
+}
+
+impl core::error::Error for Parse {
+    fn source(&self) -> Option<&(dyn core::error::Error + 'static)> {
+        match self {
+            Parse::TryFromParsed(refused) => Some(refused),
+            Parse::ParseFromDescription(refused) => Some(refused),
+            Parse::UnexpectedTrailingCharacters => None,
+        }
+    }
+}
+
+macro_rules! parse_kinds {
+    ($($Kind:ident)+) => {
+        $(
+            impl From<$Kind> for Parse {
+                fn from(refused: $Kind) -> Parse {
+                    Parse::$Kind(refused)
+                }
+            }
+
+            impl TryFrom<Parse> for $Kind {
+                type Error = DifferentVariant;
+
+                fn try_from(refused: Parse) -> Result<$Kind, DifferentVariant> {
+                    match refused {
+                        Parse::$Kind(refused) => Ok(refused),
+                        _ => Err(DifferentVariant),
+                    }
+                }
+            }
+        )+
+    };
+}
+
+parse_kinds! { TryFromParsed ParseFromDescription }
+
+/// The errors of texts of RFC 3339.
+impl From<TextRefusal> for Parse {
+    fn from(refused: TextRefusal) -> Parse {
+        let part = match refused {
+            TextRefusal::Syntax => return ParseFromDescription::InvalidLiteral.into(),
+            TextRefusal::OutOfRange(Component::Month) => Part::Month,
+            TextRefusal::OutOfRange(Component::Day) => Part::Day,
+            TextRefusal::OutOfRange(Component::Hour) => Part::Hour,
+            TextRefusal::OutOfRange(Component::Minute) => Part::Minute,
+            TextRefusal::OutOfRange(Component::Second) => Part::Second,
+            TextRefusal::OutOfRange(Component::OffsetHour) => Part::Hours,
+            TextRefusal::OutOfRange(Component::OffsetMinute) => Part::Minutes,
+        };
+        TryFromParsed::ComponentRange(ComponentRange::of_part(part, false)).into()
+    }
+}
+
+/// Why a text is no format description.
+///
+/// ```
+/// use muxandu::error::InvalidFormatDescription;
+/// use muxandu::format_description::parse;
+///
+/// let refused = parse("[year]-[mouth]").unwrap_err();
+/// assert_eq!(refused.to_string(), "there is no component `mouth` (byte 8)");
+/// assert!(matches!(refused, InvalidFormatDescription::InvalidComponentName { index: 8, .. }));
+/// ```
+#[non_exhaustive]
+#[derive(Clone, Debug, PartialEq, Eq, Hash)]
+pub enum InvalidFormatDescription {
+    /// A `[` has no `]`.
+    UnclosedOpeningBracket {
+        /// The place of the `[`, counted from 0.
+        index: usize,
+    },
+    /// There is no component of this name.
+    InvalidComponentName {
+        /// The name.
+        name: String,
+        /// Its place.
+        index: usize,
+    },
+    /// The component has no such modifier, or the modifier no such value.
+    InvalidModifier {
+        /// The modifier or the value.
+        value: String,
+        /// Its place.
+        index: usize,
+    },
+    /// No name follows a `[`.
+    MissingComponentName {
+        /// The place of the `[`.
+        index: usize,
+    },
+    /// A component lacks a modifier.
+    MissingRequiredModifier {
+        /// The modifier.
+        name: &'static str,
+        /// The place of the `[`.
+        index: usize,
+    },
+    /// Something else must stand here.
+    Expected {
+        /// What.
+        what: &'static str,
+        /// The place.
+        index: usize,
+    },
+    /// This is not taken here.
+    NotSupported {
+        /// What.
+        what: &'static str,
+        /// Where it is not taken.
+        context: &'static str,
+        /// The place.
+        index: usize,
+    },
+}
+
+impl fmt::Display for InvalidFormatDescription {
+    fn fmt(&self, f: &mut fmt::Formatter<'_>) -> fmt::Result {
+        use InvalidFormatDescription::*;
+        match self {
+            UnclosedOpeningBracket { index } => write!(f, "a `[` has no `]` (byte {index})"),
+            InvalidComponentName { name, index } => {
+                write!(f, "there is no component `{name}` (byte {index})")
+            }
+            InvalidModifier { value, index } => {
+                write!(f, "there is no modifier or value `{value}` (byte {index})")
+            }
+            MissingComponentName { index } => write!(f, "no name follows a `[` (byte {index})"),
+            MissingRequiredModifier { name, index } => {
+                write!(f, "the modifier `{name}` is missing (byte {index})")
+            }
+            Expected { what, index } => write!(f, "expected {what} (byte {index})"),
+            NotSupported {
+                what,
+                context,
+                index,
+            } => write!(f, "{what} are not taken {context} (byte {index})"),
+        }
+    }
+}
+
+impl core::error::Error for InvalidFormatDescription {}
+
+/// The offset of the machine's clock, which no call of this crate finds.
+#[cfg(feature = "local-offset")]
+#[derive(Clone, Copy, Debug, PartialEq, Eq, Hash)]
+pub struct IndeterminateOffset;
+
+#[cfg(feature = "local-offset")]
+impl fmt::Display for IndeterminateOffset {
+    fn fmt(&self, f: &mut fmt::Formatter<'_>) -> fmt::Result {
+        f.write_str("the offset of the machine's clock is not known: use an offset of your own")
+    }
+}
+
+#[cfg(feature = "local-offset")]
+impl core::error::Error for IndeterminateOffset {}
+
+/// The error of a conversion from an [`Error`] of another kind.
 ///
 /// ```
 /// use muxandu::error::{ComponentRange, ConversionRange, DifferentVariant};
 ///
 /// let refused = muxandu::Error::from(ConversionRange);
 /// assert_eq!(ComponentRange::try_from(refused), Err(DifferentVariant));
+/// let refused = muxandu::Error::from(ConversionRange);
 /// assert_eq!(ConversionRange::try_from(refused), Ok(ConversionRange));
 /// ```
 #[derive(Clone, Copy, Debug, PartialEq, Eq, Hash)]
@@ -141,13 +403,13 @@ pub struct DifferentVariant;
 
 impl fmt::Display for DifferentVariant {
     fn fmt(&self, f: &mut fmt::Formatter<'_>) -> fmt::Result {
-        f.write_str("the error is of another kind than the one that is asked for")
+        f.write_str("the error is of another kind")
     }
 }
 
 impl core::error::Error for DifferentVariant {}
 
-/// Any of the refusals of the crate.
+/// Any error of the crate.
 ///
 /// ```
 /// use muxandu::{Date, Month, UtcDateTime};
@@ -157,28 +419,60 @@ impl core::error::Error for DifferentVariant {}
 ///     Ok(first.midnight().as_utc())
 /// }
 ///
-/// assert_eq!(midnight(1_000_000, "May").unwrap_err().to_string(), "year is out of its range");
+/// assert_eq!(midnight(1_000_000, "May").unwrap_err().to_string(), "year is out of range");
 /// ```
-#[derive(Clone, Copy, Debug, PartialEq, Eq, Hash)]
+#[derive(Debug, PartialEq, Eq)]
 #[non_exhaustive]
 #[allow(missing_docs)]
 pub enum Error {
     ComponentRange(ComponentRange),
     ConversionRange(ConversionRange),
     DifferentVariant(DifferentVariant),
+    Format(Format),
+    #[cfg(feature = "local-offset")]
+    IndeterminateOffset(IndeterminateOffset),
+    InvalidFormatDescription(InvalidFormatDescription),
     InvalidVariant(InvalidVariant),
+    ParseFromDescription(ParseFromDescription),
     Refusal(Refusal),
+    TryFromParsed(TryFromParsed),
+    UnexpectedTrailingCharacters,
+}
+
+impl From<Parse> for Error {
+    fn from(refused: Parse) -> Error {
+        match refused {
+            Parse::TryFromParsed(refused) => Error::TryFromParsed(refused),
+            Parse::ParseFromDescription(refused) => Error::ParseFromDescription(refused),
+            Parse::UnexpectedTrailingCharacters => Error::UnexpectedTrailingCharacters,
+        }
+    }
+}
+
+impl TryFrom<Error> for Parse {
+    type Error = DifferentVariant;
+
+    fn try_from(error: Error) -> Result<Parse, DifferentVariant> {
+        match error {
+            Error::TryFromParsed(refused) => Ok(Parse::TryFromParsed(refused)),
+            Error::ParseFromDescription(refused) => Ok(Parse::ParseFromDescription(refused)),
+            Error::UnexpectedTrailingCharacters => Ok(Parse::UnexpectedTrailingCharacters),
+            _ => Err(DifferentVariant),
+        }
+    }
 }
 
 macro_rules! kinds {
-    ($($Kind:ident)+) => {
+    ($($(#[$on:meta])? $Kind:ident)+) => {
         $(
+            $(#[$on])?
             impl From<$Kind> for Error {
                 fn from(refused: $Kind) -> Error {
                     Error::$Kind(refused)
                 }
             }
 
+            $(#[$on])?
             impl TryFrom<Error> for $Kind {
                 type Error = DifferentVariant;
 
@@ -194,7 +488,8 @@ macro_rules! kinds {
         impl fmt::Display for Error {
             fn fmt(&self, f: &mut fmt::Formatter<'_>) -> fmt::Result {
                 match self {
-                    $(Error::$Kind(refused) => refused.fmt(f),)+
+                    $($(#[$on])? Error::$Kind(refused) => refused.fmt(f),)+
+                    Error::UnexpectedTrailingCharacters => Parse::UnexpectedTrailingCharacters.fmt(f),
                 }
             }
         }
@@ -202,11 +497,17 @@ macro_rules! kinds {
         impl core::error::Error for Error {
             fn source(&self) -> Option<&(dyn core::error::Error + 'static)> {
                 match self {
-                    $(Error::$Kind(refused) => Some(refused),)+
+                    $($(#[$on])? Error::$Kind(refused) => Some(refused),)+
+                    Error::UnexpectedTrailingCharacters => None,
                 }
             }
         }
     };
 }
 
-kinds! { ComponentRange ConversionRange DifferentVariant InvalidVariant Refusal }
+kinds! {
+    ComponentRange ConversionRange DifferentVariant Format
+    #[cfg(feature = "local-offset")]
+    IndeterminateOffset
+    InvalidFormatDescription InvalidVariant ParseFromDescription Refusal TryFromParsed
+}

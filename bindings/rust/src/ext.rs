@@ -22,21 +22,21 @@ mod sealed {
 /// assert_eq!((-1.5).seconds(), SignedDuration::milliseconds(-1_500));
 /// ```
 pub trait NumericalDuration: sealed::Sealed {
-    /// So many nanoseconds.
+    /// The duration of this number of nanoseconds.
     fn nanoseconds(self) -> SignedDuration;
-    /// So many microseconds.
+    /// The duration of this number of microseconds.
     fn microseconds(self) -> SignedDuration;
-    /// So many milliseconds.
+    /// The duration of this number of milliseconds.
     fn milliseconds(self) -> SignedDuration;
-    /// So many seconds.
+    /// The duration of this number of seconds.
     fn seconds(self) -> SignedDuration;
-    /// So many minutes.
+    /// The duration of this number of minutes.
     fn minutes(self) -> SignedDuration;
-    /// So many hours.
+    /// The duration of this number of hours.
     fn hours(self) -> SignedDuration;
-    /// So many days of 24 hours.
+    /// The duration of this number of days of 24 hours.
     fn days(self) -> SignedDuration;
-    /// So many weeks.
+    /// The duration of this number of weeks.
     fn weeks(self) -> SignedDuration;
 }
 
@@ -49,21 +49,21 @@ pub trait NumericalDuration: sealed::Sealed {
 /// assert_eq!(1.5.std_seconds(), core::time::Duration::from_millis(1_500));
 /// ```
 pub trait NumericalStdDuration: sealed::Sealed {
-    /// So many nanoseconds.
+    /// The duration of this number of nanoseconds.
     fn std_nanoseconds(self) -> Duration;
-    /// So many microseconds.
+    /// The duration of this number of microseconds.
     fn std_microseconds(self) -> Duration;
-    /// So many milliseconds.
+    /// The duration of this number of milliseconds.
     fn std_milliseconds(self) -> Duration;
-    /// So many seconds.
+    /// The duration of this number of seconds.
     fn std_seconds(self) -> Duration;
-    /// So many minutes.
+    /// The duration of this number of minutes.
     fn std_minutes(self) -> Duration;
-    /// So many hours.
+    /// The duration of this number of hours.
     fn std_hours(self) -> Duration;
-    /// So many days of 24 hours.
+    /// The duration of this number of days of 24 hours.
     fn std_days(self) -> Duration;
-    /// So many weeks.
+    /// The duration of this number of weeks.
     fn std_weeks(self) -> Duration;
 }
 
@@ -82,7 +82,7 @@ macro_rules! whole {
 
 whole! { nanoseconds microseconds milliseconds seconds minutes hours days weeks }
 
-/// Units for `f64`, of so many nanoseconds.
+/// Units for `f64`, each with its number of nanoseconds.
 macro_rules! fractional {
     ($($unit:ident, $std_unit:ident = $nanoseconds:literal;)+) => {
         /// Rounded to the nearest nanosecond, and to the even one where two are as near.

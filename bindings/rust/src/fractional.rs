@@ -8,7 +8,7 @@ const STORED: u32 = f64::MANTISSA_DIGITS - 1;
 /// The exponent of infinity and of NaN.
 const NOT_FINITE: u32 = 0x7ff;
 
-/// What an exponent is stored with: that of the least bit of a significand is so much less.
+/// The bias of a stored exponent: that of the least bit of a significand is less by this.
 const BIAS: u32 = 1_023 + STORED;
 
 /// A finite number without its sign: a whole number of 53 bits, times 2 to the power of the second. None for infinity and NaN.
@@ -22,7 +22,7 @@ const fn parts(number: f64) -> Option<(u64, i32)> {
     }
 }
 
-/// The number halved so many times, once at least: the nearest whole number, and the even one where two are as near.
+/// The number halved a number of times, once at least: the nearest whole number, and the even one where two are as near.
 const fn halve(number: u128, times: u32) -> u128 {
     if times >= u128::BITS {
         return 0;

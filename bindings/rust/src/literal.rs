@@ -3,10 +3,12 @@
 
 use core::fmt;
 
+use crate::error::ComponentRange;
+use crate::proved::Part;
 use crate::{
-    Date, OffsetDateTime, PlainDateTime, Refusal, Time, Timestamp, UtcDateTime, UtcOffset,
+    Date, Month, OffsetDateTime, PlainDateTime, RangeResult, Time, Timestamp, UtcDateTime,
+    UtcOffset, Weekday,
 };
-use crate::{Weekday, sys};
 
 macro_rules! some {
     ($option:expr) => {
@@ -38,7 +40,7 @@ impl Number {
     }
 }
 
-/// What is left of a text.
+/// The rest of a text.
 #[derive(Clone, Copy)]
 struct Rest<'a> {
     bytes: &'a [u8],
@@ -143,7 +145,9 @@ impl<'a> Rest<'a> {
             if !self.takes(b'-') {
                 return None;
             }
-            return Some(DateLiteral::Week(year, week, some!(self.number()).part()));
+            let number = some!(self.number()).part().wrapping_sub(1);
+            let weekday = some!(Weekday::from_number_days_from_monday(number));
+            return Some(DateLiteral::Week(year, week, weekday));
         }
         let second = some!(self.number());
         if self.takes(b'-') {
@@ -239,8 +243,8 @@ pub enum DateLiteral {
     Calendar(i32, u8, u8),
     /// A year and a day of the year.
     Ordinal(i32, u16),
-    /// An ISO year, an ISO week, and a day of the week, 1 for Monday.
-    Week(i32, u8, u8),
+    /// An ISO year, an ISO week, and a day of the week.
+    Week(i32, u8, Weekday),
 }
 
 /// The parts of a time of day.
@@ -319,7 +323,7 @@ pub const fn plain(text: &str) -> Option<PlainLiteral> {
 
 /// The parts of the text that `Display` writes of an instant, in which UTC is `+00`.
 #[must_use]
-pub fn utc(text: &str) -> Option<UtcLiteral> {
+pub(crate) fn utc(text: &str) -> Option<UtcLiteral> {
     plain(text.strip_suffix(AT_UTC)?).map(UtcLiteral)
 }
 
@@ -353,9 +357,36 @@ pub const fn of_form<T: Copy>(literal: Option<T>, message: &str) -> T {
     }
 }
 
-/// Ends the compilation, and says of the refusal what the library says.
-const fn refuse(refusal: Refusal) -> ! {
-    panic!("{}", refusal.explanation())
+/// Ends the compilation, and says which part is out of its range.
+const fn refuse(refused: ComponentRange) -> ! {
+    let sentence = match (refused.part(), refused.is_conditional()) {
+        (Part::Year, _) => "the year is out of the range, -999999 to 999999",
+        (Part::Month, _) => "the month is not 1 to 12",
+        (Part::Day, false) => "the day is not 1 to 31",
+        (Part::Day, true) => "the month of that year does not have the day",
+        (Part::Ordinal, false) => "the day of the year is not 1 to 366",
+        (Part::Ordinal, true) => "the year does not have 366 days",
+        (Part::Week, false) => "the week is not 1 to 53",
+        (Part::Week, true) => "the year does not have 53 weeks",
+        (Part::Hour, _) => "the hour is not 0 to 23",
+        (Part::Minute, _) => "the minute is not 0 to 59",
+        (Part::Second, _) => "the second is not 0 to 59",
+        (Part::Hours, _) => "the hours of the offset are not -25 to 25",
+        (Part::Minutes, _) => "the minutes of the offset are not -59 to 59",
+        (Part::Seconds, _) => "the seconds are out of their range",
+        _ => "a part is out of its range",
+    };
+    panic!("{}", sentence)
+}
+
+/// The value of a result, or its error as it is.
+macro_rules! tried {
+    ($result:expr) => {
+        match $result {
+            Ok(value) => value,
+            Err(refused) => return Err(refused),
+        }
+    };
 }
 
 macro_rules! values {
@@ -365,9 +396,9 @@ macro_rules! values {
                 /// The value. A part that is out of its range ends the compilation.
                 #[must_use]
                 pub const fn value(self) -> $Value {
-                    match self.constant() {
+                    match self.tested() {
                         Ok(value) => value,
-                        Err(refusal) => refuse(refusal),
+                        Err(refused) => refuse(refused),
                     }
                 }
             }
@@ -380,73 +411,84 @@ values! {
     TimeLiteral => Time,
     OffsetLiteral => UtcOffset,
     PlainLiteral => PlainDateTime,
+    UtcLiteral => UtcDateTime,
     DateTimeLiteral => OffsetDateTime,
     TimestampLiteral => Timestamp,
 }
 
 impl DateLiteral {
-    pub(crate) fn tested(self) -> Result<Date, Refusal> {
+    pub(crate) const fn tested(self) -> RangeResult<Date> {
         match self {
             DateLiteral::Calendar(year, month, day) => {
-                Date::tested(sys::MuxanduDate { year, month, day })
+                Date::from_calendar_date(year, tried!(Month::from_number(month)), day)
             }
-            DateLiteral::Ordinal(year, ordinal) => Date::tested_ordinal(year, ordinal),
-            DateLiteral::Week(year, week, number) => match number {
-                1..=7 => Date::tested_week(year, week, Weekday::numbered(number - 1)),
-                _ => Err(Refusal::Weekday),
-            },
+            DateLiteral::Ordinal(year, ordinal) => Date::from_ordinal_date(year, ordinal),
+            DateLiteral::Week(year, week, weekday) => Date::from_iso_week_date(year, week, weekday),
         }
     }
 }
 
 impl TimeLiteral {
-    pub(crate) fn tested(self) -> Result<Time, Refusal> {
-        Time::tested(self.hour, self.minute, self.second, self.nanosecond)
+    pub(crate) const fn tested(self) -> RangeResult<Time> {
+        Time::from_hms_nano(self.hour, self.minute, self.second, self.nanosecond)
     }
 }
 
 impl OffsetLiteral {
-    pub(crate) fn tested(self) -> Result<UtcOffset, Refusal> {
-        let [hours, minutes, seconds] = self.parts.map(|part| {
-            let part = i8::try_from(part).unwrap_or(i8::MAX);
-            if self.is_negative { -part } else { part }
-        });
-        UtcOffset::tested(sys::MuxanduOffset {
-            hours,
-            minutes,
-            seconds,
-        })
+    pub(crate) const fn tested(self) -> RangeResult<UtcOffset> {
+        let [hours, minutes, seconds] = self.parts;
+        UtcOffset::from_hms(
+            self.signed(hours),
+            self.signed(minutes),
+            self.signed(seconds),
+        )
+    }
+
+    /// A part with the sign, or 127 for a greater one, which no part has.
+    const fn signed(self, part: u8) -> i8 {
+        match (part, self.is_negative) {
+            (128.., _) => i8::MAX,
+            (part, false) => part as i8,
+            (part, true) => -(part as i8),
+        }
     }
 }
 
 impl PlainLiteral {
-    pub(crate) fn tested(self) -> Result<PlainDateTime, Refusal> {
-        Ok(PlainDateTime::new(self.date.tested()?, self.time.tested()?))
+    pub(crate) const fn tested(self) -> RangeResult<PlainDateTime> {
+        let date = tried!(self.date.tested());
+        Ok(PlainDateTime::new(date, tried!(self.time.tested())))
     }
 
-    /// The value in UTC. A part that is out of its range ends the compilation.
+    /// As one in UTC.
     #[must_use]
-    pub const fn value_in_utc(self) -> UtcDateTime {
-        self.value().as_utc()
+    pub const fn in_utc(self) -> UtcLiteral {
+        UtcLiteral(self)
     }
 }
 
 impl UtcLiteral {
-    pub(crate) fn tested(self) -> Result<UtcDateTime, Refusal> {
-        Ok(self.0.tested()?.as_utc())
+    pub(crate) const fn tested(self) -> RangeResult<UtcDateTime> {
+        Ok(tried!(self.0.tested()).as_utc())
     }
 }
 
 impl DateTimeLiteral {
-    pub(crate) fn tested(self) -> Result<OffsetDateTime, Refusal> {
-        Ok(self.plain.tested()?.assume_offset(self.offset.tested()?))
+    pub(crate) const fn tested(self) -> RangeResult<OffsetDateTime> {
+        let plain = tried!(self.plain.tested());
+        Ok(plain.assume_offset(tried!(self.offset.tested())))
     }
 }
 
 impl TimestampLiteral {
-    pub(crate) fn tested(self) -> Result<Timestamp, Refusal> {
-        let seconds = i64::try_from(self.seconds).map_err(|_| Refusal::Timestamp)?;
-        Timestamp::tested(seconds, self.nanosecond)
+    pub(crate) const fn tested(self) -> RangeResult<Timestamp> {
+        let is_held = self.seconds >= i64::MIN as i128 && self.seconds <= i64::MAX as i128;
+        let seconds = if is_held {
+            self.seconds as i64
+        } else {
+            i64::MAX
+        };
+        Timestamp::new(seconds, self.nanosecond)
     }
 }
 

@@ -17,7 +17,7 @@
 //! assert_eq!(timestamp!(-0.5), utc_datetime!(1969-12-31 23:59:59.5));
 //! ```
 
-pub use crate::{date, datetime, offset, time, timestamp, utc_datetime};
+pub use crate::{date, datetime, format_description, offset, time, timestamp, utc_datetime};
 
 /// A [`Date`](crate::Date): `date!(2024-02-29)`, `date!(2024-060)` or `date!(2024-W09-4)`.
 #[macro_export]
@@ -79,7 +79,8 @@ macro_rules! utc_datetime {
             $crate::literal::plain(::core::stringify!($($token)+)),
             ::core::concat!("no date and time of day: ", ::core::stringify!($($token)+)),
         )
-        .value_in_utc();
+        .in_utc()
+        .value();
         LITERAL
     }};
 }
@@ -133,5 +134,31 @@ macro_rules! __datetime_at_offset {
         )
         .value();
         LITERAL
+    }};
+}
+
+/// A format description, which is read at compile time: `format_description!("[year]-[month]-[day]")`, and with `version = 2`
+/// before the text, `format_description!(version = 2, r"\[[year]\]")`.
+///
+/// A text that is no description does not compile:
+///
+/// ```compile_fail
+/// let description = muxandu::macros::format_description!("[year]-[mouth]");
+/// ```
+#[macro_export]
+macro_rules! format_description {
+    ($text:expr $(,)?) => {
+        $crate::format_description!(version = 1, $text)
+    };
+    (version = $version:expr, $text:expr $(,)?) => {{
+        const TEXT: &::core::primitive::str = $text;
+        const READ: (
+            [$crate::format_description::BorrowedFormatItem<'static>; TEXT.len()],
+            ::core::primitive::usize,
+        ) = $crate::format_description::constant($version, TEXT);
+        const ITEMS: [$crate::format_description::BorrowedFormatItem<'static>; READ.1] =
+            $crate::format_description::front(READ.0);
+        const DESCRIPTION: $crate::format_description::StaticFormatDescription = &ITEMS;
+        DESCRIPTION
     }};
 }

@@ -1,60 +1,38 @@
-//! Comparisons, differences and conversions between the types of instants.
+//! Comparisons and conversions between the types of instants, by the proved functions for each pair.
 
 use core::cmp::Ordering;
-use core::ops::Sub;
 
-use crate::sys;
-use crate::{OffsetDateTime, SignedDuration, Timestamp, UtcDateTime};
+use crate::{OffsetDateTime, Timestamp, UtcDateTime};
 
-/// As what clocks at an offset show, which each instant can be.
-trait Shown: Copy {
-    fn shown(self) -> OffsetDateTime;
-}
-
-impl Shown for OffsetDateTime {
-    #[inline]
-    fn shown(self) -> OffsetDateTime {
-        self
-    }
-}
-
-impl Shown for UtcDateTime {
-    #[inline]
-    fn shown(self) -> OffsetDateTime {
-        self.at_offset_0()
-    }
-}
-
-impl Shown for Timestamp {
-    #[inline]
-    fn shown(self) -> OffsetDateTime {
-        self.to_utc().at_offset_0()
-    }
-}
-
+/// Comparisons of two types in both orders, by the functions that the first has for the second.
 macro_rules! compared {
-    ($($First:ident, $Second:ident;)+) => {
+    ($($First:ident, $Second:ident: $eq:ident, $cmp:ident;)+) => {
         $(
             impl PartialEq<$Second> for $First {
                 #[inline]
                 fn eq(&self, other: &$Second) -> bool {
-                    self.shown() == other.shown()
+                    self.$eq(*other)
+                }
+            }
+
+            impl PartialEq<$First> for $Second {
+                #[inline]
+                fn eq(&self, other: &$First) -> bool {
+                    other.$eq(*self)
                 }
             }
 
             impl PartialOrd<$Second> for $First {
                 #[inline]
                 fn partial_cmp(&self, other: &$Second) -> Option<Ordering> {
-                    Some(self.shown().cmp(&other.shown()))
+                    Some(self.$cmp(*other))
                 }
             }
 
-            impl Sub<$Second> for $First {
-                type Output = SignedDuration;
-
+            impl PartialOrd<$First> for $Second {
                 #[inline]
-                fn sub(self, earlier: $Second) -> SignedDuration {
-                    self.shown() - earlier.shown()
+                fn partial_cmp(&self, other: &$First) -> Option<Ordering> {
+                    Some(other.$cmp(*self).reverse())
                 }
             }
         )+
@@ -62,42 +40,9 @@ macro_rules! compared {
 }
 
 compared! {
-    OffsetDateTime, UtcDateTime;
-    UtcDateTime, OffsetDateTime;
-    OffsetDateTime, Timestamp;
-    Timestamp, OffsetDateTime;
-    UtcDateTime, Timestamp;
-    Timestamp, UtcDateTime;
-}
-
-impl From<UtcDateTime> for Timestamp {
-    #[inline]
-    fn from(at: UtcDateTime) -> Timestamp {
-        let mut out = Timestamp::UNIX_EPOCH;
-        sure!(sys::muxandu_timestamp_from_date_time(at.0, &mut out.0));
-        out
-    }
-}
-
-impl From<Timestamp> for UtcDateTime {
-    #[inline]
-    fn from(at: Timestamp) -> UtcDateTime {
-        at.to_utc()
-    }
-}
-
-impl From<UtcDateTime> for OffsetDateTime {
-    #[inline]
-    fn from(at: UtcDateTime) -> OffsetDateTime {
-        at.at_offset_0()
-    }
-}
-
-impl From<Timestamp> for OffsetDateTime {
-    #[inline]
-    fn from(at: Timestamp) -> OffsetDateTime {
-        at.to_utc().at_offset_0()
-    }
+    OffsetDateTime, UtcDateTime: eq_utc, cmp_utc;
+    Timestamp, UtcDateTime: eq_utc, cmp_utc;
+    Timestamp, OffsetDateTime: eq_offset, cmp_offset;
 }
 
 /// # Panics
@@ -118,7 +63,6 @@ impl From<OffsetDateTime> for Timestamp {
     #[track_caller]
     #[inline]
     fn from(at: OffsetDateTime) -> Timestamp {
-        at.checked_to_timestamp()
-            .expect("a year of the range in UTC")
+        at.to_timestamp()
     }
 }

@@ -1,43 +1,28 @@
-//! Parts of the texts that the library writes, and how texts are read back.
+//! How texts are read back, and the texts of durations.
 
 use core::fmt::{self, Write};
+use core::str::FromStr;
 
-use crate::error::InvalidVariant;
-use crate::{Refusal, SignedDuration, Text};
+use crate::error::{ComponentRange, InvalidVariant};
+use crate::{
+    Date, OffsetDateTime, PlainDateTime, Refusal, SignedDuration, Text, Time, Timestamp,
+    UtcDateTime, UtcOffset, literal,
+};
 
-/// How the text of a date-time in UTC ends: the offset, with a space before it.
-const AT_OFFSET_0: &str = " +00:00:00";
+/// The rest of a text after the written part.
+struct Rest<'a>(&'a str);
 
-/// The date of the text of a date-time.
-pub(crate) fn date(text: &str) -> &str {
-    text.split_once(' ').map_or(text, |(date, _)| date)
-}
-
-/// The time of day of the text of a date-time.
-pub(crate) fn time(text: &str) -> &str {
-    let text = plain(text);
-    text.split_once(' ').map_or(text, |(_, time)| time)
-}
-
-/// The date and the time of day of the text of a date-time.
-pub(crate) fn plain(text: &str) -> &str {
-    text.strip_suffix(AT_OFFSET_0).unwrap_or(text)
-}
-
-/// The same, and the hours of the offset.
-pub(crate) fn utc(text: &str) -> &str {
-    text.strip_suffix(":00:00").unwrap_or(text)
-}
-
-/// The offset of the text of a date-time.
-pub(crate) fn offset(text: &str) -> &str {
-    text.rsplit_once(' ').map_or(text, |(_, offset)| offset)
+impl Write for Rest<'_> {
+    fn write_str(&mut self, written: &str) -> fmt::Result {
+        self.0 = self.0.strip_prefix(written).ok_or(fmt::Error)?;
+        Ok(())
+    }
 }
 
 /// Whether `Display` writes the value so.
 fn is_written(text: &str, value: &impl fmt::Display) -> bool {
-    let mut written = Text::empty();
-    write!(written, "{value}").is_ok() && written == text
+    let mut rest = Rest(text);
+    write!(rest, "{value}").is_ok() && rest.0.is_empty()
 }
 
 /// The value of the parts that were read of a text, if the text is what `Display` writes so. What is refused is named only
@@ -45,19 +30,23 @@ fn is_written(text: &str, value: &impl fmt::Display) -> bool {
 pub(crate) fn read<Parts: Copy + fmt::Display, T: fmt::Display>(
     text: &str,
     parts: Option<Parts>,
-    tested: impl FnOnce(Parts) -> Result<T, Refusal>,
+    tested: impl FnOnce(Parts) -> Result<T, ComponentRange>,
 ) -> Result<T, Refusal> {
     let parts = parts.ok_or(Refusal::Syntax)?;
     match tested(parts) {
         Ok(value) if is_written(text, &value) => Ok(value),
-        Err(refusal) if is_written(text, &parts) => Err(refusal),
+        Err(refused) if is_written(text, &parts) => Err(refused.into()),
         _ => Err(Refusal::Syntax),
     }
 }
 
-/// The value of a name.
-pub(crate) fn named<T: Copy + fmt::Display>(all: &[T], name: &str) -> Result<T, InvalidVariant> {
-    let found = all.iter().find(|value| is_written(name, value));
+/// The value of a name, of the texts of all.
+pub(crate) fn named<T: Copy>(
+    all: &[T],
+    text: impl Fn(T) -> Text,
+    name: &str,
+) -> Result<T, InvalidVariant> {
+    let found = all.iter().find(|value| *text(**value) == *name);
     found.copied().ok_or(InvalidVariant)
 }
 
@@ -72,40 +61,84 @@ const UNITS: [(u128, &str); 7] = [
     (1, "ns"),
 ];
 
-/// Writes a duration with the width, the alignment and the precision that are asked for.
-pub(crate) fn write_duration(f: &mut fmt::Formatter<'_>, whole_nanoseconds: i128) -> fmt::Result {
-    let mut text = Text::empty();
+/// How many characters are written.
+struct Length(usize);
+
+impl Write for Length {
+    fn write_str(&mut self, written: &str) -> fmt::Result {
+        self.0 += written.chars().count();
+        Ok(())
+    }
+}
+
+/// Writes a duration with the width, the alignment and the precision that are asked for. `Formatter::pad` would cut it at the
+/// precision.
+pub(crate) fn write_duration(f: &mut fmt::Formatter<'_>, nanoseconds: i128) -> fmt::Result {
+    let (fill, decimals, mut length) = (f.fill(), f.precision(), Length(0));
+    let Some(width) = f.width() else {
+        return write_all(f, nanoseconds, decimals);
+    };
+    write_all(&mut length, nanoseconds, decimals)?;
+    let missing = width.saturating_sub(length.0);
+    let before = match f.align() {
+        Some(fmt::Alignment::Right) => missing,
+        Some(fmt::Alignment::Center) => missing / 2,
+        _ => 0,
+    };
+    (0..before).try_for_each(|_| f.write_char(fill))?;
+    write_all(f, nanoseconds, decimals)?;
+    (before..missing).try_for_each(|_| f.write_char(fill))
+}
+
+/// The sign, and each unit, or the greatest alone with that many decimals.
+fn write_all(
+    out: &mut impl Write,
+    whole_nanoseconds: i128,
+    decimals: Option<usize>,
+) -> fmt::Result {
     if whole_nanoseconds < 0 {
-        text.write_char('-')?;
+        out.write_char('-')?;
     }
     let nanoseconds = whole_nanoseconds.unsigned_abs();
-    match f.precision() {
-        None => write_units(&mut text, nanoseconds)?,
-        Some(decimals) => write_rounded(&mut text, nanoseconds, decimals.min(MOST_DECIMALS))?,
+    match decimals {
+        None => write_units(out, nanoseconds),
+        Some(decimals) => write_rounded(out, nanoseconds, decimals.min(MOST_DECIMALS)),
     }
-    write_aligned(f, &text)
 }
 
 /// Each unit and its count, but for the counts of 0.
-fn write_units(text: &mut Text, mut nanoseconds: u128) -> fmt::Result {
+fn write_units(out: &mut impl Write, nanoseconds: u128) -> fmt::Result {
     if nanoseconds == 0 {
-        return text.write_str("0s");
+        return out.write_str("0s");
     }
-    for (length, unit) in UNITS {
-        let count = nanoseconds / length;
-        if count > 0 {
-            write!(text, "{count}{unit}")?;
-        }
-        nanoseconds %= length;
+    let (length, unit) = UNITS[0];
+    write_count(out, nanoseconds / length, unit)?;
+    let mut rest = (nanoseconds % length) as u64;
+    for (length, unit) in &UNITS[1..] {
+        let length = *length as u64;
+        write_count(out, rest / length, unit)?;
+        rest %= length;
     }
     Ok(())
+}
+
+/// A count and its unit, but for the count of 0.
+fn write_count<T: fmt::Display + Default + PartialEq>(
+    out: &mut impl Write,
+    count: T,
+    unit: &str,
+) -> fmt::Result {
+    if count == T::default() {
+        return Ok(());
+    }
+    write!(out, "{count}{unit}")
 }
 
 /// 128 bits hold the nanoseconds of less than a day, times 10 to the power of this.
 const MOST_DECIMALS: usize = 24;
 
-/// The greatest unit that there is one of, and its count with so many decimals, as `1.50m`.
-fn write_rounded(text: &mut Text, nanoseconds: u128, decimals: usize) -> fmt::Result {
+/// The greatest unit that there is one of, and its count with that many decimals, as `1.50m`.
+fn write_rounded(out: &mut impl Write, nanoseconds: u128, decimals: usize) -> fmt::Result {
     const SECONDS: (u128, &str) = UNITS[3];
     let greatest = UNITS.into_iter().find(|(length, _)| nanoseconds >= *length);
     let (length, unit) = greatest.unwrap_or(SECONDS);
@@ -118,25 +151,11 @@ fn write_rounded(text: &mut Text, nanoseconds: u128, decimals: usize) -> fmt::Re
     };
     let is_nearer_above = rest * 2 > length || rest * 2 == length && last_is_odd;
     let fraction = down + u128::from(is_nearer_above);
-    write!(text, "{}", nanoseconds / length + fraction / one)?;
+    write!(out, "{}", nanoseconds / length + fraction / one)?;
     if decimals > 0 {
-        write!(text, ".{:0decimals$}", fraction % one)?;
+        write!(out, ".{:0decimals$}", fraction % one)?;
     }
-    text.write_str(unit)
-}
-
-/// Writes all of a text, as wide as is asked for: `Formatter::pad` would cut it at the precision.
-fn write_aligned(f: &mut fmt::Formatter<'_>, text: &str) -> fmt::Result {
-    let missing = f.width().unwrap_or(0).saturating_sub(text.chars().count());
-    let before = match f.align() {
-        Some(fmt::Alignment::Right) => missing,
-        Some(fmt::Alignment::Center) => missing / 2,
-        _ => 0,
-    };
-    let fill = f.fill();
-    (0..before).try_for_each(|_| f.write_char(fill))?;
-    f.write_str(text)?;
-    (before..missing).try_for_each(|_| f.write_char(fill))
+    out.write_str(unit)
 }
 
 /// Reads the units in their order, and answers only what is written so.
@@ -162,13 +181,58 @@ pub(crate) fn duration(text: &str) -> Result<SignedDuration, Refusal> {
         whole = whole.saturating_add(count.saturating_mul(unit.0 as i128));
         rest = after;
     }
-    let mut written = Text::empty();
-    if is_negative && whole > 0 {
-        written.write_char('-').map_err(|_| Refusal::Syntax)?;
-    }
-    if write_units(&mut written, whole.unsigned_abs()).is_err() || written != text {
+    let whole = if is_negative { -whole } else { whole };
+    let mut rest = Rest(text);
+    if write_all(&mut rest, whole, None).is_err() || !rest.0.is_empty() {
         return Err(Refusal::Syntax);
     }
-    let whole = if is_negative { -whole } else { whole };
-    SignedDuration::of_nanoseconds(whole).ok_or(Refusal::Duration)
+    SignedDuration::of_nanoseconds(whole).ok_or(Refusal::OutOfRange("duration"))
+}
+
+/// `FromStr` of types whose texts are those of their literals.
+macro_rules! read_back {
+    ($($Type:ident: $literal:ident;)+) => {
+        $(
+            /// Reads what `Display` writes.
+            impl FromStr for $Type {
+                type Err = Refusal;
+
+                fn from_str(text: &str) -> Result<$Type, Refusal> {
+                    read(text, literal::$literal(text), |literal| literal.tested())
+                }
+            }
+        )+
+    };
+}
+
+read_back! {
+    Date: date;
+    Time: time;
+    UtcOffset: offset;
+    PlainDateTime: plain;
+}
+
+/// `FromStr` of instants, which texts of RFC 3339 name too.
+macro_rules! read_instants {
+    ($($Type:ident: $literal:ident;)+) => {
+        $(
+            /// Reads what `Display` writes, and texts of RFC 3339, as `1996-12-19T16:39:57-08:00`.
+            impl FromStr for $Type {
+                type Err = Refusal;
+
+                fn from_str(text: &str) -> Result<$Type, Refusal> {
+                    match read(text, literal::$literal(text), |literal| literal.tested()) {
+                        Err(Refusal::Syntax) => Ok($Type::from_rfc3339(text.as_bytes())?),
+                        answer => answer,
+                    }
+                }
+            }
+        )+
+    };
+}
+
+read_instants! {
+    OffsetDateTime: date_time;
+    UtcDateTime: utc;
+    Timestamp: timestamp;
 }

@@ -1,4 +1,4 @@
-use crate::sys;
+use crate::{OffsetDateTime, Timestamp};
 
 /// A unit of time, to which a value is rounded down.
 ///
@@ -22,19 +22,32 @@ pub enum Unit {
     Millisecond,
     /// A microsecond.
     Microsecond,
+    /// A nanosecond.
+    Nanosecond,
 }
 
-impl Unit {
-    /// The number of the unit in the library.
+impl OffsetDateTime {
+    /// Rounded down to a unit, as the clocks show it.
+    #[must_use]
     #[inline]
-    pub(crate) fn number(self) -> u32 {
-        match self {
-            Unit::Day => sys::UNIT_DAY,
-            Unit::Hour => sys::UNIT_HOUR,
-            Unit::Minute => sys::UNIT_MINUTE,
-            Unit::Second => sys::UNIT_SECOND,
-            Unit::Millisecond => sys::UNIT_MILLISECOND,
-            Unit::Microsecond => sys::UNIT_MICROSECOND,
+    pub fn truncated_to(self, unit: Unit) -> OffsetDateTime {
+        match unit {
+            Unit::Day => self.truncate_to_day(),
+            Unit::Hour => self.truncate_to_hour(),
+            Unit::Minute => self.truncate_to_minute(),
+            Unit::Second => self.truncate_to_second(),
+            Unit::Millisecond => self.truncate_to_millisecond(),
+            Unit::Microsecond => self.truncate_to_microsecond(),
+            Unit::Nanosecond => self,
         }
+    }
+}
+
+impl Timestamp {
+    /// The instant rounded down to a unit in UTC.
+    #[must_use]
+    #[inline]
+    pub fn truncated_to(self, unit: Unit) -> Timestamp {
+        OffsetDateTime::from(self).truncated_to(unit).to_timestamp()
     }
 }

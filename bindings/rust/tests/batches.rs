@@ -1,133 +1,76 @@
-//! Calls over many items: whole, refused at an item, short of room, and from many threads.
+//! Many items by iterators and slices: what stops at an item, texts in a block, counts of all units, and many threads.
 
 use std::thread;
 
-use muxandu::{
-    BatchRefusal, Date, OffsetDateTime, PlainDateTime, Refusal, Span, Timestamp, UtcOffset,
-    date_times_from_seconds, dates_from_days, days_from_dates, seconds_from_date_times,
-    timestamps_from_rfc3339,
-};
+use muxandu::error::ComponentRange;
+use muxandu::macros::offset;
+use muxandu::{Date, OffsetDateTime, PlainDateTime, TextRefusal, Timestamp, UtcOffset};
 
 fn a_minute() -> UtcOffset {
     UtcOffset::from_whole_seconds(60).unwrap()
 }
 
-fn stopped(count: usize, refusal: Refusal) -> Result<(), BatchRefusal> {
-    Err(BatchRefusal { count, refusal })
+/// What clocks at an offset show at each second, or the refusal of the first that the range does not have.
+fn shown(seconds: &[i64], offset: UtcOffset) -> Result<Vec<OffsetDateTime>, ComponentRange> {
+    let at = |second: &i64| Ok(Timestamp::from_seconds(*second)?.to_offset(offset));
+    seconds.iter().map(at).collect()
 }
 
 #[test]
 fn seconds_and_back() {
-    let seconds = [0, -1, 1_709_210_096, i64::MAX, 7];
-    let mut date_times = [OffsetDateTime::default(); 5];
+    let seconds = [0, -1, 1_709_210_096];
+    let date_times = shown(&seconds, a_minute()).unwrap();
+    let texts: Vec<String> = date_times
+        .iter()
+        .map(|at| at.to_rfc3339().unwrap().to_string())
+        .collect();
     assert_eq!(
-        date_times_from_seconds(&seconds[..3], a_minute(), &mut date_times),
-        Ok(())
-    );
-    let texts = date_times.map(|date_time| date_time.to_rfc3339().unwrap());
-    assert_eq!(
-        texts[..3],
+        texts,
         [
             "1970-01-01T00:01:00+00:01",
             "1970-01-01T00:00:59+00:01",
             "2024-02-29T12:35:56+00:01"
         ]
     );
-    assert!(
-        date_times[3..]
-            .iter()
-            .all(|date_time| date_time.is_same(OffsetDateTime::UNIX_EPOCH))
-    );
-    let mut back = [7; 3];
-    assert_eq!(seconds_from_date_times(&date_times[..3], &mut back), Ok(()));
-    assert_eq!(back, seconds[..3]);
+    let back = date_times.iter().map(|at| at.unix_timestamp());
+    assert!(back.eq(seconds));
 }
 
 #[test]
 fn the_first_refused_stops() {
-    let mut date_times = [OffsetDateTime::default(); 3];
-    assert_eq!(
-        date_times_from_seconds(&[86_400, i64::MAX, 7], UtcOffset::UTC, &mut date_times),
-        stopped(1, Refusal::Timestamp)
-    );
-    assert_eq!(
-        date_times.map(|date_time| date_time.day_number()),
-        [1, 0, 0]
-    );
+    let refused = shown(&[86_400, i64::MAX, 7], UtcOffset::UTC).unwrap_err();
+    assert_eq!(refused.name(), "seconds");
     let before = PlainDateTime::MIN.assume_offset(a_minute());
-    let mut back = [7; 2];
-    assert_eq!(
-        seconds_from_date_times(&[OffsetDateTime::default(), before], &mut back),
-        stopped(1, Refusal::Result)
-    );
-    assert_eq!(back, [0, 7]);
-    let mut dates = [Date::default(); 2];
-    assert_eq!(
-        dates_from_days(&[1, i32::MIN], &mut dates),
-        stopped(1, Refusal::DayNumber)
-    );
-    assert_eq!(dates.map(Date::day_number), [1, 0]);
+    let mut instants = [OffsetDateTime::default(), before]
+        .into_iter()
+        .map_while(OffsetDateTime::checked_to_timestamp);
+    assert_eq!(instants.next(), Some(Timestamp::UNIX_EPOCH));
+    assert_eq!(instants.next(), None);
+    let days = [1, i32::MIN];
+    let dates: Option<Vec<Date>> = days.into_iter().map(Date::from_days_since_epoch).collect();
+    assert_eq!(dates, None);
 }
 
 #[test]
 fn many_dates() {
     let mut days: Vec<i32> = (-500..500).collect();
-    let mut dates = vec![Date::MAX; 1_001];
-    assert_eq!(dates_from_days(&days, &mut dates), Ok(()));
+    let date_of = |day: &i32| Date::from_days_since_epoch(*day);
+    let dates: Vec<Date> = days.iter().map_while(date_of).collect();
     assert!(
         days.iter()
             .zip(&dates)
-            .all(|(day, date)| date.day_number() == *day)
+            .all(|(day, date)| date.days_since_epoch() == *day)
     );
-    assert_eq!(dates[1_000], Date::MAX);
-    let mut back = vec![7; 1_001];
-    assert_eq!(days_from_dates(&dates[..1_000], &mut back), Ok(()));
-    assert_eq!((&back[..1_000], back[1_000]), (&days[..], 7));
+    assert_eq!(dates.len(), 1_000);
     days[777] = i32::MAX;
-    dates.fill(Date::MIN);
-    assert_eq!(
-        dates_from_days(&days, &mut dates),
-        stopped(777, Refusal::DayNumber)
-    );
-    assert_eq!((dates[776].day_number(), dates[777]), (276, Date::MIN));
-    assert_eq!(
-        days_from_dates(&dates, &mut back[..1_000]),
-        stopped(0, Refusal::Buffer)
-    );
-}
-
-#[test]
-fn short_places_take_nothing() {
-    let mut date_times = [OffsetDateTime::default(); 1];
-    assert_eq!(
-        date_times_from_seconds(&[7, 7], UtcOffset::UTC, &mut date_times),
-        stopped(0, Refusal::Buffer)
-    );
-    assert!(date_times[0].is_same(OffsetDateTime::UNIX_EPOCH));
-    assert_eq!(
-        seconds_from_date_times(&date_times, &mut []),
-        stopped(0, Refusal::Buffer)
-    );
-    assert_eq!(dates_from_days(&[1], &mut []), stopped(0, Refusal::Buffer));
-    assert_eq!(
-        days_from_dates(&[Date::default()], &mut []),
-        stopped(0, Refusal::Buffer)
-    );
-    assert_eq!(
-        timestamps_from_rfc3339(b"", &[Span::from(0..0)], &mut []),
-        stopped(0, Refusal::Buffer)
-    );
-    assert_eq!(
-        date_times_from_seconds(&[], UtcOffset::UTC, &mut []),
-        Ok(())
-    );
+    let dates: Vec<Date> = days.iter().map_while(date_of).collect();
+    assert_eq!((dates.len(), dates[776].days_since_epoch()), (777, 276));
 }
 
 #[test]
 fn days_and_dates() {
     let days = [-365_961_662, -1, 0, 19_782, 364_522_971];
-    let mut dates = [Date::default(); 5];
-    assert_eq!(dates_from_days(&days, &mut dates), Ok(()));
+    let dates = days.map(|day| Date::from_days_since_epoch(day).unwrap());
     let texts = dates.map(|date| date.to_string());
     assert_eq!(
         texts,
@@ -139,38 +82,19 @@ fn days_and_dates() {
             "+999999-12-31"
         ]
     );
-    let mut back = [0; 5];
-    assert_eq!(days_from_dates(&dates, &mut back), Ok(()));
-    assert_eq!(back, days);
+    assert_eq!(dates.map(Date::days_since_epoch), days);
 }
 
 #[test]
 fn texts_in_a_block() {
     let block = b"1970-01-01T00:00:01Z,1970-01-01T01:00:00.5+01:00,1970-01-01";
-    let spans = [0..20, 21..48, 49..59, 49..60].map(Span::from);
-    let mut out = [Timestamp::UNIX_EPOCH; 4];
+    let read: Vec<_> = block
+        .split(|byte| *byte == b',')
+        .map(|text| Timestamp::from_rfc3339(text).map(|at| (at.as_seconds(), at.nanosecond())))
+        .collect();
     assert_eq!(
-        timestamps_from_rfc3339(block, &spans, &mut out),
-        stopped(2, Refusal::Syntax)
-    );
-    assert_eq!(
-        out.map(|at| (at.as_seconds(), at.nanosecond())),
-        [(1, 0), (0, 500_000_000), (0, 0), (0, 0)]
-    );
-    assert_eq!(
-        timestamps_from_rfc3339(block, &spans[3..], &mut out),
-        stopped(0, Refusal::Span)
-    );
-    #[allow(clippy::reversed_empty_ranges)]
-    let reversed = Span::from(9..3);
-    assert_eq!(
-        timestamps_from_rfc3339(block, &[reversed], &mut out),
-        stopped(0, Refusal::Span)
-    );
-    let refused = timestamps_from_rfc3339(block, &spans[2..], &mut out).unwrap_err();
-    assert_eq!(
-        refused.to_string(),
-        "item 0: SYNTAX: A text that does not have the form that the call reads, such as a date-time of RFC 3339."
+        read,
+        [Ok((1, 0)), Ok((0, 500_000_000)), Err(TextRefusal::Syntax)]
     );
 }
 
@@ -180,18 +104,41 @@ fn threads_call_at_once() {
         for day in 1..=8 {
             scope.spawn(move || {
                 let seconds: Vec<i64> = (0..10_000).map(|number| number * 86_400 * day).collect();
-                let mut date_times = vec![OffsetDateTime::default(); seconds.len()];
-                let mut back = vec![0; seconds.len()];
                 for _ in 0..20 {
-                    assert_eq!(
-                        date_times_from_seconds(&seconds, UtcOffset::UTC, &mut date_times),
-                        Ok(())
+                    let date_times = shown(&seconds, UtcOffset::UTC).unwrap();
+                    assert!(
+                        date_times
+                            .iter()
+                            .map(|at| at.unix_timestamp())
+                            .eq(seconds.iter().copied())
                     );
-                    assert_eq!(seconds_from_date_times(&date_times, &mut back), Ok(()));
-                    assert_eq!(back, seconds);
+                    let last = date_times[9_999].date().days_since_epoch();
+                    assert_eq!(i64::from(last), 9_999 * day);
                 }
-                assert_eq!(i64::from(date_times[9_999].day_number()), 9_999 * day);
             });
         }
     });
+}
+
+#[test]
+fn counts_of_many() {
+    let counts = [-1, 0, 1_709_164_800_000];
+    let texts = |instants: [Timestamp; 3], offset: UtcOffset| {
+        instants.map(|at| at.to_offset(offset).to_rfc3339().unwrap().to_string())
+    };
+    let instants = counts.map(|count| Timestamp::from_milliseconds(count).unwrap());
+    let written = texts(instants, UtcOffset::UTC);
+    assert_eq!(written[0], "1969-12-31T23:59:59.999Z");
+    assert_eq!(written[2], "2024-02-29T00:00:00Z");
+    assert_eq!(instants.map(Timestamp::as_milliseconds), counts);
+    let counts = counts.map(i128::from);
+    let instants = counts.map(|count| Timestamp::from_microseconds(count).unwrap());
+    let written = texts(instants, offset!(+1));
+    assert_eq!(written[0], "1970-01-01T00:59:59.999999+01:00");
+    assert_eq!(instants.map(Timestamp::as_microseconds), counts);
+    let instants = counts.map(|count| Timestamp::from_nanoseconds(count).unwrap());
+    let written = texts(instants, UtcOffset::UTC);
+    assert_eq!(written[2], "1970-01-01T00:28:29.1648Z");
+    assert_eq!(instants.map(Timestamp::as_nanoseconds), counts);
+    assert!(Timestamp::from_milliseconds(i64::MAX).is_err());
 }

@@ -39,7 +39,7 @@ fn dates_are_tested() {
         ("week", true)
     );
     assert_eq!(name(Date::from_julian_day(i32::MAX)), ("julian_day", false));
-    assert_eq!(Date::from_day_number(i32::MIN), Err(Refusal::DayNumber));
+    assert_eq!(Date::from_days_since_epoch(i32::MIN), None);
     assert_eq!(
         name(date!(2024 - 02 - 29).replace_year(2023)),
         ("day", true)
@@ -53,8 +53,8 @@ fn dates_are_tested() {
         name(date!(2024 - 01 - 31).replace_ordinal(367)),
         ("ordinal", false)
     );
-    assert_eq!(days_in_month(2023, 13), Err(Refusal::Month));
-    assert_eq!(days_in_month(1_000_000, 2), Err(Refusal::Year));
+    assert_eq!(name(Month::try_from(13)), ("month", false));
+    assert_eq!(name(Month::try_from(0)), ("month", false));
 }
 
 #[test]
@@ -70,19 +70,26 @@ fn dates_show() {
     assert_eq!((date.iso_week(), date.weekday()), (53, Weekday::Friday));
     assert_eq!((date.sunday_based_week(), date.monday_based_week()), (0, 0));
     assert_eq!(
-        (date.to_julian_day(), date.day_number()),
+        (date.to_julian_day(), date.days_since_epoch()),
         (2_459_216, 18_628)
     );
     assert_eq!(Date::from_julian_day(2_459_216), Ok(date));
-    assert_eq!(Date::from_day_number(18_628), Ok(date));
+    assert_eq!(Date::from_days_since_epoch(18_628), Some(date));
     assert_eq!(Date::from_ordinal_date(2021, 1), Ok(date));
     assert_eq!(
         Date::from_iso_week_date(2020, 53, Weekday::Friday),
         Ok(date)
     );
     assert_eq!(
-        (days_in_month(2024, 2), Month::February.length(2023)),
-        (Ok(29), 28)
+        (
+            days_in_month(2024, Month::February),
+            Month::February.length(2023)
+        ),
+        (29, 28)
+    );
+    assert_eq!(
+        (Month::February.length(1900), Month::February.length(2000)),
+        (28, 29)
     );
     assert_eq!(
         (Date::MIN.weekday(), Date::MAX.weekday()),
@@ -108,11 +115,6 @@ fn dates_move() {
     assert_eq!(date.checked_add(SignedDuration::MAX), None);
     assert_eq!(date.saturating_sub(SignedDuration::MAX), Date::MIN);
     assert_eq!(date.saturating_sub(SignedDuration::MIN), Date::MAX);
-    assert_eq!(
-        date!(2024 - 01 - 31).checked_add_months(-11),
-        Some(date!(2023 - 02 - 28))
-    );
-    assert_eq!(Date::MAX.checked_add_months(1), None);
     assert_eq!(
         date.checked_next_occurrence(Weekday::Wednesday),
         Some(date!(2024 - 03 - 06))
@@ -176,7 +178,7 @@ fn offsets() {
     assert_eq!(name(UtcOffset::from_hms(25, 59, -60)), ("seconds", false));
     assert_eq!(
         name(UtcOffset::from_whole_seconds(93_600)),
-        ("seconds", false)
+        ("offset_seconds", false)
     );
     let offset = UtcOffset::from_hms(1, -2, -3).unwrap();
     assert_eq!(
@@ -220,7 +222,10 @@ fn date_times_show_and_move() {
     let shown = plain.assume_offset(offset!(+1));
     assert_eq!(shown, datetime!(2024-02-29 11:34:56.789 UTC));
     assert_eq!(shown.to_hms_milli(), (12, 34, 56, 789));
-    assert_eq!((shown.day_number(), shown.offset()), (19_782, offset!(+1)));
+    assert_eq!(
+        (shown.date().days_since_epoch(), shown.offset()),
+        (19_782, offset!(+1))
+    );
     assert_eq!(shown.unix_timestamp(), 1_709_206_496);
     assert_eq!(shown.unix_timestamp_nanos(), 1_709_206_496_789_000_000);
     assert_eq!(
@@ -262,21 +267,18 @@ fn wall_clocks_beyond_the_instants() {
 
 #[test]
 fn instants() {
-    assert_eq!(
-        name(Timestamp::new(i64::MAX, u32::MAX)),
-        ("timestamp", false)
-    );
+    assert_eq!(name(Timestamp::new(i64::MAX, u32::MAX)), ("seconds", false));
     assert_eq!(
         name(Timestamp::new(0, 1_000_000_000)),
-        ("nanosecond", false)
+        ("nanoseconds", false)
     );
     assert_eq!(
         name(Timestamp::from_milliseconds(i64::MAX)),
-        ("timestamp", false)
+        ("milliseconds", false)
     );
     assert_eq!(
         name(Timestamp::from_microseconds(i128::MIN)),
-        ("timestamp", false)
+        ("microseconds", false)
     );
     assert_eq!(
         name(UtcDateTime::from_unix_timestamp(i64::MIN)),
@@ -423,11 +425,17 @@ fn texts_of_other_forms_are_refused() {
     ] {
         assert_eq!(text.parse::<Date>(), Err(Refusal::Syntax), "{text}");
     }
-    assert_eq!("2023-02-29".parse::<Date>(), Err(Refusal::DayOfMonth));
+    assert_eq!(
+        "2023-02-29".parse::<Date>(),
+        Err(Refusal::OutOfRange("day"))
+    );
     for text in ["1:02", "01:02:03.0", "1:02:03", "1:02:03.10"] {
         assert_eq!(text.parse::<Time>(), Err(Refusal::Syntax), "{text}");
     }
-    assert_eq!("24:00:00.0".parse::<Time>(), Err(Refusal::Hour));
+    assert_eq!(
+        "24:00:00.0".parse::<Time>(),
+        Err(Refusal::OutOfRange("hour"))
+    );
     assert_eq!("UTC".parse::<UtcOffset>(), Err(Refusal::Syntax));
     assert_eq!(
         "2024-02-29 1:02:03.0 +00:00:00".parse::<UtcDateTime>(),
@@ -443,6 +451,10 @@ fn texts_of_other_forms_are_refused() {
 fn texts_of_rfc_3339() {
     let at = datetime!(1996-12-19 16:39:57 -8);
     assert_eq!(at.to_rfc3339().unwrap(), "1996-12-19T16:39:57-08:00");
+    assert_eq!(
+        at.to_rfc3339_digits(1).unwrap(),
+        "1996-12-19T16:39:57.0-08:00"
+    );
     assert_eq!(at.to_utc().to_rfc3339().unwrap(), "1996-12-20T00:39:57Z");
     assert_eq!(
         Timestamp::from(at).to_rfc3339_nanos().unwrap(),
@@ -455,18 +467,18 @@ fn texts_of_rfc_3339() {
         OffsetDateTime::from_rfc3339(b"1996-12-20t00:39:57z"),
         Ok(at)
     );
-    assert_eq!(Timestamp::MAX.to_rfc3339(), Err(Refusal::NoText));
+    assert!(Timestamp::MAX.to_rfc3339().is_none());
     assert_eq!(
         "1996-12-19T24:39:57Z".parse::<Timestamp>(),
-        Err(Refusal::Hour)
+        Err(Refusal::OutOfRange("hour"))
     );
     assert_eq!(
         "1996-12-19T16:39:57+24:00".parse::<OffsetDateTime>(),
-        Err(Refusal::OffsetHour)
+        Err(Refusal::OutOfRange("hours"))
     );
     assert_eq!(
-        Refusal::Hour.to_string(),
-        "HOUR: An hour that is not 0 to 23."
+        Refusal::OutOfRange("hour").to_string(),
+        "hour is out of range"
     );
 }
 
@@ -479,19 +491,20 @@ fn leap_seconds_are_read_in_order() {
         ("2016-12-31T15:59:60.5-08:00", true),
         ("2017-01-01T00:00:00Z", false),
     ];
-    let read = written.map(|(text, _)| OffsetDateTime::from_rfc3339_leap(text).unwrap());
+    let read = written.map(|(text, _)| OffsetDateTime::from_rfc3339_leap(text.as_bytes()).unwrap());
     assert_eq!(read.map(|(_, is_leap)| is_leap), written.map(|(_, is)| is));
     assert!(read.is_sorted_by_key(|(at, _)| *at));
     let last = datetime!(2016-12-31 15:59:59.999999999 -8);
     assert!(read[2].0 == last && read[3].0.is_same(last));
     for (text, refusal) in [
-        ("2016-12-31T23:59:60-08:00", Refusal::Second),
-        ("2024-02-28T23:59:60Z", Refusal::Second),
-        ("2016-12-31T23:59:61Z", Refusal::Second),
-        ("2016-12-31T12:00:60+24:00", Refusal::OffsetHour),
+        ("2016-12-31T23:59:60-08:00", Refusal::OutOfRange("second")),
+        ("2024-02-28T23:59:60Z", Refusal::OutOfRange("second")),
+        ("2016-12-31T23:59:61Z", Refusal::OutOfRange("second")),
+        ("2016-12-31T12:00:60+24:00", Refusal::OutOfRange("hours")),
         ("2016-12-31T23:59:60", Refusal::Syntax),
     ] {
-        assert_eq!(OffsetDateTime::from_rfc3339_leap(text), Err(refusal));
+        let read = OffsetDateTime::from_rfc3339_leap(text.as_bytes());
+        assert_eq!(read.map_err(Refusal::from), Err(refusal));
     }
 }
 

@@ -40,10 +40,10 @@ fn length(year: i128, month: i128) -> i128 {
 
 fn day(year: i128, month: i128, day: i128) -> Result<i128, Refusal> {
     let refusals = [
-        (!(1..=12).contains(&month), Refusal::Month),
-        (year.abs() > 999_999, Refusal::Year),
-        (!(1..=31).contains(&day), Refusal::Day),
-        (day > length(year, month), Refusal::DayOfMonth),
+        (!(1..=12).contains(&month), Refusal::OutOfRange("month")),
+        (year.abs() > 999_999, Refusal::OutOfRange("year")),
+        (!(1..=31).contains(&day), Refusal::OutOfRange("day")),
+        (day > length(year, month), Refusal::OutOfRange("day")),
     ];
     if let Some((_, refusal)) = refusals.into_iter().find(|(is_refused, _)| *is_refused) {
         return Err(refusal);
@@ -60,9 +60,9 @@ fn day(year: i128, month: i128, day: i128) -> Result<i128, Refusal> {
 
 fn clock(parts: &[i128], nanosecond: i128) -> Result<i128, Refusal> {
     let ends = [
-        (24, Refusal::Hour),
-        (60, Refusal::Minute),
-        (60, Refusal::Second),
+        (24, Refusal::OutOfRange("hour")),
+        (60, Refusal::OutOfRange("minute")),
+        (60, Refusal::OutOfRange("second")),
     ];
     for (part, (end, refusal)) in parts.iter().zip(ends) {
         if *part >= end {
@@ -110,9 +110,9 @@ fn time_text(text: &str) -> Option<Result<i128, Refusal>> {
 fn offset_text(text: &str) -> Option<Result<i128, Refusal>> {
     let parts = numbers(text, "+00:00:00")?;
     let ends = [
-        (25, Refusal::OffsetHour),
-        (59, Refusal::OffsetMinute),
-        (59, Refusal::OffsetSeconds),
+        (25, Refusal::OutOfRange("hours")),
+        (59, Refusal::OutOfRange("minutes")),
+        (59, Refusal::OutOfRange("seconds")),
     ];
     if let Some((_, (_, refusal))) = parts.iter().zip(ends).find(|(part, end)| **part > end.0) {
         return Some(Err(refusal));
@@ -164,10 +164,10 @@ fn exchanged(text: &str) -> Option<Result<[i128; 3], Refusal>> {
     Some(day(date[0], date[1], date[2]).and_then(|day| {
         let nanosecond = clock(&time, nanosecond)?;
         if offset[0] > 23 {
-            return Err(Refusal::OffsetHour);
+            return Err(Refusal::OutOfRange("hours"));
         }
         if offset[1] > 59 {
-            return Err(Refusal::OffsetMinute);
+            return Err(Refusal::OutOfRange("minutes"));
         }
         let seconds = sign * (offset[0] * 60 + offset[1]) * 60;
         Ok([day, nanosecond, seconds])
@@ -220,7 +220,11 @@ fn timestamp(text: &str) -> Reading {
     };
     let (first, last) = (day(-999_999, 1, 1).unwrap(), day(999_999, 12, 31).unwrap());
     let is_held = (first * DAY..(last + 1) * DAY).contains(&count);
-    Some(is_held.then(|| vec![count]).ok_or(Refusal::Timestamp))
+    Some(
+        is_held
+            .then(|| vec![count])
+            .ok_or(Refusal::OutOfRange("seconds")),
+    )
 }
 
 fn duration(text: &str) -> Reading {
@@ -267,7 +271,11 @@ fn duration(text: &str) -> Reading {
     }
     let whole = if sign.is_empty() { whole } else { -whole };
     let is_held = i64::try_from(whole / 1_000_000_000).is_ok();
-    Some(is_held.then(|| vec![whole]).ok_or(Refusal::Duration))
+    Some(
+        is_held
+            .then(|| vec![whole])
+            .ok_or(Refusal::OutOfRange("duration")),
+    )
 }
 
 struct Source(u64);

@@ -1,0 +1,218 @@
+//! Values written by descriptions: each component by the proved function.
+
+use alloc::string::String;
+use alloc::vec::Vec;
+use core::ops::Deref;
+#[cfg(feature = "std")]
+use std::io;
+
+use crate::error::Format;
+use crate::format_description::well_known::{Rfc2822, Rfc3339};
+use crate::format_description::{BorrowedFormatItem, Component, OwnedFormatItem};
+use crate::proved::format_descriptions::{self as proved, Item};
+use crate::{Date, OffsetDateTime, PlainDateTime, Text, Time, Timestamp, UtcDateTime, UtcOffset};
+
+/// What a value can be written by: a description, or a format of [`well_known`](crate::format_description::well_known).
+pub trait Formattable: sealed::Sealed {}
+
+impl Formattable for BorrowedFormatItem<'_> {}
+impl Formattable for [BorrowedFormatItem<'_>] {}
+impl Formattable for OwnedFormatItem {}
+impl Formattable for [OwnedFormatItem] {}
+impl Formattable for Rfc3339 {}
+impl Formattable for Rfc2822 {}
+impl<T: Deref<Target: Formattable>> Formattable for T {}
+
+/// What a value has of a date, a time of day and an offset.
+#[derive(Clone, Copy)]
+pub struct Value {
+    date: Option<Date>,
+    time: Option<Time>,
+    offset: Option<UtcOffset>,
+}
+
+impl Value {
+    fn component(self, component: Component) -> Result<Text, Format> {
+        let items = [Item::Part(component.proved())];
+        let Value { date, time, offset } = self;
+        match (date, time, offset) {
+            (Some(date), Some(time), Some(offset)) => proved::format(&items, date, time, offset),
+            (Some(date), Some(time), None) => {
+                proved::format_plain(&items, PlainDateTime::new(date, time)).ok()
+            }
+            (Some(date), None, None) => proved::format_date(&items, date).ok(),
+            (None, Some(time), None) => proved::format_time(&items, time).ok(),
+            (None, None, Some(offset)) => proved::format_offset(&items, offset).ok(),
+            _ => None,
+        }
+        .ok_or(Format::InsufficientTypeInformation)
+    }
+
+    fn date_time(self) -> Result<OffsetDateTime, Format> {
+        match (self.date, self.time, self.offset) {
+            (Some(date), Some(time), Some(offset)) => {
+                Ok(PlainDateTime::new(date, time).assume_offset(offset))
+            }
+            _ => Err(Format::InsufficientTypeInformation),
+        }
+    }
+}
+
+/// Takes bytes that are written.
+pub type Put<'a> = dyn FnMut(&[u8]) -> Result<(), Format> + 'a;
+
+fn put_all(put: &mut Put<'_>, bytes: &[u8]) -> Result<usize, Format> {
+    put(bytes)?;
+    Ok(bytes.len())
+}
+
+mod sealed {
+    use super::*;
+
+    pub trait Sealed {
+        /// Writes a value, and gives the count of the bytes.
+        fn put(&self, value: Value, put: &mut Put<'_>) -> Result<usize, Format>;
+    }
+
+    impl Sealed for BorrowedFormatItem<'_> {
+        fn put(&self, value: Value, put: &mut Put<'_>) -> Result<usize, Format> {
+            match self {
+                Self::Literal(literal) => put_all(put, literal),
+                Self::Component(component) => put_all(put, value.component(*component)?.as_bytes()),
+                Self::Compound(items) => items.put(value, put),
+                Self::Optional(item) => item.put(value, put),
+                Self::First(items) => items.first().map_or(Ok(0), |item| item.put(value, put)),
+            }
+        }
+    }
+
+    impl Sealed for OwnedFormatItem {
+        fn put(&self, value: Value, put: &mut Put<'_>) -> Result<usize, Format> {
+            match self {
+                Self::Literal(literal) => put_all(put, literal),
+                Self::Component(component) => put_all(put, value.component(*component)?.as_bytes()),
+                Self::Compound(items) => items.put(value, put),
+                Self::Optional(item) => item.put(value, put),
+                Self::First(items) => items.first().map_or(Ok(0), |item| item.put(value, put)),
+            }
+        }
+    }
+
+    impl Sealed for [BorrowedFormatItem<'_>] {
+        fn put(&self, value: Value, put: &mut Put<'_>) -> Result<usize, Format> {
+            self.iter()
+                .try_fold(0, |count, item| Ok(count + item.put(value, put)?))
+        }
+    }
+
+    impl Sealed for [OwnedFormatItem] {
+        fn put(&self, value: Value, put: &mut Put<'_>) -> Result<usize, Format> {
+            self.iter()
+                .try_fold(0, |count, item| Ok(count + item.put(value, put)?))
+        }
+    }
+
+    impl<T: Deref<Target: Sealed>> Sealed for T {
+        fn put(&self, value: Value, put: &mut Put<'_>) -> Result<usize, Format> {
+            self.deref().put(value, put)
+        }
+    }
+
+    impl Sealed for Rfc3339 {
+        fn put(&self, value: Value, put: &mut Put<'_>) -> Result<usize, Format> {
+            let at = value.date_time()?;
+            match at.to_rfc3339() {
+                Some(text) => put_all(put, text.as_bytes()),
+                None if !(0..10_000).contains(&at.year()) => Err(Format::InvalidComponent("year")),
+                None if at.offset().seconds_past_minute() != 0 => {
+                    Err(Format::InvalidComponent("offset_second"))
+                }
+                None => Err(Format::InvalidComponent("offset_hour")),
+            }
+        }
+    }
+
+    impl Sealed for Rfc2822 {
+        fn put(&self, value: Value, put: &mut Put<'_>) -> Result<usize, Format> {
+            let at = value.date_time()?;
+            if !(1900..10_000).contains(&at.year()) {
+                return Err(Format::InvalidComponent("year"));
+            }
+            if at.offset().seconds_past_minute() != 0 {
+                return Err(Format::InvalidComponent("offset_second"));
+            }
+            RFC_2822.put(value, put)
+        }
+    }
+}
+
+/// How RFC 2822 writes.
+pub(crate) const RFC_2822: &[BorrowedFormatItem<'static>] = crate::macros::format_description!(
+    "[weekday repr:short], [day] [month repr:short] [year] [hour]:[minute]:[second] [offset_hour sign:mandatory][offset_minute]"
+);
+
+fn text_of(format: &(impl Formattable + ?Sized), value: Value) -> Result<String, Format> {
+    let mut bytes = Vec::new();
+    format.put(value, &mut |more| {
+        bytes.extend_from_slice(more);
+        Ok(())
+    })?;
+    Ok(match String::from_utf8(bytes) {
+        Ok(text) => text,
+        Err(error) => String::from_utf8_lossy(error.as_bytes()).into_owned(),
+    })
+}
+
+#[cfg(feature = "std")]
+fn write_to(
+    output: &mut (impl io::Write + ?Sized),
+    format: &(impl Formattable + ?Sized),
+    value: Value,
+) -> Result<usize, Format> {
+    format.put(value, &mut |bytes| {
+        output.write_all(bytes).map_err(Format::StdIo)
+    })
+}
+
+macro_rules! formatted {
+    ($($Type:ident($value:ident): $parts:expr;)+) => {
+        $(
+            impl $Type {
+                /// The text by a description, or by a format of [`well_known`](crate::format_description::well_known).
+                ///
+                /// # Errors
+                ///
+                /// The value has no part for a component, or no text of a well-known format.
+                pub fn format(self, format: &(impl Formattable + ?Sized)) -> Result<String, Format> {
+                    let $value = self;
+                    text_of(format, $parts)
+                }
+
+                /// Writes the text by a description, and returns the count of its bytes.
+                ///
+                /// # Errors
+                ///
+                /// As `format`, and those of the writer.
+                #[cfg(feature = "std")]
+                pub fn format_into(
+                    self,
+                    output: &mut (impl io::Write + ?Sized),
+                    format: &(impl Formattable + ?Sized),
+                ) -> Result<usize, Format> {
+                    let $value = self;
+                    write_to(output, format, $parts)
+                }
+            }
+        )+
+    };
+}
+
+formatted! {
+    Date(date): Value { date: Some(date), time: None, offset: None };
+    Time(time): Value { date: None, time: Some(time), offset: None };
+    UtcOffset(offset): Value { date: None, time: None, offset: Some(offset) };
+    PlainDateTime(at): Value { date: Some(at.date()), time: Some(at.time()), offset: None };
+    UtcDateTime(at): Value { date: Some(at.date()), time: Some(at.time()), offset: Some(UtcOffset::UTC) };
+    OffsetDateTime(at): Value { date: Some(at.date()), time: Some(at.time()), offset: Some(at.offset()) };
+    Timestamp(at): Value { date: Some(at.date()), time: Some(at.time()), offset: Some(UtcOffset::UTC) };
+}

@@ -1,0 +1,616 @@
+//! Values read by descriptions: each component by the proved function, and the value of its parts by proved functions too.
+
+use core::num::{NonZeroU8, NonZeroU16};
+use core::ops::Deref;
+
+use crate::error::{ComponentRange, Parse, ParseFromDescription, TryFromParsed};
+use crate::format_description::well_known::{Rfc2822, Rfc3339};
+use crate::format_description::{BorrowedFormatItem, Component, OwnedFormatItem};
+use crate::proved::Part;
+use crate::proved::format_descriptions::{self as proved, Field, Item, Parts, ValueRefusal};
+use crate::{
+    Date, Month, OffsetDateTime, PlainDateTime, Time, Timestamp, UtcDateTime, UtcOffset, Weekday,
+};
+
+/// The parts that a text gives.
+///
+/// ```
+/// use muxandu::Date;
+/// use muxandu::format_description;
+/// use muxandu::parsing::Parsed;
+///
+/// let mut parsed = Parsed::new();
+/// let description = format_description::parse("[day]/[month]")?;
+/// let rest = parsed.parse_items(b"29/02, in a leap year", &description)?;
+/// assert_eq!(rest, b", in a leap year");
+/// parsed.set_year(2024);
+/// assert_eq!(Date::try_from(parsed)?.to_string(), "2024-02-29");
+/// # Ok::<(), muxandu::Error>(())
+/// ```
+#[derive(Clone, Copy)]
+pub struct Parsed {
+    parts: Parts,
+}
+
+impl core::fmt::Debug for Parsed {
+    fn fmt(&self, f: &mut core::fmt::Formatter<'_>) -> core::fmt::Result {
+        f.debug_struct("Parsed").finish_non_exhaustive()
+    }
+}
+
+impl Default for Parsed {
+    fn default() -> Parsed {
+        Parsed::new()
+    }
+}
+
+/// A part that is known, if the other does not contradict it.
+fn joined<T: PartialEq + Copy>(known: &mut Option<T>, other: Option<T>) -> bool {
+    match (*known, other) {
+        (Some(first), Some(second)) => first == second,
+        (None, Some(_)) => {
+            *known = other;
+            true
+        }
+        (_, None) => true,
+    }
+}
+
+macro_rules! joined_parts {
+    ($parts:ident, $others:ident: $($name:ident)+) => { true $(& joined(&mut $parts.$name, $others.$name))+ };
+}
+
+/// The parts and the others, if none contradicts another.
+fn together(mut parts: Parts, others: Parts) -> Option<Parts> {
+    let agree = joined_parts!(parts, others: year year_century is_before_zero year_last_two iso_year iso_year_century
+        is_iso_before_zero iso_year_last_two month day ordinal weekday iso_week sunday_week monday_week hour hour_12
+        is_afternoon minute second nanosecond is_west offset_hour offset_minute offset_second unix_second
+        unix_millisecond unix_microsecond unix_nanosecond);
+    agree.then_some(parts)
+}
+
+/// What a component reads at the front of a text, and how many bytes it takes.
+fn front(component: Component, input: &[u8]) -> Option<(Parts, usize)> {
+    if let Component::End(_) = component {
+        return input.is_empty().then(|| (Parts::none(), 0));
+    }
+    let items = [Item::Part(component.proved())];
+    match proved::parse(&items, input) {
+        Ok(parts) => Some((parts, input.len())),
+        // What follows the component is not of it.
+        Err(place) => proved::parse(&items, &input[..place])
+            .ok()
+            .map(|parts| (parts, place)),
+    }
+}
+
+impl Parsed {
+    /// No part is known.
+    #[must_use]
+    pub const fn new() -> Parsed {
+        Parsed {
+            parts: Parts::none(),
+        }
+    }
+
+    /// Reads a component at the front of a text, and returns what follows it.
+    ///
+    /// # Errors
+    ///
+    /// The text does not begin so, or contradicts what is known.
+    pub fn parse_component<'a>(
+        &mut self,
+        input: &'a [u8],
+        component: Component,
+    ) -> Result<&'a [u8], ParseFromDescription> {
+        let fault = ParseFromDescription::InvalidComponent(component.name());
+        let (parts, count) = front(component, input).ok_or(fault)?;
+        self.parts = together(self.parts, parts).ok_or(fault)?;
+        Ok(&input[count..])
+    }
+
+    /// What follows these bytes.
+    ///
+    /// # Errors
+    ///
+    /// The text does not begin so.
+    pub fn parse_literal<'a>(
+        input: &'a [u8],
+        literal: &[u8],
+    ) -> Result<&'a [u8], ParseFromDescription> {
+        input
+            .strip_prefix(literal)
+            .ok_or(ParseFromDescription::InvalidLiteral)
+    }
+}
+
+/// The two kinds of items.
+trait Read {
+    fn read<'a>(
+        &self,
+        parsed: &mut Parsed,
+        input: &'a [u8],
+    ) -> Result<&'a [u8], ParseFromDescription>;
+}
+
+macro_rules! read {
+    ($($Item:ty)+) => {
+        $(impl Read for $Item {
+            fn read<'a>(&self, parsed: &mut Parsed, input: &'a [u8]) -> Result<&'a [u8], ParseFromDescription> {
+                match self {
+                    Self::Literal(literal) => Parsed::parse_literal(input, literal),
+                    Self::Component(component) => parsed.parse_component(input, *component),
+                    Self::Compound(items) => read_all(items, parsed, input),
+                    Self::Optional(item) => Ok(item.read(parsed, input).unwrap_or(input)),
+                    Self::First(items) => {
+                        let mut fault = None;
+                        for item in items.iter() {
+                            match item.read(parsed, input) {
+                                Ok(rest) => return Ok(rest),
+                                Err(error) => fault = fault.or(Some(error)),
+                            }
+                        }
+                        fault.map_or(Ok(input), Err)
+                    }
+                }
+            }
+        })+
+    };
+}
+
+read! { BorrowedFormatItem<'_> OwnedFormatItem }
+
+fn read_all<'a>(
+    items: &[impl Read],
+    parsed: &mut Parsed,
+    input: &'a [u8],
+) -> Result<&'a [u8], ParseFromDescription> {
+    let (mut read, mut rest) = (*parsed, input);
+    for item in items {
+        rest = item.read(&mut read, rest)?;
+    }
+    *parsed = read;
+    Ok(rest)
+}
+
+impl Parsed {
+    /// Reads an item at the front of a text, and returns what follows it. An error changes nothing.
+    ///
+    /// # Errors
+    ///
+    /// The text does not begin so, or contradicts what is known.
+    pub fn parse_item<'a>(
+        &mut self,
+        input: &'a [u8],
+        item: &BorrowedFormatItem<'_>,
+    ) -> Result<&'a [u8], ParseFromDescription> {
+        item.read(self, input)
+    }
+
+    /// Reads items at the front of a text, and returns what follows them. An error changes nothing.
+    ///
+    /// # Errors
+    ///
+    /// As [`Parsed::parse_item`].
+    pub fn parse_items<'a>(
+        &mut self,
+        input: &'a [u8],
+        items: &[BorrowedFormatItem<'_>],
+    ) -> Result<&'a [u8], ParseFromDescription> {
+        read_all(items, self, input)
+    }
+}
+
+macro_rules! numbers {
+    ($($name:ident $set_name:ident $with_name:ident: $Type:ty, $part:ident: $Part:ty;)+) => {
+        impl Parsed {
+            $(
+                /// This part, if it is known.
+                #[must_use]
+                pub const fn $name(&self) -> Option<$Type> {
+                    match self.parts.$part {
+                        Some(number) => Some(number as $Type),
+                        None => None,
+                    }
+                }
+
+                /// Sets this part.
+                pub const fn $set_name(&mut self, value: $Type) -> Option<()> {
+                    self.parts.$part = Some(value as $Part);
+                    Some(())
+                }
+
+                /// The same with this part.
+                #[must_use]
+                pub const fn $with_name(mut self, value: $Type) -> Option<Parsed> {
+                    self.parts.$part = Some(value as $Part);
+                    Some(self)
+                }
+            )+
+        }
+    };
+}
+
+numbers! {
+    year set_year with_year: i32, year: i32;
+    year_last_two set_year_last_two with_year_last_two: u8, year_last_two: u32;
+    iso_year set_iso_year with_iso_year: i32, iso_year: i32;
+    iso_year_last_two set_iso_year_last_two with_iso_year_last_two: u8, iso_year_last_two: u32;
+    sunday_week_number set_sunday_week_number with_sunday_week_number: u8, sunday_week: u32;
+    monday_week_number set_monday_week_number with_monday_week_number: u8, monday_week: u32;
+    hour_24 set_hour_24 with_hour_24: u8, hour: u32;
+    hour_12_is_pm set_hour_12_is_pm with_hour_12_is_pm: bool, is_afternoon: bool;
+    minute set_minute with_minute: u8, minute: u32;
+    second set_second with_second: u8, second: u32;
+    subsecond set_subsecond with_subsecond: u32, nanosecond: u32;
+    unix_timestamp_nanos set_unix_timestamp_nanos with_unix_timestamp_nanos: i128, unix_nanosecond: i128;
+}
+
+macro_rules! not_zero {
+    ($($name:ident $set_name:ident $with_name:ident: $Type:ty, $Number:ty, $part:ident;)+) => {
+        impl Parsed {
+            $(
+                /// This part, if it is known.
+                #[must_use]
+                pub const fn $name(&self) -> Option<$Type> {
+                    match self.parts.$part {
+                        Some(number) => <$Type>::new(number as $Number),
+                        None => None,
+                    }
+                }
+
+                /// Sets this part.
+                pub const fn $set_name(&mut self, value: $Type) -> Option<()> {
+                    self.parts.$part = Some(value.get() as u32);
+                    Some(())
+                }
+
+                /// The same with this part.
+                #[must_use]
+                pub const fn $with_name(mut self, value: $Type) -> Option<Parsed> {
+                    self.parts.$part = Some(value.get() as u32);
+                    Some(self)
+                }
+            )+
+        }
+    };
+}
+
+not_zero! {
+    iso_week_number set_iso_week_number with_iso_week_number: NonZeroU8, u8, iso_week;
+    ordinal set_ordinal with_ordinal: NonZeroU16, u16, ordinal;
+    day set_day with_day: NonZeroU8, u8, day;
+    hour_12 set_hour_12 with_hour_12: NonZeroU8, u8, hour_12;
+}
+
+macro_rules! offset_parts {
+    ($($name:ident $set_name:ident $with_name:ident: $part:ident;)+) => {
+        impl Parsed {
+            $(
+                /// This part of the offset with its sign, if it is known.
+                #[must_use]
+                pub const fn $name(&self) -> Option<i8> {
+                    match self.parts.$part {
+                        Some(number) if matches!(self.parts.is_west, Some(true)) => Some(-(number as i8)),
+                        Some(number) => Some(number as i8),
+                        None => None,
+                    }
+                }
+
+                /// Sets this part of the offset, and its sign where it is not 0.
+                pub const fn $set_name(&mut self, value: i8) -> Option<()> {
+                    self.parts.$part = Some(value.unsigned_abs() as u32);
+                    if value != 0 || self.parts.is_west.is_none() {
+                        self.parts.is_west = Some(value < 0);
+                    }
+                    Some(())
+                }
+
+                /// The same with this part of the offset.
+                #[must_use]
+                pub const fn $with_name(mut self, value: i8) -> Option<Parsed> {
+                    let _ = self.$set_name(value);
+                    Some(self)
+                }
+            )+
+        }
+    };
+}
+
+offset_parts! {
+    offset_hour set_offset_hour with_offset_hour: offset_hour;
+    offset_minute_signed set_offset_minute_signed with_offset_minute_signed: offset_minute;
+    offset_second_signed set_offset_second_signed with_offset_second_signed: offset_second;
+}
+
+impl Parsed {
+    /// The month, if it is known.
+    #[must_use]
+    pub fn month(&self) -> Option<Month> {
+        self.parts
+            .month
+            .and_then(|number| Month::from_number(u8::try_from(number).ok()?).ok())
+    }
+
+    /// Sets the month.
+    pub const fn set_month(&mut self, month: Month) -> Option<()> {
+        self.parts.month = Some(month as u32);
+        Some(())
+    }
+
+    /// The same with the month.
+    #[must_use]
+    pub const fn with_month(mut self, month: Month) -> Option<Parsed> {
+        self.parts.month = Some(month as u32);
+        Some(self)
+    }
+
+    /// The day of the week, if it is known.
+    #[must_use]
+    pub fn weekday(&self) -> Option<Weekday> {
+        self.parts
+            .weekday
+            .and_then(|number| u8::try_from(number).ok())
+            .map(|number| Weekday::Monday.nth_next(number))
+    }
+
+    /// Sets the day of the week.
+    pub const fn set_weekday(&mut self, weekday: Weekday) -> Option<()> {
+        self.parts.weekday = Some(weekday.number_days_from_monday() as u32);
+        Some(())
+    }
+
+    /// The same with the day of the week.
+    #[must_use]
+    pub const fn with_weekday(mut self, weekday: Weekday) -> Option<Parsed> {
+        self.parts.weekday = Some(weekday.number_days_from_monday() as u32);
+        Some(self)
+    }
+}
+
+/// The part that an error names.
+const fn part_of(field: Field) -> Part {
+    match field {
+        Field::Year | Field::YearCentury | Field::YearLastTwo => Part::Year,
+        Field::IsoYear | Field::IsoYearCentury | Field::IsoYearLastTwo => Part::Year,
+        Field::Month => Part::Month,
+        Field::Day | Field::Weekday => Part::Day,
+        Field::Ordinal => Part::Ordinal,
+        Field::IsoWeek | Field::SundayWeek | Field::MondayWeek => Part::Week,
+        Field::Hour | Field::Hour12 | Field::Period => Part::Hour,
+        Field::Minute => Part::Minute,
+        Field::Second => Part::Second,
+        Field::Subsecond => Part::Nanosecond,
+        Field::OffsetHour => Part::Hours,
+        Field::OffsetMinute => Part::Minutes,
+        Field::OffsetSecond => Part::Seconds,
+        Field::UnixSecond
+        | Field::UnixMillisecond
+        | Field::UnixMicrosecond
+        | Field::UnixNanosecond => Part::Timestamp,
+    }
+}
+
+impl From<ValueRefusal> for TryFromParsed {
+    fn from(refusal: ValueRefusal) -> TryFromParsed {
+        match refusal {
+            ValueRefusal::Missing(_) => TryFromParsed::InsufficientInformation,
+            ValueRefusal::Wrong(field) => {
+                TryFromParsed::ComponentRange(ComponentRange::of_part(part_of(field), false))
+            }
+        }
+    }
+}
+
+impl TryFrom<Parsed> for Date {
+    type Error = TryFromParsed;
+
+    /// The date of the parts. Texts have wrong days of the week, as that of a cookie: it counts only where a week names the date.
+    fn try_from(parsed: Parsed) -> Result<Date, TryFromParsed> {
+        let mut parts = parsed.parts;
+        if parts.year.is_some()
+            && (parts.ordinal.is_some() || parts.month.is_some() && parts.day.is_some())
+        {
+            parts.weekday = None;
+        }
+        Ok(parts.date()?)
+    }
+}
+
+impl TryFrom<Parsed> for Time {
+    type Error = TryFromParsed;
+
+    fn try_from(parsed: Parsed) -> Result<Time, TryFromParsed> {
+        Ok(parsed.parts.time()?)
+    }
+}
+
+impl TryFrom<Parsed> for UtcOffset {
+    type Error = TryFromParsed;
+
+    fn try_from(parsed: Parsed) -> Result<UtcOffset, TryFromParsed> {
+        Ok(parsed.parts.offset()?)
+    }
+}
+
+impl TryFrom<Parsed> for PlainDateTime {
+    type Error = TryFromParsed;
+
+    fn try_from(parsed: Parsed) -> Result<PlainDateTime, TryFromParsed> {
+        Ok(PlainDateTime::new(parsed.try_into()?, parsed.try_into()?))
+    }
+}
+
+impl TryFrom<Parsed> for OffsetDateTime {
+    type Error = TryFromParsed;
+
+    fn try_from(parsed: Parsed) -> Result<OffsetDateTime, TryFromParsed> {
+        match parsed.parts.utc_date_time() {
+            Ok(at) => Ok(at.into()),
+            Err(ValueRefusal::Missing(_)) => {
+                Ok(PlainDateTime::try_from(parsed)?.assume_offset(parsed.try_into()?))
+            }
+            Err(refusal) => Err(refusal.into()),
+        }
+    }
+}
+
+impl TryFrom<Parsed> for UtcDateTime {
+    type Error = TryFromParsed;
+
+    fn try_from(mut parsed: Parsed) -> Result<UtcDateTime, TryFromParsed> {
+        if parsed.parts.offset_hour.is_none() {
+            parsed.parts.offset_hour = Some(0);
+        }
+        OffsetDateTime::try_from(parsed)?
+            .checked_to_utc()
+            .ok_or(ComponentRange::of_part(Part::Year, true).into())
+    }
+}
+
+impl TryFrom<Parsed> for Timestamp {
+    type Error = TryFromParsed;
+
+    fn try_from(parsed: Parsed) -> Result<Timestamp, TryFromParsed> {
+        Ok(UtcDateTime::try_from(parsed)?.into())
+    }
+}
+
+/// What a text can be read by: a description, or a format of [`well_known`](crate::format_description::well_known).
+pub trait Parsable: sealed::Sealed {}
+
+impl Parsable for BorrowedFormatItem<'_> {}
+impl Parsable for [BorrowedFormatItem<'_>] {}
+impl Parsable for OwnedFormatItem {}
+impl Parsable for [OwnedFormatItem] {}
+impl Parsable for Rfc3339 {}
+impl Parsable for Rfc2822 {}
+impl<T: Deref<Target: Parsable>> Parsable for T {}
+
+mod sealed {
+    use super::*;
+
+    pub trait Sealed {
+        /// Reads the front of a text, and gives what follows.
+        fn parse_into<'a>(&self, input: &'a [u8], parsed: &mut Parsed) -> Result<&'a [u8], Parse>;
+
+        /// Reads a whole text into parts that may be known already.
+        fn parse_over(&self, input: &[u8], defaults: Parsed) -> Result<Parsed, Parse> {
+            let mut parsed = Parsed::new();
+            if !self.parse_into(input, &mut parsed)?.is_empty() {
+                return Err(Parse::UnexpectedTrailingCharacters);
+            }
+            Ok(parsed.over(defaults))
+        }
+
+        /// Reads a whole text.
+        fn parse(&self, input: &[u8]) -> Result<Parsed, Parse> {
+            self.parse_over(input, Parsed::new())
+        }
+    }
+
+    impl Sealed for BorrowedFormatItem<'_> {
+        fn parse_into<'a>(&self, input: &'a [u8], parsed: &mut Parsed) -> Result<&'a [u8], Parse> {
+            Ok(self.read(parsed, input)?)
+        }
+    }
+
+    impl Sealed for OwnedFormatItem {
+        fn parse_into<'a>(&self, input: &'a [u8], parsed: &mut Parsed) -> Result<&'a [u8], Parse> {
+            Ok(self.read(parsed, input)?)
+        }
+    }
+
+    impl Sealed for [BorrowedFormatItem<'_>] {
+        fn parse_into<'a>(&self, input: &'a [u8], parsed: &mut Parsed) -> Result<&'a [u8], Parse> {
+            Ok(read_all(self, parsed, input)?)
+        }
+    }
+
+    impl Sealed for [OwnedFormatItem] {
+        fn parse_into<'a>(&self, input: &'a [u8], parsed: &mut Parsed) -> Result<&'a [u8], Parse> {
+            Ok(read_all(self, parsed, input)?)
+        }
+    }
+
+    impl<T: Deref<Target: Sealed>> Sealed for T {
+        fn parse_into<'a>(&self, input: &'a [u8], parsed: &mut Parsed) -> Result<&'a [u8], Parse> {
+            self.deref().parse_into(input, parsed)
+        }
+    }
+
+    impl Sealed for Rfc3339 {
+        fn parse_into<'a>(&self, input: &'a [u8], parsed: &mut Parsed) -> Result<&'a [u8], Parse> {
+            let (at, _) = OffsetDateTime::from_rfc3339_leap(input)?;
+            parsed.set_date_time(at);
+            Ok(&[])
+        }
+    }
+
+    impl Sealed for Rfc2822 {
+        fn parse_into<'a>(&self, input: &'a [u8], parsed: &mut Parsed) -> Result<&'a [u8], Parse> {
+            Ok(crate::rfc2822::read(input, parsed)?)
+        }
+    }
+}
+
+impl Parsed {
+    /// The parts, and those of the defaults that are not known.
+    fn over(self, defaults: Parsed) -> Parsed {
+        macro_rules! over {
+            ($($name:ident)+) => { Parts { $($name: self.parts.$name.or(defaults.parts.$name),)+ } };
+        }
+        let parts = over!(year year_century is_before_zero year_last_two iso_year iso_year_century is_iso_before_zero
+            iso_year_last_two month day ordinal weekday iso_week sunday_week monday_week hour hour_12 is_afternoon minute
+            second nanosecond is_west offset_hour offset_minute offset_second unix_second unix_millisecond
+            unix_microsecond unix_nanosecond);
+        Parsed { parts }
+    }
+
+    /// Sets the parts of a date-time.
+    fn set_date_time(&mut self, at: OffsetDateTime) {
+        let seconds = at.offset().whole_seconds().unsigned_abs();
+        self.parts.year = Some(at.year());
+        self.parts.ordinal = Some(at.ordinal().into());
+        self.parts.hour = Some(at.hour().into());
+        self.parts.minute = Some(at.minute().into());
+        self.parts.second = Some(at.second().into());
+        self.parts.nanosecond = Some(at.nanosecond());
+        self.parts.is_west = Some(at.offset().is_negative());
+        self.parts.offset_hour = Some(seconds / 3_600);
+        self.parts.offset_minute = Some(seconds / 60 % 60);
+        self.parts.offset_second = Some(seconds % 60);
+    }
+}
+
+macro_rules! parsed {
+    ($($Type:ident)+) => {
+        $(
+            impl $Type {
+                /// Reads a text by a description, or by a format of [`well_known`](crate::format_description::well_known).
+                ///
+                /// # Errors
+                ///
+                /// The text is not written so, lacks a part, or has one that is out of its range or contradicts another.
+                pub fn parse(input: &str, description: &(impl Parsable + ?Sized)) -> Result<$Type, Parse> {
+                    Ok(sealed::Sealed::parse(description, input.as_bytes())?.try_into()?)
+                }
+
+                /// Reads a text by a description. The defaults stand for the parts that it does not give.
+                ///
+                /// # Errors
+                ///
+                /// As `parse`.
+                pub fn parse_with_defaults(
+                    input: &[u8],
+                    description: &(impl Parsable + ?Sized),
+                    defaults: Parsed,
+                ) -> Result<$Type, Parse> {
+                    Ok(description.parse_over(input, defaults)?.try_into()?)
+                }
+            }
+        )+
+    };
+}
+
+parsed! { Date Time UtcOffset PlainDateTime UtcDateTime OffsetDateTime Timestamp }

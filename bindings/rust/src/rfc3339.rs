@@ -1,0 +1,77 @@
+//! Texts of RFC 3339 by the methods of the types: each calls the proved function of the same name.
+
+use crate::proved::rfc3339 as proved;
+use crate::{Date, OffsetDateTime, Text, TextRefusal, Timestamp};
+
+impl Date {
+    /// Reads a text of RFC 3339, as `1985-04-12`.
+    ///
+    /// # Errors
+    ///
+    /// [`TextRefusal::Syntax`] for another form, else the first part from the left that is out of its range.
+    pub fn from_rfc3339(text: &[u8]) -> Result<Date, TextRefusal> {
+        proved::date_from_rfc3339(text)
+    }
+
+    /// The text of RFC 3339, as `1985-04-12`. None outside the years 0 to 9999.
+    ///
+    /// ```
+    /// use muxandu::Date;
+    ///
+    /// let date = Date::from_rfc3339(b"2024-02-29").unwrap();
+    /// assert_eq!(date.days_since_epoch(), 19_782);
+    /// assert_eq!(date.to_rfc3339().unwrap(), "2024-02-29");
+    /// assert!(Date::from_rfc3339(b"2023-02-29").is_err());
+    /// ```
+    #[must_use]
+    pub fn to_rfc3339(self) -> Option<Text> {
+        proved::date_to_rfc3339(self)
+    }
+}
+
+impl OffsetDateTime {
+    /// The text of RFC 3339 with a number of digits of the fraction, 0 to 9, and nine for more. What lies past them
+    /// is left out. None as by [`OffsetDateTime::to_rfc3339`].
+    ///
+    /// ```
+    /// use muxandu::OffsetDateTime;
+    ///
+    /// let at = OffsetDateTime::from_rfc3339(b"1996-12-19T16:39:57.987654-08:00").unwrap();
+    /// assert_eq!(at.to_rfc3339_digits(3).unwrap(), "1996-12-19T16:39:57.987-08:00");
+    /// assert_eq!(at.to_rfc3339_digits(0).unwrap(), "1996-12-19T16:39:57-08:00");
+    /// ```
+    #[must_use]
+    pub fn to_rfc3339_digits(self, digits: u8) -> Option<Text> {
+        proved::to_rfc3339_digits(self, digits)
+    }
+
+    /// Reads a text of RFC 3339, and one whose second is 60 too. A leap second can be the last second of a month in UTC alone:
+    /// it is read as the last nanosecond before the next month, with `true` too. What is read is in the order of what was
+    /// written.
+    ///
+    /// ```
+    /// use muxandu::OffsetDateTime;
+    ///
+    /// let (at, is_leap) = OffsetDateTime::from_rfc3339_leap(b"2016-12-31T23:59:60.5Z").unwrap();
+    /// assert_eq!((at.nanosecond(), is_leap), (999_999_999, true));
+    /// let (before, is_leap) = OffsetDateTime::from_rfc3339_leap(b"2016-12-31T23:59:59.9Z").unwrap();
+    /// assert!(before < at && !is_leap);
+    /// assert!(OffsetDateTime::from_rfc3339_leap(b"2024-02-29T12:34:60Z").is_err());
+    /// ```
+    ///
+    /// # Errors
+    ///
+    /// As [`OffsetDateTime::from_rfc3339`], and the second for one of 60 that no month ends with.
+    pub fn from_rfc3339_leap(text: &[u8]) -> Result<(OffsetDateTime, bool), TextRefusal> {
+        proved::parse_rfc3339_leap(text)
+    }
+}
+
+impl Timestamp {
+    /// The text of RFC 3339 in UTC, always with nine digits of the fraction, so that such texts are in the order of their
+    /// instants. None outside the years 0 to 9999.
+    #[must_use]
+    pub fn to_rfc3339_nanos(self) -> Option<Text> {
+        proved::to_rfc3339_nanos(self)
+    }
+}

@@ -1,0 +1,456 @@
+//! Format descriptions by `time`'s names.
+
+use core::num::{NonZeroU8, NonZeroU16};
+
+use muxandu::error::{
+    Format, InvalidFormatDescription, Parse, ParseFromDescription, TryFromParsed,
+};
+use muxandu::format_description::parse_owned;
+use muxandu::format_description::well_known::{Rfc2822, Rfc3339};
+use muxandu::format_description::{BorrowedFormatItem, Component, OwnedFormatItem, modifier};
+use muxandu::macros::{date, datetime, format_description, offset, time, utc_datetime};
+use muxandu::parsing::Parsed;
+use muxandu::{
+    Date, Month, OffsetDateTime, PlainDateTime, Time, Timestamp, UtcDateTime, UtcOffset, Weekday,
+};
+
+// Texts from the documentation of `time`.
+#[test]
+fn values_are_written() {
+    let day = date!(2020 - 01 - 02);
+    assert_eq!(
+        day.format(&format_description!("[year]-[month]-[day]"))
+            .unwrap(),
+        "2020-01-02"
+    );
+    assert_eq!(
+        time!(12:00)
+            .format(&format_description!("[hour]:[minute]:[second]"))
+            .unwrap(),
+        "12:00:00"
+    );
+    assert_eq!(
+        offset!(+1)
+            .format(&format_description!(
+                "[offset_hour sign:mandatory]:[offset_minute]"
+            ))
+            .unwrap(),
+        "+01:00"
+    );
+    let long = format_description!(
+        "[year]-[month]-[day] [hour]:[minute]:[second] [offset_hour sign:mandatory]:[offset_minute]:[offset_second]"
+    );
+    assert_eq!(
+        datetime!(2020-01-02 03:04:05 +06:07:08)
+            .format(&long)
+            .unwrap(),
+        "2020-01-02 03:04:05 +06:07:08"
+    );
+    assert_eq!(
+        utc_datetime!(2020-01-02 03:04:05).format(&long).unwrap(),
+        "2020-01-02 03:04:05 +00:00:00"
+    );
+    let named = format_description!(
+        "[weekday], [day padding:none] [month repr:long] [year] [hour repr:12 padding:space] [period case:lower]"
+    );
+    assert_eq!(
+        datetime!(2024-02-09 15:04 UTC).format(named).unwrap(),
+        "Friday, 9 February 2024  3 pm"
+    );
+    assert_eq!(
+        day.format(&format_description!("[[[year]]")).unwrap(),
+        "[2020]"
+    );
+    assert_eq!(
+        day.format(&format_description!(version = 2, r"\[[year]\]\\"))
+            .unwrap(),
+        r"[2020]\"
+    );
+    assert_eq!(
+        datetime!(1970-01-01 0:01 UTC)
+            .format(&format_description!("[unix_timestamp]"))
+            .unwrap(),
+        "60"
+    );
+}
+
+#[test]
+#[cfg(feature = "std")]
+fn values_are_written_into_a_writer() {
+    let mut bytes = Vec::new();
+    let form = format_description!("[ordinal] é");
+    let count = date!(2020 - 01 - 02).format_into(&mut bytes, &form);
+    assert_eq!(count.unwrap(), 6);
+    assert_eq!(bytes, "002 é".as_bytes());
+}
+
+#[test]
+fn values_are_read() {
+    let long = format_description!(
+        "[year]-[month]-[day] [hour]:[minute]:[second] [offset_hour sign:mandatory]:[offset_minute]:[offset_second]"
+    );
+    assert_eq!(
+        OffsetDateTime::parse("2020-01-02 03:04:05 +06:07:08", &long),
+        Ok(datetime!(2020-01-02 03:04:05 +06:07:08))
+    );
+    assert_eq!(
+        PlainDateTime::parse("2020-01-02 03:04:05 +06:07:08", &long),
+        Ok(datetime!(2020-01-02 03:04:05))
+    );
+    assert_eq!(
+        UtcDateTime::parse("2020-01-02 03:04:05 +01:00:00", &long),
+        Ok(utc_datetime!(2020-01-02 02:04:05))
+    );
+    assert_eq!(
+        Timestamp::parse("2020-01-02 03:04:05 +01:00:00", &long),
+        Ok(utc_datetime!(2020-01-02 02:04:05).into())
+    );
+    assert_eq!(
+        Date::parse("2020-002", &format_description!("[year]-[ordinal]")),
+        Ok(date!(2020 - 01 - 02))
+    );
+    assert_eq!(
+        Time::parse("01 PM", &format_description!("[hour repr:12] [period]")),
+        Ok(time!(13:00))
+    );
+    assert_eq!(
+        UtcOffset::parse(
+            "-00:30",
+            &format_description!("[offset_hour]:[offset_minute]")
+        ),
+        Ok(offset!(-0:30))
+    );
+    let day = format_description!("[year]-[month]-[day]");
+    assert_eq!(
+        Date::parse("2020-13-02", &day),
+        Err(Parse::TryFromParsed(TryFromParsed::ComponentRange(
+            Date::from_calendar_date(1_000_000, Month::May, 1)
+                .map(drop)
+                .map_err(|_| Month::from_number(13).unwrap_err())
+                .unwrap_err()
+        )))
+    );
+    assert_eq!(
+        Date::parse("2020-1-02", &day),
+        Err(Parse::ParseFromDescription(
+            ParseFromDescription::InvalidComponent("month")
+        ))
+    );
+    assert_eq!(
+        Date::parse("2020/01-02", &day),
+        Err(Parse::ParseFromDescription(
+            ParseFromDescription::InvalidLiteral
+        ))
+    );
+    assert_eq!(
+        Date::parse("2020-01-02.", &day),
+        Err(Parse::UnexpectedTrailingCharacters)
+    );
+    assert_eq!(
+        Time::parse("2020-01-02", &day),
+        Err(Parse::TryFromParsed(TryFromParsed::InsufficientInformation))
+    );
+    let unix = format_description!("[unix_timestamp].[subsecond digits:3]");
+    assert_eq!(
+        OffsetDateTime::parse("1546398245.500", unix),
+        Ok(datetime!(2019-01-02 3:04:05.5 UTC))
+    );
+    assert_eq!(
+        Timestamp::parse("1546398245.500", unix),
+        Ok(datetime!(2019-01-02 3:04:05.5 UTC).into())
+    );
+    let defaults = Parsed::new().with_hour_24(12).unwrap();
+    assert_eq!(
+        UtcDateTime::parse_with_defaults(b"2020-01-02", &day, defaults),
+        Ok(utc_datetime!(2020-01-02 12:00))
+    );
+}
+
+#[test]
+fn descriptions_are_read_from_texts() {
+    let items = muxandu::format_description::parse("[year]-[[[month repr:short]").unwrap();
+    assert_eq!(
+        items,
+        [
+            BorrowedFormatItem::Component(Component::Year(modifier::Year::default())),
+            BorrowedFormatItem::Literal(b"-"),
+            BorrowedFormatItem::Literal(b"["),
+            BorrowedFormatItem::Component(Component::Month(
+                modifier::Month::default().with_repr(modifier::MonthRepr::Short)
+            )),
+        ]
+    );
+    assert_eq!(
+        muxandu::format_description::parse_borrowed::<2>(r"a\[b").unwrap(),
+        [
+            BorrowedFormatItem::Literal(b"a"),
+            BorrowedFormatItem::Literal(b"["),
+            BorrowedFormatItem::Literal(b"b"),
+        ]
+    );
+    let owned = muxandu::format_description::parse_owned::<1>("[hour]h").unwrap();
+    assert_eq!(time!(12:00).format(&owned).unwrap(), "12h");
+    assert_eq!(Time::parse("12h", &owned), Ok(time!(12:00)));
+    for (text, refused) in [
+        (
+            "[year",
+            InvalidFormatDescription::UnclosedOpeningBracket { index: 0 },
+        ),
+        (
+            "a [ ]",
+            InvalidFormatDescription::MissingComponentName { index: 2 },
+        ),
+        (
+            "[foo]",
+            InvalidFormatDescription::InvalidComponentName {
+                name: "foo".to_owned(),
+                index: 1,
+            },
+        ),
+        (
+            "[day foo:bar]",
+            InvalidFormatDescription::InvalidModifier {
+                value: "foo:bar".to_owned(),
+                index: 5,
+            },
+        ),
+        (
+            "[day padding:bar]",
+            InvalidFormatDescription::InvalidModifier {
+                value: "bar".to_owned(),
+                index: 13,
+            },
+        ),
+        (
+            "[ignore]",
+            InvalidFormatDescription::MissingRequiredModifier {
+                name: "count",
+                index: 0,
+            },
+        ),
+    ] {
+        assert_eq!(
+            muxandu::format_description::parse(text),
+            Err(refused),
+            "{text}"
+        );
+    }
+}
+
+#[test]
+fn optional_and_first_items_are_read() {
+    let fraction = [
+        BorrowedFormatItem::Literal(b"."),
+        BorrowedFormatItem::Component(Component::Subsecond(modifier::Subsecond::default())),
+    ];
+    let z = [BorrowedFormatItem::Literal(b"Z")];
+    let zone = format_description!("[offset_hour sign:mandatory]:[offset_minute]");
+    let zones = [
+        BorrowedFormatItem::Compound(zone),
+        BorrowedFormatItem::Compound(&z),
+    ];
+    let fraction = BorrowedFormatItem::Compound(&fraction);
+    let items = [
+        BorrowedFormatItem::Compound(format_description!("[hour]:[minute]:[second]")),
+        BorrowedFormatItem::Optional(&fraction),
+        BorrowedFormatItem::First(&zones),
+    ];
+    let owned = OwnedFormatItem::from(&items[..]);
+    for text in ["12:34:56+01:00", "12:34:56.5Z", "12:34:56Z"] {
+        let read = Time::parse(text, &items[..]).unwrap();
+        assert_eq!(read.hour(), 12);
+        assert_eq!(Time::parse(text, &owned), Ok(read));
+    }
+    let text = "[hour]:[minute]:[second][optional [.[subsecond]]][first [Z] [[offset_hour sign:mandatory]:[offset_minute]]]";
+    for read in [
+        parse_owned::<1>(text).unwrap(),
+        parse_owned::<2>(text).unwrap(),
+    ] {
+        assert_eq!(
+            Time::parse("12:34:56.5+01:00", &read),
+            Ok(time!(12:34:56.5))
+        );
+        assert_eq!(Time::parse("12:34:56Z", &read), Ok(time!(12:34:56)));
+        assert!(Time::parse("12:34:56", &read).is_err());
+    }
+    for (text, refused) in [
+        (
+            "a[optional [[day]",
+            InvalidFormatDescription::UnclosedOpeningBracket { index: 11 },
+        ),
+        (
+            "[optional x]",
+            InvalidFormatDescription::Expected {
+                what: "a `[`",
+                index: 10,
+            },
+        ),
+        (
+            "[optional]",
+            InvalidFormatDescription::Expected {
+                what: "white space",
+                index: 9,
+            },
+        ),
+        (
+            "[optional [a] [b]]",
+            InvalidFormatDescription::Expected {
+                what: "one description in brackets",
+                index: 9,
+            },
+        ),
+        (
+            "é[first [a] [[foo]]]",
+            InvalidFormatDescription::InvalidComponentName {
+                name: "foo".to_owned(),
+                index: 15,
+            },
+        ),
+        (
+            "[first [a]",
+            InvalidFormatDescription::UnclosedOpeningBracket { index: 0 },
+        ),
+    ] {
+        assert_eq!(parse_owned::<1>(text), Err(refused), "{text}");
+    }
+    assert_eq!(time!(12:34:56).format(&items[..2]).unwrap(), "12:34:56.0");
+}
+
+#[test]
+fn well_known_formats() {
+    let at = datetime!(1997-11-21 09:55:06 -06:00);
+    assert_eq!(
+        at.format(&Rfc2822).unwrap(),
+        "Fri, 21 Nov 1997 09:55:06 -0600"
+    );
+    assert_eq!(
+        OffsetDateTime::parse("Fri, 21 Nov 1997 09:55:06 -0600", &Rfc2822),
+        Ok(at)
+    );
+    assert_eq!(
+        OffsetDateTime::parse("Sat, 12 Jun 1993 13:25:19 GMT", &Rfc2822),
+        Ok(datetime!(1993-06-12 13:25:19 UTC))
+    );
+    assert_eq!(
+        OffsetDateTime::parse("21 Nov 1997 09:55 EST", &Rfc2822),
+        Ok(datetime!(1997-11-21 09:55 -5))
+    );
+    // The day of the week is wrong, as in texts that there are.
+    assert_eq!(
+        OffsetDateTime::parse("Sat, 21 Nov 1997 09:55:06 -0600", &Rfc2822),
+        Ok(at)
+    );
+    assert_eq!(
+        datetime!(1899-01-01 0:00 UTC).format(&Rfc2822),
+        Err(Format::InvalidComponent("year"))
+    );
+    assert_eq!(
+        datetime!(2019-01-01 0:00 +0:00:01).format(&Rfc3339),
+        Err(Format::InvalidComponent("offset_second"))
+    );
+    assert_eq!(
+        Date::parse("1985-04-12T23:20:50.52Z", &Rfc3339),
+        Ok(date!(1985 - 04 - 12))
+    );
+    assert_eq!(
+        OffsetDateTime::parse("1985-04-12T23:20:50.52Z", &Rfc3339),
+        Ok(datetime!(1985-04-12 23:20:50.52 UTC))
+    );
+    assert_eq!(
+        date!(2024 - 01 - 01).format(&Rfc3339),
+        Err(Format::InsufficientTypeInformation)
+    );
+}
+
+#[test]
+fn parts_are_set_and_read() {
+    let mut parsed = Parsed::new();
+    assert_eq!(parsed.set_year(2024), Some(()));
+    assert_eq!(parsed.set_month(Month::February), Some(()));
+    assert_eq!(parsed.set_day(NonZeroU8::new(29).unwrap()), Some(()));
+    assert_eq!(parsed.set_weekday(Weekday::Monday), Some(()));
+    assert_eq!(Date::try_from(parsed), Ok(date!(2024 - 02 - 29)));
+    assert_eq!(
+        (parsed.year(), parsed.month(), parsed.weekday()),
+        (Some(2024), Some(Month::February), Some(Weekday::Monday))
+    );
+    assert_eq!(parsed.ordinal(), None);
+    let offset = Parsed::new()
+        .with_offset_hour(-5)
+        .unwrap()
+        .with_offset_minute_signed(-30)
+        .unwrap();
+    assert_eq!(
+        (offset.offset_hour(), offset.offset_minute_signed()),
+        (Some(-5), Some(-30))
+    );
+    assert_eq!(UtcOffset::try_from(offset), Ok(offset!(-5:30)));
+    let ordinal = parsed.with_ordinal(NonZeroU16::new(61).unwrap()).unwrap();
+    assert!(Date::try_from(ordinal).is_err());
+    assert_eq!(
+        date!(2024 - 01 - 01).format(&format_description!("[hour]")),
+        Err(Format::InsufficientTypeInformation)
+    );
+}
+
+#[test]
+fn defaults_stand_for_parts_that_a_text_lacks() {
+    let month = format_description!("[year]-[month]");
+    let first = Parsed::new().with_day(NonZeroU8::new(1).unwrap()).unwrap();
+    let day = date!(2024 - 02 - 01);
+    assert_eq!(Date::parse_with_defaults(b"2024-02", month, first), Ok(day));
+    let hours = format_description!("[hour]");
+    let zero = Parsed::new().with_minute(30).unwrap();
+    let half_past = Ok(time!(15:30));
+    assert_eq!(Time::parse_with_defaults(b"15", hours, zero), half_past);
+    let west = format_description!("[offset_hour sign:mandatory]");
+    assert_eq!(
+        UtcOffset::parse_with_defaults(b"-05", west, Parsed::new()),
+        Ok(offset!(-5))
+    );
+    let noon = first.with_hour_24(12).unwrap();
+    assert_eq!(
+        PlainDateTime::parse_with_defaults(b"2024-02", month, noon),
+        Ok(datetime!(2024-02-01 12:00))
+    );
+    let at = noon.with_offset_hour(1).unwrap();
+    assert_eq!(
+        OffsetDateTime::parse_with_defaults(b"2024-02", month, at),
+        Ok(datetime!(2024-02-01 12:00 +1))
+    );
+    let second = format_description!("[unix_timestamp]");
+    assert_eq!(
+        Timestamp::parse_with_defaults(b"1709164800", second, Parsed::new()),
+        Ok(datetime!(2024-02-29 0:00 UTC).into())
+    );
+}
+
+#[test]
+fn parts_are_read_one_by_one() {
+    let (year, month) = (modifier::Year::default(), modifier::Month::default());
+    let mut parsed = Parsed::new();
+    let rest = parsed.parse_component(b"2024-02", Component::Year(year));
+    assert_eq!(rest, Ok(&b"-02"[..]));
+    let rest = Parsed::parse_literal(b"-02", b"-");
+    assert_eq!(rest, Ok(&b"02"[..]));
+    assert_eq!(
+        Parsed::parse_literal(b"/02", b"-"),
+        Err(ParseFromDescription::InvalidLiteral)
+    );
+    let rest = parsed.parse_component(b"02", Component::Month(month));
+    assert_eq!(rest, Ok(&b""[..]));
+    assert_eq!(parsed.month(), Some(Month::February));
+    assert!(
+        parsed
+            .parse_component(b"13", Component::Month(month))
+            .is_err()
+    );
+    let named = Parsed::new()
+        .with_month(Month::March)
+        .and_then(|parts| parts.with_weekday(Weekday::Friday))
+        .unwrap();
+    assert_eq!(
+        (named.month(), named.weekday()),
+        (Some(Month::March), Some(Weekday::Friday))
+    );
+}
