@@ -1,4 +1,5 @@
-/*
+/* SPDX-License-Identifier: MIT OR Apache-2.0
+ *
  * Dates and times, proved: the calls of the Rattle crate muxandu_c.
  * Made by tools/bindings from crates/muxandu_c/src. Do not edit.
  *
@@ -21,17 +22,15 @@
  * MuxanduBatch has written as many items as it counts, and what lies behind them in 'out' is as it was.
  *
  * What stays, as long as the library is libmuxandu.so.0: names, numbers, structs, the parameters of calls and what they
- * give. A later version adds calls, constants and statuses, whose numbers come after those that there are.
+ * give. A later version adds calls, constants and statuses, whose numbers come after those that there are. A name that is
+ * to go has the attribute 'deprecated' first, which says what to use, for one year and one version at least; it goes only
+ * where the number of the library goes up.
  */
 #ifndef MUXANDU_H
 #define MUXANDU_H
 
 #include <stddef.h>
 #include <stdint.h>
-#ifdef MUXANDU_WITH_TIME_H
-#include <string.h>
-#include <time.h>
-#endif
 
 #ifdef __cplusplus
 extern "C" {
@@ -42,10 +41,27 @@ extern "C" {
 #else
 #define MUXANDU_RESTRICT __restrict
 #endif
+#if defined(__cplusplus) || (defined(__STDC_VERSION__) && __STDC_VERSION__ >= 199901L)
+#define MUXANDU_INLINE static inline
+#elif defined(__GNUC__)
+#define MUXANDU_INLINE static __inline__
+#else
+#define MUXANDU_INLINE static
+#endif
+#ifdef __cplusplus
+#define MUXANDU_CAST(type, value) static_cast<type>(value)
+#else
+#define MUXANDU_CAST(type, value) ((type)(value))
+#endif
+#if (defined(__cplusplus) && __cplusplus >= 201103L) || (defined(__STDC_VERSION__) && __STDC_VERSION__ >= 202311L)
+#define MUXANDU_ENUM(name) enum name : uint32_t
+#else
+#define MUXANDU_ENUM(name) enum name
+#endif
 
-/* Why a call refuses. Its status is this number, and 0 where it refuses nothing. Each call says in which order it
- * tests what it takes, and names the first that is refused. */
-enum MuxanduStatusCode {
+/* The error of a call. Its status is this number, or 0 if it succeeds. The comment of each call lists its errors in
+ * the order of its tests; it returns the first. */
+typedef MUXANDU_ENUM(MuxanduStatusCode) {
     /* Nothing is refused. */
     MUXANDU_OK = 0,
     /* A year before -999999 or after 999999. */
@@ -98,13 +114,13 @@ enum MuxanduStatusCode {
     MUXANDU_REFUSED_OFFSET_MINUTE = 24,
     /* A value that has no text in RFC 3339: a year outside 0 to 9999, or an offset with seconds or beyond 23:59. */
     MUXANDU_REFUSED_NO_TEXT = 25
-};
+} MuxanduStatusCode;
 
-/* A status: MUXANDU_OK, or what a call refuses, also one that a later version adds. */
+/* A status: 0, which is MUXANDU_OK, or the number of an error. Later versions may add errors. */
 typedef uint32_t MuxanduStatus;
 
 /* A unit of time. A call takes its number. */
-enum MuxanduUnit {
+typedef MUXANDU_ENUM(MuxanduUnit) {
     /* A day. */
     MUXANDU_UNIT_DAY = 1,
     /* An hour. */
@@ -116,11 +132,13 @@ enum MuxanduUnit {
     /* A millisecond. */
     MUXANDU_UNIT_MILLISECOND = 5,
     /* A microsecond. */
-    MUXANDU_UNIT_MICROSECOND = 6
-};
+    MUXANDU_UNIT_MICROSECOND = 6,
+    /* A nanosecond. */
+    MUXANDU_UNIT_NANOSECOND = 7
+} MuxanduUnit;
 
 /* A part of a date-time. A call takes its number. */
-enum MuxanduPart {
+typedef MUXANDU_ENUM(MuxanduPart) {
     /* The year, -999999 to 999999. */
     MUXANDU_PART_YEAR = 1,
     /* The month, 1 to 12. */
@@ -137,9 +155,9 @@ enum MuxanduPart {
     MUXANDU_PART_SECOND = 7,
     /* The nanosecond of the second, 0 to 999999999. */
     MUXANDU_PART_NANOSECOND = 8
-};
+} MuxanduPart;
 
-/* The version of these declarations, as ten thousand times the first number, a hundred times the second, and the
+/* The version of these declarations: ten thousand times the first number, plus a hundred times the second, plus the
  * third. */
 #define MUXANDU_VERSION 100
 
@@ -179,10 +197,10 @@ enum MuxanduPart {
 /* The highest offset, in seconds. */
 #define MUXANDU_OFFSET_MAX 93599
 
-/* The bytes of the longest text that a call writes: a buffer of so many is long enough. */
+/* The bytes of the longest text of a value that a call writes. Use it as the size of a buffer. */
 #define MUXANDU_TEXT_ROOM 42
 
-/* The bytes of the longest text that muxandu_status_text writes: a buffer of so many is long enough. */
+/* The bytes of the longest text that muxandu_status_text writes. Use it as the size of a buffer. */
 #define MUXANDU_STATUS_ROOM 128
 
 /* An instant: a Unix second and a nanosecond of that second, before 1970 too. */
@@ -193,17 +211,17 @@ typedef struct MuxanduTimestamp {
     uint32_t nanoseconds;
 } MuxanduTimestamp;
 
-/* A duration: so many seconds and nanoseconds together. A call gives both of one sign and less than a second of
- * nanoseconds, and takes any whose sum is at least -2^63 seconds - 999999999 ns and at most 2^63 - 1 seconds +
+/* A duration: the sum of its seconds and its nanoseconds. A call writes both with one sign, and less than a second
+ * of nanoseconds. It takes any whose sum is at least -2^63 seconds - 999999999 ns and at most 2^63 - 1 seconds +
  * 999999999 ns. */
 typedef struct MuxanduDuration {
     /* The seconds. */
     int64_t seconds;
-    /* The nanoseconds besides. */
+    /* The nanoseconds to add to the seconds. */
     int32_t nanoseconds;
 } MuxanduDuration;
 
-/* What clocks at an offset from UTC show, in the proleptic Gregorian calendar. */
+/* A date and a time of day in the proleptic Gregorian calendar, and their offset from UTC. */
 typedef struct MuxanduDateTime {
     /* The year, -999999 to 999999; year 0 comes before year 1. */
     int32_t year;
@@ -219,7 +237,7 @@ typedef struct MuxanduDateTime {
     uint8_t second;
     /* The nanosecond of the second, 0 to 999999999. */
     uint32_t nanosecond;
-    /* The seconds by which the clocks are ahead of UTC, -93599 to 93599. */
+    /* The offset: the seconds by which local clocks are ahead of UTC, -93599 to 93599. */
     int32_t offset_seconds;
 } MuxanduDateTime;
 
@@ -245,25 +263,25 @@ typedef struct MuxanduOrdinalDate {
 typedef struct MuxanduWeekDate {
     /* The ISO year, -999999 to 999999. */
     int32_t year;
-    /* The ISO week, 1 to 52, or 53 in a year that has so many. */
+    /* The ISO week, 1 to 52, or 53 in a year of 53 weeks. */
     uint8_t week;
     /* The day of the week, 0 for Monday to 6 for Sunday. */
     uint8_t weekday;
 } MuxanduWeekDate;
 
-/* Where a text lies in a block of texts. */
+/* The place of a text in a block of texts. */
 typedef struct MuxanduSpan {
-    /* How many bytes of the block come before the text. */
+    /* The index of its first byte in the block. */
     size_t start;
-    /* How many bytes the text has. */
+    /* The number of its bytes. */
     size_t length;
 } MuxanduSpan;
 
-/* What a call with many items did: it goes through them in their order, up to the first that is refused. */
+/* The result of a call with many items. It converts them in their order, up to the first that it rejects. */
 typedef struct MuxanduBatch {
-    /* How many items were converted and written. */
+    /* The number of items that it converted and wrote. */
     size_t count;
-    /* 0 if that is all of them, else why the next was refused. */
+    /* 0 if these are all items, else the error of the next. */
     MuxanduStatus status;
 } MuxanduBatch;
 
@@ -277,13 +295,13 @@ typedef struct MuxanduOffset {
     int8_t seconds;
 } MuxanduOffset;
 
-/* All that a date shows. */
+/* Every reading of a date: its day numbers, its day of the year and of the week, and its weeks. */
 typedef struct MuxanduDateReads {
     /* The day number, 0 on 1970-01-01. */
     int32_t day;
     /* The Julian day, 2440588 on 1970-01-01. */
     int32_t julian_day;
-    /* The year that the ISO week belongs to, which is that of its Thursday. */
+    /* The year of the ISO week, which is the year of its Thursday. */
     int32_t iso_year;
     /* The day of the year, 1 to 366. */
     uint16_t ordinal;
@@ -291,9 +309,9 @@ typedef struct MuxanduDateReads {
     uint8_t iso_week;
     /* The day of the week, 0 for Monday to 6 for Sunday. */
     uint8_t weekday;
-    /* How many Sundays of the year lie on or before the date, 0 to 53. */
+    /* The number of Sundays in the year up to and including the date, 0 to 53. */
     uint8_t sunday_based_week;
-    /* How many Mondays of the year lie on or before the date, 0 to 53. */
+    /* The number of Mondays in the year up to and including the date, 0 to 53. */
     uint8_t monday_based_week;
 } MuxanduDateReads;
 
@@ -305,6 +323,9 @@ typedef struct MuxanduDateReads {
 #define MUXANDU_LAYOUT(name, holds) typedef char muxandu_layout_##name[(holds) ? 1 : -1]
 #endif
 MUXANDU_LAYOUT(Bits64, sizeof(size_t) == 8 && sizeof(void *) == 8);
+MUXANDU_LAYOUT(MuxanduStatus, sizeof(MuxanduStatus) == 4);
+MUXANDU_LAYOUT(MuxanduUnit, sizeof(MuxanduUnit) == 4);
+MUXANDU_LAYOUT(MuxanduPart, sizeof(MuxanduPart) == 4);
 MUXANDU_LAYOUT(MuxanduTimestamp, sizeof(MuxanduTimestamp) == 16);
 MUXANDU_LAYOUT(MuxanduTimestamp_seconds, offsetof(MuxanduTimestamp, seconds) == 0);
 MUXANDU_LAYOUT(MuxanduTimestamp_nanoseconds, offsetof(MuxanduTimestamp, nanoseconds) == 8);
@@ -352,443 +373,517 @@ MUXANDU_LAYOUT(MuxanduDateReads_sunday_based_week, offsetof(MuxanduDateReads, su
 MUXANDU_LAYOUT(MuxanduDateReads_monday_based_week, offsetof(MuxanduDateReads, monday_based_week) == 17);
 #undef MUXANDU_LAYOUT
 
-/* The version of the library, a number as MUXANDU_VERSION. Where it is lower, the library has not all that is
- * declared here. */
+/* The version of the library, a number like MUXANDU_VERSION. A library with a lower number lacks some of these
+ * declarations. */
 uint32_t muxandu_version(void);
 
-/* Writes the name of a status, as 'OK' or 'DAY_OF_MONTH', of at most 15 bytes, all ASCII and none 0, at the front of
- * 'buffer', and its length to 'size'. A number that is no status of this version has the name 'UNKNOWN'. Refused
- * BUFFER where the name is longer than 'buffer': then 'size' says how long it is, and 'buffer' is as it was. */
-MuxanduStatus muxandu_status_name(uint32_t status, char *MUXANDU_RESTRICT buffer, size_t buffer_count,
+/* Writes the name of a status, such as 'OK' or 'DAY_OF_MONTH', to the front of 'buffer', and its length to 'size'.
+ * The name has at most 15 bytes, all ASCII and none 0. A number that is no status of this version has the name
+ * 'UNKNOWN'. Errors: BUFFER if the name is longer than 'buffer'; 'size' is then the length of the name, and 'buffer'
+ * is unchanged. */
+MuxanduStatus muxandu_status_name(MuxanduStatus status, char *MUXANDU_RESTRICT buffer, size_t buffer_count,
                                   size_t *MUXANDU_RESTRICT size);
 
-/* Writes what a status says, a sentence of at most 128 bytes, as muxandu_status_name does. */
-MuxanduStatus muxandu_status_text(uint32_t status, char *MUXANDU_RESTRICT buffer, size_t buffer_count,
+/* Writes the meaning of a status, a sentence of at most 128 bytes, as muxandu_status_name does. */
+MuxanduStatus muxandu_status_text(MuxanduStatus status, char *MUXANDU_RESTRICT buffer, size_t buffer_count,
                                   size_t *MUXANDU_RESTRICT size);
 
-/* Whether the parts make a timestamp. Refused TIMESTAMP, then NANOSECOND. */
+/* Checks that the parts make a timestamp. Errors, in this order: TIMESTAMP, NANOSECOND. */
 MuxanduStatus muxandu_timestamp_check(MuxanduTimestamp at);
 
-/* Which timestamp comes first: -1 if 'first' does, 0 if both are one instant, 1 if 'second' does. It takes any
- * parts, also those that other calls refuse, and goes by seconds and nanoseconds together, so that it can sort. */
+/* The order of two timestamps: -1 if 'first' comes first, 0 if both are one instant, 1 if 'second' comes first. It
+ * compares seconds and nanoseconds together, and takes any parts, also invalid ones, so you can sort with it. */
 int32_t muxandu_timestamp_compare(MuxanduTimestamp first, MuxanduTimestamp second);
 
-/* The instant so much later, or earlier for a negative duration. Refused as the timestamp, then DURATION, then
- * RESULT outside the range. */
+/* The instant plus a duration. Errors, in this order: those of the timestamp, DURATION, RESULT if out of range. */
 MuxanduStatus muxandu_timestamp_add(MuxanduTimestamp at, MuxanduDuration duration, MuxanduTimestamp *out);
 
-/* The instant so much earlier, or later for a negative duration. Refused as the timestamp, then DURATION, then
- * RESULT outside the range. */
+/* The instant minus a duration. Errors, in this order: those of the timestamp, DURATION, RESULT if out of range. */
 MuxanduStatus muxandu_timestamp_subtract(MuxanduTimestamp at, MuxanduDuration duration, MuxanduTimestamp *out);
 
-/* The instant so much later, or the end of the range that it is beyond. Refused as the timestamp, then DURATION. */
+/* The instant plus a duration, or the nearer end of the range. Errors, in this order: those of the timestamp,
+ * DURATION. */
 MuxanduStatus muxandu_timestamp_saturating_add(MuxanduTimestamp at, MuxanduDuration duration, MuxanduTimestamp *out);
 
-/* The instant so much earlier, or the end of the range that it is beyond. Refused as the timestamp, then DURATION. */
+/* The instant minus a duration, or the nearer end of the range. Errors, in this order: those of the timestamp,
+ * DURATION. */
 MuxanduStatus muxandu_timestamp_saturating_subtract(MuxanduTimestamp at, MuxanduDuration duration,
                                                     MuxanduTimestamp *out);
 
-/* The duration from 'earlier' to 'later', negative where 'later' comes first. Refused as 'later', then as 'earlier'. */
+/* The duration from 'earlier' to 'later', negative if 'later' comes first. Errors, in this order: those of 'later',
+ * those of 'earlier'. */
 MuxanduStatus muxandu_timestamp_difference(MuxanduTimestamp later, MuxanduTimestamp earlier, MuxanduDuration *out);
 
-/* The instant rounded down to a unit in UTC, before 1970 too. Refused as the timestamp, then UNIT. */
-MuxanduStatus muxandu_timestamp_truncate(MuxanduTimestamp at, uint32_t unit, MuxanduTimestamp *out);
+/* The instant, rounded down to a unit in UTC, also before 1970. Errors, in this order: those of the timestamp, UNIT. */
+MuxanduStatus muxandu_timestamp_truncate(MuxanduTimestamp at, MuxanduUnit unit, MuxanduTimestamp *out);
 
-/* The instant so many milliseconds from 1970-01-01 0:00 UTC. Refused TIMESTAMP outside the range. */
+/* The instant of a number of milliseconds from 1970-01-01 0:00 UTC. Errors: TIMESTAMP if out of range. */
 MuxanduStatus muxandu_timestamp_from_milliseconds(int64_t milliseconds, MuxanduTimestamp *out);
 
-/* The whole milliseconds from 1970-01-01 0:00 UTC, rounded down. Refused as the timestamp. */
+/* The whole milliseconds from 1970-01-01 0:00 UTC, rounded down. Errors: those of the timestamp. */
 MuxanduStatus muxandu_timestamp_to_milliseconds(MuxanduTimestamp at, int64_t *out);
 
-/* The instant so many microseconds from 1970-01-01 0:00 UTC. It is always in the range. */
+/* The instant of a number of microseconds from 1970-01-01 0:00 UTC. It is always in range. */
 MuxanduTimestamp muxandu_timestamp_from_microseconds(int64_t microseconds);
 
-/* The whole microseconds from 1970-01-01 0:00 UTC, rounded down. Refused as the timestamp, then RESULT where 64 bits
- * do not hold them, as before -290308-12-21 and after 294247-01-10. */
+/* The whole microseconds from 1970-01-01 0:00 UTC, rounded down. They fit in 64 bits from -290308-12-21 to
+ * 294247-01-10. Errors, in this order: those of the timestamp, RESULT if they do not fit. */
 MuxanduStatus muxandu_timestamp_to_microseconds(MuxanduTimestamp at, int64_t *out);
 
-/* The instant so many nanoseconds from 1970-01-01 0:00 UTC. It is always in the range. */
+/* The instant of a number of nanoseconds from 1970-01-01 0:00 UTC. It is always in range. */
 MuxanduTimestamp muxandu_timestamp_from_nanoseconds(int64_t nanoseconds);
 
-/* The nanoseconds from 1970-01-01 0:00 UTC. Refused as the timestamp, then RESULT where 64 bits do not hold them, as
- * before 1677-09-21 and after 2262-04-11. */
+/* The nanoseconds from 1970-01-01 0:00 UTC. They fit in 64 bits from 1677-09-21 to 2262-04-11. Errors, in this
+ * order: those of the timestamp, RESULT if they do not fit. */
 MuxanduStatus muxandu_timestamp_to_nanoseconds(MuxanduTimestamp at, int64_t *out);
 
-/* Whether the parts make a date-time. Refused, as by each call that takes one, MONTH, YEAR, DAY, DAY_OF_MONTH, HOUR,
- * MINUTE, SECOND, NANOSECOND or OFFSET_SECONDS, tested in this order. To replace a part, write it and ask this. */
+/* Checks that the parts make a date-time. To replace a part yourself, write it and then make this call. Each call
+ * that takes a date-time has these errors, in this order: MONTH, YEAR, DAY, DAY_OF_MONTH, HOUR, MINUTE, SECOND,
+ * NANOSECOND, OFFSET_SECONDS. */
 MuxanduStatus muxandu_date_time_check(MuxanduDateTime date_time);
 
-/* What clocks at an offset, in seconds, show at an instant. Refused as the timestamp, then OFFSET_SECONDS, then
- * RESULT where the clocks show a year outside the range. */
+/* The date-time of an instant at an offset in seconds. Errors, in this order: those of the timestamp,
+ * OFFSET_SECONDS, RESULT if the year at that offset is out of range. */
 MuxanduStatus muxandu_date_time_from_timestamp(MuxanduTimestamp at, int32_t offset_seconds, MuxanduDateTime *out);
 
-/* The instant at which clocks at its offset show the date-time. Refused as the date-time, then RESULT outside the
- * range of timestamps. */
+/* The instant of a date-time. Errors, in this order: those of the date-time, RESULT outside the range of timestamps. */
 MuxanduStatus muxandu_timestamp_from_date_time(MuxanduDateTime date_time, MuxanduTimestamp *out);
 
-/* What clocks at another offset, in seconds, show at the same instant. Refused as the date-time, then
- * OFFSET_SECONDS, then RESULT where the clocks there show a year outside the range. */
+/* The same instant at another offset in seconds. Errors, in this order: those of the date-time, OFFSET_SECONDS,
+ * RESULT if the year at that offset is out of range. */
 MuxanduStatus muxandu_date_time_to_offset(MuxanduDateTime date_time, int32_t offset_seconds, MuxanduDateTime *out);
 
-/* The date-time so much later at the same offset, or earlier for a negative duration. Refused as the date-time, then
- * DURATION, then RESULT where the year is outside the range. */
+/* The date-time plus a duration, at the same offset. Errors, in this order: those of the date-time, DURATION, RESULT
+ * if the year is out of range. */
 MuxanduStatus muxandu_date_time_add(MuxanduDateTime date_time, MuxanduDuration duration, MuxanduDateTime *out);
 
-/* The date-time so much earlier at the same offset, or later for a negative duration. Refused as the date-time, then
- * DURATION, then RESULT where the year is outside the range. */
+/* The date-time minus a duration, at the same offset. Errors, in this order: those of the date-time, DURATION,
+ * RESULT if the year is out of range. */
 MuxanduStatus muxandu_date_time_subtract(MuxanduDateTime date_time, MuxanduDuration duration, MuxanduDateTime *out);
 
-/* The date-time so much later at the same offset, or the end of the range that it is beyond. Refused as the
- * date-time, then DURATION. */
+/* The date-time plus a duration, at the same offset, or the nearer end of the range. Errors, in this order: those of
+ * the date-time, DURATION. */
 MuxanduStatus muxandu_date_time_saturating_add(MuxanduDateTime date_time, MuxanduDuration duration,
                                                MuxanduDateTime *out);
 
-/* The date-time so much earlier at the same offset, or the end of the range that it is beyond. Refused as the
- * date-time, then DURATION. */
+/* The date-time minus a duration, at the same offset, or the nearer end of the range. Errors, in this order: those
+ * of the date-time, DURATION. */
 MuxanduStatus muxandu_date_time_saturating_subtract(MuxanduDateTime date_time, MuxanduDuration duration,
                                                     MuxanduDateTime *out);
 
-/* The duration from the instant of 'earlier' to that of 'later', negative where 'later' comes first. Refused as
- * 'later', then as 'earlier'. */
+/* The duration from the instant of 'earlier' to that of 'later', negative if 'later' comes first. Errors, in this
+ * order: those of 'later', those of 'earlier'. */
 MuxanduStatus muxandu_date_time_difference(MuxanduDateTime later, MuxanduDateTime earlier, MuxanduDuration *out);
 
-/* The date-time rounded down to a unit, as its clocks show it. Refused as the date-time, then UNIT. */
-MuxanduStatus muxandu_date_time_truncate(MuxanduDateTime date_time, uint32_t unit, MuxanduDateTime *out);
+/* The date-time, rounded down to a unit at its own offset. Errors, in this order: those of the date-time, UNIT. */
+MuxanduStatus muxandu_date_time_truncate(MuxanduDateTime date_time, MuxanduUnit unit, MuxanduDateTime *out);
 
-/* Which date-time comes first, by their instants: -1 if 'first' does, 0 if both are one instant, 1 if 'second' does.
- * Refused as 'first', then as 'second'. */
+/* The order of two instants: -1 if 'first' comes first, 0 if both are one instant, 1 if 'second' comes first.
+ * Errors, in this order: those of 'first', those of 'second'. */
 MuxanduStatus muxandu_date_time_compare(MuxanduDateTime first, MuxanduDateTime second, int32_t *out);
 
-/* The day number that the clocks show, 0 on 1970-01-01. Refused as the date-time. */
+/* The day number of the local date, 0 on 1970-01-01. Errors: those of the date-time. */
 MuxanduStatus muxandu_date_time_day(MuxanduDateTime date_time, int32_t *out);
 
-/* The date of a day number. Refused DAY_NUMBER. */
+/* The date of a day number. Errors: DAY_NUMBER. */
 MuxanduStatus muxandu_date_from_day(int32_t day, MuxanduDate *out);
 
-/* The day number of a date. Refused MONTH, YEAR, DAY or DAY_OF_MONTH, tested in this order. */
+/* The day number of a date. Errors, in this order: MONTH, YEAR, DAY, DAY_OF_MONTH. */
 MuxanduStatus muxandu_day_from_date(MuxanduDate date, int32_t *out);
 
-/* The year and the day of the year of a day number. Refused DAY_NUMBER. */
+/* The year and the day of the year of a day number. Errors: DAY_NUMBER. */
 MuxanduStatus muxandu_ordinal_date_from_day(int32_t day, MuxanduOrdinalDate *out);
 
-/* The day number of a day of a year. Refused YEAR, ORDINAL or ORDINAL_OF_YEAR, tested in this order. */
+/* The day number of a day of a year. Errors, in this order: YEAR, ORDINAL, ORDINAL_OF_YEAR. */
 MuxanduStatus muxandu_day_from_ordinal_date(MuxanduOrdinalDate date, int32_t *out);
 
-/* The ISO year, the ISO week and the day of the week of a day number, of which muxandu_day_from_week_date makes the
- * day number again. Refused DAY_NUMBER. */
+/* The ISO year, the ISO week and the day of the week of a day number. muxandu_day_from_week_date is the inverse.
+ * Errors: DAY_NUMBER. */
 MuxanduStatus muxandu_week_date_from_day(int32_t day, MuxanduWeekDate *out);
 
-/* The day number of an ISO week date. Refused YEAR, WEEK, WEEKDAY or WEEK_OF_YEAR, tested in this order, then RESULT
- * for the two days of the last week that lie past the range. */
+/* The day number of an ISO week date. Errors, in this order: YEAR, WEEK, WEEKDAY, WEEK_OF_YEAR, RESULT for the two
+ * days of the last week past the range. */
 MuxanduStatus muxandu_day_from_week_date(MuxanduWeekDate date, int32_t *out);
 
-/* The day of the week of a day number, 0 for Monday to 6 for Sunday. Refused DAY_NUMBER. */
+/* The day of the week of a day number, 0 for Monday to 6 for Sunday. Errors: DAY_NUMBER. */
 MuxanduStatus muxandu_weekday_from_day(int32_t day, uint8_t *out);
 
-/* How many days a month of a year has, 28 to 31. Refused MONTH, then YEAR. */
-MuxanduStatus muxandu_days_in_month(int32_t year, uint8_t month, uint8_t *out);
+/* The number of days in a month of a year, 28 to 31. Errors, in this order: MONTH, YEAR. */
+MuxanduStatus muxandu_days_in_month(int32_t year, uint32_t month, uint8_t *out);
 
-/* What clocks at an offset, in seconds, show at each Unix second, up to the first that
- * muxandu_date_time_from_timestamp refuses. Refused BUFFER, with nothing written, where 'out' has fewer items than
- * 'seconds'. */
+/* The date-time of each Unix second at an offset in seconds, up to the first that muxandu_date_time_from_timestamp
+ * rejects. Errors: BUFFER if 'out' has fewer items than 'seconds' (the call then writes nothing), else that of the
+ * first rejected item. */
 MuxanduBatch muxandu_date_times_from_seconds(const int64_t *MUXANDU_RESTRICT seconds, size_t seconds_count,
                                              int32_t offset_seconds, MuxanduDateTime *MUXANDU_RESTRICT out,
                                              size_t out_count);
 
-/* The Unix second of each date-time, rounded down, up to the first that muxandu_timestamp_from_date_time refuses.
- * Refused BUFFER, with nothing written, where 'out' has fewer items than 'date_times'. */
+/* The Unix second of each date-time, rounded down, up to the first that muxandu_timestamp_from_date_time rejects.
+ * Errors: BUFFER if 'out' has fewer items than 'date_times' (the call then writes nothing), else that of the first
+ * rejected item. */
 MuxanduBatch muxandu_seconds_from_date_times(const MuxanduDateTime *MUXANDU_RESTRICT date_times,
                                              size_t date_times_count, int64_t *MUXANDU_RESTRICT out, size_t out_count);
 
-/* The date of each day number, up to the first that muxandu_date_from_day refuses. Refused BUFFER, with nothing
- * written, where 'out' has fewer items than 'days'. */
+/* The date of each day number, up to the first that muxandu_date_from_day rejects. Errors: BUFFER if 'out' has fewer
+ * items than 'days' (the call then writes nothing), else that of the first rejected item. */
 MuxanduBatch muxandu_dates_from_days(const int32_t *MUXANDU_RESTRICT days, size_t days_count,
                                      MuxanduDate *MUXANDU_RESTRICT out, size_t out_count);
 
-/* The day number of each date, up to the first that muxandu_day_from_date refuses. Refused BUFFER, with nothing
- * written, where 'out' has fewer items than 'dates'. */
+/* The day number of each date, up to the first that muxandu_day_from_date rejects. Errors: BUFFER if 'out' has fewer
+ * items than 'dates' (the call then writes nothing), else that of the first rejected item. */
 MuxanduBatch muxandu_days_from_dates(const MuxanduDate *MUXANDU_RESTRICT dates, size_t dates_count,
                                      int32_t *MUXANDU_RESTRICT out, size_t out_count);
 
-/* The instant of each text of RFC 3339, up to the first that muxandu_timestamp_from_rfc3339 refuses, or SPAN, whose
- * span does not lie in the block 'texts'. Refused BUFFER, with nothing written, where 'out' has fewer items than
- * 'spans'. */
+/* The instant of each text of RFC 3339, up to the first that muxandu_timestamp_from_rfc3339 rejects. A span outside
+ * the block 'texts' fails with SPAN. Errors: BUFFER if 'out' has fewer items than 'spans' (the call then writes
+ * nothing), else that of the first rejected item. */
 MuxanduBatch muxandu_timestamps_from_rfc3339(const char *MUXANDU_RESTRICT texts, size_t texts_count,
                                              const MuxanduSpan *MUXANDU_RESTRICT spans, size_t spans_count,
                                              MuxanduTimestamp *MUXANDU_RESTRICT out, size_t out_count);
 
-/* Whether an hour, a minute, a second and a nanosecond of it make a time of day. Refused HOUR, MINUTE, SECOND or
- * NANOSECOND, tested in this order. */
-MuxanduStatus muxandu_time_check(uint8_t hour, uint8_t minute, uint8_t second, uint32_t nanosecond);
+/* Checks that an hour, a minute, a second and a nanosecond make a time of day. Errors, in this order: HOUR, MINUTE,
+ * SECOND, NANOSECOND. */
+MuxanduStatus muxandu_time_check(uint32_t hour, uint32_t minute, uint32_t second, uint32_t nanosecond);
 
-/* The date so many days later, or earlier for a negative count. Refused as the date, then RESULT outside the range. */
+/* The date that is a number of days later, or earlier if it is negative. Errors, in this order: those of the date,
+ * RESULT if out of range. */
 MuxanduStatus muxandu_date_add_days(MuxanduDate date, int32_t days, MuxanduDate *out);
 
-/* The same day of the month so many months later, or earlier for a negative count, or the month's last day where it
- * is shorter. Refused as the date, then RESULT outside the range. */
+/* The same day of the month a number of months later, or earlier if it is negative; in a shorter month its last day.
+ * Errors, in this order: those of the date, RESULT if out of range. */
 MuxanduStatus muxandu_date_add_months(MuxanduDate date, int32_t months, MuxanduDate *out);
 
-/* Writes the text of a date, as RFC 3339 has a full date, '1985-04-12', of 10 bytes, as muxandu_date_time_text does.
- * Refused as the date, then NO_TEXT, then BUFFER. */
+/* Writes the RFC 3339 text of a date, such as '1985-04-12', in 10 bytes, as muxandu_date_time_text does. Errors, in
+ * this order: those of the date, NO_TEXT, BUFFER. */
 MuxanduStatus muxandu_date_to_rfc3339(MuxanduDate date, char *MUXANDU_RESTRICT buffer, size_t buffer_count,
                                       size_t *MUXANDU_RESTRICT size);
 
-/* Reads a date from a text of RFC 3339, with nothing before or after it, as '1985-04-12'. Refused SYNTAX where it
- * has not that form, else MONTH, DAY or DAY_OF_MONTH, by the first from the left that is out of its range. */
+/* The date in an RFC 3339 text such as '1985-04-12', with nothing before or after it. Errors: SYNTAX if the text has
+ * another form, else MONTH, DAY or DAY_OF_MONTH for the first part out of range. */
 MuxanduStatus muxandu_date_from_rfc3339(const char *MUXANDU_RESTRICT text, size_t text_count,
                                         MuxanduDate *MUXANDU_RESTRICT out);
 
-/* Writes the text of RFC 3339 of a date-time with so many digits of the fraction, 0 to 9, and nine where more are
- * asked for, as '1985-04-12T23:20:50.520Z' of three, of at most 35 bytes, as muxandu_date_time_text does: what lies
- * past them is left out. Refused as the date-time, then NO_TEXT, then BUFFER. */
-MuxanduStatus muxandu_date_time_to_rfc3339_digits(MuxanduDateTime date_time, uint8_t digits,
+/* Writes the RFC 3339 text of a date-time with 'digits' digits of the fraction, in at most 35 bytes, as
+ * muxandu_date_time_text does. With three it is '1985-04-12T23:20:50.520Z'. The call cuts further digits off, and
+ * takes a number above nine as nine. Errors, in this order: those of the date-time, NO_TEXT, BUFFER. */
+MuxanduStatus muxandu_date_time_to_rfc3339_digits(MuxanduDateTime date_time, uint32_t digits,
                                                   char *MUXANDU_RESTRICT buffer, size_t buffer_count,
                                                   size_t *MUXANDU_RESTRICT size);
 
-/* What clocks at an offset, in seconds, show at each Unix second, and its status, as
- * muxandu_date_time_from_timestamp has them: where an item is refused, what is in its place stays, and the next
- * follows. 'count' is how many were converted. Refused BUFFER, with nothing written, where 'out' or 'statuses' has
- * fewer items than 'seconds'. */
+/* The date-time of each Unix second at an offset in seconds, and the status of muxandu_date_time_from_timestamp for
+ * it. If an item fails, its place in 'out' keeps its contents, and the call continues with the next. 'count' is the
+ * number of converted items. Errors: BUFFER if 'out' or 'statuses' has fewer items than 'seconds'; the call then
+ * writes nothing. */
 MuxanduBatch muxandu_date_times_from_each_second(const int64_t *MUXANDU_RESTRICT seconds, size_t seconds_count,
                                                  int32_t offset_seconds, MuxanduDateTime *MUXANDU_RESTRICT out,
-                                                 size_t out_count, uint32_t *MUXANDU_RESTRICT statuses,
+                                                 size_t out_count, MuxanduStatus *MUXANDU_RESTRICT statuses,
                                                  size_t statuses_count);
 
-/* The Unix second of each date-time, rounded down, and its status, as muxandu_timestamp_from_date_time has them:
- * where an item is refused, what is in its place stays, and the next follows. 'count' is how many were converted.
- * Refused BUFFER, with nothing written, where 'out' or 'statuses' has fewer items than 'date_times'. */
+/* The Unix second of each date-time, rounded down, and the status of muxandu_timestamp_from_date_time for it. If an
+ * item fails, its place in 'out' keeps its contents, and the call continues with the next. 'count' is the number of
+ * converted items. Errors: BUFFER if 'out' or 'statuses' has fewer items than 'date_times'; the call then writes
+ * nothing. */
 MuxanduBatch muxandu_seconds_from_each_date_time(const MuxanduDateTime *MUXANDU_RESTRICT date_times,
                                                  size_t date_times_count, int64_t *MUXANDU_RESTRICT out,
-                                                 size_t out_count, uint32_t *MUXANDU_RESTRICT statuses,
+                                                 size_t out_count, MuxanduStatus *MUXANDU_RESTRICT statuses,
                                                  size_t statuses_count);
 
-/* Writes the shortest text of RFC 3339 of a date-time, as '1985-04-12T23:20:50.52Z' or '1996-12-19T16:39:57-08:00',
- * of at most 35 bytes, as muxandu_date_time_text does. Refused as the date-time, then NO_TEXT, then BUFFER. */
+/* Writes the shortest RFC 3339 text of a date-time, in at most 35 bytes, as muxandu_date_time_text does. Examples
+ * are '1985-04-12T23:20:50.52Z' and '1996-12-19T16:39:57-08:00'. Errors, in this order: those of the date-time,
+ * NO_TEXT, BUFFER. */
 MuxanduStatus muxandu_date_time_to_rfc3339(MuxanduDateTime date_time, char *MUXANDU_RESTRICT buffer,
                                            size_t buffer_count, size_t *MUXANDU_RESTRICT size);
 
-/* Writes the shortest text of RFC 3339 of an instant, in UTC, as '1985-04-12T23:20:50.52Z', of at most 30 bytes, as
- * muxandu_date_time_text does. Refused as the timestamp, then NO_TEXT, then BUFFER. */
+/* Writes the shortest RFC 3339 text of an instant in UTC, such as '1985-04-12T23:20:50.52Z', in at most 30 bytes, as
+ * muxandu_date_time_text does. Errors, in this order: those of the timestamp, NO_TEXT, BUFFER. */
 MuxanduStatus muxandu_timestamp_to_rfc3339(MuxanduTimestamp at, char *MUXANDU_RESTRICT buffer, size_t buffer_count,
                                            size_t *MUXANDU_RESTRICT size);
 
-/* Writes the text of RFC 3339 of an instant, in UTC, always with nine digits of the fraction, as
- * '1985-04-12T23:20:50.520000000Z', of 30 bytes, as muxandu_date_time_text does. Such texts are in the order of
- * their instants, byte by byte. Refused as the timestamp, then NO_TEXT, then BUFFER. */
+/* Writes the RFC 3339 text of an instant in UTC with nine digits of the fraction, such as
+ * '1985-04-12T23:20:50.520000000Z', in 30 bytes, as muxandu_date_time_text does. Such texts compare byte by byte as
+ * their instants do. Errors, in this order: those of the timestamp, NO_TEXT, BUFFER. */
 MuxanduStatus muxandu_timestamp_to_rfc3339_nanos(MuxanduTimestamp at, char *MUXANDU_RESTRICT buffer,
                                                  size_t buffer_count, size_t *MUXANDU_RESTRICT size);
 
-/* Reads a date-time and its offset from a text of RFC 3339, with nothing before or after it, as
- * '1985-04-12T23:20:50.52Z' or '1996-12-19T16:39:57-08:00'. A 't' or a space can stand for the 'T', and 'z' for the
- * 'Z'; digits past the ninth of the fraction are dropped; '-00:00' is the offset 0. Refused SYNTAX where it has not
- * that form, else MONTH, DAY or DAY_OF_MONTH, HOUR, MINUTE, SECOND, OFFSET_HOUR or OFFSET_MINUTE, by the first from
- * the left that is out of its range. */
+/* The date-time and the offset in an RFC 3339 text, with nothing before or after it. Examples are
+ * '1985-04-12T23:20:50.52Z' and '1996-12-19T16:39:57-08:00'. 't' or a space may replace the 'T', and 'z' the 'Z'.
+ * The call drops digits past the ninth of the fraction, and reads '-00:00' as the offset 0. Errors: SYNTAX if the
+ * text has another form, else that of the first part out of range: MONTH, DAY or DAY_OF_MONTH, HOUR, MINUTE, SECOND,
+ * OFFSET_HOUR, OFFSET_MINUTE. */
 MuxanduStatus muxandu_date_time_from_rfc3339(const char *MUXANDU_RESTRICT text, size_t text_count,
                                              MuxanduDateTime *MUXANDU_RESTRICT out);
 
-/* Reads the instant of a text of RFC 3339, as muxandu_date_time_from_rfc3339 does, and with its refusals. */
+/* The instant of an RFC 3339 text, as muxandu_date_time_from_rfc3339 reads it. Errors: those of that call. */
 MuxanduStatus muxandu_timestamp_from_rfc3339(const char *MUXANDU_RESTRICT text, size_t text_count,
                                              MuxanduTimestamp *MUXANDU_RESTRICT out);
 
-/* Reads the date-time that a text of RFC 3339 begins with, and its offset, as muxandu_date_time_from_rfc3339 does,
- * and writes the number of its bytes to 'size': of '1985-04-12T23:20:50.52Z done' it is 23. Refused SYNTAX where no
- * beginning of the text has that form, else as that call. */
+/* The date-time and the offset at the front of a text, as muxandu_date_time_from_rfc3339 reads them. Writes the
+ * number of bytes it read to 'size': 23 for '1985-04-12T23:20:50.52Z done'. Errors: SYNTAX if no front of the text
+ * has that form, else those of that call. */
 MuxanduStatus muxandu_date_time_from_rfc3339_front(const char *MUXANDU_RESTRICT text, size_t text_count,
                                                    MuxanduDateTime *MUXANDU_RESTRICT out,
                                                    size_t *MUXANDU_RESTRICT size);
 
-/* The place of the fault in a text that is refused SYNTAX, counted from 0: of '1985-04-12_23:20:50Z' it is 10. There
- * the text has a byte with which no date-time of RFC 3339 goes on, or its end. Of a text that has the form it is the
- * number of its bytes. */
+/* The index of the fault in a text that fails with SYNTAX: 10 for '1985-04-12_23:20:50Z'. No RFC 3339 date-time
+ * continues with the byte at that index; or the text ends there, too early. For a text that has the form it is the
+ * length of the text. */
 size_t muxandu_rfc3339_fault(const char *text, size_t text_count);
 
-/* Reads a date-time and its offset as muxandu_date_time_from_rfc3339 does, and one whose second is 60 too, as
- * '2016-12-31T23:59:60Z'. A leap second can be the last second of a month in UTC alone. It is read as the last
- * nanosecond before the next month, whatever its fraction; then 'is_leap' is 1, and else 0. What is read is in the
- * order of what was written. Refused as that call refuses, SECOND above 60; and SECOND where all parts are in their
- * ranges and no month ends with the second of 60. */
+/* The date-time and the offset in a text, as muxandu_date_time_from_rfc3339 reads them, also with a second of 60, as
+ * in '2016-12-31T23:59:60Z'. A leap second is valid only as the last second of a month in UTC. It becomes the last
+ * nanosecond before the next month, for any fraction; 'is_leap' is then 1, else 0. So values keep the order of their
+ * texts. Errors: those of that call, with SECOND above 60; then SECOND if no month ends with a second of 60. */
 MuxanduStatus muxandu_date_time_from_rfc3339_leap(const char *MUXANDU_RESTRICT text, size_t text_count,
                                                   MuxanduDateTime *MUXANDU_RESTRICT out,
                                                   uint8_t *MUXANDU_RESTRICT is_leap);
 
-/* The seconds of an offset of hours, minutes and seconds, of which the smaller take the sign of the hours, or of the
- * minutes if the hours are 0. Refused OFFSET_HOUR where the hours are not -25 to 25, OFFSET_MINUTE where the minutes
- * are not -59 to 59, then OFFSET_SECONDS where the seconds are not -59 to 59. */
+/* The seconds of an offset of hours, minutes and seconds. Smaller parts take the sign of the hours, or of the
+ * minutes if the hours are 0. Errors, in this order: OFFSET_HOUR if not -25 to 25, OFFSET_MINUTE if not -59 to 59,
+ * OFFSET_SECONDS if the seconds are not -59 to 59. */
 MuxanduStatus muxandu_offset_from_parts(MuxanduOffset parts, int32_t *out);
 
-/* The hours, the minutes and the seconds of an offset in seconds, all of one sign. Refused OFFSET_SECONDS. */
+/* The hours, the minutes and the seconds of an offset in seconds, all of one sign. Errors: OFFSET_SECONDS. */
 MuxanduStatus muxandu_offset_to_parts(int32_t offset_seconds, MuxanduOffset *out);
 
-/* All that a date shows: its day number and Julian day, its day of the year and of the week, and its weeks by ISO
- * 8601, by Sundays and by Mondays. Refused MONTH, YEAR, DAY or DAY_OF_MONTH, tested in this order. */
+/* Every reading of a date: its day number and Julian day, its day of the year and of the week, and its weeks by ISO
+ * 8601, by Sundays and by Mondays. Errors, in this order: MONTH, YEAR, DAY, DAY_OF_MONTH. */
 MuxanduStatus muxandu_date_reads(MuxanduDate date, MuxanduDateReads *out);
 
-/* The date of a Julian day, which is 2440588 on 1970-01-01. Refused DAY_NUMBER where the range has no such day. */
+/* The date of a Julian day, which is 2440588 on 1970-01-01. Errors: DAY_NUMBER if out of range. */
 MuxanduStatus muxandu_date_from_julian_day(int32_t julian_day, MuxanduDate *out);
 
-/* The date-time with one part replaced, and the others and the offset kept; a day of the year replaces the month and
- * the day. Refused as the date-time, then UNIT where the number is no part's, then YEAR, MONTH, DAY, DAY_OF_MONTH,
- * ORDINAL, ORDINAL_OF_YEAR, HOUR, MINUTE, SECOND or NANOSECOND. */
-MuxanduStatus muxandu_date_time_replace(MuxanduDateTime date_time, uint32_t part, int32_t value, MuxanduDateTime *out);
+/* The date-time with one part replaced. It keeps the other parts and the offset; a day of the year replaces the
+ * month and the day. Errors, in this order: those of the date-time, UNIT if 'part' is no number of a part, YEAR,
+ * MONTH, DAY, DAY_OF_MONTH, ORDINAL, ORDINAL_OF_YEAR, HOUR, MINUTE, SECOND, NANOSECOND. */
+MuxanduStatus muxandu_date_time_replace(MuxanduDateTime date_time, MuxanduPart part, int32_t value,
+                                        MuxanduDateTime *out);
 
-/* The instant with one part of its date or of its time of day in UTC replaced, and the others kept, as
- * muxandu_date_time_replace does. Refused as the timestamp, then as that call refuses. */
-MuxanduStatus muxandu_timestamp_replace(MuxanduTimestamp at, uint32_t part, int32_t value, MuxanduTimestamp *out);
+/* The instant with one part of its date or time in UTC replaced, as muxandu_date_time_replace does. Errors, in this
+ * order: those of the timestamp, those of that call. */
+MuxanduStatus muxandu_timestamp_replace(MuxanduTimestamp at, MuxanduPart part, int32_t value, MuxanduTimestamp *out);
 
-/* What clocks at an offset, in seconds, show so many milliseconds from 1970-01-01 0:00 UTC, for each count, up to
- * the first that muxandu_timestamp_from_milliseconds or muxandu_date_time_from_timestamp refuses. Refused BUFFER,
- * with nothing written, where 'out' has fewer items than 'milliseconds'. */
+/* The date-time of each Unix millisecond at an offset in seconds, up to the first that
+ * muxandu_timestamp_from_milliseconds or muxandu_date_time_from_timestamp rejects. Errors: BUFFER if 'out' has fewer
+ * items than 'milliseconds' (the call then writes nothing), else that of the first rejected item. */
 MuxanduBatch muxandu_date_times_from_milliseconds(const int64_t *MUXANDU_RESTRICT milliseconds,
                                                   size_t milliseconds_count, int32_t offset_seconds,
                                                   MuxanduDateTime *MUXANDU_RESTRICT out, size_t out_count);
 
 /* The milliseconds from 1970-01-01 0:00 UTC of each date-time, rounded down, up to the first that
- * muxandu_timestamp_from_date_time or muxandu_timestamp_to_milliseconds refuses. Refused BUFFER, with nothing
- * written, where 'out' has fewer items than 'date_times'. */
+ * muxandu_timestamp_from_date_time or muxandu_timestamp_to_milliseconds rejects. Errors: BUFFER if 'out' has fewer
+ * items than 'date_times' (the call then writes nothing), else that of the first rejected item. */
 MuxanduBatch muxandu_milliseconds_from_date_times(const MuxanduDateTime *MUXANDU_RESTRICT date_times,
                                                   size_t date_times_count, int64_t *MUXANDU_RESTRICT out,
                                                   size_t out_count);
 
-/* What clocks at an offset, in seconds, show so many microseconds from 1970-01-01 0:00 UTC, for each count, up to
- * the first that muxandu_date_time_from_timestamp refuses. Refused BUFFER, with nothing written, where 'out' has
- * fewer items than 'microseconds'. */
+/* The date-time of each Unix microsecond at an offset in seconds, up to the first that
+ * muxandu_date_time_from_timestamp rejects. Errors: BUFFER if 'out' has fewer items than 'microseconds' (the call
+ * then writes nothing), else that of the first rejected item. */
 MuxanduBatch muxandu_date_times_from_microseconds(const int64_t *MUXANDU_RESTRICT microseconds,
                                                   size_t microseconds_count, int32_t offset_seconds,
                                                   MuxanduDateTime *MUXANDU_RESTRICT out, size_t out_count);
 
 /* The microseconds from 1970-01-01 0:00 UTC of each date-time, rounded down, up to the first that
- * muxandu_timestamp_from_date_time or muxandu_timestamp_to_microseconds refuses. Refused BUFFER, with nothing
- * written, where 'out' has fewer items than 'date_times'. */
+ * muxandu_timestamp_from_date_time or muxandu_timestamp_to_microseconds rejects. Errors: BUFFER if 'out' has fewer
+ * items than 'date_times' (the call then writes nothing), else that of the first rejected item. */
 MuxanduBatch muxandu_microseconds_from_date_times(const MuxanduDateTime *MUXANDU_RESTRICT date_times,
                                                   size_t date_times_count, int64_t *MUXANDU_RESTRICT out,
                                                   size_t out_count);
 
-/* What clocks at an offset, in seconds, show so many nanoseconds from 1970-01-01 0:00 UTC, for each count, up to the
- * first that muxandu_date_time_from_timestamp refuses. Refused BUFFER, with nothing written, where 'out' has fewer
- * items than 'nanoseconds'. */
+/* The date-time of each Unix nanosecond at an offset in seconds, up to the first that
+ * muxandu_date_time_from_timestamp rejects. Errors: BUFFER if 'out' has fewer items than 'nanoseconds' (the call
+ * then writes nothing), else that of the first rejected item. */
 MuxanduBatch muxandu_date_times_from_nanoseconds(const int64_t *MUXANDU_RESTRICT nanoseconds, size_t nanoseconds_count,
                                                  int32_t offset_seconds, MuxanduDateTime *MUXANDU_RESTRICT out,
                                                  size_t out_count);
 
 /* The nanoseconds from 1970-01-01 0:00 UTC of each date-time, up to the first that muxandu_timestamp_from_date_time
- * or muxandu_timestamp_to_nanoseconds refuses. Refused BUFFER, with nothing written, where 'out' has fewer items
- * than 'date_times'. */
+ * or muxandu_timestamp_to_nanoseconds rejects. Errors: BUFFER if 'out' has fewer items than 'date_times' (the call
+ * then writes nothing), else that of the first rejected item. */
 MuxanduBatch muxandu_nanoseconds_from_date_times(const MuxanduDateTime *MUXANDU_RESTRICT date_times,
                                                  size_t date_times_count, int64_t *MUXANDU_RESTRICT out,
                                                  size_t out_count);
 
-/* The date-time and the offset of each text of RFC 3339, up to the first that muxandu_date_time_from_rfc3339
- * refuses, or SPAN, whose span does not lie in the block 'texts'. Refused BUFFER, with nothing written, where 'out'
- * has fewer items than 'spans'. */
+/* The date-time and the offset in each text of RFC 3339, up to the first that muxandu_date_time_from_rfc3339
+ * rejects. A span outside the block 'texts' fails with SPAN. Errors: BUFFER if 'out' has fewer items than 'spans'
+ * (the call then writes nothing), else that of the first rejected item. */
 MuxanduBatch muxandu_date_times_from_rfc3339(const char *MUXANDU_RESTRICT texts, size_t texts_count,
                                              const MuxanduSpan *MUXANDU_RESTRICT spans, size_t spans_count,
                                              MuxanduDateTime *MUXANDU_RESTRICT out, size_t out_count);
 
-/* The date-time and the offset of each text of RFC 3339, and its status, as muxandu_date_time_from_rfc3339 has them,
- * or SPAN where a span does not lie in the block 'texts': where an item is refused, what is in its place stays, and
- * the next follows. 'count' is how many were read. Refused BUFFER, with nothing written, where 'out' or 'statuses'
- * has fewer items than 'spans'. */
+/* The date-time and the offset in each text of RFC 3339, and the status of muxandu_date_time_from_rfc3339 for it.
+ * The status is SPAN for a span outside the block 'texts'. If an item fails, its place in 'out' keeps its contents,
+ * and the call continues with the next. 'count' is the number of converted items. Errors: BUFFER if 'out' or
+ * 'statuses' has fewer items than 'spans'; the call then writes nothing. */
 MuxanduBatch muxandu_date_times_from_each_rfc3339(const char *MUXANDU_RESTRICT texts, size_t texts_count,
                                                   const MuxanduSpan *MUXANDU_RESTRICT spans, size_t spans_count,
                                                   MuxanduDateTime *MUXANDU_RESTRICT out, size_t out_count,
-                                                  uint32_t *MUXANDU_RESTRICT statuses, size_t statuses_count);
+                                                  MuxanduStatus *MUXANDU_RESTRICT statuses, size_t statuses_count);
 
-/* Writes the text of each date-time into the block 'texts', one behind the other with nothing between, and where it
- * lies to 'spans', up to the first that muxandu_date_time_to_rfc3339 refuses, also BUFFER where what is left of
- * 'texts' is too short. Refused BUFFER, with nothing written, where 'spans' has fewer items than 'date_times'. */
+/* Writes the text of each date-time into the block 'texts', one after the other with nothing between, and its place
+ * to 'spans'. It stops at the first that muxandu_date_time_to_rfc3339 rejects, with BUFFER if the rest of 'texts' is
+ * too short. Errors: BUFFER if 'spans' has fewer items than 'date_times' (the call then writes nothing), else that
+ * of the first rejected item. */
 MuxanduBatch muxandu_date_times_to_rfc3339(const MuxanduDateTime *MUXANDU_RESTRICT date_times, size_t date_times_count,
                                            char *MUXANDU_RESTRICT texts, size_t texts_count,
                                            MuxanduSpan *MUXANDU_RESTRICT spans, size_t spans_count);
 
-/* Writes the text of a date-time, as '1970-01-01 0:00:00.0 +00:00:00', of at most 42 bytes, all ASCII and none 0, at
- * the front of 'buffer', and its length to 'size'. Refused as the date-time, then BUFFER where it is longer than
- * 'buffer': then 'size' says how long it is, and 'buffer' is as it was. */
+/* Writes the text of a date-time, such as '1970-01-01 0:00:00.0 +00:00:00', to the front of 'buffer', and its length
+ * to 'size'. The text has at most 42 bytes, all ASCII and none 0. Its form is '[sign]year-month-day
+ * hour:minute:second.fraction sign hours:minutes:seconds', with no blank after the last sign. The year has four to
+ * six digits, with '-' before it below 0, and '+' above 9999. The hour has one digit below 10. The fraction has one
+ * to nine digits, and ends with 0 only if it is '0'. Each other number has two digits. The offset has '-' below 0,
+ * else '+'. Errors, in this order: those of the date-time, BUFFER if the text is longer than 'buffer'; 'size' is
+ * then its length, and 'buffer' is unchanged. */
 MuxanduStatus muxandu_date_time_text(MuxanduDateTime date_time, char *MUXANDU_RESTRICT buffer, size_t buffer_count,
                                      size_t *MUXANDU_RESTRICT size);
 
-/* Writes the text of a timestamp, the signed decimal of its seconds, as '-0.5', of at most 25 bytes, as
- * muxandu_date_time_text does. Refused as the timestamp, then BUFFER. */
+/* Writes the seconds of a timestamp as a signed decimal, such as '-0.5', in at most 25 bytes, as
+ * muxandu_date_time_text does. Errors, in this order: those of the timestamp, BUFFER. */
 MuxanduStatus muxandu_timestamp_text(MuxanduTimestamp at, char *MUXANDU_RESTRICT buffer, size_t buffer_count,
                                      size_t *MUXANDU_RESTRICT size);
 
-/* With MUXANDU_WITH_TIME_H defined before this header is included: the structs of time.h, both ways. These four are compiled here,
- * and not proved; what they answer comes of calls that are. They refuse as those calls do, and then leave 'out' as it was. */
-#ifdef MUXANDU_WITH_TIME_H
-
-#if (defined(__STDC_VERSION__) && __STDC_VERSION__ >= 201112L) || (defined(__cplusplus) && __cplusplus >= 201703L) || \
-    defined(_POSIX_C_SOURCE)
-#define MUXANDU_HAS_TIMESPEC 1
-
-/* The instant of a struct timespec. Refused TIMESTAMP, then NANOSECOND. */
-static inline uint32_t muxandu_timestamp_from_timespec(const struct timespec *from, MuxanduTimestamp *out) {
-    MuxanduTimestamp at;
-    uint32_t status;
-    at.seconds = from->tv_sec;
-    at.nanoseconds = from->tv_nsec < 0 || from->tv_nsec > 999999999 ? UINT32_MAX : (uint32_t)from->tv_nsec;
-    status = muxandu_timestamp_check(at);
-    if (status == MUXANDU_OK) *out = at;
-    return status;
+/* What a status says, as muxandu_status_text writes it: a text that stays and ends with a byte 0, for a message. This call and
+ * those that end with _z are compiled with the program, and not proved; what they answer is what the proved calls answer. */
+MUXANDU_INLINE const char *muxandu_status_string(MuxanduStatus status) {
+    switch (status) {
+    case MUXANDU_OK:
+        return "Nothing is refused.";
+    case MUXANDU_REFUSED_YEAR:
+        return "A year before -999999 or after 999999.";
+    case MUXANDU_REFUSED_MONTH:
+        return "A month that is not 1 to 12.";
+    case MUXANDU_REFUSED_DAY:
+        return "A day that is not 1 to 31.";
+    case MUXANDU_REFUSED_DAY_OF_MONTH:
+        return "A day of 1 to 31 that its month does not have in its year.";
+    case MUXANDU_REFUSED_ORDINAL:
+        return "A day of the year that is not 1 to 366.";
+    case MUXANDU_REFUSED_ORDINAL_OF_YEAR:
+        return "Day 366 of a year that has 365.";
+    case MUXANDU_REFUSED_WEEK:
+        return "An ISO week that is not 1 to 53.";
+    case MUXANDU_REFUSED_WEEK_OF_YEAR:
+        return "Week 53 of an ISO year that has 52.";
+    case MUXANDU_REFUSED_WEEKDAY:
+        return "A number that is not a day of the week.";
+    case MUXANDU_REFUSED_HOUR:
+        return "An hour that is not 0 to 23.";
+    case MUXANDU_REFUSED_MINUTE:
+        return "A minute that is not 0 to 59.";
+    case MUXANDU_REFUSED_SECOND:
+        return "A second that is not 0 to 59.";
+    case MUXANDU_REFUSED_NANOSECOND:
+        return "A nanosecond that is not 0 to 999999999.";
+    case MUXANDU_REFUSED_OFFSET_SECONDS:
+        return "An offset that is not -93599 to 93599 seconds, or whose part in seconds is not -59 to 59.";
+    case MUXANDU_REFUSED_TIMESTAMP:
+        return "A Unix second, or a count of another unit from 1970-01-01, outside the range of timestamps.";
+    case MUXANDU_REFUSED_DAY_NUMBER:
+        return "A day number that is not -365961662 to 364522971, or a Julian day outside the range of dates.";
+    case MUXANDU_REFUSED_DURATION:
+        return "A duration whose whole seconds do not fit in 64 bits.";
+    case MUXANDU_REFUSED_UNIT:
+        return "A number that is not a unit, or not a part of a date-time.";
+    case MUXANDU_REFUSED_RESULT:
+        return "A result that is outside the range, or that its type cannot hold.";
+    case MUXANDU_REFUSED_BUFFER:
+        return "A buffer that is too short for what the call writes.";
+    case MUXANDU_REFUSED_SPAN:
+        return "A span that does not lie in the block of texts.";
+    case MUXANDU_REFUSED_SYNTAX:
+        return "A text that does not have the form that the call reads, such as a date-time of RFC 3339.";
+    case MUXANDU_REFUSED_OFFSET_HOUR:
+        return "Hours of an offset that are out of range: above 23 in a text of RFC 3339, not -25 to 25 elsewhere.";
+    case MUXANDU_REFUSED_OFFSET_MINUTE:
+        return "Minutes of an offset that are not -59 to 59.";
+    case MUXANDU_REFUSED_NO_TEXT:
+        return "A value that has no text in RFC 3339: a year outside 0 to 9999, or an offset with seconds or beyond 23:59.";
+    default:
+        return "A number that is no status of this version.";
+    }
 }
 
-/* The struct timespec of an instant. Refused as the timestamp. */
-static inline uint32_t muxandu_timespec_from_timestamp(MuxanduTimestamp at, struct timespec *out) {
-    uint32_t status = muxandu_timestamp_check(at);
-    if (status != MUXANDU_OK) return status;
-    out->tv_sec = (time_t)at.seconds;
-    out->tv_nsec = (long)at.nanoseconds;
-    return MUXANDU_OK;
-}
-#endif
-
-/* A part of a struct tm as a byte, and 255, which is no part, for another number. */
-static inline uint8_t muxandu_part_of_tm(int part) {
-    return part < 0 || part > 254 ? 255 : (uint8_t)part;
+/* As muxandu_status_name, with a byte 0 at the end of the text. Errors: also BUFFER if 'buffer' has no room for that
+ * byte. A buffer of 16 bytes is always enough. */
+MUXANDU_INLINE MuxanduStatus muxandu_status_name_z(MuxanduStatus status, char *buffer, size_t buffer_count) {
+    size_t size = 0;
+    MuxanduStatus answer = muxandu_status_name(status, buffer, buffer_count == 0 ? 0 : buffer_count - 1, &size);
+    if (answer == MUXANDU_OK) buffer[size] = '\0';
+    return answer;
 }
 
-/* What the clocks of a struct tm show, at a nanosecond of its second and an offset, which it does not have. Its days of the
- * week and of the year and its tm_isdst are not read. Refused as by muxandu_date_time_check. */
-static inline uint32_t muxandu_date_time_from_tm(const struct tm *from, uint32_t nanosecond, int32_t offset_seconds,
-                                                 MuxanduDateTime *out) {
-    MuxanduDateTime at;
-    uint32_t status;
-    at.year = from->tm_year > INT32_MAX - 1900 ? INT32_MAX : from->tm_year + 1900;
-    at.month = (uint8_t)(from->tm_mon < 0 || from->tm_mon > 11 ? 0 : from->tm_mon + 1);
-    at.day = muxandu_part_of_tm(from->tm_mday);
-    at.hour = muxandu_part_of_tm(from->tm_hour);
-    at.minute = muxandu_part_of_tm(from->tm_min);
-    at.second = muxandu_part_of_tm(from->tm_sec);
-    at.nanosecond = nanosecond;
-    at.offset_seconds = offset_seconds;
-    status = muxandu_date_time_check(at);
-    if (status == MUXANDU_OK) *out = at;
-    return status;
+/* As muxandu_status_text, with a byte 0 at the end of the text. Errors: also BUFFER if 'buffer' has no room for that
+ * byte. A buffer of 129 bytes is always enough. */
+MUXANDU_INLINE MuxanduStatus muxandu_status_text_z(MuxanduStatus status, char *buffer, size_t buffer_count) {
+    size_t size = 0;
+    MuxanduStatus answer = muxandu_status_text(status, buffer, buffer_count == 0 ? 0 : buffer_count - 1, &size);
+    if (answer == MUXANDU_OK) buffer[size] = '\0';
+    return answer;
 }
 
-/* The struct tm of what clocks show, with its days of the week and of the year; tm_isdst is -1, since it is not known, and
- * what else the struct has is 0. Refused as the date-time. */
-static inline uint32_t muxandu_tm_from_date_time(MuxanduDateTime at, struct tm *out) {
-    MuxanduDate date;
-    MuxanduDateReads reads;
-    uint32_t status = muxandu_date_time_check(at);
-    if (status != MUXANDU_OK) return status;
-    date.year = at.year;
-    date.month = at.month;
-    date.day = at.day;
-    status = muxandu_date_reads(date, &reads);
-    if (status != MUXANDU_OK) return status;
-    memset(out, 0, sizeof *out);
-    out->tm_year = at.year - 1900;
-    out->tm_mon = at.month - 1;
-    out->tm_mday = at.day;
-    out->tm_hour = at.hour;
-    out->tm_min = at.minute;
-    out->tm_sec = at.second;
-    out->tm_wday = reads.weekday == 6 ? 0 : reads.weekday + 1;
-    out->tm_yday = reads.ordinal - 1;
-    out->tm_isdst = -1;
-    return MUXANDU_OK;
+/* As muxandu_date_to_rfc3339, with a byte 0 at the end of the text. Errors: also BUFFER if 'buffer' has no room for
+ * that byte. A buffer of 11 bytes is always enough. */
+MUXANDU_INLINE MuxanduStatus muxandu_date_to_rfc3339_z(MuxanduDate date, char *buffer, size_t buffer_count) {
+    size_t size = 0;
+    MuxanduStatus answer = muxandu_date_to_rfc3339(date, buffer, buffer_count == 0 ? 0 : buffer_count - 1, &size);
+    if (answer == MUXANDU_OK) buffer[size] = '\0';
+    return answer;
 }
-#endif
+
+/* As muxandu_date_time_to_rfc3339_digits, with a byte 0 at the end of the text. Errors: also BUFFER if 'buffer' has
+ * no room for that byte. A buffer of 36 bytes is always enough. */
+MUXANDU_INLINE MuxanduStatus muxandu_date_time_to_rfc3339_digits_z(MuxanduDateTime date_time, uint32_t digits, char *buffer, size_t buffer_count) {
+    size_t size = 0;
+    MuxanduStatus answer = muxandu_date_time_to_rfc3339_digits(date_time, digits, buffer, buffer_count == 0 ? 0 : buffer_count - 1, &size);
+    if (answer == MUXANDU_OK) buffer[size] = '\0';
+    return answer;
+}
+
+/* As muxandu_date_time_to_rfc3339, with a byte 0 at the end of the text. Errors: also BUFFER if 'buffer' has no room
+ * for that byte. A buffer of 36 bytes is always enough. */
+MUXANDU_INLINE MuxanduStatus muxandu_date_time_to_rfc3339_z(MuxanduDateTime date_time, char *buffer, size_t buffer_count) {
+    size_t size = 0;
+    MuxanduStatus answer = muxandu_date_time_to_rfc3339(date_time, buffer, buffer_count == 0 ? 0 : buffer_count - 1, &size);
+    if (answer == MUXANDU_OK) buffer[size] = '\0';
+    return answer;
+}
+
+/* As muxandu_timestamp_to_rfc3339, with a byte 0 at the end of the text. Errors: also BUFFER if 'buffer' has no room
+ * for that byte. A buffer of 31 bytes is always enough. */
+MUXANDU_INLINE MuxanduStatus muxandu_timestamp_to_rfc3339_z(MuxanduTimestamp at, char *buffer, size_t buffer_count) {
+    size_t size = 0;
+    MuxanduStatus answer = muxandu_timestamp_to_rfc3339(at, buffer, buffer_count == 0 ? 0 : buffer_count - 1, &size);
+    if (answer == MUXANDU_OK) buffer[size] = '\0';
+    return answer;
+}
+
+/* As muxandu_timestamp_to_rfc3339_nanos, with a byte 0 at the end of the text. Errors: also BUFFER if 'buffer' has
+ * no room for that byte. A buffer of 31 bytes is always enough. */
+MUXANDU_INLINE MuxanduStatus muxandu_timestamp_to_rfc3339_nanos_z(MuxanduTimestamp at, char *buffer, size_t buffer_count) {
+    size_t size = 0;
+    MuxanduStatus answer = muxandu_timestamp_to_rfc3339_nanos(at, buffer, buffer_count == 0 ? 0 : buffer_count - 1, &size);
+    if (answer == MUXANDU_OK) buffer[size] = '\0';
+    return answer;
+}
+
+/* As muxandu_date_time_text, with a byte 0 at the end of the text. Errors: also BUFFER if 'buffer' has no room for
+ * that byte. A buffer of 43 bytes is always enough. */
+MUXANDU_INLINE MuxanduStatus muxandu_date_time_text_z(MuxanduDateTime date_time, char *buffer, size_t buffer_count) {
+    size_t size = 0;
+    MuxanduStatus answer = muxandu_date_time_text(date_time, buffer, buffer_count == 0 ? 0 : buffer_count - 1, &size);
+    if (answer == MUXANDU_OK) buffer[size] = '\0';
+    return answer;
+}
+
+/* As muxandu_timestamp_text, with a byte 0 at the end of the text. Errors: also BUFFER if 'buffer' has no room for
+ * that byte. A buffer of 26 bytes is always enough. */
+MUXANDU_INLINE MuxanduStatus muxandu_timestamp_text_z(MuxanduTimestamp at, char *buffer, size_t buffer_count) {
+    size_t size = 0;
+    MuxanduStatus answer = muxandu_timestamp_text(at, buffer, buffer_count == 0 ? 0 : buffer_count - 1, &size);
+    if (answer == MUXANDU_OK) buffer[size] = '\0';
+    return answer;
+}
 
 #ifdef __cplusplus
 }

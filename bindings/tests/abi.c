@@ -60,8 +60,9 @@ static void numbers_stay(void) {
                                         "OFFSET_HOUR",
                                         "OFFSET_MINUTE",
                                         "NO_TEXT"};
-    static const int units[] = {MUXANDU_UNIT_DAY,    MUXANDU_UNIT_HOUR,        MUXANDU_UNIT_MINUTE,
-                                MUXANDU_UNIT_SECOND, MUXANDU_UNIT_MILLISECOND, MUXANDU_UNIT_MICROSECOND};
+    static const int units[] = {MUXANDU_UNIT_DAY,       MUXANDU_UNIT_HOUR,        MUXANDU_UNIT_MINUTE,
+                                MUXANDU_UNIT_SECOND,    MUXANDU_UNIT_MILLISECOND, MUXANDU_UNIT_MICROSECOND,
+                                MUXANDU_UNIT_NANOSECOND};
     static const int parts[] = {MUXANDU_PART_YEAR, MUXANDU_PART_MONTH,  MUXANDU_PART_DAY,    MUXANDU_PART_ORDINAL,
                                 MUXANDU_PART_HOUR, MUXANDU_PART_MINUTE, MUXANDU_PART_SECOND, MUXANDU_PART_NANOSECOND};
     size_t number;
@@ -96,8 +97,8 @@ static void texts_of_statuses_differ(Tell *tell) {
 }
 
 /* A switch over the statuses, which a compiler holds to be whole. */
-static const char *part_of(MuxanduStatus status) {
-    switch ((enum MuxanduStatusCode)status) {
+static const char *kind_of(MuxanduStatus status) {
+    switch (MUXANDU_CAST(MuxanduStatusCode, status)) {
     case MUXANDU_OK: return "none";
     case MUXANDU_REFUSED_YEAR:
     case MUXANDU_REFUSED_MONTH:
@@ -128,9 +129,80 @@ static const char *part_of(MuxanduStatus status) {
     return "unknown";
 }
 
+/* What muxandu_status_text writes, with a byte 0 behind it, also of numbers that are no status. */
+static void statuses_have_strings(void) {
+    uint32_t status;
+    for (status = 0; status <= MUXANDU_REFUSED_NO_TEXT + 2; status++) {
+        uint32_t number = status == MUXANDU_REFUSED_NO_TEXT + 2 ? UINT32_MAX : status;
+        char text[MUXANDU_STATUS_ROOM + 1];
+        CHECK(is_told(muxandu_status_text, number, muxandu_status_string(number)));
+        CHECK(muxandu_status_text_z(number, text, sizeof text) == MUXANDU_OK);
+        CHECK(strcmp(text, muxandu_status_string(number)) == 0);
+    }
+}
+
+typedef MuxanduStatus Write(char *, size_t);
+
+static MuxanduStatus write_status_name(char *buffer, size_t room) {
+    return muxandu_status_name_z(MUXANDU_REFUSED_DAY_OF_MONTH, buffer, room);
+}
+
+static MuxanduStatus write_date(char *buffer, size_t room) {
+    return muxandu_date_to_rfc3339_z(date(2024, 2, 29), buffer, room);
+}
+
+static MuxanduStatus write_date_time(char *buffer, size_t room) {
+    return muxandu_date_time_to_rfc3339_z(date_time(2024, 2, 29, 1, 2, 3, 40000000, -3600), buffer, room);
+}
+
+static MuxanduStatus write_digits(char *buffer, size_t room) {
+    return muxandu_date_time_to_rfc3339_digits_z(date_time(2024, 2, 29, 1, 2, 3, 40000000, 0), 257, buffer, room);
+}
+
+static MuxanduStatus write_timestamp(char *buffer, size_t room) {
+    return muxandu_timestamp_to_rfc3339_z(stamp(-1, 500000000), buffer, room);
+}
+
+static MuxanduStatus write_nanos(char *buffer, size_t room) {
+    return muxandu_timestamp_to_rfc3339_nanos_z(stamp(-1, 500000000), buffer, room);
+}
+
+static MuxanduStatus write_clocks(char *buffer, size_t room) {
+    return muxandu_date_time_text_z(date_time(-1, 1, 2, 0, 0, 0, 50000000, -1), buffer, room);
+}
+
+static MuxanduStatus write_seconds(char *buffer, size_t room) {
+    return muxandu_timestamp_text_z(stamp(-1, 500000000), buffer, room);
+}
+
+/* A text with a byte 0 behind it, where there is room for both; else the buffer is as it was. */
+static void write_terminated(Write *text_of, const char *wanted) {
+    char text[64];
+    size_t size = strlen(wanted);
+    memset(text, '!', sizeof text);
+    CHECK(text_of(NULL, 0) == MUXANDU_REFUSED_BUFFER);
+    CHECK(text_of(text, 0) == MUXANDU_REFUSED_BUFFER && text[0] == '!');
+    CHECK(text_of(text, size) == MUXANDU_REFUSED_BUFFER && text[0] == '!' && text[size - 1] == '!');
+    CHECK(text_of(text, size + 1) == MUXANDU_OK && strcmp(text, wanted) == 0 && text[size + 1] == '!');
+}
+
+static void texts_are_terminated(void) {
+    char text[MUXANDU_TEXT_ROOM + 1] = "!";
+    write_terminated(write_status_name, "DAY_OF_MONTH");
+    write_terminated(write_date, "2024-02-29");
+    write_terminated(write_date_time, "2024-02-29T01:02:03.04-01:00");
+    write_terminated(write_digits, "2024-02-29T01:02:03.040000000Z");
+    write_terminated(write_timestamp, "1969-12-31T23:59:59.5Z");
+    write_terminated(write_nanos, "1969-12-31T23:59:59.500000000Z");
+    write_terminated(write_clocks, "-0001-01-02 0:00:00.05 -00:00:01");
+    write_terminated(write_seconds, "-0.5");
+    CHECK(muxandu_timestamp_text_z(stamp(LAST + 1, 0), text, sizeof text) == MUXANDU_REFUSED_TIMESTAMP);
+    CHECK(text[0] == '!');
+}
+
 static void statuses_can_be_told_apart(void) {
-    CHECK(strcmp(part_of(muxandu_date_time_check(date_time(2024, 2, 29, 24, 0, 0, 0, 0))), "time of day") == 0);
-    CHECK(strcmp(part_of(MUXANDU_REFUSED_NO_TEXT + 1), "unknown") == 0);
+    CHECK(strcmp(kind_of(muxandu_date_time_check(date_time(2024, 2, 29, 24, 0, 0, 0, 0))), "time of day") == 0);
+    CHECK(strcmp(kind_of(MUXANDU_REFUSED_NO_TEXT + 1), "unknown") == 0);
 }
 
 /* One fault has one status, in parts and in texts. */
@@ -250,6 +322,8 @@ int main(void) {
     numbers_stay();
     texts_of_statuses_differ(muxandu_status_name);
     texts_of_statuses_differ(muxandu_status_text);
+    statuses_have_strings();
+    texts_are_terminated();
     statuses_can_be_told_apart();
     one_fault_has_one_status();
     limits_are_the_ends();

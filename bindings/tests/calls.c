@@ -1,6 +1,7 @@
 /* Each call of the archive from C: what it answers, each of its refusals, and that a refusal leaves `out` as it was. */
-#define MUXANDU_WITH_TIME_H
 #include "checks.h"
+
+#include "muxandu_time.h"
 
 static const MuxanduDateTime JUNK = {1, 2, 3, 4, 5, 6, 7, 8};
 
@@ -67,17 +68,17 @@ static void timestamps_are_apart(void) {
 }
 
 static void timestamps_are_truncated(void) {
-    static const int64_t seconds[] = {-86400, -3600, -60, -1, -1, -1};
-    static const uint32_t nanoseconds[] = {0, 0, 0, 0, 123000000, 123456000};
+    static const int64_t seconds[] = {-86400, -3600, -60, -1, -1, -1, -1};
+    static const uint32_t nanoseconds[] = {0, 0, 0, 0, 123000000, 123456000, 123456789};
     MuxanduTimestamp out = stamp(7, 7);
     uint32_t unit;
-    CHECK(muxandu_timestamp_truncate(stamp(LAST + 1, 0), 0, &out) == MUXANDU_REFUSED_TIMESTAMP);
-    CHECK(muxandu_timestamp_truncate(stamp(0, 0), 0, &out) == MUXANDU_REFUSED_UNIT);
-    CHECK(muxandu_timestamp_truncate(stamp(0, 0), 7, &out) == MUXANDU_REFUSED_UNIT);
-    CHECK(muxandu_timestamp_truncate(stamp(0, 0), UINT32_MAX, &out) == MUXANDU_REFUSED_UNIT);
+    CHECK(muxandu_timestamp_truncate(stamp(LAST + 1, 0), unit_of(0), &out) == MUXANDU_REFUSED_TIMESTAMP);
+    CHECK(muxandu_timestamp_truncate(stamp(0, 0), unit_of(0), &out) == MUXANDU_REFUSED_UNIT);
+    CHECK(muxandu_timestamp_truncate(stamp(0, 0), unit_of(8), &out) == MUXANDU_REFUSED_UNIT);
+    CHECK(muxandu_timestamp_truncate(stamp(0, 0), unit_of(UINT32_MAX), &out) == MUXANDU_REFUSED_UNIT);
     CHECK(is_stamp(out, 7, 7));
-    for (unit = MUXANDU_UNIT_DAY; unit <= MUXANDU_UNIT_MICROSECOND; unit++) {
-        CHECK(muxandu_timestamp_truncate(stamp(-1, 123456789), unit, &out) == MUXANDU_OK);
+    for (unit = MUXANDU_UNIT_DAY; unit <= MUXANDU_UNIT_NANOSECOND; unit++) {
+        CHECK(muxandu_timestamp_truncate(stamp(-1, 123456789), unit_of(unit), &out) == MUXANDU_OK);
         CHECK(is_stamp(out, seconds[unit - 1], nanoseconds[unit - 1]));
     }
 }
@@ -201,13 +202,14 @@ static void date_times_are_compared(void) {
 static void date_times_are_read(void) {
     MuxanduDateTime out = JUNK, at = date_time(2024, 2, 29, 13, 34, 56, 123456789, 60);
     int32_t day = 7;
-    CHECK(muxandu_date_time_truncate(date_time(2024, 1, 32, 0, 0, 0, 0, 0), 0, &out) == MUXANDU_REFUSED_DAY);
-    CHECK(muxandu_date_time_truncate(at, 0, &out) == MUXANDU_REFUSED_UNIT && is_date_time(out, JUNK));
+    CHECK(muxandu_date_time_truncate(date_time(2024, 1, 32, 0, 0, 0, 0, 0), unit_of(0), &out) == MUXANDU_REFUSED_DAY);
+    CHECK(muxandu_date_time_truncate(at, unit_of(0), &out) == MUXANDU_REFUSED_UNIT && is_date_time(out, JUNK));
     CHECK(muxandu_date_time_day(date_time(2024, 1, 1, 0, 61, 0, 0, 0), &day) == MUXANDU_REFUSED_MINUTE && day == 7);
     CHECK(muxandu_date_time_day(date_time(1970, 1, 2, 0, 0, 0, 0, 3600), &day) == MUXANDU_OK && day == 1);
     CHECK(muxandu_date_time_truncate(at, MUXANDU_UNIT_DAY, &out) == MUXANDU_OK &&
           is_date_time(out, date_time(2024, 2, 29, 0, 0, 0, 0, 60)));
     CHECK(muxandu_date_time_truncate(at, MUXANDU_UNIT_MICROSECOND, &out) == MUXANDU_OK && out.nanosecond == 123456000);
+    CHECK(muxandu_date_time_truncate(at, MUXANDU_UNIT_NANOSECOND, &out) == MUXANDU_OK && is_date_time(out, at));
 }
 
 static void days_are_read(void) {
@@ -223,6 +225,8 @@ static void days_are_read(void) {
           week.week == 7 && week.weekday == 7);
     CHECK(muxandu_weekday_from_day(INT32_MIN, &number) == MUXANDU_REFUSED_DAY_NUMBER && number == 7);
     CHECK(muxandu_days_in_month(1000000, 13, &number) == MUXANDU_REFUSED_MONTH);
+    CHECK(muxandu_days_in_month(2024, 256 + 2, &number) == MUXANDU_REFUSED_MONTH);
+    CHECK(muxandu_days_in_month(2024, UINT32_MAX, &number) == MUXANDU_REFUSED_MONTH);
     CHECK(muxandu_days_in_month(1000000, 12, &number) == MUXANDU_REFUSED_YEAR && number == 7);
     CHECK(muxandu_day_from_date(date(1000000, 13, 32), &day) == MUXANDU_REFUSED_MONTH);
     CHECK(muxandu_day_from_date(date(1000000, 12, 32), &day) == MUXANDU_REFUSED_YEAR);
@@ -298,7 +302,7 @@ static uint32_t no_digits(MuxanduDateTime at, char *buffer, size_t room, size_t 
 }
 
 static uint32_t many_digits(MuxanduDateTime at, char *buffer, size_t room, size_t *size) {
-    return muxandu_date_time_to_rfc3339_digits(at, 255, buffer, room, size);
+    return muxandu_date_time_to_rfc3339_digits(at, 256, buffer, room, size);
 }
 
 static void writes(WriteText *write, const char *text, uint32_t refused) {
@@ -349,6 +353,10 @@ static void times_of_day_are_tested(void) {
     CHECK(muxandu_time_check(0, 60, 60, UINT32_MAX) == MUXANDU_REFUSED_MINUTE);
     CHECK(muxandu_time_check(0, 0, 60, UINT32_MAX) == MUXANDU_REFUSED_SECOND);
     CHECK(muxandu_time_check(0, 0, 0, 1000000000) == MUXANDU_REFUSED_NANOSECOND);
+    CHECK(muxandu_time_check(256, 0, 0, 0) == MUXANDU_REFUSED_HOUR);
+    CHECK(muxandu_time_check(0, 256, 0, 0) == MUXANDU_REFUSED_MINUTE);
+    CHECK(muxandu_time_check(0, 0, 256, 0) == MUXANDU_REFUSED_SECOND);
+    CHECK(muxandu_time_check(UINT32_MAX, UINT32_MAX, UINT32_MAX, 0) == MUXANDU_REFUSED_HOUR);
 }
 
 static void dates_move(void) {
@@ -380,7 +388,7 @@ static void offsets_have_parts(void) {
 static void parts_are_replaced(void) {
     MuxanduDateTime leap = date_time(2024, 2, 29, 1, 2, 3, 4, 60), out = JUNK;
     MuxanduTimestamp at = stamp(7, 7);
-    CHECK(muxandu_date_time_replace(leap, 9, 1, &out) == MUXANDU_REFUSED_UNIT && is_date_time(out, JUNK));
+    CHECK(muxandu_date_time_replace(leap, part_of(9), 1, &out) == MUXANDU_REFUSED_UNIT && is_date_time(out, JUNK));
     CHECK(muxandu_date_time_replace(leap, MUXANDU_PART_YEAR, 2023, &out) == MUXANDU_REFUSED_DAY_OF_MONTH);
     CHECK(muxandu_date_time_replace(leap, MUXANDU_PART_YEAR, 1000000, &out) == MUXANDU_REFUSED_YEAR);
     CHECK(muxandu_date_time_replace(leap, MUXANDU_PART_MONTH, 256 + 1, &out) == MUXANDU_REFUSED_MONTH);
@@ -539,6 +547,96 @@ static void batches_of_seconds(void) {
     CHECK(is_batch(muxandu_date_times_from_seconds(seconds, 0, 93600, out, 0), 0, MUXANDU_OK));
     back[0] = 7;
     CHECK(is_batch(muxandu_seconds_from_date_times(out, 2, back, 1), 0, MUXANDU_REFUSED_BUFFER) && back[0] == 7);
+}
+
+/* The longest batch that is tried with each item refused: three groups of four, and an item. */
+enum { GROUPED = 13 };
+
+/* Whether a batch of seconds is what single calls give, and the one after them. */
+static int seconds_as_single(const MuxanduDateTime *items, size_t count) {
+    int64_t out[GROUPED + 1];
+    uint32_t status = MUXANDU_OK;
+    size_t done = 0, item;
+    MuxanduBatch batch;
+    for (item = 0; item <= GROUPED; item++) out[item] = 7;
+    batch = muxandu_seconds_from_date_times(items, count, out, GROUPED + 1);
+    while (done < count && status == MUXANDU_OK) {
+        MuxanduTimestamp at;
+        status = muxandu_timestamp_from_date_time(items[done], &at);
+        if (status == MUXANDU_OK && out[done++] != at.seconds) return 0;
+    }
+    for (item = done; item <= GROUPED; item++)
+        if (out[item] != 7) return 0;
+    return is_batch(batch, done, status);
+}
+
+static int date_times_as_single(const int64_t *items, size_t count, int32_t offset) {
+    MuxanduDateTime out[GROUPED + 1];
+    uint32_t status = MUXANDU_OK;
+    size_t done = 0, item;
+    MuxanduBatch batch;
+    for (item = 0; item <= GROUPED; item++) out[item] = JUNK;
+    batch = muxandu_date_times_from_seconds(items, count, offset, out, GROUPED + 1);
+    while (done < count && status == MUXANDU_OK) {
+        MuxanduDateTime at;
+        status = muxandu_date_time_from_timestamp(stamp(items[done], 0), offset, &at);
+        if (status == MUXANDU_OK && !is_date_time(out[done++], at)) return 0;
+    }
+    for (item = done; item <= GROUPED; item++)
+        if (!is_date_time(out[item], JUNK)) return 0;
+    return is_batch(batch, done, status);
+}
+
+/* Batches take four items at a time: with an item at an end of its range, or past it, at each place of each length. */
+static void batches_in_groups(void) {
+    static const MuxanduDateTime odd[] = {
+        {-1000000, 1, 1, 0, 0, 0, 0, 0},      {-999999, 1, 1, 0, 0, 0, 0, 0},
+        {-999999, 1, 1, 0, 0, 0, 0, 1},       {-999998, 1, 1, 0, 0, 0, 0, 93599},
+        {1000000, 1, 1, 0, 0, 0, 0, 0},       {999999, 12, 31, 23, 59, 59, 0, 0},
+        {999999, 12, 31, 23, 59, 59, 0, -1},  {999998, 12, 31, 23, 59, 59, 0, -1},
+        {INT32_MIN, 1, 1, 0, 0, 0, 0, 0},     {INT32_MAX, 1, 1, 0, 0, 0, 0, 0},
+        {2024, 0, 1, 0, 0, 0, 0, 0},          {2024, 13, 1, 0, 0, 0, 0, 0},
+        {2024, 255, 1, 0, 0, 0, 0, 0},        {2024, 1, 0, 0, 0, 0, 0, 0},
+        {2024, 1, 32, 0, 0, 0, 0, 0},         {2024, 2, 29, 0, 0, 0, 0, 0},
+        {2023, 2, 29, 0, 0, 0, 0, 0},         {2000, 2, 29, 0, 0, 0, 0, 0},
+        {1900, 2, 29, 0, 0, 0, 0, 0},         {0, 2, 29, 0, 0, 0, 0, 0},
+        {-4, 2, 30, 0, 0, 0, 0, 0},           {2024, 4, 31, 0, 0, 0, 0, 0},
+        {2024, 12, 31, 23, 59, 59, 0, 0},     {2024, 12, 255, 0, 0, 0, 0, 0},
+        {2024, 1, 1, 24, 0, 0, 0, 0},         {2024, 1, 1, 0, 60, 0, 0, 0},
+        {2024, 1, 1, 0, 0, 60, 0, 0},         {2024, 1, 1, 0, 0, 0, 999999999, 0},
+        {2024, 1, 1, 0, 0, 0, 1000000000, 0}, {2024, 1, 1, 0, 0, 0, UINT32_MAX, 0},
+        {2024, 1, 1, 0, 0, 0, 0, 93599},      {2024, 1, 1, 0, 0, 0, 0, 93600},
+        {2024, 1, 1, 0, 0, 0, 0, -93599},     {2024, 1, 1, 0, 0, 0, 0, -93600},
+        {2024, 1, 1, 0, 0, 0, 0, INT32_MIN},  {2024, 1, 1, 0, 0, 0, 0, INT32_MAX},
+    };
+    const int64_t ends[] = {FIRST,    FIRST - 1,    FIRST + 93598, FIRST + 93599, LAST,
+                            LAST + 1, LAST - 93598, LAST - 93599,  INT64_MIN,     INT64_MAX};
+    static const int32_t offsets[] = {0, 3600, -3600, 93599, -93599, 93600};
+    size_t size, place, item, row;
+    for (size = 0; size <= GROUPED; size++) {
+        for (place = 0; place < size; place++) {
+            MuxanduDateTime items[GROUPED];
+            int64_t seconds[GROUPED];
+            for (item = 0; item < size; item++) {
+                seconds[item] = (int64_t)item * 98765432123 - 444444444444;
+                CHECK(muxandu_date_time_from_timestamp(stamp(seconds[item], 999999999), offsets[item % 5],
+                                                       items + item) == MUXANDU_OK);
+            }
+            CHECK(seconds_as_single(items, size));
+            for (row = 0; row < sizeof odd / sizeof *odd; row++) {
+                MuxanduDateTime kept = items[place];
+                items[place] = odd[row];
+                CHECK(seconds_as_single(items, size));
+                items[place] = kept;
+            }
+            for (row = 0; row < sizeof ends / sizeof *ends * (sizeof offsets / sizeof *offsets); row++) {
+                int64_t kept = seconds[place];
+                seconds[place] = ends[row % (sizeof ends / sizeof *ends)];
+                CHECK(date_times_as_single(seconds, size, offsets[row / (sizeof ends / sizeof *ends)]));
+                seconds[place] = kept;
+            }
+        }
+    }
 }
 
 static void batches_of_days(void) {
@@ -791,6 +889,7 @@ int main(void) {
     texts_are_written();
     texts_are_read();
     batches_of_seconds();
+    batches_in_groups();
     batches_of_days();
     dates_are_texts();
     batches_of_counts();

@@ -46,6 +46,15 @@ static inline MuxanduDateTime date_time(int32_t year, uint8_t month, uint8_t day
     return at;
 }
 
+/* Numbers as units and as parts, also where they are none. */
+static inline MuxanduUnit unit_of(uint32_t number) {
+    return MUXANDU_CAST(MuxanduUnit, number);
+}
+
+static inline MuxanduPart part_of(uint32_t number) {
+    return MUXANDU_CAST(MuxanduPart, number);
+}
+
 static inline int is_stamp(MuxanduTimestamp at, int64_t seconds, uint32_t nanoseconds) {
     return at.seconds == seconds && at.nanoseconds == nanoseconds;
 }

@@ -128,8 +128,13 @@ static MuxanduDuration some_duration(void) {
     return duration;
 }
 
+/* A number of 32 bits whose lowest byte is that one. */
+static uint32_t some_wide(uint8_t number) {
+    return one_of(8) ? number : ((uint32_t)next() & ~(uint32_t)255) | number;
+}
+
 static uint32_t some_unit(void) {
-    return one_of(16) ? 1 + one_of(6) : one_of(2) ? one_of(10) : (uint32_t)next();
+    return one_of(16) ? 1 + one_of(7) : one_of(2) ? one_of(10) : (uint32_t)next();
 }
 
 static int same_stamp(MuxanduTimestamp a, MuxanduTimestamp b) {
@@ -202,7 +207,7 @@ static int is_written(uint32_t status, const char *buffer, size_t room, size_t s
     } while (0)
 
 /* The digits that the next text has, and the call with them. */
-static uint8_t digits_of_texts;
+static uint32_t digits_of_texts;
 #define muxandu_date_time_to_rfc3339_digits(value, buffer, room, size)                                                 \
     muxandu_date_time_to_rfc3339_digits(value, digits_of_texts, buffer, room, size)
 
@@ -229,7 +234,7 @@ static void compare_texts(uint32_t kind) {
         break;
     case 3: COMPARE_TEXT(timestamp_to_rfc3339, at, refused, reference_to_rfc3339(in_utc, text)); break;
     case 4: {
-        digits_of_texts = (uint8_t)one_of(one_of(8) ? 11 : 256);
+        digits_of_texts = one_of(8) ? one_of(11) : some_wide((uint8_t)next());
         COMPARE_TEXT(date_time_to_rfc3339_digits, date_time, reference_date_time_check(date_time),
                      reference_to_rfc3339_digits(date_time, digits_of_texts, text));
         break;
@@ -331,7 +336,7 @@ static void compare_dates_as_texts(int is_read) {
          status == reference_date_from_rfc3339(text, &theirs) && is_date(ours, theirs.year, theirs.month, theirs.day));
 }
 
-enum { MOST_ITEMS = 8 };
+enum { MOST_ITEMS = 13 };
 
 /* Compares a batch with calls of the reference, item by item: `one` converts item k into theirs[k]. */
 #define COMPARE_BATCH(type, same, name, batch, one)                                                                    \
@@ -666,6 +671,7 @@ static void compare_days(uint32_t kind) {
     MuxanduOrdinalDate of_year = some_ordinal_date();
     MuxanduWeekDate of_week = some_week_date();
     int32_t day = some_day();
+    uint32_t month = some_wide(value.month);
     switch (kind) {
     case 0: COMPARE(MuxanduDate, same_date, date_from_day, day); break;
     case 1: COMPARE(int32_t, same_number, day_from_date, value); break;
@@ -674,7 +680,7 @@ static void compare_days(uint32_t kind) {
     case 4: COMPARE(MuxanduWeekDate, same_week, week_date_from_day, day); break;
     case 5: COMPARE(int32_t, same_number, day_from_week_date, of_week); break;
     case 6: COMPARE(uint8_t, same_number, weekday_from_day, day); break;
-    default: COMPARE(uint8_t, same_number, days_in_month, value.year, value.month); break;
+    default: COMPARE(uint8_t, same_number, days_in_month, value.year, month); break;
     }
 }
 
@@ -705,6 +711,7 @@ static void compare_dates(uint32_t kind) {
     MuxanduDateTime at = some_date_time();
     MuxanduTimestamp instant = some_stamp();
     int32_t offset = some_offset(), held = some_value(part), julian_day = some_day();
+    uint32_t hour = some_wide(at.hour), minute = some_wide(at.minute), second = some_wide(at.second);
     if (one_of(2)) julian_day = (int32_t)between(-363521074 - 2, 366963559 + 2);
     if (one_of(8) == 0) parts.hours = one_of(2) ? 0 : (int8_t)next();
     if (one_of(8) == 0) parts.minutes = one_of(2) ? 0 : (int8_t)next();
@@ -718,8 +725,8 @@ static void compare_dates(uint32_t kind) {
     case 6: COMPARE(MuxanduDateTime, is_date_time, date_time_replace, at, part, held); break;
     case 7: COMPARE(MuxanduTimestamp, same_stamp, timestamp_replace, instant, part, held); break;
     default:
-        tell("time_check", muxandu_time_check(at.hour, at.minute, at.second, at.nanosecond) ==
-                               reference_time_check(at.hour, at.minute, at.second, at.nanosecond));
+        tell("time_check", muxandu_time_check(hour, minute, second, at.nanosecond) ==
+                               reference_time_check(hour, minute, second, at.nanosecond));
         break;
     }
 }

@@ -60,8 +60,15 @@ static inline uint32_t reference_date_add_months(MuxanduDate date, int32_t month
     return MUXANDU_OK;
 }
 
-static inline uint32_t reference_time_check(uint8_t hour, uint8_t minute, uint8_t second, uint32_t nanosecond) {
-    MuxanduDateTime at = {1970, 1, 1, hour, minute, second, nanosecond, 0};
+static inline uint8_t at_most_255(uint32_t number) {
+    return number > 255 ? 255 : (uint8_t)number;
+}
+
+static inline uint32_t reference_time_check(uint32_t hour, uint32_t minute, uint32_t second, uint32_t nanosecond) {
+    MuxanduDateTime at = {1970, 1, 1, 0, 0, 0, nanosecond, 0};
+    at.hour = at_most_255(hour);
+    at.minute = at_most_255(minute);
+    at.second = at_most_255(second);
     return reference_date_time_check(at);
 }
 

@@ -1,5 +1,6 @@
 """tools/python_calls: which parameters of a call it takes for written, and what it says of a call that its tables lack."""
 
+import json
 import shutil
 import subprocess
 import sys
@@ -8,28 +9,36 @@ import unittest
 from pathlib import Path
 
 ROOT = Path(__file__).resolve().parent.parent.parent
+INTERFACE = "bindings/interface.json"
 NEEDED = (
     "tools/python_calls",
-    "bindings/muxandu.h",
-    "bindings/python/muxandu/muxandu_sys.py",
+    "tools/interface.py",
+    "tools/generated.py",
+    "tools/gate.py",
+    "tools/declare_c.py",
+    INTERFACE,
     "bindings/python/muxandu/_methods.py",
+    "bindings/python/extension/calls.h",
+    "bindings/python/muxandu/_refusals.py",
+    "bindings/python/muxandu/_places.py",
 )
 
-# A call over many items whose name says nothing of what it writes.
-CALL = """
-/* Sorts seconds where they lie. */
-MuxanduBatch muxandu_seconds_in_order(int64_t *MUXANDU_RESTRICT seconds, size_t seconds_count);
-
-/* A day. */
-int32_t muxandu_day_of_luck(void);
-
-"""
-DECLARED = """
-CALLS["muxandu_seconds_in_order"] = (
-    [ctypes.c_void_p, ctypes.c_size_t], MuxanduBatch, "Sorts seconds where they lie."
-)
-CALLS["muxandu_day_of_luck"] = ([], ctypes.c_int32, "A day.")
-"""
+# Calls whose names say nothing of what they write: one over many items, and one over none.
+CALLS = {
+    "muxandu_seconds_in_order": {
+        "doc": "Sorts seconds where they lie.",
+        "parameters": [
+            {"name": "days", "type": "i32", "role": "items in"},
+            {"name": "days_count", "type": "usize", "role": "count"},
+            {"name": "seconds", "type": "i64", "role": "items out"},
+            {"name": "seconds_count", "type": "usize", "role": "count"},
+            {"name": "texts", "type": "u8", "role": "room"},
+            {"name": "texts_count", "type": "usize", "role": "count"},
+        ],
+        "result": "MuxanduBatch",
+    },
+    "muxandu_day_of_luck": {"doc": "A day.", "parameters": [], "result": "i32"},
+}
 
 
 class Tables(unittest.TestCase):
@@ -37,12 +46,7 @@ class Tables(unittest.TestCase):
         self.folder = tempfile.TemporaryDirectory()
         self.addCleanup(self.folder.cleanup)
         self.root = Path(self.folder.name)
-        for name in (
-            *NEEDED,
-            "bindings/python/extension/calls.h",
-            "bindings/python/muxandu/_refusals.py",
-            "bindings/python/muxandu/_places.py",
-        ):
+        for name in NEEDED:
             (self.root / name).parent.mkdir(parents=True, exist_ok=True)
             shutil.copy(ROOT / name, self.root / name)
 
@@ -56,22 +60,14 @@ class Tables(unittest.TestCase):
         ended = subprocess.run([sys.executable, self.root / NEEDED[0], task], capture_output=True, encoding="utf-8", check=False)
         return ended.returncode, ended.stderr
 
-    def add_calls(self):
-        self.change("bindings/muxandu.h", "#ifdef __cplusplus\n}", CALL + "#ifdef __cplusplus\n}")
-        path = self.root / "bindings/python/muxandu/muxandu_sys.py"
-        path.write_text(path.read_text(encoding="utf-8") + DECLARED, encoding="utf-8")
-
     def test_what_stands_is_what_it_writes(self):
         self.assertEqual(self.run_tool("compare"), (0, ""))
 
-    def test_a_call_with_no_row_is_named(self):
-        self.add_calls()
-        status, said = self.run_tool("compare")
-        self.assertEqual(status, 1)
-        self.assertRegex(said, r"has no row for seconds_in_order: add one with the parameters that it writes")
-        self.change(
-            "bindings/python/muxandu/_methods.py", "BATCHES = {\n", 'BATCHES = {\n    "seconds_in_order": ("seconds",),\n'
-        )
+    def test_roles_say_what_a_call_writes(self):
+        path = self.root / INTERFACE
+        interface = json.loads(path.read_text(encoding="utf-8"))
+        interface["calls"].update(CALLS)
+        path.write_text(json.dumps(interface), encoding="utf-8")
         status, said = self.run_tool("write")
         self.assertEqual(status, 1)
         self.assertRegex(said, r"METHODS, OPERATORS and FUNCTIONS .* have no row for day_of_luck")
@@ -79,13 +75,14 @@ class Tables(unittest.TestCase):
         self.assertEqual(self.run_tool("write"), (0, ""))
         made = (self.root / "bindings/python/extension/calls.h").read_text(encoding="utf-8")
         body = made.partition("PyObject *seconds_in_order(")[2].partition("\n}")[0]
-        self.assertIn("take_items(words + 0, &word_0, 1)", body)
+        for place, is_written in ((0, 0), (2, 1), (4, 1)):
+            self.assertIn(f"take_items(words + {place}, &word_{place}, {is_written})", body)
 
-    def test_a_row_that_differs_from_the_header_is_named(self):
-        self.change("bindings/python/muxandu/_methods.py", '"dates_from_days": ("out",)', '"dates_from_days": ("out", "days")')
-        status, said = self.run_tool("compare")
-        self.assertEqual(status, 1)
-        self.assertIn("dates_from_days writes ('out', 'days'), and bindings/muxandu.h says ('out',)", said)
+    def test_the_room_of_a_text_is_that_of_its_contract(self):
+        made = (self.root / "bindings/python/extension/calls.h").read_text(encoding="utf-8")
+        for name, room in (("date_time_text", 42), ("status_name", 15), ("date_to_rfc3339", 10)):
+            body = made.partition(f"PyObject *{name}(")[2].partition("\n}")[0]
+            self.assertIn(f"char text[{room}];", body)
 
     def test_what_is_stale_is_named(self):
         self.change("bindings/python/muxandu/_methods.py", "The milliseconds from 1970-01-01 0:00 UTC, rounded down.", "Others.")

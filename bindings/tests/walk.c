@@ -1,78 +1,48 @@
 /* Walks over days by batches, and compares each with a counter that counts one day at a time: date, day of the year, ISO
  * week date, day of the week, and a second of the day at an offset, all both ways.
  *
- *     walk [DAYS]
+ *     walk [COUNT [BEFORE]]
  *
- * It walks so many days, and all 730,484,634 without a number. The last line is 'N passed, M failed', a day each. */
+ * It walks over COUNT days after the first BEFORE days; without a number over all 730,484,634. It ends at the
+ * first batch with a day that is not so. The last line is 'N passed, M failed', a day each. */
 #include <stdlib.h>
 
 #include "checks.h"
+#include "counter.h"
 
 enum { BATCH = 4096 };
 
-static const int32_t FIRST_DAY = -365961662, LAST_DAY = 364522971;
-
-/* What the counter shows. -999999-01-01 was a Monday. */
-static MuxanduDate shown = {-999999, 1, 1};
-static uint16_t ordinal = 1;
-static MuxanduWeekDate week = {-999999, 1, 0};
-
-static int is_leap(int32_t year) {
-    return year % 400 == 0 || (year % 4 == 0 && year % 100 != 0);
-}
-
-static uint8_t month_length(void) {
-    static const uint8_t lengths[] = {31, 28, 31, 30, 31, 30, 31, 31, 30, 31, 30, 31};
-    return (uint8_t)(lengths[shown.month - 1] + (shown.month == 2 && is_leap(shown.year)));
-}
-
-/* A Monday begins the first week of its ISO year where its Thursday is the first of the calendar year: 29 December to 4
- * January. */
-static int begins_year(void) {
-    return (shown.month == 12 && shown.day >= 29) || (shown.month == 1 && shown.day <= 4);
-}
-
-static void count_day(void) {
-    ordinal++;
-    if (++shown.day > month_length()) {
-        shown.day = 1;
-        if (++shown.month > 12) {
-            shown.month = 1;
-            shown.year++;
-            ordinal = 1;
-        }
-    }
-    week.weekday = (uint8_t)((week.weekday + 1) % 7);
-    if (week.weekday == 0) {
-        if (begins_year()) {
-            week.year++;
-            week.week = 1;
-        } else {
-            week.week++;
-        }
-    }
-}
+/* The day that comes next. */
+static Counter next;
 
 static int is_day(int32_t day) {
+    MuxanduDate of_month;
     MuxanduOrdinalDate of_year;
     MuxanduWeekDate of_week;
-    int32_t first, second;
+    MuxanduDateReads reads;
+    int32_t first, second, third;
     uint8_t weekday;
-    return muxandu_ordinal_date_from_day(day, &of_year) == MUXANDU_OK && of_year.year == shown.year &&
-           of_year.ordinal == ordinal && muxandu_week_date_from_day(day, &of_week) == MUXANDU_OK &&
-           of_week.year == week.year && of_week.week == week.week && of_week.weekday == week.weekday &&
-           muxandu_weekday_from_day(day, &weekday) == MUXANDU_OK && weekday == week.weekday &&
-           muxandu_day_from_ordinal_date(of_year, &first) == MUXANDU_OK && first == day &&
-           muxandu_day_from_week_date(of_week, &second) == MUXANDU_OK && second == day;
+    return counter_is_anchored(&next) && day == next.number && muxandu_date_from_day(day, &of_month) == MUXANDU_OK &&
+           is_date(of_month, next.year, next.month, next.day) &&
+           muxandu_ordinal_date_from_day(day, &of_year) == MUXANDU_OK && of_year.year == next.year &&
+           of_year.ordinal == next.ordinal && muxandu_week_date_from_day(day, &of_week) == MUXANDU_OK &&
+           of_week.year == next.week_year && of_week.week == next.week && of_week.weekday == next.weekday &&
+           muxandu_weekday_from_day(day, &weekday) == MUXANDU_OK && weekday == next.weekday &&
+           muxandu_day_from_date(of_month, &first) == MUXANDU_OK && first == day &&
+           muxandu_day_from_ordinal_date(of_year, &second) == MUXANDU_OK && second == day &&
+           muxandu_day_from_week_date(of_week, &third) == MUXANDU_OK && third == day &&
+           muxandu_date_reads(of_month, &reads) == MUXANDU_OK && reads.day == day &&
+           reads.julian_day == day + 2440588 && reads.iso_year == next.week_year && reads.iso_week == next.week &&
+           reads.ordinal == next.ordinal && reads.weekday == next.weekday;
 }
 
-/* Compares the batch that begins at a day. */
-static void walk(int32_t day, size_t count) {
+/* Compares the next days. */
+static void walk(size_t count) {
     static int32_t days[BATCH], back[BATCH];
     static int64_t seconds[BATCH], seconds_back[BATCH];
     static MuxanduDate dates[BATCH];
     static MuxanduDateTime date_times[BATCH];
-    int32_t offset_seconds = (day % 2003) * 46;
+    int32_t day = next.number, offset_seconds = (day % 2003) * 46;
     int is_whole;
     size_t item;
     for (item = 0; item < count; item++) {
@@ -89,31 +59,38 @@ static void walk(int32_t day, size_t count) {
                memcmp(seconds, seconds_back, count * sizeof *seconds) == 0;
     for (item = 0; item < count; item++) {
         uint32_t clock = (uint32_t)(item * 21) % 86400;
-        MuxanduDateTime wanted = {shown.year,
-                                  shown.month,
-                                  shown.day,
+        MuxanduDateTime wanted = {next.year,
+                                  (uint8_t)next.month,
+                                  (uint8_t)next.day,
                                   (uint8_t)(clock / 3600),
                                   (uint8_t)(clock / 60 % 60),
                                   (uint8_t)(clock % 60),
                                   0,
                                   offset_seconds};
         int is_moved = seconds[item] == FIRST || seconds[item] == LAST;
-        CHECK(is_whole && is_date(dates[item], shown.year, shown.month, shown.day) &&
+        CHECK(is_whole && is_date(dates[item], next.year, next.month, next.day) &&
               (is_moved || is_date_time(date_times[item], wanted)) && is_day(days[item]));
-        count_day();
+        count_day(&next);
     }
 }
 
+/* Whether there is no day before the first and after the last: the counter ends at 1000000-01-01, a Saturday. */
+static int ends_there(void) {
+    MuxanduDate unset;
+    int is_end = next.year == 1000000 && next.ordinal == 1 && next.weekday == 5 && next.number == COUNTER_LAST + 1;
+    return is_end && muxandu_date_from_day(COUNTER_FIRST - 1, &unset) == MUXANDU_REFUSED_DAY_NUMBER &&
+           muxandu_date_from_day(COUNTER_LAST + 1, &unset) == MUXANDU_REFUSED_DAY_NUMBER;
+}
+
 int main(int words, char **word) {
-    int64_t left = words > 1 ? atoll(word[1]) : (int64_t)LAST_DAY - FIRST_DAY + 1;
-    int32_t day = FIRST_DAY;
-    while (left > 0) {
+    int64_t before = words > 2 ? atoll(word[2]) : 0;
+    int64_t left = words > 1 ? atoll(word[1]) : COUNTER_DAYS;
+    next = counter_after(before);
+    while (left > 0 && failed == 0) {
         size_t count = left < BATCH ? (size_t)left : BATCH;
-        walk(day, count);
-        day += (int32_t)count;
+        walk(count);
         left -= (int64_t)count;
     }
-    /* The range ends on a Friday. */
-    if (words <= 1 && !(is_date(shown, 1000000, 1, 1) && week.weekday == 5)) failed++;
+    if (next.number > COUNTER_LAST && !ends_there()) failed++;
     return counted();
 }
