@@ -1,4 +1,4 @@
-// Made by tools/declarations from bindings/muxandu.h. Do not edit.
+// Made by tools/declarations from bindings/interface.json. Do not edit.
 
 /** The name of what is refused. */
 export type RefusalName =
@@ -56,4 +56,4 @@ export type RefusalName =
     | "NO_TEXT";
 
 /** A unit to round down to. */
-export type Unit = "day" | "hour" | "minute" | "second" | "millisecond" | "microsecond";
+export type Unit = "day" | "hour" | "minute" | "second" | "millisecond" | "microsecond" | "nanosecond";

@@ -1,4 +1,4 @@
-// Made by tools/declarations from bindings/muxandu.h. Do not edit.
+// Made by tools/declarations from bindings/interface.json. Do not edit.
 
 /** The refusals, the first of which is number 1. */
 export const REFUSALS = [
@@ -37,4 +37,5 @@ export const UNITS = {
     second: 4,
     millisecond: 5,
     microsecond: 6,
+    nanosecond: 7,
 };

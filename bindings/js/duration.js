@@ -11,10 +11,10 @@ const PARTS = {
     nanoseconds: 1n,
 };
 
-/** Where they are kept, as the parts of a timestamp are. */
+/** The key of the nanoseconds, as of the parts in a timestamp. */
 const NANOSECONDS = Symbol("nanoseconds");
 
-/** So many nanoseconds, of either sign. */
+/** A number of nanoseconds, of either sign. */
 export class Duration {
     constructor(nanoseconds) {
         this[NANOSECONDS] = whole(nanoseconds, "nanoseconds");
@@ -32,7 +32,7 @@ export class Duration {
 
     /** The whole ones of a part, as `hours`. The rest, of either sign, is dropped. */
     whole(part) {
-        if (!Object.hasOwn(PARTS, textual(part))) throw new TypeError(`no part of a duration: ${part}`);
+        if (!Object.hasOwn(PARTS, textual(part))) throw new TypeError(`a duration has no part ${part}: name ${Object.keys(PARTS).join(", ")}`);
         return this[NANOSECONDS] / PARTS[part];
     }
 

@@ -2,7 +2,7 @@ import type { RefusalName, Unit } from "./declared.js";
 
 export type { RefusalName, Unit } from "./declared.js";
 
-/** What is refused, by its name. Its message is the name and what that means. */
+/** An error of the library, by its name. Its message is the name and its meaning. */
 export class Refused extends RangeError {
     constructor(refusal: RefusalName, meaning: string);
     readonly name: "Refused";
@@ -20,15 +20,15 @@ export interface DurationParts {
     nanoseconds?: number | bigint;
 }
 
-/** So many nanoseconds, of either sign. */
+/** A number of nanoseconds, of either sign. */
 export class Duration {
     constructor(nanoseconds: number | bigint);
     static of(parts: DurationParts): Duration;
     readonly nanoseconds: bigint;
-    /** The whole ones of a part, as `hours`. The rest, of either sign, is dropped. */
+    /** The whole number of a part, such as `hours`, rounded towards 0. */
     whole(part: keyof DurationParts): bigint;
     negated(): Duration;
-    /** The decimal of its seconds, as `-1.5 s`. */
+    /** The decimal of its seconds, such as `-1.5 s`. */
     toString(): string;
     /** Its nanoseconds, in decimal digits, since JSON has no `BigInt`: `new Duration(BigInt(text))` is the same. */
     toJSON(): string;
@@ -38,18 +38,18 @@ export class Duration {
 
 /** An instant: a second from 1970-01-01 0:00 UTC and a nanosecond of it, in the years -999999 to 999999. */
 export class Timestamp {
-    /** Refused `TIMESTAMP` or `NANOSECOND`. */
+    /** Throws `TIMESTAMP` or `NANOSECOND`. */
     constructor(seconds: number | bigint, nanosecond?: number);
     static fromMilliseconds(milliseconds: number | bigint): Timestamp;
     static fromMicroseconds(microseconds: number | bigint): Timestamp;
     static fromNanoseconds(nanoseconds: number | bigint): Timestamp;
-    /** Refused `DATE` where the `Date` holds no time. */
+    /** Throws `DATE` for an invalid `Date`. */
     static fromDate(date: Date): Timestamp;
-    /** What the clock of this machine shows, to the millisecond. */
+    /** The time of the clock of this machine, to the millisecond. */
     static now(): Timestamp;
     /**
-     * Reads a text of RFC 3339, of 250,000 bytes at most. Refused `LENGTH` or `SYNTAX`, else `MONTH`, `DAY`, `DAY_OF_MONTH`,
-     * `HOUR`, `MINUTE`, `SECOND`, `OFFSET_HOUR` or `OFFSET_MINUTE`.
+     * The instant of a text of RFC 3339, of 250,000 bytes at most. Throws `LENGTH` or `SYNTAX`, else `MONTH`, `DAY`,
+     * `DAY_OF_MONTH`, `HOUR`, `MINUTE`, `SECOND`, `OFFSET_HOUR` or `OFFSET_MINUTE`.
      */
     static parse(text: string): Timestamp;
     /** -1, 0 or 1: for `sort`. */
@@ -61,32 +61,32 @@ export class Timestamp {
     readonly nanosecond: number;
     /** The milliseconds from 1970-01-01 0:00 UTC, rounded down. */
     readonly milliseconds: bigint;
-    /** The microseconds, likewise. */
+    /** The microseconds from 1970-01-01 0:00 UTC, rounded down. */
     readonly microseconds: bigint;
-    /** The nanoseconds, all of them. */
+    /** The nanoseconds from 1970-01-01 0:00 UTC. */
     readonly nanoseconds: bigint;
 
-    /** Refused `DURATION` or `RESULT`. */
+    /** The instant plus a duration. Throws `DURATION` or `RESULT`. */
     add(duration: Duration | DurationParts): Timestamp;
     subtract(duration: Duration | DurationParts): Timestamp;
-    /** As `add`, or the end of the range that the result is beyond. */
+    /** As `add`, or the nearer end of the range. */
     saturatingAdd(duration: Duration | DurationParts): Timestamp;
     saturatingSubtract(duration: Duration | DurationParts): Timestamp;
-    /** How long after the other this is, negative where this comes first. */
+    /** The duration from the other instant to this, negative if this comes first. */
     since(earlier: Timestamp): Duration;
-    /** The instant rounded down to a unit in UTC, before 1970 too. */
+    /** The instant, rounded down to a unit in UTC, also before 1970. */
     truncate(unit: Unit): Timestamp;
     equals(other: Timestamp): boolean;
-    /** What clocks so many seconds ahead of UTC show. Refused `OFFSET_SECONDS` or `RESULT`. */
+    /** The date-time at an offset in seconds. Throws `OFFSET_SECONDS` or `RESULT`. */
     toOffset(offsetSeconds: number): OffsetDateTime;
-    /** The `Date` of its millisecond, rounded down. Refused `RESULT` where no `Date` holds it. */
+    /** The `Date` of its millisecond, rounded down. Throws `RESULT` outside the range of `Date`. */
     toDate(): Date;
-    /** The shortest text in UTC. Refused `NO_TEXT` outside the years 0 to 9999. */
+    /** The shortest RFC 3339 text in UTC. Throws `NO_TEXT` outside the years 0 to 9999. */
     toRfc3339(): string;
     /** The text with nine digits of the fraction: such texts sort as instants do. */
     toRfc3339Nanos(): string;
     toJSON(): string;
-    /** The text of RFC 3339, or the library's own where that has none. */
+    /** The text of RFC 3339, or the library's own text if there is none. */
     toString(): string;
     /** Its nanoseconds, so that instants compare by `<`. */
     valueOf(): bigint;
@@ -105,22 +105,22 @@ export interface OffsetDateTimeParts {
     /** 0 to 59: there are no leap seconds. */
     second: number;
     nanosecond: number;
-    /** The seconds by which the clocks are ahead of UTC, -93599 to 93599. */
+    /** The offset: the seconds by which local clocks are ahead of UTC, -93599 to 93599. */
     offsetSeconds: number;
 }
 
 type DateParts = Pick<OffsetDateTimeParts, "year" | "month" | "day">;
 
-/** What clocks at an offset from UTC show. */
+/** A date and a time of day at an offset from UTC. */
 export class OffsetDateTime implements Readonly<OffsetDateTimeParts> {
-    /** The parts that are left out are 0: midnight in UTC. Refused by the name of the first part that is out of its range. */
+    /** Missing parts are 0: midnight in UTC. Throws the name of the first part out of range. */
     constructor(parts: DateParts & Partial<OffsetDateTimeParts>);
     static of(parts: DateParts & Partial<OffsetDateTimeParts>): OffsetDateTime;
     /** As `Timestamp.parse`, and keeps the offset. */
     static parse(text: string): OffsetDateTime;
     /**
-     * As `parse`, and reads a second of 60 too. A leap second can be the last second of a month in UTC alone: it is read as the
-     * last nanosecond before the next month, and `isLeap` is true. Any other second of 60 is refused `SECOND`.
+     * As `parse`, also with a second of 60. A leap second is valid only as the last second of a month in UTC. It becomes the
+     * last nanosecond before the next month, and `isLeap` is true. Any other second of 60 throws `SECOND`.
      */
     static parseLeap(text: string): { dateTime: OffsetDateTime; isLeap: boolean };
     static fromDate(date: Date, offsetSeconds?: number): OffsetDateTime;
@@ -146,9 +146,9 @@ export class OffsetDateTime implements Readonly<OffsetDateTimeParts> {
     /** The day by its number, 0 for 1970-01-01. */
     readonly dayNumber: number;
 
-    /** The date-time with these parts, one at least, in the place of its own. */
+    /** The date-time with these parts replaced, at least one. */
     with(parts: Partial<OffsetDateTimeParts>): OffsetDateTime;
-    /** So much later at the same offset. Refused `DURATION` or `RESULT`. */
+    /** The date-time plus a duration, at the same offset. Throws `DURATION` or `RESULT`. */
     add(duration: Duration | DurationParts): OffsetDateTime;
     subtract(duration: Duration | DurationParts): OffsetDateTime;
     saturatingAdd(duration: Duration | DurationParts): OffsetDateTime;
@@ -158,20 +158,20 @@ export class OffsetDateTime implements Readonly<OffsetDateTimeParts> {
     truncate(unit: Unit): OffsetDateTime;
     /** Whether both are one instant. */
     equals(other: OffsetDateTime): boolean;
-    /** What clocks at another offset show at the same instant. */
+    /** The same instant at another offset. */
     toOffset(offsetSeconds: number): OffsetDateTime;
-    /** Refused `RESULT` outside the range of timestamps. */
+    /** The instant. Throws `RESULT` outside the range of timestamps. */
     toTimestamp(): Timestamp;
     toDate(): Date;
     toRfc3339(): string;
     toJSON(): string;
     toString(): string;
-    /** The nanoseconds of its instant, so that date-times compare by `<`. Refused `RESULT` outside the range of timestamps. */
+    /** The nanoseconds of its instant, so that date-times compare by `<`. Throws `RESULT` outside the range of timestamps. */
     valueOf(): bigint;
 }
 
-/** How many days a month has, 28 to 31. Refused `MONTH` or `YEAR`. */
+/** The number of days in a month, 28 to 31. Throws `MONTH` or `YEAR`. */
 export function daysInMonth(year: number, month: number): number;
 
-/** The seconds of an offset such as `+02:00` or `Z`. Refused `SYNTAX`, `OFFSET_HOUR` or `OFFSET_MINUTE`. */
+/** The seconds of an offset such as `+02:00` or `Z`. Throws `SYNTAX`, `OFFSET_HOUR` or `OFFSET_MINUTE`. */
 export function parseOffset(text: string): number;

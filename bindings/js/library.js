@@ -1,6 +1,7 @@
 // The module of WebAssembly: how values lie in its memory, and how its calls are made. A struct is passed by its address,
 // and addresses and counts are BigInts.
 
+import { MuxanduDateTime, MuxanduDuration, MuxanduOrdinalDate, MuxanduTimestamp, MuxanduWeekDate } from "./layout.js";
 import { MODULE } from "./module.js";
 import { accept, refuse } from "./refused.js";
 
@@ -52,38 +53,38 @@ const MOST_SECOND = 2n ** 63n - 1n;
 /** The nanoseconds of a second. */
 export const BILLION = 1_000_000_000n;
 
-/** Stands for parts that the library has given, and that need no test. */
+/** The mark of parts that the library has returned, which need no test. */
 export const KNOWN = Symbol("known");
 
-/** Throws that a value is no such thing. */
-export function refuseType(what, value) {
+/** Throws a TypeError: the name, the type that it must have, and the value. */
+export function refuseType(name, type, value) {
     const text = typeof value === "object" && value !== null ? Object.prototype.toString.call(value) : String(value);
-    throw new TypeError(`no ${what}: ${text}`);
+    throw new TypeError(`${name} must be ${type}, not ${text}`);
 }
 
-/** A BigInt of a whole number. */
+/** A BigInt of an integer. */
 export function whole(value, name) {
     if (typeof value === "bigint") return value;
     if (Number.isSafeInteger(value)) return BigInt(value);
-    return refuseType(`whole number for ${name}`, value);
+    return refuseType(name, "an integer", value);
 }
 
 /** The names of the parts in an object: one at least, and each of them known. */
 export function partNames(parts, known, what) {
     const names = typeof parts === "object" && parts !== null ? Object.keys(parts) : [];
-    if (names.length === 0) throw new TypeError(`no part of a ${what} is named`);
+    if (names.length === 0) throw new TypeError(`name at least one part of the ${what}: ${Object.keys(known).join(", ")}`);
     for (const name of names) {
-        if (!Object.hasOwn(known, name)) throw new TypeError(`no part of a ${what}: ${name}`);
+        if (!Object.hasOwn(known, name)) throw new TypeError(`the ${what} has no part ${name}: name ${Object.keys(known).join(", ")}`);
     }
     return names;
 }
 
 /** A text. */
-export const textual = (value) => (typeof value === "string" ? value : refuseType("text", value));
+export const textual = (value) => (typeof value === "string" ? value : refuseType("the argument", "a text", value));
 
-/** A number of so many bits. What they do not hold becomes a number that the library refuses. */
+/** A number of a number of bits. Any other becomes a number that the library rejects. */
 function held(value, name, least, most) {
-    if (!Number.isInteger(value)) refuseType(`whole number for ${name}`, value);
+    if (!Number.isInteger(value)) refuseType(name, "an integer", value);
     return value < least || value > most ? most : value;
 }
 
@@ -93,60 +94,54 @@ const unsigned8 = (value, name) => held(value, name, 0, 255);
 
 function putTimestamp(place, { seconds, nanosecond }) {
     const isHeld = seconds >= LEAST_SECOND && seconds <= MOST_SECOND;
-    view.setBigInt64(place, isHeld ? seconds : MOST_SECOND, true);
-    view.setUint32(place + 8, unsigned32(nanosecond, "nanosecond"), true);
+    MuxanduTimestamp.put(view, place, {
+        seconds: isHeld ? seconds : MOST_SECOND,
+        nanoseconds: unsigned32(nanosecond, "nanosecond"),
+    });
     return BigInt(place);
 }
 
 function getTimestamp(place) {
-    return { seconds: view.getBigInt64(place, true), nanosecond: view.getUint32(place + 8, true) };
+    const { seconds, nanoseconds } = MuxanduTimestamp.get(view, place);
+    return { seconds, nanosecond: nanoseconds };
 }
 
 function putClocks(place, clocks) {
-    view.setInt32(place, signed32(clocks.year, "year"), true);
-    memory[place + 4] = unsigned8(clocks.month, "month");
-    memory[place + 5] = unsigned8(clocks.day, "day");
-    memory[place + 6] = unsigned8(clocks.hour, "hour");
-    memory[place + 7] = unsigned8(clocks.minute, "minute");
-    memory[place + 8] = unsigned8(clocks.second, "second");
-    view.setUint32(place + 12, unsigned32(clocks.nanosecond, "nanosecond"), true);
-    view.setInt32(place + 16, signed32(clocks.offsetSeconds, "offsetSeconds"), true);
+    MuxanduDateTime.put(view, place, {
+        year: signed32(clocks.year, "year"),
+        month: unsigned8(clocks.month, "month"),
+        day: unsigned8(clocks.day, "day"),
+        hour: unsigned8(clocks.hour, "hour"),
+        minute: unsigned8(clocks.minute, "minute"),
+        second: unsigned8(clocks.second, "second"),
+        nanosecond: unsigned32(clocks.nanosecond, "nanosecond"),
+        offsetSeconds: signed32(clocks.offsetSeconds, "offsetSeconds"),
+    });
     return BigInt(place);
 }
 
-function getClocks(place) {
-    return {
-        year: view.getInt32(place, true),
-        month: memory[place + 4],
-        day: memory[place + 5],
-        hour: memory[place + 6],
-        minute: memory[place + 7],
-        second: memory[place + 8],
-        nanosecond: view.getUint32(place + 12, true),
-        offsetSeconds: view.getInt32(place + 16, true),
-    };
-}
+const getClocks = (place) => MuxanduDateTime.get(view, place);
 
 function putDuration(place, nanoseconds) {
     const seconds = nanoseconds / BILLION;
     if (seconds < LEAST_SECOND || seconds > MOST_SECOND) refuse("DURATION");
-    view.setBigInt64(place, seconds, true);
-    view.setInt32(place + 8, Number(nanoseconds % BILLION), true);
+    MuxanduDuration.put(view, place, { seconds, nanoseconds: Number(nanoseconds % BILLION) });
     return BigInt(place);
 }
 
 function getDuration(place) {
-    return view.getBigInt64(place, true) * BILLION + BigInt(view.getInt32(place + 8, true));
+    const { seconds, nanoseconds } = MuxanduDuration.get(view, place);
+    return seconds * BILLION + BigInt(nanoseconds);
 }
 
-/** Writes a text to the memory, and gives its place and its size. */
+/** Writes a text to the memory, and returns its place and its size. */
 function putText(text) {
     const { read, written } = encoder.encodeInto(textual(text), room);
     if (read < text.length) refuse("LENGTH");
     return [BigInt(TEXT), BigInt(written)];
 }
 
-/** The text that a call writes of what lies at a place. */
+/** The text that a call writes of the value at a place. */
 function textBy(call, place) {
     accept(call(place, BigInt(TEXT), TEXT_ROOM, BigInt(SIZE)));
     return decoder.decode(room.subarray(0, Number(view.getBigUint64(SIZE, true))));
@@ -161,9 +156,9 @@ function getBy(status, get) {
 
 /** The calls of timestamps, each of which is `{ seconds, nanosecond }`; durations are nanoseconds. */
 export const timestamps = lasting({
-    /** Its parts as the memory holds them, read before the call, which may change what lies there. */
+    /** Its parts in the memory, read before the call, which may change them. */
     checked(at) {
-        const place = putTimestamp(FIRST, at), nanosecond = view.getUint32(FIRST + 8, true);
+        const place = putTimestamp(FIRST, at), { nanosecond } = getTimestamp(FIRST);
         accept(calls.muxandu_timestamp_check(place));
         return { seconds: at.seconds, nanosecond };
     },
@@ -190,7 +185,7 @@ function moved(call, at, nanoseconds) {
     return getBy(call(putTimestamp(FIRST, at), putDuration(SECOND, nanoseconds), out), getTimestamp);
 }
 
-/** The calls of what clocks at an offset show, likewise. */
+/** The calls of date-times at an offset, in the same way. */
 export const clocks = lasting({
     /** Likewise. */
     checked(at) {
@@ -232,14 +227,10 @@ function movedClocks(call, at, nanoseconds) {
 
 /** The calls of days, by their numbers. */
 export const days = lasting({
-    ordinal: (day) => getBy(calls.muxandu_ordinal_date_from_day(day, out), (place) => view.getUint16(place + 4, true)),
+    ordinal: (day) => getBy(calls.muxandu_ordinal_date_from_day(day, out), (at) => MuxanduOrdinalDate.get(view, at).ordinal),
     week(day) {
-        const get = (place) => ({
-            isoYear: view.getInt32(place, true),
-            isoWeek: memory[place + 4],
-            weekday: memory[place + 5] + 1,
-        });
-        return getBy(calls.muxandu_week_date_from_day(day, out), get);
+        const { year, week, weekday } = getBy(calls.muxandu_week_date_from_day(day, out), (at) => MuxanduWeekDate.get(view, at));
+        return { isoYear: year, isoWeek: week, weekday: weekday + 1 };
     },
     inMonth(year, month) {
         const parts = [signed32(year, "year"), unsigned8(month, "month")];

@@ -6,22 +6,22 @@ import { Timestamp, timestampOf, unitNumber } from "./timestamp.js";
 const MIDNIGHT_IN_UTC = { hour: 0, minute: 0, second: 0, nanosecond: 0, offsetSeconds: 0 };
 const NAMES = { year: 0, month: 0, day: 0, ...MIDNIGHT_IN_UTC };
 
-/** The parts that are named, over others. Other names are refused. */
+/** The named parts over others. Other names throw. */
 function partsOver(others, parts) {
     partNames(parts, NAMES, "date-time");
     return { ...others, ...parts };
 }
 
-/** Where the parts are kept, as those of a timestamp are. */
+/** The key of the parts, as in a timestamp. */
 const PARTS_OF_DATE_TIME = Symbol("parts");
 
 /** The date-time of parts that the library has given. */
 export let dateTimeOf;
 
-/** The parts of what must be a date-time. */
-const partsOfDateTime = (value) => value?.[PARTS_OF_DATE_TIME] ?? refuseType("OffsetDateTime", value);
+/** The parts of a date-time; other values throw. */
+const partsOfDateTime = (value) => value?.[PARTS_OF_DATE_TIME] ?? refuseType("the argument", "an OffsetDateTime", value);
 
-/** What clocks at an offset from UTC show. */
+/** A date and a time of day at an offset from UTC. */
 export class OffsetDateTime {
     static {
         dateTimeOf = (parts) => {
@@ -162,7 +162,7 @@ export class OffsetDateTime {
         return this.toRfc3339();
     }
 
-    /** The text of RFC 3339, or the library's own where that has none. */
+    /** The text of RFC 3339, or the library's own text if there is none. */
     toString() {
         try {
             return this.toRfc3339();

@@ -1,13 +1,13 @@
 import { REFUSALS } from "./declared.js";
 
-// What is refused here, before the library is called.
+// The errors of this package, before a call of the library.
 const OF_JAVASCRIPT = {
-    DATE: "A Date that holds no time.",
-    LENGTH: "A text of more bytes than there is room for.",
-    UNIT: "A text that names no unit: day, hour, minute, second, millisecond and microsecond do.",
+    DATE: "An invalid Date.",
+    LENGTH: "A text of more than 250,000 bytes.",
+    UNIT: "An unknown unit: write day, hour, minute, second, millisecond, microsecond or nanosecond.",
 };
 
-/** What is refused, by its name. */
+/** An error of the library, by its name. */
 export class Refused extends RangeError {
     constructor(refusal, meaning) {
         super(`${refusal}: ${meaning}`);
@@ -19,12 +19,12 @@ export class Refused extends RangeError {
     }
 }
 
-/** Throws the refusal of that name. */
+/** Throws the error of that name. */
 export function refuse(name) {
     throw new Refused(name, OF_JAVASCRIPT[name] ?? REFUSALS.find((refusal) => refusal.name === name).meaning);
 }
 
-/** Throws what a status of the library refuses, if anything. */
+/** Throws the error of a status, if it is one. */
 export function accept(status) {
     if (status !== 0) refuse(REFUSALS[status - 1].name);
 }

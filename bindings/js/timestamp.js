@@ -12,14 +12,14 @@ export function unitNumber(unit) {
     return typeof unit === "string" && Object.hasOwn(UNITS, unit) ? UNITS[unit] : refuse("UNIT");
 }
 
-/** Where the parts are kept: where those that compare objects find them, and nobody else by chance. */
+/** The key of the parts: code that compares objects finds them, and no other code does by chance. */
 const PARTS_OF_TIMESTAMP = Symbol("parts");
 
 /** The timestamp of parts that the library has given. */
 export let timestampOf;
 
-/** The parts of what must be a timestamp. */
-const partsIn = (value) => value?.[PARTS_OF_TIMESTAMP] ?? refuseType("Timestamp", value);
+/** The parts of a timestamp; other values throw. */
+const partsIn = (value) => value?.[PARTS_OF_TIMESTAMP] ?? refuseType("the argument", "a Timestamp", value);
 
 /** An instant. */
 export class Timestamp {
@@ -51,7 +51,7 @@ export class Timestamp {
     }
 
     static fromDate(date) {
-        if (typeof date?.getTime !== "function") refuseType("Date", date);
+        if (typeof date?.getTime !== "function") refuseType("the argument", "a Date", date);
         const milliseconds = date.getTime();
         return Number.isNaN(milliseconds) ? refuse("DATE") : Timestamp.fromMilliseconds(milliseconds);
     }

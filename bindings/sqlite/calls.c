@@ -25,12 +25,15 @@ static uint32_t answer_date_time(sqlite3_context *context, MuxanduDateTime at) {
     return status;
 }
 
-static uint32_t answer_unix(sqlite3_context *context, int count, sqlite3_value **values) {
-    MuxanduTimestamp at;
-    uint32_t status = read_instant(values[0], &at);
-    (void)count;
-    if (status == MUXANDU_OK) sqlite3_result_int64(context, at.seconds);
-    return status;
+/* The whole units from 1970 on, rounded down: the counts that other programs store. */
+static uint32_t unix_count(MuxanduTimestamp at, const Unit *unit, int64_t *out) {
+    switch (unit->number) {
+    case MUXANDU_UNIT_SECOND: *out = at.seconds; return MUXANDU_OK;
+    case MUXANDU_UNIT_MILLISECOND: return muxandu_timestamp_to_milliseconds(at, out);
+    case MUXANDU_UNIT_MICROSECOND: return muxandu_timestamp_to_microseconds(at, out);
+    case MUXANDU_UNIT_NANOSECOND: return muxandu_timestamp_to_nanoseconds(at, out);
+    default: return REFUSED_UNIT_NAME;
+    }
 }
 
 static uint32_t answer_text(sqlite3_context *context, int count, sqlite3_value **values) {
@@ -89,7 +92,7 @@ static uint32_t units_of(MuxanduDuration duration, const Unit *unit, int64_t *ou
     return __builtin_add_overflow(*out, past, out) ? MUXANDU_REFUSED_RESULT : MUXANDU_OK;
 }
 
-static const Unit SECOND = {"second", NANOSECONDS};
+static const Unit SECOND = {"second", MUXANDU_UNIT_SECOND, NANOSECONDS};
 
 static uint32_t answer_add(sqlite3_context *context, int count, sqlite3_value **values) {
     MuxanduDateTime at;
@@ -116,6 +119,62 @@ static uint32_t answer_difference(sqlite3_context *context, int count, sqlite3_v
     if (status == MUXANDU_OK) status = units_of(duration, unit, &number);
     if (status == MUXANDU_OK) sqlite3_result_int64(context, number);
     return status;
+}
+
+static uint32_t answer_unix(sqlite3_context *context, int count, sqlite3_value **values) {
+    MuxanduTimestamp at;
+    const Unit *unit = &SECOND;
+    int64_t number;
+    uint32_t status = read_instant(values[0], &at);
+    if (status == MUXANDU_OK && count > 1) status = read_unit(values[1], &unit);
+    if (status == MUXANDU_OK) status = unix_count(at, unit, &number);
+    if (status == MUXANDU_OK) sqlite3_result_int64(context, number);
+    return status;
+}
+
+/* The date-time rounded down to a unit of that name, or to its month or year, as its clocks show it. */
+static uint32_t truncate_to(MuxanduDateTime *at, sqlite3_value *name) {
+    const Unit *unit;
+    const char *text;
+    size_t size;
+    int is_year;
+    uint32_t status = read_unit(name, &unit);
+    if (status == MUXANDU_OK) return muxandu_date_time_truncate(*at, unit->number, at);
+    if (status != REFUSED_UNIT_NAME) return status;
+    status = read_text(name, &text, &size);
+    if (status != MUXANDU_OK) return status;
+    is_year = is_named(text, size, "year");
+    if (!is_year && !is_named(text, size, "month")) return REFUSED_UNIT_NAME;
+    at->day = 1;
+    if (is_year) at->month = 1;
+    return muxandu_date_time_truncate(*at, MUXANDU_UNIT_DAY, at);
+}
+
+static uint32_t answer_truncate(sqlite3_context *context, int count, sqlite3_value **values) {
+    MuxanduDateTime at;
+    uint32_t status = read_date_time(values[0], &at);
+    (void)count;
+    if (status == MUXANDU_OK) status = truncate_to(&at, values[1]);
+    return status == MUXANDU_OK ? answer_date_time(context, at) : status;
+}
+
+/* The same day of the month and time of day so many months later, or the last day of a month that is shorter. */
+static uint32_t answer_add_months(sqlite3_context *context, int count, sqlite3_value **values) {
+    MuxanduDateTime at;
+    MuxanduDate date;
+    int64_t months;
+    uint32_t status = read_date_time(values[0], &at);
+    (void)count;
+    if (status == MUXANDU_OK) status = read_whole_number(values[1], &months);
+    if (status != MUXANDU_OK) return status;
+    if (months < INT32_MIN || months > INT32_MAX) return MUXANDU_REFUSED_RESULT;
+    date = (MuxanduDate){at.year, at.month, at.day};
+    status = muxandu_date_add_months(date, (int32_t)months, &date);
+    if (status != MUXANDU_OK) return status;
+    at.year = date.year;
+    at.month = date.month;
+    at.day = date.day;
+    return answer_date_time(context, at);
 }
 
 static uint32_t answer_compare(sqlite3_context *context, int count, sqlite3_value **values) {
@@ -167,11 +226,13 @@ static void run(sqlite3_context *context, int count, sqlite3_value **values) {
     }
 
 static const Call CALLS[] = {
-    BOTH("muxandu_unix", 1, 1, answer_unix),
+    BOTH("muxandu_unix", 1, 2, answer_unix),
     BOTH("muxandu_text", 1, 3, answer_text),
     BOTH("muxandu_to_offset", 2, 2, answer_to_offset),
     BOTH("muxandu_sortable", 1, 1, answer_sortable),
     BOTH("muxandu_add", 2, 3, answer_add),
+    BOTH("muxandu_add_months", 2, 2, answer_add_months),
+    BOTH("muxandu_truncate", 2, 2, answer_truncate),
     BOTH("muxandu_difference", 2, 3, answer_difference),
     BOTH("muxandu_compare", 2, 2, answer_compare),
     {"muxandu_refused", 1, 1, answer_refused, 0},

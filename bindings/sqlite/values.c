@@ -12,8 +12,10 @@ SQLITE_EXTENSION_INIT3
 static const double MOST_EXACT = 9007199254740992.0;
 
 static const Unit UNITS[] = {
-    {"nanosecond", 1},       {"microsecond", 1000},   {"millisecond", 1000000}, {"second", 1000000000},
-    {"minute", 60000000000}, {"hour", 3600000000000}, {"day", 86400000000000},
+    {"nanosecond", MUXANDU_UNIT_NANOSECOND, 1},         {"microsecond", MUXANDU_UNIT_MICROSECOND, 1000},
+    {"millisecond", MUXANDU_UNIT_MILLISECOND, 1000000}, {"second", MUXANDU_UNIT_SECOND, 1000000000},
+    {"minute", MUXANDU_UNIT_MINUTE, 60000000000},       {"hour", MUXANDU_UNIT_HOUR, 3600000000000},
+    {"day", MUXANDU_UNIT_DAY, 86400000000000},
 };
 
 uint32_t read_text(sqlite3_value *value, const char **text, size_t *size) {
@@ -67,16 +69,19 @@ uint32_t read_nanosecond(sqlite3_value *value, uint32_t *out) {
     return status;
 }
 
-/* A unit is named in the singular or the plural, in letters of any case. */
+int is_named(const char *text, size_t size, const char *name) {
+    size_t length = strlen(name);
+    int is_plural = size == length + 1 && (text[length] == 's' || text[length] == 'S');
+    return (size == length || is_plural) && sqlite3_strnicmp(text, name, (int)length) == 0;
+}
+
 uint32_t read_unit(sqlite3_value *value, const Unit **out) {
     const char *text;
     size_t size;
     uint32_t status = read_text(value, &text, &size);
     if (status != MUXANDU_OK) return status;
     for (size_t at = 0; at < COUNT(UNITS); at++) {
-        size_t length = strlen(UNITS[at].name);
-        int is_plural = size == length + 1 && (text[length] == 's' || text[length] == 'S');
-        if ((size == length || is_plural) && sqlite3_strnicmp(text, UNITS[at].name, (int)length) == 0) {
+        if (is_named(text, size, UNITS[at].name)) {
             *out = &UNITS[at];
             return MUXANDU_OK;
         }
@@ -85,11 +90,13 @@ uint32_t read_unit(sqlite3_value *value, const Unit **out) {
 }
 
 static const Refusal *refusal_of(uint32_t status) {
-    static const Refusal TYPE = {"TYPE", "An argument that is no text, or no whole number, where the call takes one."};
+    static const Refusal TYPE = {"TYPE",
+                                 "An argument of the wrong type: pass a text, or an integer, as the call takes it."};
     static const Refusal UNIT = {"UNIT",
-                                 "A text that names no unit: 'nanosecond', 'microsecond', 'millisecond', 'second', "
-                                 "'minute', 'hour' and 'day' do."};
-    static const Refusal UNKNOWN = {"UNKNOWN", "A refusal that this extension does not know."};
+                                 "An unknown unit: pass 'nanosecond', 'microsecond', 'millisecond', 'second', "
+                                 "'minute', 'hour' or 'day', or 'month' or 'year' in muxandu_truncate; muxandu_unix "
+                                 "has none above a second."};
+    static const Refusal UNKNOWN = {"UNKNOWN", "An error of a later library: build the extension with it."};
     if (status == REFUSED_TYPE) return &TYPE;
     if (status == REFUSED_UNIT_NAME) return &UNIT;
     return status < COUNT(REFUSALS) && REFUSALS[status].name != NULL ? &REFUSALS[status] : &UNKNOWN;

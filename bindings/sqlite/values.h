@@ -8,9 +8,10 @@
 /* What is refused of SQL's values alone, beside the refusals of muxandu.h, and what is none. */
 enum { REFUSED_TYPE = 1000, REFUSED_UNIT_NAME = 1001, OUT_OF_MEMORY = 1002 };
 
-/* A unit of time: so many nanoseconds. */
+/* A unit of time: its number in the library, and so many nanoseconds. */
 typedef struct Unit {
     const char *name;
+    MuxanduUnit number;
     int64_t nanoseconds;
 } Unit;
 
@@ -22,6 +23,9 @@ uint32_t read_whole_number(sqlite3_value *value, int64_t *out);
 uint32_t read_offset(sqlite3_value *value, int32_t *out);
 uint32_t read_nanosecond(sqlite3_value *value, uint32_t *out);
 uint32_t read_unit(sqlite3_value *value, const Unit **out);
+
+/* Whether a text is that name, in the singular or the plural, in letters of any case. */
+int is_named(const char *text, size_t size, const char *name);
 
 const char *refusal_name(uint32_t status);
 

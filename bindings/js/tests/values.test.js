@@ -269,16 +269,27 @@ test("a stack that overflows within a call leaves the calls as they were", () =>
     const moved = () => at.toOffset(60).add({ hours: 1 }).truncate("minute").toRfc3339();
     const calls = [moved, () => at.toRfc3339(), () => shown.toRfc3339(), () => shown.add({ days: 1 }), () => Timestamp.parse(text)];
     for (const call of calls) {
+        // The first calls compile what they need. That takes much more of the stack than the calls do.
+        for (let round = 0; round < 10; round++) call();
+        let places = 0;
+        // The stack overflows in the last of these functions. Each function before it leaves the call a little more room, so
+        // that the stack overflows in each part of the call, also within the module.
         const deep = () => {
-            call();
-            deep();
+            try {
+                deep();
+            } catch (error) {
+                assert.ok(error instanceof RangeError, error);
+            }
+            if (places++ >= 500) return;
+            try {
+                call();
+            } catch (error) {
+                assert.ok(error instanceof RangeError, error);
+            }
         };
-        // from some depths the stack ends within a call of the module
-        const deepFrom = (depth) => (depth === 0 ? deep() : deepFrom(depth - 1));
-        for (let depth = 0; depth < 16; depth++) {
-            assert.throws(() => deepFrom(depth), RangeError);
-            assert.equal(moved(), "2024-02-29T01:31:00+00:01");
-        }
+        deep();
+        assert.ok(places >= 500);
+        assert.equal(moved(), "2024-02-29T01:31:00+00:01");
     }
 });
 
@@ -292,16 +303,16 @@ test("values are told from others by their parts", () => {
     const [at, shown] = read("2024-02-29T00:00:00Z");
     for (const other of [shown, new Date(0), {}, 0, 5n, "", null, undefined, Symbol("other"), Timestamp, Timestamp.prototype]) {
         for (const call of [() => at.since(other), () => at.equals(other), () => Timestamp.compare(at, other), () => Timestamp.compare(other, at)]) {
-            assert.throws(call, { name: "TypeError", message: /^no Timestamp: / });
+            assert.throws(call, { name: "TypeError", message: /must be a Timestamp, not / });
         }
     }
     for (const other of [at, new Date(0), {}, 0, 5n, "", null, undefined, Symbol("other"), OffsetDateTime, OffsetDateTime.prototype]) {
         const calls = [() => shown.since(other), () => shown.equals(other), () => OffsetDateTime.compare(other, shown)];
-        for (const call of calls) assert.throws(call, { name: "TypeError", message: /^no OffsetDateTime: / });
+        for (const call of calls) assert.throws(call, { name: "TypeError", message: /must be an OffsetDateTime, not / });
     }
     for (const other of [at, shown, {}, 0, 5n, "1970-01-01", null, undefined]) {
         for (const type of [Timestamp, OffsetDateTime]) {
-            assert.throws(() => type.fromDate(other), { name: "TypeError", message: /^no Date: / });
+            assert.throws(() => type.fromDate(other), { name: "TypeError", message: /must be a Date, not / });
         }
     }
 });

@@ -1,7 +1,7 @@
-/* Made by tools/python_calls from bindings/python/muxandu/muxandu_sys.py. Do not edit. */
+/* Made by tools/python_calls from bindings/interface.json. Do not edit. */
 
-/* The version of the library, a number as MUXANDU_VERSION. Where it is lower, the library has not all that is
- * declared here. */
+/* The version of the library, a number like MUXANDU_VERSION. A library with a lower number lacks some of these
+ * declarations. */
 static PyObject *version(PyObject *self, PyObject *const *words, Py_ssize_t count)
 {
     (void)self;
@@ -12,14 +12,15 @@ static PyObject *version(PyObject *self, PyObject *const *words, Py_ssize_t coun
     return give_uint32_t(out);
 }
 
-/* Writes the name of a status, as 'OK' or 'DAY_OF_MONTH', of at most 15 bytes, all ASCII and none 0, at the front of
- * 'buffer', and its length to 'size'. A number that is no status of this version has the name 'UNKNOWN'. Refused
- * BUFFER where the name is longer than 'buffer': then 'size' says how long it is, and 'buffer' is as it was. */
+/* Writes the name of a status, such as 'OK' or 'DAY_OF_MONTH', to the front of 'buffer', and its length to 'size'.
+ * The name has at most 15 bytes, all ASCII and none 0. A number that is no status of this version has the name
+ * 'UNKNOWN'. Errors: BUFFER if the name is longer than 'buffer'; 'size' is then the length of the name, and 'buffer'
+ * is unchanged. */
 static PyObject *status_name(PyObject *self, PyObject *const *words, Py_ssize_t count)
 {
     (void)self;
     uint32_t word_0;
-    char text[MUXANDU_STATUS_ROOM];
+    char text[15];
     size_t size;
     uint32_t status;
     if (!are("status_name", count, 1) || !take_uint32_t(words[0], &word_0)) return NULL;
@@ -27,12 +28,12 @@ static PyObject *status_name(PyObject *self, PyObject *const *words, Py_ssize_t 
     return status ? refuse(status) : PyUnicode_DecodeASCII(text, (Py_ssize_t)size, NULL);
 }
 
-/* Writes what a status says, a sentence of at most 128 bytes, as muxandu_status_name does. */
+/* Writes the meaning of a status, a sentence of at most 128 bytes, as muxandu_status_name does. */
 static PyObject *status_text(PyObject *self, PyObject *const *words, Py_ssize_t count)
 {
     (void)self;
     uint32_t word_0;
-    char text[MUXANDU_STATUS_ROOM];
+    char text[128];
     size_t size;
     uint32_t status;
     if (!are("status_text", count, 1) || !take_uint32_t(words[0], &word_0)) return NULL;
@@ -40,8 +41,7 @@ static PyObject *status_text(PyObject *self, PyObject *const *words, Py_ssize_t 
     return status ? refuse(status) : PyUnicode_DecodeASCII(text, (Py_ssize_t)size, NULL);
 }
 
-/* The instant so much later, or earlier for a negative duration. Refused as the timestamp, then DURATION, then
- * RESULT outside the range. */
+/* The instant plus a duration. Errors, in this order: those of the timestamp, DURATION, RESULT if out of range. */
 static PyObject *timestamp_add(PyObject *self, PyObject *const *words, Py_ssize_t count)
 {
     MuxanduDuration word_0;
@@ -52,8 +52,7 @@ static PyObject *timestamp_add(PyObject *self, PyObject *const *words, Py_ssize_
     return status ? refuse(status) : make_Timestamp(Py_TYPE(self), out);
 }
 
-/* The instant so much earlier, or later for a negative duration. Refused as the timestamp, then DURATION, then
- * RESULT outside the range. */
+/* The instant minus a duration. Errors, in this order: those of the timestamp, DURATION, RESULT if out of range. */
 static PyObject *timestamp_subtract(PyObject *self, PyObject *const *words, Py_ssize_t count)
 {
     MuxanduDuration word_0;
@@ -64,7 +63,8 @@ static PyObject *timestamp_subtract(PyObject *self, PyObject *const *words, Py_s
     return status ? refuse(status) : make_Timestamp(Py_TYPE(self), out);
 }
 
-/* The instant so much later, or the end of the range that it is beyond. Refused as the timestamp, then DURATION. */
+/* The instant plus a duration, or the nearer end of the range. Errors, in this order: those of the timestamp,
+ * DURATION. */
 static PyObject *timestamp_saturating_add(PyObject *self, PyObject *const *words, Py_ssize_t count)
 {
     MuxanduDuration word_0;
@@ -75,7 +75,8 @@ static PyObject *timestamp_saturating_add(PyObject *self, PyObject *const *words
     return status ? refuse(status) : make_Timestamp(Py_TYPE(self), out);
 }
 
-/* The instant so much earlier, or the end of the range that it is beyond. Refused as the timestamp, then DURATION. */
+/* The instant minus a duration, or the nearer end of the range. Errors, in this order: those of the timestamp,
+ * DURATION. */
 static PyObject *timestamp_saturating_subtract(PyObject *self, PyObject *const *words, Py_ssize_t count)
 {
     MuxanduDuration word_0;
@@ -86,7 +87,8 @@ static PyObject *timestamp_saturating_subtract(PyObject *self, PyObject *const *
     return status ? refuse(status) : make_Timestamp(Py_TYPE(self), out);
 }
 
-/* The duration from 'earlier' to 'later', negative where 'later' comes first. Refused as 'later', then as 'earlier'. */
+/* The duration from 'earlier' to 'later', negative if 'later' comes first. Errors, in this order: those of 'later',
+ * those of 'earlier'. */
 static PyObject *timestamp_difference(PyObject *self, PyObject *const *words, Py_ssize_t count)
 {
     MuxanduTimestamp word_0;
@@ -97,7 +99,7 @@ static PyObject *timestamp_difference(PyObject *self, PyObject *const *words, Py
     return status ? refuse(status) : make_Duration(type_of_Duration, out);
 }
 
-/* The instant rounded down to a unit in UTC, before 1970 too. Refused as the timestamp, then UNIT. */
+/* The instant, rounded down to a unit in UTC, also before 1970. Errors, in this order: those of the timestamp, UNIT. */
 static PyObject *timestamp_truncate(PyObject *self, PyObject *const *words, Py_ssize_t count)
 {
     uint32_t word_0;
@@ -108,7 +110,7 @@ static PyObject *timestamp_truncate(PyObject *self, PyObject *const *words, Py_s
     return status ? refuse_word(status, words, (const uint8_t[]){18, 0, 0}) : make_Timestamp(Py_TYPE(self), out);
 }
 
-/* The instant so many milliseconds from 1970-01-01 0:00 UTC. Refused TIMESTAMP outside the range. */
+/* The instant of a number of milliseconds from 1970-01-01 0:00 UTC. Errors: TIMESTAMP if out of range. */
 static PyObject *timestamp_from_milliseconds(PyObject *self, PyObject *const *words, Py_ssize_t count)
 {
     int64_t word_0;
@@ -119,7 +121,7 @@ static PyObject *timestamp_from_milliseconds(PyObject *self, PyObject *const *wo
     return status ? refuse_word(status, words, (const uint8_t[]){15, 0, 0}) : make_Timestamp((PyTypeObject *)self, out);
 }
 
-/* The whole milliseconds from 1970-01-01 0:00 UTC, rounded down. Refused as the timestamp. */
+/* The whole milliseconds from 1970-01-01 0:00 UTC, rounded down. Errors: those of the timestamp. */
 static PyObject *timestamp_to_milliseconds(PyObject *self, PyObject *const *words, Py_ssize_t count)
 {
     int64_t out;
@@ -130,7 +132,7 @@ static PyObject *timestamp_to_milliseconds(PyObject *self, PyObject *const *word
     return status ? refuse(status) : give_int64_t(out);
 }
 
-/* The instant so many microseconds from 1970-01-01 0:00 UTC. It is always in the range. */
+/* The instant of a number of microseconds from 1970-01-01 0:00 UTC. It is always in range. */
 static PyObject *timestamp_from_microseconds(PyObject *self, PyObject *const *words, Py_ssize_t count)
 {
     int64_t word_0;
@@ -140,8 +142,8 @@ static PyObject *timestamp_from_microseconds(PyObject *self, PyObject *const *wo
     return make_Timestamp((PyTypeObject *)self, out);
 }
 
-/* The whole microseconds from 1970-01-01 0:00 UTC, rounded down. Refused as the timestamp, then RESULT where 64 bits
- * do not hold them, as before -290308-12-21 and after 294247-01-10. */
+/* The whole microseconds from 1970-01-01 0:00 UTC, rounded down. They fit in 64 bits from -290308-12-21 to
+ * 294247-01-10. Errors, in this order: those of the timestamp, RESULT if they do not fit. */
 static PyObject *timestamp_to_microseconds(PyObject *self, PyObject *const *words, Py_ssize_t count)
 {
     int64_t out;
@@ -152,7 +154,7 @@ static PyObject *timestamp_to_microseconds(PyObject *self, PyObject *const *word
     return status ? refuse(status) : give_int64_t(out);
 }
 
-/* The instant so many nanoseconds from 1970-01-01 0:00 UTC. It is always in the range. */
+/* The instant of a number of nanoseconds from 1970-01-01 0:00 UTC. It is always in range. */
 static PyObject *timestamp_from_nanoseconds(PyObject *self, PyObject *const *words, Py_ssize_t count)
 {
     int64_t word_0;
@@ -162,8 +164,8 @@ static PyObject *timestamp_from_nanoseconds(PyObject *self, PyObject *const *wor
     return make_Timestamp((PyTypeObject *)self, out);
 }
 
-/* The nanoseconds from 1970-01-01 0:00 UTC. Refused as the timestamp, then RESULT where 64 bits do not hold them, as
- * before 1677-09-21 and after 2262-04-11. */
+/* The nanoseconds from 1970-01-01 0:00 UTC. They fit in 64 bits from 1677-09-21 to 2262-04-11. Errors, in this
+ * order: those of the timestamp, RESULT if they do not fit. */
 static PyObject *timestamp_to_nanoseconds(PyObject *self, PyObject *const *words, Py_ssize_t count)
 {
     int64_t out;
@@ -174,8 +176,8 @@ static PyObject *timestamp_to_nanoseconds(PyObject *self, PyObject *const *words
     return status ? refuse(status) : give_int64_t(out);
 }
 
-/* What clocks at an offset, in seconds, show at an instant. Refused as the timestamp, then OFFSET_SECONDS, then
- * RESULT where the clocks show a year outside the range. */
+/* The date-time of an instant at an offset in seconds. Errors, in this order: those of the timestamp,
+ * OFFSET_SECONDS, RESULT if the year at that offset is out of range. */
 static PyObject *date_time_from_timestamp(PyObject *self, PyObject *const *words, Py_ssize_t count)
 {
     int32_t word_0;
@@ -187,8 +189,7 @@ static PyObject *date_time_from_timestamp(PyObject *self, PyObject *const *words
             make_OffsetDateTime(type_of_OffsetDateTime, out);
 }
 
-/* The instant at which clocks at its offset show the date-time. Refused as the date-time, then RESULT outside the
- * range of timestamps. */
+/* The instant of a date-time. Errors, in this order: those of the date-time, RESULT outside the range of timestamps. */
 static PyObject *timestamp_from_date_time(PyObject *self, PyObject *const *words, Py_ssize_t count)
 {
     MuxanduTimestamp out;
@@ -199,8 +200,8 @@ static PyObject *timestamp_from_date_time(PyObject *self, PyObject *const *words
     return status ? refuse(status) : make_Timestamp(type_of_Timestamp, out);
 }
 
-/* What clocks at another offset, in seconds, show at the same instant. Refused as the date-time, then
- * OFFSET_SECONDS, then RESULT where the clocks there show a year outside the range. */
+/* The same instant at another offset in seconds. Errors, in this order: those of the date-time, OFFSET_SECONDS,
+ * RESULT if the year at that offset is out of range. */
 static PyObject *date_time_to_offset(PyObject *self, PyObject *const *words, Py_ssize_t count)
 {
     int32_t word_0;
@@ -211,8 +212,8 @@ static PyObject *date_time_to_offset(PyObject *self, PyObject *const *words, Py_
     return status ? refuse_word(status, words, (const uint8_t[]){14, 0, 0}) : make_OffsetDateTime(Py_TYPE(self), out);
 }
 
-/* The date-time so much later at the same offset, or earlier for a negative duration. Refused as the date-time, then
- * DURATION, then RESULT where the year is outside the range. */
+/* The date-time plus a duration, at the same offset. Errors, in this order: those of the date-time, DURATION, RESULT
+ * if the year is out of range. */
 static PyObject *date_time_add(PyObject *self, PyObject *const *words, Py_ssize_t count)
 {
     MuxanduDuration word_0;
@@ -223,8 +224,8 @@ static PyObject *date_time_add(PyObject *self, PyObject *const *words, Py_ssize_
     return status ? refuse(status) : make_OffsetDateTime(Py_TYPE(self), out);
 }
 
-/* The date-time so much earlier at the same offset, or later for a negative duration. Refused as the date-time, then
- * DURATION, then RESULT where the year is outside the range. */
+/* The date-time minus a duration, at the same offset. Errors, in this order: those of the date-time, DURATION,
+ * RESULT if the year is out of range. */
 static PyObject *date_time_subtract(PyObject *self, PyObject *const *words, Py_ssize_t count)
 {
     MuxanduDuration word_0;
@@ -235,8 +236,8 @@ static PyObject *date_time_subtract(PyObject *self, PyObject *const *words, Py_s
     return status ? refuse(status) : make_OffsetDateTime(Py_TYPE(self), out);
 }
 
-/* The date-time so much later at the same offset, or the end of the range that it is beyond. Refused as the date-
- * time, then DURATION. */
+/* The date-time plus a duration, at the same offset, or the nearer end of the range. Errors, in this order: those of
+ * the date-time, DURATION. */
 static PyObject *date_time_saturating_add(PyObject *self, PyObject *const *words, Py_ssize_t count)
 {
     MuxanduDuration word_0;
@@ -247,8 +248,8 @@ static PyObject *date_time_saturating_add(PyObject *self, PyObject *const *words
     return status ? refuse(status) : make_OffsetDateTime(Py_TYPE(self), out);
 }
 
-/* The date-time so much earlier at the same offset, or the end of the range that it is beyond. Refused as the date-
- * time, then DURATION. */
+/* The date-time minus a duration, at the same offset, or the nearer end of the range. Errors, in this order: those
+ * of the date-time, DURATION. */
 static PyObject *date_time_saturating_subtract(PyObject *self, PyObject *const *words, Py_ssize_t count)
 {
     MuxanduDuration word_0;
@@ -259,8 +260,8 @@ static PyObject *date_time_saturating_subtract(PyObject *self, PyObject *const *
     return status ? refuse(status) : make_OffsetDateTime(Py_TYPE(self), out);
 }
 
-/* The duration from the instant of 'earlier' to that of 'later', negative where 'later' comes first. Refused as
- * 'later', then as 'earlier'. */
+/* The duration from the instant of 'earlier' to that of 'later', negative if 'later' comes first. Errors, in this
+ * order: those of 'later', those of 'earlier'. */
 static PyObject *date_time_difference(PyObject *self, PyObject *const *words, Py_ssize_t count)
 {
     MuxanduDateTime word_0;
@@ -271,7 +272,7 @@ static PyObject *date_time_difference(PyObject *self, PyObject *const *words, Py
     return status ? refuse(status) : make_Duration(type_of_Duration, out);
 }
 
-/* The date-time rounded down to a unit, as its clocks show it. Refused as the date-time, then UNIT. */
+/* The date-time, rounded down to a unit at its own offset. Errors, in this order: those of the date-time, UNIT. */
 static PyObject *date_time_truncate(PyObject *self, PyObject *const *words, Py_ssize_t count)
 {
     uint32_t word_0;
@@ -282,7 +283,7 @@ static PyObject *date_time_truncate(PyObject *self, PyObject *const *words, Py_s
     return status ? refuse_word(status, words, (const uint8_t[]){18, 0, 0}) : make_OffsetDateTime(Py_TYPE(self), out);
 }
 
-/* The day number that the clocks show, 0 on 1970-01-01. Refused as the date-time. */
+/* The day number of the local date, 0 on 1970-01-01. Errors: those of the date-time. */
 static PyObject *date_time_day(PyObject *self, PyObject *const *words, Py_ssize_t count)
 {
     int32_t out;
@@ -293,7 +294,7 @@ static PyObject *date_time_day(PyObject *self, PyObject *const *words, Py_ssize_
     return status ? refuse(status) : give_int32_t(out);
 }
 
-/* The date of a day number. Refused DAY_NUMBER. */
+/* The date of a day number. Errors: DAY_NUMBER. */
 static PyObject *date_from_day(PyObject *self, PyObject *const *words, Py_ssize_t count)
 {
     (void)self;
@@ -306,7 +307,7 @@ static PyObject *date_from_day(PyObject *self, PyObject *const *words, Py_ssize_
             (long)out.year, (long)out.month, (long)out.day);
 }
 
-/* The day number of a date. Refused MONTH, YEAR, DAY or DAY_OF_MONTH, tested in this order. */
+/* The day number of a date. Errors, in this order: MONTH, YEAR, DAY, DAY_OF_MONTH. */
 static PyObject *day_from_date(PyObject *self, PyObject *const *words, Py_ssize_t count)
 {
     (void)self;
@@ -319,7 +320,7 @@ static PyObject *day_from_date(PyObject *self, PyObject *const *words, Py_ssize_
     return status ? refuse_word(status, words, (const uint8_t[]){1, 0, 2, 1, 3, 2, 4, 2, 16, 2, 0}) : give_int32_t(out);
 }
 
-/* The year and the day of the year of a day number. Refused DAY_NUMBER. */
+/* The year and the day of the year of a day number. Errors: DAY_NUMBER. */
 static PyObject *ordinal_date_from_day(PyObject *self, PyObject *const *words, Py_ssize_t count)
 {
     (void)self;
@@ -332,7 +333,7 @@ static PyObject *ordinal_date_from_day(PyObject *self, PyObject *const *words, P
             (long)out.year, (long)out.ordinal);
 }
 
-/* The day number of a day of a year. Refused YEAR, ORDINAL or ORDINAL_OF_YEAR, tested in this order. */
+/* The day number of a day of a year. Errors, in this order: YEAR, ORDINAL, ORDINAL_OF_YEAR. */
 static PyObject *day_from_ordinal_date(PyObject *self, PyObject *const *words, Py_ssize_t count)
 {
     (void)self;
@@ -345,8 +346,8 @@ static PyObject *day_from_ordinal_date(PyObject *self, PyObject *const *words, P
     return status ? refuse_word(status, words, (const uint8_t[]){1, 0, 5, 1, 6, 1, 0}) : give_int32_t(out);
 }
 
-/* The ISO year, the ISO week and the day of the week of a day number, of which muxandu_day_from_week_date makes the
- * day number again. Refused DAY_NUMBER. */
+/* The ISO year, the ISO week and the day of the week of a day number. muxandu_day_from_week_date is the inverse.
+ * Errors: DAY_NUMBER. */
 static PyObject *week_date_from_day(PyObject *self, PyObject *const *words, Py_ssize_t count)
 {
     (void)self;
@@ -359,8 +360,8 @@ static PyObject *week_date_from_day(PyObject *self, PyObject *const *words, Py_s
             (long)out.year, (long)out.week, (long)out.weekday);
 }
 
-/* The day number of an ISO week date. Refused YEAR, WEEK, WEEKDAY or WEEK_OF_YEAR, tested in this order, then RESULT
- * for the two days of the last week that lie past the range. */
+/* The day number of an ISO week date. Errors, in this order: YEAR, WEEK, WEEKDAY, WEEK_OF_YEAR, RESULT for the two
+ * days of the last week past the range. */
 static PyObject *day_from_week_date(PyObject *self, PyObject *const *words, Py_ssize_t count)
 {
     (void)self;
@@ -373,7 +374,7 @@ static PyObject *day_from_week_date(PyObject *self, PyObject *const *words, Py_s
     return status ? refuse_word(status, words, (const uint8_t[]){1, 0, 7, 1, 8, 1, 9, 2, 0}) : give_int32_t(out);
 }
 
-/* The day of the week of a day number, 0 for Monday to 6 for Sunday. Refused DAY_NUMBER. */
+/* The day of the week of a day number, 0 for Monday to 6 for Sunday. Errors: DAY_NUMBER. */
 static PyObject *weekday_from_day(PyObject *self, PyObject *const *words, Py_ssize_t count)
 {
     (void)self;
@@ -385,23 +386,23 @@ static PyObject *weekday_from_day(PyObject *self, PyObject *const *words, Py_ssi
     return status ? refuse_word(status, words, (const uint8_t[]){3, 0, 4, 0, 16, 0, 0}) : give_uint8_t(out);
 }
 
-/* How many days a month of a year has, 28 to 31. Refused MONTH, then YEAR. */
+/* The number of days in a month of a year, 28 to 31. Errors, in this order: MONTH, YEAR. */
 static PyObject *days_in_month(PyObject *self, PyObject *const *words, Py_ssize_t count)
 {
     (void)self;
     int32_t word_0;
-    uint8_t word_1;
+    uint32_t word_1;
     uint8_t out;
     uint32_t status;
-    if (!are("days_in_month", count, 2) || !take_int32_t(words[0], &word_0) || !take_uint8_t(words[1], &word_1)) return
+    if (!are("days_in_month", count, 2) || !take_int32_t(words[0], &word_0) || !take_uint32_t(words[1], &word_1)) return
             NULL;
     status = muxandu_days_in_month(word_0, word_1, &out);
     return status ? refuse_word(status, words, (const uint8_t[]){1, 0, 2, 1, 0}) : give_uint8_t(out);
 }
 
-/* What clocks at an offset, in seconds, show at each Unix second, up to the first that
- * muxandu_date_time_from_timestamp refuses. Refused BUFFER, with nothing written, where 'out' has fewer items than
- * 'seconds'. */
+/* The date-time of each Unix second at an offset in seconds, up to the first that muxandu_date_time_from_timestamp
+ * rejects. Errors: BUFFER if 'out' has fewer items than 'seconds' (the call then writes nothing), else that of the
+ * first rejected item. */
 static PyObject *date_times_from_seconds(PyObject *self, PyObject *const *words, Py_ssize_t count)
 {
     (void)self;
@@ -422,8 +423,9 @@ static PyObject *date_times_from_seconds(PyObject *self, PyObject *const *words,
     return answer;
 }
 
-/* The Unix second of each date-time, rounded down, up to the first that muxandu_timestamp_from_date_time refuses.
- * Refused BUFFER, with nothing written, where 'out' has fewer items than 'date_times'. */
+/* The Unix second of each date-time, rounded down, up to the first that muxandu_timestamp_from_date_time rejects.
+ * Errors: BUFFER if 'out' has fewer items than 'date_times' (the call then writes nothing), else that of the first
+ * rejected item. */
 static PyObject *seconds_from_date_times(PyObject *self, PyObject *const *words, Py_ssize_t count)
 {
     (void)self;
@@ -443,8 +445,8 @@ static PyObject *seconds_from_date_times(PyObject *self, PyObject *const *words,
     return answer;
 }
 
-/* The date of each day number, up to the first that muxandu_date_from_day refuses. Refused BUFFER, with nothing
- * written, where 'out' has fewer items than 'days'. */
+/* The date of each day number, up to the first that muxandu_date_from_day rejects. Errors: BUFFER if 'out' has fewer
+ * items than 'days' (the call then writes nothing), else that of the first rejected item. */
 static PyObject *dates_from_days(PyObject *self, PyObject *const *words, Py_ssize_t count)
 {
     (void)self;
@@ -464,8 +466,8 @@ static PyObject *dates_from_days(PyObject *self, PyObject *const *words, Py_ssiz
     return answer;
 }
 
-/* The day number of each date, up to the first that muxandu_day_from_date refuses. Refused BUFFER, with nothing
- * written, where 'out' has fewer items than 'dates'. */
+/* The day number of each date, up to the first that muxandu_day_from_date rejects. Errors: BUFFER if 'out' has fewer
+ * items than 'dates' (the call then writes nothing), else that of the first rejected item. */
 static PyObject *days_from_dates(PyObject *self, PyObject *const *words, Py_ssize_t count)
 {
     (void)self;
@@ -485,9 +487,9 @@ static PyObject *days_from_dates(PyObject *self, PyObject *const *words, Py_ssiz
     return answer;
 }
 
-/* The instant of each text of RFC 3339, up to the first that muxandu_timestamp_from_rfc3339 refuses, or SPAN, whose
- * span does not lie in the block 'texts'. Refused BUFFER, with nothing written, where 'out' has fewer items than
- * 'spans'. */
+/* The instant of each text of RFC 3339, up to the first that muxandu_timestamp_from_rfc3339 rejects. A span outside
+ * the block 'texts' fails with SPAN. Errors: BUFFER if 'out' has fewer items than 'spans' (the call then writes
+ * nothing), else that of the first rejected item. */
 static PyObject *timestamps_from_rfc3339(PyObject *self, PyObject *const *words, Py_ssize_t count)
 {
     (void)self;
@@ -510,23 +512,24 @@ static PyObject *timestamps_from_rfc3339(PyObject *self, PyObject *const *words,
     return answer;
 }
 
-/* Whether an hour, a minute, a second and a nanosecond of it make a time of day. Refused HOUR, MINUTE, SECOND or
- * NANOSECOND, tested in this order. */
+/* Checks that an hour, a minute, a second and a nanosecond make a time of day. Errors, in this order: HOUR, MINUTE,
+ * SECOND, NANOSECOND. */
 static PyObject *time_check(PyObject *self, PyObject *const *words, Py_ssize_t count)
 {
     (void)self;
-    uint8_t word_0;
-    uint8_t word_1;
-    uint8_t word_2;
+    uint32_t word_0;
+    uint32_t word_1;
+    uint32_t word_2;
     uint32_t word_3;
     uint32_t out;
-    if (!are("time_check", count, 4) || !take_uint8_t(words[0], &word_0) || !take_uint8_t(words[1], &word_1) ||
-            !take_uint8_t(words[2], &word_2) || !take_uint32_t(words[3], &word_3)) return NULL;
+    if (!are("time_check", count, 4) || !take_uint32_t(words[0], &word_0) || !take_uint32_t(words[1], &word_1) ||
+            !take_uint32_t(words[2], &word_2) || !take_uint32_t(words[3], &word_3)) return NULL;
     out = muxandu_time_check(word_0, word_1, word_2, word_3);
     return give_uint32_t(out);
 }
 
-/* The date so many days later, or earlier for a negative count. Refused as the date, then RESULT outside the range. */
+/* The date that is a number of days later, or earlier if it is negative. Errors, in this order: those of the date,
+ * RESULT if out of range. */
 static PyObject *date_add_days(PyObject *self, PyObject *const *words, Py_ssize_t count)
 {
     (void)self;
@@ -541,8 +544,8 @@ static PyObject *date_add_days(PyObject *self, PyObject *const *words, Py_ssize_
             Py_BuildValue("(lll)", (long)out.year, (long)out.month, (long)out.day);
 }
 
-/* The same day of the month so many months later, or earlier for a negative count, or the month's last day where it
- * is shorter. Refused as the date, then RESULT outside the range. */
+/* The same day of the month a number of months later, or earlier if it is negative; in a shorter month its last day.
+ * Errors, in this order: those of the date, RESULT if out of range. */
 static PyObject *date_add_months(PyObject *self, PyObject *const *words, Py_ssize_t count)
 {
     (void)self;
@@ -557,13 +560,13 @@ static PyObject *date_add_months(PyObject *self, PyObject *const *words, Py_ssiz
             Py_BuildValue("(lll)", (long)out.year, (long)out.month, (long)out.day);
 }
 
-/* Writes the text of a date, as RFC 3339 has a full date, '1985-04-12', of 10 bytes, as muxandu_date_time_text does.
- * Refused as the date, then NO_TEXT, then BUFFER. */
+/* Writes the RFC 3339 text of a date, such as '1985-04-12', in 10 bytes, as muxandu_date_time_text does. Errors, in
+ * this order: those of the date, NO_TEXT, BUFFER. */
 static PyObject *date_to_rfc3339(PyObject *self, PyObject *const *words, Py_ssize_t count)
 {
     (void)self;
     MuxanduDate word_0;
-    char text[MUXANDU_TEXT_ROOM];
+    char text[10];
     size_t size;
     uint32_t status;
     if (!are("date_to_rfc3339", count, 3) || !take_int32_t(words[0], &word_0.year) || !take_uint8_t(words[1],
@@ -573,8 +576,8 @@ static PyObject *date_to_rfc3339(PyObject *self, PyObject *const *words, Py_ssiz
             PyUnicode_DecodeASCII(text, (Py_ssize_t)size, NULL);
 }
 
-/* Reads a date from a text of RFC 3339, with nothing before or after it, as '1985-04-12'. Refused SYNTAX where it
- * has not that form, else MONTH, DAY or DAY_OF_MONTH, by the first from the left that is out of its range. */
+/* The date in an RFC 3339 text such as '1985-04-12', with nothing before or after it. Errors: SYNTAX if the text has
+ * another form, else MONTH, DAY or DAY_OF_MONTH for the first part out of range. */
 static PyObject *date_from_rfc3339(PyObject *self, PyObject *const *words, Py_ssize_t count)
 {
     (void)self;
@@ -590,24 +593,24 @@ static PyObject *date_from_rfc3339(PyObject *self, PyObject *const *words, Py_ss
     return answer;
 }
 
-/* Writes the text of RFC 3339 of a date-time with so many digits of the fraction, 0 to 9, and nine where more are
- * asked for, as '1985-04-12T23:20:50.520Z' of three, of at most 35 bytes, as muxandu_date_time_text does: what lies
- * past them is left out. Refused as the date-time, then NO_TEXT, then BUFFER. */
+/* Writes the RFC 3339 text of a date-time with 'digits' digits of the fraction, in at most 35 bytes, as
+ * muxandu_date_time_text does. With three it is '1985-04-12T23:20:50.520Z'. The call cuts further digits off, and
+ * takes a number above nine as nine. Errors, in this order: those of the date-time, NO_TEXT, BUFFER. */
 static PyObject *date_time_to_rfc3339_digits(PyObject *self, PyObject *const *words, Py_ssize_t count)
 {
-    uint8_t word_0;
-    char text[MUXANDU_TEXT_ROOM];
+    uint32_t word_0;
+    char text[35];
     size_t size;
     uint32_t status;
-    if (!are("to_rfc3339_digits", count, 1) || !take_uint8_t(words[0], &word_0)) return NULL;
+    if (!are("to_rfc3339_digits", count, 1) || !take_uint32_t(words[0], &word_0)) return NULL;
     status = muxandu_date_time_to_rfc3339_digits(VALUE(OffsetDateTime, self), word_0, text, sizeof text, &size);
     return status ? refuse(status) : PyUnicode_DecodeASCII(text, (Py_ssize_t)size, NULL);
 }
 
-/* What clocks at an offset, in seconds, show at each Unix second, and its status, as
- * muxandu_date_time_from_timestamp has them: where an item is refused, what is in its place stays, and the next
- * follows. 'count' is how many were converted. Refused BUFFER, with nothing written, where 'out' or 'statuses' has
- * fewer items than 'seconds'. */
+/* The date-time of each Unix second at an offset in seconds, and the status of muxandu_date_time_from_timestamp for
+ * it. If an item fails, its place in 'out' keeps its contents, and the call continues with the next. 'count' is the
+ * number of converted items. Errors: BUFFER if 'out' or 'statuses' has fewer items than 'seconds'; the call then
+ * writes nothing. */
 static PyObject *date_times_from_each_second(PyObject *self, PyObject *const *words, Py_ssize_t count)
 {
     (void)self;
@@ -632,9 +635,10 @@ static PyObject *date_times_from_each_second(PyObject *self, PyObject *const *wo
     return answer;
 }
 
-/* The Unix second of each date-time, rounded down, and its status, as muxandu_timestamp_from_date_time has them:
- * where an item is refused, what is in its place stays, and the next follows. 'count' is how many were converted.
- * Refused BUFFER, with nothing written, where 'out' or 'statuses' has fewer items than 'date_times'. */
+/* The Unix second of each date-time, rounded down, and the status of muxandu_timestamp_from_date_time for it. If an
+ * item fails, its place in 'out' keeps its contents, and the call continues with the next. 'count' is the number of
+ * converted items. Errors: BUFFER if 'out' or 'statuses' has fewer items than 'date_times'; the call then writes
+ * nothing. */
 static PyObject *seconds_from_each_date_time(PyObject *self, PyObject *const *words, Py_ssize_t count)
 {
     (void)self;
@@ -657,11 +661,12 @@ static PyObject *seconds_from_each_date_time(PyObject *self, PyObject *const *wo
     return answer;
 }
 
-/* Writes the shortest text of RFC 3339 of a date-time, as '1985-04-12T23:20:50.52Z' or '1996-12-19T16:39:57-08:00',
- * of at most 35 bytes, as muxandu_date_time_text does. Refused as the date-time, then NO_TEXT, then BUFFER. */
+/* Writes the shortest RFC 3339 text of a date-time, in at most 35 bytes, as muxandu_date_time_text does. Examples
+ * are '1985-04-12T23:20:50.52Z' and '1996-12-19T16:39:57-08:00'. Errors, in this order: those of the date-time,
+ * NO_TEXT, BUFFER. */
 static PyObject *date_time_to_rfc3339(PyObject *self, PyObject *const *words, Py_ssize_t count)
 {
-    char text[MUXANDU_TEXT_ROOM];
+    char text[35];
     size_t size;
     uint32_t status;
     (void)words;
@@ -670,11 +675,11 @@ static PyObject *date_time_to_rfc3339(PyObject *self, PyObject *const *words, Py
     return status ? refuse(status) : PyUnicode_DecodeASCII(text, (Py_ssize_t)size, NULL);
 }
 
-/* Writes the shortest text of RFC 3339 of an instant, in UTC, as '1985-04-12T23:20:50.52Z', of at most 30 bytes, as
- * muxandu_date_time_text does. Refused as the timestamp, then NO_TEXT, then BUFFER. */
+/* Writes the shortest RFC 3339 text of an instant in UTC, such as '1985-04-12T23:20:50.52Z', in at most 30 bytes, as
+ * muxandu_date_time_text does. Errors, in this order: those of the timestamp, NO_TEXT, BUFFER. */
 static PyObject *timestamp_to_rfc3339(PyObject *self, PyObject *const *words, Py_ssize_t count)
 {
-    char text[MUXANDU_TEXT_ROOM];
+    char text[30];
     size_t size;
     uint32_t status;
     (void)words;
@@ -683,12 +688,12 @@ static PyObject *timestamp_to_rfc3339(PyObject *self, PyObject *const *words, Py
     return status ? refuse(status) : PyUnicode_DecodeASCII(text, (Py_ssize_t)size, NULL);
 }
 
-/* Writes the text of RFC 3339 of an instant, in UTC, always with nine digits of the fraction, as
- * '1985-04-12T23:20:50.520000000Z', of 30 bytes, as muxandu_date_time_text does. Such texts are in the order of
- * their instants, byte by byte. Refused as the timestamp, then NO_TEXT, then BUFFER. */
+/* Writes the RFC 3339 text of an instant in UTC with nine digits of the fraction, such as
+ * '1985-04-12T23:20:50.520000000Z', in 30 bytes, as muxandu_date_time_text does. Such texts compare byte by byte as
+ * their instants do. Errors, in this order: those of the timestamp, NO_TEXT, BUFFER. */
 static PyObject *timestamp_to_rfc3339_nanos(PyObject *self, PyObject *const *words, Py_ssize_t count)
 {
-    char text[MUXANDU_TEXT_ROOM];
+    char text[30];
     size_t size;
     uint32_t status;
     (void)words;
@@ -697,11 +702,11 @@ static PyObject *timestamp_to_rfc3339_nanos(PyObject *self, PyObject *const *wor
     return status ? refuse(status) : PyUnicode_DecodeASCII(text, (Py_ssize_t)size, NULL);
 }
 
-/* Reads a date-time and its offset from a text of RFC 3339, with nothing before or after it, as
- * '1985-04-12T23:20:50.52Z' or '1996-12-19T16:39:57-08:00'. A 't' or a space can stand for the 'T', and 'z' for the
- * 'Z'; digits past the ninth of the fraction are dropped; '-00:00' is the offset 0. Refused SYNTAX where it has not
- * that form, else MONTH, DAY or DAY_OF_MONTH, HOUR, MINUTE, SECOND, OFFSET_HOUR or OFFSET_MINUTE, by the first from
- * the left that is out of its range. */
+/* The date-time and the offset in an RFC 3339 text, with nothing before or after it. Examples are
+ * '1985-04-12T23:20:50.52Z' and '1996-12-19T16:39:57-08:00'. 't' or a space may replace the 'T', and 'z' the 'Z'.
+ * The call drops digits past the ninth of the fraction, and reads '-00:00' as the offset 0. Errors: SYNTAX if the
+ * text has another form, else that of the first part out of range: MONTH, DAY or DAY_OF_MONTH, HOUR, MINUTE, SECOND,
+ * OFFSET_HOUR, OFFSET_MINUTE. */
 static PyObject *date_time_from_rfc3339(PyObject *self, PyObject *const *words, Py_ssize_t count)
 {
     Text word_0;
@@ -715,7 +720,7 @@ static PyObject *date_time_from_rfc3339(PyObject *self, PyObject *const *words, 
     return answer;
 }
 
-/* Reads the instant of a text of RFC 3339, as muxandu_date_time_from_rfc3339 does, and with its refusals. */
+/* The instant of an RFC 3339 text, as muxandu_date_time_from_rfc3339 reads it. Errors: those of that call. */
 static PyObject *timestamp_from_rfc3339(PyObject *self, PyObject *const *words, Py_ssize_t count)
 {
     Text word_0;
@@ -729,9 +734,9 @@ static PyObject *timestamp_from_rfc3339(PyObject *self, PyObject *const *words, 
     return answer;
 }
 
-/* Reads the date-time that a text of RFC 3339 begins with, and its offset, as muxandu_date_time_from_rfc3339 does,
- * and writes the number of its bytes to 'size': of '1985-04-12T23:20:50.52Z done' it is 23. Refused SYNTAX where no
- * beginning of the text has that form, else as that call. */
+/* The date-time and the offset at the front of a text, as muxandu_date_time_from_rfc3339 reads them. Writes the
+ * number of bytes it read to 'size': 23 for '1985-04-12T23:20:50.52Z done'. Errors: SYNTAX if no front of the text
+ * has that form, else those of that call. */
 static PyObject *date_time_from_rfc3339_front(PyObject *self, PyObject *const *words, Py_ssize_t count)
 {
     Text word_0;
@@ -747,9 +752,9 @@ static PyObject *date_time_from_rfc3339_front(PyObject *self, PyObject *const *w
     return answer;
 }
 
-/* The place of the fault in a text that is refused SYNTAX, counted from 0: of '1985-04-12_23:20:50Z' it is 10. There
- * the text has a byte with which no date-time of RFC 3339 goes on, or its end. Of a text that has the form it is the
- * number of its bytes. */
+/* The index of the fault in a text that fails with SYNTAX: 10 for '1985-04-12_23:20:50Z'. No RFC 3339 date-time
+ * continues with the byte at that index; or the text ends there, too early. For a text that has the form it is the
+ * length of the text. */
 static PyObject *rfc3339_fault(PyObject *self, PyObject *const *words, Py_ssize_t count)
 {
     (void)self;
@@ -761,11 +766,10 @@ static PyObject *rfc3339_fault(PyObject *self, PyObject *const *words, Py_ssize_
     return give_size_t(out);
 }
 
-/* Reads a date-time and its offset as muxandu_date_time_from_rfc3339 does, and one whose second is 60 too, as
- * '2016-12-31T23:59:60Z'. A leap second can be the last second of a month in UTC alone. It is read as the last
- * nanosecond before the next month, whatever its fraction; then 'is_leap' is 1, and else 0. What is read is in the
- * order of what was written. Refused as that call refuses, SECOND above 60; and SECOND where all parts are in their
- * ranges and no month ends with the second of 60. */
+/* The date-time and the offset in a text, as muxandu_date_time_from_rfc3339 reads them, also with a second of 60, as
+ * in '2016-12-31T23:59:60Z'. A leap second is valid only as the last second of a month in UTC. It becomes the last
+ * nanosecond before the next month, for any fraction; 'is_leap' is then 1, else 0. So values keep the order of their
+ * texts. Errors: those of that call, with SECOND above 60; then SECOND if no month ends with a second of 60. */
 static PyObject *date_time_from_rfc3339_leap(PyObject *self, PyObject *const *words, Py_ssize_t count)
 {
     Text word_0;
@@ -781,9 +785,9 @@ static PyObject *date_time_from_rfc3339_leap(PyObject *self, PyObject *const *wo
     return answer;
 }
 
-/* The seconds of an offset of hours, minutes and seconds, of which the smaller take the sign of the hours, or of the
- * minutes if the hours are 0. Refused OFFSET_HOUR where the hours are not -25 to 25, OFFSET_MINUTE where the minutes
- * are not -59 to 59, then OFFSET_SECONDS where the seconds are not -59 to 59. */
+/* The seconds of an offset of hours, minutes and seconds. Smaller parts take the sign of the hours, or of the
+ * minutes if the hours are 0. Errors, in this order: OFFSET_HOUR if not -25 to 25, OFFSET_MINUTE if not -59 to 59,
+ * OFFSET_SECONDS if the seconds are not -59 to 59. */
 static PyObject *offset_from_parts(PyObject *self, PyObject *const *words, Py_ssize_t count)
 {
     (void)self;
@@ -796,7 +800,7 @@ static PyObject *offset_from_parts(PyObject *self, PyObject *const *words, Py_ss
     return status ? refuse_word(status, words, (const uint8_t[]){14, 2, 15, 2, 23, 0, 24, 1, 0}) : give_int32_t(out);
 }
 
-/* The hours, the minutes and the seconds of an offset in seconds, all of one sign. Refused OFFSET_SECONDS. */
+/* The hours, the minutes and the seconds of an offset in seconds, all of one sign. Errors: OFFSET_SECONDS. */
 static PyObject *offset_to_parts(PyObject *self, PyObject *const *words, Py_ssize_t count)
 {
     (void)self;
@@ -809,8 +813,8 @@ static PyObject *offset_to_parts(PyObject *self, PyObject *const *words, Py_ssiz
             (long)out.minutes, (long)out.seconds);
 }
 
-/* All that a date shows: its day number and Julian day, its day of the year and of the week, and its weeks by ISO
- * 8601, by Sundays and by Mondays. Refused MONTH, YEAR, DAY or DAY_OF_MONTH, tested in this order. */
+/* Every reading of a date: its day number and Julian day, its day of the year and of the week, and its weeks by ISO
+ * 8601, by Sundays and by Mondays. Errors, in this order: MONTH, YEAR, DAY, DAY_OF_MONTH. */
 static PyObject *date_reads(PyObject *self, PyObject *const *words, Py_ssize_t count)
 {
     (void)self;
@@ -825,7 +829,7 @@ static PyObject *date_reads(PyObject *self, PyObject *const *words, Py_ssize_t c
             (long)out.iso_week, (long)out.weekday, (long)out.sunday_based_week, (long)out.monday_based_week);
 }
 
-/* The date of a Julian day, which is 2440588 on 1970-01-01. Refused DAY_NUMBER where the range has no such day. */
+/* The date of a Julian day, which is 2440588 on 1970-01-01. Errors: DAY_NUMBER if out of range. */
 static PyObject *date_from_julian_day(PyObject *self, PyObject *const *words, Py_ssize_t count)
 {
     (void)self;
@@ -838,9 +842,9 @@ static PyObject *date_from_julian_day(PyObject *self, PyObject *const *words, Py
             (long)out.month, (long)out.day);
 }
 
-/* The date-time with one part replaced, and the others and the offset kept; a day of the year replaces the month and
- * the day. Refused as the date-time, then UNIT where the number is no part's, then YEAR, MONTH, DAY, DAY_OF_MONTH,
- * ORDINAL, ORDINAL_OF_YEAR, HOUR, MINUTE, SECOND or NANOSECOND. */
+/* The date-time with one part replaced. It keeps the other parts and the offset; a day of the year replaces the
+ * month and the day. Errors, in this order: those of the date-time, UNIT if 'part' is no number of a part, YEAR,
+ * MONTH, DAY, DAY_OF_MONTH, ORDINAL, ORDINAL_OF_YEAR, HOUR, MINUTE, SECOND, NANOSECOND. */
 static PyObject *date_time_replace(PyObject *self, PyObject *const *words, Py_ssize_t count)
 {
     uint32_t word_0;
@@ -854,8 +858,8 @@ static PyObject *date_time_replace(PyObject *self, PyObject *const *words, Py_ss
             1, 13, 1, 18, 0, 0}) : make_OffsetDateTime(Py_TYPE(self), out);
 }
 
-/* The instant with one part of its date or of its time of day in UTC replaced, and the others kept, as
- * muxandu_date_time_replace does. Refused as the timestamp, then as that call refuses. */
+/* The instant with one part of its date or time in UTC replaced, as muxandu_date_time_replace does. Errors, in this
+ * order: those of the timestamp, those of that call. */
 static PyObject *timestamp_replace(PyObject *self, PyObject *const *words, Py_ssize_t count)
 {
     uint32_t word_0;
@@ -869,9 +873,9 @@ static PyObject *timestamp_replace(PyObject *self, PyObject *const *words, Py_ss
             1, 13, 1, 18, 0, 0}) : make_Timestamp(Py_TYPE(self), out);
 }
 
-/* What clocks at an offset, in seconds, show so many milliseconds from 1970-01-01 0:00 UTC, for each count, up to
- * the first that muxandu_timestamp_from_milliseconds or muxandu_date_time_from_timestamp refuses. Refused BUFFER,
- * with nothing written, where 'out' has fewer items than 'milliseconds'. */
+/* The date-time of each Unix millisecond at an offset in seconds, up to the first that
+ * muxandu_timestamp_from_milliseconds or muxandu_date_time_from_timestamp rejects. Errors: BUFFER if 'out' has fewer
+ * items than 'milliseconds' (the call then writes nothing), else that of the first rejected item. */
 static PyObject *date_times_from_milliseconds(PyObject *self, PyObject *const *words, Py_ssize_t count)
 {
     (void)self;
@@ -893,8 +897,8 @@ static PyObject *date_times_from_milliseconds(PyObject *self, PyObject *const *w
 }
 
 /* The milliseconds from 1970-01-01 0:00 UTC of each date-time, rounded down, up to the first that
- * muxandu_timestamp_from_date_time or muxandu_timestamp_to_milliseconds refuses. Refused BUFFER, with nothing
- * written, where 'out' has fewer items than 'date_times'. */
+ * muxandu_timestamp_from_date_time or muxandu_timestamp_to_milliseconds rejects. Errors: BUFFER if 'out' has fewer
+ * items than 'date_times' (the call then writes nothing), else that of the first rejected item. */
 static PyObject *milliseconds_from_date_times(PyObject *self, PyObject *const *words, Py_ssize_t count)
 {
     (void)self;
@@ -914,9 +918,9 @@ static PyObject *milliseconds_from_date_times(PyObject *self, PyObject *const *w
     return answer;
 }
 
-/* What clocks at an offset, in seconds, show so many microseconds from 1970-01-01 0:00 UTC, for each count, up to
- * the first that muxandu_date_time_from_timestamp refuses. Refused BUFFER, with nothing written, where 'out' has
- * fewer items than 'microseconds'. */
+/* The date-time of each Unix microsecond at an offset in seconds, up to the first that
+ * muxandu_date_time_from_timestamp rejects. Errors: BUFFER if 'out' has fewer items than 'microseconds' (the call
+ * then writes nothing), else that of the first rejected item. */
 static PyObject *date_times_from_microseconds(PyObject *self, PyObject *const *words, Py_ssize_t count)
 {
     (void)self;
@@ -938,8 +942,8 @@ static PyObject *date_times_from_microseconds(PyObject *self, PyObject *const *w
 }
 
 /* The microseconds from 1970-01-01 0:00 UTC of each date-time, rounded down, up to the first that
- * muxandu_timestamp_from_date_time or muxandu_timestamp_to_microseconds refuses. Refused BUFFER, with nothing
- * written, where 'out' has fewer items than 'date_times'. */
+ * muxandu_timestamp_from_date_time or muxandu_timestamp_to_microseconds rejects. Errors: BUFFER if 'out' has fewer
+ * items than 'date_times' (the call then writes nothing), else that of the first rejected item. */
 static PyObject *microseconds_from_date_times(PyObject *self, PyObject *const *words, Py_ssize_t count)
 {
     (void)self;
@@ -959,9 +963,9 @@ static PyObject *microseconds_from_date_times(PyObject *self, PyObject *const *w
     return answer;
 }
 
-/* What clocks at an offset, in seconds, show so many nanoseconds from 1970-01-01 0:00 UTC, for each count, up to the
- * first that muxandu_date_time_from_timestamp refuses. Refused BUFFER, with nothing written, where 'out' has fewer
- * items than 'nanoseconds'. */
+/* The date-time of each Unix nanosecond at an offset in seconds, up to the first that
+ * muxandu_date_time_from_timestamp rejects. Errors: BUFFER if 'out' has fewer items than 'nanoseconds' (the call
+ * then writes nothing), else that of the first rejected item. */
 static PyObject *date_times_from_nanoseconds(PyObject *self, PyObject *const *words, Py_ssize_t count)
 {
     (void)self;
@@ -983,8 +987,8 @@ static PyObject *date_times_from_nanoseconds(PyObject *self, PyObject *const *wo
 }
 
 /* The nanoseconds from 1970-01-01 0:00 UTC of each date-time, up to the first that muxandu_timestamp_from_date_time
- * or muxandu_timestamp_to_nanoseconds refuses. Refused BUFFER, with nothing written, where 'out' has fewer items
- * than 'date_times'. */
+ * or muxandu_timestamp_to_nanoseconds rejects. Errors: BUFFER if 'out' has fewer items than 'date_times' (the call
+ * then writes nothing), else that of the first rejected item. */
 static PyObject *nanoseconds_from_date_times(PyObject *self, PyObject *const *words, Py_ssize_t count)
 {
     (void)self;
@@ -1004,9 +1008,9 @@ static PyObject *nanoseconds_from_date_times(PyObject *self, PyObject *const *wo
     return answer;
 }
 
-/* The date-time and the offset of each text of RFC 3339, up to the first that muxandu_date_time_from_rfc3339
- * refuses, or SPAN, whose span does not lie in the block 'texts'. Refused BUFFER, with nothing written, where 'out'
- * has fewer items than 'spans'. */
+/* The date-time and the offset in each text of RFC 3339, up to the first that muxandu_date_time_from_rfc3339
+ * rejects. A span outside the block 'texts' fails with SPAN. Errors: BUFFER if 'out' has fewer items than 'spans'
+ * (the call then writes nothing), else that of the first rejected item. */
 static PyObject *date_times_from_rfc3339(PyObject *self, PyObject *const *words, Py_ssize_t count)
 {
     (void)self;
@@ -1029,10 +1033,10 @@ static PyObject *date_times_from_rfc3339(PyObject *self, PyObject *const *words,
     return answer;
 }
 
-/* The date-time and the offset of each text of RFC 3339, and its status, as muxandu_date_time_from_rfc3339 has them,
- * or SPAN where a span does not lie in the block 'texts': where an item is refused, what is in its place stays, and
- * the next follows. 'count' is how many were read. Refused BUFFER, with nothing written, where 'out' or 'statuses'
- * has fewer items than 'spans'. */
+/* The date-time and the offset in each text of RFC 3339, and the status of muxandu_date_time_from_rfc3339 for it.
+ * The status is SPAN for a span outside the block 'texts'. If an item fails, its place in 'out' keeps its contents,
+ * and the call continues with the next. 'count' is the number of converted items. Errors: BUFFER if 'out' or
+ * 'statuses' has fewer items than 'spans'; the call then writes nothing. */
 static PyObject *date_times_from_each_rfc3339(PyObject *self, PyObject *const *words, Py_ssize_t count)
 {
     (void)self;
@@ -1058,9 +1062,10 @@ static PyObject *date_times_from_each_rfc3339(PyObject *self, PyObject *const *w
     return answer;
 }
 
-/* Writes the text of each date-time into the block 'texts', one behind the other with nothing between, and where it
- * lies to 'spans', up to the first that muxandu_date_time_to_rfc3339 refuses, also BUFFER where what is left of
- * 'texts' is too short. Refused BUFFER, with nothing written, where 'spans' has fewer items than 'date_times'. */
+/* Writes the text of each date-time into the block 'texts', one after the other with nothing between, and its place
+ * to 'spans'. It stops at the first that muxandu_date_time_to_rfc3339 rejects, with BUFFER if the rest of 'texts' is
+ * too short. Errors: BUFFER if 'spans' has fewer items than 'date_times' (the call then writes nothing), else that
+ * of the first rejected item. */
 static PyObject *date_times_to_rfc3339(PyObject *self, PyObject *const *words, Py_ssize_t count)
 {
     (void)self;
@@ -1083,12 +1088,16 @@ static PyObject *date_times_to_rfc3339(PyObject *self, PyObject *const *words, P
     return answer;
 }
 
-/* Writes the text of a date-time, as '1970-01-01 0:00:00.0 +00:00:00', of at most 42 bytes, all ASCII and none 0, at
- * the front of 'buffer', and its length to 'size'. Refused as the date-time, then BUFFER where it is longer than
- * 'buffer': then 'size' says how long it is, and 'buffer' is as it was. */
+/* Writes the text of a date-time, such as '1970-01-01 0:00:00.0 +00:00:00', to the front of 'buffer', and its length
+ * to 'size'. The text has at most 42 bytes, all ASCII and none 0. Its form is '[sign]year-month-day
+ * hour:minute:second.fraction sign hours:minutes:seconds', with no blank after the last sign. The year has four to
+ * six digits, with '-' before it below 0, and '+' above 9999. The hour has one digit below 10. The fraction has one
+ * to nine digits, and ends with 0 only if it is '0'. Each other number has two digits. The offset has '-' below 0,
+ * else '+'. Errors, in this order: those of the date-time, BUFFER if the text is longer than 'buffer'; 'size' is
+ * then its length, and 'buffer' is unchanged. */
 static PyObject *date_time_text(PyObject *self, PyObject *const *words, Py_ssize_t count)
 {
-    char text[MUXANDU_TEXT_ROOM];
+    char text[42];
     size_t size;
     uint32_t status;
     (void)words;
@@ -1097,11 +1106,11 @@ static PyObject *date_time_text(PyObject *self, PyObject *const *words, Py_ssize
     return status ? refuse(status) : PyUnicode_DecodeASCII(text, (Py_ssize_t)size, NULL);
 }
 
-/* Writes the text of a timestamp, the signed decimal of its seconds, as '-0.5', of at most 25 bytes, as
- * muxandu_date_time_text does. Refused as the timestamp, then BUFFER. */
+/* Writes the seconds of a timestamp as a signed decimal, such as '-0.5', in at most 25 bytes, as
+ * muxandu_date_time_text does. Errors, in this order: those of the timestamp, BUFFER. */
 static PyObject *timestamp_text(PyObject *self, PyObject *const *words, Py_ssize_t count)
 {
-    char text[MUXANDU_TEXT_ROOM];
+    char text[25];
     size_t size;
     uint32_t status;
     (void)words;
@@ -1137,46 +1146,46 @@ static PyMemberDef Duration_members[] = {
 static PyMethodDef Timestamp_methods[] = {
     {"from_rfc3339", FUNCTION(timestamp_from_rfc3339), METH_FASTCALL | METH_CLASS,
      "from_rfc3339($type, text, /)\n--\n\n"
-     "The instant of a text of RFC 3339, as 1985-04-12T23:20:50.52Z or 1996-12-19T16:39:57-08:00, a str or bytes. Digits past the ninth of the fraction are dropped. RefusedSyntax where the text does not have that form, else the class of the first part that is out of range, as RefusedMonth."},
+     "The instant of a text of RFC 3339, as 1985-04-12T23:20:50.52Z or 1996-12-19T16:39:57-08:00, a str or bytes. Digits past the ninth of the fraction drop out. RefusedSyntax if the text has another form, else the class of the first part that is out of range, such as RefusedMonth."},
     {"from_milliseconds", FUNCTION(timestamp_from_milliseconds), METH_FASTCALL | METH_CLASS,
      "from_milliseconds($type, milliseconds, /)\n--\n\n"
-     "The instant that is a number of milliseconds from 1970-01-01 0:00 UTC. RefusedTimestamp outside the range."},
+     "The instant of a number of milliseconds from 1970-01-01 0:00 UTC. RefusedTimestamp if out of range."},
     {"_from_microseconds", FUNCTION(timestamp_from_microseconds), METH_FASTCALL | METH_CLASS,
      "_from_microseconds($type, microseconds, /)\n--\n\n"
-     "The instant so many microseconds from 1970-01-01 0:00 UTC. It is always in the range."},
+     "The instant of a number of microseconds from 1970-01-01 0:00 UTC. It is always in range."},
     {"_from_nanoseconds", FUNCTION(timestamp_from_nanoseconds), METH_FASTCALL | METH_CLASS,
      "_from_nanoseconds($type, nanoseconds, /)\n--\n\n"
-     "The instant so many nanoseconds from 1970-01-01 0:00 UTC. It is always in the range."},
+     "The instant of a number of nanoseconds from 1970-01-01 0:00 UTC. It is always in range."},
     {"as_milliseconds", FUNCTION(timestamp_to_milliseconds), METH_FASTCALL,
      "as_milliseconds($self, /)\n--\n\n"
      "The milliseconds from 1970-01-01 0:00 UTC, rounded down."},
     {"_as_microseconds", FUNCTION(timestamp_to_microseconds), METH_FASTCALL,
      "_as_microseconds($self, /)\n--\n\n"
-     "The whole microseconds from 1970-01-01 0:00 UTC, rounded down. Refused as the timestamp, then RESULT where 64 bits do not hold them, as before -290308-12-21 and after 294247-01-10."},
+     "The whole microseconds from 1970-01-01 0:00 UTC, rounded down. They fit in 64 bits from -290308-12-21 to 294247-01-10. Errors, in this order: those of the timestamp, RESULT if they do not fit."},
     {"_as_nanoseconds", FUNCTION(timestamp_to_nanoseconds), METH_FASTCALL,
      "_as_nanoseconds($self, /)\n--\n\n"
-     "The nanoseconds from 1970-01-01 0:00 UTC. Refused as the timestamp, then RESULT where 64 bits do not hold them, as before 1677-09-21 and after 2262-04-11."},
+     "The nanoseconds from 1970-01-01 0:00 UTC. They fit in 64 bits from 1677-09-21 to 2262-04-11. Errors, in this order: those of the timestamp, RESULT if they do not fit."},
     {"saturating_add", FUNCTION(timestamp_saturating_add), METH_FASTCALL,
      "saturating_add($self, duration, /)\n--\n\n"
-     "The instant later by a Duration or a timedelta, or the end of the range. It never raises RefusedResult."},
+     "The instant plus a Duration or a timedelta, or the end of the range. It never raises RefusedResult."},
     {"saturating_sub", FUNCTION(timestamp_saturating_subtract), METH_FASTCALL,
      "saturating_sub($self, duration, /)\n--\n\n"
-     "The instant earlier by a Duration or a timedelta, or the end of the range. It never raises RefusedResult."},
+     "The instant minus a Duration or a timedelta, or the end of the range. It never raises RefusedResult."},
     {"truncated_to", FUNCTION(timestamp_truncate), METH_FASTCALL,
      "truncated_to($self, unit, /)\n--\n\n"
-     "The instant rounded down to a Unit in UTC, before 1970 too. RefusedUnit where it is no unit."},
+     "The instant rounded down to a Unit in UTC, also before 1970. RefusedUnit if it is no unit."},
     {"with_part", FUNCTION(timestamp_replace), METH_FASTCALL,
      "with_part($self, part, value, /)\n--\n\n"
-     "The instant with one Part of its date or time of day in UTC replaced. RefusedUnit where it is no part, else the class of the part, as RefusedHour."},
+     "The instant with one Part of its date or time of day in UTC replaced. RefusedUnit if it is no part, else the class of the part, such as RefusedHour."},
     {"to_offset", FUNCTION(date_time_from_timestamp), METH_FASTCALL,
      "to_offset($self, offset_seconds, /)\n--\n\n"
-     "What clocks at an offset show at the instant. The offset is whole seconds or a UtcOffset. RefusedOffsetSeconds outside -93599 to 93599, RefusedResult where the clocks show a year outside the range."},
+     "The date-time of the instant at an offset, which is an integer of seconds or a UtcOffset. RefusedOffsetSeconds outside -93599 to 93599, RefusedResult if the year there is out of range."},
     {"to_rfc3339", FUNCTION(timestamp_to_rfc3339), METH_FASTCALL,
      "to_rfc3339($self, /)\n--\n\n"
-     "The shortest text of RFC 3339 in UTC, as 1985-04-12T23:20:50.52Z. RefusedNoText outside the years 0 to 9999."},
+     "The shortest text of RFC 3339 in UTC, such as 1985-04-12T23:20:50.52Z. RefusedNoText outside the years 0 to 9999."},
     {"to_rfc3339_nanos", FUNCTION(timestamp_to_rfc3339_nanos), METH_FASTCALL,
      "to_rfc3339_nanos($self, /)\n--\n\n"
-     "The text of RFC 3339 in UTC with nine digits of the fraction, as 1985-04-12T23:20:50.520000000Z. Such texts sort by their instants. RefusedNoText outside the years 0 to 9999."},
+     "The text of RFC 3339 in UTC with nine digits of the fraction, such as 1985-04-12T23:20:50.520000000Z. Such texts sort by their instants. RefusedNoText outside the years 0 to 9999."},
     MORE_METHODS_OF_Timestamp
     {0}
 };
@@ -1184,40 +1193,40 @@ static PyMethodDef Timestamp_methods[] = {
 static PyMethodDef OffsetDateTime_methods[] = {
     {"from_rfc3339", FUNCTION(date_time_from_rfc3339), METH_FASTCALL | METH_CLASS,
      "from_rfc3339($type, text, /)\n--\n\n"
-     "The date-time and its offset of a text of RFC 3339, as 1985-04-12T23:20:50.52Z or 1996-12-19T16:39:57-08:00, a str or bytes. Digits past the ninth of the fraction are dropped. RefusedSyntax where the text does not have that form, else the class of the first part that is out of range, as RefusedMonth."},
+     "The date-time and its offset of a text of RFC 3339, as 1985-04-12T23:20:50.52Z or 1996-12-19T16:39:57-08:00, a str or bytes. Digits past the ninth of the fraction drop out. RefusedSyntax if the text has another form, else the class of the first part that is out of range, such as RefusedMonth."},
     {"from_rfc3339_front", FUNCTION(date_time_from_rfc3339_front), METH_FASTCALL | METH_CLASS,
      "from_rfc3339_front($type, text, /)\n--\n\n"
      "The date-time at the front of a text, as from_rfc3339 reads it, and the number of its bytes."},
     {"from_rfc3339_leap", FUNCTION(date_time_from_rfc3339_leap), METH_FASTCALL | METH_CLASS,
      "from_rfc3339_leap($type, text, /)\n--\n\n"
-     "The date-time as from_rfc3339 reads it, and 0. A second of 60 is read too, at the end of a month in UTC, where a leap second can be: as the last nanosecond before the next month, and 1. RefusedSecond where it cannot be."},
+     "The date-time as from_rfc3339 reads it, and 0. It also reads a second of 60 at the end of a month in UTC, where a leap second can be: as the last nanosecond before the next month, and 1. RefusedSecond elsewhere."},
     {"saturating_add", FUNCTION(date_time_saturating_add), METH_FASTCALL,
      "saturating_add($self, duration, /)\n--\n\n"
-     "The date-time at the same offset later by a Duration or a timedelta, or the end of the range. It never raises RefusedResult."},
+     "The date-time at the same offset plus a Duration or a timedelta, or the end of the range. It never raises RefusedResult."},
     {"saturating_sub", FUNCTION(date_time_saturating_subtract), METH_FASTCALL,
      "saturating_sub($self, duration, /)\n--\n\n"
-     "The date-time at the same offset earlier by a Duration or a timedelta, or the end of the range. It never raises RefusedResult."},
+     "The date-time at the same offset minus a Duration or a timedelta, or the end of the range. It never raises RefusedResult."},
     {"truncated_to", FUNCTION(date_time_truncate), METH_FASTCALL,
      "truncated_to($self, unit, /)\n--\n\n"
-     "The date-time rounded down to a Unit, as its clocks show it. RefusedUnit where it is no unit."},
+     "The date-time rounded down to a Unit at its own offset. RefusedUnit if it is no unit."},
     {"with_part", FUNCTION(date_time_replace), METH_FASTCALL,
      "with_part($self, part, value, /)\n--\n\n"
-     "The date-time with one Part replaced; a day of the year replaces the month and the day. RefusedUnit where it is no part, else the class of the part, as RefusedHour."},
+     "The date-time with one Part replaced; a day of the year replaces the month and the day. RefusedUnit if it is no part, else the class of the part, such as RefusedHour."},
     {"to_offset", FUNCTION(date_time_to_offset), METH_FASTCALL,
      "to_offset($self, offset_seconds, /)\n--\n\n"
-     "What clocks at another offset show at the same instant. The offset is whole seconds or a UtcOffset. RefusedOffsetSeconds outside -93599 to 93599, RefusedResult where the clocks show a year outside the range."},
+     "The same instant at another offset, which is an integer of seconds or a UtcOffset. RefusedOffsetSeconds outside -93599 to 93599, RefusedResult if the year there is out of range."},
     {"to_timestamp", FUNCTION(timestamp_from_date_time), METH_FASTCALL,
      "to_timestamp($self, /)\n--\n\n"
      "The instant. RefusedResult outside the range of timestamps."},
     {"to_rfc3339", FUNCTION(date_time_to_rfc3339), METH_FASTCALL,
      "to_rfc3339($self, /)\n--\n\n"
-     "The shortest text of RFC 3339, as 1996-12-19T16:39:57-08:00. RefusedNoText outside the years 0 to 9999, and where the offset has seconds or is of 24 hours or more."},
+     "The shortest text of RFC 3339, such as 1996-12-19T16:39:57-08:00. RefusedNoText outside the years 0 to 9999, and if the offset has seconds or is of 24 hours or more."},
     {"to_rfc3339_digits", FUNCTION(date_time_to_rfc3339_digits), METH_FASTCALL,
      "to_rfc3339_digits($self, digits, /)\n--\n\n"
-     "The text of RFC 3339 with 0 to 9 digits of the fraction; further digits are left out. RefusedNoText as to_rfc3339."},
+     "The text of RFC 3339 with 0 to 9 digits of the fraction; it cuts further digits off. RefusedNoText as to_rfc3339."},
     {"day_number", FUNCTION(date_time_day), METH_FASTCALL,
      "day_number($self, /)\n--\n\n"
-     "The days from 1970-01-01 to the date that the clocks show."},
+     "The days from 1970-01-01 to the date at its offset."},
     MORE_METHODS_OF_OffsetDateTime
     {0}
 };
@@ -1249,15 +1258,15 @@ static PyMethodDef functions[] = {
     {"dates_from_days", FUNCTION(dates_from_days), METH_FASTCALL, NULL},
     {"days_from_dates", FUNCTION(days_from_dates), METH_FASTCALL, NULL},
     {"timestamps_from_rfc3339", FUNCTION(timestamps_from_rfc3339), METH_FASTCALL, NULL},
-    {"date_times_from_rfc3339", FUNCTION(date_times_from_rfc3339), METH_FASTCALL, NULL},
-    {"date_times_from_milliseconds", FUNCTION(date_times_from_milliseconds), METH_FASTCALL, NULL},
-    {"date_times_from_microseconds", FUNCTION(date_times_from_microseconds), METH_FASTCALL, NULL},
-    {"date_times_from_nanoseconds", FUNCTION(date_times_from_nanoseconds), METH_FASTCALL, NULL},
-    {"milliseconds_from_date_times", FUNCTION(milliseconds_from_date_times), METH_FASTCALL, NULL},
-    {"microseconds_from_date_times", FUNCTION(microseconds_from_date_times), METH_FASTCALL, NULL},
-    {"nanoseconds_from_date_times", FUNCTION(nanoseconds_from_date_times), METH_FASTCALL, NULL},
     {"date_times_from_each_second", FUNCTION(date_times_from_each_second), METH_FASTCALL, NULL},
     {"seconds_from_each_date_time", FUNCTION(seconds_from_each_date_time), METH_FASTCALL, NULL},
+    {"date_times_from_milliseconds", FUNCTION(date_times_from_milliseconds), METH_FASTCALL, NULL},
+    {"milliseconds_from_date_times", FUNCTION(milliseconds_from_date_times), METH_FASTCALL, NULL},
+    {"date_times_from_microseconds", FUNCTION(date_times_from_microseconds), METH_FASTCALL, NULL},
+    {"microseconds_from_date_times", FUNCTION(microseconds_from_date_times), METH_FASTCALL, NULL},
+    {"date_times_from_nanoseconds", FUNCTION(date_times_from_nanoseconds), METH_FASTCALL, NULL},
+    {"nanoseconds_from_date_times", FUNCTION(nanoseconds_from_date_times), METH_FASTCALL, NULL},
+    {"date_times_from_rfc3339", FUNCTION(date_times_from_rfc3339), METH_FASTCALL, NULL},
     {"date_times_from_each_rfc3339", FUNCTION(date_times_from_each_rfc3339), METH_FASTCALL, NULL},
     {"date_times_to_rfc3339", FUNCTION(date_times_to_rfc3339), METH_FASTCALL, NULL},
     MORE_FUNCTIONS

@@ -127,7 +127,7 @@ TAKE(int64_t, INT64_MIN, INT64_MAX)
 /* The seconds of an offset, which are a whole number or a UtcOffset. */
 static inline int take_offset(PyObject *word, int32_t *out) {
     if (!PyIndex_Check(word)) {
-        PyErr_Format(PyExc_TypeError, "an offset is whole seconds or a UtcOffset, not %R", Py_TYPE(word));
+        PyErr_Format(PyExc_TypeError, "the offset must be an integer of seconds or a UtcOffset, not %R", Py_TYPE(word));
         return 0;
     }
     return take_int32_t(word, out);
@@ -191,7 +191,7 @@ static PyObject *make_Date(PyTypeObject *class, MuxanduDate value, int32_t numbe
 #define TAKE_VALUE(kind, type)                                                                                         \
     static inline int take_##type(PyObject *word, type *out) {                                                         \
         if (!IS_A(kind, word)) {                                                                                       \
-            PyErr_Format(PyExc_TypeError, "a " #kind ", not %R", Py_TYPE(word));                                       \
+            PyErr_Format(PyExc_TypeError, "the argument must be of type " #kind ", not %R", Py_TYPE(word));            \
             return 0;                                                                                                  \
         }                                                                                                              \
         *out = VALUE(kind, word);                                                                                      \
@@ -340,7 +340,7 @@ static int take_MuxanduDuration(PyObject *word, MuxanduDuration *out) {
         return 1;
     }
     if (!is_timedelta(word)) {
-        PyErr_Format(PyExc_TypeError, "a Duration or a datetime.timedelta, not %R", Py_TYPE(word));
+        PyErr_Format(PyExc_TypeError, "the duration must be a Duration or a datetime.timedelta, not %R", Py_TYPE(word));
         return 0;
     }
     return take_attributes(word, out);
@@ -527,7 +527,7 @@ static int is_not_taken(const char *kind, PyObject *named, const char *const *na
                         Py_ssize_t most) {
     PyObject *name, *value;
     Py_ssize_t at = 0, place;
-    PyErr_Format(PyExc_TypeError, "%s() has a name of an odd class", kind);
+    PyErr_Format(PyExc_TypeError, "%s() needs the names of arguments as str", kind);
     while (PyDict_Next(named, &at, &name, &value)) {
         for (place = 0; place < most && PyUnicode_CompareWithASCIIString(name, names[place]); place++) {}
         if (place >= count && place < most) continue;

@@ -3,9 +3,9 @@
 The calendar, the clocks, the sums of instants and the texts of RFC 3339 come from the library muxandu, each function of which is
 proved to meet its contract. Conversions from and to Python's own types, and all of Duration, are tested and not proved.
 
-Timestamp is an instant. OffsetDateTime is the date and time of clocks at an offset from UTC, UtcDateTime that of clocks in UTC,
-PlainDateTime that of no known offset. Date is a day, Time a time of day, Duration a length of time. A refusal of the library is
-raised as a Refused, a ValueError, of a class of its own:
+Timestamp is an instant. OffsetDateTime is a date and time at an offset from UTC, UtcDateTime one in UTC,
+PlainDateTime that of no known offset. Date is a day, Time a time of day, Duration a length of time. An error of the library
+is a Refused, which is a ValueError; each has its class:
 
 >>> from muxandu import Duration, OffsetDateTime, Timestamp
 >>> at = Timestamp.from_rfc3339("2024-02-28T23:30:00-01:00")

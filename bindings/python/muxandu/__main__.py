@@ -1,4 +1,4 @@
-"""What an instant is: python -m muxandu TEXT, a text of RFC 3339, or a Unix second with or without a fraction.
+"""The parts of an instant: python -m muxandu TEXT, a text of RFC 3339, or a Unix second with or without a fraction.
 
 `--version` prints the version of the package, and whether it is compiled or goes through ctypes.
 """
@@ -12,7 +12,7 @@ from ._values import OffsetDateTime
 
 
 def _read(text: str) -> OffsetDateTime:
-    """What clocks show, of a text or of the decimal of a Unix second."""
+    """The date-time of a text, or of the decimal of a Unix second."""
     parts = re.fullmatch(r"([+-]?)(\d+)(?:\.(\d{1,9})\d*)?", text, re.ASCII)
     if parts is None:
         return OffsetDateTime.from_rfc3339(text)

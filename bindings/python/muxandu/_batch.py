@@ -1,7 +1,7 @@
 """Many items in one call.
 
 A call reads a buffer of items, an array.array or a NumPy array, with no copy, or a sequence. It writes to `out`, a buffer of as
-many items or more. Without `out` it returns a new array: of NumPy where it got a NumPy array or a pandas column, else an
+many items or more. Without `out` it returns a new array: of NumPy if it got a NumPy array or a pandas column, else an
 array.array of numbers or a ctypes array of structures.
 
 Calls that read or write seconds or days take an array of NumPy's datetime64 too, of any unit.
@@ -61,7 +61,7 @@ def _is_buffer(items: Any) -> bool:
 
 
 def _as_array(items: Any) -> Any:
-    """What can be an array of NumPy, as a column of pandas can, as that; an array of objects as a list of them."""
+    """The items as an array of NumPy if they can be one, like a column of pandas; an array of objects as a list of them."""
     _missing.refuse_mask(items)
     if not hasattr(items, "__array__"):
         return items
@@ -76,14 +76,14 @@ def _is_like_numpy(items: Any) -> bool:
 
 
 def _test(status: int, count: int, items: Any = None) -> None:
-    """Raises the refusal of a call that converted `count` items, with the next item where these are a list."""
+    """Raises the error of a call that converted `count` items, with the next item if these are a list."""
     if status:
         is_of_item = isinstance(items, (list, tuple)) and count < len(items) and status not in _NOT_OF_ITEMS
         raise REFUSALS[status](count, items[count] if is_of_item else None)
 
 
 class _Items:
-    """A buffer of items of a kind, and where it begins."""
+    """A buffer of items of a kind, and its address."""
 
     def __init__(self, view: memoryview, kind: Any, data: Any) -> None:
         self.count, self.data, self.kind = len(view), data, kind
@@ -91,7 +91,7 @@ class _Items:
         self.end = self.at + self.count * view.itemsize
 
     def is_even(self) -> bool:
-        """Whether it begins where an item may begin."""
+        """Whether its address is aligned for an item."""
         return self.at % ctypes.alignment(self.kind) == 0
 
     def is_apart_from(self, place: _Items) -> bool:
@@ -99,17 +99,16 @@ class _Items:
         return self.end <= place.at or place.end <= self.at
 
     def apart_from(self, *places: _Items) -> Any:
-        """What is read, copied where what is written has a byte in common with it."""
+        """The input, copied if the output has a byte in common with it."""
         return self.data if all(map(self.is_apart_from, places)) else self.copied()
 
     def copied(self) -> bytes:
-        """A copy of the items, which no one can write meanwhile: where a text lies must not change between a test and a
-        read."""
+        """A copy of the items that no other code can write: the place of a text must not change between a test and a read."""
         return memoryview(self.data).tobytes()
 
 
 def _reading(items: Any, kind: Any) -> _Items:
-    """The items as calls take them: where they lie, or copied where they lie apart from each other or where no item begins."""
+    """The items as calls take them: in place, or as a copy if they are not contiguous or not aligned."""
     view = _buffers.row(items)
     if len(view):
         _buffers.of_bytes(view) if kind is ctypes.c_uint8 else _buffers.of_kind(view, kind)
@@ -118,11 +117,11 @@ def _reading(items: Any, kind: Any) -> _Items:
 
 
 def _writing(out: Any, kind: Any) -> _Items:
-    """Where the items of `out` lie."""
+    """The address of the items of `out`."""
     view = _buffers.written(out, kind)
     found = _Items(view, kind, view if len(view) else bytearray())
     if not found.is_even():
-        raise ValueError(f"`out` must begin at a multiple of {ctypes.alignment(kind)} bytes")
+        raise ValueError(f"`out` must be {ctypes.alignment(kind)}-byte aligned: use a new array")
     return found
 
 
@@ -149,7 +148,7 @@ def __getattr__(name: str) -> Any:
 
 
 def _letter(view: memoryview, kind: Any) -> Optional[str]:
-    """The letter of the whole numbers of a buffer that are converted to a kind; None where they are of it, or are none."""
+    """The letter of the integers of a buffer to convert to a kind, or None if they are of that kind or are no integers."""
     fields = _buffers.fields_of(view)
     is_converted = fields and not fields[0].name and fields != _buffers.wanted(kind)
     return _CONVERTED.get(fields[0][2:]) if fields and is_converted else None
@@ -199,7 +198,7 @@ def _structures(values: Any, kind: Any, of: Any, missing: Any = ()) -> Any:
     values = list(values)
     odd = {type(value).__name__ for place, value in enumerate(values) if not isinstance(value, of) and place not in missing}
     if odd:
-        raise TypeError(f"a buffer of structures, or a sequence of {of.__name__}, not of {', '.join(sorted(odd))}")
+        raise TypeError(f"items must be a buffer of structures, or a sequence of {of.__name__}, not of {', '.join(sorted(odd))}")
     names = [name for name, _ in kind._fields_]
     parts = ((0,) * len(names) if place in missing else _parts(value, *names) for place, value in enumerate(values))
     return (kind * len(values))(*parts)
@@ -217,14 +216,13 @@ def _converted(call: Callable[..., tuple[int, int]], items: Any, given: Any, mad
 
 
 def _shown(call: Callable[..., tuple[int, int]], counts: Any, offset_seconds: Any, out: Any, like: Any) -> Any:
-    """What clocks at an offset show at each count of seconds, or of parts of a second."""
+    """The date-time at an offset of each count of seconds, or of parts of a second."""
     items, offset = _numbers(counts, ctypes.c_int64), held(offset_seconds, ctypes.c_int32)
     return _converted(call, items, ctypes.c_int64, MuxanduDateTime, out, like, offset)
 
 
 def _shown_by_parts(call: Callable[..., tuple[int, int]], parts: int, counts: Any, offset_seconds: Any, out: Any) -> Any:
-    """The same of parts of a second of which the range has more than 64 bits hold: where they do not hold all counts, by their
-    seconds and what is left of each."""
+    """The same of parts of a second, whose counts may exceed 64 bits: then by the seconds and the rest of each."""
     found = _loose(counts, ctypes.c_int64)
     if not isinstance(found, list) or all(-(2**63) <= count < 2**63 for count in found):
         return _shown(call, found, offset_seconds, out, counts)
@@ -245,7 +243,7 @@ def _shown_by_parts(call: Callable[..., tuple[int, int]], parts: int, counts: An
 
 
 def date_times_from_seconds(seconds: Numbers, offset_seconds: SupportsIndex = 0, out: Any = None) -> Any:
-    """What clocks at an offset show at each Unix second: items of DateTimeParts, of which OffsetDateTime.from_parts makes
+    """The date-time at an offset of each Unix second: items of DateTimeParts, of which OffsetDateTime.from_parts makes
     values. Of datetime64 also the nanoseconds are kept."""
     if not _datetime64.is_such(seconds):
         return _shown(engine.date_times_from_seconds, seconds, offset_seconds, out, seconds)
@@ -275,7 +273,7 @@ def date_times_from_nanoseconds(nanoseconds: Numbers, offset_seconds: SupportsIn
 
 def seconds_from_date_times(date_times: DateTimes, out: Any = None) -> Any:
     """The Unix second of each date-time, rounded down: of a buffer of DateTimeParts, or of a sequence of OffsetDateTime. An
-    `out` of datetime64 gets what its unit holds of the nanoseconds."""
+    `out` of datetime64 also gets the nanoseconds, as far as its unit has them."""
     items = _structures(date_times, MuxanduDateTime, OffsetDateTime)
     if _datetime64.is_such(out):
         return _datetime64.filled(out, lambda place: seconds_from_date_times(items, place), items, "nanosecond")
@@ -294,20 +292,20 @@ def milliseconds_from_date_times(date_times: DateTimes, out: Any = None) -> Any:
 
 
 def microseconds_from_date_times(date_times: DateTimes, out: Any = None) -> Any:
-    """The microseconds from 1970-01-01 0:00 UTC of each date-time, rounded down. RefusedResult where 64 bits do not hold
-    them."""
+    """The microseconds from 1970-01-01 0:00 UTC of each date-time, rounded down. RefusedResult if they do not fit in 64
+    bits."""
     return _counted(engine.microseconds_from_date_times, date_times, out)
 
 
 def nanoseconds_from_date_times(date_times: DateTimes, out: Any = None) -> Any:
-    """The nanoseconds from 1970-01-01 0:00 UTC of each date-time. RefusedResult where 64 bits do not hold them."""
+    """The nanoseconds from 1970-01-01 0:00 UTC of each date-time. RefusedResult if they do not fit in 64 bits."""
     return _counted(engine.nanoseconds_from_date_times, date_times, out)
 
 
 def _each_converted(
     call: Callable[..., tuple[int, int]], items: Any, given: Any, made: Any, out: Any, statuses: Any, like: Any, *words: int
 ) -> tuple[Any, Any]:
-    """`out` and `statuses`, with what the call makes of each item and why it refuses it, or new arrays."""
+    """`out` and `statuses`, or new arrays, with the result and the status of each item."""
     source = _reading(items, given)
     if out is None:
         out = _room(source.count, made, _is_like_numpy(like))
@@ -315,7 +313,7 @@ def _each_converted(
         statuses = _room(source.count, ctypes.c_uint32, _is_like_numpy(like))
     place, told = _writing(out, made), _writing(statuses, ctypes.c_uint32)
     if not place.is_apart_from(told):
-        raise ValueError("`out` and `statuses` must not lie over each other")
+        raise ValueError("`out` and `statuses` must not overlap")
     read = source.apart_from(place, told)
     done, status = call(read, source.count, *words, place.data, place.count, told.data, told.count)
     _test(status, done)
@@ -327,7 +325,7 @@ _NO_SECOND = 2**62
 
 
 def _known_seconds(seconds: Any) -> tuple[Any, Any]:
-    """Seconds with one that is refused in place of each that is missing, and the places of these."""
+    """Seconds, with an invalid one in place of each missing item, and the places of the missing items."""
     seconds, masked = _missing.filled(seconds, _NO_SECOND)
     found = _as_array(seconds)
     if _missing.is_float(found) and found.ndim == 1 and _is_array(found):
@@ -344,9 +342,9 @@ def _known_seconds(seconds: Any) -> tuple[Any, Any]:
 def date_times_from_each_second(
     seconds: NumbersWithGaps, offset_seconds: SupportsIndex = 0, out: Any = None, statuses: Any = None
 ) -> tuple[Any, Any]:
-    """What clocks at an offset show at each Unix second, and the status of each: 0, or the `status` of its refusal, or MISSING
-    of None, NaN, NA, NaT and a masked item. Where an item has a status, its place in `out` stays as it was, and the next
-    follows. Of datetime64 also the nanoseconds are kept."""
+    """The date-time at an offset of each Unix second, and the status of each: 0, or the `status` of its error, or MISSING for
+    None, NaN, NA, NaT and a masked item. An item with a status leaves its place in `out` as it was. datetime64 keeps its
+    nanoseconds."""
     if not _datetime64.is_such(seconds):
         known, missing = _known_seconds(seconds)
         items, offset = _numbers(known, ctypes.c_int64), held(offset_seconds, ctypes.c_int32)
@@ -396,14 +394,14 @@ def days_from_dates(dates: Dates, out: Any = None) -> Any:
 def _sequence(texts: Any) -> Any:
     """The texts, which are no one text."""
     if isinstance(texts, (str, bytes, bytearray, memoryview)):
-        raise TypeError("a sequence of texts, or a block of bytes and the spans of its texts")
+        raise TypeError("texts must be a sequence of texts, or a block of bytes with spans")
     return texts
 
 
 def _of_block(call: Callable[..., tuple[int, int]], block: Any, spans: Any, made: Any, out: Any, like: Any) -> tuple[Any, int]:
-    """`out`, or a new array like another, with what the texts of a block say, and how many there are."""
+    """`out`, or a new array like another, with the values of the texts of a block, and their number."""
     if isinstance(block, str):
-        raise TypeError("a block of bytes, not a str")
+        raise TypeError("a block of texts must be bytes, not a str")
     read, where = _reading(block, ctypes.c_uint8), _reading(spans, MuxanduSpan)
     if out is None:
         out = _room(where.count, made, _is_like_numpy(like))
@@ -429,7 +427,7 @@ def _stamps_of_texts(texts: Any, spans: Any, out: Any) -> tuple[Any, int]:
 def timestamps_from_rfc3339(texts: Texts, spans: Any = None, out: Any = None) -> Any:
     """The instant of each text of RFC 3339: items of TimestampParts.
 
-    The texts are a sequence of str or bytes, or one block of bytes, of which a buffer of Spans says where each text lies.
+    The texts are a sequence of str or bytes, or one block of bytes with a buffer of Spans, the place of each text in it.
     """
     if not _datetime64.is_such(out):
         return _stamps_of_texts(texts, spans, out)[0]
@@ -460,10 +458,10 @@ def rfc3339_from_timestamps(timestamps: Timestamps) -> list[str]:
 
 
 def timestamps_from_datetime64(moments: Any, out: Any = None) -> Any:
-    """The instants of an array of NumPy's datetime64, of any unit: items of TimestampParts. NaT is refused."""
+    """The instants of an array of NumPy's datetime64, of any unit: items of TimestampParts. NaT raises an error."""
     return _datetime64.stamps(moments, _room(len(moments), MuxanduTimestamp, True) if out is None else out)
 
 
 def datetime64_from_timestamps(timestamps: Timestamps, unit: str = "ns") -> Any:
-    """The array of NumPy's datetime64 of instants, rounded down to a unit. RefusedResult where 64 bits do not hold them."""
+    """The array of NumPy's datetime64 of instants, rounded down to a unit. RefusedResult if they do not fit in 64 bits."""
     return _datetime64.of_stamps(_structures(timestamps, MuxanduTimestamp, Timestamp), unit)

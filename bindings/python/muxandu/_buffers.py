@@ -1,4 +1,4 @@
-"""Which memory of a caller holds items of a kind, and which is refused.
+"""Tests of the buffers of callers: whether their items are of a kind.
 
 A kind is a type of ctypes: a whole number, or a structure of whole numbers of muxandu_sys. A buffer is one of its items if
 their names, their places, their sizes, their signs and their byte order are those of the kind.
@@ -26,7 +26,7 @@ _PIECE = re.compile(r"([@=<>!^])|(\d*)x|([a-zA-Z?]):([^:]+):")
 
 
 class Field(NamedTuple):
-    """A number in an item. Where the item is that number, it has no name."""
+    """A number in an item. It has no name if the item is that number."""
 
     name: str
     at: int
@@ -35,8 +35,8 @@ class Field(NamedTuple):
 
 
 def _sign(form: str, size: int) -> Optional[bool]:
-    """Whether the number of a format of one letter has a sign, or None where that is no whole number of this
-    machine and of so many bytes."""
+    """Whether the number of a format of one letter has a sign, or None if that is no integer of this machine with that
+    size."""
     order, letter = (form[0], form[1:]) if len(form) > 1 else ("@", form)
     is_here = order in _ORDERS or size == 1 and order in "<>!"
     if letter not in _NATIVE or size not in (_NATIVE[letter], _STANDARD[letter]) or not is_here:
@@ -45,8 +45,8 @@ def _sign(form: str, size: int) -> Optional[bool]:
 
 
 def _fields_of_structure(structure: Any) -> Optional[tuple[Field, ...]]:
-    """The numbers of a structure of ctypes by what it says of them, or None where it holds something else: its format leaves
-    out what lies between them, and bits."""
+    """The numbers of a structure of ctypes by its fields, or None if it has others. Its format leaves out padding and
+    bits."""
     named = [field for base in reversed(structure.__mro__) for field in vars(base).get("_fields_", ())]
     fields = []
     for name, kind, *bits in named:
@@ -59,7 +59,7 @@ def _fields_of_structure(structure: Any) -> Optional[tuple[Field, ...]]:
 
 
 def _fields_of_format(form: str) -> Optional[tuple[Field, ...]]:
-    """The numbers of the format of a structure, as PEP 3118 has them, or None where it holds something else."""
+    """The numbers of the format of a structure, as PEP 3118 has them, or None if it has other fields."""
     place, order, at = 0, "@", 0
     fields: list[Field] = []
     while place < len(form):
@@ -98,7 +98,7 @@ def _form(structure: Any) -> tuple[str, int]:
 
 
 def fields_of(view: memoryview) -> Optional[tuple[Field, ...]]:
-    """The numbers of an item of a buffer, or None where it holds something else."""
+    """The numbers of an item of a buffer, or None if it has other fields."""
     owner = _owner(view)
     if issubclass(owner, ctypes.Structure) and (view.format, view.itemsize) == _form(owner):
         return _fields_of_structure(owner)
@@ -129,28 +129,28 @@ def row(items: Any) -> memoryview:
     try:
         view = memoryview(items)
     except ValueError as problem:
-        raise TypeError(f"a buffer of whole numbers or of structures, not {type(items).__name__}: {problem}") from None
+        raise TypeError(f"items must be a buffer of integers or structures, not {type(items).__name__}: {problem}") from None
     if view.ndim != 1:
-        raise TypeError(f"one row of items, not an array of {view.ndim} dimensions")
+        raise TypeError(f"items must have one dimension, not {view.ndim}")
     return view
 
 
 def of_kind(view: memoryview, kind: Any) -> None:
-    """Raises TypeError where the items of a buffer are of another kind."""
+    """Raises TypeError if the items of a buffer are of another kind."""
     if view.itemsize != ctypes.sizeof(kind) or fields_of(view) != wanted(kind):
         size = ctypes.sizeof(kind)
         form = f"{view.itemsize} bytes of format {view.format!r}"
-        raise TypeError(f"items of {size} bytes in this machine's order ({_told(wanted(kind))}), not of {form}")
+        raise TypeError(f"items must have {size} bytes in this machine's order ({_told(wanted(kind))}), not {form}")
 
 
 def of_bytes(view: memoryview) -> None:
-    """Raises TypeError where the items of a buffer are no bytes."""
+    """Raises TypeError if the items of a buffer are no bytes."""
     if view.itemsize != 1 or view.format.lstrip("@=<>!") not in ("B", "b", "c"):
-        raise TypeError(f"bytes, not items of format {view.format!r}")
+        raise TypeError(f"items must be bytes, not of format {view.format!r}")
 
 
 def side_by_side(view: memoryview) -> Union[memoryview, bytes]:
-    """The buffer, or a copy of its items where other memory lies between them."""
+    """The buffer, or a copy of its items if they are not contiguous."""
     return view if view.c_contiguous else view.tobytes()
 
 
@@ -161,7 +161,7 @@ def written(out: Any, kind: Any) -> memoryview:
     if len(view) or view.itemsize:
         of_kind(view, kind)
     if view.readonly:
-        raise TypeError("`out` cannot be written")
+        raise TypeError("`out` must be writable")
     if len(view) and not view.c_contiguous:
-        raise TypeError("`out` must have its items side by side")
+        raise TypeError("`out` must be contiguous")
     return view

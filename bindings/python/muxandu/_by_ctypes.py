@@ -1,4 +1,4 @@
-"""What the extension has, through ctypes: values of structures, and their calls by the tables of `_methods`."""
+"""The types and calls of the extension, through ctypes: values of structures, and calls by the tables of `_methods`."""
 
 from __future__ import annotations
 
@@ -26,7 +26,7 @@ _POINTER: Any = ctypes._Pointer
 
 
 def bind(timestamp: Any, date_time: Any, duration: Any, date: Any, refusals: dict[int, Any], *_: Any) -> None:
-    """Says which classes are made, and which refusals are raised."""
+    """Sets the classes to make and the errors to raise."""
     _classes.update(Timestamp=timestamp, OffsetDateTime=date_time, Duration=duration, Date=date)
     _refusals.update(refusals)
 
@@ -37,23 +37,23 @@ def _test(status: int) -> None:
 
 
 def _refused(status: int, name: str, words: tuple[Any, ...], text: Any = None) -> Any:
-    """The refusal of a call, with the word that it is of where that is known."""
+    """The error of a call, with the argument at fault if it is known."""
     if text is not None:
-        is_at_fault = status == muxandu_sys.Refused.SYNTAX and not name.startswith("date_from")
+        is_at_fault = status == muxandu_sys.Refused.SYNTAX and name not in _methods.WITHOUT_FAULT
         return _refusals[status](None, words[0], library.muxandu_rfc3339_fault(text, len(text)) if is_at_fault else None)
     place = PLACES.get(name, {}).get(status)
     return _refusals[status]() if place is None else _refusals[status](None, words[place])
 
 
 def _of(kind: Any, answer: Any) -> Any:
-    """The value of what the library wrote."""
+    """The value of a structure that the library wrote."""
     value = object.__new__(kind)
     value._parts = answer
     return value
 
 
 class _Call:
-    """A call, as the extension has it: which words it takes, and what it gives."""
+    """A call, as the extension has it: its arguments and its result."""
 
     def __init__(self, name: str) -> None:
         self.name, self.call = name, getattr(library, f"muxandu_{name}")
@@ -102,7 +102,7 @@ class _Call:
         return taken
 
     def _given(self, answer: Any, of: Any) -> Any:
-        """The answer as Python has it; a value of the class that asks, where it is of that kind."""
+        """The result as a Python value; a value of the class that calls, if it is of that kind."""
         name = _methods.STRUCTURES.get(type(answer).__name__)
         if name:
             return _of(of if issubclass(of, globals()[name]) else _classes[name], answer)
@@ -148,7 +148,7 @@ def _function(name: str) -> Callable[..., Any]:
 
 
 def _is(word: Any, kinds: Any) -> bool:
-    """Whether a value is of a class, whatever it tells."""
+    """Whether a value is of a class, by its type alone."""
     return issubclass(type(word), kinds)
 
 
@@ -163,12 +163,13 @@ def _parts_of(word: Any, kind: Any) -> Any:
         return word._parts
     if wanted is Duration and _is(word, datetime.timedelta):
         return Duration(whole(word.days) * 86_400 + whole(word.seconds), nanoseconds_of(word))._parts
-    what = "a Duration or a datetime.timedelta" if wanted is Duration else f"a {wanted.__name__}"
-    raise TypeError(f"{what}, not {type(word)!r}")
+    if wanted is Duration:
+        raise TypeError(f"the duration must be a Duration or a datetime.timedelta, not {type(word)!r}")
+    raise TypeError(f"the argument must be of type {wanted.__name__}, not {type(word)!r}")
 
 
 def _with_fields(structure: Any) -> Callable[[Any], Any]:
-    """Gives a class the numbers of its structure as attributes."""
+    """Adds the numbers of its structure to a class as attributes."""
 
     def gives(kind: Any) -> Any:
         for name, _ in structure._fields_:
@@ -179,7 +180,7 @@ def _with_fields(structure: Any) -> Callable[[Any], Any]:
 
 
 class _Moment:
-    """What instants and date-times share: sums and differences, and comparisons by their instants."""
+    """The operations of instants and date-times: sums, differences, and comparisons by their instants."""
 
     __slots__ = ("_parts",)
     # NumPy takes a class for one of ctypes where the module of its base is named so.
@@ -233,7 +234,7 @@ class _Moment:
 
 
 def _shown(moment: Any) -> Any:
-    """What clocks in UTC show at an instant; a date-time is itself."""
+    """The date-time of an instant in UTC; a date-time is itself."""
     return moment.to_offset(0) if _is(moment, Timestamp) else moment
 
 
@@ -377,7 +378,7 @@ class Date:
 
 
 def address(buffer: Any) -> int:
-    """Where the items of a buffer begin; 0 of one that cannot be written, which calls get a copy of."""
+    """The address of the items of a buffer, or 0 for a read-only one, of which calls get a copy."""
     view = memoryview(buffer)
     return 0 if view.readonly or not view.nbytes else ctypes.addressof(ctypes.c_char.from_buffer(view))
 
@@ -408,7 +409,7 @@ def _batch(name: str) -> Callable[..., tuple[int, int]]:
 
 
 def timestamps_from_texts(texts: list[Any], out: Any, room: int) -> tuple[int, int]:
-    """The instants of the texts of a list, written to a buffer: how many, and why the next is refused."""
+    """Writes the instants of the texts of a list to a buffer. Returns their number, and the status of the next."""
     block, spans = joined(texts)
     call = globals()["timestamps_from_rfc3339"]
     answer: tuple[int, int] = call(block, len(block), spans, len(texts), out, room)
@@ -416,7 +417,7 @@ def timestamps_from_texts(texts: list[Any], out: Any, room: int) -> tuple[int, i
 
 
 def texts_from_timestamps(items: Any, count: int) -> tuple[list[str], int]:
-    """A list of the texts of the timestamps of a buffer, up to the first that is refused, and why that is."""
+    """A list of the texts of the timestamps of a buffer, up to the first that fails, and the status of that one."""
     stamps: Any = (muxandu_sys.MuxanduTimestamp * count).from_buffer_copy(items) if count else ()
     place, size = ctypes.create_string_buffer(muxandu_sys.TEXT_ROOM), ctypes.c_size_t()
     texts: list[str] = []
@@ -433,7 +434,8 @@ for _kind, _calls in _methods.METHODS.items():
         setattr(globals()[_kind], _name, _method(_kind, _name, _call))
 for _name in _methods.FUNCTIONS:
     globals()[_name] = _function(_name)
-for _name in _methods.BATCHES:
-    globals()[_name] = _batch(_name)
+for _name, _declared in _CALLS.items():
+    if _declared[1] is muxandu_sys.MuxanduBatch:
+        globals()[_name.removeprefix("muxandu_")] = _batch(_name.removeprefix("muxandu_"))
 
 _EPOCH = OffsetDateTime(1970, 1, 1)

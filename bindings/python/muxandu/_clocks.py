@@ -1,6 +1,6 @@
-"""Date-times with no offset of their own: what clocks show somewhere, and what clocks in UTC show.
+"""Date-times without an offset: a wall clock somewhere, and a wall clock in UTC.
 
-Each holds the date-time at the offset 0 that shows the same, whose calls the library answers.
+Each wraps the date-time at the offset 0 with the same parts, and calls the library with it.
 """
 
 from __future__ import annotations
@@ -17,7 +17,7 @@ _Self = TypeVar("_Self", bound="_Clock")
 
 
 class _Clock:
-    """What both share."""
+    """The part that both share."""
 
     __slots__ = ("_at",)
     _at: OffsetDateTime
@@ -39,7 +39,7 @@ class _Clock:
 
     @classmethod
     def from_text(cls: type[_Self], text: str) -> _Self:
-        """The value that str() writes so. RefusedSyntax of another text."""
+        """The value whose str() is this text. RefusedSyntax for another text."""
         return _own_texts.read(cls._kind.__name__, text, lambda *parts: cls(*_own_texts.numbers(*parts)))
 
     @classmethod
@@ -142,7 +142,7 @@ class _Clock:
         return self._shown_by(self._at - other) if _is_length(other) else NotImplemented
 
     def _other(self, other: object) -> Any:
-        """The date-time that another is compared by, or None where it is of another kind."""
+        """The date-time to compare with, or None if the other is of another kind."""
         return other._at if isinstance(other, self._kind) else None
 
     def __eq__(self, other: object) -> Any:
@@ -179,7 +179,7 @@ class _Clock:
 
 
 class PlainDateTime(_Clock):
-    """What clocks show, of no known offset. Its text is as 1970-01-01 0:00:00.0."""
+    """A wall clock without a known offset. Its text is as 1970-01-01 0:00:00.0."""
 
     __slots__ = ()
 
@@ -188,9 +188,9 @@ class PlainDateTime(_Clock):
 
     @classmethod
     def from_datetime(cls: type[_Self], at: datetime.datetime) -> _Self:
-        """What a datetime.datetime shows that has no offset."""
+        """The wall clock of a datetime.datetime without an offset."""
         if at.utcoffset() is not None:
-            raise ValueError("a datetime with no offset")
+            raise ValueError("the datetime must have no offset: use OffsetDateTime.from_datetime")
         return cls(at.year, at.month, at.day, at.hour, at.minute, at.second, nanosecond_of(at))
 
     def to_datetime(self) -> datetime.datetime:
@@ -210,7 +210,7 @@ class PlainDateTime(_Clock):
 
 
 class UtcDateTime(_Clock):
-    """What clocks in UTC show. It compares with OffsetDateTime by the instant. Its text is as 1970-01-01 0:00:00.0 +00."""
+    """A date-time in UTC. It compares with OffsetDateTime by the instant. Its text is as 1970-01-01 0:00:00.0 +00."""
 
     __slots__ = ()
 
@@ -220,17 +220,17 @@ class UtcDateTime(_Clock):
 
     @classmethod
     def now(cls: type[_Self]) -> _Self:
-        """What clocks in UTC show now, by the clock of the system."""
+        """The date-time in UTC now, by the clock of the system."""
         return cls._shown_by(Timestamp.now().to_offset(0))
 
     @classmethod
     def from_rfc3339(cls: type[_Self], text: Union[str, bytes]) -> _Self:
-        """What clocks in UTC show at the instant of a text of RFC 3339."""
+        """The date-time in UTC of a text of RFC 3339."""
         return cls._shown_by(OffsetDateTime.from_rfc3339(text).to_offset(0))
 
     @classmethod
     def from_datetime(cls: type[_Self], at: datetime.datetime) -> _Self:
-        """What clocks in UTC show at the instant of a datetime.datetime that has an offset."""
+        """The date-time in UTC of a datetime.datetime with an offset."""
         return cls._shown_by(OffsetDateTime.from_datetime(at).to_offset(0))
 
     def to_datetime(self) -> datetime.datetime:
@@ -238,7 +238,7 @@ class UtcDateTime(_Clock):
         return _datetime(self, datetime.timezone.utc)
 
     def to_rfc3339(self) -> str:
-        """The shortest text of RFC 3339. RefusedNoText where there is none."""
+        """The shortest text of RFC 3339. RefusedNoText if there is none."""
         return self._at.to_rfc3339()
 
     def to_timestamp(self) -> Timestamp:
@@ -246,7 +246,7 @@ class UtcDateTime(_Clock):
         return self._at.to_timestamp()
 
     def to_offset(self, offset_seconds: SupportsIndex) -> OffsetDateTime:
-        """What clocks at an offset show at the same instant."""
+        """The date-time at an offset of the same instant."""
         return self._at.to_offset(offset_seconds)
 
     def offset(self) -> UtcOffset:
@@ -254,7 +254,7 @@ class UtcDateTime(_Clock):
         return UtcOffset.UTC
 
     def date_time(self) -> PlainDateTime:
-        """What the clocks show, without the offset."""
+        """The wall clock, without the offset."""
         return PlainDateTime._shown_by(self._at)
 
     def __rsub__(self, other: Any) -> Any:

@@ -19,7 +19,7 @@ _BEYOND = 2**62
 
 
 def is_such(items: Any) -> bool:
-    """Whether these are an array of datetime64, or a column of pandas of such."""
+    """Whether these are an array of datetime64, or a pandas column of it."""
     return getattr(getattr(items, "dtype", None), "kind", "") == "M"
 
 
@@ -42,12 +42,12 @@ def _unit_of_row(moments: Any) -> tuple[str, int]:
     import numpy
 
     if moments.dtype.kind != "M":
-        raise TypeError(f"datetime64, not {moments.dtype}")
+        raise TypeError(f"items must be datetime64, not {moments.dtype}")
     if moments.ndim != 1:
-        raise TypeError(f"one row of datetime64, not an array of {moments.ndim} dimensions")
+        raise TypeError(f"items must have one dimension, not {moments.ndim}")
     unit, many = numpy.datetime_data(moments.dtype)
     if unit == "generic":
-        raise TypeError("datetime64 of a unit, and not of none")
+        raise TypeError("datetime64 needs a unit, such as datetime64[ns]")
     return unit, many
 
 
@@ -59,27 +59,27 @@ def missing(moments: Any) -> Any:
 
 
 def counts_of_parts(moments: Any) -> tuple[Any, str]:
-    """The whole numbers of the moments and their unit, as calls over parts of a second take them; the unit is empty where
-    one is some of that, or where one is no time at all, which calls do not know."""
+    """The integers of the moments and their unit, as calls over parts of a second take them. The unit is empty if a moment is
+    a multiple of one, or NaT, which calls do not know."""
     counts, unit, many = _counts(moments)
     return counts, unit if many == 1 and not (counts == _NONE).any() else ""
 
 
 def _test_out(out: Any) -> None:
-    """Raises TypeError where results cannot be written to an `out` of datetime64."""
+    """Raises TypeError if a call cannot write results to an `out` of datetime64."""
     import numpy
 
     if not isinstance(out, numpy.ndarray):
-        raise TypeError(f"an `out` of datetime64 is an array of NumPy, not {type(out).__name__}")
+        raise TypeError(f"`out` must be a NumPy array of datetime64, not {type(out).__name__}")
     _unit_of_row(out)
     refuse_mask(out)
     if not out.flags.writeable:
-        raise TypeError("`out` cannot be written")
+        raise TypeError("`out` must be writable")
 
 
 def _of_months(counts: Any, unit: str, many: int) -> Any:
-    """The seconds at which years or months begin, as the library has their dates; a second that each call refuses for those
-    outside its years."""
+    """The seconds at which years or months begin, by the dates of the library; an invalid second for those outside its
+    years."""
     import numpy
 
     from ._batch import days_from_dates
@@ -96,8 +96,8 @@ def _of_months(counts: Any, unit: str, many: int) -> Any:
 
 
 def split(moments: Any) -> tuple[Any, Any]:
-    """The Unix second of each moment, rounded down, and its nanoseconds. What 64 bits do not hold, and NaT, becomes a second
-    that each call refuses."""
+    """The Unix second of each moment, rounded down, and its nanoseconds. A second past 64 bits, and NaT, becomes an invalid
+    second."""
     import numpy
 
     counts, unit, many = _counts(moments)
@@ -117,7 +117,7 @@ def split(moments: Any) -> tuple[Any, Any]:
 
 
 def with_nanoseconds(out: Any, nanoseconds: Any, convert: Callable[[], Any]) -> Any:
-    """`out`, converted, with these nanoseconds in it up to the first that is refused."""
+    """`out`, converted, with these nanoseconds in it up to the first that fails."""
     import numpy
 
     refusal, done = None, len(nanoseconds)
@@ -133,7 +133,7 @@ def with_nanoseconds(out: Any, nanoseconds: Any, convert: Callable[[], Any]) -> 
 
 
 def put_nanoseconds(out: Any, nanoseconds: Any, statuses: Any) -> None:
-    """Writes these nanoseconds to the date-times of `out` that are not refused."""
+    """Writes these nanoseconds to the valid date-times of `out`."""
     import numpy
 
     if len(nanoseconds):
@@ -153,7 +153,7 @@ def _items(buffer: Any, kind: Any) -> Any:
 
 
 def _first(is_such: Any) -> int:
-    """The place of the first that is such, or how many there are."""
+    """The index of the first that is true, or their number."""
     return int(is_such.argmax()) if is_such.any() else len(is_such)
 
 
@@ -178,7 +178,7 @@ def stamps(moments: Any, out: Any) -> Any:
 
 
 def _exact(seconds: Any, nanoseconds: Any, unit: str, many: int) -> Any:
-    """Moments as whole units, rounded down: in 64 bits where they hold all, else in whole numbers of any size."""
+    """Moments as whole units, rounded down: in 64 bits if all fit, else as integers of any size."""
     import numpy
 
     if unit in _SECONDS:
@@ -203,7 +203,7 @@ def _months(seconds: Any, unit: str, many: int) -> Any:
 
 
 def _put(out: Any, seconds: Any, nanoseconds: Any) -> None:
-    """Writes moments as the unit of `out` has them, rounded down, up to the first that 64 bits do not hold."""
+    """Writes moments in the unit of `out`, rounded down, up to the first that does not fit in 64 bits."""
     import numpy
 
     unit, many = numpy.datetime_data(out.dtype)
@@ -218,7 +218,7 @@ def _put(out: Any, seconds: Any, nanoseconds: Any) -> None:
 
 
 def filled(out: Any, convert: Callable[[Any], Any], items: Any, name: str = "", days: bool = False) -> Any:
-    """`out`, with what a conversion gives, up to the first that is refused."""
+    """`out`, with the results of a conversion, up to the first that fails."""
     import numpy
 
     _test_out(out)
@@ -238,7 +238,7 @@ def filled(out: Any, convert: Callable[[Any], Any], items: Any, name: str = "", 
 
 
 def filled_by_stamps(out: Any, place: Any, convert: Callable[[], int]) -> Any:
-    """`out`, with as many instants as a conversion writes to a place, up to the first that is refused."""
+    """`out`, with the instants of a conversion, up to the first that fails."""
     _test_out(out)
     refusal = None
     try:
@@ -259,11 +259,11 @@ def _dtype(unit: str) -> Any:
         return numpy.dtype(f"datetime64[{unit}]")
     except TypeError:
         units = ", ".join(("Y", "M", *_SECONDS, *_PARTS))
-        raise TypeError(f"a unit of datetime64 is one of {units}, with or without a count before it, not {unit!r}") from None
+        raise TypeError(f"a unit of datetime64 must be one of {units}, with or without a count before it, not {unit!r}") from None
 
 
 def of_stamps(items: Any, unit: str) -> Any:
-    """An array of datetime64 of instants, up to the first that is refused."""
+    """An array of datetime64 of instants, up to the first that fails."""
     import numpy
 
     from ._values import Timestamp

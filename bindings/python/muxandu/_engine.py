@@ -1,7 +1,7 @@
-"""The library: through the extension where that was built, and else through ctypes.
+"""The library: through the extension if it was built, else through ctypes.
 
 The variable MUXANDU_IMPLEMENTATION asks for one of the two, `extension` or `ctypes`, and MUXANDU_LIBRARY, which names a shared
-library, for ctypes. Where neither is set and this Python could have the extension, a RuntimeWarning says why it is not used.
+library, for ctypes. If neither is set and this Python could have the extension, a RuntimeWarning gives the reason.
 """
 
 from __future__ import annotations
@@ -29,7 +29,7 @@ REASON = ""
 
 
 def _why_not(problem: ImportError) -> str:
-    """Why the extension is not imported, and what helps; nothing on a Python that can have none."""
+    """The reason why the extension is not imported, and the remedy; an empty text on a Python that can have none."""
     if sys.implementation.name != "cpython" or sys.version_info < (3, 11):
         return ""
     if isinstance(problem, ModuleNotFoundError):

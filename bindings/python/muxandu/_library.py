@@ -1,4 +1,4 @@
-"""The shared library through ctypes: where it is, and how it is loaded."""
+"""The shared library through ctypes: finds and loads it."""
 
 from __future__ import annotations
 
@@ -21,11 +21,11 @@ def _path() -> Path:
     for place in (here / NAME, here.parent.parent.parent / "dist" / "lib" / NAME):
         if place.is_file():
             return place
-    raise ImportError(f"{NAME} is not there: build it with ./build-library, or name it in MUXANDU_LIBRARY")
+    raise ImportError(f"cannot find {NAME}: build it with ./build-library, or name it in MUXANDU_LIBRARY")
 
 
 def _answers(loaded: Any) -> bool:
-    """Whether a library answers as these declarations have it: a structure in and out, a refusal, and a text."""
+    """Whether a library is of these declarations: a structure in and out, an error, and a text."""
     at, number, size = muxandu_sys.MuxanduDateTime(2024, 2, 29, 12, 34, 56, 789, 60), ctypes.c_int32(), ctypes.c_size_t()
     place = ctypes.create_string_buffer(muxandu_sys.TEXT_ROOM)
     statuses = [
@@ -43,9 +43,9 @@ def _loaded() -> Any:
     try:
         found = declare(ctypes.CDLL(str(path)))
     except (OSError, AttributeError) as problem:
-        raise ImportError(f"{path} is no library of these declarations: {problem}") from problem
+        raise ImportError(f"cannot load {path}: {problem}: build it with ./build-library of this version") from problem
     if found.muxandu_version() < muxandu_sys.VERSION or not _answers(found):
-        raise ImportError(f"{path} does not answer as these declarations have it: it is of another version")
+        raise ImportError(f"{path} is of another version than this package: build it with ./build-library of this version")
     return found
 
 

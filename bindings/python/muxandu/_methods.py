@@ -42,7 +42,7 @@ METHODS = {
     },
 }
 
-# What operators, comparisons, texts and constructors call.
+# The calls of operators, comparisons, texts and constructors.
 OPERATORS = {
     "Timestamp": {
         "check": "timestamp_check",
@@ -63,7 +63,8 @@ OPERATORS = {
     "Date": {"day": "day_from_date", "date": "date_from_day"},
 }
 
-# Calls over numbers alone, which are functions. A structure that no class holds goes in and out as its numbers.
+# Calls over numbers alone, which are functions. A structure that no class holds goes in and out as its numbers. The calls over
+# many items are functions too: each array goes in as its buffer and its count, and out come a count and a status.
 FUNCTIONS = (
     "day_from_date",
     "date_from_day",
@@ -88,26 +89,8 @@ FUNCTIONS = (
     "rfc3339_fault",
 )
 
-# Calls over many items: each array goes in as its buffer and its count, and out come a count and a status. Of each call, the
-# parameters of the header that it writes: tools/python_calls reads the others, and stops at a call with no row here.
-BATCHES = {
-    "date_times_from_seconds": ("out",),
-    "seconds_from_date_times": ("out",),
-    "dates_from_days": ("out",),
-    "days_from_dates": ("out",),
-    "timestamps_from_rfc3339": ("out",),
-    "date_times_from_rfc3339": ("out",),
-    "date_times_from_milliseconds": ("out",),
-    "date_times_from_microseconds": ("out",),
-    "date_times_from_nanoseconds": ("out",),
-    "milliseconds_from_date_times": ("out",),
-    "microseconds_from_date_times": ("out",),
-    "nanoseconds_from_date_times": ("out",),
-    "date_times_from_each_second": ("out", "statuses"),
-    "seconds_from_each_date_time": ("out", "statuses"),
-    "date_times_from_each_rfc3339": ("out", "statuses"),
-    "date_times_to_rfc3339": ("texts", "spans"),
-}
+# The calls that read a text in which muxandu_rfc3339_fault finds no fault: that of a date alone.
+WITHOUT_FAULT = ("date_from_rfc3339",)
 
 # The parameters whose value a refusal is of, by the name of the refusal. The first that a call has is the one.
 REFUSED = {
@@ -134,55 +117,54 @@ REFUSED = {
 
 _RFC3339 = (
     "The {what} of a text of RFC 3339, as 1985-04-12T23:20:50.52Z or 1996-12-19T16:39:57-08:00, a str or bytes. Digits past the "
-    "ninth of the fraction are dropped. RefusedSyntax where the text does not have that form, else the class of the first part "
-    "that is out of range, as RefusedMonth."
+    "ninth of the fraction drop out. RefusedSyntax if the text has another form, else the class of the first part "
+    "that is out of range, such as RefusedMonth."
 )
-_LATER = "The {what} later by a Duration or a timedelta, or the end of the range. It never raises RefusedResult."
-_EARLIER = "The {what} earlier by a Duration or a timedelta, or the end of the range. It never raises RefusedResult."
+_LATER = "The {what} plus a Duration or a timedelta, or the end of the range. It never raises RefusedResult."
+_EARLIER = "The {what} minus a Duration or a timedelta, or the end of the range. It never raises RefusedResult."
 
-# What `help` says of each method. Of another it says what the header says.
+# The texts of `help` for methods. Another method has the comment of the header.
 DOCS = {
     "Timestamp": {
         "from_rfc3339": _RFC3339.format(what="instant"),
-        "from_milliseconds": "The instant that is a number of milliseconds from 1970-01-01 0:00 UTC. RefusedTimestamp outside "
-        "the range.",
+        "from_milliseconds": "The instant of a number of milliseconds from 1970-01-01 0:00 UTC. RefusedTimestamp if out of range.",
         "as_milliseconds": "The milliseconds from 1970-01-01 0:00 UTC, rounded down.",
         "saturating_add": _LATER.format(what="instant"),
         "saturating_sub": _EARLIER.format(what="instant"),
-        "truncated_to": "The instant rounded down to a Unit in UTC, before 1970 too. RefusedUnit where it is no unit.",
-        "with_part": "The instant with one Part of its date or time of day in UTC replaced. RefusedUnit where it is no part, "
-        "else the class of the part, as RefusedHour.",
-        "to_offset": "What clocks at an offset show at the instant. The offset is whole seconds or a UtcOffset. "
-        "RefusedOffsetSeconds outside -93599 to 93599, RefusedResult where the clocks show a year outside the range.",
-        "to_rfc3339": "The shortest text of RFC 3339 in UTC, as 1985-04-12T23:20:50.52Z. RefusedNoText outside the years 0 to "
+        "truncated_to": "The instant rounded down to a Unit in UTC, also before 1970. RefusedUnit if it is no unit.",
+        "with_part": "The instant with one Part of its date or time of day in UTC replaced. RefusedUnit if it is no part, "
+        "else the class of the part, such as RefusedHour.",
+        "to_offset": "The date-time of the instant at an offset, which is an integer of seconds or a UtcOffset. "
+        "RefusedOffsetSeconds outside -93599 to 93599, RefusedResult if the year there is out of range.",
+        "to_rfc3339": "The shortest text of RFC 3339 in UTC, such as 1985-04-12T23:20:50.52Z. RefusedNoText outside the years 0 to "
         "9999.",
-        "to_rfc3339_nanos": "The text of RFC 3339 in UTC with nine digits of the fraction, as 1985-04-12T23:20:50.520000000Z. "
+        "to_rfc3339_nanos": "The text of RFC 3339 in UTC with nine digits of the fraction, such as 1985-04-12T23:20:50.520000000Z. "
         "Such texts sort by their instants. RefusedNoText outside the years 0 to 9999.",
     },
     "OffsetDateTime": {
         "from_rfc3339": _RFC3339.format(what="date-time and its offset"),
         "from_rfc3339_front": "The date-time at the front of a text, as from_rfc3339 reads it, and the number of its bytes.",
-        "from_rfc3339_leap": "The date-time as from_rfc3339 reads it, and 0. A second of 60 is read too, at the end of a month in UTC, "
-        "where a leap second can be: as the last nanosecond before the next month, and 1. RefusedSecond where it cannot be.",
+        "from_rfc3339_leap": "The date-time as from_rfc3339 reads it, and 0. It also reads a second of 60 at the end of a month in UTC, "
+        "where a leap second can be: as the last nanosecond before the next month, and 1. RefusedSecond elsewhere.",
         "saturating_add": _LATER.format(what="date-time at the same offset"),
         "saturating_sub": _EARLIER.format(what="date-time at the same offset"),
-        "truncated_to": "The date-time rounded down to a Unit, as its clocks show it. RefusedUnit where it is no unit.",
-        "with_part": "The date-time with one Part replaced; a day of the year replaces the month and the day. RefusedUnit where "
-        "it is no part, else the class of the part, as RefusedHour.",
-        "to_offset": "What clocks at another offset show at the same instant. The offset is whole seconds or a UtcOffset. "
-        "RefusedOffsetSeconds outside -93599 to 93599, RefusedResult where the clocks show a year outside the range.",
+        "truncated_to": "The date-time rounded down to a Unit at its own offset. RefusedUnit if it is no unit.",
+        "with_part": "The date-time with one Part replaced; a day of the year replaces the month and the day. RefusedUnit if "
+        "it is no part, else the class of the part, such as RefusedHour.",
+        "to_offset": "The same instant at another offset, which is an integer of seconds or a UtcOffset. "
+        "RefusedOffsetSeconds outside -93599 to 93599, RefusedResult if the year there is out of range.",
         "to_timestamp": "The instant. RefusedResult outside the range of timestamps.",
-        "to_rfc3339": "The shortest text of RFC 3339, as 1996-12-19T16:39:57-08:00. RefusedNoText outside the years 0 to 9999, "
-        "and where the offset has seconds or is of 24 hours or more.",
-        "to_rfc3339_digits": "The text of RFC 3339 with 0 to 9 digits of the fraction; further digits are left out. "
+        "to_rfc3339": "The shortest text of RFC 3339, such as 1996-12-19T16:39:57-08:00. RefusedNoText outside the years 0 to 9999, "
+        "and if the offset has seconds or is of 24 hours or more.",
+        "to_rfc3339_digits": "The text of RFC 3339 with 0 to 9 digits of the fraction; it cuts further digits off. "
         "RefusedNoText as to_rfc3339.",
-        "day_number": "The days from 1970-01-01 to the date that the clocks show.",
+        "day_number": "The days from 1970-01-01 to the date at its offset.",
     },
 }
 
 
 def doc(kind: str, method: str, call: str, said: str) -> str:
-    """What `help` says of a method: its own words, or those of the header, with the methods of Python by their names."""
+    """The text of `help` for a method: that of DOCS, or the comment of the header with Python's names of the methods."""
     own = DOCS.get(kind, {}).get(method)
     if own is not None:
         return own

@@ -1,7 +1,7 @@
 """Items that are missing: None, NaN, NA and NaT, and items that an array of NumPy masks.
 
-A call over many items raises a TypeError where an array masks an item, or where a sequence has one that is missing. The calls
-of `each` give such an item the status MISSING.
+A call over many items raises a TypeError if an array masks an item, or if a sequence has a missing one. The calls
+of `each` return the status MISSING for it.
 """
 
 from __future__ import annotations
@@ -15,7 +15,7 @@ MISSING = 1_000
 
 
 def mask_of(items: Any) -> Any:
-    """Which items an array of NumPy masks, as an array; None where it masks none. A structure is masked where a field is."""
+    """The mask of a NumPy array, as an array, or None if it masks no item. A mask of any field masks a structure."""
     numpy = sys.modules.get("numpy")
     if numpy is None or not isinstance(items, numpy.ma.MaskedArray):
         return None
@@ -26,9 +26,9 @@ def mask_of(items: Any) -> Any:
 
 
 def refuse_mask(items: Any) -> None:
-    """Raises TypeError where an array masks an item."""
+    """Raises TypeError if an array masks an item."""
     if mask_of(items) is not None:
-        raise TypeError("an array that masks items: fill them, or use a call of `each`, which gives them a status")
+        raise TypeError("the array masks items: fill them, or use an `each` call, which returns a status for them")
 
 
 def is_missing(item: Any) -> bool:
@@ -60,7 +60,7 @@ def whole_of_floats(items: Any, filling: int) -> tuple[Any, Any]:
     is_part = known != numpy.floor(known)
     if is_part.any() or numpy.isinf(known).any():
         place = int((is_part | numpy.isinf(known)).argmax())
-        raise TypeError(f"item {place} is no whole number: {items[place]}")
+        raise TypeError(f"item {place} must be an integer, not {items[place]}")
     # What 64 bits do not hold is refused as `filling` is.
     is_held = numpy.abs(known) < 2.0**62
     whole = numpy.where(is_held, known, 0).astype("int64")
@@ -68,7 +68,8 @@ def whole_of_floats(items: Any, filling: int) -> tuple[Any, Any]:
 
 
 def filled(items: Any, filling: Any) -> tuple[Any, Any]:
-    """An array with `filling` in place of the items that it masks, and the places of these; others as they are."""
+    """An array with `filling` in place of the items that it masks, and the places of these; without a mask the array
+    itself."""
     mask = mask_of(items)
     if mask is None:
         return items, ()
@@ -84,7 +85,7 @@ def filled(items: Any, filling: Any) -> tuple[Any, Any]:
 
 
 def mark(statuses: Any, places: Any) -> None:
-    """Writes the status of what is missing in these places."""
+    """Writes the status MISSING to these places."""
     if len(places):
         told = memoryview(statuses).cast("B").cast("I")
         for place in places:

@@ -31,9 +31,9 @@ _FORMS = {
 
 
 def read(name: str, text: str, make: Callable[..., _Made]) -> _Made:
-    """The value that `str` writes so, made of the parts of its text. RefusedSyntax of another text."""
+    """The value whose `str` is this text, from the parts of the text. RefusedSyntax for another text."""
     if not isinstance(text, str):
-        raise TypeError(f"{name}.from_text() reads a str, not {type(text).__name__}")
+        raise TypeError(f"{name}.from_text() needs a str, not {type(text).__name__}")
     found = _FORMS[name].fullmatch(text)
     made = None if found is None else make(*found.groups())
     if made is None or str(made) != text:

@@ -1,6 +1,6 @@
-"""Why calls refuse, as classes of errors, the units of time, and the parts of a date-time.
+"""The errors of calls as classes, the units of time, and the parts of a date-time.
 
-Made by tools/python_calls from bindings/python/muxandu/muxandu_sys.py. Do not edit.
+Made by tools/python_calls from bindings/interface.json. Do not edit.
 """
 
 from __future__ import annotations
@@ -10,11 +10,11 @@ from typing import Optional
 
 
 class Refused(ValueError):
-    """A call is refused. `name` is the name that the refusal has in the library, `status` its number.
+    """A call failed. `name` is the name of the error in the library, `status` its number.
 
-    Each refusal has a class of its own, as RefusedMonth or RefusedDayOfMonth. Where a call over many items is refused,
-    `count` is how many were converted: the next is the one that is refused, and what is behind it is as it was. `value` is
-    the number or the text that is refused, where one alone is, and `place` the byte of a text at which its fault is.
+    Each error has a class, such as RefusedMonth or RefusedDayOfMonth. If a call over many items fails, `count` is the number
+    of items that it converted: it rejected the next, and left the rest of the output as it was. `value` is the number or the
+    text that it rejected, if that is a single one. `place` is the index of the byte of a text with the fault.
     """
 
     name: str = ""
@@ -39,7 +39,7 @@ class Refused(ValueError):
 
 
 def _shown(value: object) -> str:
-    """A number or a text as a message shows it, at most so long; of another value, which may say anything, nothing."""
+    """A number or a text for a message, cut to its limit, or an empty text for another value, which may print anything."""
     if type(value) is int:
         return str(value) if value.bit_length() <= _MOST_BITS else f"a number of {value.bit_length()} bits"
     if type(value) not in (str, bytes):
@@ -228,7 +228,7 @@ class RefusedNoText(Refused):
     status = 25
 
 
-# The class of each refusal, by its status.
+# The class of each error, by its status.
 REFUSALS: dict[int, type[Refused]] = {
     1: RefusedYear,
     2: RefusedMonth,
@@ -267,6 +267,7 @@ class Unit(enum.IntEnum):
     SECOND = 4
     MILLISECOND = 5
     MICROSECOND = 6
+    NANOSECOND = 7
 
 
 class Part(enum.IntEnum):

@@ -1,4 +1,4 @@
-"""Texts of RFC 3339: where one is at fault, many read with a status each, many written."""
+"""Texts of RFC 3339: the fault of one, reads of many with a status each, writes of many."""
 
 from __future__ import annotations
 
@@ -17,13 +17,13 @@ _MOST = 35
 
 
 def rfc3339_fault(text: Union[str, bytes]) -> int:
-    """The place of the fault in a text that is refused, RefusedSyntax, counted in bytes from 0: where it has a byte with which
-    no date-time of RFC 3339 goes on, or where it ends too early. Of a text that has the form it is the number of its bytes."""
+    """The index of the byte at fault in a text that fails with RefusedSyntax. No date-time of RFC 3339 continues with that
+    byte; or the text ends there, too early. For a text that has the form it is the number of its bytes."""
     return engine.rfc3339_fault(text)
 
 
 def _known_texts(texts: Any) -> tuple[bytes, Any, list[int]]:
-    """A block of texts, where each lies in it, and the places of those that are missing, which are empty there."""
+    """A block of texts, the place of each in it, and the places of the missing ones, which are empty in the block."""
     each = list(_sequence(texts))
     places = _missing.places_of(each)
     for place in places:
@@ -35,11 +35,11 @@ def _known_texts(texts: Any) -> tuple[bytes, Any, list[int]]:
 def date_times_from_each_rfc3339(
     texts: TextsWithGaps, spans: Any = None, out: Any = None, statuses: Any = None
 ) -> tuple[Any, Any]:
-    """The date-time and the offset of each text of RFC 3339, and the status of each: 0, or the `status` of its refusal, or
-    MISSING of None, NaN, NA and a masked item. Where an item has a status, its place in `out` stays as it was, and the next
-    follows. The texts are as timestamps_from_rfc3339 takes them."""
+    """The date-time and the offset of each text of RFC 3339, and the status of each: 0, or the `status` of its error, or
+    MISSING for None, NaN, NA and a masked item. An item with a status leaves its place in `out` as it was. The texts are as
+    timestamps_from_rfc3339 takes them."""
     if isinstance(texts, str):
-        raise TypeError("a block of bytes, not a str")
+        raise TypeError("a block of texts must be bytes, not a str")
     like = texts if spans is None else spans
     missing: list[int] = []
     if spans is None:
@@ -51,7 +51,7 @@ def date_times_from_each_rfc3339(
         statuses = _room(places.count, ctypes.c_uint32, _is_like_numpy(like))
     made, told = _writing(out, MuxanduDateTime), _writing(statuses, ctypes.c_uint32)
     if not made.is_apart_from(told):
-        raise ValueError("`out` and `statuses` must not lie over each other")
+        raise ValueError("`out` and `statuses` must not overlap")
     first, second = read.apart_from(made, told), places.apart_from(made, told)
     done, status = engine.date_times_from_each_rfc3339(
         first, read.count, second, places.count, made.data, made.count, told.data, told.count

@@ -1,4 +1,4 @@
-"""Instants, date-times, days and durations: the library's calls as methods, and what is Python's own, as all of Duration."""
+"""Instants, date-times, days and durations: the library's calls as methods, and code of Python's own, such as Duration."""
 
 from __future__ import annotations
 
@@ -33,8 +33,8 @@ _KEPT: Any = object()
 
 
 def _completed(kind: type[_Kind]) -> type[_Kind]:
-    """The type that the library's calls make, with what a class derived from it adds: one type and not two, whose values the
-    collector of cycles need not look at."""
+    """The type that the library's calls make, with the methods of a class derived from it. It is one type, so the collector
+    of cycles skips its values."""
     made: Any = kind.__base__
     for name, value in vars(kind).items():
         if name not in ("__dict__", "__module__", "__slots__", "__weakref__"):
@@ -45,7 +45,7 @@ def _completed(kind: type[_Kind]) -> type[_Kind]:
 
 
 def _formatted(value: Any, form: str) -> str:
-    """A value as a format asks for it: by `strftime` where that has a %, else its text, padded."""
+    """A value in a format: by `strftime` if the format has a %, else its text, padded."""
     return str(value.to_datetime().strftime(form)) if "%" in form else format(str(value), form)
 
 
@@ -66,21 +66,21 @@ class Duration(engine.Duration):
             return duration if isinstance(duration, cls) else cls(duration.seconds, duration.nanoseconds)
         if isinstance(duration, datetime.timedelta):
             return cls(duration.days * _DAY + duration.seconds, nanoseconds_of(duration))
-        raise TypeError(f"a Duration or a datetime.timedelta, not {type(duration).__name__}")
+        raise TypeError(f"the duration must be a Duration or a datetime.timedelta, not {type(duration).__name__}")
 
     @classmethod
     def of_nanoseconds(cls, nanoseconds: int) -> Duration:
-        """The duration of a count of nanoseconds, of any size. RefusedDuration outside the range."""
+        """The duration of a count of nanoseconds, of any size. RefusedDuration if out of range."""
         return cls(0, nanoseconds)
 
     @classmethod
     def of_days(cls, days: int) -> Duration:
-        """The duration of a count of days of 86,400 seconds. RefusedDuration outside the range."""
+        """The duration of a count of days of 86,400 seconds. RefusedDuration if out of range."""
         return cls(whole(days) * _DAY)
 
     @classmethod
     def from_text(cls: type[_Length], text: str) -> _Length:
-        """The duration that str() writes so, as -90.5s. RefusedSyntax of another text."""
+        """The duration whose str() is this text, such as -90.5s. RefusedSyntax for another text."""
         return _own_texts.read("Duration", text, lambda *parts: cls(0, _own_texts.nanoseconds(*parts)))
 
     def whole_nanoseconds(self) -> int:
@@ -97,7 +97,7 @@ class Duration(engine.Duration):
         return self.whole_nanoseconds() / _SECOND
 
     def to_timedelta(self) -> datetime.timedelta:
-        """The datetime.timedelta of as many whole microseconds, rounded down. OverflowError where it has none."""
+        """The datetime.timedelta of as many whole microseconds, rounded down. OverflowError if out of its range."""
         return datetime.timedelta(microseconds=self.whole_nanoseconds() // 1_000)
 
     def __pos__(self) -> Duration:
@@ -163,7 +163,7 @@ def _is_length(value: object) -> bool:
 
 @functools.total_ordering
 class UtcOffset:
-    """How far clocks are ahead of UTC, -25:59:59 to 25:59:59. Calls take it where they take seconds of an offset."""
+    """An offset from UTC, -25:59:59 to 25:59:59. Calls take it in place of the seconds of an offset."""
 
     __slots__ = ("_seconds",)
     _seconds: int
@@ -177,7 +177,7 @@ class UtcOffset:
 
     @classmethod
     def from_text(cls: type[_Offset], text: str) -> _Offset:
-        """The offset that str() writes so, as +02:00:00. RefusedSyntax of another text."""
+        """The offset whose str() is this text, such as +02:00:00. RefusedSyntax for another text."""
         return _own_texts.read("UtcOffset", text, lambda *parts: cls(_own_texts.seconds(*parts)))
 
     @classmethod
@@ -243,20 +243,20 @@ class Timestamp(engine.Timestamp):
 
     @classmethod
     def from_text(cls: type[_Stamp], text: str) -> _Stamp:
-        """The instant that str() writes so, a decimal of Unix seconds as -0.5. RefusedSyntax of another text."""
+        """The instant whose str() is this text, a decimal of Unix seconds such as -0.5. RefusedSyntax for another text."""
         return _own_texts.read("Timestamp", text, lambda *parts: cls.from_nanoseconds(_own_texts.nanoseconds(*parts)))
 
     @classmethod
     def from_microseconds(cls: type[_Stamp], microseconds: int) -> _Stamp:
-        """The instant that is a count of microseconds from 1970-01-01 0:00 UTC. RefusedTimestamp outside the range."""
+        """The instant of a count of microseconds from 1970-01-01 0:00 UTC. RefusedTimestamp if out of range."""
         count = whole(microseconds)
         seconds, left = divmod(count, 1_000_000)
         return cls._from_microseconds(count) if -(2**63) <= count < 2**63 else cls(seconds, left * 1_000)
 
     @classmethod
     def from_nanoseconds(cls: type[_Stamp], nanoseconds: int) -> _Stamp:
-        """The instant that is a count of nanoseconds from 1970-01-01 0:00 UTC, as time.time_ns() counts; also past 64 bits.
-        RefusedTimestamp outside the range."""
+        """The instant of a count of nanoseconds from 1970-01-01 0:00 UTC, as time.time_ns() counts; also past 64 bits.
+        RefusedTimestamp if out of range."""
         count = whole(nanoseconds)
         return cls._from_nanoseconds(count) if -(2**63) <= count < 2**63 else cls(*divmod(count, _SECOND))
 
@@ -280,7 +280,7 @@ class Timestamp(engine.Timestamp):
             return self.seconds * _SECOND + self.nanoseconds
 
     def to_utc(self) -> UtcDateTime:
-        """What clocks in UTC show."""
+        """The date-time in UTC."""
         return UtcDateTime._shown_by(self.to_offset(0))
 
     def to_datetime(self, zone: datetime.tzinfo = datetime.timezone.utc) -> datetime.datetime:
@@ -306,7 +306,7 @@ def _parts(value: object, *names: str) -> tuple[int, ...]:
 
 @_completed
 class OffsetDateTime(engine.OffsetDateTime):
-    """What clocks at an offset from UTC show. Date-times compare by their instants.
+    """A date-time at an offset from UTC. Date-times compare by their instants.
 
     Its text is the library's own, as 1970-01-01 0:00:00.0 +00:00:00.
     """
@@ -317,12 +317,12 @@ class OffsetDateTime(engine.OffsetDateTime):
 
     @classmethod
     def now(cls: type[_Shown], offset_seconds: SupportsIndex = 0) -> _Shown:
-        """What clocks at an offset show now, by the clock of the system."""
+        """The date-time at an offset now, by the clock of the system."""
         return cls(*_parts(Timestamp.now().to_offset(offset_seconds), *_PARTS, "offset_seconds"))
 
     @classmethod
     def from_text(cls: type[_Shown], text: str) -> _Shown:
-        """The date-time that str() writes so, as 2024-02-29 4:00:00.0 +02:00:00. RefusedSyntax of another text."""
+        """The date-time whose str() is this text, such as 2024-02-29 4:00:00.0 +02:00:00. RefusedSyntax for another text."""
 
         def make(*parts: str) -> _Shown:
             numbers = [*_own_texts.numbers(*parts[:7]), _own_texts.seconds(*parts[7:])]
@@ -338,10 +338,10 @@ class OffsetDateTime(engine.OffsetDateTime):
 
     @classmethod
     def from_datetime(cls: type[_Shown], at: datetime.datetime) -> _Shown:
-        """What a datetime.datetime shows, which must have an offset of whole seconds."""
+        """The date-time of a datetime.datetime, which must have an offset of whole seconds."""
         offset = at.utcoffset()
         if offset is None or offset.microseconds:
-            raise ValueError("a datetime with an offset of whole seconds")
+            raise ValueError("the datetime must have an offset of whole seconds")
         seconds = offset.days * _DAY + offset.seconds
         return cls(at.year, at.month, at.day, at.hour, at.minute, at.second, nanosecond_of(at), seconds)
 
@@ -350,7 +350,7 @@ class OffsetDateTime(engine.OffsetDateTime):
         return _datetime(self, self.offset().to_timezone())
 
     def to_utc(self) -> UtcDateTime:
-        """What clocks in UTC show at the same instant."""
+        """The date-time in UTC of the same instant."""
         return UtcDateTime._shown_by(self.to_offset(0))
 
     def replace(
@@ -382,13 +382,13 @@ class OffsetDateTime(engine.OffsetDateTime):
         return UtcOffset(self.offset_seconds)
 
     def date_time(self) -> PlainDateTime:
-        """What the clocks show, without the offset."""
+        """The wall clock, without the offset."""
         return PlainDateTime(*_parts(self, *_PARTS))
 
     def is_same(self, other: OffsetDateTime) -> bool:
         """Whether both have the same parts and the same offset. `==` compares the instants alone."""
         if not isinstance(other, OffsetDateTime):
-            raise TypeError(f"an OffsetDateTime, not {type(other).__name__}")
+            raise TypeError(f"the other value must be an OffsetDateTime, not {type(other).__name__}")
         return bool(self.__reduce__()[1] == other.__reduce__()[1])
 
     def __reduce__(self) -> tuple[Any, ...]:
@@ -457,7 +457,7 @@ class Date(engine.Date):
 
     @classmethod
     def from_text(cls: type[_Date], text: str) -> _Date:
-        """The day that str() writes so, as 2024-02-29 or -0005-03-01. RefusedSyntax of another text."""
+        """The day whose str() is this text, such as 2024-02-29 or -0005-03-01. RefusedSyntax for another text."""
         return _own_texts.read("Date", text, lambda *parts: cls(*_own_texts.numbers(*parts)))
 
     @classmethod
@@ -475,11 +475,11 @@ class Date(engine.Date):
         return datetime.date(self.year, self.month, self.day)
 
     def add_days(self: _Date, days: int) -> _Date:
-        """The day that is `days` days later, or earlier for a negative count. RefusedResult outside the range."""
+        """The day that is `days` days later, or earlier for a negative count. RefusedResult if out of range."""
         return type(self)(*engine.date_add_days(self.year, self.month, self.day, days))
 
     def add_months(self: _Date, months: int) -> _Date:
-        """The same day of the month after `months` months, or the month's last day where it is shorter. RefusedResult outside the
+        """The same day of the month after `months` months, or the last day of a shorter month. RefusedResult if out of
         range."""
         return type(self)(*engine.date_add_months(self.year, self.month, self.day, months))
 
@@ -572,7 +572,7 @@ class Time:
 
     @classmethod
     def from_text(cls: type[_Time], text: str) -> _Time:
-        """The time of day that str() writes so, as 4:00:00.0. RefusedSyntax of another text."""
+        """The time of day whose str() is this text, such as 4:00:00.0. RefusedSyntax for another text."""
         return _own_texts.read("Time", text, lambda *parts: cls(*_own_texts.numbers(*parts)))
 
     @classmethod

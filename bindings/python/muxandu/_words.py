@@ -29,13 +29,13 @@ def ends(kind: Any) -> tuple[int, int]:
 
 
 def whole(number: Any) -> int:
-    """A whole number as Python's own, also where a class derived from it has operators of its own."""
+    """A plain int, also of a class derived from int with other operators."""
     return int.__index__(operator.index(number))
 
 
 def held(number: Any, kind: Any) -> int:
-    """The number, and where the type does not hold it, an end of the type that the library refuses: the upper one of a
-    type with no sign, whose lower end is 0."""
+    """The number, or, if it does not fit the type, an end of the type that the library rejects: the upper one of a type with
+    no sign, whose lower end is 0."""
     low, high = _ENDS[kind]
     number = whole(number)
     if low <= number <= high:
@@ -54,8 +54,8 @@ def nanoseconds_of(length: datetime.timedelta) -> int:
 
 
 def as_bytes(text: Any) -> bytes:
-    """The bytes of a text, a str or what holds bytes. A character that is not ASCII becomes bytes that no text of RFC 3339
-    has."""
+    """The bytes of a text, a str or an object with bytes. A character that is not ASCII becomes bytes that no text of RFC
+    3339 has."""
     if isinstance(text, str):
         return str.encode(text, "utf-8", "surrogatepass")
     if type(text) is bytes:
@@ -63,13 +63,13 @@ def as_bytes(text: Any) -> bytes:
     try:
         view = _buffers.row(text)
     except TypeError:
-        raise TypeError(f"a text is a str or bytes, not {type(text).__name__}") from None
+        raise TypeError(f"a text must be a str or bytes, not {type(text).__name__}") from None
     _buffers.of_bytes(view)
     return view.tobytes()
 
 
 def joined(texts: Iterable[Any]) -> tuple[bytes, Any]:
-    """One block of the bytes of texts, and numbers that say where each begins in it and how long it is."""
+    """One block of the bytes of texts, and the index and the length of each in it."""
     pieces = [as_bytes(text) for text in texts]
     lengths = [len(piece) for piece in pieces]
     numbers = array.array("Q", bytes(16 * len(pieces)))

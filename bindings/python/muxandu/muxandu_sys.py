@@ -21,7 +21,9 @@ refuses, whose name comes after MUXANDU_REFUSED_; then what `out` points to is a
 MuxanduBatch has written as many items as it counts, and what lies behind them in `out` is as it was.
 
 What stays, as long as the library is libmuxandu.so.0: names, numbers, structs, the parameters of calls and what they
-give. A later version adds calls, constants and statuses, whose numbers come after those that there are.
+give. A later version adds calls, constants and statuses, whose numbers come after those that there are. A name that is
+to go has the attribute `deprecated` first, which says what to use, for one year and one version at least; it goes only
+where the number of the library goes up.
 """
 
 import ctypes
@@ -38,8 +40,8 @@ def laid_out(structure, size, **places):
 
 
 class Refused:
-    """Why a call refuses. Its status is this number, and 0 where it refuses nothing. Each call says in which order
-    it tests what it takes, and names the first that is refused."""
+    """The error of a call. Its status is this number, or 0 if it succeeds. The comment of each call lists its errors
+    in the order of its tests; it returns the first."""
 
     # A year before -999999 or after 999999.
     YEAR = 1
@@ -138,6 +140,8 @@ class Unit:
     MILLISECOND = 5
     # A microsecond.
     MICROSECOND = 6
+    # A nanosecond.
+    NANOSECOND = 7
 
 
 class Part:
@@ -160,7 +164,8 @@ class Part:
     # The nanosecond of the second, 0 to 999999999.
     NANOSECOND = 8
 
-# The version of these declarations, as ten thousand times the first number, a hundred times the second, and the third.
+# The version of these declarations: ten thousand times the first number, plus a hundred times the second, plus the
+# third.
 VERSION = 100
 
 # The first year.
@@ -196,10 +201,10 @@ OFFSET_MIN = -93599
 # The highest offset, in seconds.
 OFFSET_MAX = 93599
 
-# The bytes of the longest text that a call writes: a buffer of so many is long enough.
+# The bytes of the longest text of a value that a call writes. Use it as the size of a buffer.
 TEXT_ROOM = 42
 
-# The bytes of the longest text that muxandu_status_text writes: a buffer of so many is long enough.
+# The bytes of the longest text that muxandu_status_text writes. Use it as the size of a buffer.
 STATUS_ROOM = 128
 
 
@@ -218,14 +223,14 @@ laid_out(MuxanduTimestamp, 16, seconds=0, nanoseconds=8)
 
 
 class MuxanduDuration(ctypes.Structure):
-    """A duration: so many seconds and nanoseconds together. A call gives both of one sign and less than a second of
-    nanoseconds, and takes any whose sum is at least -2^63 seconds - 999999999 ns and at most 2^63 - 1 seconds +
-    999999999 ns."""
+    """A duration: the sum of its seconds and its nanoseconds. A call writes both with one sign, and less than a
+    second of nanoseconds. It takes any whose sum is at least -2^63 seconds - 999999999 ns and at most 2^63 - 1
+    seconds + 999999999 ns."""
 
     _fields_ = [
         # The seconds.
         ("seconds", ctypes.c_int64),
-        # The nanoseconds besides.
+        # The nanoseconds to add to the seconds.
         ("nanoseconds", ctypes.c_int32),
     ]
 
@@ -234,7 +239,7 @@ laid_out(MuxanduDuration, 16, seconds=0, nanoseconds=8)
 
 
 class MuxanduDateTime(ctypes.Structure):
-    """What clocks at an offset from UTC show, in the proleptic Gregorian calendar."""
+    """A date and a time of day in the proleptic Gregorian calendar, and their offset from UTC."""
 
     _fields_ = [
         # The year, -999999 to 999999; year 0 comes before year 1.
@@ -251,7 +256,7 @@ class MuxanduDateTime(ctypes.Structure):
         ("second", ctypes.c_uint8),
         # The nanosecond of the second, 0 to 999999999.
         ("nanosecond", ctypes.c_uint32),
-        # The seconds by which the clocks are ahead of UTC, -93599 to 93599.
+        # The offset: the seconds by which local clocks are ahead of UTC, -93599 to 93599.
         ("offset_seconds", ctypes.c_int32),
     ]
 
@@ -296,7 +301,7 @@ class MuxanduWeekDate(ctypes.Structure):
     _fields_ = [
         # The ISO year, -999999 to 999999.
         ("year", ctypes.c_int32),
-        # The ISO week, 1 to 52, or 53 in a year that has so many.
+        # The ISO week, 1 to 52, or 53 in a year of 53 weeks.
         ("week", ctypes.c_uint8),
         # The day of the week, 0 for Monday to 6 for Sunday.
         ("weekday", ctypes.c_uint8),
@@ -307,12 +312,12 @@ laid_out(MuxanduWeekDate, 8, year=0, week=4, weekday=5)
 
 
 class MuxanduSpan(ctypes.Structure):
-    """Where a text lies in a block of texts."""
+    """The place of a text in a block of texts."""
 
     _fields_ = [
-        # How many bytes of the block come before the text.
+        # The index of its first byte in the block.
         ("start", ctypes.c_size_t),
-        # How many bytes the text has.
+        # The number of its bytes.
         ("length", ctypes.c_size_t),
     ]
 
@@ -321,12 +326,12 @@ laid_out(MuxanduSpan, 16, start=0, length=8)
 
 
 class MuxanduBatch(ctypes.Structure):
-    """What a call with many items did: it goes through them in their order, up to the first that is refused."""
+    """The result of a call with many items. It converts them in their order, up to the first that it rejects."""
 
     _fields_ = [
-        # How many items were converted and written.
+        # The number of items that it converted and wrote.
         ("count", ctypes.c_size_t),
-        # 0 if that is all of them, else why the next was refused.
+        # 0 if these are all items, else the error of the next.
         ("status", ctypes.c_uint32),
     ]
 
@@ -351,14 +356,14 @@ laid_out(MuxanduOffset, 3, hours=0, minutes=1, seconds=2)
 
 
 class MuxanduDateReads(ctypes.Structure):
-    """All that a date shows."""
+    """Every reading of a date: its day numbers, its day of the year and of the week, and its weeks."""
 
     _fields_ = [
         # The day number, 0 on 1970-01-01.
         ("day", ctypes.c_int32),
         # The Julian day, 2440588 on 1970-01-01.
         ("julian_day", ctypes.c_int32),
-        # The year that the ISO week belongs to, which is that of its Thursday.
+        # The year of the ISO week, which is the year of its Thursday.
         ("iso_year", ctypes.c_int32),
         # The day of the year, 1 to 366.
         ("ordinal", ctypes.c_uint16),
@@ -366,9 +371,9 @@ class MuxanduDateReads(ctypes.Structure):
         ("iso_week", ctypes.c_uint8),
         # The day of the week, 0 for Monday to 6 for Sunday.
         ("weekday", ctypes.c_uint8),
-        # How many Sundays of the year lie on or before the date, 0 to 53.
+        # The number of Sundays in the year up to and including the date, 0 to 53.
         ("sunday_based_week", ctypes.c_uint8),
-        # How many Mondays of the year lie on or before the date, 0 to 53.
+        # The number of Mondays in the year up to and including the date, 0 to 53.
         ("monday_based_week", ctypes.c_uint8),
     ]
 
@@ -381,377 +386,377 @@ CALLS = {
     "muxandu_version": (
         [],
         ctypes.c_uint32,
-        "The version of the library, a number as MUXANDU_VERSION. Where it is lower, the library has not all that is declared here.",
+        "The version of the library, a number like MUXANDU_VERSION. A library with a lower number lacks some of these declarations.",
     ),
     "muxandu_status_name": (
         [ctypes.c_uint32, ctypes.c_void_p, ctypes.c_size_t, ctypes.POINTER(ctypes.c_size_t)],
         ctypes.c_uint32,
-        "Writes the name of a status, as `OK` or `DAY_OF_MONTH`, of at most 15 bytes, all ASCII and none 0, at the front of `buffer`, and its length to `size`. A number that is no status of this version has the name `UNKNOWN`. Refused BUFFER where the name is longer than `buffer`: then `size` says how long it is, and `buffer` is as it was.",
+        "Writes the name of a status, such as `OK` or `DAY_OF_MONTH`, to the front of `buffer`, and its length to `size`. The name has at most 15 bytes, all ASCII and none 0. A number that is no status of this version has the name `UNKNOWN`. Errors: BUFFER if the name is longer than `buffer`; `size` is then the length of the name, and `buffer` is unchanged.",
     ),
     "muxandu_status_text": (
         [ctypes.c_uint32, ctypes.c_void_p, ctypes.c_size_t, ctypes.POINTER(ctypes.c_size_t)],
         ctypes.c_uint32,
-        "Writes what a status says, a sentence of at most 128 bytes, as muxandu_status_name does.",
+        "Writes the meaning of a status, a sentence of at most 128 bytes, as muxandu_status_name does.",
     ),
     "muxandu_timestamp_check": (
         [MuxanduTimestamp],
         ctypes.c_uint32,
-        "Whether the parts make a timestamp. Refused TIMESTAMP, then NANOSECOND.",
+        "Checks that the parts make a timestamp. Errors, in this order: TIMESTAMP, NANOSECOND.",
     ),
     "muxandu_timestamp_compare": (
         [MuxanduTimestamp, MuxanduTimestamp],
         ctypes.c_int32,
-        "Which timestamp comes first: -1 if `first` does, 0 if both are one instant, 1 if `second` does. It takes any parts, also those that other calls refuse, and goes by seconds and nanoseconds together, so that it can sort.",
+        "The order of two timestamps: -1 if `first` comes first, 0 if both are one instant, 1 if `second` comes first. It compares seconds and nanoseconds together, and takes any parts, also invalid ones, so you can sort with it.",
     ),
     "muxandu_timestamp_add": (
         [MuxanduTimestamp, MuxanduDuration, ctypes.POINTER(MuxanduTimestamp)],
         ctypes.c_uint32,
-        "The instant so much later, or earlier for a negative duration. Refused as the timestamp, then DURATION, then RESULT outside the range.",
+        "The instant plus a duration. Errors, in this order: those of the timestamp, DURATION, RESULT if out of range.",
     ),
     "muxandu_timestamp_subtract": (
         [MuxanduTimestamp, MuxanduDuration, ctypes.POINTER(MuxanduTimestamp)],
         ctypes.c_uint32,
-        "The instant so much earlier, or later for a negative duration. Refused as the timestamp, then DURATION, then RESULT outside the range.",
+        "The instant minus a duration. Errors, in this order: those of the timestamp, DURATION, RESULT if out of range.",
     ),
     "muxandu_timestamp_saturating_add": (
         [MuxanduTimestamp, MuxanduDuration, ctypes.POINTER(MuxanduTimestamp)],
         ctypes.c_uint32,
-        "The instant so much later, or the end of the range that it is beyond. Refused as the timestamp, then DURATION.",
+        "The instant plus a duration, or the nearer end of the range. Errors, in this order: those of the timestamp, DURATION.",
     ),
     "muxandu_timestamp_saturating_subtract": (
         [MuxanduTimestamp, MuxanduDuration, ctypes.POINTER(MuxanduTimestamp)],
         ctypes.c_uint32,
-        "The instant so much earlier, or the end of the range that it is beyond. Refused as the timestamp, then DURATION.",
+        "The instant minus a duration, or the nearer end of the range. Errors, in this order: those of the timestamp, DURATION.",
     ),
     "muxandu_timestamp_difference": (
         [MuxanduTimestamp, MuxanduTimestamp, ctypes.POINTER(MuxanduDuration)],
         ctypes.c_uint32,
-        "The duration from `earlier` to `later`, negative where `later` comes first. Refused as `later`, then as `earlier`.",
+        "The duration from `earlier` to `later`, negative if `later` comes first. Errors, in this order: those of `later`, those of `earlier`.",
     ),
     "muxandu_timestamp_truncate": (
         [MuxanduTimestamp, ctypes.c_uint32, ctypes.POINTER(MuxanduTimestamp)],
         ctypes.c_uint32,
-        "The instant rounded down to a unit in UTC, before 1970 too. Refused as the timestamp, then UNIT.",
+        "The instant, rounded down to a unit in UTC, also before 1970. Errors, in this order: those of the timestamp, UNIT.",
     ),
     "muxandu_timestamp_from_milliseconds": (
         [ctypes.c_int64, ctypes.POINTER(MuxanduTimestamp)],
         ctypes.c_uint32,
-        "The instant so many milliseconds from 1970-01-01 0:00 UTC. Refused TIMESTAMP outside the range.",
+        "The instant of a number of milliseconds from 1970-01-01 0:00 UTC. Errors: TIMESTAMP if out of range.",
     ),
     "muxandu_timestamp_to_milliseconds": (
         [MuxanduTimestamp, ctypes.POINTER(ctypes.c_int64)],
         ctypes.c_uint32,
-        "The whole milliseconds from 1970-01-01 0:00 UTC, rounded down. Refused as the timestamp.",
+        "The whole milliseconds from 1970-01-01 0:00 UTC, rounded down. Errors: those of the timestamp.",
     ),
     "muxandu_timestamp_from_microseconds": (
         [ctypes.c_int64],
         MuxanduTimestamp,
-        "The instant so many microseconds from 1970-01-01 0:00 UTC. It is always in the range.",
+        "The instant of a number of microseconds from 1970-01-01 0:00 UTC. It is always in range.",
     ),
     "muxandu_timestamp_to_microseconds": (
         [MuxanduTimestamp, ctypes.POINTER(ctypes.c_int64)],
         ctypes.c_uint32,
-        "The whole microseconds from 1970-01-01 0:00 UTC, rounded down. Refused as the timestamp, then RESULT where 64 bits do not hold them, as before -290308-12-21 and after 294247-01-10.",
+        "The whole microseconds from 1970-01-01 0:00 UTC, rounded down. They fit in 64 bits from -290308-12-21 to 294247-01-10. Errors, in this order: those of the timestamp, RESULT if they do not fit.",
     ),
     "muxandu_timestamp_from_nanoseconds": (
         [ctypes.c_int64],
         MuxanduTimestamp,
-        "The instant so many nanoseconds from 1970-01-01 0:00 UTC. It is always in the range.",
+        "The instant of a number of nanoseconds from 1970-01-01 0:00 UTC. It is always in range.",
     ),
     "muxandu_timestamp_to_nanoseconds": (
         [MuxanduTimestamp, ctypes.POINTER(ctypes.c_int64)],
         ctypes.c_uint32,
-        "The nanoseconds from 1970-01-01 0:00 UTC. Refused as the timestamp, then RESULT where 64 bits do not hold them, as before 1677-09-21 and after 2262-04-11.",
+        "The nanoseconds from 1970-01-01 0:00 UTC. They fit in 64 bits from 1677-09-21 to 2262-04-11. Errors, in this order: those of the timestamp, RESULT if they do not fit.",
     ),
     "muxandu_date_time_check": (
         [MuxanduDateTime],
         ctypes.c_uint32,
-        "Whether the parts make a date-time. Refused, as by each call that takes one, MONTH, YEAR, DAY, DAY_OF_MONTH, HOUR, MINUTE, SECOND, NANOSECOND or OFFSET_SECONDS, tested in this order. To replace a part, write it and ask this.",
+        "Checks that the parts make a date-time. To replace a part yourself, write it and then make this call. Each call that takes a date-time has these errors, in this order: MONTH, YEAR, DAY, DAY_OF_MONTH, HOUR, MINUTE, SECOND, NANOSECOND, OFFSET_SECONDS.",
     ),
     "muxandu_date_time_from_timestamp": (
         [MuxanduTimestamp, ctypes.c_int32, ctypes.POINTER(MuxanduDateTime)],
         ctypes.c_uint32,
-        "What clocks at an offset, in seconds, show at an instant. Refused as the timestamp, then OFFSET_SECONDS, then RESULT where the clocks show a year outside the range.",
+        "The date-time of an instant at an offset in seconds. Errors, in this order: those of the timestamp, OFFSET_SECONDS, RESULT if the year at that offset is out of range.",
     ),
     "muxandu_timestamp_from_date_time": (
         [MuxanduDateTime, ctypes.POINTER(MuxanduTimestamp)],
         ctypes.c_uint32,
-        "The instant at which clocks at its offset show the date-time. Refused as the date-time, then RESULT outside the range of timestamps.",
+        "The instant of a date-time. Errors, in this order: those of the date-time, RESULT outside the range of timestamps.",
     ),
     "muxandu_date_time_to_offset": (
         [MuxanduDateTime, ctypes.c_int32, ctypes.POINTER(MuxanduDateTime)],
         ctypes.c_uint32,
-        "What clocks at another offset, in seconds, show at the same instant. Refused as the date-time, then OFFSET_SECONDS, then RESULT where the clocks there show a year outside the range.",
+        "The same instant at another offset in seconds. Errors, in this order: those of the date-time, OFFSET_SECONDS, RESULT if the year at that offset is out of range.",
     ),
     "muxandu_date_time_add": (
         [MuxanduDateTime, MuxanduDuration, ctypes.POINTER(MuxanduDateTime)],
         ctypes.c_uint32,
-        "The date-time so much later at the same offset, or earlier for a negative duration. Refused as the date-time, then DURATION, then RESULT where the year is outside the range.",
+        "The date-time plus a duration, at the same offset. Errors, in this order: those of the date-time, DURATION, RESULT if the year is out of range.",
     ),
     "muxandu_date_time_subtract": (
         [MuxanduDateTime, MuxanduDuration, ctypes.POINTER(MuxanduDateTime)],
         ctypes.c_uint32,
-        "The date-time so much earlier at the same offset, or later for a negative duration. Refused as the date-time, then DURATION, then RESULT where the year is outside the range.",
+        "The date-time minus a duration, at the same offset. Errors, in this order: those of the date-time, DURATION, RESULT if the year is out of range.",
     ),
     "muxandu_date_time_saturating_add": (
         [MuxanduDateTime, MuxanduDuration, ctypes.POINTER(MuxanduDateTime)],
         ctypes.c_uint32,
-        "The date-time so much later at the same offset, or the end of the range that it is beyond. Refused as the date-time, then DURATION.",
+        "The date-time plus a duration, at the same offset, or the nearer end of the range. Errors, in this order: those of the date-time, DURATION.",
     ),
     "muxandu_date_time_saturating_subtract": (
         [MuxanduDateTime, MuxanduDuration, ctypes.POINTER(MuxanduDateTime)],
         ctypes.c_uint32,
-        "The date-time so much earlier at the same offset, or the end of the range that it is beyond. Refused as the date-time, then DURATION.",
+        "The date-time minus a duration, at the same offset, or the nearer end of the range. Errors, in this order: those of the date-time, DURATION.",
     ),
     "muxandu_date_time_difference": (
         [MuxanduDateTime, MuxanduDateTime, ctypes.POINTER(MuxanduDuration)],
         ctypes.c_uint32,
-        "The duration from the instant of `earlier` to that of `later`, negative where `later` comes first. Refused as `later`, then as `earlier`.",
+        "The duration from the instant of `earlier` to that of `later`, negative if `later` comes first. Errors, in this order: those of `later`, those of `earlier`.",
     ),
     "muxandu_date_time_truncate": (
         [MuxanduDateTime, ctypes.c_uint32, ctypes.POINTER(MuxanduDateTime)],
         ctypes.c_uint32,
-        "The date-time rounded down to a unit, as its clocks show it. Refused as the date-time, then UNIT.",
+        "The date-time, rounded down to a unit at its own offset. Errors, in this order: those of the date-time, UNIT.",
     ),
     "muxandu_date_time_compare": (
         [MuxanduDateTime, MuxanduDateTime, ctypes.POINTER(ctypes.c_int32)],
         ctypes.c_uint32,
-        "Which date-time comes first, by their instants: -1 if `first` does, 0 if both are one instant, 1 if `second` does. Refused as `first`, then as `second`.",
+        "The order of two instants: -1 if `first` comes first, 0 if both are one instant, 1 if `second` comes first. Errors, in this order: those of `first`, those of `second`.",
     ),
     "muxandu_date_time_day": (
         [MuxanduDateTime, ctypes.POINTER(ctypes.c_int32)],
         ctypes.c_uint32,
-        "The day number that the clocks show, 0 on 1970-01-01. Refused as the date-time.",
+        "The day number of the local date, 0 on 1970-01-01. Errors: those of the date-time.",
     ),
     "muxandu_date_from_day": (
         [ctypes.c_int32, ctypes.POINTER(MuxanduDate)],
         ctypes.c_uint32,
-        "The date of a day number. Refused DAY_NUMBER.",
+        "The date of a day number. Errors: DAY_NUMBER.",
     ),
     "muxandu_day_from_date": (
         [MuxanduDate, ctypes.POINTER(ctypes.c_int32)],
         ctypes.c_uint32,
-        "The day number of a date. Refused MONTH, YEAR, DAY or DAY_OF_MONTH, tested in this order.",
+        "The day number of a date. Errors, in this order: MONTH, YEAR, DAY, DAY_OF_MONTH.",
     ),
     "muxandu_ordinal_date_from_day": (
         [ctypes.c_int32, ctypes.POINTER(MuxanduOrdinalDate)],
         ctypes.c_uint32,
-        "The year and the day of the year of a day number. Refused DAY_NUMBER.",
+        "The year and the day of the year of a day number. Errors: DAY_NUMBER.",
     ),
     "muxandu_day_from_ordinal_date": (
         [MuxanduOrdinalDate, ctypes.POINTER(ctypes.c_int32)],
         ctypes.c_uint32,
-        "The day number of a day of a year. Refused YEAR, ORDINAL or ORDINAL_OF_YEAR, tested in this order.",
+        "The day number of a day of a year. Errors, in this order: YEAR, ORDINAL, ORDINAL_OF_YEAR.",
     ),
     "muxandu_week_date_from_day": (
         [ctypes.c_int32, ctypes.POINTER(MuxanduWeekDate)],
         ctypes.c_uint32,
-        "The ISO year, the ISO week and the day of the week of a day number, of which muxandu_day_from_week_date makes the day number again. Refused DAY_NUMBER.",
+        "The ISO year, the ISO week and the day of the week of a day number. muxandu_day_from_week_date is the inverse. Errors: DAY_NUMBER.",
     ),
     "muxandu_day_from_week_date": (
         [MuxanduWeekDate, ctypes.POINTER(ctypes.c_int32)],
         ctypes.c_uint32,
-        "The day number of an ISO week date. Refused YEAR, WEEK, WEEKDAY or WEEK_OF_YEAR, tested in this order, then RESULT for the two days of the last week that lie past the range.",
+        "The day number of an ISO week date. Errors, in this order: YEAR, WEEK, WEEKDAY, WEEK_OF_YEAR, RESULT for the two days of the last week past the range.",
     ),
     "muxandu_weekday_from_day": (
         [ctypes.c_int32, ctypes.POINTER(ctypes.c_uint8)],
         ctypes.c_uint32,
-        "The day of the week of a day number, 0 for Monday to 6 for Sunday. Refused DAY_NUMBER.",
+        "The day of the week of a day number, 0 for Monday to 6 for Sunday. Errors: DAY_NUMBER.",
     ),
     "muxandu_days_in_month": (
-        [ctypes.c_int32, ctypes.c_uint8, ctypes.POINTER(ctypes.c_uint8)],
+        [ctypes.c_int32, ctypes.c_uint32, ctypes.POINTER(ctypes.c_uint8)],
         ctypes.c_uint32,
-        "How many days a month of a year has, 28 to 31. Refused MONTH, then YEAR.",
+        "The number of days in a month of a year, 28 to 31. Errors, in this order: MONTH, YEAR.",
     ),
     "muxandu_date_times_from_seconds": (
         [ctypes.c_void_p, ctypes.c_size_t, ctypes.c_int32, ctypes.c_void_p, ctypes.c_size_t],
         MuxanduBatch,
-        "What clocks at an offset, in seconds, show at each Unix second, up to the first that muxandu_date_time_from_timestamp refuses. Refused BUFFER, with nothing written, where `out` has fewer items than `seconds`.",
+        "The date-time of each Unix second at an offset in seconds, up to the first that muxandu_date_time_from_timestamp rejects. Errors: BUFFER if `out` has fewer items than `seconds` (the call then writes nothing), else that of the first rejected item.",
     ),
     "muxandu_seconds_from_date_times": (
         [ctypes.c_void_p, ctypes.c_size_t, ctypes.c_void_p, ctypes.c_size_t],
         MuxanduBatch,
-        "The Unix second of each date-time, rounded down, up to the first that muxandu_timestamp_from_date_time refuses. Refused BUFFER, with nothing written, where `out` has fewer items than `date_times`.",
+        "The Unix second of each date-time, rounded down, up to the first that muxandu_timestamp_from_date_time rejects. Errors: BUFFER if `out` has fewer items than `date_times` (the call then writes nothing), else that of the first rejected item.",
     ),
     "muxandu_dates_from_days": (
         [ctypes.c_void_p, ctypes.c_size_t, ctypes.c_void_p, ctypes.c_size_t],
         MuxanduBatch,
-        "The date of each day number, up to the first that muxandu_date_from_day refuses. Refused BUFFER, with nothing written, where `out` has fewer items than `days`.",
+        "The date of each day number, up to the first that muxandu_date_from_day rejects. Errors: BUFFER if `out` has fewer items than `days` (the call then writes nothing), else that of the first rejected item.",
     ),
     "muxandu_days_from_dates": (
         [ctypes.c_void_p, ctypes.c_size_t, ctypes.c_void_p, ctypes.c_size_t],
         MuxanduBatch,
-        "The day number of each date, up to the first that muxandu_day_from_date refuses. Refused BUFFER, with nothing written, where `out` has fewer items than `dates`.",
+        "The day number of each date, up to the first that muxandu_day_from_date rejects. Errors: BUFFER if `out` has fewer items than `dates` (the call then writes nothing), else that of the first rejected item.",
     ),
     "muxandu_timestamps_from_rfc3339": (
         [ctypes.c_void_p, ctypes.c_size_t, ctypes.c_void_p, ctypes.c_size_t, ctypes.c_void_p, ctypes.c_size_t],
         MuxanduBatch,
-        "The instant of each text of RFC 3339, up to the first that muxandu_timestamp_from_rfc3339 refuses, or SPAN, whose span does not lie in the block `texts`. Refused BUFFER, with nothing written, where `out` has fewer items than `spans`.",
+        "The instant of each text of RFC 3339, up to the first that muxandu_timestamp_from_rfc3339 rejects. A span outside the block `texts` fails with SPAN. Errors: BUFFER if `out` has fewer items than `spans` (the call then writes nothing), else that of the first rejected item.",
     ),
     "muxandu_time_check": (
-        [ctypes.c_uint8, ctypes.c_uint8, ctypes.c_uint8, ctypes.c_uint32],
+        [ctypes.c_uint32, ctypes.c_uint32, ctypes.c_uint32, ctypes.c_uint32],
         ctypes.c_uint32,
-        "Whether an hour, a minute, a second and a nanosecond of it make a time of day. Refused HOUR, MINUTE, SECOND or NANOSECOND, tested in this order.",
+        "Checks that an hour, a minute, a second and a nanosecond make a time of day. Errors, in this order: HOUR, MINUTE, SECOND, NANOSECOND.",
     ),
     "muxandu_date_add_days": (
         [MuxanduDate, ctypes.c_int32, ctypes.POINTER(MuxanduDate)],
         ctypes.c_uint32,
-        "The date so many days later, or earlier for a negative count. Refused as the date, then RESULT outside the range.",
+        "The date that is a number of days later, or earlier if it is negative. Errors, in this order: those of the date, RESULT if out of range.",
     ),
     "muxandu_date_add_months": (
         [MuxanduDate, ctypes.c_int32, ctypes.POINTER(MuxanduDate)],
         ctypes.c_uint32,
-        "The same day of the month so many months later, or earlier for a negative count, or the month's last day where it is shorter. Refused as the date, then RESULT outside the range.",
+        "The same day of the month a number of months later, or earlier if it is negative; in a shorter month its last day. Errors, in this order: those of the date, RESULT if out of range.",
     ),
     "muxandu_date_to_rfc3339": (
         [MuxanduDate, ctypes.c_void_p, ctypes.c_size_t, ctypes.POINTER(ctypes.c_size_t)],
         ctypes.c_uint32,
-        "Writes the text of a date, as RFC 3339 has a full date, `1985-04-12`, of 10 bytes, as muxandu_date_time_text does. Refused as the date, then NO_TEXT, then BUFFER.",
+        "Writes the RFC 3339 text of a date, such as `1985-04-12`, in 10 bytes, as muxandu_date_time_text does. Errors, in this order: those of the date, NO_TEXT, BUFFER.",
     ),
     "muxandu_date_from_rfc3339": (
         [ctypes.c_void_p, ctypes.c_size_t, ctypes.POINTER(MuxanduDate)],
         ctypes.c_uint32,
-        "Reads a date from a text of RFC 3339, with nothing before or after it, as `1985-04-12`. Refused SYNTAX where it has not that form, else MONTH, DAY or DAY_OF_MONTH, by the first from the left that is out of its range.",
+        "The date in an RFC 3339 text such as `1985-04-12`, with nothing before or after it. Errors: SYNTAX if the text has another form, else MONTH, DAY or DAY_OF_MONTH for the first part out of range.",
     ),
     "muxandu_date_time_to_rfc3339_digits": (
-        [MuxanduDateTime, ctypes.c_uint8, ctypes.c_void_p, ctypes.c_size_t, ctypes.POINTER(ctypes.c_size_t)],
+        [MuxanduDateTime, ctypes.c_uint32, ctypes.c_void_p, ctypes.c_size_t, ctypes.POINTER(ctypes.c_size_t)],
         ctypes.c_uint32,
-        "Writes the text of RFC 3339 of a date-time with so many digits of the fraction, 0 to 9, and nine where more are asked for, as `1985-04-12T23:20:50.520Z` of three, of at most 35 bytes, as muxandu_date_time_text does: what lies past them is left out. Refused as the date-time, then NO_TEXT, then BUFFER.",
+        "Writes the RFC 3339 text of a date-time with `digits` digits of the fraction, in at most 35 bytes, as muxandu_date_time_text does. With three it is `1985-04-12T23:20:50.520Z`. The call cuts further digits off, and takes a number above nine as nine. Errors, in this order: those of the date-time, NO_TEXT, BUFFER.",
     ),
     "muxandu_date_times_from_each_second": (
         [ctypes.c_void_p, ctypes.c_size_t, ctypes.c_int32, ctypes.c_void_p, ctypes.c_size_t, ctypes.c_void_p, ctypes.c_size_t],
         MuxanduBatch,
-        "What clocks at an offset, in seconds, show at each Unix second, and its status, as muxandu_date_time_from_timestamp has them: where an item is refused, what is in its place stays, and the next follows. `count` is how many were converted. Refused BUFFER, with nothing written, where `out` or `statuses` has fewer items than `seconds`.",
+        "The date-time of each Unix second at an offset in seconds, and the status of muxandu_date_time_from_timestamp for it. If an item fails, its place in `out` keeps its contents, and the call continues with the next. `count` is the number of converted items. Errors: BUFFER if `out` or `statuses` has fewer items than `seconds`; the call then writes nothing.",
     ),
     "muxandu_seconds_from_each_date_time": (
         [ctypes.c_void_p, ctypes.c_size_t, ctypes.c_void_p, ctypes.c_size_t, ctypes.c_void_p, ctypes.c_size_t],
         MuxanduBatch,
-        "The Unix second of each date-time, rounded down, and its status, as muxandu_timestamp_from_date_time has them: where an item is refused, what is in its place stays, and the next follows. `count` is how many were converted. Refused BUFFER, with nothing written, where `out` or `statuses` has fewer items than `date_times`.",
+        "The Unix second of each date-time, rounded down, and the status of muxandu_timestamp_from_date_time for it. If an item fails, its place in `out` keeps its contents, and the call continues with the next. `count` is the number of converted items. Errors: BUFFER if `out` or `statuses` has fewer items than `date_times`; the call then writes nothing.",
     ),
     "muxandu_date_time_to_rfc3339": (
         [MuxanduDateTime, ctypes.c_void_p, ctypes.c_size_t, ctypes.POINTER(ctypes.c_size_t)],
         ctypes.c_uint32,
-        "Writes the shortest text of RFC 3339 of a date-time, as `1985-04-12T23:20:50.52Z` or `1996-12-19T16:39:57-08:00`, of at most 35 bytes, as muxandu_date_time_text does. Refused as the date-time, then NO_TEXT, then BUFFER.",
+        "Writes the shortest RFC 3339 text of a date-time, in at most 35 bytes, as muxandu_date_time_text does. Examples are `1985-04-12T23:20:50.52Z` and `1996-12-19T16:39:57-08:00`. Errors, in this order: those of the date-time, NO_TEXT, BUFFER.",
     ),
     "muxandu_timestamp_to_rfc3339": (
         [MuxanduTimestamp, ctypes.c_void_p, ctypes.c_size_t, ctypes.POINTER(ctypes.c_size_t)],
         ctypes.c_uint32,
-        "Writes the shortest text of RFC 3339 of an instant, in UTC, as `1985-04-12T23:20:50.52Z`, of at most 30 bytes, as muxandu_date_time_text does. Refused as the timestamp, then NO_TEXT, then BUFFER.",
+        "Writes the shortest RFC 3339 text of an instant in UTC, such as `1985-04-12T23:20:50.52Z`, in at most 30 bytes, as muxandu_date_time_text does. Errors, in this order: those of the timestamp, NO_TEXT, BUFFER.",
     ),
     "muxandu_timestamp_to_rfc3339_nanos": (
         [MuxanduTimestamp, ctypes.c_void_p, ctypes.c_size_t, ctypes.POINTER(ctypes.c_size_t)],
         ctypes.c_uint32,
-        "Writes the text of RFC 3339 of an instant, in UTC, always with nine digits of the fraction, as `1985-04-12T23:20:50.520000000Z`, of 30 bytes, as muxandu_date_time_text does. Such texts are in the order of their instants, byte by byte. Refused as the timestamp, then NO_TEXT, then BUFFER.",
+        "Writes the RFC 3339 text of an instant in UTC with nine digits of the fraction, such as `1985-04-12T23:20:50.520000000Z`, in 30 bytes, as muxandu_date_time_text does. Such texts compare byte by byte as their instants do. Errors, in this order: those of the timestamp, NO_TEXT, BUFFER.",
     ),
     "muxandu_date_time_from_rfc3339": (
         [ctypes.c_void_p, ctypes.c_size_t, ctypes.POINTER(MuxanduDateTime)],
         ctypes.c_uint32,
-        "Reads a date-time and its offset from a text of RFC 3339, with nothing before or after it, as `1985-04-12T23:20:50.52Z` or `1996-12-19T16:39:57-08:00`. A `t` or a space can stand for the `T`, and `z` for the `Z`; digits past the ninth of the fraction are dropped; `-00:00` is the offset 0. Refused SYNTAX where it has not that form, else MONTH, DAY or DAY_OF_MONTH, HOUR, MINUTE, SECOND, OFFSET_HOUR or OFFSET_MINUTE, by the first from the left that is out of its range.",
+        "The date-time and the offset in an RFC 3339 text, with nothing before or after it. Examples are `1985-04-12T23:20:50.52Z` and `1996-12-19T16:39:57-08:00`. `t` or a space may replace the `T`, and `z` the `Z`. The call drops digits past the ninth of the fraction, and reads `-00:00` as the offset 0. Errors: SYNTAX if the text has another form, else that of the first part out of range: MONTH, DAY or DAY_OF_MONTH, HOUR, MINUTE, SECOND, OFFSET_HOUR, OFFSET_MINUTE.",
     ),
     "muxandu_timestamp_from_rfc3339": (
         [ctypes.c_void_p, ctypes.c_size_t, ctypes.POINTER(MuxanduTimestamp)],
         ctypes.c_uint32,
-        "Reads the instant of a text of RFC 3339, as muxandu_date_time_from_rfc3339 does, and with its refusals.",
+        "The instant of an RFC 3339 text, as muxandu_date_time_from_rfc3339 reads it. Errors: those of that call.",
     ),
     "muxandu_date_time_from_rfc3339_front": (
         [ctypes.c_void_p, ctypes.c_size_t, ctypes.POINTER(MuxanduDateTime), ctypes.POINTER(ctypes.c_size_t)],
         ctypes.c_uint32,
-        "Reads the date-time that a text of RFC 3339 begins with, and its offset, as muxandu_date_time_from_rfc3339 does, and writes the number of its bytes to `size`: of `1985-04-12T23:20:50.52Z done` it is 23. Refused SYNTAX where no beginning of the text has that form, else as that call.",
+        "The date-time and the offset at the front of a text, as muxandu_date_time_from_rfc3339 reads them. Writes the number of bytes it read to `size`: 23 for `1985-04-12T23:20:50.52Z done`. Errors: SYNTAX if no front of the text has that form, else those of that call.",
     ),
     "muxandu_rfc3339_fault": (
         [ctypes.c_void_p, ctypes.c_size_t],
         ctypes.c_size_t,
-        "The place of the fault in a text that is refused SYNTAX, counted from 0: of `1985-04-12_23:20:50Z` it is 10. There the text has a byte with which no date-time of RFC 3339 goes on, or its end. Of a text that has the form it is the number of its bytes.",
+        "The index of the fault in a text that fails with SYNTAX: 10 for `1985-04-12_23:20:50Z`. No RFC 3339 date-time continues with the byte at that index; or the text ends there, too early. For a text that has the form it is the length of the text.",
     ),
     "muxandu_date_time_from_rfc3339_leap": (
         [ctypes.c_void_p, ctypes.c_size_t, ctypes.POINTER(MuxanduDateTime), ctypes.POINTER(ctypes.c_uint8)],
         ctypes.c_uint32,
-        "Reads a date-time and its offset as muxandu_date_time_from_rfc3339 does, and one whose second is 60 too, as `2016-12-31T23:59:60Z`. A leap second can be the last second of a month in UTC alone. It is read as the last nanosecond before the next month, whatever its fraction; then `is_leap` is 1, and else 0. What is read is in the order of what was written. Refused as that call refuses, SECOND above 60; and SECOND where all parts are in their ranges and no month ends with the second of 60.",
+        "The date-time and the offset in a text, as muxandu_date_time_from_rfc3339 reads them, also with a second of 60, as in `2016-12-31T23:59:60Z`. A leap second is valid only as the last second of a month in UTC. It becomes the last nanosecond before the next month, for any fraction; `is_leap` is then 1, else 0. So values keep the order of their texts. Errors: those of that call, with SECOND above 60; then SECOND if no month ends with a second of 60.",
     ),
     "muxandu_offset_from_parts": (
         [MuxanduOffset, ctypes.POINTER(ctypes.c_int32)],
         ctypes.c_uint32,
-        "The seconds of an offset of hours, minutes and seconds, of which the smaller take the sign of the hours, or of the minutes if the hours are 0. Refused OFFSET_HOUR where the hours are not -25 to 25, OFFSET_MINUTE where the minutes are not -59 to 59, then OFFSET_SECONDS where the seconds are not -59 to 59.",
+        "The seconds of an offset of hours, minutes and seconds. Smaller parts take the sign of the hours, or of the minutes if the hours are 0. Errors, in this order: OFFSET_HOUR if not -25 to 25, OFFSET_MINUTE if not -59 to 59, OFFSET_SECONDS if the seconds are not -59 to 59.",
     ),
     "muxandu_offset_to_parts": (
         [ctypes.c_int32, ctypes.POINTER(MuxanduOffset)],
         ctypes.c_uint32,
-        "The hours, the minutes and the seconds of an offset in seconds, all of one sign. Refused OFFSET_SECONDS.",
+        "The hours, the minutes and the seconds of an offset in seconds, all of one sign. Errors: OFFSET_SECONDS.",
     ),
     "muxandu_date_reads": (
         [MuxanduDate, ctypes.POINTER(MuxanduDateReads)],
         ctypes.c_uint32,
-        "All that a date shows: its day number and Julian day, its day of the year and of the week, and its weeks by ISO 8601, by Sundays and by Mondays. Refused MONTH, YEAR, DAY or DAY_OF_MONTH, tested in this order.",
+        "Every reading of a date: its day number and Julian day, its day of the year and of the week, and its weeks by ISO 8601, by Sundays and by Mondays. Errors, in this order: MONTH, YEAR, DAY, DAY_OF_MONTH.",
     ),
     "muxandu_date_from_julian_day": (
         [ctypes.c_int32, ctypes.POINTER(MuxanduDate)],
         ctypes.c_uint32,
-        "The date of a Julian day, which is 2440588 on 1970-01-01. Refused DAY_NUMBER where the range has no such day.",
+        "The date of a Julian day, which is 2440588 on 1970-01-01. Errors: DAY_NUMBER if out of range.",
     ),
     "muxandu_date_time_replace": (
         [MuxanduDateTime, ctypes.c_uint32, ctypes.c_int32, ctypes.POINTER(MuxanduDateTime)],
         ctypes.c_uint32,
-        "The date-time with one part replaced, and the others and the offset kept; a day of the year replaces the month and the day. Refused as the date-time, then UNIT where the number is no part's, then YEAR, MONTH, DAY, DAY_OF_MONTH, ORDINAL, ORDINAL_OF_YEAR, HOUR, MINUTE, SECOND or NANOSECOND.",
+        "The date-time with one part replaced. It keeps the other parts and the offset; a day of the year replaces the month and the day. Errors, in this order: those of the date-time, UNIT if `part` is no number of a part, YEAR, MONTH, DAY, DAY_OF_MONTH, ORDINAL, ORDINAL_OF_YEAR, HOUR, MINUTE, SECOND, NANOSECOND.",
     ),
     "muxandu_timestamp_replace": (
         [MuxanduTimestamp, ctypes.c_uint32, ctypes.c_int32, ctypes.POINTER(MuxanduTimestamp)],
         ctypes.c_uint32,
-        "The instant with one part of its date or of its time of day in UTC replaced, and the others kept, as muxandu_date_time_replace does. Refused as the timestamp, then as that call refuses.",
+        "The instant with one part of its date or time in UTC replaced, as muxandu_date_time_replace does. Errors, in this order: those of the timestamp, those of that call.",
     ),
     "muxandu_date_times_from_milliseconds": (
         [ctypes.c_void_p, ctypes.c_size_t, ctypes.c_int32, ctypes.c_void_p, ctypes.c_size_t],
         MuxanduBatch,
-        "What clocks at an offset, in seconds, show so many milliseconds from 1970-01-01 0:00 UTC, for each count, up to the first that muxandu_timestamp_from_milliseconds or muxandu_date_time_from_timestamp refuses. Refused BUFFER, with nothing written, where `out` has fewer items than `milliseconds`.",
+        "The date-time of each Unix millisecond at an offset in seconds, up to the first that muxandu_timestamp_from_milliseconds or muxandu_date_time_from_timestamp rejects. Errors: BUFFER if `out` has fewer items than `milliseconds` (the call then writes nothing), else that of the first rejected item.",
     ),
     "muxandu_milliseconds_from_date_times": (
         [ctypes.c_void_p, ctypes.c_size_t, ctypes.c_void_p, ctypes.c_size_t],
         MuxanduBatch,
-        "The milliseconds from 1970-01-01 0:00 UTC of each date-time, rounded down, up to the first that muxandu_timestamp_from_date_time or muxandu_timestamp_to_milliseconds refuses. Refused BUFFER, with nothing written, where `out` has fewer items than `date_times`.",
+        "The milliseconds from 1970-01-01 0:00 UTC of each date-time, rounded down, up to the first that muxandu_timestamp_from_date_time or muxandu_timestamp_to_milliseconds rejects. Errors: BUFFER if `out` has fewer items than `date_times` (the call then writes nothing), else that of the first rejected item.",
     ),
     "muxandu_date_times_from_microseconds": (
         [ctypes.c_void_p, ctypes.c_size_t, ctypes.c_int32, ctypes.c_void_p, ctypes.c_size_t],
         MuxanduBatch,
-        "What clocks at an offset, in seconds, show so many microseconds from 1970-01-01 0:00 UTC, for each count, up to the first that muxandu_date_time_from_timestamp refuses. Refused BUFFER, with nothing written, where `out` has fewer items than `microseconds`.",
+        "The date-time of each Unix microsecond at an offset in seconds, up to the first that muxandu_date_time_from_timestamp rejects. Errors: BUFFER if `out` has fewer items than `microseconds` (the call then writes nothing), else that of the first rejected item.",
     ),
     "muxandu_microseconds_from_date_times": (
         [ctypes.c_void_p, ctypes.c_size_t, ctypes.c_void_p, ctypes.c_size_t],
         MuxanduBatch,
-        "The microseconds from 1970-01-01 0:00 UTC of each date-time, rounded down, up to the first that muxandu_timestamp_from_date_time or muxandu_timestamp_to_microseconds refuses. Refused BUFFER, with nothing written, where `out` has fewer items than `date_times`.",
+        "The microseconds from 1970-01-01 0:00 UTC of each date-time, rounded down, up to the first that muxandu_timestamp_from_date_time or muxandu_timestamp_to_microseconds rejects. Errors: BUFFER if `out` has fewer items than `date_times` (the call then writes nothing), else that of the first rejected item.",
     ),
     "muxandu_date_times_from_nanoseconds": (
         [ctypes.c_void_p, ctypes.c_size_t, ctypes.c_int32, ctypes.c_void_p, ctypes.c_size_t],
         MuxanduBatch,
-        "What clocks at an offset, in seconds, show so many nanoseconds from 1970-01-01 0:00 UTC, for each count, up to the first that muxandu_date_time_from_timestamp refuses. Refused BUFFER, with nothing written, where `out` has fewer items than `nanoseconds`.",
+        "The date-time of each Unix nanosecond at an offset in seconds, up to the first that muxandu_date_time_from_timestamp rejects. Errors: BUFFER if `out` has fewer items than `nanoseconds` (the call then writes nothing), else that of the first rejected item.",
     ),
     "muxandu_nanoseconds_from_date_times": (
         [ctypes.c_void_p, ctypes.c_size_t, ctypes.c_void_p, ctypes.c_size_t],
         MuxanduBatch,
-        "The nanoseconds from 1970-01-01 0:00 UTC of each date-time, up to the first that muxandu_timestamp_from_date_time or muxandu_timestamp_to_nanoseconds refuses. Refused BUFFER, with nothing written, where `out` has fewer items than `date_times`.",
+        "The nanoseconds from 1970-01-01 0:00 UTC of each date-time, up to the first that muxandu_timestamp_from_date_time or muxandu_timestamp_to_nanoseconds rejects. Errors: BUFFER if `out` has fewer items than `date_times` (the call then writes nothing), else that of the first rejected item.",
     ),
     "muxandu_date_times_from_rfc3339": (
         [ctypes.c_void_p, ctypes.c_size_t, ctypes.c_void_p, ctypes.c_size_t, ctypes.c_void_p, ctypes.c_size_t],
         MuxanduBatch,
-        "The date-time and the offset of each text of RFC 3339, up to the first that muxandu_date_time_from_rfc3339 refuses, or SPAN, whose span does not lie in the block `texts`. Refused BUFFER, with nothing written, where `out` has fewer items than `spans`.",
+        "The date-time and the offset in each text of RFC 3339, up to the first that muxandu_date_time_from_rfc3339 rejects. A span outside the block `texts` fails with SPAN. Errors: BUFFER if `out` has fewer items than `spans` (the call then writes nothing), else that of the first rejected item.",
     ),
     "muxandu_date_times_from_each_rfc3339": (
         [ctypes.c_void_p, ctypes.c_size_t, ctypes.c_void_p, ctypes.c_size_t, ctypes.c_void_p, ctypes.c_size_t, ctypes.c_void_p, ctypes.c_size_t],
         MuxanduBatch,
-        "The date-time and the offset of each text of RFC 3339, and its status, as muxandu_date_time_from_rfc3339 has them, or SPAN where a span does not lie in the block `texts`: where an item is refused, what is in its place stays, and the next follows. `count` is how many were read. Refused BUFFER, with nothing written, where `out` or `statuses` has fewer items than `spans`.",
+        "The date-time and the offset in each text of RFC 3339, and the status of muxandu_date_time_from_rfc3339 for it. The status is SPAN for a span outside the block `texts`. If an item fails, its place in `out` keeps its contents, and the call continues with the next. `count` is the number of converted items. Errors: BUFFER if `out` or `statuses` has fewer items than `spans`; the call then writes nothing.",
     ),
     "muxandu_date_times_to_rfc3339": (
         [ctypes.c_void_p, ctypes.c_size_t, ctypes.c_void_p, ctypes.c_size_t, ctypes.c_void_p, ctypes.c_size_t],
         MuxanduBatch,
-        "Writes the text of each date-time into the block `texts`, one behind the other with nothing between, and where it lies to `spans`, up to the first that muxandu_date_time_to_rfc3339 refuses, also BUFFER where what is left of `texts` is too short. Refused BUFFER, with nothing written, where `spans` has fewer items than `date_times`.",
+        "Writes the text of each date-time into the block `texts`, one after the other with nothing between, and its place to `spans`. It stops at the first that muxandu_date_time_to_rfc3339 rejects, with BUFFER if the rest of `texts` is too short. Errors: BUFFER if `spans` has fewer items than `date_times` (the call then writes nothing), else that of the first rejected item.",
     ),
     "muxandu_date_time_text": (
         [MuxanduDateTime, ctypes.c_void_p, ctypes.c_size_t, ctypes.POINTER(ctypes.c_size_t)],
         ctypes.c_uint32,
-        "Writes the text of a date-time, as `1970-01-01 0:00:00.0 +00:00:00`, of at most 42 bytes, all ASCII and none 0, at the front of `buffer`, and its length to `size`. Refused as the date-time, then BUFFER where it is longer than `buffer`: then `size` says how long it is, and `buffer` is as it was.",
+        "Writes the text of a date-time, such as `1970-01-01 0:00:00.0 +00:00:00`, to the front of `buffer`, and its length to `size`. The text has at most 42 bytes, all ASCII and none 0. Its form is `[sign]year-month-day hour:minute:second.fraction sign hours:minutes:seconds`, with no blank after the last sign. The year has four to six digits, with `-` before it below 0, and `+` above 9999. The hour has one digit below 10. The fraction has one to nine digits, and ends with 0 only if it is `0`. Each other number has two digits. The offset has `-` below 0, else `+`. Errors, in this order: those of the date-time, BUFFER if the text is longer than `buffer`; `size` is then its length, and `buffer` is unchanged.",
     ),
     "muxandu_timestamp_text": (
         [MuxanduTimestamp, ctypes.c_void_p, ctypes.c_size_t, ctypes.POINTER(ctypes.c_size_t)],
         ctypes.c_uint32,
-        "Writes the text of a timestamp, the signed decimal of its seconds, as `-0.5`, of at most 25 bytes, as muxandu_date_time_text does. Refused as the timestamp, then BUFFER.",
+        "Writes the seconds of a timestamp as a signed decimal, such as `-0.5`, in at most 25 bytes, as muxandu_date_time_text does. Errors, in this order: those of the timestamp, BUFFER.",
     ),
 }
 

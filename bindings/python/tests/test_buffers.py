@@ -39,7 +39,7 @@ class Structures(unittest.TestCase):
     def refused(self, kind, call, *words, **more):
         with self.assertRaises(TypeError) as caught:
             call((kind * 2)(), *words, **more)
-        self.assertIn("items of ", str(caught.exception))
+        self.assertIn("items must have ", str(caught.exception))
 
     def test_another_byte_order(self):
         self.refused(structure(DATE, OTHER_ORDER), muxandu.days_from_dates)
@@ -140,7 +140,7 @@ class Places(unittest.TestCase):
             memory = array.array("q", [7] * 6)
             out = memoryview(memory)[::step]
             for call in (muxandu.seconds_from_date_times, muxandu.milliseconds_from_date_times):
-                self.assertRaisesRegex(TypeError, "side by side", call, [OffsetDateTime(1970, 1, 1)] * 2, out)
+                self.assertRaisesRegex(TypeError, "`out` must be contiguous", call, [OffsetDateTime(1970, 1, 1)] * 2, out)
             self.assertEqual(memory, array.array("q", [7] * 6))
 
     def test_items_that_begin_askew(self):

@@ -3,6 +3,7 @@
 import contextlib
 import datetime
 import doctest
+import importlib
 import io
 import pickle
 import re
@@ -67,9 +68,9 @@ class Timestamps(unittest.TestCase):
         at = Timestamp(-1, 123_456_789)
         self.assertEqual(sorted([LAST, at, EPOCH, FIRST]), [FIRST, at, EPOCH, LAST])
         rounded = [at.truncated_to(unit) for unit in Unit]
-        wanted = [(-86_400, 0), (-3600, 0), (-60, 0), (-1, 0), (-1, 123_000_000), (-1, 123_456_000)]
+        wanted = [(-86_400, 0), (-3600, 0), (-60, 0), (-1, 0), (-1, 123_000_000), (-1, 123_456_000), (-1, 123_456_789)]
         self.assertEqual([(each.seconds, each.nanoseconds) for each in rounded], wanted)
-        for number in (-1, 0, 7, 2**32 + 1):
+        for number in (-1, 0, 8, 2**32 + 1):
             self.assertRaises(muxandu.RefusedUnit, at.truncated_to, number)
         self.assertEqual(len({at, Timestamp(-1, 123_456_789)}), 1)
         self.assertNotEqual(at, -1)
@@ -322,7 +323,7 @@ class Rest(unittest.TestCase):
             (lambda: Timestamp(2**70), 2**70, None),
             (lambda: Timestamp(0, -1), -1, None),
             (lambda: Timestamp(0).to_offset(93_600), 93_600, None),
-            (lambda: Timestamp(0).truncated_to(7), 7, None),
+            (lambda: Timestamp(0).truncated_to(8), 8, None),
             (lambda: Timestamp(0).with_part(5, 24), 24, None),
             (lambda: Timestamp(0).with_part(-1, 24), -1, None),
             (lambda: Date(1_000_000, 1, 1), 1_000_000, None),
@@ -368,6 +369,9 @@ class Rest(unittest.TestCase):
 
     def test_the_example(self):
         self.assertEqual(doctest.testmod(muxandu).failed, 0)
+
+    def test_the_example_of_sql(self):
+        self.assertEqual(doctest.testmod(importlib.import_module("muxandu.sqlite")).failed, 0)
 
     def test_the_example_of_the_page(self):
         page = Path(__file__).resolve().parent.parent.joinpath("README.md").read_text(encoding="utf-8")

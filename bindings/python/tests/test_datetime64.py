@@ -144,7 +144,7 @@ class Moments(unittest.TestCase):
         for call, items in ((muxandu.date_times_from_seconds, [0]), (muxandu.dates_from_days, [0])):
             with self.assertRaises(TypeError) as caught:
                 call(items, out=numpy.zeros(2, dtype="datetime64[s]"))
-            self.assertIn("a buffer of whole numbers or of structures", str(caught.exception))
+            self.assertIn("a buffer of integers or structures", str(caught.exception))
 
     def test_each_moment(self):
         import numpy

@@ -146,7 +146,7 @@ class Masks(unittest.TestCase):
             self.assertEqual(shown["second"].tolist(), [0, 0, 59, 0, 0])
             self.assertEqual(shown["day"].tolist(), [1, 0, 31, 0, 2])
         for other in (0.5, float("inf"), -float("inf")):
-            with self.assertRaisesRegex(TypeError, "item 1 is no whole number"):
+            with self.assertRaisesRegex(TypeError, "item 1 must be an integer"):
                 muxandu.date_times_from_each_second(numpy.array([0, other, NAN]))
         self.assertRaises(TypeError, muxandu.date_times_from_seconds, numpy.array([0.0]))
         self.assertRaises(TypeError, muxandu.date_times_from_each_second, numpy.zeros((2, 2)))

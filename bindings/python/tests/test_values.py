@@ -511,7 +511,7 @@ class Package(unittest.TestCase):
             (lambda: Date(2024, 2, 29, day=5), "Date() has the argument 'day' twice" if is_compiled else "'day'"),
             (
                 lambda: at.to_offset("Z"),
-                "an offset is whole seconds or a UtcOffset, not <class 'str'>" if is_compiled else "'str'",
+                "the offset must be an integer of seconds or a UtcOffset, not <class 'str'>" if is_compiled else "'str'",
             ),
         ):
             with self.assertRaises(TypeError) as caught:
