@@ -35,6 +35,14 @@ def installed(names):
     return found
 
 
+def lacking(names):
+    """Which of the crates Debian has not installed, as a sentence, or None."""
+    folders = os.listdir(REGISTRY) if os.path.isdir(REGISTRY) else []
+    absent = sorted(set(names) - {folder.rpartition("-")[0] for folder in folders})
+    packages = ", ".join(f"librust-{name.replace('_', '-')}-dev" for name in absent)
+    return f"Debian's {packages} is not installed" if absent else None
+
+
 def build(folder, manifest, features, is_over_crates=True):
     """Has cargo build a release of the package in the folder, over Debian's crates if it is over any. The folder of its
     programs."""

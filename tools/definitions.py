@@ -47,9 +47,10 @@ def declarations(path, text):
     """The declarations of an .antt file. The lines of a definition by clauses begin with its name again."""
     current = None
     comment = []
+    is_after_blank = False
     for number, line in enumerate(text.split("\n"), 1):
         if not line.strip():
-            comment = []
+            comment, is_after_blank = [], True
             continue
         if line.startswith("-- ") or IMPORT.match(line):
             comment = [*comment, line] if line.startswith("-- ") else []
@@ -57,8 +58,8 @@ def declarations(path, text):
             continue
         if not line.startswith(" ") and not FIXITY.match(line):
             head = HEAD.match(line)
-            # The clauses of an operator begin with what stands before it.
-            if current is not None and "◌" in current.name and not line.startswith(("abbrev", "unfoldable", "pub")):
+            # The clauses of an operator begin with what stands before it, in the lines after its head.
+            if current is not None and "◌" in current.name and not is_after_blank:
                 head = None
             if head and (current is None or head["name"] not in current.names):
                 unfolds = "abbrev" in head["marks"] or "unfoldable" in head["marks"]
@@ -70,6 +71,7 @@ def declarations(path, text):
             inner = INNER.match(line)
             if inner and " = " not in line:
                 current.names.add(inner["name"])
+        is_after_blank = False
         if current is not None:
             current.words |= words_of(line)
             current.lines.append(line)

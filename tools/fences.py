@@ -11,14 +11,24 @@ from typing import NamedTuple
 
 from gate import REPOSITORY
 
-PAGES = ("README.md", "docs/*.md", "bindings/README.md", "bindings/*/README.md", "bindings/*/*/README.md", "tools/README.md")
+PAGES = (
+    "README.md",
+    "CONTRIBUTING.md",
+    "SECURITY.md",
+    "docs/*.md",
+    "examples/README.md",
+    "bindings/README.md",
+    "bindings/*/README.md",
+    "bindings/*/*/README.md",
+    "tools/README.md",
+)
 
 # The kinds of blocks, by the tool that reads them and by the page. Of a kind that ends with `*` more words may follow.
 READERS = {
     "javascript": {"docs/JAVASCRIPT.md": ("js", "text"), "bindings/js/README.md": ("js", "text")},
     "library": {"docs/C.md": ("c", "rust", "python", "sh", "text")},
     "newcomer": {
-        "README.md": ("sh", "c", "python", "rust program"),
+        "README.md": ("sh", "c", "python", "rust package", "mermaid"),
         "docs/BENCHMARKS.md": ("sh",),
         "docs/C.md": ("sh",),
         "docs/CALLING.md": ("sh", "text crates.txt", "rust root", "rust refused", "text"),
@@ -33,16 +43,17 @@ READERS = {
     },
     "package_beside_time": {"docs/RUST.md": ("diff", "text")},
     "pages": {
-        "README.md": ("rust", "rust program"),
+        "README.md": ("rust",),
+        "CONTRIBUTING.md": ("text crates/*",),
         "docs/C.md": ("text muxandu.h",),
         "docs/CALLING.md": ("rust", "rust program"),
-        "docs/COOKBOOK.md": ("rust",),
+        "docs/COOKBOOK.md": ("rust", "rust program"),
         "docs/PROGRAM.md": ("lines", "sh run *"),
         "docs/DEFINITIONS.md": ("rust", "text"),
         "docs/STATEMENT.md": ("rust", "text"),
     },
     "python": {"docs/PYTHON.md": ("python", "sh", "text")},
-    "sqlite": {"docs/SQL.md": ("sql", "text")},
+    "sqlite": {"docs/SQL.md": ("python", "sql", "text")},
     "stamps": {"docs/STAMPS.md": ("log *", "stamps")},
 }
 

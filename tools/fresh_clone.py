@@ -8,6 +8,7 @@ import signal
 import subprocess
 
 from gate import ARCHIVE, PROVED, REPOSITORY, SHARED_FOLDER, crates, program, wait_for
+from version import version
 
 # Variables of whoever runs this step that a newcomer has not.
 NOT_OURS = (
@@ -87,6 +88,8 @@ class FreshClone:
         git("add", "--all", root=self.root)
         author = ("-c", "user.name=A Newcomer", "-c", "user.email=newcomer@example.org")
         git(*author, "commit", "--quiet", "--allow-empty", "--message=What is not committed", root=self.root)
+        # what is here is the version that a page fetches by its tag
+        git("tag", "--force", version(), root=self.root)
         self.hand_over(self.root, crates(self.root))
         for crate, path in self.built.items():
             if os.path.exists(path):

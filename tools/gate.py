@@ -193,8 +193,8 @@ def copy_repository(folder, repository=REPOSITORY):
 
 def fresh_copy(folder, repository=REPOSITORY):
     """The path of a copy of a repository in the folder, as a clone of it has its files: with the edits that are not committed,
-    and without what checks have kept. Wrong bodies are left out, since no command but the gate reads them."""
-    copy, left_out = os.path.join(folder, "fresh copy"), ("wrong", "must-fail")
+    and without what checks have kept. Wrong and right bodies are left out, since no command but the gate reads them."""
+    copy, left_out = os.path.join(folder, "fresh copy"), ("wrong", "must-fail", "right")
     words = ["git", "ls-files", "-z", "--cached", "--others", "--exclude-standard"]
     listed = subprocess.run(words, cwd=repository, stdout=subprocess.PIPE, stderr=subprocess.DEVNULL, check=False)
     if listed.returncode != 0:

@@ -37,6 +37,7 @@ def end_all(made):
     if stale:
         tool = os.path.relpath(sys.argv[0], os.getcwd())
         sys.exit(f"not in step with the sources: {', '.join(stale)}: {tool} write")
+    print(f"{len(made)} made files are {'written' if words == ['write'] else 'in step with the sources'}")
     sys.exit(0)
 
 

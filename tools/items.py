@@ -20,7 +20,7 @@ TYPE = re.compile(r"pub (?P<kind>struct|enum|trait) (?P<name>\w+)")
 REEXPORTS = re.compile(r"pub use [\w:]*?(?:(\w+);|\{([^}]*)\};)")
 DERIVED = re.compile(r"#\[derive\((.*)\)\]")
 CLAUSE = re.compile(r"\s*(?:requires|ensures|ghost|//|#\[)")
-NAMED_LINK = re.compile(r"\[(`[^`]+`)\](?!\()")
+NAMED_LINK = re.compile(r"\[(`[^`]+`)\](?:\(crate::[^)]*\)|(?!\())")
 SENTENCE = re.compile(r"(.+?\.)(?= [A-Z`\[]|$)", re.DOTALL)
 
 

@@ -19,7 +19,7 @@ SAID = """(() => {
 })()"""
 
 # The fields, by their accessible names, each with whether it is invalid and what describes it.
-NAMES = ("A text of RFC 3339, or a Unix second", "At the offset", "The difference to another, if you like")
+NAMES = ("A text of RFC 3339, or a Unix second", "At the offset", "Compare with another (optional)")
 ORDER = (
     "at",
     "offset",
@@ -33,6 +33,12 @@ ORDER = (
     "the last nanosecond",
     "now",
     "link",
+    "Python",
+    "Rust",
+    "C",
+    "JavaScript",
+    "SQL",
+    "Concepts",
 )
 
 # What the fields have in pictures: an answer, a refusal, the end of the range, and a text that is long.
@@ -69,7 +75,7 @@ def use_keys(browser, address):
     for _ in ORDER:
         order.append(page.value(FOCUSED))
         page.press("Tab")
-    yield "Tab goes through the fields, the examples and the link", None if tuple(order) == ORDER else f"in the order {order}"
+    yield "Tab goes through the fields, the examples and the links", None if tuple(order) == ORDER else f"in the order {order}"
     page = Page(browser, address, 900)
     page.type("2023-02-29T00:00:00Z")
     wanted = [(name, name == NAMES[0], f"{NAMES[0]} DAY_OF_MONTH " if name == NAMES[0] else "") for name in NAMES]

@@ -1,10 +1,10 @@
 #!/usr/bin/env python3
-"""Builds the Rust package where a build is not the usual one: without its archive, with another library, in a folder that was
-moved, after it was packed, over a new archive, and with literals that name no date.
+"""Builds the Rust package where a build is not the usual one: after it was packed, in place of the crate `time`, with each
+feature of that crate, without std, and with literals that name no date.
 
-    python3 tools/rust_builds.py ARCHIVE [CASE]
+    python3 tools/rust_builds.py [CASE]
 
-tools/library has all cases tried. With CASE that one alone is. The last line is 'N passed, M failed, K skipped', a build each.
+tools/library has all cases tried. With CASE that one alone is. The last line is 'N passed, M failed', a build each.
 """
 
 import os
@@ -14,14 +14,11 @@ import subprocess
 import sys
 import tempfile
 
-from debian_crates import write
+from debian_crates import SOURCE, lacking, write
 from gate import REPOSITORY, Tally
 
-NAME = "libmuxandu.a"
-
-# What the build says of an archive that is not there, in the warning and where something is linked.
-WARNING = f"{NAME} is not there: build it with ./build-library, or name its folder in MUXANDU_LIB_DIR"
-ERROR = "could not find native static library `muxandu (./build-library builds it, and MUXANDU_LIB_DIR names its folder)`"
+# The crates that features of the folder `time` need, and its tests.
+CRATES = ("quickcheck", "rand", "serde", "serde_derive", "serde_json")
 
 # What cargo says of a package that is published nowhere.
 NO_ADDRESS = "manifest has no documentation, homepage or repository"
@@ -36,20 +33,72 @@ edition = "2024"
 muxandu = {{ path = "{}" }}
 """
 
-VERSION = 'fn main() {\n    println!("version {}", muxandu::version());\n}\n'
+# A library over `time`.
+LIBRARY_MANIFEST = """\
+[package]
+name = "library"
+version = "0.0.0"
+edition = "2024"
+
+[dependencies]
+time = { version = "0.3", features = ["macros", "formatting", "parsing", "large-dates"] }
+"""
+
+LIBRARY = """\
+use time::OffsetDateTime;
+use time::ext::NumericalDuration;
+use time::macros::datetime;
+
+pub const LAST: OffsetDateTime = datetime!(9999-12-31 23:59:59 UTC);
+
+pub fn earlier() -> OffsetDateTime {
+    LAST - 90.minutes()
+}
+"""
+
+# A program over that library, in which `time` is this package's, and has the name `muxandu`.
+PATCHED = """\
+[package]
+name = "caller"
+version = "0.0.0"
+edition = "2024"
+
+[dependencies]
+library = {{ path = "library" }}
+muxandu = {{ package = "time", version = "0.3", features = ["serde-human-readable"] }}
+serde_json = "1"
+
+[patch.crates-io]
+time = {{ path = "{}" }}
+"""
+
+CALLER = """\
+fn main() {
+    let earlier: muxandu::OffsetDateTime = library::earlier();
+    println!("{earlier}");
+    println!("{}", serde_json::to_string(&vec![earlier.date()]).unwrap());
+}
+"""
+CALLED = '9999-12-31 22:29:59.0 +00:00:00\n["9999-12-31"]\n'
+
+# The features of the folder `time`, each of which builds alone.
+FEATURES = (
+    "alloc", "formatting", "large-dates", "local-offset", "macros", "parsing", "quickcheck", "rand", "serde",
+    "serde-human-readable", "serde-well-known", "std",
+)  # fmt: skip
 
 # Literals that name no date or time, and what the compiler must say of each in its line.
 LITERALS = {
-    "date!(2023-02-29)": "DAY_OF_MONTH",
-    "date!(2023-366)": "ORDINAL_OF_YEAR",
-    "date!(2023-W53-1)": "WEEK_OF_YEAR",
-    "date!(1000000-01-01)": "YEAR",
-    "time!(24:00)": "HOUR",
-    "offset!(+1:60)": "OFFSET_MINUTE",
-    "datetime!(2024-02-29 1:60)": "MINUTE",
-    "datetime!(2024-13-01 1:00 UTC)": "MONTH",
-    "utc_datetime!(2024-02-00 0:00)": "DAY",
-    "timestamp!(99_999_999_999_999)": "TIMESTAMP",
+    "date!(2023-02-29)": "the month of that year does not have the day",
+    "date!(2023-366)": "the year does not have 366 days",
+    "date!(2023-W53-1)": "the year does not have 53 weeks",
+    "date!(1000000-01-01)": "the year is out of the range, -999999 to 999999",
+    "time!(24:00)": "the hour is not 0 to 23",
+    "offset!(+1:60)": "the minutes of the offset are not -59 to 59",
+    "datetime!(2024-02-29 1:60)": "the minute is not 0 to 59",
+    "datetime!(2024-13-01 1:00 UTC)": "the month is not 1 to 12",
+    "utc_datetime!(2024-02-00 0:00)": "the day is not 1 to 31",
+    "timestamp!(99_999_999_999_999)": "the seconds are out of their range",
     "date!(2023)": None,
     "date!(tomorrow)": None,
     "time!(1)": None,
@@ -60,10 +109,10 @@ NO_LITERAL = {"date": "no date: ", "time": "no time of day: ", "datetime": "no d
 
 
 class Package:
-    """The Rust package, an archive for it, and a folder for what is built."""
+    """The Rust package, and a folder for what is built."""
 
-    def __init__(self, folder, archive, work):
-        self.folder, self.archive, self.work = folder, archive, work
+    def __init__(self, folder, work):
+        self.folder, self.work = folder, work
         self.target = os.path.join(work, "target")
 
     def place(self, name):
@@ -73,12 +122,11 @@ class Package:
         return path
 
     def cargo(self, *words, folder=None, **variables):
-        """Runs cargo in the folder of the package, or in another. No variable of the caller's names another library."""
-        kept = {name: value for name, value in os.environ.items() if not name.startswith("MUXANDU")}
+        """Runs cargo in the folder of the package, or in another."""
         return subprocess.run(
             ["cargo", *words, "--offline"],
             cwd=folder or self.folder,
-            env={**kept, "CARGO_TARGET_DIR": self.target, **variables},
+            env={**os.environ, "CARGO_TARGET_DIR": self.target, **variables},
             stdin=subprocess.DEVNULL,
             stdout=subprocess.PIPE,
             stderr=subprocess.STDOUT,
@@ -87,18 +135,12 @@ class Package:
             check=False,
         )
 
-    def caller(self, name, program):
-        """The folder of a program over the package."""
+    def caller(self, name, program, manifest, path):
+        """The folder of a program over a package at a path."""
         folder = self.place(name)
-        write(os.path.join(folder, "Cargo.toml"), MANIFEST.format(self.folder))
+        write(os.path.join(folder, "Cargo.toml"), manifest.format(path))
         write(os.path.join(folder, "src", "main.rs"), program)
         return folder
-
-
-def declarations(package):
-    """The text of sys.rs."""
-    with open(os.path.join(package.folder, "src", "sys.rs"), encoding="utf-8") as file:
-        return file.read()
 
 
 def build_problem(ended):
@@ -106,171 +148,99 @@ def build_problem(ended):
     return None if ended.returncode == 0 else f"status {ended.returncode}", ended.stdout
 
 
-def refusal_problem(ended, *texts):
-    """Why a build did not fail with these texts, or None."""
-    left = [text for text in texts if text not in ended.stdout]
-    return None if ended.returncode != 0 and not left else f"it does not say {left}", ended.stdout
-
-
-def check_without_an_archive(package):
-    """A check, the pages and clippy need no archive, and say where it must be."""
-    nowhere = package.place("nowhere")
-    commands = [("check", "--all-targets"), ("doc", "--no-deps")]
-    if package.cargo("clippy", "--version").returncode == 0:
-        commands.append(("clippy", "--all-targets"))
-    for words in commands:
-        ended = package.cargo(*words, MUXANDU_LIB_DIR=nowhere)
-        if ended.returncode != 0 or WARNING not in ended.stdout:
-            return f"cargo {words[0]}: status {ended.returncode}", ended.stdout
-    return None, ""
-
-
-def link_without_an_archive(package):
-    """A program and the tests need the archive, and both messages name ./build-library."""
-    nowhere = package.place("no_archive")
-    for words in (("build",), ("test", "--no-run")):
-        problem, printed = refusal_problem(package.cargo(*words, MUXANDU_LIB_DIR=nowhere), WARNING, ERROR)
-        if problem:
-            return f"cargo {words[0]}: {problem}", printed
-    return None, ""
-
-
-def empty_object(package):
-    """The bytes of an object without calls."""
-    path = os.path.join(package.place("empty"), "empty.o")
-    subprocess.run(["cc", "-x", "c", "-c", "/dev/null", "-o", path], check=True)
-    with open(path, "rb") as file:
-        return file.read()
-
-
-def link_another_file(package):
-    """What is no library, is for another machine, or lacks a call is named, and not linked."""
-    empty = empty_object(package)
-    cases = {
-        "is no archive of objects": b"!<arch>\n",
-        "is for aarch64, and the program for x86_64": empty[:18] + (183).to_bytes(2, "little") + empty[20:],
-        "has no call muxandu_version:": empty,
-    }
-    place = package.place("others")
-    for text, content in cases.items():
-        with open(os.path.join(place, NAME), "wb") as file:
-            file.write(content)
-        problem, printed = refusal_problem(package.cargo("build", MUXANDU_LIB_DIR=place), text)
-        if problem:
-            return problem, printed
-    return None, ""
-
-
 def copy_of(package, name):
-    """The folder of a copy of the package, which has its archive where ./build-library lays it out."""
-    root = package.place(name)
-    folder = os.path.join(root, "bindings", "rust")
+    """The folder of a copy of the package alone."""
+    folder = os.path.join(package.place(name), "rust")
     shutil.copytree(package.folder, folder, ignore=shutil.ignore_patterns("target"))
-    lib = os.path.join(root, "dist", "lib")
-    os.makedirs(lib)
-    shutil.copy(package.archive, os.path.join(lib, NAME))
     return folder
 
 
-def build_after_a_move(package):
-    """The package is built, its folder is moved, and it is built again."""
-    folder = copy_of(package, "before")
-    target = os.path.join(package.work, "moved")
-    problem, printed = build_problem(package.cargo("build", folder=folder, CARGO_TARGET_DIR=target))
-    if problem:
-        return problem, printed
-    moved = os.path.join(package.work, "after")
-    shutil.move(os.path.join(package.work, "before"), moved)
-    folder = os.path.join(moved, "bindings", "rust")
-    return build_problem(package.cargo("build", folder=folder, CARGO_TARGET_DIR=target))
-
-
 def build_after_packing(package):
-    """What cargo packs is built, and then the package itself."""
+    """What cargo packs is built where nothing of the repository is, and then the package itself."""
     folder = copy_of(package, "packed")
     target = os.path.join(package.work, "packing")
-    lib = os.path.join(package.work, "packed", "dist", "lib")
-    words = ("package", "--allow-dirty")
-    ended = package.cargo(*words, folder=folder, CARGO_TARGET_DIR=target, MUXANDU_LIB_DIR=lib)
+    ended = package.cargo("package", "--allow-dirty", folder=folder, CARGO_TARGET_DIR=target)
     warnings = [line for line in re.findall("^warning: (.*)", ended.stdout, re.MULTILINE) if line != NO_ADDRESS]
     if ended.returncode != 0 or warnings:
         return f"cargo package: status {ended.returncode}, {warnings}", ended.stdout
     return build_problem(package.cargo("build", "--examples", folder=folder, CARGO_TARGET_DIR=target))
 
 
-def stub(package, lib, answer):
-    """Puts an archive in the folder in place of the one there: each call of it returns the same number."""
-    names = re.findall(r" fn (muxandu_\w+)\(", declarations(package))
-    source = os.path.join(lib, "stub.c")
-    write(source, "".join(f"unsigned {name}(void) {{ return {answer}; }}\n" for name in names))
-    compiled = os.path.join(lib, "stub.o")
-    subprocess.run(["cc", "-c", source, "-o", compiled], check=True)
-    path = os.path.join(lib, NAME)
-    if os.path.exists(path):
-        os.remove(path)
-    subprocess.run(["ar", "rcs", path, compiled], check=True)
+def build_without_std(package):
+    """The package is built over core and alloc."""
+    return build_problem(package.cargo("build", "--no-default-features"))
 
 
-def build_over_a_new_archive(package):
-    """A program has the calls of the archive that is there, also where another was there before."""
-    lib = package.place("changed")
-    folder = package.caller("version", VERSION)
-    for answer in (7, 8):
-        stub(package, lib, answer)
-        ended = package.cargo("run", folder=folder, MUXANDU_LIB_DIR=lib)
-        if ended.returncode != 0 or f"version {answer}\n" not in ended.stdout:
-            return f"it has not the archive that returns {answer}", ended.stdout
-    return None, ""
+def build_in_place_of_time(package):
+    """A library over `time` has this package by the manifest of a program alone, and its types are those of the program."""
+    folder = package.caller("patched", CALLER, PATCHED, os.path.join(package.folder, "time"))
+    write(os.path.join(folder, "library", "Cargo.toml"), LIBRARY_MANIFEST)
+    write(os.path.join(folder, "library", "src", "lib.rs"), LIBRARY)
+    write(os.path.join(folder, ".cargo", "config.toml"), SOURCE)
+    ended = package.cargo("run", "--quiet", folder=folder)
+    if (ended.returncode, ended.stdout) != (0, CALLED):
+        return f"status {ended.returncode}, must print {CALLED!r}", ended.stdout
+    # Where the package is not what the library asks for, cargo takes the crate of the registry without a word.
+    tree = package.cargo("tree", "--prefix", "none", folder=folder).stdout
+    others = [
+        line for line in tree.splitlines() if line.startswith("time v") and os.path.join(package.folder, "time") not in line
+    ]
+    return f"cargo takes {others[0]}" if others else None, tree
+
+
+def build_each_feature(package):
+    """Each feature builds alone, and cargo names one that is not there."""
+    folder = os.path.join(package.place("features"), "rust")
+    shutil.copytree(package.folder, folder, ignore=shutil.ignore_patterns("target"))
+    folder = os.path.join(folder, "time")
+    write(os.path.join(folder, ".cargo", "config.toml"), SOURCE)
+    for feature in FEATURES:
+        words = ["check", "--quiet", "--no-default-features", "--features", feature]
+        ended = package.cargo(*words, folder=folder, RUSTFLAGS="-D warnings")
+        if ended.returncode != 0:
+            return f"{feature}: status {ended.returncode}", ended.stdout
+    ended = package.cargo("check", "--features", "wasm", folder=folder)
+    return None if ended.returncode and "wasm" in ended.stdout else "cargo has a feature `wasm`", ended.stdout
 
 
 def test_literals(package):
-    """The compiler names the line of each literal that names no date, and what the library says of it."""
-    refusals = re.findall(r'#\[doc = "(.*)"\]\s*\w+ = REFUSED_\w+, "(\w+)";', declarations(package))
-    sentences = {name: sentence for sentence, name in refusals}
+    """The compiler names the line of each literal that names no date, and says what is wrong with it."""
     lines = [f"    let _ = muxandu::macros::{literal};" for literal in LITERALS]
-    folder = package.caller("literals", "\n".join(["fn main() {", *lines, "}", ""]))
-    ended = package.cargo("check", folder=folder, MUXANDU_LIB_DIR=os.path.dirname(package.archive))
+    folder = package.caller("literals", "\n".join(["fn main() {", *lines, "}", ""]), MANIFEST, package.folder)
+    ended = package.cargo("check", folder=folder)
     said = {}
     for text, line in re.findall(r"^error(?:\[E0080\])?: (.*)\n\s*--> src/main.rs:(\d+):", ended.stdout, re.MULTILINE):
         said[int(line)] = text.removeprefix("evaluation panicked: ")
-    for line, (literal, name) in enumerate(LITERALS.items(), 2):
+    for line, (literal, sentence) in enumerate(LITERALS.items(), 2):
         macro, _, parts = literal.rstrip(")").partition("!(")
         # The compiler chooses the spaces between the tokens of a literal.
-        wanted = sentences[name] if name else NO_LITERAL[macro] + parts
+        wanted = sentence or NO_LITERAL[macro] + parts
         if said.get(line, "").replace(" ", "") != wanted.replace(" ", ""):
             return f"{literal} must be {wanted!r}, and is {said.get(line)!r}", ended.stdout
     return None, ""
 
 
-CASES = {
-    case.__name__: case
-    for case in (
-        check_without_an_archive,
-        link_without_an_archive,
-        link_another_file,
-        build_after_a_move,
-        build_after_packing,
-        build_over_a_new_archive,
-        test_literals,
-    )
-}
+OVER_CRATES = (build_in_place_of_time, build_each_feature)
+CASES = {case.__name__: case for case in (build_after_packing, build_without_std, *OVER_CRATES, test_literals)}
 
 
-def count(tally, folder, archive, names=tuple(CASES)):
+def count(tally, folder, names=tuple(CASES)):
     """Counts these cases of the package in that folder."""
     with tempfile.TemporaryDirectory(prefix="rust-builds-") as work:
-        package = Package(folder, archive, work)
+        package, absent = Package(folder, work), lacking(CRATES)
         for name in names:
+            if absent and CASES[name] in OVER_CRATES:
+                tally.skip(f"Rust package: {name}", absent)
+                continue
             problem, printed = CASES[name](package)
             tally.count(f"Rust package: {name}", problem, printed)
 
 
 def main():
-    if len(sys.argv) not in (2, 3) or sys.argv[2:] and sys.argv[2] not in CASES:
-        sys.exit(f"usage: {sys.argv[0]} ARCHIVE [{' | '.join(CASES)}]")
+    if len(sys.argv) > 2 or set(sys.argv[1:]) - set(CASES):
+        sys.exit(f"usage: {sys.argv[0]} [{' | '.join(CASES)}]")
     tally = Tally()
-    folder = os.path.join(REPOSITORY, "bindings", "rust")
-    count(tally, folder, os.path.abspath(sys.argv[1]), sys.argv[2:] or tuple(CASES))
+    count(tally, os.path.join(REPOSITORY, "bindings", "rust"), sys.argv[1:] or tuple(CASES))
     tally.end()
 
 

@@ -3,8 +3,9 @@
 import os
 from dataclasses import dataclass, field
 
-# Where wrong bodies stand in a crate.
+# Where wrong bodies stand in a crate, and where right ones of another shape.
 FOLDERS = ("must-fail", "wrong")
+RIGHT_FOLDERS = ("right",)
 
 
 @dataclass
@@ -44,14 +45,19 @@ def read(path):
     return wrong
 
 
-def wrong_bodies(folder, names=()):
+def wrong_bodies(folder, names=(), parts=FOLDERS):
     """The wrong bodies of a crate, or those of these names."""
     found = []
-    for part in FOLDERS:
+    for part in parts:
         inside = os.path.join(folder, part)
         files = sorted(os.listdir(inside)) if os.path.isdir(inside) else []
         found += [read(os.path.join(inside, file)) for file in files if file.endswith(".edit")]
     return [wrong for wrong in found if not names or wrong.name in names]
+
+
+def right_bodies(folder):
+    """The right bodies of a crate, which are read as the wrong ones."""
+    return wrong_bodies(folder, parts=RIGHT_FOLDERS)
 
 
 def put(folder, texts, wrong):

@@ -1,5 +1,8 @@
 //! Measures calls of the crates in a caller's loop, beside the same work in bare Rust and, where they are installed, by the
-//! crates `time` and chrono. tools/call_speed builds it; its words are the number of rounds.
+//! crates `time` and chrono. tools/call_speed builds it:
+//!
+//!     calls names          prints the names of the rows
+//!     calls ROUNDS NAME    measures a row
 use std::ffi::c_int;
 
 mod bare;
@@ -14,6 +17,9 @@ const HELD: usize = 16_384;
 const SORTED: usize = 100_000;
 pub const CALLS: usize = 8;
 const COMPARED: usize = 4_000;
+
+// The seconds that values lie within which are sorted and near one another.
+const TWO_DAYS: i64 = 172_800;
 
 // The processor time, in nanoseconds, that a measurement of one contender takes at least.
 const LEAST: u64 = 4_000_000;
@@ -379,13 +385,6 @@ fn compare_answers(row: &Row) {
     }
 }
 
-// The middle one, and those a quarter from either end.
-fn quartiles(mut numbers: Vec<f64>) -> (f64, f64, f64) {
-    numbers.sort_by(f64::total_cmp);
-    let at = |part: usize| numbers[(numbers.len() - 1) * part / 4];
-    (at(1), at(2), at(3))
-}
-
 fn measure(kind: &str, row: &Row, rounds: usize) {
     let views = views(&row.input);
     let count = row.input.seconds.len().max(views.len()) as f64;
@@ -415,16 +414,8 @@ fn measure(kind: &str, row: &Row, rounds: usize) {
         }
     }
     for (contender, own) in row.contenders.iter().zip(&times) {
-        let ratios = own
-            .iter()
-            .zip(&times[0])
-            .map(|(own, bare)| own / bare)
-            .collect();
-        let ((low, middle, high), (_, ratio, _)) = (quartiles(own.clone()), quartiles(ratios));
-        println!(
-            "{kind}|{}|{}|{middle:.2}|{low:.2}|{high:.2}|{ratio:.3}",
-            row.name, contender.name
-        );
+        let told: Vec<String> = own.iter().map(|time| format!("{time:.3}")).collect();
+        println!("{kind}|{}|{}|{}", row.name, contender.name, told.join(","));
     }
 }
 
@@ -487,6 +478,10 @@ fn rows(source: &mut Source, first: i64, last: i64) -> Vec<Row> {
     let plain = with(&seconds, &mixed);
     let long_seconds: Vec<i64> = (0..SORTED).map(|_| source.between(first, last)).collect();
     let long_offsets: Vec<i32> = (0..SORTED).map(|_| quarters(source)).collect();
+    let from = source.between(first, last - TWO_DAYS);
+    let long_near: Vec<i64> = (0..SORTED)
+        .map(|_| source.between(from, from + TWO_DAYS))
+        .collect();
     let of_years: Vec<i64> = seconds
         .iter()
         .map(|second| (*second).max(-62_000_000_000))
@@ -570,6 +565,13 @@ fn rows(source: &mut Source, first: i64, last: i64) -> Vec<Row> {
             "here": Loop::Linked(calls_sorted); sorted, Rust, "time", "chrono"),
         ),
         row(
+            "sort near",
+            &with(&long_near, &long_offsets),
+            SORTED,
+            contenders!(bare::sorted;
+            "here": Loop::Linked(calls_sorted); sorted, Rust, "time", "chrono"),
+        ),
+        row(
             "RFC 3339 written",
             &fractions,
             1,
@@ -594,17 +596,22 @@ fn rows(source: &mut Source, first: i64, last: i64) -> Vec<Row> {
     ]
 }
 
-fn run(rounds: usize, only: &str) {
+// The last days of the years -9999 and 9999 are left out, so that an offset and a sum stay in the range of all.
+const YEARS: [(&str, i64, i64); 2] = [
+    ("2017 to 2021", 1_483_228_800, 1_640_995_199),
+    ("-9999 to 9999", -377_700_000_000, 253_390_000_000),
+];
+
+fn run(words: &[String]) {
     let mut source = Source(88_172_645_463_325_252);
-    // The last days of the years -9999 and 9999 are left out, so that an offset and a sum stay in the range of all.
-    for (kind, first, last) in [
-        ("2017 to 2021", 1_483_228_800, 1_640_995_199),
-        ("-9999 to 9999", -377_700_000_000, 253_390_000_000),
-    ] {
-        for row in rows(&mut source, first, last)
-            .iter()
-            .filter(|row| row.name.contains(only))
-        {
+    for (kind, first, last) in YEARS {
+        let rows = rows(&mut source, first, last);
+        if words[0] == "names" {
+            rows.iter().for_each(|row| println!("{}", row.name));
+            return;
+        }
+        let rounds = words[0].parse().expect("a number of rounds");
+        for row in rows.iter().filter(|row| row.name == words[1]) {
             compare_answers(row);
             measure(kind, row, rounds);
         }
@@ -613,13 +620,9 @@ fn run(rounds: usize, only: &str) {
 
 fn main() {
     let words: Vec<String> = std::env::args().skip(1).collect();
-    let rounds = words
-        .first()
-        .map_or(21, |word| word.parse().expect("a number of rounds"));
-    let only = words.get(1).cloned().unwrap_or_default();
     // The tables of the loops stand on the stack.
     let runner = std::thread::Builder::new()
         .stack_size(1 << 28)
-        .spawn(move || run(rounds, &only));
+        .spawn(move || run(&words));
     runner.expect("a thread").join().expect("all answers");
 }

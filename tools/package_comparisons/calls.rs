@@ -1,9 +1,12 @@
 // Every call that the package and `time` 0.3.9 have, by the same text over either: `library` is one of them.
+use std::collections::hash_map::DefaultHasher;
 use std::fmt::Write as _;
+use std::hash::{Hash, Hasher};
 use std::hint::black_box;
 
 use library::error::ComponentRange;
 use library::ext::{NumericalDuration, NumericalStdDuration};
+use library::format_description::well_known::Rfc3339;
 use library::{Date, Duration, Month, OffsetDateTime, PrimitiveDateTime, Time, UtcOffset, Weekday};
 
 use crate::source::Input;
@@ -11,33 +14,12 @@ use crate::source::Input;
 /// What a call answers.
 type Answers = Vec<i128>;
 
-const MONTHS: [Month; 12] = [
-    Month::January,
-    Month::February,
-    Month::March,
-    Month::April,
-    Month::May,
-    Month::June,
-    Month::July,
-    Month::August,
-    Month::September,
-    Month::October,
-    Month::November,
-    Month::December,
-];
-
-const WEEKDAYS: [Weekday; 7] = [
-    Weekday::Monday,
-    Weekday::Tuesday,
-    Weekday::Wednesday,
-    Weekday::Thursday,
-    Weekday::Friday,
-    Weekday::Saturday,
-    Weekday::Sunday,
-];
-
 fn month(input: &Input) -> Month {
-    MONTHS[usize::from(input.month - 1)]
+    Month::try_from(input.month).unwrap()
+}
+
+fn weekday(input: &Input) -> Weekday {
+    (0..input.weekday).fold(Weekday::Monday, |weekday, _| weekday.next())
 }
 
 fn put_text(text: &str, out: &mut Answers) {
@@ -270,7 +252,7 @@ fn put_lengths(duration: Duration, input: &Input, out: &mut Answers) {
 
 /// Numbers and names of months and of days of the week.
 fn put_names(input: &Input, out: &mut Answers) {
-    let weekday = WEEKDAYS[usize::from(input.weekday)];
+    let weekday = weekday(input);
     put!(out, Month::try_from(input.day));
     put_display(&month(input), out);
     put_display(&weekday, out);
@@ -295,7 +277,7 @@ pub fn answers(input: &Input, out: &mut Answers) {
         out,
         Date::from_calendar_date(input.year, month(input), input.day),
         Date::from_ordinal_date(input.year, input.ordinal),
-        Date::from_iso_week_date(input.year, input.week, WEEKDAYS[usize::from(input.weekday)]),
+        Date::from_iso_week_date(input.year, input.week, weekday(input)),
         Date::from_julian_day(input.julian_day),
         Time::from_hms(hour, minute, second),
         Time::from_hms_milli(hour, minute, second, input.small as u16),
@@ -304,11 +286,11 @@ pub fn answers(input: &Input, out: &mut Answers) {
         UtcOffset::from_whole_seconds(input.offset_seconds),
         month(input).next(),
         month(input).previous(),
-        WEEKDAYS[usize::from(input.weekday)].next(),
-        WEEKDAYS[usize::from(input.weekday)].previous(),
-        WEEKDAYS[usize::from(input.weekday)].number_from_sunday(),
-        WEEKDAYS[usize::from(input.weekday)].number_from_monday(),
-        WEEKDAYS[usize::from(input.weekday)].number_days_from_sunday(),
+        weekday(input).next(),
+        weekday(input).previous(),
+        weekday(input).number_from_sunday(),
+        weekday(input).number_from_monday(),
+        weekday(input).number_days_from_sunday(),
         OffsetDateTime::from_unix_timestamp(input.second),
     );
     // 0.3.9 has no offset of 24 hours and more.
@@ -555,13 +537,39 @@ pub fn answers(input: &Input, out: &mut Answers) {
     put_display(&offset, out);
 }
 
+macro_rules! sizes {
+    ($($name:literal $Type:ident)+) => {
+        /// The bytes of each type, and of an `Option` of it.
+        pub const SIZES: &[(&str, (usize, usize))] = &[
+            $(($name, (size_of::<$Type>(), size_of::<Option<$Type>>()))),+
+        ];
+    };
+}
+
+sizes! {
+    "Date" Date
+    "Time" Time
+    "UtcOffset" UtcOffset
+    "Duration" Duration
+    "PlainDateTime" PrimitiveDateTime
+    "OffsetDateTime" OffsetDateTime
+    "Month" Month
+    "Weekday" Weekday
+}
+
 /// Values that loops go over.
 pub struct Data {
     inputs: Vec<Input>,
+    months: Vec<Month>,
+    weekdays: Vec<Weekday>,
+    names: Vec<(String, String)>,
+    texts: Vec<String>,
     dates: Vec<Date>,
     times: Vec<Time>,
     plain: Vec<PrimitiveDateTime>,
     shown: Vec<OffsetDateTime>,
+    near: Vec<OffsetDateTime>,
+    minutes: Vec<OffsetDateTime>,
     offsets: Vec<UtcOffset>,
     durations: Vec<Duration>,
 }
@@ -598,24 +606,73 @@ impl Data {
             .zip(&offsets)
             .map(|(plain, offset)| plain.assume_offset(*offset))
             .collect();
+        // Within two days of one another, at the same offsets.
+        let near: Vec<OffsetDateTime> = inputs
+            .iter()
+            .zip(&offsets)
+            .map(|(input, offset)| {
+                let second = 1_709_164_800 + input.second.rem_euclid(172_800);
+                let at = OffsetDateTime::from_unix_timestamp(second).unwrap();
+                (at + Duration::nanoseconds(i64::from(input.nanosecond))).to_offset(*offset)
+            })
+            .collect();
         let durations = inputs
             .iter()
             .map(|input| Duration::new(input.seconds % 100_000_000, input.nanoseconds))
             .collect();
+        let months: Vec<Month> = inputs.iter().map(month).collect();
+        let weekdays: Vec<Weekday> = inputs.iter().map(weekday).collect();
+        let names = months.iter().zip(&weekdays);
+        let names = names.map(|(month, weekday)| (month.to_string(), weekday.to_string()));
         Data {
             inputs: inputs.to_vec(),
+            names: names.collect(),
+            texts: in_minutes(&near)
+                .map(|at| at.format(&Rfc3339).unwrap())
+                .collect(),
+            minutes: in_minutes(&near).collect(),
+            months,
+            weekdays,
             dates,
             times,
             plain,
             shown,
+            near,
             offsets,
             durations,
         }
     }
+
+    /// The orders of neighbours, and the instants when they are sorted: what comparisons must have alike.
+    pub fn orders(&self) -> Answers {
+        let mut found = Answers::new();
+        for list in [&self.shown, &self.near] {
+            found.extend(list.windows(2).map(|pair| i128::from(pair[0] < pair[1])));
+            let mut sorted = list.clone();
+            sorted.sort_unstable();
+            found.extend(sorted.iter().map(|at| at.unix_timestamp_nanos()));
+        }
+        found
+    }
+}
+
+/// The instants at offsets of whole minutes, which have texts of RFC 3339.
+fn in_minutes(near: &[OffsetDateTime]) -> impl Iterator<Item = OffsetDateTime> {
+    near.iter().map(|at| {
+        let seconds = i32::from(at.offset().whole_minutes()) * 60;
+        at.to_offset(UtcOffset::from_whole_seconds(seconds).unwrap())
+    })
+}
+
+fn hash(value: &impl Hash) -> u64 {
+    let mut hasher = DefaultHasher::new();
+    value.hash(&mut hasher);
+    hasher.finish()
 }
 
 macro_rules! loops {
-    ($($name:literal: $data:ident, $at:ident, $($item:ident of $field:ident),+ => $answer:expr;)+) => {
+    ($($name:literal: $data:ident, $at:ident, $($item:ident of $field:ident),+ => $answer:expr;)+
+     $(sorted $sorted:literal: $list:ident;)+) => {
         /// A name and a loop for each call.
         pub const LOOPS: &[(&str, fn(&Data) -> u64)] = &[
             $(($name, |$data: &Data| {
@@ -624,6 +681,11 @@ macro_rules! loops {
                     _ = black_box($answer);
                 }
                 $data.inputs.len() as u64
+            }),)+
+            $(($sorted, |data: &Data| {
+                let mut items = black_box(&data.$list).clone();
+                items.sort_unstable();
+                black_box(&items).len() as u64
             }),)+
         ];
     };
@@ -635,9 +697,9 @@ fn after(at: usize) -> usize {
 }
 
 loops! {
-    "`Date::from_calendar_date`": data, at, input of inputs => Date::from_calendar_date(input.year, MONTHS[usize::from(input.month - 1)], input.day);
+    "`Date::from_calendar_date`": data, at, input of inputs, month of months => Date::from_calendar_date(input.year, *month, input.day);
     "`Date::from_ordinal_date`": data, at, input of inputs => Date::from_ordinal_date(input.year, input.ordinal);
-    "`Date::from_iso_week_date`": data, at, input of inputs => Date::from_iso_week_date(input.year, input.week, WEEKDAYS[usize::from(input.weekday)]);
+    "`Date::from_iso_week_date`": data, at, input of inputs, weekday of weekdays => Date::from_iso_week_date(input.year, input.week, *weekday);
     "`Date::from_julian_day`": data, at, input of inputs => Date::from_julian_day(input.julian_day);
     "`year`": data, at, date of dates => date.year();
     "`to_calendar_date`": data, at, date of dates => date.to_calendar_date();
@@ -657,6 +719,8 @@ loops! {
     "`Date::saturating_sub`": data, at, date of dates, duration of durations => date.saturating_sub(*duration);
     "`Date - Date`": data, at, date of dates => *date - data.dates[after(at)];
     "`Date < Date`": data, at, date of dates => *date < data.dates[after(at)];
+    "`Date == Date`": data, at, date of dates => *date == data.dates[after(at)];
+    "`Date` hashed": data, at, date of dates => hash(date);
     "`Date::replace_year`": data, at, date of dates => date.replace_year(2024);
     "`Date::replace_month`": data, at, date of dates => date.replace_month(Month::March);
     "`Date::replace_day`": data, at, date of dates => date.replace_day(28);
@@ -670,6 +734,8 @@ loops! {
     "`Time::as_hms_nano`": data, at, time of times => time.as_hms_nano();
     "`Time::as_hms_milli`": data, at, time of times => time.as_hms_milli();
     "`Time < Time`": data, at, time of times => *time < data.times[after(at)];
+    "`Time == Time`": data, at, time of times => *time == data.times[after(at)];
+    "`Time` hashed": data, at, time of times => hash(time);
     "`Time::replace_hour`": data, at, time of times => time.replace_hour(12);
     "`Time::replace_millisecond`": data, at, time of times => time.replace_millisecond(7);
     "`Time + Duration`": data, at, time of times, duration of durations => *time + *duration;
@@ -689,6 +755,11 @@ loops! {
     "`whole_days`": data, at, duration of durations => duration.whole_days();
     "`whole_milliseconds`": data, at, duration of durations => duration.whole_milliseconds();
     "`Duration < Duration`": data, at, duration of durations => *duration < data.durations[after(at)];
+    "`Duration == Duration`": data, at, duration of durations => *duration == data.durations[after(at)];
+    "`Duration` hashed": data, at, duration of durations => hash(duration);
+    "`Duration` written": data, at, duration of durations => duration.to_string();
+    "`Month` read": data, at, name of names => name.0.parse::<Month>();
+    "`Weekday` read": data, at, name of names => name.1.parse::<Weekday>();
     "`PlainDateTime::new`": data, at, date of dates, time of times => PrimitiveDateTime::new(*date, *time);
     "`PlainDateTime`: `date`, `time`": data, at, plain of plain => (plain.date(), plain.time());
     "`PlainDateTime::ordinal`": data, at, plain of plain => plain.ordinal();
@@ -703,6 +774,8 @@ loops! {
     "`PlainDateTime::saturating_sub`": data, at, plain of plain, duration of durations => plain.saturating_sub(*duration);
     "`PlainDateTime - PlainDateTime`": data, at, plain of plain => *plain - data.plain[after(at)];
     "`PlainDateTime < PlainDateTime`": data, at, plain of plain => *plain < data.plain[after(at)];
+    "`PlainDateTime == PlainDateTime`": data, at, plain of plain => *plain == data.plain[after(at)];
+    "`PlainDateTime` hashed": data, at, plain of plain => hash(plain);
     "`PlainDateTime::replace_hour`": data, at, plain of plain => plain.replace_hour(12);
     "`PlainDateTime::replace_year`": data, at, plain of plain => plain.replace_year(2024);
     "`PlainDateTime::replace_day`": data, at, plain of plain => plain.replace_day(28);
@@ -729,11 +802,21 @@ loops! {
     "`OffsetDateTime::saturating_add`": data, at, shown of shown, duration of durations => shown.saturating_add(*duration);
     "`OffsetDateTime - OffsetDateTime`": data, at, shown of shown => *shown - data.shown[after(at)];
     "`OffsetDateTime < OffsetDateTime`": data, at, shown of shown => *shown < data.shown[after(at)];
+    "`OffsetDateTime < OffsetDateTime`, within two days": data, at, near of near => *near < data.near[after(at)];
     "`OffsetDateTime == OffsetDateTime`": data, at, shown of shown => *shown == data.shown[after(at)];
+    "`OffsetDateTime` hashed": data, at, shown of shown => hash(shown);
     "`OffsetDateTime::replace_year`": data, at, shown of shown => shown.replace_year(2024);
     "`OffsetDateTime::replace_hour`": data, at, shown of shown => shown.replace_hour(12);
     "`OffsetDateTime::replace_time`": data, at, shown of shown, time of times => shown.replace_time(*time);
     "`OffsetDateTime::replace_date`": data, at, shown of shown, date of dates => shown.replace_date(*date);
     "`OffsetDateTime::replace_offset`": data, at, shown of shown, offset of offsets => shown.replace_offset(*offset);
     "`OffsetDateTime` written": data, at, shown of shown => shown.to_string();
+    "`OffsetDateTime` of RFC 3339 read": data, at, text of texts => OffsetDateTime::parse(text, &Rfc3339);
+    "`OffsetDateTime` of RFC 3339 written": data, at, minute of minutes => minute.format(&Rfc3339);
+    sorted "`OffsetDateTime` sorted, for each of 4,096": shown;
+    sorted "`OffsetDateTime` sorted, within two days": near;
+    sorted "`PlainDateTime` sorted, for each of 4,096": plain;
+    sorted "`Date` sorted, for each of 4,096": dates;
+    sorted "`Time` sorted, for each of 4,096": times;
+    sorted "`Duration` sorted, for each of 4,096": durations;
 }

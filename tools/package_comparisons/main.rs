@@ -2,6 +2,7 @@
 //!
 //!     package_comparisons ROUNDS SEED    random rounds of every call that both have
 //!     package_comparisons speed ROUNDS   what each call costs in both
+//!     package_comparisons sizes          the bytes of each type in both, and of an `Option` of it
 
 use std::time::Instant;
 
@@ -59,34 +60,39 @@ fn compare(rounds: u64, seed: u64) -> bool {
     wrong == 0
 }
 
-/// The least nanoseconds an item of a loop.
-fn least(best: &mut f64, items: usize, run: impl FnOnce() -> u64) {
+/// The nanoseconds an item of a loop.
+fn timed(items: usize, run: impl FnOnce() -> u64) -> f64 {
     let began = Instant::now();
     std::hint::black_box(run());
-    *best = best.min(began.elapsed().as_nanos() as f64 / items as f64);
+    began.elapsed().as_nanos() as f64 / items as f64
 }
 
-/// Each round goes through all calls, so that the least times of each are of the whole run.
+/// Prints what each call took in each round, in both. Each round goes through all calls, and every other one begins with the
+/// other library, so that the times of each are of the whole run.
 fn measure(rounds: u64) {
     let mut source = Source::new(1);
     let inputs: Vec<Input> = (0..4_096).map(|_| source.plain_input()).collect();
     let (ours, theirs) = (ours::Data::new(&inputs), theirs::Data::new(&inputs));
-    let mut best = vec![(f64::MAX, f64::MAX); ours::LOOPS.len()];
-    for _ in 0..rounds {
-        for (place, (one, other)) in best.iter_mut().enumerate() {
-            least(one, inputs.len(), || ours::LOOPS[place].1(&ours));
-            least(other, inputs.len(), || theirs::LOOPS[place].1(&theirs));
+    assert!(ours.orders() == theirs.orders(), "the orders differ");
+    for round in 0..rounds {
+        for (place, (name, run)) in ours::LOOPS.iter().enumerate() {
+            let (_, run_theirs) = theirs::LOOPS[place];
+            let first = (round % 2 == 0).then(|| timed(inputs.len(), || run(&ours)));
+            let other = timed(inputs.len(), || run_theirs(&theirs));
+            let one = first.unwrap_or_else(|| timed(inputs.len(), || run(&ours)));
+            println!("{name}|{one:.3}|{other:.3}");
         }
-    }
-    for ((name, _), (one, other)) in ours::LOOPS.iter().zip(best) {
-        println!("{name}|{one:.2}|{other:.2}");
     }
 }
 
 fn main() {
     let words: Vec<String> = std::env::args().skip(1).collect();
     let number = |at: usize| words[at].parse().expect("a number");
-    if words[0] == "speed" {
+    if words[0] == "sizes" {
+        for ((name, ours), (_, theirs)) in ours::SIZES.iter().zip(theirs::SIZES) {
+            println!("{name}|{}|{}|{}|{}", ours.0, ours.1, theirs.0, theirs.1);
+        }
+    } else if words[0] == "speed" {
         measure(number(1));
     } else if !compare(number(0), number(1)) {
         std::process::exit(1);

@@ -7,7 +7,7 @@ const ROWS = [
     [
         ["2024-02-28T23:30:00-01:00", "+02:00", "2024-03-01T00:00:00Z"],
         "In UTC=2024-02-29T00:30:00Z|At the offset=2024-02-29T02:30:00+02:00|Unix seconds=1709166600|Day of the week=Thursday" +
-            "|ISO week=2024-W09-4|Day of the year=60|To the other=23:30:00 before it, -84600 s",
+            "|ISO week=2024-W09-4|Day of the year=60|Compared with the other=23 hours 30 minutes earlier, -84600 s",
     ],
     [
         ["0", "-00:30", ""],
@@ -17,18 +17,18 @@ const ROWS = [
     [
         ["-0.5", "Z", "0"],
         "In UTC=1969-12-31T23:59:59.5Z|At the offset=1969-12-31T23:59:59.5Z|Unix seconds=-0.5|Day of the week=Wednesday" +
-            "|ISO week=1970-W01-3|Day of the year=365|To the other=00:00:00.5 before it, -0.5 s",
+            "|ISO week=1970-W01-3|Day of the year=365|Compared with the other=0.5 seconds earlier, -0.5 s",
     ],
     [
         [" 2021-01-03T23:30:00.000000001Z ", "+05:45", "2020-12-28T00:00:00Z"],
         "In UTC=2021-01-03T23:30:00.000000001Z|At the offset=2021-01-04T05:15:00.000000001+05:45" +
             "|Unix seconds=1609716600.000000001|Day of the week=Monday|ISO week=2021-W01-1|Day of the year=4" +
-            "|To the other=6 days 23:30:00.000000001 after it, 603000.000000001 s|JavaScript's Date=2021-01-03T23:30:00.000Z",
+            "|Compared with the other=6 days 23 hours 30 minutes 0.000000001 seconds later, 603000.000000001 s|JavaScript's Date=2021-01-03T23:30:00.000Z",
     ],
     [
         ["253402300800", "+14:00", "253402300800.0"],
         "In UTC=+10000-01-01 0:00:00.0 +00:00:00|At the offset=+10000-01-01 14:00:00.0 +14:00:00|Unix seconds=253402300800" +
-            "|Day of the week=Saturday|ISO week=9999-W52-6|Day of the year=1|To the other=the same instant",
+            "|Day of the week=Saturday|ISO week=9999-W52-6|Day of the year=1|Compared with the other=the same instant",
     ],
     [
         ["31494784780799.999999999", "-12:00", ""],
@@ -39,7 +39,7 @@ const ROWS = [
         ["-31619087596800", "Z", "31494784780799"],
         "In UTC=-999999-01-01 0:00:00.0 +00:00:00|At the offset=-999999-01-01 0:00:00.0 +00:00:00|Unix seconds=-31619087596800" +
             "|Day of the week=Monday|ISO week=-999999-W01-1|Day of the year=1" +
-            "|To the other=730484633 days 23:59:59 before it, -63113872377599 s",
+            "|Compared with the other=730484633 days 23 hours 59 minutes 59 seconds earlier, -63113872377599 s",
     ],
     [
         ["-62135596800", "Z", ""],
@@ -208,8 +208,16 @@ const HOURS = [12, 15, 18, 21, 0, 3, 6, 9, 12];
 const around = hoursAround(new Timestamp(0).toOffset(0), 3).map(({ at, then }) => [at, then.hour]);
 checkSame("the hours of the picture", around, HOURS.map((hour, at) => [at / 4 - 1, hour]));
 
+// The axis of years has both ends of the range, and 1970 a little past its middle: 31,619,087,596,800 of 63,113,872,377,600 seconds.
+const SECONDS = [-31_619_087_596_800n, 0n, 31_494_784_780_799n], PLACES = [0, 0.500985, 1];
+const placesInRange = SECONDS.map((second) => Math.round(placeInRange(new Timestamp(second)) * 1_000_000) / 1_000_000);
+checkSame("the axis of years", placesInRange, PLACES);
+
 if (isPage) {
     shownByFields(["2024-06-15T00:00:00Z", "Z", ""]);
+    const labels = [...document.querySelectorAll("svg text.year")].map((text) => text.textContent);
+    const isWide = document.getElementById("times").clientWidth >= 480;
+    checkSame("the years of the axis", labels, isWide ? ["-999999", "-500000", "0", "500000", "999999"] : ["-999999", "0", "999999"]);
     const textsOf = (kind) => [...document.querySelectorAll(kind)].map((text) => text.textContent);
     const hours = HOURS.filter((hour) => hour !== 0).map((hour) => String(hour).padStart(2, "0"));
     checkSame("the hours in the picture", textsOf("svg text.quiet"), [...hours, ...hours]);

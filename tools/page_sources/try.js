@@ -1,12 +1,12 @@
 import { Timestamp } from "../../bindings/js/timestamp.js";
-import { parseOffset } from "../../bindings/js/offset_date_time.js";
+import { OffsetDateTime, parseOffset } from "../../bindings/js/offset_date_time.js";
 import { Refused } from "../../bindings/js/refused.js";
 import { PROVED_MODULE } from "../../bindings/js/module.js";
 
 const WEEKDAYS = ["Monday", "Tuesday", "Wednesday", "Thursday", "Friday", "Saturday", "Sunday"];
 const MONTHS = ["Jan", "Feb", "Mar", "Apr", "May", "Jun", "Jul", "Aug", "Sep", "Oct", "Nov", "Dec"];
 
-/** What is typed for each example, in all fields. */
+/** The texts that each example types into the fields. */
 const EXAMPLES = [
     ["a leap day", "2024-02-28T23:30:00-01:00", "+02:00", "2024-03-01T00:00:00Z"],
     ["no such day", "2023-02-29T12:00:00Z", "+02:00", ""],
@@ -17,14 +17,14 @@ const EXAMPLES = [
     ["the last nanosecond", "31494784780799.999999999", "-12:00", ""],
 ];
 
-/** What the clock of this machine shows, and its offset, as an example is. */
+/** The time and the offset of the clock of this machine, as an example has them. */
 function now() {
     const at = Timestamp.now().truncate("second"), minutes = -new Date().getTimezoneOffset(), size = Math.abs(minutes);
     const offset = `${minutes < 0 ? "-" : "+"}${two(Math.floor(size / 60))}:${two(size % 60)}`;
     return [String(at.seconds), minutes === 0 ? "Z" : offset, ""];
 }
 
-/** The instant of what was typed: a Unix second, with a fraction or without, or a text of RFC 3339. */
+/** The instant of a typed text: a Unix second, with a fraction or without, or a text of RFC 3339. */
 function instantOf(text) {
     const number = /^([+-]?)(\d+)(?:\.(\d{1,9}))?$/.exec(text);
     if (!number) return Timestamp.parse(text);
@@ -40,19 +40,20 @@ function yearText(year) {
     return `${year < 0 ? "-" : year > 9999 ? "+" : ""}${digits}`;
 }
 
-/** A duration in days, hours, minutes and seconds. */
+/** A duration in words: its days, hours, minutes and seconds, without those that are 0. */
 function lengthText(duration) {
-    const size = duration.nanoseconds < 0n ? -duration.nanoseconds : duration.nanoseconds;
-    const seconds = size / 1_000_000_000n, days = seconds / 86_400n;
-    const clock = [seconds / 3_600n % 24n, seconds / 60n % 60n, seconds % 60n].map(two).join(":");
+    const size = duration.nanoseconds < 0n ? -duration.nanoseconds : duration.nanoseconds, seconds = size / 1_000_000_000n;
     const fraction = String(size % 1_000_000_000n).padStart(9, "0").replace(/0+$/, "");
-    return `${days === 0n ? "" : days === 1n ? "1 day " : `${days} days `}${clock}${fraction && "." + fraction}`;
+    const counts = { day: seconds / 86_400n, hour: seconds / 3_600n % 24n, minute: seconds / 60n % 60n };
+    counts.second = `${seconds % 60n}${fraction && "." + fraction}`;
+    const named = Object.entries(counts).map(([name, count]) => [name, String(count)]).filter(([, count]) => count !== "0");
+    return named.map(([name, count]) => `${count} ${name}${count === "1" ? "" : "s"}`).join(" ");
 }
 
 function differenceText(at, other) {
     const difference = at.since(other);
     if (difference.nanoseconds === 0n) return "the same instant";
-    return `${lengthText(difference)} ${difference.nanoseconds > 0n ? "after" : "before"} it, ${difference}`;
+    return `${lengthText(difference)} ${difference.nanoseconds > 0n ? "later" : "earlier"}, ${difference}`;
 }
 
 function secondsText(at) {
@@ -61,7 +62,7 @@ function secondsText(at) {
     return `${nanoseconds < 0n ? "-" : ""}${size / 1_000_000_000n}${fraction && "." + fraction}`;
 }
 
-/** What JavaScript's own `Date` makes of a text, where that is something else. */
+/** The instant that JavaScript's own `Date` reads in a text, if it is another. */
 function dateText(text, at) {
     if (/^[+-]?\d+(?:\.\d*)?$/.test(text)) return null;
     const time = Date.parse(text);
@@ -70,7 +71,7 @@ function dateText(text, at) {
     return new Date(time).toISOString();
 }
 
-/** What is refused of the field of that id, or the result. */
+/** The result of a reading. An error gets the id of its field. */
 function reading(field, read) {
     try {
         return read();
@@ -80,7 +81,7 @@ function reading(field, read) {
     }
 }
 
-/** What the page says: the instant, what clocks at the offset show, and the rows of the table. */
+/** The contents of the page: the instant, the date-time at the offset, and the rows of the table. */
 export function answers(text, offset, other) {
     const at = reading("at", () => instantOf(text));
     const there = reading("offset", () => at.toOffset(parseOffset(offset)));
@@ -94,25 +95,25 @@ export function answers(text, offset, other) {
         ["ISO week", `${yearText(there.isoYear)}-W${two(there.isoWeek)}-${there.weekday}`, "there"],
         ["Day of the year", String(there.dayOfYear), "there"],
     ];
-    if (second) rows.push(["To the other", differenceText(at, second)]);
+    if (second) rows.push(["Compared with the other", differenceText(at, second)]);
     if (date !== null) rows.push(["JavaScript's Date", date]);
     return { at, there, second, rows };
 }
 
-/** The form of what each field takes. */
+/** The form of the text of each field. */
 const FORMS = {
-    at: "It takes a text such as 2024-02-28T23:30:00-01:00, or seconds from 1970, such as -0.5.",
-    offset: "It takes Z, or hours and minutes such as +02:00.",
+    at: "Type a text such as 2024-02-28T23:30:00-01:00, or seconds from 1970, such as -0.5.",
+    offset: "Type Z, or hours and minutes such as +02:00.",
 };
 FORMS.other = FORMS.at;
 
-/** What else is refused here, and why. */
+/** The ranges of other errors. */
 const RANGES = {
-    TIMESTAMP: "It takes seconds from -31619087596800 to 31494784780799: the years -999999 to 999999.",
-    RESULT: "Clocks at this offset would show a year before -999999 or after 999999.",
+    TIMESTAMP: "Type seconds from -31619087596800 to 31494784780799: the years -999999 to 999999.",
+    RESULT: "The year at this offset would be before -999999 or after 999999.",
 };
 
-/** What the page says of what it refuses. */
+/** The contents of the page for an error. */
 export function refusal(error, text) {
     const date = error.field === "at" ? dateText(text, null) : null;
     const rows = date === null ? [] : [["JavaScript's Date", date]];
@@ -199,7 +200,46 @@ function drawOther(svg, past, middle, height) {
     svg.append(drawn("text", { x: middle + side * away, y: 15, class: "quiet" }, "the other"));
 }
 
-/** Draws both clocks on one line of time. */
+// The axis of years: the range of the library, the years with texts of RFC 3339, and the instant.
+
+const START_OF_RANGE = new Timestamp(-31_619_087_596_800n), END_OF_RANGE = new Timestamp(31_494_784_780_799n, 999_999_999);
+
+/** The place of an instant on the axis: 0 at the first of the range, 1 at the last. */
+function placeInRange(at) {
+    return Number(at.since(START_OF_RANGE).nanoseconds) / Number(END_OF_RANGE.since(START_OF_RANGE).nanoseconds);
+}
+
+/** The beginning of a year in UTC. */
+const startOf = (year) => OffsetDateTime.of({ year, month: 1, day: 1 }).toTimestamp();
+
+/** A text on the axis, on the side of its mark that has room. */
+function axisText(x, y, width, text, kind) {
+    const room = 4 * text.length, anchor = x < room ? "start" : x > width - room ? "end" : "middle";
+    return drawn("text", { x, y, class: kind, style: `text-anchor: ${anchor}` }, text);
+}
+
+/** Draws the axis of years. */
+function drawYears(place, { at, there, second }) {
+    const width = Math.max(place.clientWidth, 160), line = 34, height = 60, year = yearText(there.year);
+    const across = (moment) => 14 + placeInRange(moment) * (width - 28), range = "the range -999999 to 999999";
+    const svg = drawn("svg", { viewBox: `0 0 ${width} ${height}`, width, height, role: "img", "aria-label": `The year ${year} in ${range}` });
+    const [from, to] = [across(startOf(0)), across(startOf(10_000))];
+    svg.append(drawn("rect", { x: from, y: line - 5, width: to - from, height: 10, fill: "var(--utc-day)" }));
+    svg.append(drawn("line", { x1: 14, x2: width - 14, y1: line, y2: line, stroke: "var(--quiet)" }));
+    for (const tick of width < 480 ? [-999_999, 0, 999_999] : [-999_999, -500_000, 0, 500_000, 999_999]) {
+        const x = tick === 999_999 ? width - 14 : across(startOf(tick));
+        svg.append(drawn("line", { x1: x, x2: x, y1: line, y2: line + 6, stroke: "var(--quiet)" }));
+        svg.append(axisText(x, line + 20, width, String(tick), "year"));
+    }
+    for (const [moment, stroke] of second ? [[second, "var(--quiet)"], [at, "var(--ink)"]] : [[at, "var(--ink)"]]) {
+        const x = across(moment);
+        svg.append(drawn("line", { x1: x, x2: x, y1: line - 12, y2: line + 4, stroke, "stroke-width": 2 }));
+    }
+    svg.append(axisText(across(at), line - 17, width, `year ${year}`, "there"));
+    place.append(svg);
+}
+
+/** Draws both clocks on one line of time, and the axis of years. */
 function draw(place, { at, there, second }) {
     const width = Math.max(place.clientWidth, 160), line = 98, height = 2 * line;
     const utc = at.toOffset(0), middle = width / 2;
@@ -213,6 +253,7 @@ function draw(place, { at, there, second }) {
     svg.append(drawn("text", { x: middle, y: 15, class: "utc" }, `${clockText(utc)} UTC`));
     svg.append(drawn("text", { x: middle, y: height - 8, class: "there" }, `${clockText(there)} at the offset`));
     place.replaceChildren(svg);
+    drawYears(place, { at, there, second });
 }
 
 const FIELDS = ["at", "offset", "other"];
@@ -229,7 +270,7 @@ function fill(tbody, rows) {
     }
 }
 
-/** Shows what the fields say, and keeps it in the address. */
+/** Shows the result for the fields, and keeps them in the address. */
 function show(fields) {
     const [text, offset, other] = fields.map((field) => field.value.trim());
     const refused = document.getElementById("refused"), times = document.getElementById("times");
@@ -264,7 +305,7 @@ function show(fields) {
 
 const labelOf = (field) => field.parentElement.firstChild.textContent;
 
-/** What is typed, for an address: a plus sign is one, and a space is none. */
+/** The typed texts as an address, in which a plus sign is a plus sign. */
 function addressOf(fields) {
     const typed = fields.map((field) => [field.id, field.value.trim()]).filter(([id, value]) => value || id !== "other");
     const text = String(new URLSearchParams(typed));

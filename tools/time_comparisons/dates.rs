@@ -107,7 +107,7 @@ pub fn compare_dates(source: &mut Source, of: &mut Compared) {
     );
 
     let year = source.year();
-    let length = answered(|out| sys::muxandu_days_in_month(year, month.into(), out));
+    let length = answered(|out| sys::muxandu_days_in_month(year, u8::from(month).into(), out));
     of.same(
         "days_in_month",
         (year, month),
