@@ -4,7 +4,7 @@ import os
 import re
 import shutil
 
-from erasure import CRATES, FOLDER, LEFT_OUT, MADE, MODULE, NAME, ROOT, Source, erased_name, shim_names, sources
+from erasure import BY_PACKAGE, CRATES, FOLDER, LEFT_OUT, MADE, MODULE, NAME, ROOT, Source, erased_name, shim_names, sources
 from gate import REPOSITORY, TOOLS
 
 OWN = os.path.join(TOOLS, "erased_sources")
@@ -44,7 +44,7 @@ def copy_with_std(folder, more):
     place = os.path.join(folder, os.path.relpath(MADE, FOLDER))
     shutil.copytree(os.path.join(REPOSITORY, MADE), place)
     write(MANIFEST, folder, "Cargo.toml")
-    write(f"extern crate alloc;\npub mod {MODULE};\npub use {MODULE}::*;\n", folder, "src", "lib.rs")
+    write(f"extern crate alloc;\npub mod {MODULE};\npub use {MODULE}::*;\n{BY_PACKAGE}", folder, "src", "lib.rs")
     write(read(REPOSITORY, ROOT) + more, f"{place}.rs")
     return place
 

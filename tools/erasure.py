@@ -61,6 +61,15 @@ OF_CRATES_APART = ("AsUtc", "Assume", "Rfc3339", "ToOffset", "ToTimestamp")
 WITH_NICHE = ("Date", "SignedDuration", "Time", "Timestamp", "UtcOffset")
 NICHE = f"crate::{MODULE}::memory::Niche"
 
+# What the package writes by hand, and a package of the erased text alone needs.
+BY_PACKAGE = f"""\
+impl core::fmt::Debug for {MODULE}::calendar_values::SignedDuration {{
+    fn fmt(&self, _: &mut core::fmt::Formatter<'_>) -> core::fmt::Result {{
+        Ok(())
+    }}
+}}
+"""
+
 # What the sources use of Rust beyond its words: another one may differ from Rattle's, and wants a look.
 MODULES_OF_CORE = ("cmp", "error", "fmt", "hash", "iter", "ops", "time")
 ATTRIBUTES = ("cfg", "cold", "derive", "inline", "tactic", "test")

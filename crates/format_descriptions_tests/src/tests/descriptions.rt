@@ -6,6 +6,7 @@ use format_descriptions::{
     SubsecondDigits, UnixPrecision, WeekRule, WeekStart, WeekdayCount, YearBase, YearRange,
     parse_description,
 };
+use std::process::Abort;
 
 const YEAR: Component = Component::Year(
     YearBase::Calendar,
@@ -134,7 +135,7 @@ fn components_of_times(rt: HostRuntime) {
 }
 
 // Ends the test unless the text is this component, and nothing else.
-fn is_component(rt: &impl std::process::Abort, text: &str, component: Component) {
+fn is_component(rt: &impl Abort, text: &str, component: Component) {
     let mut room = [Item::Byte(0); 2];
     match parse_description(DescriptionVersion::One, text.as_bytes(), &mut room) {
         Ok(count) => is(rt, count, 1),
