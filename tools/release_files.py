@@ -161,6 +161,14 @@ def write_library(release, dist):
     write_tar(release, release.folder("c") / f"{name}-x86_64-linux.tar.gz", files_below(dist, name))
 
 
+def write_portable(release):
+    """The library in portable C."""
+    name, made = f"muxandu-{release.version}-portable", release.work / "portable"
+    release.run(ROOT / "tools" / "portable_c", made)
+    files = files_below(made, name) | {f"{name}/{path.name}": path for path in ROOT.glob("LICENSE-*")}
+    write_tar(release, release.folder("c") / f"{name}.tar.gz", files)
+
+
 def write_programs(release):
     """The two programs."""
     folder = release.folder("programs")
@@ -406,6 +414,8 @@ def write_all(release, toolchain):
     write_javascript(release)
     write_sqlite(release, dist)
     write_library(release, dist)
+    if shutil.which("wasm2c"):
+        write_portable(release)
     write_programs(release)
     write_page(release)
     if shutil.which("dpkg-deb"):
