@@ -83,7 +83,7 @@ PROOF = re.compile(r"\bPrim\.")
 # What a comment goes with where it is taken out.
 WHOLE = ("ghost use", "ghost member", "clause", "impl Model", "use Model", "module left out")
 
-CONTRACT_END = "[docs/STATEMENT.md](crate::proved#contracts) explains the words."
+CONTRACT_END = "[docs/proofs/STATEMENT.md](crate::proved#contracts) explains the words."
 PRELUDE = (f"use {NAME}::{MODULE}::*;", "fn main() -> Result<(), Box<dyn std::error::Error>> {")
 LINK = re.compile(r"\[(`[^`\]]+`)\](?:\(([\w:]+)\))?")
 OF_RUST = ("Err", "None", "Ok", "Option", "Result", "Self", "Some", "bool", "core", "i32", "i64", "std", "str", "u8")

@@ -15,7 +15,7 @@ PAGES = (
     "README.md",
     "CONTRIBUTING.md",
     "SECURITY.md",
-    "docs/*.md",
+    "docs/**/*.md",
     "examples/README.md",
     "bindings/README.md",
     "bindings/*/README.md",
@@ -25,36 +25,36 @@ PAGES = (
 
 # The kinds of blocks, by the tool that reads them and by the page. Of a kind that ends with `*` more words may follow.
 READERS = {
-    "javascript": {"docs/JAVASCRIPT.md": ("js", "text"), "bindings/js/README.md": ("js", "text")},
-    "library": {"docs/C.md": ("c", "rust", "python", "sh", "text")},
+    "javascript": {"docs/guide/JAVASCRIPT.md": ("js", "text"), "bindings/js/README.md": ("js", "text")},
+    "library": {"docs/guide/C.md": ("c", "rust", "python", "sh", "text")},
     "newcomer": {
         "README.md": ("sh", "c", "python", "rust package", "mermaid"),
-        "docs/BENCHMARKS.md": ("sh",),
-        "docs/C.md": ("sh",),
-        "docs/CALLING.md": ("sh", "text crates.txt", "rust root", "rust refused", "text"),
-        "docs/COOKBOOK.md": ("sh",),
-        "docs/JAVASCRIPT.md": ("sh",),
-        "docs/PROGRAM.md": ("sh",),
-        "docs/PYTHON.md": ("sh",),
-        "docs/RUST.md": ("toml",),
-        "docs/SQL.md": ("sh",),
-        "docs/STAMPS.md": ("sh",),
+        "docs/reference/BENCHMARKS.md": ("sh",),
+        "docs/guide/C.md": ("sh",),
+        "docs/guide/CALLING.md": ("sh", "text crates.txt", "rust root", "rust refused", "text"),
+        "docs/guide/COOKBOOK.md": ("sh",),
+        "docs/guide/JAVASCRIPT.md": ("sh",),
+        "docs/guide/PROGRAM.md": ("sh",),
+        "docs/guide/PYTHON.md": ("sh",),
+        "docs/guide/RUST.md": ("toml",),
+        "docs/guide/SQL.md": ("sh",),
+        "docs/guide/STAMPS.md": ("sh",),
         "bindings/python/README.md": ("python",),
     },
-    "package_beside_time": {"docs/RUST.md": ("diff", "text")},
+    "package_beside_time": {"docs/guide/RUST.md": ("diff", "text")},
     "pages": {
         "README.md": ("rust",),
         "CONTRIBUTING.md": ("text crates/*",),
-        "docs/C.md": ("text muxandu.h",),
-        "docs/CALLING.md": ("rust", "rust program"),
-        "docs/COOKBOOK.md": ("rust", "rust program"),
-        "docs/PROGRAM.md": ("lines", "sh run *"),
-        "docs/DEFINITIONS.md": ("rust", "text"),
-        "docs/STATEMENT.md": ("rust", "text"),
+        "docs/guide/C.md": ("text muxandu.h",),
+        "docs/guide/CALLING.md": ("rust", "rust program"),
+        "docs/guide/COOKBOOK.md": ("rust", "rust program"),
+        "docs/guide/PROGRAM.md": ("lines", "sh run *"),
+        "docs/reference/DEFINITIONS.md": ("rust", "text"),
+        "docs/proofs/STATEMENT.md": ("rust", "text"),
     },
-    "python": {"docs/PYTHON.md": ("python", "sh", "text")},
-    "sqlite": {"docs/SQL.md": ("python", "sql", "text")},
-    "stamps": {"docs/STAMPS.md": ("log *", "stamps")},
+    "python": {"docs/guide/PYTHON.md": ("python", "sh", "text")},
+    "sqlite": {"docs/guide/SQL.md": ("python", "sql", "text")},
+    "stamps": {"docs/guide/STAMPS.md": ("log *", "stamps")},
 }
 
 BLOCK = re.compile(r"^```(?P<kind>[^\n]*)\n(?P<text>.*?)^```$", re.DOTALL | re.MULTILINE)
@@ -78,7 +78,7 @@ class Fence(NamedTuple):
 
 def pages(root=REPOSITORY):
     """The names of the pages that may have blocks."""
-    found = {name for pattern in PAGES for name in glob.glob(os.path.join(root, pattern))}
+    found = {name for pattern in PAGES for name in glob.glob(os.path.join(root, pattern), recursive=True)}
     return sorted(os.path.relpath(name, root) for name in found)
 
 

@@ -166,7 +166,7 @@ macro_rules! package {
 package!(here, muxandu);
 package!(there, time);
 
-/// Why the two may differ, as docs/DIFFERENCES.md states it, or None.
+/// Why the two may differ, as docs/proofs/DIFFERENCES.md states it, or None.
 fn stated(
     description: &str,
     text: &str,

@@ -70,7 +70,7 @@ pub fn compare_parts(source: &mut Source, of: &mut Compared) {
     }
 }
 
-/// The date-time with a part written over, as docs/C.md says, and what it is refused for.
+/// The date-time with a part written over, as docs/guide/C.md says, and what it is refused for.
 fn written(date_time: MuxanduDateTime) -> Answer<MuxanduDateTime> {
     answered(|_: &mut ()| sys::muxandu_date_time_check(date_time)).map(|()| date_time)
 }

@@ -219,7 +219,7 @@ class Functions:
 
 
 def register(connection: sqlite3.Connection) -> Functions:
-    """Gives a connection the functions of SQL: muxandu_unix, muxandu_text and the others of docs/SQL.md, but muxandu_parts."""
+    """Gives a connection the functions of SQL: muxandu_unix, muxandu_text and the others of docs/guide/SQL.md, but muxandu_parts."""
     functions = Functions()
     define: Any = connection.create_function
     for call in (*_CALLS, _Function("muxandu_refused", 1, 1, _refused)):

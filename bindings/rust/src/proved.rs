@@ -23,8 +23,8 @@
 //! # Contracts
 //!
 //! The page of a function has its contract under the heading Contract, in the words of the source. A `requires` is what you have
-//! to see to; an `ensures` is what the function returns. `docs/STATEMENT.md` says on one page what you have to believe, and
-//! `docs/DEFINITIONS.md` has every definition of the headline.
+//! to see to; an `ensures` is what the function returns. `docs/proofs/STATEMENT.md` says on one page what you have to believe, and
+//! `docs/reference/DEFINITIONS.md` has every definition of the headline.
 //!
 //! # Whether it is in step
 //!

@@ -1,4 +1,4 @@
-//! What values take of memory: no `Option` takes more than its type. docs/RUST.md has the table.
+//! What values take of memory: no `Option` takes more than its type. docs/guide/RUST.md has the table.
 
 use std::mem::size_of;
 

@@ -44,7 +44,7 @@ const SECONDS_BEFORE_EPOCH: i64 = DAYS_BEFORE_EPOCH as i64 * SECONDS_PER_DAY;
 /// ensures { result ≡ is_leap_year year }
 /// ```
 ///
-/// [docs/STATEMENT.md](crate::proved#contracts) explains the words.
+/// [docs/proofs/STATEMENT.md](crate::proved#contracts) explains the words.
 #[inline(always)]
 pub const fn is_leap_year(year: i32) -> bool {
     // Of the years that 100 divides, 400 divides those that 16 divides. No test is a division.
@@ -68,7 +68,7 @@ pub const fn is_leap_year(year: i32) -> bool {
 /// ensures { result ≡ days_in_year year }
 /// ```
 ///
-/// [docs/STATEMENT.md](crate::proved#contracts) explains the words.
+/// [docs/proofs/STATEMENT.md](crate::proved#contracts) explains the words.
 #[inline]
 pub const fn days_in_year(year: i32) -> u16 {
     if is_leap_year(year) { 366 } else { 365 }
@@ -92,7 +92,7 @@ pub const fn days_in_year(year: i32) -> u16 {
 /// ensures in_range { IsInRange 28 31 result }
 /// ```
 ///
-/// [docs/STATEMENT.md](crate::proved#contracts) explains the words.
+/// [docs/proofs/STATEMENT.md](crate::proved#contracts) explains the words.
 #[inline(always)]
 pub const fn days_in_month(year: i32, month: Month) -> u8 {
     let leap_day = is_leap_year(year) & matches!(month, Month::February);
@@ -107,7 +107,7 @@ pub const fn days_in_month(year: i32, month: Month) -> u8 {
 /// ensures in_range { IsInRange 28 31 result }
 /// ```
 ///
-/// [docs/STATEMENT.md](crate::proved#contracts) explains the words.
+/// [docs/proofs/STATEMENT.md](crate::proved#contracts) explains the words.
 #[inline(always)]
 const fn common_month_length(month: Month) -> u8 {
     match month {
@@ -134,7 +134,7 @@ const fn common_month_length(month: Month) -> u8 {
 /// ensures in_range { result ≤ 335 }
 /// ```
 ///
-/// [docs/STATEMENT.md](crate::proved#contracts) explains the words.
+/// [docs/proofs/STATEMENT.md](crate::proved#contracts) explains the words.
 #[inline(always)]
 pub(crate) const fn days_before_month(is_leap: bool, month: Month) -> u16 {
     let days = common_days_before_month(month);
@@ -153,7 +153,7 @@ pub(crate) const fn days_before_month(is_leap: bool, month: Month) -> u16 {
 /// ensures in_range { result ≤ 334 }
 /// ```
 ///
-/// [docs/STATEMENT.md](crate::proved#contracts) explains the words.
+/// [docs/proofs/STATEMENT.md](crate::proved#contracts) explains the words.
 #[inline(always)]
 const fn common_days_before_month(month: Month) -> u16 {
     match month {
@@ -185,7 +185,7 @@ const fn common_days_before_month(month: Month) -> u16 {
 /// ensures in_range { IsInRange 1 31 result.1 }
 /// ```
 ///
-/// [docs/STATEMENT.md](crate::proved#contracts) explains the words.
+/// [docs/proofs/STATEMENT.md](crate::proved#contracts) explains the words.
 #[inline]
 pub(in crate::proved) const fn leap_ordinal_to_month_day(
     is_leap_year: bool,
@@ -210,7 +210,7 @@ pub(in crate::proved) const fn leap_ordinal_to_month_day(
 /// ensures day_in_range { result.1 ≤ 31 }
 /// ```
 ///
-/// [docs/STATEMENT.md](crate::proved#contracts) explains the words.
+/// [docs/proofs/STATEMENT.md](crate::proved#contracts) explains the words.
 #[inline]
 const fn month_and_day_by_product(day: u16) -> (u8, u8) {
     let day = day as u32;
@@ -231,7 +231,7 @@ const fn month_and_day_by_product(day: u16) -> (u8, u8) {
 /// ensures second_in_range { result.1 < 86_400 }
 /// ```
 ///
-/// [docs/STATEMENT.md](crate::proved#contracts) explains the words.
+/// [docs/proofs/STATEMENT.md](crate::proved#contracts) explains the words.
 #[inline(always)]
 pub(in crate::proved) const fn day_and_second(second: i64) -> (i32, u32) {
     let seconds = (second + SECONDS_BEFORE_EPOCH) as u64;
@@ -253,7 +253,7 @@ pub(in crate::proved) const fn day_and_second(second: i64) -> (i32, u32) {
 /// ensures high { (result +ℤ pos 364) ≤ℤ last_day }
 /// ```
 ///
-/// [docs/STATEMENT.md](crate::proved#contracts) explains the words.
+/// [docs/proofs/STATEMENT.md](crate::proved#contracts) explains the words.
 #[inline(always)]
 pub(crate) const fn year_start(year: i32) -> i32 {
     let years = years_from_first_cycle(year);
@@ -271,7 +271,7 @@ pub(crate) const fn year_start(year: i32) -> i32 {
 /// ensures in_range { result ≤ 1_999_999 }
 /// ```
 ///
-/// [docs/STATEMENT.md](crate::proved#contracts) explains the words.
+/// [docs/proofs/STATEMENT.md](crate::proved#contracts) explains the words.
 #[inline(always)]
 const fn years_from_first_cycle(year: i32) -> u32 {
     (year + YEARS_BEFORE_0) as u32
@@ -287,7 +287,7 @@ const fn years_from_first_cycle(year: i32) -> u32 {
 /// ensures year_in_range { IsYear result.0 }
 /// ```
 ///
-/// [docs/STATEMENT.md](crate::proved#contracts) explains the words.
+/// [docs/proofs/STATEMENT.md](crate::proved#contracts) explains the words.
 #[inline]
 pub(crate) const fn year_and_ordinal(day: i32) -> (i32, u16) {
     let day = days_from_first_cycle(day);
@@ -308,7 +308,7 @@ pub(crate) const fn year_and_ordinal(day: i32) -> (i32, u16) {
 /// ensures high { result < 730_485_000 }
 /// ```
 ///
-/// [docs/STATEMENT.md](crate::proved#contracts) explains the words.
+/// [docs/proofs/STATEMENT.md](crate::proved#contracts) explains the words.
 #[inline]
 const fn days_from_first_cycle(day: i32) -> u32 {
     (day + DAYS_BEFORE_1970) as u32
@@ -322,7 +322,7 @@ const fn days_from_first_cycle(day: i32) -> u32 {
 /// ensures { result +ℤ pos 1_000_000 ≡ pos years }
 /// ```
 ///
-/// [docs/STATEMENT.md](crate::proved#contracts) explains the words.
+/// [docs/proofs/STATEMENT.md](crate::proved#contracts) explains the words.
 #[inline]
 const fn year_from_first_cycle(years: u32) -> i32 {
     years as i32 - YEARS_BEFORE_0
@@ -341,7 +341,7 @@ const fn year_from_first_cycle(years: u32) -> i32 {
 /// ensures in_range { result.0 < 400 }
 /// ```
 ///
-/// [docs/STATEMENT.md](crate::proved#contracts) explains the words.
+/// [docs/proofs/STATEMENT.md](crate::proved#contracts) explains the words.
 #[inline]
 const fn year_and_ordinal_in_cycle(day: u32) -> (u32, u16) {
     let century = day.saturating_sub(1) / DAYS_PER_CENTURY;

@@ -36,7 +36,7 @@ impl Part {
     /// ensures { part_name result ≡ name.now }
     /// ```
     ///
-    /// [docs/STATEMENT.md](crate::proved#contracts) explains the words.
+    /// [docs/proofs/STATEMENT.md](crate::proved#contracts) explains the words.
     #[inline]
     fn named(name: &str) -> Part {
         match name {
@@ -63,7 +63,7 @@ impl Part {
     /// ensures { part_name result ≡ name.now }
     /// ```
     ///
-    /// [docs/STATEMENT.md](crate::proved#contracts) explains the words.
+    /// [docs/proofs/STATEMENT.md](crate::proved#contracts) explains the words.
     #[inline]
     fn count_named(name: &str) -> Part {
         match name {
@@ -85,7 +85,7 @@ impl Part {
     /// ensures { result.now ≡ part_name self }
     /// ```
     ///
-    /// [docs/STATEMENT.md](crate::proved#contracts) explains the words.
+    /// [docs/proofs/STATEMENT.md](crate::proved#contracts) explains the words.
     #[inline]
     const fn name(self) -> &'static str {
         match self {
@@ -140,7 +140,7 @@ impl ComponentRange {
     /// ensures { result ≡ record { name = name.now; conditional = conditional } }
     /// ```
     ///
-    /// [docs/STATEMENT.md](crate::proved#contracts) explains the words.
+    /// [docs/proofs/STATEMENT.md](crate::proved#contracts) explains the words.
     #[inline]
     #[track_caller]
     pub fn new(name: &'static str, conditional: bool) -> ComponentRange {
@@ -164,7 +164,7 @@ impl ComponentRange {
     /// ensures { result ≡ record { name = part_name part; conditional = conditional } }
     /// ```
     ///
-    /// [docs/STATEMENT.md](crate::proved#contracts) explains the words.
+    /// [docs/proofs/STATEMENT.md](crate::proved#contracts) explains the words.
     #[inline(always)]
     pub const fn of_part(part: Part, conditional: bool) -> ComponentRange {
         ComponentRange { part, conditional }
@@ -187,7 +187,7 @@ impl ComponentRange {
     /// ensures { part_name result ≡ self.name }
     /// ```
     ///
-    /// [docs/STATEMENT.md](crate::proved#contracts) explains the words.
+    /// [docs/proofs/STATEMENT.md](crate::proved#contracts) explains the words.
     #[inline(always)]
     pub const fn part(self) -> Part {
         self.part
@@ -212,7 +212,7 @@ impl ComponentRange {
     /// ensures length { length result.now ≤ 14 }
     /// ```
     ///
-    /// [docs/STATEMENT.md](crate::proved#contracts) explains the words.
+    /// [docs/proofs/STATEMENT.md](crate::proved#contracts) explains the words.
     #[inline]
     pub const fn name(self) -> &'static str {
         self.part.name()
@@ -239,7 +239,7 @@ impl ComponentRange {
     /// ensures { result ≡ self.conditional }
     /// ```
     ///
-    /// [docs/STATEMENT.md](crate::proved#contracts) explains the words.
+    /// [docs/proofs/STATEMENT.md](crate::proved#contracts) explains the words.
     #[inline]
     pub const fn is_conditional(self) -> bool {
         self.conditional
@@ -264,7 +264,7 @@ impl ComponentRange {
     /// ensures length { length result ≤ 52 }
     /// ```
     ///
-    /// [docs/STATEMENT.md](crate::proved#contracts) explains the words.
+    /// [docs/proofs/STATEMENT.md](crate::proved#contracts) explains the words.
     #[inline]
     pub fn text(self) -> Text {
         let mut text = Text::new();
@@ -284,7 +284,7 @@ impl ComponentRange {
 /// ghost styled_output = { λ refusal spec. Some (padded spec (refusal_text refusal)) };
 /// ```
 ///
-/// [docs/STATEMENT.md](crate::proved#contracts) explains the words.
+/// [docs/proofs/STATEMENT.md](crate::proved#contracts) explains the words.
 impl fmt::Display for ComponentRange {
     #[inline]
     fn fmt(&self, f: &mut fmt::Formatter) -> fmt::Result {
@@ -300,7 +300,7 @@ impl Error for ComponentRange {}
 /// ghost eq = { refusal_eq };
 /// ```
 ///
-/// [docs/STATEMENT.md](crate::proved#contracts) explains the words.
+/// [docs/proofs/STATEMENT.md](crate::proved#contracts) explains the words.
 impl PartialEq for ComponentRange {
     #[inline]
     fn eq(&self, other: &ComponentRange) -> bool {

@@ -84,7 +84,7 @@ impl Date {
     /// ensures shown { IfOk result (ShowsDate year (month_number month) day) }
     /// ```
     ///
-    /// [docs/STATEMENT.md](crate::proved#contracts) explains the words.
+    /// [docs/proofs/STATEMENT.md](crate::proved#contracts) explains the words.
     #[inline(always)]
     pub const fn from_calendar_date(
         year: i32,
@@ -127,7 +127,7 @@ impl Date {
     /// ensures shown { IfOk result (ShowsOrdinalDate year ordinal) }
     /// ```
     ///
-    /// [docs/STATEMENT.md](crate::proved#contracts) explains the words.
+    /// [docs/proofs/STATEMENT.md](crate::proved#contracts) explains the words.
     #[inline]
     pub const fn from_ordinal_date(year: i32, ordinal: u16) -> Result<Date, ComponentRange> {
         if year < FIRST_YEAR || year > LAST_YEAR {
@@ -157,7 +157,7 @@ impl Date {
     /// ensures { result ≡ day_of_ordinal_date year ordinal }
     /// ```
     ///
-    /// [docs/STATEMENT.md](crate::proved#contracts) explains the words.
+    /// [docs/proofs/STATEMENT.md](crate::proved#contracts) explains the words.
     #[inline(always)]
     pub(in crate::proved) const fn at_ordinal_date(year: i32, ordinal: u16) -> Date {
         Date {
@@ -194,7 +194,7 @@ impl Date {
     /// ensures shown { IfOk result (ShowsIsoWeekDate year week (weekday_number weekday)) }
     /// ```
     ///
-    /// [docs/STATEMENT.md](crate::proved#contracts) explains the words.
+    /// [docs/proofs/STATEMENT.md](crate::proved#contracts) explains the words.
     #[inline]
     pub const fn from_iso_week_date(
         year: i32,
@@ -246,7 +246,7 @@ impl Date {
     /// ensures shown { IfOk result (λ date. julian_day_of date ≡ julian_day) }
     /// ```
     ///
-    /// [docs/STATEMENT.md](crate::proved#contracts) explains the words.
+    /// [docs/proofs/STATEMENT.md](crate::proved#contracts) explains the words.
     #[inline]
     pub const fn from_julian_day(julian_day: i32) -> Result<Date, ComponentRange> {
         if julian_day < FIRST_DAY + EPOCH_JULIAN_DAY || julian_day > LAST_DAY + EPOCH_JULIAN_DAY {
@@ -276,7 +276,7 @@ impl Date {
     /// ensures { SomeDay result days }
     /// ```
     ///
-    /// [docs/STATEMENT.md](crate::proved#contracts) explains the words.
+    /// [docs/proofs/STATEMENT.md](crate::proved#contracts) explains the words.
     #[inline]
     pub const fn from_days_since_epoch(days: i32) -> Option<Date> {
         if days < FIRST_DAY || days > LAST_DAY {
@@ -293,7 +293,7 @@ impl Date {
     /// ensures { result ≡ day }
     /// ```
     ///
-    /// [docs/STATEMENT.md](crate::proved#contracts) explains the words.
+    /// [docs/proofs/STATEMENT.md](crate::proved#contracts) explains the words.
     #[inline]
     const fn from_day(day: i32) -> Date {
         let (year, ordinal) = year_and_ordinal(day);
@@ -311,7 +311,7 @@ impl Date {
     /// ensures in_range { IsInRange 1 31 result.1 }
     /// ```
     ///
-    /// [docs/STATEMENT.md](crate::proved#contracts) explains the words.
+    /// [docs/proofs/STATEMENT.md](crate::proved#contracts) explains the words.
     #[inline]
     const fn month_day(self) -> (Month, u8) {
         leap_ordinal_to_month_day(is_leap_year(self.year), self.ordinal)
@@ -328,7 +328,7 @@ impl Date {
 ///     pos (weekday_number weekday) }
 /// ```
 ///
-/// [docs/STATEMENT.md](crate::proved#contracts) explains the words.
+/// [docs/proofs/STATEMENT.md](crate::proved#contracts) explains the words.
 #[inline]
 const fn days_to_week_day(of_week_1: Date, week: u8, weekday: Weekday) -> i64 {
     let days = (week - 1) as u16 * 7 + weekday.number_days_from_monday() as u16;
@@ -344,7 +344,7 @@ const fn days_to_week_day(of_week_1: Date, week: u8, weekday: Weekday) -> i64 {
 /// ensures in_range { IsInRange 52 53 result }
 /// ```
 ///
-/// [docs/STATEMENT.md](crate::proved#contracts) explains the words.
+/// [docs/proofs/STATEMENT.md](crate::proved#contracts) explains the words.
 #[inline]
 const fn weeks_in_year(year: i32) -> u8 {
     let january_1 = Date {
@@ -364,7 +364,7 @@ const fn weeks_in_year(year: i32) -> u8 {
 /// ensures { result ≡ date_refusal year day }
 /// ```
 ///
-/// [docs/STATEMENT.md](crate::proved#contracts) explains the words.
+/// [docs/proofs/STATEMENT.md](crate::proved#contracts) explains the words.
 #[inline(never)]
 const fn refused_date(year: i32, day: u8) -> ComponentRange {
     if year < FIRST_YEAR || year > LAST_YEAR {

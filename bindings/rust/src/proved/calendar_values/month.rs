@@ -40,7 +40,7 @@ impl Month {
     /// ensures refused { IfErr result (λ refusal. refusal ≡ outright_refusal (codes "month")) }
     /// ```
     ///
-    /// [docs/STATEMENT.md](crate::proved#contracts) explains the words.
+    /// [docs/proofs/STATEMENT.md](crate::proved#contracts) explains the words.
     #[inline]
     pub const fn from_number(number: u8) -> Result<Month, ComponentRange> {
         if number == 0 || number > 12 {
@@ -57,7 +57,7 @@ impl Month {
     /// ensures { month_number result ≡ number }
     /// ```
     ///
-    /// [docs/STATEMENT.md](crate::proved#contracts) explains the words.
+    /// [docs/proofs/STATEMENT.md](crate::proved#contracts) explains the words.
     #[inline]
     pub(crate) const fn numbered(number: u8) -> Month {
         match number {
@@ -93,7 +93,7 @@ impl Month {
     /// ensures length { length result ≤ 9 }
     /// ```
     ///
-    /// [docs/STATEMENT.md](crate::proved#contracts) explains the words.
+    /// [docs/proofs/STATEMENT.md](crate::proved#contracts) explains the words.
     #[inline]
     pub fn text(self) -> Text {
         let mut text = Text::new();
@@ -109,7 +109,7 @@ impl Month {
     /// ensures ascii { IsAscii result.now }
     /// ```
     ///
-    /// [docs/STATEMENT.md](crate::proved#contracts) explains the words.
+    /// [docs/proofs/STATEMENT.md](crate::proved#contracts) explains the words.
     #[inline]
     const fn name(self) -> &'static [u8] {
         match self {
@@ -135,7 +135,7 @@ impl Month {
 /// ghost from_gives = { λ month n. n ≡ month_number month };
 /// ```
 ///
-/// [docs/STATEMENT.md](crate::proved#contracts) explains the words.
+/// [docs/proofs/STATEMENT.md](crate::proved#contracts) explains the words.
 impl From<Month> for u8 {
     #[inline]
     fn from(month: Month) -> u8 {
@@ -150,7 +150,7 @@ impl From<Month> for u8 {
 /// ghost styled_output = { λ month spec. Some (padded spec (month_name month)) };
 /// ```
 ///
-/// [docs/STATEMENT.md](crate::proved#contracts) explains the words.
+/// [docs/proofs/STATEMENT.md](crate::proved#contracts) explains the words.
 impl fmt::Display for Month {
     #[inline]
     fn fmt(&self, f: &mut fmt::Formatter) -> fmt::Result {
@@ -164,7 +164,7 @@ impl fmt::Display for Month {
 /// ghost debug_output = { λ month. Some (month_name month) };
 /// ```
 ///
-/// [docs/STATEMENT.md](crate::proved#contracts) explains the words.
+/// [docs/proofs/STATEMENT.md](crate::proved#contracts) explains the words.
 impl fmt::Debug for Month {
     #[inline]
     fn fmt(&self, f: &mut fmt::Formatter) -> fmt::Result {

@@ -40,7 +40,7 @@ pub struct SignedDuration {
 /// ghost is_default = { λ d. d ≡ pos 0 };
 /// ```
 ///
-/// [docs/STATEMENT.md](crate::proved#contracts) explains the words.
+/// [docs/proofs/STATEMENT.md](crate::proved#contracts) explains the words.
 impl Default for SignedDuration {
     /// The duration 0.
     #[inline]
@@ -147,7 +147,7 @@ impl SignedDuration {
     /// ensures { result ≡ duration_of_parts seconds nanoseconds }
     /// ```
     ///
-    /// [docs/STATEMENT.md](crate::proved#contracts) explains the words.
+    /// [docs/proofs/STATEMENT.md](crate::proved#contracts) explains the words.
     #[inline]
     #[track_caller]
     pub const fn new(seconds: i64, nanoseconds: i32) -> SignedDuration {
@@ -161,7 +161,7 @@ impl SignedDuration {
     /// ensures { SomeDuration result (duration_of_parts seconds nanoseconds) }
     /// ```
     ///
-    /// [docs/STATEMENT.md](crate::proved#contracts) explains the words.
+    /// [docs/proofs/STATEMENT.md](crate::proved#contracts) explains the words.
     #[inline]
     const fn from_parts(seconds: i64, nanoseconds: i32) -> Option<SignedDuration> {
         let carried = (nanoseconds / NANOS_PER_SECOND) as i64;
@@ -180,7 +180,7 @@ impl SignedDuration {
     /// ensures { result ≡ duration_of_parts seconds nanoseconds }
     /// ```
     ///
-    /// [docs/STATEMENT.md](crate::proved#contracts) explains the words.
+    /// [docs/proofs/STATEMENT.md](crate::proved#contracts) explains the words.
     #[inline]
     const fn of_one_sign(seconds: i64, nanoseconds: i32) -> SignedDuration {
         if seconds > 0 && nanoseconds < 0 {
@@ -223,7 +223,7 @@ impl SignedDuration {
     /// ensures whole { whole_days_of result ≡ weeks *ℤ pos 7 }
     /// ```
     ///
-    /// [docs/STATEMENT.md](crate::proved#contracts) explains the words.
+    /// [docs/proofs/STATEMENT.md](crate::proved#contracts) explains the words.
     #[inline]
     #[track_caller]
     pub const fn weeks(weeks: i64) -> SignedDuration {
@@ -249,7 +249,7 @@ impl SignedDuration {
     /// ensures whole { whole_days_of result ≡ days }
     /// ```
     ///
-    /// [docs/STATEMENT.md](crate::proved#contracts) explains the words.
+    /// [docs/proofs/STATEMENT.md](crate::proved#contracts) explains the words.
     #[inline]
     #[track_caller]
     pub const fn days(days: i64) -> SignedDuration {
@@ -274,7 +274,7 @@ impl SignedDuration {
     /// ensures { result ≡ hours *ℤ pos nanos_per_hour }
     /// ```
     ///
-    /// [docs/STATEMENT.md](crate::proved#contracts) explains the words.
+    /// [docs/proofs/STATEMENT.md](crate::proved#contracts) explains the words.
     #[inline]
     #[track_caller]
     pub const fn hours(hours: i64) -> SignedDuration {
@@ -299,7 +299,7 @@ impl SignedDuration {
     /// ensures { result ≡ minutes *ℤ pos nanos_per_minute }
     /// ```
     ///
-    /// [docs/STATEMENT.md](crate::proved#contracts) explains the words.
+    /// [docs/proofs/STATEMENT.md](crate::proved#contracts) explains the words.
     #[inline]
     #[track_caller]
     pub const fn minutes(minutes: i64) -> SignedDuration {
@@ -322,7 +322,7 @@ impl SignedDuration {
     /// ensures { result ≡ seconds *ℤ pos nanos_per_second }
     /// ```
     ///
-    /// [docs/STATEMENT.md](crate::proved#contracts) explains the words.
+    /// [docs/proofs/STATEMENT.md](crate::proved#contracts) explains the words.
     #[inline]
     pub const fn seconds(seconds: i64) -> SignedDuration {
         SignedDuration {
@@ -348,7 +348,7 @@ impl SignedDuration {
     /// ensures { result ≡ milliseconds *ℤ pos nanos_per_millisecond }
     /// ```
     ///
-    /// [docs/STATEMENT.md](crate::proved#contracts) explains the words.
+    /// [docs/proofs/STATEMENT.md](crate::proved#contracts) explains the words.
     #[inline]
     pub const fn milliseconds(milliseconds: i64) -> SignedDuration {
         SignedDuration::new(
@@ -373,7 +373,7 @@ impl SignedDuration {
     /// ensures { result ≡ microseconds *ℤ pos nanos_per_microsecond }
     /// ```
     ///
-    /// [docs/STATEMENT.md](crate::proved#contracts) explains the words.
+    /// [docs/proofs/STATEMENT.md](crate::proved#contracts) explains the words.
     #[inline]
     pub const fn microseconds(microseconds: i64) -> SignedDuration {
         SignedDuration::new(
@@ -398,7 +398,7 @@ impl SignedDuration {
     /// ensures { result ≡ nanoseconds }
     /// ```
     ///
-    /// [docs/STATEMENT.md](crate::proved#contracts) explains the words.
+    /// [docs/proofs/STATEMENT.md](crate::proved#contracts) explains the words.
     #[inline]
     pub const fn nanoseconds(nanoseconds: i64) -> SignedDuration {
         SignedDuration {
@@ -415,7 +415,7 @@ impl SignedDuration {
     /// ensures { SomeDuration result nanoseconds }
     /// ```
     ///
-    /// [docs/STATEMENT.md](crate::proved#contracts) explains the words.
+    /// [docs/proofs/STATEMENT.md](crate::proved#contracts) explains the words.
     #[inline]
     const fn from_whole_nanoseconds(nanoseconds: i128) -> Option<SignedDuration> {
         let seconds = nanoseconds / NANOS_PER_SECOND as i128;
@@ -436,7 +436,7 @@ impl SignedDuration {
     /// ensures { IsNearestDuration nanoseconds result }
     /// ```
     ///
-    /// [docs/STATEMENT.md](crate::proved#contracts) explains the words.
+    /// [docs/proofs/STATEMENT.md](crate::proved#contracts) explains the words.
     #[inline]
     const fn nearest(nanoseconds: i128) -> SignedDuration {
         match SignedDuration::from_whole_nanoseconds(nanoseconds) {

@@ -28,7 +28,7 @@ impl Text {
     /// ensures { result ≡ [] }
     /// ```
     ///
-    /// [docs/STATEMENT.md](crate::proved#contracts) explains the words.
+    /// [docs/proofs/STATEMENT.md](crate::proved#contracts) explains the words.
     #[inline]
     pub const fn new() -> Text {
         Text {
@@ -48,7 +48,7 @@ impl Text {
     /// ensures length { length self.new ≡ length self.old + 1 }
     /// ```
     ///
-    /// [docs/STATEMENT.md](crate::proved#contracts) explains the words.
+    /// [docs/proofs/STATEMENT.md](crate::proved#contracts) explains the words.
     #[inline]
     pub(in crate::proved) const fn push(&mut self, byte: u8) {
         self.bytes[self.len] = byte;
@@ -66,7 +66,7 @@ impl Text {
     /// ensures length { length self.new ≡ length self.old + length bytes.now }
     /// ```
     ///
-    /// [docs/STATEMENT.md](crate::proved#contracts) explains the words.
+    /// [docs/proofs/STATEMENT.md](crate::proved#contracts) explains the words.
     #[inline]
     pub(in crate::proved) fn push_bytes(&mut self, bytes: &[u8]) {
         let end = self.len + bytes.len();
@@ -84,7 +84,7 @@ impl Text {
     /// ensures length { length self.new ≡ length self.old + 2 }
     /// ```
     ///
-    /// [docs/STATEMENT.md](crate::proved#contracts) explains the words.
+    /// [docs/proofs/STATEMENT.md](crate::proved#contracts) explains the words.
     #[inline]
     pub(in crate::proved) fn push_two_digits(&mut self, number: u8) {
         self.push_bytes(&[b'0' + number / 10 % 10, b'0' + number % 10]);
@@ -100,7 +100,7 @@ impl Text {
     /// ensures length { length self.new ≡ length self.old + 4 }
     /// ```
     ///
-    /// [docs/STATEMENT.md](crate::proved#contracts) explains the words.
+    /// [docs/proofs/STATEMENT.md](crate::proved#contracts) explains the words.
     #[inline]
     pub(in crate::proved) fn push_four_digits(&mut self, number: u32) {
         self.push_bytes(&[
@@ -122,7 +122,7 @@ impl Text {
     /// ensures at_most { length self.new ≤ length self.old + 20 }
     /// ```
     ///
-    /// [docs/STATEMENT.md](crate::proved#contracts) explains the words.
+    /// [docs/proofs/STATEMENT.md](crate::proved#contracts) explains the words.
     #[inline]
     pub(in crate::proved) const fn push_decimal(&mut self, number: u64) {
         if number < 10 {
@@ -144,7 +144,7 @@ impl Text {
     /// ensures length { length self.new ≤ length self.old + 2 }
     /// ```
     ///
-    /// [docs/STATEMENT.md](crate::proved#contracts) explains the words.
+    /// [docs/proofs/STATEMENT.md](crate::proved#contracts) explains the words.
     #[inline]
     pub(crate) fn push_short_decimal(&mut self, number: u8) {
         if number < 10 {
@@ -165,7 +165,7 @@ impl Text {
     /// ensures length { length self.new ≡ length self.old + 3 }
     /// ```
     ///
-    /// [docs/STATEMENT.md](crate::proved#contracts) explains the words.
+    /// [docs/proofs/STATEMENT.md](crate::proved#contracts) explains the words.
     #[inline]
     pub(in crate::proved) fn push_part(&mut self, mark: u8, number: u8) {
         self.push_bytes(&[mark, b'0' + number / 10 % 10, b'0' + number % 10]);
@@ -182,7 +182,7 @@ impl Text {
     /// ensures length { length self.new ≤ length self.old + 9 }
     /// ```
     ///
-    /// [docs/STATEMENT.md](crate::proved#contracts) explains the words.
+    /// [docs/proofs/STATEMENT.md](crate::proved#contracts) explains the words.
     #[inline]
     pub(in crate::proved) fn push_fraction(&mut self, nanosecond: u32) {
         self.push(b'0' + (nanosecond / 100_000_000 % 10) as u8);
@@ -205,7 +205,7 @@ impl Text {
     /// ensures { self.new ≡ take (length self.old - 1) self.old }
     /// ```
     ///
-    /// [docs/STATEMENT.md](crate::proved#contracts) explains the words.
+    /// [docs/proofs/STATEMENT.md](crate::proved#contracts) explains the words.
     #[inline]
     const fn pop(&mut self) {
         self.len -= 1;
@@ -229,7 +229,7 @@ impl Text {
     /// ensures ascii { IsAscii result.now }
     /// ```
     ///
-    /// [docs/STATEMENT.md](crate::proved#contracts) explains the words.
+    /// [docs/proofs/STATEMENT.md](crate::proved#contracts) explains the words.
     #[inline]
     pub fn as_bytes(&self) -> &[u8] {
         &self.bytes[..self.len]
@@ -251,7 +251,7 @@ impl Text {
     /// ensures { result.now ≡ self.now }
     /// ```
     ///
-    /// [docs/STATEMENT.md](crate::proved#contracts) explains the words.
+    /// [docs/proofs/STATEMENT.md](crate::proved#contracts) explains the words.
     #[inline]
     pub fn as_str(&self) -> &str {
         str::from_utf8(self.as_bytes()).unwrap()
@@ -265,7 +265,7 @@ impl Text {
 /// ghost styled_output = { λ t spec. Some (padded spec t) };
 /// ```
 ///
-/// [docs/STATEMENT.md](crate::proved#contracts) explains the words.
+/// [docs/proofs/STATEMENT.md](crate::proved#contracts) explains the words.
 impl fmt::Display for Text {
     #[inline]
     fn fmt(&self, f: &mut fmt::Formatter) -> fmt::Result {
@@ -279,7 +279,7 @@ impl fmt::Display for Text {
 /// ghost debug_output = { λ t. Some t };
 /// ```
 ///
-/// [docs/STATEMENT.md](crate::proved#contracts) explains the words.
+/// [docs/proofs/STATEMENT.md](crate::proved#contracts) explains the words.
 impl fmt::Debug for Text {
     #[inline]
     fn fmt(&self, f: &mut fmt::Formatter) -> fmt::Result {

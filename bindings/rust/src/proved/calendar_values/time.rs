@@ -70,7 +70,7 @@ impl Time {
     /// ensures { Gives result (hms_outcome hour minute second) }
     /// ```
     ///
-    /// [docs/STATEMENT.md](crate::proved#contracts) explains the words.
+    /// [docs/proofs/STATEMENT.md](crate::proved#contracts) explains the words.
     #[inline(always)]
     pub const fn from_hms(hour: u8, minute: u8, second: u8) -> Result<Time, ComponentRange> {
         if hour > 23 {
@@ -112,7 +112,7 @@ impl Time {
     /// ensures { Gives result (hms_milli_outcome hour minute second millisecond) }
     /// ```
     ///
-    /// [docs/STATEMENT.md](crate::proved#contracts) explains the words.
+    /// [docs/proofs/STATEMENT.md](crate::proved#contracts) explains the words.
     #[inline]
     pub const fn from_hms_milli(
         hour: u8,
@@ -147,7 +147,7 @@ impl Time {
     /// ensures { Gives result (hms_micro_outcome hour minute second microsecond) }
     /// ```
     ///
-    /// [docs/STATEMENT.md](crate::proved#contracts) explains the words.
+    /// [docs/proofs/STATEMENT.md](crate::proved#contracts) explains the words.
     #[inline]
     pub const fn from_hms_micro(
         hour: u8,
@@ -182,7 +182,7 @@ impl Time {
     /// ensures { Gives result (hms_nano_outcome hour minute second nanosecond) }
     /// ```
     ///
-    /// [docs/STATEMENT.md](crate::proved#contracts) explains the words.
+    /// [docs/proofs/STATEMENT.md](crate::proved#contracts) explains the words.
     #[inline(always)]
     pub const fn from_hms_nano(
         hour: u8,
@@ -205,7 +205,7 @@ impl Time {
     /// ensures { result ≡ clock_of_parts hour minute second nanosecond }
     /// ```
     ///
-    /// [docs/STATEMENT.md](crate::proved#contracts) explains the words.
+    /// [docs/proofs/STATEMENT.md](crate::proved#contracts) explains the words.
     #[inline(always)]
     pub(in crate::proved) const fn at_hms_nano(
         hour: u8,
@@ -241,7 +241,7 @@ impl Time {
     ///     (second * nanos_per_second + nanosecond) }
     /// ```
     ///
-    /// [docs/STATEMENT.md](crate::proved#contracts) explains the words.
+    /// [docs/proofs/STATEMENT.md](crate::proved#contracts) explains the words.
     #[inline]
     pub const fn from_second_of_day(second: u32, nanosecond: u32) -> Option<Time> {
         if second >= SECONDS_PER_DAY as u32 || nanosecond >= NANOS_PER_SECOND as u32 {
@@ -261,7 +261,7 @@ impl Time {
     /// ensures { result ≡ second * nanos_per_second + nanosecond }
     /// ```
     ///
-    /// [docs/STATEMENT.md](crate::proved#contracts) explains the words.
+    /// [docs/proofs/STATEMENT.md](crate::proved#contracts) explains the words.
     #[inline(always)]
     pub(in crate::proved) const fn at_second_of_day(second: u32, nanosecond: u32) -> Time {
         Time {

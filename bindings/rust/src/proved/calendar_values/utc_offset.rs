@@ -55,7 +55,7 @@ impl UtcOffset {
     /// ensures { Gives result (offset_outcome hours minutes seconds) }
     /// ```
     ///
-    /// [docs/STATEMENT.md](crate::proved#contracts) explains the words.
+    /// [docs/proofs/STATEMENT.md](crate::proved#contracts) explains the words.
     #[inline]
     pub const fn from_hms(
         hours: i8,
@@ -100,7 +100,7 @@ impl UtcOffset {
     /// ensures { Gives result (offset_seconds_outcome seconds) }
     /// ```
     ///
-    /// [docs/STATEMENT.md](crate::proved#contracts) explains the words.
+    /// [docs/proofs/STATEMENT.md](crate::proved#contracts) explains the words.
     #[inline]
     pub const fn from_whole_seconds(seconds: i32) -> Result<UtcOffset, ComponentRange> {
         if seconds < -93_599 || seconds > 93_599 {
@@ -123,7 +123,7 @@ impl UtcOffset {
 /// ensures { result ≡ with_sign_of greater part }
 /// ```
 ///
-/// [docs/STATEMENT.md](crate::proved#contracts) explains the words.
+/// [docs/proofs/STATEMENT.md](crate::proved#contracts) explains the words.
 #[inline]
 const fn with_sign_of(greater: i8, part: i8) -> i8 {
     if greater < 0 && part > 0 || greater > 0 && part < 0 {

@@ -34,7 +34,7 @@ impl Weekday {
     /// ensures in_range { result < 7 }
     /// ```
     ///
-    /// [docs/STATEMENT.md](crate::proved#contracts) explains the words.
+    /// [docs/proofs/STATEMENT.md](crate::proved#contracts) explains the words.
     #[inline]
     pub const fn number_days_from_monday(self) -> u8 {
         self as u8
@@ -59,7 +59,7 @@ impl Weekday {
     /// ensures value { IfSome result (λ weekday. weekday_number weekday ≡ number) }
     /// ```
     ///
-    /// [docs/STATEMENT.md](crate::proved#contracts) explains the words.
+    /// [docs/proofs/STATEMENT.md](crate::proved#contracts) explains the words.
     #[inline]
     pub const fn from_number_days_from_monday(number: u8) -> Option<Weekday> {
         if number > 6 {
@@ -78,7 +78,7 @@ impl Weekday {
     /// ensures { weekday_number result ≡ number }
     /// ```
     ///
-    /// [docs/STATEMENT.md](crate::proved#contracts) explains the words.
+    /// [docs/proofs/STATEMENT.md](crate::proved#contracts) explains the words.
     #[inline]
     pub(in crate::proved) const fn numbered(number: u8) -> Weekday {
         match number {
@@ -109,7 +109,7 @@ impl Weekday {
     /// ensures length { length result ≤ 9 }
     /// ```
     ///
-    /// [docs/STATEMENT.md](crate::proved#contracts) explains the words.
+    /// [docs/proofs/STATEMENT.md](crate::proved#contracts) explains the words.
     #[inline]
     pub fn text(self) -> Text {
         let mut text = Text::new();
@@ -125,7 +125,7 @@ impl Weekday {
     /// ensures ascii { IsAscii result.now }
     /// ```
     ///
-    /// [docs/STATEMENT.md](crate::proved#contracts) explains the words.
+    /// [docs/proofs/STATEMENT.md](crate::proved#contracts) explains the words.
     #[inline]
     const fn name(self) -> &'static [u8] {
         match self {
@@ -147,7 +147,7 @@ impl Weekday {
 /// ghost styled_output = { λ weekday spec. Some (padded spec (weekday_name weekday)) };
 /// ```
 ///
-/// [docs/STATEMENT.md](crate::proved#contracts) explains the words.
+/// [docs/proofs/STATEMENT.md](crate::proved#contracts) explains the words.
 impl fmt::Display for Weekday {
     #[inline]
     fn fmt(&self, f: &mut fmt::Formatter) -> fmt::Result {
@@ -161,7 +161,7 @@ impl fmt::Display for Weekday {
 /// ghost debug_output = { λ weekday. Some (weekday_name weekday) };
 /// ```
 ///
-/// [docs/STATEMENT.md](crate::proved#contracts) explains the words.
+/// [docs/proofs/STATEMENT.md](crate::proved#contracts) explains the words.
 impl fmt::Debug for Weekday {
     #[inline]
     fn fmt(&self, f: &mut fmt::Formatter) -> fmt::Result {

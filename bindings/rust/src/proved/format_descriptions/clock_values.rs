@@ -30,7 +30,7 @@ impl Parts {
     ///     HasTimeParts self clock → result ≡ Ok clock }
     /// ```
     ///
-    /// [docs/STATEMENT.md](crate::proved#contracts) explains the words.
+    /// [docs/proofs/STATEMENT.md](crate::proved#contracts) explains the words.
     #[inline]
     pub const fn time(self) -> Result<Time, ValueRefusal> {
         named_time(self)
@@ -44,7 +44,7 @@ impl Parts {
 /// ensures { result ≡ time_of_parts parts }
 /// ```
 ///
-/// [docs/STATEMENT.md](crate::proved#contracts) explains the words.
+/// [docs/proofs/STATEMENT.md](crate::proved#contracts) explains the words.
 #[inline]
 const fn named_time(parts: Parts) -> Result<Time, ValueRefusal> {
     match parts.hour {
@@ -66,7 +66,7 @@ const fn named_time(parts: Parts) -> Result<Time, ValueRefusal> {
 /// ensures { result ≡ clock_of_half parts hour is_afternoon }
 /// ```
 ///
-/// [docs/STATEMENT.md](crate::proved#contracts) explains the words.
+/// [docs/proofs/STATEMENT.md](crate::proved#contracts) explains the words.
 #[inline]
 const fn clock_of_half(parts: Parts, hour: u32, is_afternoon: bool) -> Result<Time, ValueRefusal> {
     if hour == 0 || hour > 12 {
@@ -87,7 +87,7 @@ const fn clock_of_half(parts: Parts, hour: u32, is_afternoon: bool) -> Result<Ti
 /// ensures { result ≡ clock_at parts hour }
 /// ```
 ///
-/// [docs/STATEMENT.md](crate::proved#contracts) explains the words.
+/// [docs/proofs/STATEMENT.md](crate::proved#contracts) explains the words.
 #[inline]
 const fn clock_at(parts: Parts, hour: u32) -> Result<Time, ValueRefusal> {
     let minute = or_zero(parts.minute);
@@ -124,7 +124,7 @@ const fn clock_at(parts: Parts, hour: u32) -> Result<Time, ValueRefusal> {
 /// ensures { result ≡ or_zero known }
 /// ```
 ///
-/// [docs/STATEMENT.md](crate::proved#contracts) explains the words.
+/// [docs/proofs/STATEMENT.md](crate::proved#contracts) explains the words.
 #[inline]
 pub(crate) const fn or_zero(known: Option<u32>) -> u32 {
     match known {

@@ -13,7 +13,7 @@ use crate::proved::format_descriptions::modifiers::{NameForm, WeekRule, WeekStar
 /// ensures { result ≡ component_of name modifiers }
 /// ```
 ///
-/// [docs/STATEMENT.md](crate::proved#contracts) explains the words.
+/// [docs/proofs/STATEMENT.md](crate::proved#contracts) explains the words.
 #[inline]
 pub(crate) const fn component_of(name: Name, modifiers: Modifiers) -> Option<Component> {
     match name {
@@ -50,7 +50,7 @@ pub(crate) const fn component_of(name: Name, modifiers: Modifiers) -> Option<Com
 /// ensures { result ≡ year_of modifiers modifiers.repr }
 /// ```
 ///
-/// [docs/STATEMENT.md](crate::proved#contracts) explains the words.
+/// [docs/proofs/STATEMENT.md](crate::proved#contracts) explains the words.
 #[inline]
 const fn year_of(modifiers: Modifiers) -> Component {
     let Modifiers {
@@ -74,7 +74,7 @@ const fn year_of(modifiers: Modifiers) -> Component {
 /// ensures { result ≡ month_of modifiers modifiers.repr }
 /// ```
 ///
-/// [docs/STATEMENT.md](crate::proved#contracts) explains the words.
+/// [docs/proofs/STATEMENT.md](crate::proved#contracts) explains the words.
 #[inline]
 const fn month_of(modifiers: Modifiers) -> Component {
     match modifiers.repr {
@@ -91,7 +91,7 @@ const fn month_of(modifiers: Modifiers) -> Component {
 /// ensures { result ≡ weekday_of modifiers modifiers.repr }
 /// ```
 ///
-/// [docs/STATEMENT.md](crate::proved#contracts) explains the words.
+/// [docs/proofs/STATEMENT.md](crate::proved#contracts) explains the words.
 #[inline]
 const fn weekday_of(modifiers: Modifiers) -> Component {
     match modifiers.repr {
@@ -109,7 +109,7 @@ const fn weekday_of(modifiers: Modifiers) -> Component {
 /// ensures { result ≡ week_of modifiers modifiers.repr }
 /// ```
 ///
-/// [docs/STATEMENT.md](crate::proved#contracts) explains the words.
+/// [docs/proofs/STATEMENT.md](crate::proved#contracts) explains the words.
 #[inline]
 const fn week_of(modifiers: Modifiers) -> Component {
     match modifiers.repr {
@@ -126,7 +126,7 @@ const fn week_of(modifiers: Modifiers) -> Component {
 /// ensures { result ≡ hour_of modifiers modifiers.repr }
 /// ```
 ///
-/// [docs/STATEMENT.md](crate::proved#contracts) explains the words.
+/// [docs/proofs/STATEMENT.md](crate::proved#contracts) explains the words.
 #[inline]
 const fn hour_of(modifiers: Modifiers) -> Component {
     match modifiers.repr {

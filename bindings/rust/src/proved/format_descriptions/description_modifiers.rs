@@ -53,7 +53,7 @@ impl Modifiers {
     /// ensures { result ≡ no_modifiers }
     /// ```
     ///
-    /// [docs/STATEMENT.md](crate::proved#contracts) explains the words.
+    /// [docs/proofs/STATEMENT.md](crate::proved#contracts) explains the words.
     #[inline]
     pub(crate) const fn none() -> Modifiers {
         Modifiers {
@@ -79,7 +79,7 @@ impl Modifiers {
 /// ensures { result ≡ modifier_at name text.now modifiers }
 /// ```
 ///
-/// [docs/STATEMENT.md](crate::proved#contracts) explains the words.
+/// [docs/proofs/STATEMENT.md](crate::proved#contracts) explains the words.
 #[inline]
 pub(crate) const fn modifier_at(
     name: Name,
@@ -105,7 +105,7 @@ pub(crate) const fn modifier_at(
 /// ensures value { option_map (λ read. (read.0, read.1.now)) result ≡ key_at text.now }
 /// ```
 ///
-/// [docs/STATEMENT.md](crate::proved#contracts) explains the words.
+/// [docs/proofs/STATEMENT.md](crate::proved#contracts) explains the words.
 #[inline]
 const fn key_at(text: &[u8]) -> Option<(Key, &[u8])> {
     if let Some(found) = common_key_at(text) {
@@ -124,7 +124,7 @@ const fn key_at(text: &[u8]) -> Option<(Key, &[u8])> {
 /// ensures value { option_map (λ read. (read.0, read.1.now)) result ≡ common_key_at text.now }
 /// ```
 ///
-/// [docs/STATEMENT.md](crate::proved#contracts) explains the words.
+/// [docs/proofs/STATEMENT.md](crate::proved#contracts) explains the words.
 #[inline]
 const fn common_key_at(text: &[u8]) -> Option<(Key, &[u8])> {
     if let Some(value) = after_name(b"padding:", text) {
@@ -146,7 +146,7 @@ const fn common_key_at(text: &[u8]) -> Option<(Key, &[u8])> {
 /// ensures value { option_map (λ read. (read.0, read.1.now)) result ≡ word_key_at text.now }
 /// ```
 ///
-/// [docs/STATEMENT.md](crate::proved#contracts) explains the words.
+/// [docs/proofs/STATEMENT.md](crate::proved#contracts) explains the words.
 #[inline]
 const fn word_key_at(text: &[u8]) -> Option<(Key, &[u8])> {
     if let Some(value) = after_name(b"case:", text) {
@@ -168,7 +168,7 @@ const fn word_key_at(text: &[u8]) -> Option<(Key, &[u8])> {
 /// ensures value { option_map (λ read. (read.0, read.1.now)) result ≡ own_key_at text.now }
 /// ```
 ///
-/// [docs/STATEMENT.md](crate::proved#contracts) explains the words.
+/// [docs/proofs/STATEMENT.md](crate::proved#contracts) explains the words.
 #[inline]
 const fn own_key_at(text: &[u8]) -> Option<(Key, &[u8])> {
     if let Some(value) = after_name(b"base:", text) {
@@ -196,7 +196,7 @@ const fn own_key_at(text: &[u8]) -> Option<(Key, &[u8])> {
 /// ensures { result ≡ takes name key }
 /// ```
 ///
-/// [docs/STATEMENT.md](crate::proved#contracts) explains the words.
+/// [docs/proofs/STATEMENT.md](crate::proved#contracts) explains the words.
 #[inline]
 const fn takes(name: Name, key: Key) -> bool {
     match key {
@@ -237,7 +237,7 @@ const fn takes(name: Name, key: Key) -> bool {
 /// ensures { result ≡ repr_at name text.now }
 /// ```
 ///
-/// [docs/STATEMENT.md](crate::proved#contracts) explains the words.
+/// [docs/proofs/STATEMENT.md](crate::proved#contracts) explains the words.
 #[inline]
 const fn repr_at(name: Name, text: &[u8]) -> Option<Repr> {
     match name {
@@ -268,7 +268,7 @@ const fn repr_at(name: Name, text: &[u8]) -> Option<Repr> {
 /// ensures { result ≡ with_value name key value.now modifiers }
 /// ```
 ///
-/// [docs/STATEMENT.md](crate::proved#contracts) explains the words.
+/// [docs/proofs/STATEMENT.md](crate::proved#contracts) explains the words.
 #[inline]
 const fn with_value(name: Name, key: Key, value: &[u8], modifiers: Modifiers) -> Option<Modifiers> {
     match key {

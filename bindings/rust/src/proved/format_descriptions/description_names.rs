@@ -31,7 +31,7 @@ pub(crate) enum Name {
 /// ensures { result ≡ name_at text.now }
 /// ```
 ///
-/// [docs/STATEMENT.md](crate::proved#contracts) explains the words.
+/// [docs/proofs/STATEMENT.md](crate::proved#contracts) explains the words.
 #[inline]
 pub(crate) const fn name_at(text: &[u8]) -> Option<Name> {
     if let Some(name) = date_name_at(text) {
@@ -50,7 +50,7 @@ pub(crate) const fn name_at(text: &[u8]) -> Option<Name> {
 /// ensures { result ≡ date_name_at text.now }
 /// ```
 ///
-/// [docs/STATEMENT.md](crate::proved#contracts) explains the words.
+/// [docs/proofs/STATEMENT.md](crate::proved#contracts) explains the words.
 #[inline]
 const fn date_name_at(text: &[u8]) -> Option<Name> {
     if is_word_at(b"year", text) {
@@ -77,7 +77,7 @@ const fn date_name_at(text: &[u8]) -> Option<Name> {
 /// ensures { result ≡ time_name_at text.now }
 /// ```
 ///
-/// [docs/STATEMENT.md](crate::proved#contracts) explains the words.
+/// [docs/proofs/STATEMENT.md](crate::proved#contracts) explains the words.
 #[inline]
 const fn time_name_at(text: &[u8]) -> Option<Name> {
     if is_word_at(b"hour", text) {
@@ -102,7 +102,7 @@ const fn time_name_at(text: &[u8]) -> Option<Name> {
 /// ensures { result ≡ other_name_at text.now }
 /// ```
 ///
-/// [docs/STATEMENT.md](crate::proved#contracts) explains the words.
+/// [docs/proofs/STATEMENT.md](crate::proved#contracts) explains the words.
 #[inline]
 const fn other_name_at(text: &[u8]) -> Option<Name> {
     if is_word_at(b"offset_hour", text) {

@@ -42,7 +42,7 @@ pub(crate) type Step = Result<(Place, Option<Item>), (DescriptionFault, usize)>;
 /// ensures { result ≡ step version place first text.now }
 /// ```
 ///
-/// [docs/STATEMENT.md](crate::proved#contracts) explains the words.
+/// [docs/proofs/STATEMENT.md](crate::proved#contracts) explains the words.
 #[inline]
 pub(crate) const fn step(
     version: DescriptionVersion,
@@ -69,7 +69,7 @@ pub(crate) const fn step(
 /// ensures { result ≡ outside version first text.now }
 /// ```
 ///
-/// [docs/STATEMENT.md](crate::proved#contracts) explains the words.
+/// [docs/proofs/STATEMENT.md](crate::proved#contracts) explains the words.
 #[inline]
 const fn outside(version: DescriptionVersion, first: u8, text: &[u8]) -> Step {
     if first == b'[' {
@@ -88,7 +88,7 @@ const fn outside(version: DescriptionVersion, first: u8, text: &[u8]) -> Step {
 /// ensures { result ≡ escaped first text.now }
 /// ```
 ///
-/// [docs/STATEMENT.md](crate::proved#contracts) explains the words.
+/// [docs/proofs/STATEMENT.md](crate::proved#contracts) explains the words.
 #[inline]
 const fn escaped(first: u8, text: &[u8]) -> Step {
     if first == b'[' || first == b']' || first == b'\\' {
@@ -105,7 +105,7 @@ const fn escaped(first: u8, text: &[u8]) -> Step {
 /// ensures { result ≡ opened version bracket first text.now }
 /// ```
 ///
-/// [docs/STATEMENT.md](crate::proved#contracts) explains the words.
+/// [docs/proofs/STATEMENT.md](crate::proved#contracts) explains the words.
 #[inline]
 const fn opened(version: DescriptionVersion, bracket: usize, first: u8, text: &[u8]) -> Step {
     match version {
@@ -127,7 +127,7 @@ const fn opened(version: DescriptionVersion, bracket: usize, first: u8, text: &[
 /// ensures { result ≡ unnamed bracket first text.now }
 /// ```
 ///
-/// [docs/STATEMENT.md](crate::proved#contracts) explains the words.
+/// [docs/proofs/STATEMENT.md](crate::proved#contracts) explains the words.
 #[inline]
 const fn unnamed(bracket: usize, first: u8, text: &[u8]) -> Step {
     if is_white_space(first) {
@@ -149,7 +149,7 @@ const fn unnamed(bracket: usize, first: u8, text: &[u8]) -> Step {
 /// ensures { result ≡ in_word bracket name modifiers first text.now }
 /// ```
 ///
-/// [docs/STATEMENT.md](crate::proved#contracts) explains the words.
+/// [docs/proofs/STATEMENT.md](crate::proved#contracts) explains the words.
 #[inline]
 const fn in_word(bracket: usize, name: Name, modifiers: Modifiers, first: u8, text: &[u8]) -> Step {
     if first == b']' {
@@ -172,7 +172,7 @@ const fn in_word(bracket: usize, name: Name, modifiers: Modifiers, first: u8, te
 /// ensures { result ≡ between_words bracket name modifiers first text.now }
 /// ```
 ///
-/// [docs/STATEMENT.md](crate::proved#contracts) explains the words.
+/// [docs/proofs/STATEMENT.md](crate::proved#contracts) explains the words.
 #[inline]
 const fn between_words(
     bracket: usize,
@@ -203,7 +203,7 @@ const fn between_words(
 /// ensures { result ≡ finished bracket name modifiers }
 /// ```
 ///
-/// [docs/STATEMENT.md](crate::proved#contracts) explains the words.
+/// [docs/proofs/STATEMENT.md](crate::proved#contracts) explains the words.
 #[inline]
 const fn finished(bracket: usize, name: Name, modifiers: Modifiers) -> Step {
     match component_of(name, modifiers) {
@@ -219,7 +219,7 @@ const fn finished(bracket: usize, name: Name, modifiers: Modifiers) -> Step {
 /// ensures { result ≡ fault_at_end place }
 /// ```
 ///
-/// [docs/STATEMENT.md](crate::proved#contracts) explains the words.
+/// [docs/proofs/STATEMENT.md](crate::proved#contracts) explains the words.
 #[inline]
 pub(crate) const fn fault_at_end(place: Place) -> Option<(DescriptionFault, usize)> {
     match place {
@@ -239,7 +239,7 @@ pub(crate) const fn fault_at_end(place: Place) -> Option<(DescriptionFault, usiz
 /// ensures { result ≡ is_closed text.now }
 /// ```
 ///
-/// [docs/STATEMENT.md](crate::proved#contracts) explains the words.
+/// [docs/proofs/STATEMENT.md](crate::proved#contracts) explains the words.
 #[inline]
 const fn is_closed(text: &[u8]) -> bool {
     let mut rest = text;

@@ -29,7 +29,7 @@ pub(crate) enum Repr {
 /// ensures { result ≡ padding_at text.now }
 /// ```
 ///
-/// [docs/STATEMENT.md](crate::proved#contracts) explains the words.
+/// [docs/proofs/STATEMENT.md](crate::proved#contracts) explains the words.
 #[inline]
 pub(crate) const fn padding_at(text: &[u8]) -> Option<Padding> {
     if is_word_at(b"zero", text) {
@@ -50,7 +50,7 @@ pub(crate) const fn padding_at(text: &[u8]) -> Option<Padding> {
 /// ensures { result ≡ sign_rule_at text.now }
 /// ```
 ///
-/// [docs/STATEMENT.md](crate::proved#contracts) explains the words.
+/// [docs/proofs/STATEMENT.md](crate::proved#contracts) explains the words.
 #[inline]
 pub(crate) const fn sign_rule_at(text: &[u8]) -> Option<Sign> {
     if is_word_at(b"automatic", text) {
@@ -69,7 +69,7 @@ pub(crate) const fn sign_rule_at(text: &[u8]) -> Option<Sign> {
 /// ensures { result ≡ case_at text.now }
 /// ```
 ///
-/// [docs/STATEMENT.md](crate::proved#contracts) explains the words.
+/// [docs/proofs/STATEMENT.md](crate::proved#contracts) explains the words.
 #[inline]
 pub(crate) const fn case_at(text: &[u8]) -> Option<Case> {
     if is_word_at(b"upper", text) {
@@ -88,7 +88,7 @@ pub(crate) const fn case_at(text: &[u8]) -> Option<Case> {
 /// ensures { result ≡ read_case_at text.now }
 /// ```
 ///
-/// [docs/STATEMENT.md](crate::proved#contracts) explains the words.
+/// [docs/proofs/STATEMENT.md](crate::proved#contracts) explains the words.
 #[inline]
 pub(crate) const fn read_case_at(text: &[u8]) -> Option<ReadCase> {
     if is_word_at(b"true", text) {
@@ -107,7 +107,7 @@ pub(crate) const fn read_case_at(text: &[u8]) -> Option<ReadCase> {
 /// ensures { result ≡ first_number_at text.now }
 /// ```
 ///
-/// [docs/STATEMENT.md](crate::proved#contracts) explains the words.
+/// [docs/proofs/STATEMENT.md](crate::proved#contracts) explains the words.
 #[inline]
 pub(crate) const fn first_number_at(text: &[u8]) -> Option<WeekdayCount> {
     if is_word_at(b"true", text) {
@@ -126,7 +126,7 @@ pub(crate) const fn first_number_at(text: &[u8]) -> Option<WeekdayCount> {
 /// ensures { result ≡ base_at text.now }
 /// ```
 ///
-/// [docs/STATEMENT.md](crate::proved#contracts) explains the words.
+/// [docs/proofs/STATEMENT.md](crate::proved#contracts) explains the words.
 #[inline]
 pub(crate) const fn base_at(text: &[u8]) -> Option<YearBase> {
     if is_word_at(b"calendar", text) {
@@ -145,7 +145,7 @@ pub(crate) const fn base_at(text: &[u8]) -> Option<YearBase> {
 /// ensures { result ≡ range_at text.now }
 /// ```
 ///
-/// [docs/STATEMENT.md](crate::proved#contracts) explains the words.
+/// [docs/proofs/STATEMENT.md](crate::proved#contracts) explains the words.
 #[inline]
 pub(crate) const fn range_at(text: &[u8]) -> Option<YearRange> {
     if is_word_at(b"standard", text) {
@@ -164,7 +164,7 @@ pub(crate) const fn range_at(text: &[u8]) -> Option<YearRange> {
 /// ensures { result ≡ few_digits_at text.now }
 /// ```
 ///
-/// [docs/STATEMENT.md](crate::proved#contracts) explains the words.
+/// [docs/proofs/STATEMENT.md](crate::proved#contracts) explains the words.
 #[inline]
 pub(crate) const fn few_digits_at(text: &[u8]) -> Option<SubsecondDigits> {
     if is_word_at(b"1+", text) {
@@ -191,7 +191,7 @@ pub(crate) const fn few_digits_at(text: &[u8]) -> Option<SubsecondDigits> {
 /// ensures { result ≡ many_digits_at text.now }
 /// ```
 ///
-/// [docs/STATEMENT.md](crate::proved#contracts) explains the words.
+/// [docs/proofs/STATEMENT.md](crate::proved#contracts) explains the words.
 #[inline]
 pub(crate) const fn many_digits_at(text: &[u8]) -> Option<SubsecondDigits> {
     if is_word_at(b"6", text) {
@@ -214,7 +214,7 @@ pub(crate) const fn many_digits_at(text: &[u8]) -> Option<SubsecondDigits> {
 /// ensures { result ≡ precision_at text.now }
 /// ```
 ///
-/// [docs/STATEMENT.md](crate::proved#contracts) explains the words.
+/// [docs/proofs/STATEMENT.md](crate::proved#contracts) explains the words.
 #[inline]
 pub(crate) const fn precision_at(text: &[u8]) -> Option<UnixPrecision> {
     if is_word_at(b"second", text) {
@@ -237,7 +237,7 @@ pub(crate) const fn precision_at(text: &[u8]) -> Option<UnixPrecision> {
 /// ensures { result ≡ year_repr_at text.now }
 /// ```
 ///
-/// [docs/STATEMENT.md](crate::proved#contracts) explains the words.
+/// [docs/proofs/STATEMENT.md](crate::proved#contracts) explains the words.
 #[inline]
 pub(crate) const fn year_repr_at(text: &[u8]) -> Option<Repr> {
     if is_word_at(b"full", text) {
@@ -258,7 +258,7 @@ pub(crate) const fn year_repr_at(text: &[u8]) -> Option<Repr> {
 /// ensures { result ≡ month_repr_at text.now }
 /// ```
 ///
-/// [docs/STATEMENT.md](crate::proved#contracts) explains the words.
+/// [docs/proofs/STATEMENT.md](crate::proved#contracts) explains the words.
 #[inline]
 pub(crate) const fn month_repr_at(text: &[u8]) -> Option<Repr> {
     if is_word_at(b"numerical", text) {
@@ -279,7 +279,7 @@ pub(crate) const fn month_repr_at(text: &[u8]) -> Option<Repr> {
 /// ensures { result ≡ weekday_repr_at text.now }
 /// ```
 ///
-/// [docs/STATEMENT.md](crate::proved#contracts) explains the words.
+/// [docs/proofs/STATEMENT.md](crate::proved#contracts) explains the words.
 #[inline]
 pub(crate) const fn weekday_repr_at(text: &[u8]) -> Option<Repr> {
     if is_word_at(b"short", text) {
@@ -302,7 +302,7 @@ pub(crate) const fn weekday_repr_at(text: &[u8]) -> Option<Repr> {
 /// ensures { result ≡ week_repr_at text.now }
 /// ```
 ///
-/// [docs/STATEMENT.md](crate::proved#contracts) explains the words.
+/// [docs/proofs/STATEMENT.md](crate::proved#contracts) explains the words.
 #[inline]
 pub(crate) const fn week_repr_at(text: &[u8]) -> Option<Repr> {
     if is_word_at(b"iso", text) {
@@ -323,7 +323,7 @@ pub(crate) const fn week_repr_at(text: &[u8]) -> Option<Repr> {
 /// ensures { result ≡ hour_repr_at text.now }
 /// ```
 ///
-/// [docs/STATEMENT.md](crate::proved#contracts) explains the words.
+/// [docs/proofs/STATEMENT.md](crate::proved#contracts) explains the words.
 #[inline]
 pub(crate) const fn hour_repr_at(text: &[u8]) -> Option<Repr> {
     if is_word_at(b"24", text) {
@@ -342,7 +342,7 @@ pub(crate) const fn hour_repr_at(text: &[u8]) -> Option<Repr> {
 /// ensures { result ≡ subsecond_digits_at text.now }
 /// ```
 ///
-/// [docs/STATEMENT.md](crate::proved#contracts) explains the words.
+/// [docs/proofs/STATEMENT.md](crate::proved#contracts) explains the words.
 #[inline]
 pub(crate) const fn subsecond_digits_at(text: &[u8]) -> Option<SubsecondDigits> {
     match few_digits_at(text) {
@@ -358,7 +358,7 @@ pub(crate) const fn subsecond_digits_at(text: &[u8]) -> Option<SubsecondDigits> 
 /// ensures { result ≡ count_from number text.now }
 /// ```
 ///
-/// [docs/STATEMENT.md](crate::proved#contracts) explains the words.
+/// [docs/proofs/STATEMENT.md](crate::proved#contracts) explains the words.
 #[inline]
 pub(crate) const fn count_from(number: u16, text: &[u8]) -> Option<u16> {
     let Some((first, rest)) = text.split_first() else {

@@ -7,7 +7,7 @@
 /// ensures { result ≡ is_white_space byte }
 /// ```
 ///
-/// [docs/STATEMENT.md](crate::proved#contracts) explains the words.
+/// [docs/proofs/STATEMENT.md](crate::proved#contracts) explains the words.
 #[inline]
 pub(crate) const fn is_white_space(byte: u8) -> bool {
     byte == b' ' || byte == b'\t' || byte == b'\n' || byte == b'\x0c' || byte == b'\r'
@@ -20,7 +20,7 @@ pub(crate) const fn is_white_space(byte: u8) -> bool {
 /// ensures { result ≡ ends_word text.now }
 /// ```
 ///
-/// [docs/STATEMENT.md](crate::proved#contracts) explains the words.
+/// [docs/proofs/STATEMENT.md](crate::proved#contracts) explains the words.
 #[inline]
 pub(crate) const fn ends_word(text: &[u8]) -> bool {
     match text.split_first() {
@@ -36,7 +36,7 @@ pub(crate) const fn ends_word(text: &[u8]) -> bool {
 /// ensures { result ≡ is_word_at word.now text.now }
 /// ```
 ///
-/// [docs/STATEMENT.md](crate::proved#contracts) explains the words.
+/// [docs/proofs/STATEMENT.md](crate::proved#contracts) explains the words.
 #[inline]
 pub(crate) const fn is_word_at(word: &[u8], text: &[u8]) -> bool {
     let Some((letter, word)) = word.split_first() else {
@@ -55,7 +55,7 @@ pub(crate) const fn is_word_at(word: &[u8], text: &[u8]) -> bool {
 /// ensures { option_map (λ rest. rest.now) result ≡ name_rest name.now text.now }
 /// ```
 ///
-/// [docs/STATEMENT.md](crate::proved#contracts) explains the words.
+/// [docs/proofs/STATEMENT.md](crate::proved#contracts) explains the words.
 #[inline]
 pub(crate) const fn after_name<'a>(name: &[u8], text: &'a [u8]) -> Option<&'a [u8]> {
     let Some((letter, name)) = name.split_first() else {

@@ -29,7 +29,7 @@ use crate::proved::format_descriptions::{DescriptionFault, DescriptionRefusal, I
 ///     (λ items. room.new ≡ items ++ drop (length items) room.old) }
 /// ```
 ///
-/// [docs/STATEMENT.md](crate::proved#contracts) explains the words.
+/// [docs/proofs/STATEMENT.md](crate::proved#contracts) explains the words.
 #[inline]
 pub const fn parse_description(
     version: DescriptionVersion,
@@ -67,7 +67,7 @@ pub const fn parse_description(
 /// ensures { result ≡ refusal_of text.now fault }
 /// ```
 ///
-/// [docs/STATEMENT.md](crate::proved#contracts) explains the words.
+/// [docs/proofs/STATEMENT.md](crate::proved#contracts) explains the words.
 #[inline]
 const fn refusal(text: &[u8], fault: (DescriptionFault, usize)) -> DescriptionRefusal {
     let (fault, left) = fault;

@@ -16,7 +16,7 @@ use crate::proved::format_descriptions::{Component, Padding, Sign, YearRange};
 /// ensures shorter { IfSome result (λ read. length read.1.now ≤ length text.now) }
 /// ```
 ///
-/// [docs/STATEMENT.md](crate::proved#contracts) explains the words.
+/// [docs/proofs/STATEMENT.md](crate::proved#contracts) explains the words.
 #[inline]
 pub(crate) fn component_at(component: Component, text: &[u8]) -> Option<((bool, u32), &[u8])> {
     match component {
@@ -75,7 +75,7 @@ pub(crate) fn component_at(component: Component, text: &[u8]) -> Option<((bool, 
 /// ensures shorter { IfSome result (λ read. length read.1.now ≡ length rest.now) }
 /// ```
 ///
-/// [docs/STATEMENT.md](crate::proved#contracts) explains the words.
+/// [docs/proofs/STATEMENT.md](crate::proved#contracts) explains the words.
 #[inline]
 const fn unsigned(number: u32, rest: &[u8]) -> Option<((bool, u32), &[u8])> {
     Some(((false, number), rest))
@@ -91,7 +91,7 @@ const fn unsigned(number: u32, rest: &[u8]) -> Option<((bool, u32), &[u8])> {
 /// ensures shorter { IfSome result (λ read. length read.1.now ≤ length text.now) }
 /// ```
 ///
-/// [docs/STATEMENT.md](crate::proved#contracts) explains the words.
+/// [docs/proofs/STATEMENT.md](crate::proved#contracts) explains the words.
 #[inline]
 fn signed_year(
     sign_given: Sign,
@@ -125,7 +125,7 @@ fn signed_year(
 /// ensures shorter { IfSome result (λ read. length read.1.now ≤ length text.now) }
 /// ```
 ///
-/// [docs/STATEMENT.md](crate::proved#contracts) explains the words.
+/// [docs/proofs/STATEMENT.md](crate::proved#contracts) explains the words.
 #[inline]
 fn signed_century(
     sign_given: Sign,
@@ -159,7 +159,7 @@ fn signed_century(
 /// ensures shorter { IfSome result (λ read. length read.1.now ≤ length text.now) }
 /// ```
 ///
-/// [docs/STATEMENT.md](crate::proved#contracts) explains the words.
+/// [docs/proofs/STATEMENT.md](crate::proved#contracts) explains the words.
 #[inline]
 fn signed_hours(sign_given: Sign, padding: Padding, text: &[u8]) -> Option<((bool, u32), &[u8])> {
     match sign(text) {
@@ -186,7 +186,7 @@ fn signed_hours(sign_given: Sign, padding: Padding, text: &[u8]) -> Option<((boo
 /// ensures shorter { IfSome result (λ read. length read.1.now ≤ length rest.now) }
 /// ```
 ///
-/// [docs/STATEMENT.md](crate::proved#contracts) explains the words.
+/// [docs/proofs/STATEMENT.md](crate::proved#contracts) explains the words.
 #[inline]
 const fn nothing(rest: &[u8]) -> Option<((bool, u32), &[u8])> {
     Some(((false, 0), rest))
@@ -200,7 +200,7 @@ const fn nothing(rest: &[u8]) -> Option<((bool, u32), &[u8])> {
 /// ensures shorter { IfSome result (λ read. length read.now ≤ length text.now) }
 /// ```
 ///
-/// [docs/STATEMENT.md](crate::proved#contracts) explains the words.
+/// [docs/proofs/STATEMENT.md](crate::proved#contracts) explains the words.
 #[inline]
 fn ignored(count: u16, text: &[u8]) -> Option<&[u8]> {
     if text.len() < count as usize {
@@ -217,7 +217,7 @@ fn ignored(count: u16, text: &[u8]) -> Option<&[u8]> {
 /// ensures shorter { IfSome result (λ read. length read.now ≤ length text.now) }
 /// ```
 ///
-/// [docs/STATEMENT.md](crate::proved#contracts) explains the words.
+/// [docs/proofs/STATEMENT.md](crate::proved#contracts) explains the words.
 #[inline]
 const fn end(text: &[u8]) -> Option<&[u8]> {
     if text.is_empty() { Some(text) } else { None }

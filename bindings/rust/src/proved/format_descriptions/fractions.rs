@@ -13,7 +13,7 @@ use crate::proved::format_descriptions::reading::digit;
 /// ensures shorter { IfSome result (λ read. length read.1.now ≤ length text.now) }
 /// ```
 ///
-/// [docs/STATEMENT.md](crate::proved#contracts) explains the words.
+/// [docs/proofs/STATEMENT.md](crate::proved#contracts) explains the words.
 #[inline]
 pub(crate) fn fraction(digits: SubsecondDigits, text: &[u8]) -> Option<(u32, &[u8])> {
     let count = digits.count();
@@ -35,7 +35,7 @@ pub(crate) fn fraction(digits: SubsecondDigits, text: &[u8]) -> Option<(u32, &[u
 /// ensures shorter { IfSome result (λ read. length read.1.now ≤ length text.now) }
 /// ```
 ///
-/// [docs/STATEMENT.md](crate::proved#contracts) explains the words.
+/// [docs/proofs/STATEMENT.md](crate::proved#contracts) explains the words.
 #[inline]
 fn counted(count: u8, unit: u32, text: &[u8]) -> Option<(u32, &[u8])> {
     if count == 0 {
@@ -59,7 +59,7 @@ fn counted(count: u8, unit: u32, text: &[u8]) -> Option<(u32, &[u8])> {
 /// ensures shorter { length result.1.now ≤ length text.now }
 /// ```
 ///
-/// [docs/STATEMENT.md](crate::proved#contracts) explains the words.
+/// [docs/proofs/STATEMENT.md](crate::proved#contracts) explains the words.
 #[inline]
 fn all_digits(text: &[u8]) -> (u32, &[u8]) {
     let mut rest = text;
@@ -84,7 +84,7 @@ fn all_digits(text: &[u8]) -> (u32, &[u8]) {
 /// ensures shorter { length result.now ≤ length text.now }
 /// ```
 ///
-/// [docs/STATEMENT.md](crate::proved#contracts) explains the words.
+/// [docs/proofs/STATEMENT.md](crate::proved#contracts) explains the words.
 #[inline]
 fn after_digits(text: &[u8]) -> &[u8] {
     let mut rest = text;

@@ -29,7 +29,7 @@ impl Parts {
     /// ensures value { IfOk result (λ instant. HasInstantParts self instant) }
     /// ```
     ///
-    /// [docs/STATEMENT.md](crate::proved#contracts) explains the words.
+    /// [docs/proofs/STATEMENT.md](crate::proved#contracts) explains the words.
     #[inline]
     pub const fn timestamp(self) -> Result<Timestamp, ValueRefusal> {
         named_instant(self)
@@ -56,7 +56,7 @@ impl Parts {
     /// ensures value { IfOk result (λ instant. HasInstantParts self instant) }
     /// ```
     ///
-    /// [docs/STATEMENT.md](crate::proved#contracts) explains the words.
+    /// [docs/proofs/STATEMENT.md](crate::proved#contracts) explains the words.
     #[inline]
     pub fn utc_date_time(self) -> Result<UtcDateTime, ValueRefusal> {
         match self.timestamp() {
@@ -73,7 +73,7 @@ impl Parts {
 /// ensures { result ≡ instant_of_counts parts }
 /// ```
 ///
-/// [docs/STATEMENT.md](crate::proved#contracts) explains the words.
+/// [docs/proofs/STATEMENT.md](crate::proved#contracts) explains the words.
 #[inline]
 const fn named_instant(parts: Parts) -> Result<Timestamp, ValueRefusal> {
     if parts.unix_nanosecond.is_some() {
@@ -127,7 +127,7 @@ const fn named_instant(parts: Parts) -> Result<Timestamp, ValueRefusal> {
 /// ensures { result ≡ or_no_count known }
 /// ```
 ///
-/// [docs/STATEMENT.md](crate::proved#contracts) explains the words.
+/// [docs/proofs/STATEMENT.md](crate::proved#contracts) explains the words.
 #[inline]
 const fn or_no_count(known: Option<i128>) -> i128 {
     match known {
@@ -143,7 +143,7 @@ const fn or_no_count(known: Option<i128>) -> i128 {
 /// ensures { result ≡ counted_instant parts wrong precision more count }
 /// ```
 ///
-/// [docs/STATEMENT.md](crate::proved#contracts) explains the words.
+/// [docs/proofs/STATEMENT.md](crate::proved#contracts) explains the words.
 #[inline]
 const fn counted_instant(
     parts: Parts,
@@ -170,7 +170,7 @@ const fn counted_instant(
 /// ensures last { result ≤ℤ pos 100_000_000_000_000_000_000_000_000_000_000 }
 /// ```
 ///
-/// [docs/STATEMENT.md](crate::proved#contracts) explains the words.
+/// [docs/proofs/STATEMENT.md](crate::proved#contracts) explains the words.
 #[inline]
 const fn nanoseconds(precision: UnixPrecision, count: i128) -> i128 {
     match precision {
@@ -190,7 +190,7 @@ const fn nanoseconds(precision: UnixPrecision, count: i128) -> i128 {
 /// ensures { result ≡ nanoseconds +ℤ pos more }
 /// ```
 ///
-/// [docs/STATEMENT.md](crate::proved#contracts) explains the words.
+/// [docs/proofs/STATEMENT.md](crate::proved#contracts) explains the words.
 #[inline]
 const fn later(nanoseconds: i128, more: u32) -> i128 {
     nanoseconds + more as i128
@@ -203,7 +203,7 @@ const fn later(nanoseconds: i128, more: u32) -> i128 {
 /// ensures { result ≡ instant_at parts wrong nanoseconds }
 /// ```
 ///
-/// [docs/STATEMENT.md](crate::proved#contracts) explains the words.
+/// [docs/proofs/STATEMENT.md](crate::proved#contracts) explains the words.
 #[inline]
 const fn instant_at(
     parts: Parts,
@@ -226,7 +226,7 @@ const fn instant_at(
 /// ensures { result ≡ wrong_instant parts at }
 /// ```
 ///
-/// [docs/STATEMENT.md](crate::proved#contracts) explains the words.
+/// [docs/proofs/STATEMENT.md](crate::proved#contracts) explains the words.
 #[inline]
 const fn wrong_instant(parts: Parts, at: Timestamp) -> Option<Field> {
     if !fits_count(parts.unix_second, at.as_seconds() as i128) {

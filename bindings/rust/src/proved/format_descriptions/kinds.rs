@@ -31,7 +31,7 @@ use crate::proved::plain_times::PlainDateTime;
 ///     result ≡ Err (Lacks c) }
 /// ```
 ///
-/// [docs/STATEMENT.md](crate::proved#contracts) explains the words.
+/// [docs/proofs/STATEMENT.md](crate::proved#contracts) explains the words.
 #[inline]
 pub fn format_date(items: &[Item], date: Date) -> Result<Text, FormatRefusal> {
     match lacking(items, true, false, false) {
@@ -64,7 +64,7 @@ pub fn format_date(items: &[Item], date: Date) -> Result<Text, FormatRefusal> {
 ///     result ≡ Err (Lacks c) }
 /// ```
 ///
-/// [docs/STATEMENT.md](crate::proved#contracts) explains the words.
+/// [docs/proofs/STATEMENT.md](crate::proved#contracts) explains the words.
 #[inline]
 pub fn format_time(items: &[Item], time: Time) -> Result<Text, FormatRefusal> {
     match lacking(items, false, true, false) {
@@ -97,7 +97,7 @@ pub fn format_time(items: &[Item], time: Time) -> Result<Text, FormatRefusal> {
 ///     result ≡ Err (Lacks c) }
 /// ```
 ///
-/// [docs/STATEMENT.md](crate::proved#contracts) explains the words.
+/// [docs/proofs/STATEMENT.md](crate::proved#contracts) explains the words.
 #[inline]
 pub fn format_offset(items: &[Item], offset: UtcOffset) -> Result<Text, FormatRefusal> {
     match lacking(items, false, false, true) {
@@ -132,7 +132,7 @@ pub fn format_offset(items: &[Item], offset: UtcOffset) -> Result<Text, FormatRe
 ///     result ≡ Err (Lacks c) }
 /// ```
 ///
-/// [docs/STATEMENT.md](crate::proved#contracts) explains the words.
+/// [docs/proofs/STATEMENT.md](crate::proved#contracts) explains the words.
 #[inline]
 pub fn format_plain(items: &[Item], at: PlainDateTime) -> Result<Text, FormatRefusal> {
     match lacking(items, true, true, false) {
@@ -148,7 +148,7 @@ pub fn format_plain(items: &[Item], at: PlainDateTime) -> Result<Text, FormatRef
 /// ensures { result ≡ lacking date time offset items.now }
 /// ```
 ///
-/// [docs/STATEMENT.md](crate::proved#contracts) explains the words.
+/// [docs/proofs/STATEMENT.md](crate::proved#contracts) explains the words.
 #[inline]
 const fn lacking(items: &[Item], date: bool, time: bool, offset: bool) -> Option<Component> {
     let Some((item, items)) = items.split_first() else {
@@ -169,7 +169,7 @@ const fn lacking(items: &[Item], date: bool, time: bool, offset: bool) -> Option
 /// ensures { result ≡ by_kind component date time offset }
 /// ```
 ///
-/// [docs/STATEMENT.md](crate::proved#contracts) explains the words.
+/// [docs/proofs/STATEMENT.md](crate::proved#contracts) explains the words.
 #[inline]
 const fn by_kind(component: Component, date: bool, time: bool, offset: bool) -> bool {
     match component {

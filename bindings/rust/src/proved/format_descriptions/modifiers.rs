@@ -28,7 +28,7 @@ impl Sign {
     /// ensures { result ≡ is_mandatory self }
     /// ```
     ///
-    /// [docs/STATEMENT.md](crate::proved#contracts) explains the words.
+    /// [docs/proofs/STATEMENT.md](crate::proved#contracts) explains the words.
     #[inline]
     pub(crate) const fn is_mandatory(self) -> bool {
         match self {
@@ -73,7 +73,7 @@ impl ReadCase {
     /// ensures { result ≡ reads_any_case self }
     /// ```
     ///
-    /// [docs/STATEMENT.md](crate::proved#contracts) explains the words.
+    /// [docs/proofs/STATEMENT.md](crate::proved#contracts) explains the words.
     #[inline]
     pub(crate) const fn reads_any_case(self) -> bool {
         match self {
@@ -109,7 +109,7 @@ impl YearRange {
     /// ensures { result ≡ is_extended self }
     /// ```
     ///
-    /// [docs/STATEMENT.md](crate::proved#contracts) explains the words.
+    /// [docs/proofs/STATEMENT.md](crate::proved#contracts) explains the words.
     #[inline]
     pub(crate) const fn is_extended(self) -> bool {
         match self {
@@ -148,7 +148,7 @@ impl WeekStart {
     /// ensures below { result < 7 }
     /// ```
     ///
-    /// [docs/STATEMENT.md](crate::proved#contracts) explains the words.
+    /// [docs/proofs/STATEMENT.md](crate::proved#contracts) explains the words.
     #[inline]
     pub(crate) const fn weekday(self) -> u8 {
         match self {
@@ -176,7 +176,7 @@ impl WeekdayCount {
     /// ensures below { result < 2 }
     /// ```
     ///
-    /// [docs/STATEMENT.md](crate::proved#contracts) explains the words.
+    /// [docs/proofs/STATEMENT.md](crate::proved#contracts) explains the words.
     #[inline]
     pub(crate) const fn first(self) -> u8 {
         match self {
@@ -209,7 +209,7 @@ impl UnixPrecision {
     /// ensures at_most { result ≤ 23 }
     /// ```
     ///
-    /// [docs/STATEMENT.md](crate::proved#contracts) explains the words.
+    /// [docs/proofs/STATEMENT.md](crate::proved#contracts) explains the words.
     #[inline]
     pub(crate) const fn digits(self) -> u8 {
         match self {
@@ -255,7 +255,7 @@ impl SubsecondDigits {
     /// ensures at_most { result ≤ 9 }
     /// ```
     ///
-    /// [docs/STATEMENT.md](crate::proved#contracts) explains the words.
+    /// [docs/proofs/STATEMENT.md](crate::proved#contracts) explains the words.
     #[inline]
     pub(crate) const fn count(self) -> u8 {
         match self {

@@ -10,7 +10,7 @@ use crate::proved::calendar_values::{Month, Text, Weekday};
 /// ensures text { result ≡ shortened form (name_of_month (month_number month)) }
 /// ```
 ///
-/// [docs/STATEMENT.md](crate::proved#contracts) explains the words.
+/// [docs/proofs/STATEMENT.md](crate::proved#contracts) explains the words.
 #[inline]
 pub(crate) fn month_name(form: NameForm, month: Month) -> Text {
     shortened(form, month.text())
@@ -23,7 +23,7 @@ pub(crate) fn month_name(form: NameForm, month: Month) -> Text {
 /// ensures text { result ≡ shortened form (name_of_weekday (weekday_number weekday)) }
 /// ```
 ///
-/// [docs/STATEMENT.md](crate::proved#contracts) explains the words.
+/// [docs/proofs/STATEMENT.md](crate::proved#contracts) explains the words.
 #[inline]
 pub(crate) fn weekday_name(form: NameForm, weekday: Weekday) -> Text {
     shortened(form, weekday.text())
@@ -36,7 +36,7 @@ pub(crate) fn weekday_name(form: NameForm, weekday: Weekday) -> Text {
 /// ensures text { result ≡ shortened form name }
 /// ```
 ///
-/// [docs/STATEMENT.md](crate::proved#contracts) explains the words.
+/// [docs/proofs/STATEMENT.md](crate::proved#contracts) explains the words.
 #[inline]
 fn shortened(form: NameForm, name: Text) -> Text {
     match form {
@@ -57,7 +57,7 @@ fn shortened(form: NameForm, name: Text) -> Text {
 /// ensures text { result ≡ period_text case hour }
 /// ```
 ///
-/// [docs/STATEMENT.md](crate::proved#contracts) explains the words.
+/// [docs/proofs/STATEMENT.md](crate::proved#contracts) explains the words.
 #[inline]
 pub(crate) fn period_text(case: Case, hour: u8) -> Text {
     let mut text = Text::new();
@@ -74,7 +74,7 @@ pub(crate) fn period_text(case: Case, hour: u8) -> Text {
 /// ensures length { length result.now ≤ 2 }
 /// ```
 ///
-/// [docs/STATEMENT.md](crate::proved#contracts) explains the words.
+/// [docs/proofs/STATEMENT.md](crate::proved#contracts) explains the words.
 #[inline]
 pub(crate) const fn period_word(case: Case, hour: u8) -> &'static [u8] {
     match (case, hour < 12) {

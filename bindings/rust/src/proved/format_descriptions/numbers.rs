@@ -12,7 +12,7 @@ use crate::proved::calendar_values::Text;
 /// ensures length { length result ≤ 21 }
 /// ```
 ///
-/// [docs/STATEMENT.md](crate::proved#contracts) explains the words.
+/// [docs/proofs/STATEMENT.md](crate::proved#contracts) explains the words.
 #[inline]
 pub(crate) fn two_text(padding: Padding, number: u8) -> Text {
     let mut text = Text::new();
@@ -38,7 +38,7 @@ pub(crate) fn two_text(padding: Padding, number: u8) -> Text {
 /// ensures length { length result ≤ 22 }
 /// ```
 ///
-/// [docs/STATEMENT.md](crate::proved#contracts) explains the words.
+/// [docs/proofs/STATEMENT.md](crate::proved#contracts) explains the words.
 #[inline]
 pub(crate) fn three_text(padding: Padding, number: u16) -> Text {
     let mut text = Text::new();
@@ -69,7 +69,7 @@ pub(crate) fn three_text(padding: Padding, number: u16) -> Text {
 /// ensures length { length result ≤ 42 }
 /// ```
 ///
-/// [docs/STATEMENT.md](crate::proved#contracts) explains the words.
+/// [docs/proofs/STATEMENT.md](crate::proved#contracts) explains the words.
 #[inline]
 pub(crate) fn four_text(padding: Padding, number: u32) -> Text {
     match padding {
@@ -99,7 +99,7 @@ pub(crate) fn four_text(padding: Padding, number: u32) -> Text {
 /// ensures text { result ≡ 32 ∷ text }
 /// ```
 ///
-/// [docs/STATEMENT.md](crate::proved#contracts) explains the words.
+/// [docs/proofs/STATEMENT.md](crate::proved#contracts) explains the words.
 #[inline]
 fn after_space(text: Text) -> Text {
     let mut spaced = Text::new();
@@ -116,7 +116,7 @@ fn after_space(text: Text) -> Text {
 /// ensures length { length result ≤ 20 }
 /// ```
 ///
-/// [docs/STATEMENT.md](crate::proved#contracts) explains the words.
+/// [docs/proofs/STATEMENT.md](crate::proved#contracts) explains the words.
 #[inline]
 fn year_digits(year: u32) -> Text {
     let mut text = Text::new();
@@ -136,7 +136,7 @@ fn year_digits(year: u32) -> Text {
 /// ensures length { length result ≤ 20 }
 /// ```
 ///
-/// [docs/STATEMENT.md](crate::proved#contracts) explains the words.
+/// [docs/proofs/STATEMENT.md](crate::proved#contracts) explains the words.
 #[inline]
 pub(crate) const fn decimal(number: u32) -> Text {
     let mut text = Text::new();
@@ -152,7 +152,7 @@ pub(crate) const fn decimal(number: u32) -> Text {
 /// ensures length { length result ≤ 21 }
 /// ```
 ///
-/// [docs/STATEMENT.md](crate::proved#contracts) explains the words.
+/// [docs/proofs/STATEMENT.md](crate::proved#contracts) explains the words.
 #[inline]
 pub(crate) fn century_digits(padding: Padding, number: u32) -> Text {
     if number < 100 {
@@ -169,7 +169,7 @@ pub(crate) fn century_digits(padding: Padding, number: u32) -> Text {
 /// ensures text { result ≡ subsecond_text digits nanosecond }
 /// ```
 ///
-/// [docs/STATEMENT.md](crate::proved#contracts) explains the words.
+/// [docs/proofs/STATEMENT.md](crate::proved#contracts) explains the words.
 #[inline]
 pub(crate) fn subsecond_text(digits: SubsecondDigits, nanosecond: u32) -> Text {
     let count = digits.count();
@@ -187,7 +187,7 @@ pub(crate) fn subsecond_text(digits: SubsecondDigits, nanosecond: u32) -> Text {
 /// ensures text { result ≡ fraction_digits 9 nanosecond }
 /// ```
 ///
-/// [docs/STATEMENT.md](crate::proved#contracts) explains the words.
+/// [docs/proofs/STATEMENT.md](crate::proved#contracts) explains the words.
 #[inline]
 fn fraction_digits(nanosecond: u32) -> Text {
     let mut text = Text::new();
@@ -202,7 +202,7 @@ fn fraction_digits(nanosecond: u32) -> Text {
 /// ensures text { result ≡ take count (last_digits 9 nanosecond) }
 /// ```
 ///
-/// [docs/STATEMENT.md](crate::proved#contracts) explains the words.
+/// [docs/proofs/STATEMENT.md](crate::proved#contracts) explains the words.
 #[inline]
 fn first_digits(count: u8, nanosecond: u32) -> Text {
     let nine = nine_digits(nanosecond);
@@ -219,7 +219,7 @@ fn first_digits(count: u8, nanosecond: u32) -> Text {
 /// ensures length { length result ≡ 9 }
 /// ```
 ///
-/// [docs/STATEMENT.md](crate::proved#contracts) explains the words.
+/// [docs/proofs/STATEMENT.md](crate::proved#contracts) explains the words.
 #[inline]
 fn nine_digits(number: u32) -> Text {
     let mut text = Text::new();

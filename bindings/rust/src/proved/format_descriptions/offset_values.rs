@@ -30,7 +30,7 @@ impl Parts {
     ///     HasOffsetParts self offset → result ≡ Ok offset }
     /// ```
     ///
-    /// [docs/STATEMENT.md](crate::proved#contracts) explains the words.
+    /// [docs/proofs/STATEMENT.md](crate::proved#contracts) explains the words.
     #[inline]
     pub const fn offset(self) -> Result<UtcOffset, ValueRefusal> {
         named_offset(self)
@@ -44,7 +44,7 @@ impl Parts {
 /// ensures { result ≡ offset_of_parts parts }
 /// ```
 ///
-/// [docs/STATEMENT.md](crate::proved#contracts) explains the words.
+/// [docs/proofs/STATEMENT.md](crate::proved#contracts) explains the words.
 #[inline]
 const fn named_offset(parts: Parts) -> Result<UtcOffset, ValueRefusal> {
     match parts.offset_hour {
@@ -60,7 +60,7 @@ const fn named_offset(parts: Parts) -> Result<UtcOffset, ValueRefusal> {
 /// ensures { result ≡ offset_at parts hour }
 /// ```
 ///
-/// [docs/STATEMENT.md](crate::proved#contracts) explains the words.
+/// [docs/proofs/STATEMENT.md](crate::proved#contracts) explains the words.
 #[inline]
 const fn offset_at(parts: Parts, hour: u32) -> Result<UtcOffset, ValueRefusal> {
     let minute = or_zero(parts.offset_minute);
@@ -88,7 +88,7 @@ const fn offset_at(parts: Parts, hour: u32) -> Result<UtcOffset, ValueRefusal> {
 /// ensures { result ≡ or_false known }
 /// ```
 ///
-/// [docs/STATEMENT.md](crate::proved#contracts) explains the words.
+/// [docs/proofs/STATEMENT.md](crate::proved#contracts) explains the words.
 #[inline]
 const fn or_false(known: Option<bool>) -> bool {
     match known {

@@ -74,7 +74,7 @@ impl Parts {
     /// ensures { result ≡ no_parts }
     /// ```
     ///
-    /// [docs/STATEMENT.md](crate::proved#contracts) explains the words.
+    /// [docs/proofs/STATEMENT.md](crate::proved#contracts) explains the words.
     #[inline]
     pub(crate) const fn none() -> Parts {
         Parts {
@@ -119,7 +119,7 @@ impl Parts {
     /// ensures { result ≡ agrees component given self }
     /// ```
     ///
-    /// [docs/STATEMENT.md](crate::proved#contracts) explains the words.
+    /// [docs/proofs/STATEMENT.md](crate::proved#contracts) explains the words.
     #[inline]
     pub(crate) const fn agrees(self, component: Component, given: (bool, u32)) -> bool {
         let (sign, number) = given;
@@ -171,7 +171,7 @@ impl Parts {
     /// ensures { result ≡ with_part component given self }
     /// ```
     ///
-    /// [docs/STATEMENT.md](crate::proved#contracts) explains the words.
+    /// [docs/proofs/STATEMENT.md](crate::proved#contracts) explains the words.
     #[inline]
     pub(crate) const fn with(self, component: Component, given: (bool, u32)) -> Parts {
         let (sign, number) = given;
@@ -275,7 +275,7 @@ impl Parts {
     ///     ≡ agrees (UnixTimestamp precision sign) given self }
     /// ```
     ///
-    /// [docs/STATEMENT.md](crate::proved#contracts) explains the words.
+    /// [docs/proofs/STATEMENT.md](crate::proved#contracts) explains the words.
     #[inline]
     pub(crate) const fn agrees_unix(self, precision: UnixPrecision, given: (bool, u128)) -> bool {
         let count = signed_count(given.0, given.1);
@@ -296,7 +296,7 @@ impl Parts {
     ///     ≡ with_part (UnixTimestamp precision sign) given self }
     /// ```
     ///
-    /// [docs/STATEMENT.md](crate::proved#contracts) explains the words.
+    /// [docs/proofs/STATEMENT.md](crate::proved#contracts) explains the words.
     #[inline]
     pub(crate) const fn with_unix(self, precision: UnixPrecision, given: (bool, u128)) -> Parts {
         let count = Some(signed_count(given.0, given.1));
@@ -329,7 +329,7 @@ impl Parts {
 /// ensures { result ≡ signed is_negative number }
 /// ```
 ///
-/// [docs/STATEMENT.md](crate::proved#contracts) explains the words.
+/// [docs/proofs/STATEMENT.md](crate::proved#contracts) explains the words.
 #[inline]
 pub(crate) const fn signed(is_negative: bool, number: u32) -> i32 {
     if is_negative {
@@ -347,7 +347,7 @@ pub(crate) const fn signed(is_negative: bool, number: u32) -> i32 {
 /// ensures { result ≡ signed is_negative number }
 /// ```
 ///
-/// [docs/STATEMENT.md](crate::proved#contracts) explains the words.
+/// [docs/proofs/STATEMENT.md](crate::proved#contracts) explains the words.
 #[inline]
 const fn signed_count(is_negative: bool, number: u128) -> i128 {
     if is_negative {
@@ -364,7 +364,7 @@ const fn signed_count(is_negative: bool, number: u128) -> i128 {
 /// ensures { result ≡ fits known number }
 /// ```
 ///
-/// [docs/STATEMENT.md](crate::proved#contracts) explains the words.
+/// [docs/proofs/STATEMENT.md](crate::proved#contracts) explains the words.
 #[inline]
 pub(crate) const fn fits(known: Option<u32>, number: u32) -> bool {
     match known {
@@ -380,7 +380,7 @@ pub(crate) const fn fits(known: Option<u32>, number: u32) -> bool {
 /// ensures { result ≡ fits_signed known number }
 /// ```
 ///
-/// [docs/STATEMENT.md](crate::proved#contracts) explains the words.
+/// [docs/proofs/STATEMENT.md](crate::proved#contracts) explains the words.
 #[inline]
 pub(crate) const fn fits_signed(known: Option<i32>, number: i32) -> bool {
     match known {
@@ -396,7 +396,7 @@ pub(crate) const fn fits_signed(known: Option<i32>, number: i32) -> bool {
 /// ensures { result ≡ fits_signed known number }
 /// ```
 ///
-/// [docs/STATEMENT.md](crate::proved#contracts) explains the words.
+/// [docs/proofs/STATEMENT.md](crate::proved#contracts) explains the words.
 #[inline]
 pub(crate) const fn fits_count(known: Option<i128>, number: i128) -> bool {
     match known {
@@ -412,7 +412,7 @@ pub(crate) const fn fits_count(known: Option<i128>, number: i128) -> bool {
 /// ensures { result ≡ fits_choice known choice }
 /// ```
 ///
-/// [docs/STATEMENT.md](crate::proved#contracts) explains the words.
+/// [docs/proofs/STATEMENT.md](crate::proved#contracts) explains the words.
 #[inline]
 pub(crate) const fn fits_choice(known: Option<bool>, choice: bool) -> bool {
     match known {

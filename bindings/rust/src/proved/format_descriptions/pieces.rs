@@ -17,7 +17,7 @@ use crate::proved::calendar_values::{Date, Text, Time, UtcOffset};
 /// ensures text { result ≡ component_text component date time offset }
 /// ```
 ///
-/// [docs/STATEMENT.md](crate::proved#contracts) explains the words.
+/// [docs/proofs/STATEMENT.md](crate::proved#contracts) explains the words.
 #[inline]
 pub(crate) fn component_text(
     component: Component,
@@ -67,7 +67,7 @@ pub(crate) fn component_text(
 /// ensures in_range { IsYear result }
 /// ```
 ///
-/// [docs/STATEMENT.md](crate::proved#contracts) explains the words.
+/// [docs/proofs/STATEMENT.md](crate::proved#contracts) explains the words.
 #[inline]
 const fn year_by(base: YearBase, date: Date) -> i32 {
     match base {
@@ -84,7 +84,7 @@ const fn year_by(base: YearBase, date: Date) -> i32 {
 /// ensures length { length result ≤ 1 }
 /// ```
 ///
-/// [docs/STATEMENT.md](crate::proved#contracts) explains the words.
+/// [docs/proofs/STATEMENT.md](crate::proved#contracts) explains the words.
 #[inline]
 const fn year_sign(sign: Sign, year: i32) -> Text {
     let mut text = Text::new();
@@ -104,7 +104,7 @@ const fn year_sign(sign: Sign, year: i32) -> Text {
 /// ensures text { result ≡ year_text sign padding year }
 /// ```
 ///
-/// [docs/STATEMENT.md](crate::proved#contracts) explains the words.
+/// [docs/proofs/STATEMENT.md](crate::proved#contracts) explains the words.
 #[inline]
 fn year_text(sign: Sign, padding: Padding, year: i32) -> Text {
     let digits = four_text(padding, year.unsigned_abs());
@@ -121,7 +121,7 @@ fn year_text(sign: Sign, padding: Padding, year: i32) -> Text {
 /// ensures text { result ≡ century_text sign padding year }
 /// ```
 ///
-/// [docs/STATEMENT.md](crate::proved#contracts) explains the words.
+/// [docs/proofs/STATEMENT.md](crate::proved#contracts) explains the words.
 #[inline]
 fn century_text(sign: Sign, padding: Padding, year: i32) -> Text {
     let digits = century_digits(padding, year.unsigned_abs() / 100);
@@ -138,7 +138,7 @@ fn century_text(sign: Sign, padding: Padding, year: i32) -> Text {
 /// ensures in_range { result < 100 }
 /// ```
 ///
-/// [docs/STATEMENT.md](crate::proved#contracts) explains the words.
+/// [docs/proofs/STATEMENT.md](crate::proved#contracts) explains the words.
 #[inline]
 const fn week_by(rule: WeekRule, date: Date) -> u8 {
     match rule {
@@ -156,7 +156,7 @@ const fn week_by(rule: WeekRule, date: Date) -> u8 {
 /// ensures { result ≡ weekday_number_by start count weekday }
 /// ```
 ///
-/// [docs/STATEMENT.md](crate::proved#contracts) explains the words.
+/// [docs/proofs/STATEMENT.md](crate::proved#contracts) explains the words.
 #[inline]
 const fn weekday_number_by(start: WeekStart, count: WeekdayCount, weekday: u8) -> u8 {
     (weekday + 7 - start.weekday()) % 7 + count.first()
@@ -170,7 +170,7 @@ const fn weekday_number_by(start: WeekStart, count: WeekdayCount, weekday: u8) -
 /// ensures below { result < 13 }
 /// ```
 ///
-/// [docs/STATEMENT.md](crate::proved#contracts) explains the words.
+/// [docs/proofs/STATEMENT.md](crate::proved#contracts) explains the words.
 #[inline]
 pub(crate) const fn hour_12(hour: u8) -> u8 {
     let past = hour % 12;
@@ -184,7 +184,7 @@ pub(crate) const fn hour_12(hour: u8) -> u8 {
 /// ensures text { result ≡ offset_hour_text sign padding offset }
 /// ```
 ///
-/// [docs/STATEMENT.md](crate::proved#contracts) explains the words.
+/// [docs/proofs/STATEMENT.md](crate::proved#contracts) explains the words.
 #[inline]
 fn offset_hour_text(sign: Sign, padding: Padding, offset: UtcOffset) -> Text {
     let hours = two_text(padding, offset_numbers(offset).0);
@@ -206,7 +206,7 @@ fn offset_hour_text(sign: Sign, padding: Padding, offset: UtcOffset) -> Text {
 /// ensures below { (result.0 < 100) × (result.1 < 100) × (result.2 < 100) }
 /// ```
 ///
-/// [docs/STATEMENT.md](crate::proved#contracts) explains the words.
+/// [docs/proofs/STATEMENT.md](crate::proved#contracts) explains the words.
 #[inline]
 const fn offset_numbers(offset: UtcOffset) -> (u8, u8, u8) {
     let (hours, minutes, seconds) = offset.as_hms();

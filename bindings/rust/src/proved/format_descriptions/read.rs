@@ -26,7 +26,7 @@ use crate::proved::format_descriptions::{Component, Item, Parts, Sign, UnixPreci
 ///     (items_at items.now text.now no_parts) }
 /// ```
 ///
-/// [docs/STATEMENT.md](crate::proved#contracts) explains the words.
+/// [docs/proofs/STATEMENT.md](crate::proved#contracts) explains the words.
 #[inline]
 pub fn parse(items: &[Item], text: &[u8]) -> Result<Parts, usize> {
     let mut parts = Parts::none();
@@ -53,7 +53,7 @@ pub fn parse(items: &[Item], text: &[u8]) -> Result<Parts, usize> {
 /// ensures shorter { IfSome result (λ read. length read.1.now ≤ length text.now) }
 /// ```
 ///
-/// [docs/STATEMENT.md](crate::proved#contracts) explains the words.
+/// [docs/proofs/STATEMENT.md](crate::proved#contracts) explains the words.
 #[inline]
 fn item_at(item: Item, text: &[u8], parts: Parts) -> Option<(Parts, &[u8])> {
     match item {
@@ -74,7 +74,7 @@ fn item_at(item: Item, text: &[u8], parts: Parts) -> Option<(Parts, &[u8])> {
 /// ensures shorter { IfSome result (λ read. length read.1.now ≤ length text.now) }
 /// ```
 ///
-/// [docs/STATEMENT.md](crate::proved#contracts) explains the words.
+/// [docs/proofs/STATEMENT.md](crate::proved#contracts) explains the words.
 #[inline]
 fn part_at(component: Component, text: &[u8], parts: Parts) -> Option<(Parts, &[u8])> {
     match component {
@@ -98,7 +98,7 @@ fn part_at(component: Component, text: &[u8], parts: Parts) -> Option<(Parts, &[
 /// ensures shorter { IfSome result (λ read. length read.1.now ≤ length text.now) }
 /// ```
 ///
-/// [docs/STATEMENT.md](crate::proved#contracts) explains the words.
+/// [docs/proofs/STATEMENT.md](crate::proved#contracts) explains the words.
 #[inline]
 fn unix_part_at(
     precision: UnixPrecision,

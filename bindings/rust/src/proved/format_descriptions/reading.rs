@@ -11,7 +11,7 @@ use crate::proved::format_descriptions::{Padding, ReadCase, YearRange};
 /// ensures shorter { IfSome result (λ read. length read.1.now ≤ length text.now) }
 /// ```
 ///
-/// [docs/STATEMENT.md](crate::proved#contracts) explains the words.
+/// [docs/proofs/STATEMENT.md](crate::proved#contracts) explains the words.
 #[inline]
 pub(crate) fn two(padding: Padding, text: &[u8]) -> Option<(u32, &[u8])> {
     match padding {
@@ -36,7 +36,7 @@ pub(crate) fn two(padding: Padding, text: &[u8]) -> Option<(u32, &[u8])> {
 /// ensures shorter { IfSome result (λ read. length read.1.now ≤ length text.now) }
 /// ```
 ///
-/// [docs/STATEMENT.md](crate::proved#contracts) explains the words.
+/// [docs/proofs/STATEMENT.md](crate::proved#contracts) explains the words.
 #[inline]
 pub(crate) fn three(padding: Padding, text: &[u8]) -> Option<(u32, &[u8])> {
     match padding {
@@ -63,7 +63,7 @@ pub(crate) fn three(padding: Padding, text: &[u8]) -> Option<(u32, &[u8])> {
 /// ensures shorter { length result.1.now ≤ length text.now }
 /// ```
 ///
-/// [docs/STATEMENT.md](crate::proved#contracts) explains the words.
+/// [docs/proofs/STATEMENT.md](crate::proved#contracts) explains the words.
 #[inline]
 fn digit_more(number: u32, text: &[u8]) -> (u32, &[u8]) {
     match digit(text) {
@@ -81,7 +81,7 @@ fn digit_more(number: u32, text: &[u8]) -> (u32, &[u8]) {
 /// ensures shorter { IfSome result (λ read. length read.1.now ≤ length text.now) }
 /// ```
 ///
-/// [docs/STATEMENT.md](crate::proved#contracts) explains the words.
+/// [docs/proofs/STATEMENT.md](crate::proved#contracts) explains the words.
 #[inline]
 pub(crate) fn four(padding: Padding, text: &[u8]) -> Option<(u32, &[u8])> {
     match padding {
@@ -107,7 +107,7 @@ pub(crate) fn four(padding: Padding, text: &[u8]) -> Option<(u32, &[u8])> {
 /// ensures shorter { length result.1.now ≤ length text.now }
 /// ```
 ///
-/// [docs/STATEMENT.md](crate::proved#contracts) explains the words.
+/// [docs/proofs/STATEMENT.md](crate::proved#contracts) explains the words.
 #[inline]
 pub(crate) fn more(range: YearRange, number: u32, text: &[u8]) -> (u32, &[u8]) {
     if range.is_extended() {
@@ -127,7 +127,7 @@ pub(crate) fn more(range: YearRange, number: u32, text: &[u8]) -> (u32, &[u8]) {
 /// ensures shorter { IfSome result (λ read. length read.1.now ≤ length text.now) }
 /// ```
 ///
-/// [docs/STATEMENT.md](crate::proved#contracts) explains the words.
+/// [docs/proofs/STATEMENT.md](crate::proved#contracts) explains the words.
 #[inline]
 pub(crate) fn year(text: &[u8]) -> Option<(u32, &[u8])> {
     let (century, text) = two_digits(text)?;
@@ -144,7 +144,7 @@ pub(crate) fn year(text: &[u8]) -> Option<(u32, &[u8])> {
 /// ensures shorter { IfSome result (λ read. length read.1.now ≤ length text.now) }
 /// ```
 ///
-/// [docs/STATEMENT.md](crate::proved#contracts) explains the words.
+/// [docs/proofs/STATEMENT.md](crate::proved#contracts) explains the words.
 #[inline]
 fn three_digits(text: &[u8]) -> Option<(u32, &[u8])> {
     let (hundreds, text) = digit(text)?;
@@ -161,7 +161,7 @@ fn three_digits(text: &[u8]) -> Option<(u32, &[u8])> {
 /// ensures shorter { IfSome result (λ read. length read.1.now ≤ length text.now) }
 /// ```
 ///
-/// [docs/STATEMENT.md](crate::proved#contracts) explains the words.
+/// [docs/proofs/STATEMENT.md](crate::proved#contracts) explains the words.
 #[inline]
 fn two_digits(text: &[u8]) -> Option<(u32, &[u8])> {
     let (tens, text) = digit(text)?;
@@ -178,7 +178,7 @@ fn two_digits(text: &[u8]) -> Option<(u32, &[u8])> {
 /// ensures shorter { IfSome result (λ read. length read.1.now ≤ length text.now) }
 /// ```
 ///
-/// [docs/STATEMENT.md](crate::proved#contracts) explains the words.
+/// [docs/proofs/STATEMENT.md](crate::proved#contracts) explains the words.
 #[inline]
 pub(crate) fn digit(text: &[u8]) -> Option<(u32, &[u8])> {
     let (first, text) = text.split_first()?;
@@ -197,7 +197,7 @@ pub(crate) fn digit(text: &[u8]) -> Option<(u32, &[u8])> {
 /// ensures shorter { IfSome result (λ read. length read.1.now ≤ length text.now) }
 /// ```
 ///
-/// [docs/STATEMENT.md](crate::proved#contracts) explains the words.
+/// [docs/proofs/STATEMENT.md](crate::proved#contracts) explains the words.
 #[inline]
 pub(crate) fn sign(text: &[u8]) -> Option<(bool, &[u8])> {
     let (first, text) = text.split_first()?;
@@ -216,7 +216,7 @@ pub(crate) fn sign(text: &[u8]) -> Option<(bool, &[u8])> {
 /// ensures shorter { IfSome result (λ read. length read.now ≤ length text.now) }
 /// ```
 ///
-/// [docs/STATEMENT.md](crate::proved#contracts) explains the words.
+/// [docs/proofs/STATEMENT.md](crate::proved#contracts) explains the words.
 #[inline]
 pub(crate) fn after_word<'a>(case: ReadCase, word: &[u8], text: &'a [u8]) -> Option<&'a [u8]> {
     let Some((letter, word)) = word.split_first() else {
@@ -236,7 +236,7 @@ pub(crate) fn after_word<'a>(case: ReadCase, word: &[u8], text: &'a [u8]) -> Opt
 /// ensures shorter { IfSome result (λ read. length read.now ≤ length text.now) }
 /// ```
 ///
-/// [docs/STATEMENT.md](crate::proved#contracts) explains the words.
+/// [docs/proofs/STATEMENT.md](crate::proved#contracts) explains the words.
 #[inline]
 fn after_letter(case: ReadCase, letter: u8, text: &[u8]) -> Option<&[u8]> {
     let (first, text) = text.split_first()?;
@@ -254,7 +254,7 @@ fn after_letter(case: ReadCase, letter: u8, text: &[u8]) -> Option<&[u8]> {
 /// ensures { result ≡ is_letter case a b }
 /// ```
 ///
-/// [docs/STATEMENT.md](crate::proved#contracts) explains the words.
+/// [docs/proofs/STATEMENT.md](crate::proved#contracts) explains the words.
 #[inline]
 const fn is_letter(case: ReadCase, a: u8, b: u8) -> bool {
     if case.reads_any_case() {
@@ -272,7 +272,7 @@ const fn is_letter(case: ReadCase, a: u8, b: u8) -> bool {
 /// ensures shorter { IfSome result (λ read. length read.now ≤ length text.now) }
 /// ```
 ///
-/// [docs/STATEMENT.md](crate::proved#contracts) explains the words.
+/// [docs/proofs/STATEMENT.md](crate::proved#contracts) explains the words.
 #[inline]
 pub(crate) const fn after_mark(mark: u8, text: &[u8]) -> Option<&[u8]> {
     match text.split_first() {

@@ -13,7 +13,7 @@ use crate::proved::offset_times::OffsetDateTime;
 /// ensures below { unsigned_abs result < 10 ^ 23 }
 /// ```
 ///
-/// [docs/STATEMENT.md](crate::proved#contracts) explains the words.
+/// [docs/proofs/STATEMENT.md](crate::proved#contracts) explains the words.
 #[inline]
 pub(crate) const fn unix_count(
     precision: UnixPrecision,
@@ -32,7 +32,7 @@ pub(crate) const fn unix_count(
 /// ensures below { unsigned_abs result < 10 ^ 23 }
 /// ```
 ///
-/// [docs/STATEMENT.md](crate::proved#contracts) explains the words.
+/// [docs/proofs/STATEMENT.md](crate::proved#contracts) explains the words.
 #[inline]
 const fn nanoseconds(date: Date, time: Time, offset: UtcOffset) -> i128 {
     let at = OffsetDateTime::new_in_offset(date, time, offset);
@@ -50,7 +50,7 @@ const fn nanoseconds(date: Date, time: Time, offset: UtcOffset) -> i128 {
 /// ensures below { unsigned_abs result < 10 ^ 23 }
 /// ```
 ///
-/// [docs/STATEMENT.md](crate::proved#contracts) explains the words.
+/// [docs/proofs/STATEMENT.md](crate::proved#contracts) explains the words.
 #[inline]
 const fn unix_rounded(precision: UnixPrecision, instant: i128) -> i128 {
     match precision {
@@ -69,7 +69,7 @@ const fn unix_rounded(precision: UnixPrecision, instant: i128) -> i128 {
 /// ensures text { result ≡ unix_text sign count }
 /// ```
 ///
-/// [docs/STATEMENT.md](crate::proved#contracts) explains the words.
+/// [docs/proofs/STATEMENT.md](crate::proved#contracts) explains the words.
 #[inline]
 pub(crate) fn unix_text(sign: Sign, count: i128) -> Text {
     let mut text = Text::new();
@@ -91,7 +91,7 @@ pub(crate) fn unix_text(sign: Sign, count: i128) -> Text {
 /// ensures { text.new ≡ text.old ++ decimal number }
 /// ```
 ///
-/// [docs/STATEMENT.md](crate::proved#contracts) explains the words.
+/// [docs/proofs/STATEMENT.md](crate::proved#contracts) explains the words.
 #[inline]
 fn push_long_decimal(text: &mut Text, number: u128) {
     if number < 10_000_000_000_000_000_000 {
@@ -113,7 +113,7 @@ fn push_long_decimal(text: &mut Text, number: u128) {
 /// ensures shorter { IfSome result (λ read. length read.1.now ≤ length text.now) }
 /// ```
 ///
-/// [docs/STATEMENT.md](crate::proved#contracts) explains the words.
+/// [docs/proofs/STATEMENT.md](crate::proved#contracts) explains the words.
 #[inline]
 pub(crate) fn unix_at(sign_given: Sign, most: u8, text: &[u8]) -> Option<((bool, u128), &[u8])> {
     match sign(text) {
@@ -141,7 +141,7 @@ pub(crate) fn unix_at(sign_given: Sign, most: u8, text: &[u8]) -> Option<((bool,
 /// ensures shorter { IfSome result (λ read. length read.1.now ≤ length text.now) }
 /// ```
 ///
-/// [docs/STATEMENT.md](crate::proved#contracts) explains the words.
+/// [docs/proofs/STATEMENT.md](crate::proved#contracts) explains the words.
 #[inline]
 fn decimal_at(most: u8, text: &[u8]) -> Option<(u128, &[u8])> {
     let (first, rest) = digit(text)?;
@@ -158,7 +158,7 @@ fn decimal_at(most: u8, text: &[u8]) -> Option<(u128, &[u8])> {
 /// ensures shorter { length result.1.now ≤ length text.now }
 /// ```
 ///
-/// [docs/STATEMENT.md](crate::proved#contracts) explains the words.
+/// [docs/proofs/STATEMENT.md](crate::proved#contracts) explains the words.
 #[inline]
 fn digits_on(count: u8, number: u128, text: &[u8]) -> (u128, &[u8]) {
     if count == 0 {

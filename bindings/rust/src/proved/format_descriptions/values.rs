@@ -31,7 +31,7 @@ impl Parts {
     ///     HasDateParts self day → result ≡ Ok day }
     /// ```
     ///
-    /// [docs/STATEMENT.md](crate::proved#contracts) explains the words.
+    /// [docs/proofs/STATEMENT.md](crate::proved#contracts) explains the words.
     #[inline]
     pub fn date(self) -> Result<Date, ValueRefusal> {
         named_date(self)
@@ -45,7 +45,7 @@ impl Parts {
 /// ensures { result ≡ date_of_parts parts }
 /// ```
 ///
-/// [docs/STATEMENT.md](crate::proved#contracts) explains the words.
+/// [docs/proofs/STATEMENT.md](crate::proved#contracts) explains the words.
 #[inline]
 fn named_date(parts: Parts) -> Result<Date, ValueRefusal> {
     let Some(year) = calendar_year(parts) else {
@@ -64,7 +64,7 @@ fn named_date(parts: Parts) -> Result<Date, ValueRefusal> {
 /// ensures { result ≡ calendar_year parts }
 /// ```
 ///
-/// [docs/STATEMENT.md](crate::proved#contracts) explains the words.
+/// [docs/proofs/STATEMENT.md](crate::proved#contracts) explains the words.
 #[inline]
 const fn calendar_year(parts: Parts) -> Option<i32> {
     year_known(
@@ -82,7 +82,7 @@ const fn calendar_year(parts: Parts) -> Option<i32> {
 /// ensures { result ≡ iso_year parts }
 /// ```
 ///
-/// [docs/STATEMENT.md](crate::proved#contracts) explains the words.
+/// [docs/proofs/STATEMENT.md](crate::proved#contracts) explains the words.
 #[inline]
 const fn iso_year(parts: Parts) -> Option<i32> {
     year_known(
@@ -100,7 +100,7 @@ const fn iso_year(parts: Parts) -> Option<i32> {
 /// ensures { result ≡ year_known year century is_before_zero last_two }
 /// ```
 ///
-/// [docs/STATEMENT.md](crate::proved#contracts) explains the words.
+/// [docs/proofs/STATEMENT.md](crate::proved#contracts) explains the words.
 #[inline]
 const fn year_known(
     year: Option<i32>,
@@ -134,7 +134,7 @@ const fn year_known(
 /// ensures { result ≡ day_in_year parts year }
 /// ```
 ///
-/// [docs/STATEMENT.md](crate::proved#contracts) explains the words.
+/// [docs/proofs/STATEMENT.md](crate::proved#contracts) explains the words.
 #[inline]
 fn day_in_year(parts: Parts, year: i32) -> Result<Date, ValueRefusal> {
     if parts.month.is_some() & parts.day.is_some() {
@@ -180,7 +180,7 @@ fn day_in_year(parts: Parts, year: i32) -> Result<Date, ValueRefusal> {
 /// ensures { result ≡ day_in_iso_year parts missing (iso_year parts) }
 /// ```
 ///
-/// [docs/STATEMENT.md](crate::proved#contracts) explains the words.
+/// [docs/proofs/STATEMENT.md](crate::proved#contracts) explains the words.
 #[inline]
 fn day_in_iso_year(parts: Parts, missing: Field) -> Result<Date, ValueRefusal> {
     let Some(year) = iso_year(parts) else {
@@ -201,7 +201,7 @@ fn day_in_iso_year(parts: Parts, missing: Field) -> Result<Date, ValueRefusal> {
 /// ensures { result ≡ month_day parts year month day }
 /// ```
 ///
-/// [docs/STATEMENT.md](crate::proved#contracts) explains the words.
+/// [docs/proofs/STATEMENT.md](crate::proved#contracts) explains the words.
 #[inline]
 fn month_day(parts: Parts, year: i32, month: u32, day: u32) -> Result<Date, ValueRefusal> {
     if month == 0 || month > 12 {
@@ -227,7 +227,7 @@ fn month_day(parts: Parts, year: i32, month: u32, day: u32) -> Result<Date, Valu
 /// ensures { result ≡ year_day parts year ordinal wrong }
 /// ```
 ///
-/// [docs/STATEMENT.md](crate::proved#contracts) explains the words.
+/// [docs/proofs/STATEMENT.md](crate::proved#contracts) explains the words.
 #[inline]
 fn year_day(parts: Parts, year: i32, ordinal: u32, wrong: Field) -> Result<Date, ValueRefusal> {
     if ordinal > 366 {
@@ -248,7 +248,7 @@ fn year_day(parts: Parts, year: i32, ordinal: u32, wrong: Field) -> Result<Date,
 /// ensures { result ≡ week_day first parts year week weekday wrong }
 /// ```
 ///
-/// [docs/STATEMENT.md](crate::proved#contracts) explains the words.
+/// [docs/proofs/STATEMENT.md](crate::proved#contracts) explains the words.
 #[inline]
 fn week_day(
     first: u8,
@@ -278,7 +278,7 @@ fn week_day(
 /// ensures { result ≡ week_ordinal first year week weekday }
 /// ```
 ///
-/// [docs/STATEMENT.md](crate::proved#contracts) explains the words.
+/// [docs/proofs/STATEMENT.md](crate::proved#contracts) explains the words.
 #[inline]
 const fn week_ordinal(first: u8, year: i32, week: u32, weekday: u32) -> u32 {
     let start = first_weekday(year) as u32;
@@ -295,7 +295,7 @@ const fn week_ordinal(first: u8, year: i32, week: u32, weekday: u32) -> u32 {
 /// ensures below { result < 7 }
 /// ```
 ///
-/// [docs/STATEMENT.md](crate::proved#contracts) explains the words.
+/// [docs/proofs/STATEMENT.md](crate::proved#contracts) explains the words.
 #[inline]
 const fn first_weekday(year: i32) -> u8 {
     Date::at_ordinal_date(year, 1)
@@ -310,7 +310,7 @@ const fn first_weekday(year: i32) -> u8 {
 /// ensures { result ≡ iso_day parts year week weekday }
 /// ```
 ///
-/// [docs/STATEMENT.md](crate::proved#contracts) explains the words.
+/// [docs/proofs/STATEMENT.md](crate::proved#contracts) explains the words.
 #[inline]
 fn iso_day(parts: Parts, year: i32, week: u32, weekday: u32) -> Result<Date, ValueRefusal> {
     if week > 53 {
@@ -332,7 +332,7 @@ fn iso_day(parts: Parts, year: i32, week: u32, weekday: u32) -> Result<Date, Val
 /// ensures { result ≡ day_with parts date }
 /// ```
 ///
-/// [docs/STATEMENT.md](crate::proved#contracts) explains the words.
+/// [docs/proofs/STATEMENT.md](crate::proved#contracts) explains the words.
 #[inline]
 fn date_with(parts: Parts, date: Date) -> Result<Date, ValueRefusal> {
     match wrong_date(parts, date) {
@@ -348,7 +348,7 @@ fn date_with(parts: Parts, date: Date) -> Result<Date, ValueRefusal> {
 /// ensures { result ≡ wrong_date parts date }
 /// ```
 ///
-/// [docs/STATEMENT.md](crate::proved#contracts) explains the words.
+/// [docs/proofs/STATEMENT.md](crate::proved#contracts) explains the words.
 #[inline]
 fn wrong_date(parts: Parts, date: Date) -> Option<Field> {
     if let Some(field) = wrong_day(parts, date) {
@@ -372,7 +372,7 @@ fn wrong_date(parts: Parts, date: Date) -> Option<Field> {
 ///     parts.year_last_two year Year YearCentury YearLastTwo }
 /// ```
 ///
-/// [docs/STATEMENT.md](crate::proved#contracts) explains the words.
+/// [docs/proofs/STATEMENT.md](crate::proved#contracts) explains the words.
 #[inline]
 const fn wrong_calendar_year(parts: Parts, year: i32) -> Option<Field> {
     wrong_year(
@@ -396,7 +396,7 @@ const fn wrong_calendar_year(parts: Parts, year: i32) -> Option<Field> {
 ///     parts.iso_year_last_two year IsoYear IsoYearCentury IsoYearLastTwo }
 /// ```
 ///
-/// [docs/STATEMENT.md](crate::proved#contracts) explains the words.
+/// [docs/proofs/STATEMENT.md](crate::proved#contracts) explains the words.
 #[inline]
 const fn wrong_iso_year(parts: Parts, year: i32) -> Option<Field> {
     wrong_year(
@@ -419,7 +419,7 @@ const fn wrong_iso_year(parts: Parts, year: i32) -> Option<Field> {
 /// ensures { result ≡ wrong_year known.0 known.1 known.2 known.3 year names.0 names.1 names.2 }
 /// ```
 ///
-/// [docs/STATEMENT.md](crate::proved#contracts) explains the words.
+/// [docs/proofs/STATEMENT.md](crate::proved#contracts) explains the words.
 #[inline]
 const fn wrong_year(
     known: (Option<i32>, Option<u32>, Option<bool>, Option<u32>),
@@ -448,7 +448,7 @@ const fn wrong_year(
 /// ensures { result ≡ wrong_day parts date }
 /// ```
 ///
-/// [docs/STATEMENT.md](crate::proved#contracts) explains the words.
+/// [docs/proofs/STATEMENT.md](crate::proved#contracts) explains the words.
 #[inline]
 fn wrong_day(parts: Parts, date: Date) -> Option<Field> {
     if !fits(parts.month, u8::from(date.month()) as u32) {
@@ -476,7 +476,7 @@ fn wrong_day(parts: Parts, date: Date) -> Option<Field> {
 /// ensures { result ≡ wrong_week parts date }
 /// ```
 ///
-/// [docs/STATEMENT.md](crate::proved#contracts) explains the words.
+/// [docs/proofs/STATEMENT.md](crate::proved#contracts) explains the words.
 #[inline]
 const fn wrong_week(parts: Parts, date: Date) -> Option<Field> {
     if !fits(parts.iso_week, date.iso_week() as u32) {

@@ -16,7 +16,7 @@ use crate::proved::calendar_values::{Month, Weekday};
 /// ensures shorter { IfSome result (λ read. length read.1.now ≤ length text.now) }
 /// ```
 ///
-/// [docs/STATEMENT.md](crate::proved#contracts) explains the words.
+/// [docs/proofs/STATEMENT.md](crate::proved#contracts) explains the words.
 #[inline]
 pub(crate) fn month(form: NameForm, case: ReadCase, last: u8, text: &[u8]) -> Option<(u32, &[u8])> {
     if last == 0 {
@@ -42,7 +42,7 @@ pub(crate) fn month(form: NameForm, case: ReadCase, last: u8, text: &[u8]) -> Op
 /// ensures shorter { IfSome result (λ read. length read.1.now ≤ length text.now) }
 /// ```
 ///
-/// [docs/STATEMENT.md](crate::proved#contracts) explains the words.
+/// [docs/proofs/STATEMENT.md](crate::proved#contracts) explains the words.
 #[inline]
 pub(crate) fn weekday(
     form: NameForm,
@@ -70,7 +70,7 @@ pub(crate) fn weekday(
 /// ensures shorter { IfSome result (λ read. length read.1.now ≤ length text.now) }
 /// ```
 ///
-/// [docs/STATEMENT.md](crate::proved#contracts) explains the words.
+/// [docs/proofs/STATEMENT.md](crate::proved#contracts) explains the words.
 #[inline]
 pub(crate) fn weekday_number(
     start: WeekStart,
@@ -98,7 +98,7 @@ pub(crate) fn weekday_number(
 /// ensures shorter { IfSome result (λ read. length read.1.now ≤ length text.now) }
 /// ```
 ///
-/// [docs/STATEMENT.md](crate::proved#contracts) explains the words.
+/// [docs/proofs/STATEMENT.md](crate::proved#contracts) explains the words.
 #[inline]
 pub(crate) fn period(case: Case, read: ReadCase, text: &[u8]) -> Option<((bool, u32), &[u8])> {
     if let Some(rest) = after_word(read, period_word(case, 0), text) {

@@ -27,7 +27,7 @@ use crate::proved::offset_times::OffsetDateTime;
 ///     (described_text items.now at) }
 /// ```
 ///
-/// [docs/STATEMENT.md](crate::proved#contracts) explains the words.
+/// [docs/proofs/STATEMENT.md](crate::proved#contracts) explains the words.
 #[inline]
 pub fn format_date_time(items: &[Item], at: OffsetDateTime) -> Option<Text> {
     let (date, time, offset) = at.parts();
@@ -56,7 +56,7 @@ pub fn format_date_time(items: &[Item], at: OffsetDateTime) -> Option<Text> {
 ///     (items_text items.now date time offset) }
 /// ```
 ///
-/// [docs/STATEMENT.md](crate::proved#contracts) explains the words.
+/// [docs/proofs/STATEMENT.md](crate::proved#contracts) explains the words.
 #[inline]
 pub fn format(items: &[Item], date: Date, time: Time, offset: UtcOffset) -> Option<Text> {
     let mut text = Text::new();
@@ -80,7 +80,7 @@ pub fn format(items: &[Item], date: Date, time: Time, offset: UtcOffset) -> Opti
 ///     SomeIff result (IsAscii text) text }
 /// ```
 ///
-/// [docs/STATEMENT.md](crate::proved#contracts) explains the words.
+/// [docs/proofs/STATEMENT.md](crate::proved#contracts) explains the words.
 #[inline]
 fn item_text(item: Item, date: Date, time: Time, offset: UtcOffset) -> Option<Text> {
     match item {
@@ -97,7 +97,7 @@ fn item_text(item: Item, date: Date, time: Time, offset: UtcOffset) -> Option<Te
 /// ensures ascii { IsAscii text }
 /// ```
 ///
-/// [docs/STATEMENT.md](crate::proved#contracts) explains the words.
+/// [docs/proofs/STATEMENT.md](crate::proved#contracts) explains the words.
 #[inline]
 fn seen(text: Text) -> Text {
     let _bytes = text.as_bytes();
@@ -111,7 +111,7 @@ fn seen(text: Text) -> Text {
 /// ensures { SomeIff result (IsAscii (byte ∷ [])) (byte ∷ []) }
 /// ```
 ///
-/// [docs/STATEMENT.md](crate::proved#contracts) explains the words.
+/// [docs/proofs/STATEMENT.md](crate::proved#contracts) explains the words.
 #[inline]
 fn byte_text(byte: u8) -> Option<Text> {
     if byte >= 128 {

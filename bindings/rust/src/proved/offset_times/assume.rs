@@ -12,7 +12,7 @@ use crate::proved::plain_times::PlainDateTime;
 /// ghost wall_clock_shown: { Self → ℤ };
 /// ```
 ///
-/// [docs/STATEMENT.md](crate::proved#contracts) explains the words.
+/// [docs/proofs/STATEMENT.md](crate::proved#contracts) explains the words.
 pub trait Assume {
     /// The date-time of this wall clock at the offset.
     ///
@@ -34,7 +34,7 @@ pub trait Assume {
     /// ensures instant { instant_of result ≡ wall_clock_shown self -ℤ offset_nanos offset }
     /// ```
     ///
-    /// [docs/STATEMENT.md](crate::proved#contracts) explains the words.
+    /// [docs/proofs/STATEMENT.md](crate::proved#contracts) explains the words.
     fn assume_offset(self, offset: UtcOffset) -> OffsetDateTime;
 
     /// The date-time of this wall clock in UTC.
@@ -54,7 +54,7 @@ pub trait Assume {
     /// ensures instant { instant_of result ≡ wall_clock_shown self }
     /// ```
     ///
-    /// [docs/STATEMENT.md](crate::proved#contracts) explains the words.
+    /// [docs/proofs/STATEMENT.md](crate::proved#contracts) explains the words.
     fn assume_utc(self) -> OffsetDateTime;
 }
 
@@ -64,7 +64,7 @@ pub trait Assume {
 /// ghost wall_clock_shown = { λ w. w };
 /// ```
 ///
-/// [docs/STATEMENT.md](crate::proved#contracts) explains the words.
+/// [docs/proofs/STATEMENT.md](crate::proved#contracts) explains the words.
 impl Assume for PlainDateTime {
     #[inline]
     fn assume_offset(self, offset: UtcOffset) -> OffsetDateTime {

@@ -24,7 +24,7 @@ use crate::proved::utc_times::UtcDateTime;
 /// ensures within { CarriesWithin 2 2 3 (wall_time at.wall) at.offset offset }
 /// ```
 ///
-/// [docs/STATEMENT.md](crate::proved#contracts) explains the words.
+/// [docs/proofs/STATEMENT.md](crate::proved#contracts) explains the words.
 #[inline(always)]
 pub const fn to_offset_raw(at: OffsetDateTime, offset: UtcOffset) -> (i32, u16, Time) {
     parts_at(at.date_time(), at.offset(), offset)
@@ -46,7 +46,7 @@ pub const fn to_offset_raw(at: OffsetDateTime, offset: UtcOffset) -> (i32, u16, 
 /// ensures within { CarriesWithin 1 1 2 (wall_time at.wall) at.offset (pos 0) }
 /// ```
 ///
-/// [docs/STATEMENT.md](crate::proved#contracts) explains the words.
+/// [docs/proofs/STATEMENT.md](crate::proved#contracts) explains the words.
 #[inline]
 pub const fn to_utc_raw(at: OffsetDateTime) -> (i32, u16, Time) {
     parts_at(at.date_time(), at.offset(), UtcOffset::UTC)
@@ -69,7 +69,7 @@ pub const fn to_utc_raw(at: OffsetDateTime) -> (i32, u16, Time) {
 /// ensures within { CarriesWithin 1 1 2 (wall_time at) (pos 0) offset }
 /// ```
 ///
-/// [docs/STATEMENT.md](crate::proved#contracts) explains the words.
+/// [docs/proofs/STATEMENT.md](crate::proved#contracts) explains the words.
 #[inline]
 pub const fn utc_to_offset_raw(at: UtcDateTime, offset: UtcOffset) -> (i32, u16, Time) {
     // For the proof alone: what is read lies in its range.
@@ -89,7 +89,7 @@ pub const fn utc_to_offset_raw(at: UtcDateTime, offset: UtcOffset) -> (i32, u16,
 /// ensures within { CarriesWithin 2 2 3 (wall_time at) from to }
 /// ```
 ///
-/// [docs/STATEMENT.md](crate::proved#contracts) explains the words.
+/// [docs/proofs/STATEMENT.md](crate::proved#contracts) explains the words.
 #[inline(always)]
 const fn parts_at(at: PlainDateTime, from: UtcOffset, to: UtcOffset) -> (i32, u16, Time) {
     let (time, days) = carried_time(at.time(), from, to);
@@ -107,7 +107,7 @@ const fn parts_at(at: PlainDateTime, from: UtcOffset, to: UtcOffset) -> (i32, u1
 /// ensures within { CarriesWithin 2 2 3 time from to }
 /// ```
 ///
-/// [docs/STATEMENT.md](crate::proved#contracts) explains the words.
+/// [docs/proofs/STATEMENT.md](crate::proved#contracts) explains the words.
 #[inline(always)]
 const fn carried_time(time: Time, from: UtcOffset, to: UtcOffset) -> (Time, i8) {
     let (second, minutes) = carried_second(time, from, to);
@@ -129,7 +129,7 @@ const fn carried_time(time: Time, from: UtcOffset, to: UtcOffset) -> (Time, i8) 
 /// ensures within { IsWithin 2 result.1 }
 /// ```
 ///
-/// [docs/STATEMENT.md](crate::proved#contracts) explains the words.
+/// [docs/proofs/STATEMENT.md](crate::proved#contracts) explains the words.
 #[inline]
 const fn carried_second(time: Time, from: UtcOffset, to: UtcOffset) -> (u8, i8) {
     let (from, to) = (from.seconds_past_minute(), to.seconds_past_minute());
@@ -152,7 +152,7 @@ const fn carried_second(time: Time, from: UtcOffset, to: UtcOffset) -> (u8, i8) 
 /// ensures within { IsWithin 2 result.1 }
 /// ```
 ///
-/// [docs/STATEMENT.md](crate::proved#contracts) explains the words.
+/// [docs/proofs/STATEMENT.md](crate::proved#contracts) explains the words.
 #[inline]
 const fn carried_minute(time: Time, from: UtcOffset, to: UtcOffset, minutes: i8) -> (u8, i8) {
     carry_sixty(
@@ -175,7 +175,7 @@ const fn carried_minute(time: Time, from: UtcOffset, to: UtcOffset, minutes: i8)
 /// ensures within { IsWithin 3 result.1 }
 /// ```
 ///
-/// [docs/STATEMENT.md](crate::proved#contracts) explains the words.
+/// [docs/proofs/STATEMENT.md](crate::proved#contracts) explains the words.
 #[inline]
 const fn carried_hour(time: Time, from: UtcOffset, to: UtcOffset, hours: i8) -> (u8, i8) {
     carry_day(time.hour(), from.whole_hours(), to.whole_hours(), hours)
@@ -194,7 +194,7 @@ const fn carried_hour(time: Time, from: UtcOffset, to: UtcOffset, hours: i8) -> 
 /// ensures within { IsWithin 2 result.1 }
 /// ```
 ///
-/// [docs/STATEMENT.md](crate::proved#contracts) explains the words.
+/// [docs/proofs/STATEMENT.md](crate::proved#contracts) explains the words.
 #[inline]
 const fn carry_sixty(part: u8, from: i8, to: i8, carried: i8) -> (u8, i8) {
     let sum = lifted_part(part, from, to, carried);
@@ -214,7 +214,7 @@ const fn carry_sixty(part: u8, from: i8, to: i8, carried: i8) -> (u8, i8) {
 /// ensures within { IsWithin 3 result.1 }
 /// ```
 ///
-/// [docs/STATEMENT.md](crate::proved#contracts) explains the words.
+/// [docs/proofs/STATEMENT.md](crate::proved#contracts) explains the words.
 #[inline]
 const fn carry_day(hour: u8, from: i8, to: i8, carried: i8) -> (u8, i8) {
     let sum = lifted_part(hour, from, to, carried);
@@ -233,7 +233,7 @@ const fn carry_day(hour: u8, from: i8, to: i8, carried: i8) -> (u8, i8) {
 /// ensures { pos result ≡ pos part +ℤ to -ℤ from +ℤ carried +ℤ pos 240 }
 /// ```
 ///
-/// [docs/STATEMENT.md](crate::proved#contracts) explains the words.
+/// [docs/proofs/STATEMENT.md](crate::proved#contracts) explains the words.
 #[inline]
 const fn lifted_part(part: u8, from: i8, to: i8, carried: i8) -> u32 {
     (moved_part(part, from, to) + carried as i32 + 240) as u32
@@ -249,7 +249,7 @@ const fn lifted_part(part: u8, from: i8, to: i8, carried: i8) -> u32 {
 /// ensures { result ≡ pos part +ℤ to -ℤ from }
 /// ```
 ///
-/// [docs/STATEMENT.md](crate::proved#contracts) explains the words.
+/// [docs/proofs/STATEMENT.md](crate::proved#contracts) explains the words.
 #[inline]
 const fn moved_part(part: u8, from: i8, to: i8) -> i32 {
     part as i32 + to as i32 - from as i32
@@ -266,7 +266,7 @@ const fn moved_part(part: u8, from: i8, to: i8) -> i32 {
 /// ensures day { day_of_ordinal_date result.0 result.1 ≡ day_of_ordinal_date year ordinal +ℤ days }
 /// ```
 ///
-/// [docs/STATEMENT.md](crate::proved#contracts) explains the words.
+/// [docs/proofs/STATEMENT.md](crate::proved#contracts) explains the words.
 #[inline]
 const fn ordinal_date_after(year: i32, ordinal: u16, days: i8) -> (i32, u16) {
     let moved = moved_ordinal(ordinal, days);
@@ -293,7 +293,7 @@ const fn ordinal_date_after(year: i32, ordinal: u16, days: i8) -> (i32, u16) {
 /// ensures { result ≡ pos ordinal +ℤ days }
 /// ```
 ///
-/// [docs/STATEMENT.md](crate::proved#contracts) explains the words.
+/// [docs/proofs/STATEMENT.md](crate::proved#contracts) explains the words.
 #[inline]
 const fn moved_ordinal(ordinal: u16, days: i8) -> i16 {
     ordinal as i16 + days as i16
@@ -308,7 +308,7 @@ const fn moved_ordinal(ordinal: u16, days: i8) -> i16 {
 /// ensures high { result ≤ℤ pos 366 }
 /// ```
 ///
-/// [docs/STATEMENT.md](crate::proved#contracts) explains the words.
+/// [docs/proofs/STATEMENT.md](crate::proved#contracts) explains the words.
 #[inline]
 const fn length_of_year(year: i32) -> i16 {
     days_in_year(year) as i16

@@ -69,7 +69,7 @@ impl OffsetDateTime {
     /// ensures instant { instant_of result ≡ wall_clock date time -ℤ offset_nanos offset }
     /// ```
     ///
-    /// [docs/STATEMENT.md](crate::proved#contracts) explains the words.
+    /// [docs/proofs/STATEMENT.md](crate::proved#contracts) explains the words.
     #[inline]
     pub const fn new_in_offset(date: Date, time: Time, offset: UtcOffset) -> OffsetDateTime {
         // For the proof alone: what is read lies in its range.
@@ -97,7 +97,7 @@ impl OffsetDateTime {
     /// ensures instant { instant_of result ≡ wall_clock date time }
     /// ```
     ///
-    /// [docs/STATEMENT.md](crate::proved#contracts) explains the words.
+    /// [docs/proofs/STATEMENT.md](crate::proved#contracts) explains the words.
     #[inline]
     pub const fn new_utc(date: Date, time: Time) -> OffsetDateTime {
         OffsetDateTime::new_in_offset(date, time, UtcOffset::UTC)
@@ -122,7 +122,7 @@ impl OffsetDateTime {
     /// ensures self_in_range { IsLocal self }
     /// ```
     ///
-    /// [docs/STATEMENT.md](crate::proved#contracts) explains the words.
+    /// [docs/proofs/STATEMENT.md](crate::proved#contracts) explains the words.
     #[inline]
     pub const fn offset(self) -> UtcOffset {
         self.offset
@@ -147,7 +147,7 @@ impl OffsetDateTime {
     /// ensures self_in_range { IsLocal self }
     /// ```
     ///
-    /// [docs/STATEMENT.md](crate::proved#contracts) explains the words.
+    /// [docs/proofs/STATEMENT.md](crate::proved#contracts) explains the words.
     #[inline]
     pub const fn date_time(self) -> PlainDateTime {
         PlainDateTime::new(self.date, self.time)
@@ -174,7 +174,7 @@ impl OffsetDateTime {
     /// ensures self_in_range { IsLocal self }
     /// ```
     ///
-    /// [docs/STATEMENT.md](crate::proved#contracts) explains the words.
+    /// [docs/proofs/STATEMENT.md](crate::proved#contracts) explains the words.
     #[inline]
     pub const fn parts(self) -> (Date, Time, UtcOffset) {
         let shown = self.date_time();

@@ -14,7 +14,7 @@ use crate::proved::utc_times::UtcDateTime;
 /// ghost instant_shown: { Self → ℤ };
 /// ```
 ///
-/// [docs/STATEMENT.md](crate::proved#contracts) explains the words.
+/// [docs/proofs/STATEMENT.md](crate::proved#contracts) explains the words.
 pub trait ToOffset {
     /// The same instant at an offset, where its date must be in range. The caller proves this, or
     /// calls [`ToOffset::checked_to_offset`]; the `time` crate panics.
@@ -38,7 +38,7 @@ pub trait ToOffset {
     /// ensures instant { instant_of result ≡ instant_shown self }
     /// ```
     ///
-    /// [docs/STATEMENT.md](crate::proved#contracts) explains the words.
+    /// [docs/proofs/STATEMENT.md](crate::proved#contracts) explains the words.
     #[track_caller]
     fn to_offset(self, offset: UtcOffset) -> OffsetDateTime;
 
@@ -64,7 +64,7 @@ pub trait ToOffset {
     /// ensures instant { IfSome result (λ at. instant_of at ≡ instant_shown self) }
     /// ```
     ///
-    /// [docs/STATEMENT.md](crate::proved#contracts) explains the words.
+    /// [docs/proofs/STATEMENT.md](crate::proved#contracts) explains the words.
     fn checked_to_offset(self, offset: UtcOffset) -> Option<OffsetDateTime>;
 }
 
@@ -74,7 +74,7 @@ pub trait ToOffset {
 /// ghost instant_shown = { λ instant. instant };
 /// ```
 ///
-/// [docs/STATEMENT.md](crate::proved#contracts) explains the words.
+/// [docs/proofs/STATEMENT.md](crate::proved#contracts) explains the words.
 impl ToOffset for UtcDateTime {
     #[inline]
     #[track_caller]

@@ -68,7 +68,7 @@ impl PlainDateTime {
     /// ensures { result ≡ wall_clock date time }
     /// ```
     ///
-    /// [docs/STATEMENT.md](crate::proved#contracts) explains the words.
+    /// [docs/proofs/STATEMENT.md](crate::proved#contracts) explains the words.
     #[inline]
     pub const fn new(date: Date, time: Time) -> PlainDateTime {
         // For the proof alone: what is read lies in its range.

@@ -42,7 +42,7 @@ const NOWHERE: u8 = 28;
 ///     → IsDateTime (take n text.now ++ rest) p → n ≤ result }
 /// ```
 ///
-/// [docs/STATEMENT.md](crate::proved#contracts) explains the words.
+/// [docs/proofs/STATEMENT.md](crate::proved#contracts) explains the words.
 #[inline]
 pub fn syntax_fault(text: &[u8]) -> usize {
     standing(text)
@@ -56,7 +56,7 @@ pub fn syntax_fault(text: &[u8]) -> usize {
 /// ensures at_most { result ≤ length text.now }
 /// ```
 ///
-/// [docs/STATEMENT.md](crate::proved#contracts) explains the words.
+/// [docs/proofs/STATEMENT.md](crate::proved#contracts) explains the words.
 #[inline]
 fn standing(text: &[u8]) -> usize {
     let mut place = 0;
@@ -76,7 +76,7 @@ fn standing(text: &[u8]) -> usize {
 /// ensures { result ≡ next_place place byte }
 /// ```
 ///
-/// [docs/STATEMENT.md](crate::proved#contracts) explains the words.
+/// [docs/proofs/STATEMENT.md](crate::proved#contracts) explains the words.
 #[inline]
 const fn next_place(place: u8, byte: u8) -> u8 {
     if place < AFTER_SECOND {
@@ -112,7 +112,7 @@ const fn next_place(place: u8, byte: u8) -> u8 {
 /// ensures { result ≡ if may_stand then place + 1 else 28 }
 /// ```
 ///
-/// [docs/STATEMENT.md](crate::proved#contracts) explains the words.
+/// [docs/proofs/STATEMENT.md](crate::proved#contracts) explains the words.
 #[inline]
 const fn next_if(may_stand: bool, place: u8) -> u8 {
     if may_stand { place + 1 } else { NOWHERE }
@@ -125,7 +125,7 @@ const fn next_if(may_stand: bool, place: u8) -> u8 {
 /// ensures { result ≡ may_stand place byte }
 /// ```
 ///
-/// [docs/STATEMENT.md](crate::proved#contracts) explains the words.
+/// [docs/proofs/STATEMENT.md](crate::proved#contracts) explains the words.
 #[inline]
 const fn may_stand(place: u8, byte: u8) -> bool {
     match place {
@@ -143,7 +143,7 @@ const fn may_stand(place: u8, byte: u8) -> bool {
 /// ensures { result ≡ place_in_offset byte }
 /// ```
 ///
-/// [docs/STATEMENT.md](crate::proved#contracts) explains the words.
+/// [docs/proofs/STATEMENT.md](crate::proved#contracts) explains the words.
 #[inline]
 const fn place_in_offset(byte: u8) -> u8 {
     match byte {

@@ -36,7 +36,7 @@ use crate::proved::offset_times::OffsetDateTime;
 /// ensures instant { IfOk result (λ read. IsInstant (instant_of read.0)) }
 /// ```
 ///
-/// [docs/STATEMENT.md](crate::proved#contracts) explains the words.
+/// [docs/proofs/STATEMENT.md](crate::proved#contracts) explains the words.
 #[inline]
 pub fn parse_rfc3339_front(text: &[u8]) -> Result<(OffsetDateTime, usize), TextRefusal> {
     read_front(text)
@@ -51,7 +51,7 @@ pub fn parse_rfc3339_front(text: &[u8]) -> Result<(OffsetDateTime, usize), TextR
 /// ensures has_text { IfOk result (λ read. HasText read.0) }
 /// ```
 ///
-/// [docs/STATEMENT.md](crate::proved#contracts) explains the words.
+/// [docs/proofs/STATEMENT.md](crate::proved#contracts) explains the words.
 #[inline(always)]
 fn read_front(text: &[u8]) -> Result<(OffsetDateTime, usize), TextRefusal> {
     let Some((parts, rest)) = front(text) else {
@@ -87,7 +87,7 @@ fn read_front(text: &[u8]) -> Result<(OffsetDateTime, usize), TextRefusal> {
 ///     → OkIff result ((hour ≤ 23) × (minute ≤ 59)) (offset_of is_west hour minute) }
 /// ```
 ///
-/// [docs/STATEMENT.md](crate::proved#contracts) explains the words.
+/// [docs/proofs/STATEMENT.md](crate::proved#contracts) explains the words.
 #[inline]
 pub fn parse_rfc3339_offset(text: &[u8]) -> Result<UtcOffset, TextRefusal> {
     read_offset(text)
@@ -100,7 +100,7 @@ pub fn parse_rfc3339_offset(text: &[u8]) -> Result<UtcOffset, TextRefusal> {
 /// ensures reading { result ≡ offset_reading_of text.now }
 /// ```
 ///
-/// [docs/STATEMENT.md](crate::proved#contracts) explains the words.
+/// [docs/proofs/STATEMENT.md](crate::proved#contracts) explains the words.
 #[inline]
 fn read_offset(text: &[u8]) -> Result<UtcOffset, TextRefusal> {
     let Some((is_west, hour, minute)) = offset_numbers(text) else {
@@ -122,7 +122,7 @@ fn read_offset(text: &[u8]) -> Result<UtcOffset, TextRefusal> {
 /// ensures { result ≡ offset_numbers text.now }
 /// ```
 ///
-/// [docs/STATEMENT.md](crate::proved#contracts) explains the words.
+/// [docs/proofs/STATEMENT.md](crate::proved#contracts) explains the words.
 #[inline]
 fn offset_numbers(text: &[u8]) -> Option<(bool, u8, u8)> {
     let (numbers, rest) = zone(text)?;

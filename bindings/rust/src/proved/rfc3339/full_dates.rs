@@ -25,7 +25,7 @@ use crate::proved::calendar_values::{Date, Month, Text};
 /// ensures length { IfSome result (λ text. length text ≡ 10) }
 /// ```
 ///
-/// [docs/STATEMENT.md](crate::proved#contracts) explains the words.
+/// [docs/proofs/STATEMENT.md](crate::proved#contracts) explains the words.
 #[inline]
 pub fn date_to_rfc3339(date: Date) -> Option<Text> {
     let (year, month, day) = date.to_calendar_date();
@@ -67,7 +67,7 @@ pub fn date_to_rfc3339(date: Date) -> Option<Text> {
 /// ensures written { (n : ℤ) → HasFullDate n → text.now ≡ full_date_text n → result ≡ Ok n }
 /// ```
 ///
-/// [docs/STATEMENT.md](crate::proved#contracts) explains the words.
+/// [docs/proofs/STATEMENT.md](crate::proved#contracts) explains the words.
 #[inline]
 pub fn date_from_rfc3339(text: &[u8]) -> Result<Date, TextRefusal> {
     match numbers(text) {
@@ -84,7 +84,7 @@ pub fn date_from_rfc3339(text: &[u8]) -> Result<Date, TextRefusal> {
 /// ensures in_range { IfSome result (λ read. read.0 ≤ 9_999) }
 /// ```
 ///
-/// [docs/STATEMENT.md](crate::proved#contracts) explains the words.
+/// [docs/proofs/STATEMENT.md](crate::proved#contracts) explains the words.
 #[inline]
 fn numbers(text: &[u8]) -> Option<(u16, u8, u8)> {
     let (year, text) = year(text)?;
@@ -105,7 +105,7 @@ fn numbers(text: &[u8]) -> Option<(u16, u8, u8)> {
 /// ensures { result ≡ full_date_meaning year month day }
 /// ```
 ///
-/// [docs/STATEMENT.md](crate::proved#contracts) explains the words.
+/// [docs/proofs/STATEMENT.md](crate::proved#contracts) explains the words.
 #[inline]
 const fn date(year: u16, month: u8, day: u8) -> Result<Date, TextRefusal> {
     let Ok(month) = Month::from_number(month) else {

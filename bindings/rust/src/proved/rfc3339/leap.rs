@@ -42,7 +42,7 @@ use crate::proved::offset_times::OffsetDateTime;
 /// ensures instant { IfOk result (λ read. IsInstant (instant_of read.0)) }
 /// ```
 ///
-/// [docs/STATEMENT.md](crate::proved#contracts) explains the words.
+/// [docs/proofs/STATEMENT.md](crate::proved#contracts) explains the words.
 #[inline]
 pub fn parse_rfc3339_leap(text: &[u8]) -> Result<(OffsetDateTime, bool), TextRefusal> {
     read_leap(text)
@@ -56,7 +56,7 @@ pub fn parse_rfc3339_leap(text: &[u8]) -> Result<(OffsetDateTime, bool), TextRef
 /// ensures has_text { IfOk result (λ read. HasText read.0) }
 /// ```
 ///
-/// [docs/STATEMENT.md](crate::proved#contracts) explains the words.
+/// [docs/proofs/STATEMENT.md](crate::proved#contracts) explains the words.
 #[inline]
 fn read_leap(text: &[u8]) -> Result<(OffsetDateTime, bool), TextRefusal> {
     match parts(text) {
@@ -75,7 +75,7 @@ fn read_leap(text: &[u8]) -> Result<(OffsetDateTime, bool), TextRefusal> {
 /// ensures has_text { IfOk result (λ read. HasText read.0) }
 /// ```
 ///
-/// [docs/STATEMENT.md](crate::proved#contracts) explains the words.
+/// [docs/proofs/STATEMENT.md](crate::proved#contracts) explains the words.
 #[inline]
 fn leap_date_time(parts: Parts) -> Result<(OffsetDateTime, bool), TextRefusal> {
     if parts.second == 60 {
@@ -98,7 +98,7 @@ fn leap_date_time(parts: Parts) -> Result<(OffsetDateTime, bool), TextRefusal> {
 /// ensures has_text { IfOk result (λ read. HasText read.0) }
 /// ```
 ///
-/// [docs/STATEMENT.md](crate::proved#contracts) explains the words.
+/// [docs/proofs/STATEMENT.md](crate::proved#contracts) explains the words.
 #[inline]
 fn leap_second(parts: Parts) -> Result<(OffsetDateTime, bool), TextRefusal> {
     let last = Parts {
@@ -127,7 +127,7 @@ fn leap_second(parts: Parts) -> Result<(OffsetDateTime, bool), TextRefusal> {
 /// ensures { result ≡ is_last_of_month (instant_of at) }
 /// ```
 ///
-/// [docs/STATEMENT.md](crate::proved#contracts) explains the words.
+/// [docs/proofs/STATEMENT.md](crate::proved#contracts) explains the words.
 #[inline]
 fn is_last_of_month(at: OffsetDateTime) -> bool {
     let next = at.to_utc() + SignedDuration::nanoseconds(1);

@@ -112,7 +112,7 @@ static PAIRS: [[u8; 2]; 100] = [
 /// ensures { result ≡ last_digits 2 number }
 /// ```
 ///
-/// [docs/STATEMENT.md](crate::proved#contracts) explains the words.
+/// [docs/proofs/STATEMENT.md](crate::proved#contracts) explains the words.
 #[inline(always)]
 pub(crate) const fn pair(number: u8) -> [u8; 2] {
     PAIRS[number as usize]

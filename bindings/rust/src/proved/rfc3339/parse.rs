@@ -38,7 +38,7 @@ use crate::proved::offset_times::OffsetDateTime;
 ///     result ≡ Ok (local_in_utc i) }
 /// ```
 ///
-/// [docs/STATEMENT.md](crate::proved#contracts) explains the words.
+/// [docs/proofs/STATEMENT.md](crate::proved#contracts) explains the words.
 #[inline(always)]
 pub fn parse_rfc3339(text: &[u8]) -> Result<OffsetDateTime, TextRefusal> {
     match parts(text) {
@@ -56,7 +56,7 @@ pub fn parse_rfc3339(text: &[u8]) -> Result<OffsetDateTime, TextRefusal> {
 /// ensures value { result ≡ meaning parts }
 /// ```
 ///
-/// [docs/STATEMENT.md](crate::proved#contracts) explains the words.
+/// [docs/proofs/STATEMENT.md](crate::proved#contracts) explains the words.
 #[inline(always)]
 pub(crate) fn date_time(parts: Parts) -> Result<OffsetDateTime, TextRefusal> {
     let Ok(month) = Month::from_number(parts.month) else {
@@ -94,7 +94,7 @@ pub(crate) fn date_time(parts: Parts) -> Result<OffsetDateTime, TextRefusal> {
 /// ensures { result ≡ offset_of is_west hour minute }
 /// ```
 ///
-/// [docs/STATEMENT.md](crate::proved#contracts) explains the words.
+/// [docs/proofs/STATEMENT.md](crate::proved#contracts) explains the words.
 #[inline(always)]
 pub(crate) fn offset(is_west: bool, hour: u8, minute: u8) -> UtcOffset {
     if (hour == 0) & (minute == 0) {
@@ -112,7 +112,7 @@ pub(crate) fn offset(is_west: bool, hour: u8, minute: u8) -> UtcOffset {
 /// ensures { result ≡ offset_of is_west hour minute }
 /// ```
 ///
-/// [docs/STATEMENT.md](crate::proved#contracts) explains the words.
+/// [docs/proofs/STATEMENT.md](crate::proved#contracts) explains the words.
 #[inline(always)]
 fn offset_by_parts(is_west: bool, hour: u8, minute: u8) -> UtcOffset {
     let (hours, minutes) = (hour as i8, minute as i8);

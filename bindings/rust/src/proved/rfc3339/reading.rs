@@ -15,7 +15,7 @@ const SHORTEST: usize = 20;
 /// ensures in_range { IfSome result (λ p. (p.nanosecond ≤ 999_999_999) × (p.year ≤ 9_999)) }
 /// ```
 ///
-/// [docs/STATEMENT.md](crate::proved#contracts) explains the words.
+/// [docs/proofs/STATEMENT.md](crate::proved#contracts) explains the words.
 #[inline(always)]
 pub(crate) fn parts(text: &[u8]) -> Option<Parts> {
     let (parts, rest) = front(text)?;
@@ -31,7 +31,7 @@ pub(crate) fn parts(text: &[u8]) -> Option<Parts> {
 ///     (read.0.nanosecond ≤ 999_999_999) × (read.0.year ≤ 9_999)) }
 /// ```
 ///
-/// [docs/STATEMENT.md](crate::proved#contracts) explains the words.
+/// [docs/proofs/STATEMENT.md](crate::proved#contracts) explains the words.
 #[inline(always)]
 pub(crate) fn front(text: &[u8]) -> Option<(Parts, &[u8])> {
     match wall(text) {
@@ -48,7 +48,7 @@ pub(crate) fn front(text: &[u8]) -> Option<(Parts, &[u8])> {
 /// ensures in_range { IfSome result (λ read. read.0.year ≤ 9_999) }
 /// ```
 ///
-/// [docs/STATEMENT.md](crate::proved#contracts) explains the words.
+/// [docs/proofs/STATEMENT.md](crate::proved#contracts) explains the words.
 #[inline(always)]
 const fn wall(text: &[u8]) -> Option<(Parts, &[u8])> {
     let [
@@ -113,7 +113,7 @@ const fn wall(text: &[u8]) -> Option<(Parts, &[u8])> {
 /// ensures { result ≡ (is_ascii_digit tens && is_ascii_digit units) }
 /// ```
 ///
-/// [docs/STATEMENT.md](crate::proved#contracts) explains the words.
+/// [docs/proofs/STATEMENT.md](crate::proved#contracts) explains the words.
 #[inline(always)]
 const fn are_digits(tens: u8, units: u8) -> bool {
     tens.is_ascii_digit() & units.is_ascii_digit()
@@ -126,7 +126,7 @@ const fn are_digits(tens: u8, units: u8) -> bool {
 /// ensures { result ≡ is_separator byte }
 /// ```
 ///
-/// [docs/STATEMENT.md](crate::proved#contracts) explains the words.
+/// [docs/proofs/STATEMENT.md](crate::proved#contracts) explains the words.
 #[inline(always)]
 const fn is_separator(byte: u8) -> bool {
     (byte == b'T') | (byte == b't') | (byte == b' ')
@@ -140,7 +140,7 @@ const fn is_separator(byte: u8) -> bool {
 ///     → result ≡ (tens - 48) * 10 + (units - 48) }
 /// ```
 ///
-/// [docs/STATEMENT.md](crate::proved#contracts) explains the words.
+/// [docs/proofs/STATEMENT.md](crate::proved#contracts) explains the words.
 #[inline(always)]
 const fn of_digits(tens: u8, units: u8) -> u8 {
     tens.wrapping_sub(b'0')
@@ -157,7 +157,7 @@ const fn of_digits(tens: u8, units: u8) -> u8 {
 ///     (read.0.nanosecond ≤ 999_999_999) × (read.0.year ≤ 9_999)) }
 /// ```
 ///
-/// [docs/STATEMENT.md](crate::proved#contracts) explains the words.
+/// [docs/proofs/STATEMENT.md](crate::proved#contracts) explains the words.
 #[inline(never)]
 fn front_by_parts(text: &[u8]) -> Option<(Parts, &[u8])> {
     if text.len() < SHORTEST {
@@ -180,7 +180,7 @@ fn front_by_parts(text: &[u8]) -> Option<(Parts, &[u8])> {
 ///     (read.0.nanosecond ≤ 999_999_999) × (read.0.year ≤ 9_999)) }
 /// ```
 ///
-/// [docs/STATEMENT.md](crate::proved#contracts) explains the words.
+/// [docs/proofs/STATEMENT.md](crate::proved#contracts) explains the words.
 #[inline(always)]
 fn after_date(year: u16, month: u8, day: u8, text: &[u8]) -> Option<(Parts, &[u8])> {
     let (hour, text) = two_digits(after_separator(text)?)?;
@@ -199,7 +199,7 @@ fn after_date(year: u16, month: u8, day: u8, text: &[u8]) -> Option<(Parts, &[u8
 ///     (read.0.nanosecond ≤ 999_999_999) × (read.0.year ≤ 9_999)) }
 /// ```
 ///
-/// [docs/STATEMENT.md](crate::proved#contracts) explains the words.
+/// [docs/proofs/STATEMENT.md](crate::proved#contracts) explains the words.
 #[inline(always)]
 fn after_minute(
     year: u16,
@@ -235,7 +235,7 @@ fn after_minute(
 ///     (read.0.nanosecond ≤ 999_999_999) × (read.0.year ≤ 9_999)) }
 /// ```
 ///
-/// [docs/STATEMENT.md](crate::proved#contracts) explains the words.
+/// [docs/proofs/STATEMENT.md](crate::proved#contracts) explains the words.
 #[inline(always)]
 fn after_second(parts: Parts, text: &[u8]) -> Option<(Parts, &[u8])> {
     let (nanosecond, text) = fraction(text)?;
@@ -258,7 +258,7 @@ fn after_second(parts: Parts, text: &[u8]) -> Option<(Parts, &[u8])> {
 /// ensures in_range { IfSome result (λ read. read.0 ≤ 9_999) }
 /// ```
 ///
-/// [docs/STATEMENT.md](crate::proved#contracts) explains the words.
+/// [docs/proofs/STATEMENT.md](crate::proved#contracts) explains the words.
 #[inline(always)]
 pub(crate) const fn year(text: &[u8]) -> Option<(u16, &[u8])> {
     let [thousands, hundreds, tens, units, rest @ ..] = text else {
@@ -283,7 +283,7 @@ pub(crate) const fn year(text: &[u8]) -> Option<(u16, &[u8])> {
 /// ensures { option_map (λ read. (read.0, read.1.now)) result ≡ part_at mark text.now }
 /// ```
 ///
-/// [docs/STATEMENT.md](crate::proved#contracts) explains the words.
+/// [docs/proofs/STATEMENT.md](crate::proved#contracts) explains the words.
 #[inline(always)]
 pub(crate) const fn part(mark: u8, text: &[u8]) -> Option<(u8, &[u8])> {
     let [first, tens, units, rest @ ..] = text else {
@@ -304,7 +304,7 @@ pub(crate) const fn part(mark: u8, text: &[u8]) -> Option<(u8, &[u8])> {
 /// ensures in_range { IfSome result (λ read. read.0 ≤ 99) }
 /// ```
 ///
-/// [docs/STATEMENT.md](crate::proved#contracts) explains the words.
+/// [docs/proofs/STATEMENT.md](crate::proved#contracts) explains the words.
 #[inline(always)]
 const fn two_digits(text: &[u8]) -> Option<(u8, &[u8])> {
     let [tens, units, rest @ ..] = text else {
@@ -326,7 +326,7 @@ const fn two_digits(text: &[u8]) -> Option<(u8, &[u8])> {
 /// ensures { result ≡ (tens - 48) * 10 + (units - 48) }
 /// ```
 ///
-/// [docs/STATEMENT.md](crate::proved#contracts) explains the words.
+/// [docs/proofs/STATEMENT.md](crate::proved#contracts) explains the words.
 #[inline(always)]
 const fn number(tens: u8, units: u8) -> u8 {
     (tens - b'0') * 10 + (units - b'0')
@@ -340,7 +340,7 @@ const fn number(tens: u8, units: u8) -> u8 {
 /// ensures in_range { IfSome result (λ read. read.0 ≤ 9) }
 /// ```
 ///
-/// [docs/STATEMENT.md](crate::proved#contracts) explains the words.
+/// [docs/proofs/STATEMENT.md](crate::proved#contracts) explains the words.
 #[inline(always)]
 fn digit(text: &[u8]) -> Option<(u8, &[u8])> {
     let (first, text) = text.split_first()?;
@@ -358,7 +358,7 @@ fn digit(text: &[u8]) -> Option<(u8, &[u8])> {
 /// ensures { option_map (λ rest. rest.now) result ≡ mark_at mark text.now }
 /// ```
 ///
-/// [docs/STATEMENT.md](crate::proved#contracts) explains the words.
+/// [docs/proofs/STATEMENT.md](crate::proved#contracts) explains the words.
 #[inline(always)]
 fn after_mark(mark: u8, text: &[u8]) -> Option<&[u8]> {
     let (first, text) = text.split_first()?;
@@ -372,7 +372,7 @@ fn after_mark(mark: u8, text: &[u8]) -> Option<&[u8]> {
 /// ensures { option_map (λ rest. rest.now) result ≡ separator_at text.now }
 /// ```
 ///
-/// [docs/STATEMENT.md](crate::proved#contracts) explains the words.
+/// [docs/proofs/STATEMENT.md](crate::proved#contracts) explains the words.
 #[inline(always)]
 fn after_separator(text: &[u8]) -> Option<&[u8]> {
     let (first, text) = text.split_first()?;
@@ -391,7 +391,7 @@ fn after_separator(text: &[u8]) -> Option<&[u8]> {
 /// ensures in_range { IfSome result (λ read. read.0 ≤ 999_999_999) }
 /// ```
 ///
-/// [docs/STATEMENT.md](crate::proved#contracts) explains the words.
+/// [docs/proofs/STATEMENT.md](crate::proved#contracts) explains the words.
 #[inline(always)]
 fn fraction(text: &[u8]) -> Option<(u32, &[u8])> {
     let Some(digits) = after_mark(b'.', text) else {
@@ -412,7 +412,7 @@ fn fraction(text: &[u8]) -> Option<(u32, &[u8])> {
 /// ensures in_range { result.0 ≤ 999_999_999 }
 /// ```
 ///
-/// [docs/STATEMENT.md](crate::proved#contracts) explains the words.
+/// [docs/proofs/STATEMENT.md](crate::proved#contracts) explains the words.
 #[inline]
 fn nanosecond(text: &[u8]) -> (u32, &[u8]) {
     let mut rest = text;
@@ -436,7 +436,7 @@ fn nanosecond(text: &[u8]) -> (u32, &[u8]) {
 /// ensures { (0, result.now) ≡ digits_at 0 text.now }
 /// ```
 ///
-/// [docs/STATEMENT.md](crate::proved#contracts) explains the words.
+/// [docs/proofs/STATEMENT.md](crate::proved#contracts) explains the words.
 #[inline]
 fn after_digits(text: &[u8]) -> &[u8] {
     let mut rest = text;
@@ -453,7 +453,7 @@ fn after_digits(text: &[u8]) -> &[u8] {
 /// ensures { option_map (λ read. (read.0, read.1.now)) result ≡ zone_at text.now }
 /// ```
 ///
-/// [docs/STATEMENT.md](crate::proved#contracts) explains the words.
+/// [docs/proofs/STATEMENT.md](crate::proved#contracts) explains the words.
 #[inline(always)]
 pub(crate) fn zone(text: &[u8]) -> Option<((bool, u8, u8), &[u8])> {
     let [first, text @ ..] = text else {

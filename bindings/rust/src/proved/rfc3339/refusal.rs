@@ -42,7 +42,7 @@ impl Component {
     /// ensures length { length result.now ≤ 13 }
     /// ```
     ///
-    /// [docs/STATEMENT.md](crate::proved#contracts) explains the words.
+    /// [docs/proofs/STATEMENT.md](crate::proved#contracts) explains the words.
     #[inline]
     pub const fn name(self) -> &'static str {
         match self {
@@ -86,7 +86,7 @@ impl TextRefusal {
     /// ensures length { length result ≤ 29 }
     /// ```
     ///
-    /// [docs/STATEMENT.md](crate::proved#contracts) explains the words.
+    /// [docs/proofs/STATEMENT.md](crate::proved#contracts) explains the words.
     #[inline]
     pub fn text(self) -> Text {
         let mut text = Text::new();
@@ -108,7 +108,7 @@ impl TextRefusal {
 /// ghost styled_output = { λ refusal spec. Some (padded spec (refusal_text refusal)) };
 /// ```
 ///
-/// [docs/STATEMENT.md](crate::proved#contracts) explains the words.
+/// [docs/proofs/STATEMENT.md](crate::proved#contracts) explains the words.
 impl fmt::Display for TextRefusal {
     #[inline]
     fn fmt(&self, f: &mut fmt::Formatter) -> fmt::Result {

@@ -16,7 +16,7 @@ use crate::proved::utc_times::UtcDateTime;
 /// ghost value_shown: { Local → Self };
 /// ```
 ///
-/// [docs/STATEMENT.md](crate::proved#contracts) explains the words.
+/// [docs/proofs/STATEMENT.md](crate::proved#contracts) explains the words.
 pub trait Rfc3339: Copy {
     /// Reads a text as [`parse_rfc3339`] does, as a value of this type, and with its errors. The
     /// instant of such a text always exists.
@@ -51,7 +51,7 @@ pub trait Rfc3339: Copy {
     ///     result ≡ Ok (value_shown (local_in_utc i)) }
     /// ```
     ///
-    /// [docs/STATEMENT.md](crate::proved#contracts) explains the words.
+    /// [docs/proofs/STATEMENT.md](crate::proved#contracts) explains the words.
     fn from_rfc3339(text: &[u8]) -> Result<Self, TextRefusal>;
 
     /// The shortest text, such as `1985-04-12T23:20:50.52Z` or `1996-12-19T16:39:57-08:00`. It has
@@ -76,7 +76,7 @@ pub trait Rfc3339: Copy {
     /// ensures length { IfSome result (λ text. length text ≤ 35) }
     /// ```
     ///
-    /// [docs/STATEMENT.md](crate::proved#contracts) explains the words.
+    /// [docs/proofs/STATEMENT.md](crate::proved#contracts) explains the words.
     fn to_rfc3339(self) -> Option<Text>;
 }
 
@@ -87,7 +87,7 @@ pub trait Rfc3339: Copy {
 /// ghost value_shown = { λ at. at };
 /// ```
 ///
-/// [docs/STATEMENT.md](crate::proved#contracts) explains the words.
+/// [docs/proofs/STATEMENT.md](crate::proved#contracts) explains the words.
 impl Rfc3339 for OffsetDateTime {
     #[inline(always)]
     fn from_rfc3339(text: &[u8]) -> Result<OffsetDateTime, TextRefusal> {
@@ -121,7 +121,7 @@ impl OffsetDateTime {
 /// ghost value_shown = { λ at. instant_of at };
 /// ```
 ///
-/// [docs/STATEMENT.md](crate::proved#contracts) explains the words.
+/// [docs/proofs/STATEMENT.md](crate::proved#contracts) explains the words.
 impl Rfc3339 for UtcDateTime {
     #[inline]
     fn from_rfc3339(text: &[u8]) -> Result<UtcDateTime, TextRefusal> {
@@ -155,7 +155,7 @@ impl UtcDateTime {
 /// ghost value_shown = { λ at. instant_of at };
 /// ```
 ///
-/// [docs/STATEMENT.md](crate::proved#contracts) explains the words.
+/// [docs/proofs/STATEMENT.md](crate::proved#contracts) explains the words.
 impl Rfc3339 for Timestamp {
     #[inline]
     fn from_rfc3339(text: &[u8]) -> Result<Timestamp, TextRefusal> {

@@ -11,7 +11,7 @@ use crate::proved::offset_times::OffsetDateTime;
 /// ensures length { IfSome result (λ text. length text ≤ 35) }
 /// ```
 ///
-/// [docs/STATEMENT.md](crate::proved#contracts) explains the words.
+/// [docs/proofs/STATEMENT.md](crate::proved#contracts) explains the words.
 #[inline(always)]
 pub(crate) fn text_of(at: OffsetDateTime) -> Option<Text> {
     text_with(at, None)
@@ -25,7 +25,7 @@ pub(crate) fn text_of(at: OffsetDateTime) -> Option<Text> {
 /// ensures length { IfSome result (λ text. length text ≤ 35) }
 /// ```
 ///
-/// [docs/STATEMENT.md](crate::proved#contracts) explains the words.
+/// [docs/proofs/STATEMENT.md](crate::proved#contracts) explains the words.
 #[inline(always)]
 pub(crate) fn text_with(at: OffsetDateTime, digits: Option<u8>) -> Option<Text> {
     let (date, time, offset) = at.parts();
@@ -62,7 +62,7 @@ pub(crate) fn text_with(at: OffsetDateTime, digits: Option<u8>) -> Option<Text> 
 /// ensures length { length text.new ≡ length text.old + 19 }
 /// ```
 ///
-/// [docs/STATEMENT.md](crate::proved#contracts) explains the words.
+/// [docs/proofs/STATEMENT.md](crate::proved#contracts) explains the words.
 #[inline]
 pub(crate) fn push_wall(
     text: &mut Text,
@@ -107,7 +107,7 @@ pub(crate) fn push_wall(
 /// ensures length { length text.new ≡ length text.old + 10 }
 /// ```
 ///
-/// [docs/STATEMENT.md](crate::proved#contracts) explains the words.
+/// [docs/proofs/STATEMENT.md](crate::proved#contracts) explains the words.
 #[inline]
 pub(crate) fn push_date(text: &mut Text, year: u32, month: u8, day: u8) {
     text.push_four_digits(year);
@@ -126,7 +126,7 @@ pub(crate) fn push_date(text: &mut Text, year: u32, month: u8, day: u8) {
 /// ensures length { length text.new ≡ length text.old + 8 }
 /// ```
 ///
-/// [docs/STATEMENT.md](crate::proved#contracts) explains the words.
+/// [docs/proofs/STATEMENT.md](crate::proved#contracts) explains the words.
 #[inline]
 pub(crate) fn push_clock(text: &mut Text, hour: u8, minute: u8, second: u8) {
     text.push_two_digits(hour);
@@ -143,7 +143,7 @@ pub(crate) fn push_clock(text: &mut Text, hour: u8, minute: u8, second: u8) {
 /// ensures length { length text.new ≤ length text.old + 10 }
 /// ```
 ///
-/// [docs/STATEMENT.md](crate::proved#contracts) explains the words.
+/// [docs/proofs/STATEMENT.md](crate::proved#contracts) explains the words.
 #[inline]
 pub(crate) fn push_fraction(text: &mut Text, nanosecond: u32) {
     if nanosecond != 0 {
@@ -161,7 +161,7 @@ pub(crate) fn push_fraction(text: &mut Text, nanosecond: u32) {
 /// ensures length { length text.new ≤ length text.old + 10 }
 /// ```
 ///
-/// [docs/STATEMENT.md](crate::proved#contracts) explains the words.
+/// [docs/proofs/STATEMENT.md](crate::proved#contracts) explains the words.
 #[inline(always)]
 fn push_digits(text: &mut Text, nanosecond: u32, digits: Option<u8>) {
     match digits {
@@ -179,7 +179,7 @@ fn push_digits(text: &mut Text, nanosecond: u32, digits: Option<u8>) {
 /// ensures length { length text.new ≤ length text.old + 10 }
 /// ```
 ///
-/// [docs/STATEMENT.md](crate::proved#contracts) explains the words.
+/// [docs/proofs/STATEMENT.md](crate::proved#contracts) explains the words.
 #[inline(never)]
 fn push_first_digits(text: &mut Text, nanosecond: u32, digits: u8) {
     if digits == 0 {
@@ -200,7 +200,7 @@ fn push_first_digits(text: &mut Text, nanosecond: u32, digits: u8) {
 /// ensures length { length text.new ≡ length text.old + 10 }
 /// ```
 ///
-/// [docs/STATEMENT.md](crate::proved#contracts) explains the words.
+/// [docs/proofs/STATEMENT.md](crate::proved#contracts) explains the words.
 #[inline]
 pub(crate) fn push_whole_fraction(text: &mut Text, nanosecond: u32) {
     text.push(b'.');
@@ -218,7 +218,7 @@ pub(crate) fn push_whole_fraction(text: &mut Text, nanosecond: u32) {
 /// ensures length { length text.new ≤ length text.old + 6 }
 /// ```
 ///
-/// [docs/STATEMENT.md](crate::proved#contracts) explains the words.
+/// [docs/proofs/STATEMENT.md](crate::proved#contracts) explains the words.
 #[inline]
 pub(crate) fn push_offset(text: &mut Text, hours: i8, minutes: i8) {
     if hours == 0 && minutes == 0 {
@@ -240,7 +240,7 @@ pub(crate) fn push_offset(text: &mut Text, hours: i8, minutes: i8) {
 /// ensures length { length text.new ≡ length text.old + 9 }
 /// ```
 ///
-/// [docs/STATEMENT.md](crate::proved#contracts) explains the words.
+/// [docs/proofs/STATEMENT.md](crate::proved#contracts) explains the words.
 #[inline]
 fn push_nine_digits(text: &mut Text, number: u32) {
     text.push(b'0' + (number / 100_000_000 % 10) as u8);

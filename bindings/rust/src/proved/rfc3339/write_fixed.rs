@@ -26,7 +26,7 @@ use crate::proved::stamp_times::Moment;
 /// ensures length { IfSome result (λ text. length text ≡ 30) }
 /// ```
 ///
-/// [docs/STATEMENT.md](crate::proved#contracts) explains the words.
+/// [docs/proofs/STATEMENT.md](crate::proved#contracts) explains the words.
 #[inline]
 pub fn to_rfc3339_nanos<M: Moment>(at: M) -> Option<Text> {
     let (date, time) = at.parts();
@@ -65,7 +65,7 @@ pub fn to_rfc3339_nanos<M: Moment>(at: M) -> Option<Text> {
 /// ensures length { IfSome result (λ text. length text ≤ 35) }
 /// ```
 ///
-/// [docs/STATEMENT.md](crate::proved#contracts) explains the words.
+/// [docs/proofs/STATEMENT.md](crate::proved#contracts) explains the words.
 #[inline]
 pub fn to_rfc3339_nanos_at(at: OffsetDateTime) -> Option<Text> {
     text_with(at, Some(9))
@@ -93,7 +93,7 @@ pub fn to_rfc3339_nanos_at(at: OffsetDateTime) -> Option<Text> {
 /// ensures length { IfSome result (λ text. length text ≤ 35) }
 /// ```
 ///
-/// [docs/STATEMENT.md](crate::proved#contracts) explains the words.
+/// [docs/proofs/STATEMENT.md](crate::proved#contracts) explains the words.
 #[inline]
 pub fn to_rfc3339_digits(at: OffsetDateTime, digits: u8) -> Option<Text> {
     text_with(at, Some(digits))

@@ -25,7 +25,7 @@ pub const TEXT_ROOM: usize = 35;
 /// ensures at_most { result ≤ 35 }
 /// ```
 ///
-/// [docs/STATEMENT.md](crate::proved#contracts) explains the words.
+/// [docs/proofs/STATEMENT.md](crate::proved#contracts) explains the words.
 #[inline(always)]
 pub(in crate::proved) fn write_rfc3339_parts(parts: Parts, bytes: &mut [u8]) -> usize {
     put(bytes, 0, &wall_bytes(parts));
@@ -52,7 +52,7 @@ pub(in crate::proved) fn write_rfc3339_parts(parts: Parts, bytes: &mut [u8]) -> 
 /// ensures { result ≡ wall_text parts }
 /// ```
 ///
-/// [docs/STATEMENT.md](crate::proved#contracts) explains the words.
+/// [docs/proofs/STATEMENT.md](crate::proved#contracts) explains the words.
 #[inline(always)]
 const fn wall_bytes(parts: Parts) -> [u8; 19] {
     let [thousands, hundreds] = pair((parts.year / 100) as u8);
@@ -97,7 +97,7 @@ const fn wall_bytes(parts: Parts) -> [u8; 19] {
 /// ensures at_most { result ≤ place + 10 }
 /// ```
 ///
-/// [docs/STATEMENT.md](crate::proved#contracts) explains the words.
+/// [docs/proofs/STATEMENT.md](crate::proved#contracts) explains the words.
 #[inline(always)]
 fn put_fraction(bytes: &mut [u8], place: usize, nanosecond: u32) -> usize {
     if nanosecond == 0 {
@@ -119,7 +119,7 @@ fn put_fraction(bytes: &mut [u8], place: usize, nanosecond: u32) -> usize {
 /// ensures at_most { result ≤ place + 10 }
 /// ```
 ///
-/// [docs/STATEMENT.md](crate::proved#contracts) explains the words.
+/// [docs/proofs/STATEMENT.md](crate::proved#contracts) explains the words.
 #[inline(never)]
 fn put_some_fraction(bytes: &mut [u8], place: usize, nanosecond: u32) -> usize {
     if nanosecond % 10 != 0 {
@@ -147,7 +147,7 @@ fn put_some_fraction(bytes: &mut [u8], place: usize, nanosecond: u32) -> usize {
 /// ensures at_most { result ≤ place + 10 }
 /// ```
 ///
-/// [docs/STATEMENT.md](crate::proved#contracts) explains the words.
+/// [docs/proofs/STATEMENT.md](crate::proved#contracts) explains the words.
 #[inline]
 fn put_any_fraction(bytes: &mut [u8], place: usize, nanosecond: u32) -> usize {
     let mut text = Text::new();
@@ -163,7 +163,7 @@ fn put_any_fraction(bytes: &mut [u8], place: usize, nanosecond: u32) -> usize {
 /// ensures { result ≡ codes "." ++ last_digits 9 number }
 /// ```
 ///
-/// [docs/STATEMENT.md](crate::proved#contracts) explains the words.
+/// [docs/proofs/STATEMENT.md](crate::proved#contracts) explains the words.
 #[inline(always)]
 const fn nine_digits(number: u32) -> [u8; 10] {
     let [b, c] = pair((number / 1_000_000 % 100) as u8);
@@ -192,7 +192,7 @@ const fn nine_digits(number: u32) -> [u8; 10] {
 /// ensures { result ≡ codes "." ++ last_digits 6 number }
 /// ```
 ///
-/// [docs/STATEMENT.md](crate::proved#contracts) explains the words.
+/// [docs/proofs/STATEMENT.md](crate::proved#contracts) explains the words.
 #[inline(always)]
 const fn six_digits(number: u32) -> [u8; 7] {
     let [a, b] = pair((number / 10_000) as u8);
@@ -209,7 +209,7 @@ const fn six_digits(number: u32) -> [u8; 7] {
 /// ensures { result ≡ codes "." ++ last_digits 3 number }
 /// ```
 ///
-/// [docs/STATEMENT.md](crate::proved#contracts) explains the words.
+/// [docs/proofs/STATEMENT.md](crate::proved#contracts) explains the words.
 #[inline(always)]
 const fn three_digits(number: u32) -> [u8; 4] {
     let [b, c] = pair((number % 100) as u8);
@@ -229,7 +229,7 @@ const fn three_digits(number: u32) -> [u8; 4] {
 /// ensures at_most { result ≤ place + 6 }
 /// ```
 ///
-/// [docs/STATEMENT.md](crate::proved#contracts) explains the words.
+/// [docs/proofs/STATEMENT.md](crate::proved#contracts) explains the words.
 #[inline(always)]
 fn put_offset(bytes: &mut [u8], place: usize, is_west: bool, hour: u8, minute: u8) -> usize {
     if (hour == 0) & (minute == 0) {
@@ -248,7 +248,7 @@ fn put_offset(bytes: &mut [u8], place: usize, is_west: bool, hour: u8, minute: u
 ///     ++ codes ":" ++ last_digits 2 minute }
 /// ```
 ///
-/// [docs/STATEMENT.md](crate::proved#contracts) explains the words.
+/// [docs/proofs/STATEMENT.md](crate::proved#contracts) explains the words.
 #[inline(always)]
 const fn offset_bytes(is_west: bool, hour: u8, minute: u8) -> [u8; 6] {
     let [hour_tens, hour] = pair(hour);
@@ -269,7 +269,7 @@ const fn offset_bytes(is_west: bool, hour: u8, minute: u8) -> [u8; 6] {
 /// ensures place { result ≡ place + length text.now }
 /// ```
 ///
-/// [docs/STATEMENT.md](crate::proved#contracts) explains the words.
+/// [docs/proofs/STATEMENT.md](crate::proved#contracts) explains the words.
 #[inline(always)]
 fn put(bytes: &mut [u8], place: usize, text: &[u8]) -> usize {
     let end = place + text.len();

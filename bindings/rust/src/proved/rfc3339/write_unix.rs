@@ -23,7 +23,7 @@ use crate::proved::utc_times::UtcDateTime;
 /// ensures length { length result ≤ 31 }
 /// ```
 ///
-/// [docs/STATEMENT.md](crate::proved#contracts) explains the words.
+/// [docs/proofs/STATEMENT.md](crate::proved#contracts) explains the words.
 #[inline]
 pub fn to_unix_nanos(at: UtcDateTime) -> Text {
     let (seconds, nanoseconds) = magnitude(at);
@@ -44,7 +44,7 @@ pub fn to_unix_nanos(at: UtcDateTime) -> Text {
 /// ensures nanoseconds { result.1 ≡ unsigned_abs at % nanos_per_second }
 /// ```
 ///
-/// [docs/STATEMENT.md](crate::proved#contracts) explains the words.
+/// [docs/proofs/STATEMENT.md](crate::proved#contracts) explains the words.
 #[inline]
 const fn magnitude(at: UtcDateTime) -> (u64, u32) {
     let seconds = at.unix_timestamp();

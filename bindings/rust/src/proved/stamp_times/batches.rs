@@ -28,7 +28,7 @@ impl Timestamp {
     /// ensures none { seconds.now ≡ [] → IsOk result }
     /// ```
     ///
-    /// [docs/STATEMENT.md](crate::proved#contracts) explains the words.
+    /// [docs/proofs/STATEMENT.md](crate::proved#contracts) explains the words.
     #[inline]
     pub fn from_seconds_slice(alloc: Global, seconds: &[i64]) -> Result<Batch, AllocError> {
         let mut stamps = crate::proved::memory::Vec::with_capacity(alloc, seconds.len())?;

@@ -45,7 +45,7 @@ const FAR_YEAR: u32 = 999_999;
 ///     held_instant stopped.held ≡ held_instant start) }
 /// ```
 ///
-/// [docs/STATEMENT.md](crate::proved#contracts) explains the words.
+/// [docs/proofs/STATEMENT.md](crate::proved#contracts) explains the words.
 #[inline]
 pub fn chain(start: Held, steps: &[Step]) -> Result<Held, StoppedAt> {
     let at = start;
@@ -72,7 +72,7 @@ pub fn chain(start: Held, steps: &[Step]) -> Result<Held, StoppedAt> {
 /// ensures { IsTrue result → IsFarInside (held_instant held) }
 /// ```
 ///
-/// [docs/STATEMENT.md](crate::proved#contracts) explains the words.
+/// [docs/proofs/STATEMENT.md](crate::proved#contracts) explains the words.
 #[inline]
 const fn is_far_inside(held: Held) -> bool {
     match held {
@@ -92,7 +92,7 @@ const fn is_far_inside(held: Held) -> bool {
 /// ensures instant { held_instant result ≡ held_instant start }
 /// ```
 ///
-/// [docs/STATEMENT.md](crate::proved#contracts) explains the words.
+/// [docs/proofs/STATEMENT.md](crate::proved#contracts) explains the words.
 #[inline]
 fn held_after(start: Held, steps: &[Step]) -> Held {
     for step in steps {
@@ -112,7 +112,7 @@ fn held_after(start: Held, steps: &[Step]) -> Held {
 /// ensures { IsStep step }
 /// ```
 ///
-/// [docs/STATEMENT.md](crate::proved#contracts) explains the words.
+/// [docs/proofs/STATEMENT.md](crate::proved#contracts) explains the words.
 #[inline(always)]
 const fn be_in_range(step: Step) {
     match step {
@@ -132,7 +132,7 @@ const fn be_in_range(step: Step) {
 ///     (held_by step i) }
 /// ```
 ///
-/// [docs/STATEMENT.md](crate::proved#contracts) explains the words.
+/// [docs/proofs/STATEMENT.md](crate::proved#contracts) explains the words.
 #[inline]
 fn held_by(held: Held, step: Step) -> Option<Held> {
     match step {
@@ -149,7 +149,7 @@ fn held_by(held: Held, step: Step) -> Option<Held> {
 /// ensures { SomeInRange result (held_instant held) }
 /// ```
 ///
-/// [docs/STATEMENT.md](crate::proved#contracts) explains the words.
+/// [docs/proofs/STATEMENT.md](crate::proved#contracts) explains the words.
 #[inline]
 const fn in_utc(held: Held) -> Option<UtcDateTime> {
     match held {
@@ -170,7 +170,7 @@ const fn in_utc(held: Held) -> Option<UtcDateTime> {
 /// ensures { let i = held_instant held in ShownAt result i offset }
 /// ```
 ///
-/// [docs/STATEMENT.md](crate::proved#contracts) explains the words.
+/// [docs/proofs/STATEMENT.md](crate::proved#contracts) explains the words.
 #[inline]
 fn held_at_offset(held: Held, offset: UtcOffset) -> Option<OffsetDateTime> {
     match held {

@@ -16,7 +16,7 @@ use crate::proved::memory::AllocError;
 /// ensures absent { IfNone result (¬ Contains log.now at) }
 /// ```
 ///
-/// [docs/STATEMENT.md](crate::proved#contracts) explains the words.
+/// [docs/proofs/STATEMENT.md](crate::proved#contracts) explains the words.
 #[inline]
 pub(in crate::proved) fn find(log: &[Timestamp], at: Timestamp) -> Option<usize> {
     match log.binary_search(&at) {
@@ -39,7 +39,7 @@ pub(in crate::proved) fn find(log: &[Timestamp], at: Timestamp) -> Option<usize>
 /// ensures unchanged { OnErr result (log.new.items ≡ log.old.items) }
 /// ```
 ///
-/// [docs/STATEMENT.md](crate::proved#contracts) explains the words.
+/// [docs/proofs/STATEMENT.md](crate::proved#contracts) explains the words.
 #[inline]
 pub(in crate::proved) fn enter(
     log: &mut crate::proved::memory::Vec<Timestamp>,
@@ -69,7 +69,7 @@ pub(in crate::proved) fn enter(
 /// ensures no_other { (entry : ℤ) → Contains log.new.items entry → Contains log.old.items entry }
 /// ```
 ///
-/// [docs/STATEMENT.md](crate::proved#contracts) explains the words.
+/// [docs/proofs/STATEMENT.md](crate::proved#contracts) explains the words.
 #[inline]
 pub(in crate::proved) fn remove(
     log: &mut crate::proved::memory::Vec<Timestamp>,
@@ -96,7 +96,7 @@ pub(in crate::proved) fn remove(
 /// ensures unchanged { OnErr result (log.new.items ≡ log.old.items) }
 /// ```
 ///
-/// [docs/STATEMENT.md](crate::proved#contracts) explains the words.
+/// [docs/proofs/STATEMENT.md](crate::proved#contracts) explains the words.
 #[inline]
 pub fn put_in_order(log: &mut crate::proved::memory::Vec<Timestamp>) -> Result<(), AllocError> {
     log.sort()?;
@@ -119,7 +119,7 @@ pub fn put_in_order(log: &mut crate::proved::memory::Vec<Timestamp>) -> Result<(
 /// ensures unchanged { OnErr result (log.new.items ≡ log.old.items) }
 /// ```
 ///
-/// [docs/STATEMENT.md](crate::proved#contracts) explains the words.
+/// [docs/proofs/STATEMENT.md](crate::proved#contracts) explains the words.
 #[inline]
 pub fn merge(
     log: &mut crate::proved::memory::Vec<Timestamp>,
@@ -145,7 +145,7 @@ pub fn merge(
 /// ensures none_later { IfSome result (λ last. All (λ entry. entry ≤ℤ last) log.now) }
 /// ```
 ///
-/// [docs/STATEMENT.md](crate::proved#contracts) explains the words.
+/// [docs/proofs/STATEMENT.md](crate::proved#contracts) explains the words.
 #[inline]
 pub(in crate::proved) const fn last(log: &[Timestamp]) -> Option<Timestamp> {
     log.last().copied()
@@ -171,7 +171,7 @@ pub(in crate::proved) const fn last(log: &[Timestamp]) -> Option<Timestamp> {
 /// ensures none_later { IfSome result (λ latest. All (λ at. at ≤ℤ latest) stamps.now) }
 /// ```
 ///
-/// [docs/STATEMENT.md](crate::proved#contracts) explains the words.
+/// [docs/proofs/STATEMENT.md](crate::proved#contracts) explains the words.
 #[inline]
 pub fn latest(stamps: &[Timestamp]) -> Option<Timestamp> {
     stamps.iter().copied().max()
@@ -197,7 +197,7 @@ pub fn latest(stamps: &[Timestamp]) -> Option<Timestamp> {
 /// ensures none_earlier { IfSome result (λ earliest. All (λ at. earliest ≤ℤ at) stamps.now) }
 /// ```
 ///
-/// [docs/STATEMENT.md](crate::proved#contracts) explains the words.
+/// [docs/proofs/STATEMENT.md](crate::proved#contracts) explains the words.
 #[inline]
 pub fn earliest(stamps: &[Timestamp]) -> Option<Timestamp> {
     stamps.iter().copied().min()
@@ -211,7 +211,7 @@ pub fn earliest(stamps: &[Timestamp]) -> Option<Timestamp> {
 /// ghost stamp: { Self → ℤ };
 /// ```
 ///
-/// [docs/STATEMENT.md](crate::proved#contracts) explains the words.
+/// [docs/proofs/STATEMENT.md](crate::proved#contracts) explains the words.
 pub trait Stamped {
     /// Its timestamp.
     ///
@@ -221,7 +221,7 @@ pub trait Stamped {
     /// ensures { result ≡ stamp self.now }
     /// ```
     ///
-    /// [docs/STATEMENT.md](crate::proved#contracts) explains the words.
+    /// [docs/proofs/STATEMENT.md](crate::proved#contracts) explains the words.
     fn stamp(&self) -> Timestamp;
 }
 
@@ -237,7 +237,7 @@ pub trait Stamped {
 /// ensures unchanged { OnErr result (records.new.items ≡ records.old.items) }
 /// ```
 ///
-/// [docs/STATEMENT.md](crate::proved#contracts) explains the words.
+/// [docs/proofs/STATEMENT.md](crate::proved#contracts) explains the words.
 #[inline]
 pub fn sort_by_stamp<T: Stamped>(
     records: &mut crate::proved::memory::Vec<T>,
@@ -254,7 +254,7 @@ pub fn sort_by_stamp<T: Stamped>(
 /// ghost date_time: { Self → Local };
 /// ```
 ///
-/// [docs/STATEMENT.md](crate::proved#contracts) explains the words.
+/// [docs/proofs/STATEMENT.md](crate::proved#contracts) explains the words.
 pub trait Dated {
     /// Its date-time.
     ///
@@ -264,7 +264,7 @@ pub trait Dated {
     /// ensures { result ≡ date_time self.now }
     /// ```
     ///
-    /// [docs/STATEMENT.md](crate::proved#contracts) explains the words.
+    /// [docs/proofs/STATEMENT.md](crate::proved#contracts) explains the words.
     fn date_time(&self) -> OffsetDateTime;
 }
 
@@ -282,7 +282,7 @@ pub trait Dated {
 /// ensures unchanged { OnErr result (records.new.items ≡ records.old.items) }
 /// ```
 ///
-/// [docs/STATEMENT.md](crate::proved#contracts) explains the words.
+/// [docs/proofs/STATEMENT.md](crate::proved#contracts) explains the words.
 #[inline]
 pub fn sort_by_date_time<T: Dated>(
     records: &mut crate::proved::memory::Vec<T>,

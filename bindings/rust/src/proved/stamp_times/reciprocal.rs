@@ -36,7 +36,7 @@ const FIRST_YEAR_CUT: u32 = 42_920_275;
 /// ensures below { 4 * day * 2 ^ 47 < 146_097 * day * 3_853_261_555 + 2 ^ 47 }
 /// ```
 ///
-/// [docs/STATEMENT.md](crate::proved#contracts) explains the words.
+/// [docs/proofs/STATEMENT.md](crate::proved#contracts) explains the words.
 #[inline]
 pub(in crate::proved) const fn century(day: u32) -> (u32, u32) {
     whole_and_fraction(day as u64 * CENTURY_MULTIPLIER >> 15)
@@ -57,7 +57,7 @@ pub(in crate::proved) const fn century(day: u32) -> (u32, u32) {
 /// ensures below { 1_461 * julian_day * 3_010_298_776 < 4 * julian_day * 2 ^ 40 + 2 ^ 40 }
 /// ```
 ///
-/// [docs/STATEMENT.md](crate::proved#contracts) explains the words.
+/// [docs/proofs/STATEMENT.md](crate::proved#contracts) explains the words.
 #[inline]
 pub(in crate::proved) const fn julian_year(julian_day: u32) -> (u32, u32) {
     whole_and_fraction(julian_day as u64 * YEAR_MULTIPLIER >> 8)
@@ -71,7 +71,7 @@ pub(in crate::proved) const fn julian_year(julian_day: u32) -> (u32, u32) {
 /// ensures low { result.1 ≡ scaled % 2 ^ 32 }
 /// ```
 ///
-/// [docs/STATEMENT.md](crate::proved#contracts) explains the words.
+/// [docs/proofs/STATEMENT.md](crate::proved#contracts) explains the words.
 #[inline]
 const fn whole_and_fraction(scaled: u64) -> (u32, u32) {
     ((scaled >> 32) as u32, (scaled & 0xffff_ffff) as u32)
@@ -96,7 +96,7 @@ const fn whole_and_fraction(scaled: u64) -> (u32, u32) {
 /// ensures ordinal_by_steps { result.2 ≡ step_ordinal (shifted_day day) }
 /// ```
 ///
-/// [docs/STATEMENT.md](crate::proved#contracts) explains the words.
+/// [docs/proofs/STATEMENT.md](crate::proved#contracts) explains the words.
 #[inline]
 pub(in crate::proved) const fn year_leap_ordinal(day: i32) -> (i32, bool, u16) {
     let (years, is_leap, ordinal) = years_leap_ordinal(shifted_day(day));
@@ -113,7 +113,7 @@ pub(in crate::proved) const fn year_leap_ordinal(day: i32) -> (i32, bool, u16) {
 /// ensures ordinal { result.2 ≡ step_ordinal day }
 /// ```
 ///
-/// [docs/STATEMENT.md](crate::proved#contracts) explains the words.
+/// [docs/proofs/STATEMENT.md](crate::proved#contracts) explains the words.
 #[inline]
 const fn years_leap_ordinal(day: u32) -> (u32, bool, u16) {
     let (century, century_fraction) = century(day);
@@ -131,7 +131,7 @@ const fn years_leap_ordinal(day: u32) -> (u32, bool, u16) {
 /// ensures { result ≡ shifted_day day }
 /// ```
 ///
-/// [docs/STATEMENT.md](crate::proved#contracts) explains the words.
+/// [docs/proofs/STATEMENT.md](crate::proved#contracts) explains the words.
 #[inline]
 const fn shifted_day(day: i32) -> u32 {
     (day + DAY_SHIFT) as u32
@@ -145,7 +145,7 @@ const fn shifted_day(day: i32) -> u32 {
 /// ensures { result ≡ pos years -ℤ pos 2_379_600 }
 /// ```
 ///
-/// [docs/STATEMENT.md](crate::proved#contracts) explains the words.
+/// [docs/proofs/STATEMENT.md](crate::proved#contracts) explains the words.
 #[inline]
 const fn year_of_shift(years: u32) -> i32 {
     years as i32 - YEAR_SHIFT

@@ -26,7 +26,7 @@ pub mod moment;
 /// ensures no_call { calls.now ≡ [] → IsOk result }
 /// ```
 ///
-/// [docs/STATEMENT.md](crate::proved#contracts) explains the words.
+/// [docs/proofs/STATEMENT.md](crate::proved#contracts) explains the words.
 #[inline]
 pub fn run<M: Moment>(
     alloc: Global,
@@ -56,7 +56,7 @@ pub fn run<M: Moment>(
 /// ensures no_call { calls.now ≡ [] → IsOk result }
 /// ```
 ///
-/// [docs/STATEMENT.md](crate::proved#contracts) explains the words.
+/// [docs/proofs/STATEMENT.md](crate::proved#contracts) explains the words.
 #[inline]
 pub fn run_both(
     alloc: Global,
@@ -82,7 +82,7 @@ pub fn run_both(
 /// ensures next { M.instant result.1 ≡ instant_after (M.instant held) call }
 /// ```
 ///
-/// [docs/STATEMENT.md](crate::proved#contracts) explains the words.
+/// [docs/proofs/STATEMENT.md](crate::proved#contracts) explains the words.
 #[inline]
 fn step<M: Moment>(held: M, call: Call) -> (Reply, M) {
     match call {
@@ -110,7 +110,7 @@ fn step<M: Moment>(held: M, call: Call) -> (Reply, M) {
 /// ensures { result ≡ reply_of_instant (M.instant held) }
 /// ```
 ///
-/// [docs/STATEMENT.md](crate::proved#contracts) explains the words.
+/// [docs/proofs/STATEMENT.md](crate::proved#contracts) explains the words.
 #[inline]
 fn reply_of<M: Moment>(held: M) -> Reply {
     let (date, time) = held.parts();
@@ -124,7 +124,7 @@ fn reply_of<M: Moment>(held: M) -> Reply {
 /// ensures { result ≡ local_reply at.offset (Some at.wall) }
 /// ```
 ///
-/// [docs/STATEMENT.md](crate::proved#contracts) explains the words.
+/// [docs/proofs/STATEMENT.md](crate::proved#contracts) explains the words.
 #[inline]
 const fn local_reply(at: OffsetDateTime) -> Reply {
     let (date, time, offset) = at.parts();
@@ -141,7 +141,7 @@ const fn local_reply(at: OffsetDateTime) -> Reply {
 /// ensures room { vec_capacity items.old ≤ vec_capacity items.new }
 /// ```
 ///
-/// [docs/STATEMENT.md](crate::proved#contracts) explains the words.
+/// [docs/proofs/STATEMENT.md](crate::proved#contracts) explains the words.
 #[inline]
 pub(crate) fn put_in_room<T: Copy>(items: &mut crate::proved::memory::Vec<T>, item: T) {
     match items.push(item) {

@@ -83,7 +83,7 @@ impl Timestamp {
     /// ensures { Gives result (timestamp_outcome seconds nanoseconds) }
     /// ```
     ///
-    /// [docs/STATEMENT.md](crate::proved#contracts) explains the words.
+    /// [docs/proofs/STATEMENT.md](crate::proved#contracts) explains the words.
     #[inline]
     pub const fn new(seconds: i64, nanoseconds: u32) -> Result<Timestamp, ComponentRange> {
         if seconds < FIRST_SECOND || seconds > LAST_SECOND {
@@ -120,7 +120,7 @@ impl Timestamp {
     /// ensures { Gives result (instant_outcome (codes "seconds") (instant_of_second seconds)) }
     /// ```
     ///
-    /// [docs/STATEMENT.md](crate::proved#contracts) explains the words.
+    /// [docs/proofs/STATEMENT.md](crate::proved#contracts) explains the words.
     #[inline]
     pub const fn from_seconds(seconds: i64) -> Result<Timestamp, ComponentRange> {
         if seconds < FIRST_SECOND || seconds > LAST_SECOND {
@@ -155,7 +155,7 @@ impl Timestamp {
     ///     Gives result (instant_outcome (codes "milliseconds") i) }
     /// ```
     ///
-    /// [docs/STATEMENT.md](crate::proved#contracts) explains the words.
+    /// [docs/proofs/STATEMENT.md](crate::proved#contracts) explains the words.
     #[inline]
     pub const fn from_milliseconds(milliseconds: i64) -> Result<Timestamp, ComponentRange> {
         if milliseconds < FIRST_SECOND * 1_000 || milliseconds > LAST_SECOND * 1_000 + 999 {
@@ -190,7 +190,7 @@ impl Timestamp {
     ///     Gives result (instant_outcome (codes "microseconds") i) }
     /// ```
     ///
-    /// [docs/STATEMENT.md](crate::proved#contracts) explains the words.
+    /// [docs/proofs/STATEMENT.md](crate::proved#contracts) explains the words.
     #[inline]
     pub const fn from_microseconds(microseconds: i128) -> Result<Timestamp, ComponentRange> {
         if microseconds < FIRST_SECOND as i128 * 1_000_000
@@ -226,7 +226,7 @@ impl Timestamp {
     /// ensures { Gives result (instant_outcome (codes "nanoseconds") nanoseconds) }
     /// ```
     ///
-    /// [docs/STATEMENT.md](crate::proved#contracts) explains the words.
+    /// [docs/proofs/STATEMENT.md](crate::proved#contracts) explains the words.
     #[inline]
     pub const fn from_nanoseconds(nanoseconds: i128) -> Result<Timestamp, ComponentRange> {
         if nanoseconds < FIRST_SECOND as i128 * NANOS_PER_SECOND as i128
@@ -259,7 +259,7 @@ impl Timestamp {
     /// ensures self_in_range { IsInstant self }
     /// ```
     ///
-    /// [docs/STATEMENT.md](crate::proved#contracts) explains the words.
+    /// [docs/proofs/STATEMENT.md](crate::proved#contracts) explains the words.
     #[inline]
     pub const fn as_seconds(self) -> i64 {
         self.seconds
@@ -283,7 +283,7 @@ impl Timestamp {
     /// ensures self_in_range { IsInstant self }
     /// ```
     ///
-    /// [docs/STATEMENT.md](crate::proved#contracts) explains the words.
+    /// [docs/proofs/STATEMENT.md](crate::proved#contracts) explains the words.
     #[inline]
     pub const fn as_milliseconds(self) -> i64 {
         self.seconds * 1_000 + (self.nanosecond / 1_000_000) as i64
@@ -307,7 +307,7 @@ impl Timestamp {
     /// ensures self_in_range { IsInstant self }
     /// ```
     ///
-    /// [docs/STATEMENT.md](crate::proved#contracts) explains the words.
+    /// [docs/proofs/STATEMENT.md](crate::proved#contracts) explains the words.
     #[inline]
     pub const fn as_microseconds(self) -> i128 {
         self.seconds as i128 * 1_000_000 + (self.nanosecond / 1_000) as i128
@@ -331,7 +331,7 @@ impl Timestamp {
     /// ensures self_in_range { IsInstant self }
     /// ```
     ///
-    /// [docs/STATEMENT.md](crate::proved#contracts) explains the words.
+    /// [docs/proofs/STATEMENT.md](crate::proved#contracts) explains the words.
     #[inline]
     pub const fn as_nanoseconds(self) -> i128 {
         self.seconds as i128 * NANOS_PER_SECOND as i128 + self.nanosecond as i128

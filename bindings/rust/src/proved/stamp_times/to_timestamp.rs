@@ -11,7 +11,7 @@ use crate::proved::offset_times::OffsetDateTime;
 /// ghost instant_told: { Self → ℤ };
 /// ```
 ///
-/// [docs/STATEMENT.md](crate::proved#contracts) explains the words.
+/// [docs/proofs/STATEMENT.md](crate::proved#contracts) explains the words.
 pub trait ToTimestamp {
     /// The timestamp of the instant, which must be in range. The caller proves this, or calls
     /// [`ToTimestamp::checked_to_timestamp`]; the `time` crate panics.
@@ -32,7 +32,7 @@ pub trait ToTimestamp {
     /// ensures { result ≡ instant_told self }
     /// ```
     ///
-    /// [docs/STATEMENT.md](crate::proved#contracts) explains the words.
+    /// [docs/proofs/STATEMENT.md](crate::proved#contracts) explains the words.
     #[track_caller]
     fn to_timestamp(self) -> Timestamp;
 
@@ -57,7 +57,7 @@ pub trait ToTimestamp {
     /// ensures { SomeInRange result (instant_told self) }
     /// ```
     ///
-    /// [docs/STATEMENT.md](crate::proved#contracts) explains the words.
+    /// [docs/proofs/STATEMENT.md](crate::proved#contracts) explains the words.
     fn checked_to_timestamp(self) -> Option<Timestamp>;
 }
 
@@ -67,7 +67,7 @@ pub trait ToTimestamp {
 /// ghost instant_told = { λ at. instant_of at };
 /// ```
 ///
-/// [docs/STATEMENT.md](crate::proved#contracts) explains the words.
+/// [docs/proofs/STATEMENT.md](crate::proved#contracts) explains the words.
 impl ToTimestamp for OffsetDateTime {
     #[inline]
     #[track_caller]

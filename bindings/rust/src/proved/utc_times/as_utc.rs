@@ -11,7 +11,7 @@ use crate::proved::plain_times::PlainDateTime;
 /// ghost instant_in_utc: { Self → ℤ };
 /// ```
 ///
-/// [docs/STATEMENT.md](crate::proved#contracts) explains the words.
+/// [docs/proofs/STATEMENT.md](crate::proved#contracts) explains the words.
 pub trait AsUtc {
     /// The instant at which clocks in UTC show it.
     ///
@@ -29,7 +29,7 @@ pub trait AsUtc {
     /// ensures { result ≡ instant_in_utc self }
     /// ```
     ///
-    /// [docs/STATEMENT.md](crate::proved#contracts) explains the words.
+    /// [docs/proofs/STATEMENT.md](crate::proved#contracts) explains the words.
     fn as_utc(self) -> UtcDateTime;
 }
 
@@ -39,7 +39,7 @@ pub trait AsUtc {
 /// ghost instant_in_utc = { λ w. w };
 /// ```
 ///
-/// [docs/STATEMENT.md](crate::proved#contracts) explains the words.
+/// [docs/proofs/STATEMENT.md](crate::proved#contracts) explains the words.
 impl AsUtc for PlainDateTime {
     #[inline]
     fn as_utc(self) -> UtcDateTime {

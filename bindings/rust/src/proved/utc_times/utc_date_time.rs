@@ -69,7 +69,7 @@ impl UtcDateTime {
     /// ensures { result ≡ wall_clock date time }
     /// ```
     ///
-    /// [docs/STATEMENT.md](crate::proved#contracts) explains the words.
+    /// [docs/proofs/STATEMENT.md](crate::proved#contracts) explains the words.
     #[inline]
     pub const fn new(date: Date, time: Time) -> UtcDateTime {
         // For the proof alone: what is read lies in its range.
@@ -93,7 +93,7 @@ impl UtcDateTime {
     /// ensures { result ≡ self }
     /// ```
     ///
-    /// [docs/STATEMENT.md](crate::proved#contracts) explains the words.
+    /// [docs/proofs/STATEMENT.md](crate::proved#contracts) explains the words.
     #[inline]
     pub const fn as_plain(self) -> PlainDateTime {
         PlainDateTime::new(self.date, self.time)
@@ -106,7 +106,7 @@ impl UtcDateTime {
     /// ensures { result ≡ plain }
     /// ```
     ///
-    /// [docs/STATEMENT.md](crate::proved#contracts) explains the words.
+    /// [docs/proofs/STATEMENT.md](crate::proved#contracts) explains the words.
     #[inline]
     pub(crate) const fn from_plain(plain: PlainDateTime) -> UtcDateTime {
         UtcDateTime::new(plain.date(), plain.time())

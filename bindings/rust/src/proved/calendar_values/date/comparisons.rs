@@ -10,7 +10,7 @@ use std::hash::{Hash, Hasher};
 /// ghost eq = { int_eq };
 /// ```
 ///
-/// [docs/STATEMENT.md](crate::proved#contracts) explains the words.
+/// [docs/proofs/STATEMENT.md](crate::proved#contracts) explains the words.
 impl PartialEq for Date {
     #[inline]
     fn eq(&self, other: &Date) -> bool {
@@ -26,7 +26,7 @@ impl Eq for Date {}
 /// ghost cmp = { int_cmp };
 /// ```
 ///
-/// [docs/STATEMENT.md](crate::proved#contracts) explains the words.
+/// [docs/proofs/STATEMENT.md](crate::proved#contracts) explains the words.
 impl Ord for Date {
     #[inline]
     fn cmp(&self, other: &Date) -> Ordering {
@@ -41,7 +41,7 @@ impl Ord for Date {
 /// ghost partial_cmp = { as_partial_cmp int_cmp };
 /// ```
 ///
-/// [docs/STATEMENT.md](crate::proved#contracts) explains the words.
+/// [docs/proofs/STATEMENT.md](crate::proved#contracts) explains the words.
 impl PartialOrd for Date {
     #[inline]
     fn partial_cmp(&self, other: &Date) -> Option<Ordering> {
@@ -55,7 +55,7 @@ impl PartialOrd for Date {
 /// ghost hash_input = { λ n. fed.i32 (n +ℤ epoch_julian_day) };
 /// ```
 ///
-/// [docs/STATEMENT.md](crate::proved#contracts) explains the words.
+/// [docs/proofs/STATEMENT.md](crate::proved#contracts) explains the words.
 impl Hash for Date {
     #[inline]
     fn hash<H: Hasher>(&self, state: &mut H) {

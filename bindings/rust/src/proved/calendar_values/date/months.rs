@@ -24,7 +24,7 @@ impl Date {
     /// ensures not_after { result ≤ℤ self }
     /// ```
     ///
-    /// [docs/STATEMENT.md](crate::proved#contracts) explains the words.
+    /// [docs/proofs/STATEMENT.md](crate::proved#contracts) explains the words.
     #[inline]
     pub const fn first_of_month(self) -> Date {
         self.day_in_month(1)
@@ -50,7 +50,7 @@ impl Date {
     /// ensures not_before { self ≤ℤ result }
     /// ```
     ///
-    /// [docs/STATEMENT.md](crate::proved#contracts) explains the words.
+    /// [docs/proofs/STATEMENT.md](crate::proved#contracts) explains the words.
     #[inline]
     pub const fn last_of_month(self) -> Date {
         self.day_in_month(31)
@@ -81,7 +81,7 @@ impl Date {
     ///     (days_in_month (is_leap_year (year_of later)) (month_of later))) }
     /// ```
     ///
-    /// [docs/STATEMENT.md](crate::proved#contracts) explains the words.
+    /// [docs/proofs/STATEMENT.md](crate::proved#contracts) explains the words.
     #[inline]
     pub const fn checked_add_months(self, months: i32) -> Option<Date> {
         Date::in_month(self.month_index() + months as i64, self.day())
@@ -95,7 +95,7 @@ impl Date {
     /// ensures in_range { unsigned_abs result ≤ 12_000_000 }
     /// ```
     ///
-    /// [docs/STATEMENT.md](crate::proved#contracts) explains the words.
+    /// [docs/proofs/STATEMENT.md](crate::proved#contracts) explains the words.
     #[inline]
     const fn month_index(self) -> i64 {
         self.year() as i64 * 12 + number_of_month(self.month()) as i64 - 1
@@ -111,7 +111,7 @@ impl Date {
     ///     (min day (days_in_month (is_leap_year (year_of self)) (month_of self))) result }
     /// ```
     ///
-    /// [docs/STATEMENT.md](crate::proved#contracts) explains the words.
+    /// [docs/proofs/STATEMENT.md](crate::proved#contracts) explains the words.
     #[inline]
     const fn day_in_month(self, day: u8) -> Date {
         Date::day_or_last(self.year(), self.month(), day)
@@ -129,7 +129,7 @@ impl Date {
     ///     IfSome result (ShowsDate y m (min day (days_in_month (is_leap_year y) m))) }
     /// ```
     ///
-    /// [docs/STATEMENT.md](crate::proved#contracts) explains the words.
+    /// [docs/proofs/STATEMENT.md](crate::proved#contracts) explains the words.
     #[inline]
     const fn in_month(index: i64, day: u8) -> Option<Date> {
         let month = Month::numbered(number_of_index(index));
@@ -150,7 +150,7 @@ impl Date {
     ///     (min day (days_in_month (is_leap_year year) (month_number month))) result }
     /// ```
     ///
-    /// [docs/STATEMENT.md](crate::proved#contracts) explains the words.
+    /// [docs/proofs/STATEMENT.md](crate::proved#contracts) explains the words.
     #[inline]
     const fn day_or_last(year: i32, month: Month, day: u8) -> Date {
         let day = at_most(day, days_in_month(year, month));
@@ -170,7 +170,7 @@ impl Date {
 /// ensures in_range { IsInRange 1 12 result }
 /// ```
 ///
-/// [docs/STATEMENT.md](crate::proved#contracts) explains the words.
+/// [docs/proofs/STATEMENT.md](crate::proved#contracts) explains the words.
 #[inline]
 const fn number_of_month(month: Month) -> u8 {
     month as u8
@@ -183,7 +183,7 @@ const fn number_of_month(month: Month) -> u8 {
 /// ensures { result ≡ min day last }
 /// ```
 ///
-/// [docs/STATEMENT.md](crate::proved#contracts) explains the words.
+/// [docs/proofs/STATEMENT.md](crate::proved#contracts) explains the words.
 #[inline]
 const fn at_most(day: u8, last: u8) -> u8 {
     if day > last { last } else { day }
@@ -196,7 +196,7 @@ const fn at_most(day: u8, last: u8) -> u8 {
 /// ensures { SomeIff result (IsYear (year_of_index index)) (year_of_index index) }
 /// ```
 ///
-/// [docs/STATEMENT.md](crate::proved#contracts) explains the words.
+/// [docs/proofs/STATEMENT.md](crate::proved#contracts) explains the words.
 #[inline]
 const fn year_of_index(index: i64) -> Option<i32> {
     let year = index.div_euclid(12);
@@ -214,7 +214,7 @@ const fn year_of_index(index: i64) -> Option<i32> {
 /// ensures in_range { IsInRange 1 12 result }
 /// ```
 ///
-/// [docs/STATEMENT.md](crate::proved#contracts) explains the words.
+/// [docs/proofs/STATEMENT.md](crate::proved#contracts) explains the words.
 #[inline]
 const fn number_of_index(index: i64) -> u8 {
     index.rem_euclid(12) as u8 + 1

@@ -9,7 +9,7 @@ use std::ops::Sub;
 /// ghost sub_gives = { λ a b difference. difference ≡ (a -ℤ b) *ℤ pos nanos_per_day };
 /// ```
 ///
-/// [docs/STATEMENT.md](crate::proved#contracts) explains the words.
+/// [docs/proofs/STATEMENT.md](crate::proved#contracts) explains the words.
 impl Sub for Date {
     type Output = SignedDuration;
 

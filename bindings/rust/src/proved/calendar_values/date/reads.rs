@@ -24,7 +24,7 @@ impl Date {
     /// ensures self_in_range { IsDay self }
     /// ```
     ///
-    /// [docs/STATEMENT.md](crate::proved#contracts) explains the words.
+    /// [docs/proofs/STATEMENT.md](crate::proved#contracts) explains the words.
     #[inline]
     pub const fn year(self) -> i32 {
         self.year
@@ -47,7 +47,7 @@ impl Date {
     /// ensures { month_number result ≡ month_of self }
     /// ```
     ///
-    /// [docs/STATEMENT.md](crate::proved#contracts) explains the words.
+    /// [docs/proofs/STATEMENT.md](crate::proved#contracts) explains the words.
     #[inline]
     pub const fn month(self) -> Month {
         self.month_day().0
@@ -71,7 +71,7 @@ impl Date {
     /// ensures in_range { IsInRange 1 31 result }
     /// ```
     ///
-    /// [docs/STATEMENT.md](crate::proved#contracts) explains the words.
+    /// [docs/proofs/STATEMENT.md](crate::proved#contracts) explains the words.
     #[inline]
     pub const fn day(self) -> u8 {
         self.month_day().1
@@ -96,7 +96,7 @@ impl Date {
     /// ensures self_in_range { IsDay self }
     /// ```
     ///
-    /// [docs/STATEMENT.md](crate::proved#contracts) explains the words.
+    /// [docs/proofs/STATEMENT.md](crate::proved#contracts) explains the words.
     #[inline]
     pub const fn ordinal(self) -> u16 {
         self.ordinal
@@ -120,7 +120,7 @@ impl Date {
     /// ensures in_range { IsInRange 1 53 result }
     /// ```
     ///
-    /// [docs/STATEMENT.md](crate::proved#contracts) explains the words.
+    /// [docs/proofs/STATEMENT.md](crate::proved#contracts) explains the words.
     #[inline]
     pub const fn iso_week(self) -> u8 {
         self.to_iso_week_date().1
@@ -145,7 +145,7 @@ impl Date {
     /// ensures in_range { result ≤ 53 }
     /// ```
     ///
-    /// [docs/STATEMENT.md](crate::proved#contracts) explains the words.
+    /// [docs/proofs/STATEMENT.md](crate::proved#contracts) explains the words.
     #[inline]
     pub const fn sunday_based_week(self) -> u8 {
         let days_from_sunday = (self.weekday().number_days_from_monday() + 1) % 7;
@@ -171,7 +171,7 @@ impl Date {
     /// ensures in_range { result ≤ 53 }
     /// ```
     ///
-    /// [docs/STATEMENT.md](crate::proved#contracts) explains the words.
+    /// [docs/proofs/STATEMENT.md](crate::proved#contracts) explains the words.
     #[inline]
     pub const fn monday_based_week(self) -> u8 {
         let days_from_monday = self.weekday().number_days_from_monday();
@@ -195,7 +195,7 @@ impl Date {
     /// ensures { IsCalendarDateOf self result }
     /// ```
     ///
-    /// [docs/STATEMENT.md](crate::proved#contracts) explains the words.
+    /// [docs/proofs/STATEMENT.md](crate::proved#contracts) explains the words.
     #[inline]
     pub const fn to_calendar_date(self) -> (i32, Month, u8) {
         let (month, day) = self.month_day();
@@ -219,7 +219,7 @@ impl Date {
     /// ensures { IsOrdinalDateOf self result }
     /// ```
     ///
-    /// [docs/STATEMENT.md](crate::proved#contracts) explains the words.
+    /// [docs/proofs/STATEMENT.md](crate::proved#contracts) explains the words.
     #[inline]
     pub const fn to_ordinal_date(self) -> (i32, u16) {
         (self.year(), self.ordinal())
@@ -242,7 +242,7 @@ impl Date {
     /// ensures { IsIsoWeekDateOf self result }
     /// ```
     ///
-    /// [docs/STATEMENT.md](crate::proved#contracts) explains the words.
+    /// [docs/proofs/STATEMENT.md](crate::proved#contracts) explains the words.
     #[inline]
     pub const fn to_iso_week_date(self) -> (i32, u8, Weekday) {
         let (year, ordinal) = self.thursday().to_ordinal_date();
@@ -257,7 +257,7 @@ impl Date {
     /// ensures { result ≡ thursday_of self }
     /// ```
     ///
-    /// [docs/STATEMENT.md](crate::proved#contracts) explains the words.
+    /// [docs/proofs/STATEMENT.md](crate::proved#contracts) explains the words.
     #[inline]
     const fn thursday(self) -> Date {
         let days_from_monday = self.weekday().number_days_from_monday() as u16;
@@ -303,7 +303,7 @@ impl Date {
     /// ensures { weekday_number result ≡ weekday_of self }
     /// ```
     ///
-    /// [docs/STATEMENT.md](crate::proved#contracts) explains the words.
+    /// [docs/proofs/STATEMENT.md](crate::proved#contracts) explains the words.
     #[inline]
     pub const fn weekday(self) -> Weekday {
         Weekday::numbered(days_from_monday(self.to_julian_day()))
@@ -327,7 +327,7 @@ impl Date {
     /// ensures self_in_range { IsDay self }
     /// ```
     ///
-    /// [docs/STATEMENT.md](crate::proved#contracts) explains the words.
+    /// [docs/proofs/STATEMENT.md](crate::proved#contracts) explains the words.
     #[inline(always)]
     pub const fn to_julian_day(self) -> i32 {
         self.days_since_epoch() + EPOCH_JULIAN_DAY
@@ -352,7 +352,7 @@ impl Date {
     /// ensures self_in_range { IsDay self }
     /// ```
     ///
-    /// [docs/STATEMENT.md](crate::proved#contracts) explains the words.
+    /// [docs/proofs/STATEMENT.md](crate::proved#contracts) explains the words.
     #[inline(always)]
     pub const fn days_since_epoch(self) -> i32 {
         year_start(self.year) + self.ordinal as i32 - 1
@@ -367,7 +367,7 @@ impl Date {
 /// ensures in_range { result < 7 }
 /// ```
 ///
-/// [docs/STATEMENT.md](crate::proved#contracts) explains the words.
+/// [docs/proofs/STATEMENT.md](crate::proved#contracts) explains the words.
 #[inline]
 const fn days_from_monday(julian_day: i32) -> u8 {
     julian_day.rem_euclid(7) as u8

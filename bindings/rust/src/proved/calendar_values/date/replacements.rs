@@ -27,7 +27,7 @@ impl Date {
     /// ensures shown { IfOk result (ShowsDate year (month_of self) (day_of_month_of self)) }
     /// ```
     ///
-    /// [docs/STATEMENT.md](crate::proved#contracts) explains the words.
+    /// [docs/proofs/STATEMENT.md](crate::proved#contracts) explains the words.
     #[inline]
     pub const fn replace_year(self, year: i32) -> Result<Date, ComponentRange> {
         let (month, day) = self.month_day();
@@ -58,7 +58,7 @@ impl Date {
     ///     (ShowsDate (year_of self) (month_number month) (day_of_month_of self)) }
     /// ```
     ///
-    /// [docs/STATEMENT.md](crate::proved#contracts) explains the words.
+    /// [docs/proofs/STATEMENT.md](crate::proved#contracts) explains the words.
     #[inline]
     pub const fn replace_month(self, month: Month) -> Result<Date, ComponentRange> {
         Date::from_calendar_date(self.year(), month, self.day())
@@ -87,7 +87,7 @@ impl Date {
     /// ensures shown { IfOk result (ShowsDate (year_of self) (month_of self) day) }
     /// ```
     ///
-    /// [docs/STATEMENT.md](crate::proved#contracts) explains the words.
+    /// [docs/proofs/STATEMENT.md](crate::proved#contracts) explains the words.
     #[inline]
     pub const fn replace_day(self, day: u8) -> Result<Date, ComponentRange> {
         Date::from_calendar_date(self.year(), self.month(), day)
@@ -116,7 +116,7 @@ impl Date {
     /// ensures shown { IfOk result (ShowsOrdinalDate (year_of self) ordinal) }
     /// ```
     ///
-    /// [docs/STATEMENT.md](crate::proved#contracts) explains the words.
+    /// [docs/proofs/STATEMENT.md](crate::proved#contracts) explains the words.
     #[inline]
     pub const fn replace_ordinal(self, ordinal: u16) -> Result<Date, ComponentRange> {
         Date::from_ordinal_date(self.year(), ordinal)

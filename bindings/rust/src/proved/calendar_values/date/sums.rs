@@ -27,7 +27,7 @@ impl Date {
     /// ensures { SomeDay result (self +ℤ pos 1) }
     /// ```
     ///
-    /// [docs/STATEMENT.md](crate::proved#contracts) explains the words.
+    /// [docs/proofs/STATEMENT.md](crate::proved#contracts) explains the words.
     #[inline]
     pub const fn next_day(self) -> Option<Date> {
         if self.ordinal < days_in_year(self.year) {
@@ -68,7 +68,7 @@ impl Date {
     /// ensures { SomeDay result (self -ℤ pos 1) }
     /// ```
     ///
-    /// [docs/STATEMENT.md](crate::proved#contracts) explains the words.
+    /// [docs/proofs/STATEMENT.md](crate::proved#contracts) explains the words.
     #[inline]
     pub const fn previous_day(self) -> Option<Date> {
         if self.ordinal > 1 {
@@ -110,7 +110,7 @@ impl Date {
     /// ensures { SomeDay result (self +ℤ whole_days_of duration) }
     /// ```
     ///
-    /// [docs/STATEMENT.md](crate::proved#contracts) explains the words.
+    /// [docs/proofs/STATEMENT.md](crate::proved#contracts) explains the words.
     #[inline]
     pub const fn checked_add(self, duration: SignedDuration) -> Option<Date> {
         self.checked_add_days(duration.whole_days())
@@ -137,7 +137,7 @@ impl Date {
     /// ensures { SomeDay result (self -ℤ whole_days_of duration) }
     /// ```
     ///
-    /// [docs/STATEMENT.md](crate::proved#contracts) explains the words.
+    /// [docs/proofs/STATEMENT.md](crate::proved#contracts) explains the words.
     #[inline]
     pub const fn checked_sub(self, duration: SignedDuration) -> Option<Date> {
         self.checked_add_days(-duration.whole_days())
@@ -163,7 +163,7 @@ impl Date {
     /// ensures { SomeDay result (self +ℤ pos (as_nanos duration / nanos_per_day)) }
     /// ```
     ///
-    /// [docs/STATEMENT.md](crate::proved#contracts) explains the words.
+    /// [docs/proofs/STATEMENT.md](crate::proved#contracts) explains the words.
     #[inline]
     pub const fn checked_add_std(self, duration: Duration) -> Option<Date> {
         self.checked_add_days((duration.as_secs() / SECONDS_PER_DAY as u64) as i64)
@@ -189,7 +189,7 @@ impl Date {
     /// ensures { SomeDay result (self -ℤ pos (as_nanos duration / nanos_per_day)) }
     /// ```
     ///
-    /// [docs/STATEMENT.md](crate::proved#contracts) explains the words.
+    /// [docs/proofs/STATEMENT.md](crate::proved#contracts) explains the words.
     #[inline]
     pub const fn checked_sub_std(self, duration: Duration) -> Option<Date> {
         self.checked_add_days(-((duration.as_secs() / SECONDS_PER_DAY as u64) as i64))
@@ -216,7 +216,7 @@ impl Date {
     /// ensures { SomeDay result (self +ℤ days) }
     /// ```
     ///
-    /// [docs/STATEMENT.md](crate::proved#contracts) explains the words.
+    /// [docs/proofs/STATEMENT.md](crate::proved#contracts) explains the words.
     #[inline]
     pub const fn checked_add_days(self, days: i64) -> Option<Date> {
         let ordinal = self.ordinal as i64;

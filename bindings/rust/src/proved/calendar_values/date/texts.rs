@@ -23,7 +23,7 @@ impl Date {
     /// ensures length { length result ≤ 13 }
     /// ```
     ///
-    /// [docs/STATEMENT.md](crate::proved#contracts) explains the words.
+    /// [docs/proofs/STATEMENT.md](crate::proved#contracts) explains the words.
     #[inline]
     pub fn text(self) -> Text {
         let mut text = Text::new();
@@ -41,7 +41,7 @@ impl Date {
     /// ensures length { length text.new ≤ length text.old + 13 }
     /// ```
     ///
-    /// [docs/STATEMENT.md](crate::proved#contracts) explains the words.
+    /// [docs/proofs/STATEMENT.md](crate::proved#contracts) explains the words.
     #[inline(always)]
     pub(in crate::proved) fn append_to(self, text: &mut Text) {
         let (month, day) = self.month_day();
@@ -61,7 +61,7 @@ impl Date {
 /// ensures length { length text.new ≤ length text.old + 7 }
 /// ```
 ///
-/// [docs/STATEMENT.md](crate::proved#contracts) explains the words.
+/// [docs/proofs/STATEMENT.md](crate::proved#contracts) explains the words.
 #[inline(always)]
 fn push_year(text: &mut Text, year: i32) {
     if year < 0 {
@@ -82,7 +82,7 @@ fn push_year(text: &mut Text, year: i32) {
 /// ensures length { length text.new ≤ length text.old + 6 }
 /// ```
 ///
-/// [docs/STATEMENT.md](crate::proved#contracts) explains the words.
+/// [docs/proofs/STATEMENT.md](crate::proved#contracts) explains the words.
 #[inline]
 fn push_year_digits(text: &mut Text, year: u32) {
     if year < 10_000 {
@@ -100,7 +100,7 @@ fn push_year_digits(text: &mut Text, year: u32) {
 /// ghost styled_output = { λ n spec. Some (padded spec (date_text n)) };
 /// ```
 ///
-/// [docs/STATEMENT.md](crate::proved#contracts) explains the words.
+/// [docs/proofs/STATEMENT.md](crate::proved#contracts) explains the words.
 impl fmt::Display for Date {
     #[inline]
     fn fmt(&self, f: &mut fmt::Formatter) -> fmt::Result {
@@ -114,7 +114,7 @@ impl fmt::Display for Date {
 /// ghost debug_output = { λ n. Some (date_text n) };
 /// ```
 ///
-/// [docs/STATEMENT.md](crate::proved#contracts) explains the words.
+/// [docs/proofs/STATEMENT.md](crate::proved#contracts) explains the words.
 impl fmt::Debug for Date {
     #[inline]
     fn fmt(&self, f: &mut fmt::Formatter) -> fmt::Result {

@@ -10,7 +10,7 @@ use std::hash::{Hash, Hasher};
 /// ghost eq = { int_eq };
 /// ```
 ///
-/// [docs/STATEMENT.md](crate::proved#contracts) explains the words.
+/// [docs/proofs/STATEMENT.md](crate::proved#contracts) explains the words.
 impl PartialEq for SignedDuration {
     #[inline]
     fn eq(&self, other: &SignedDuration) -> bool {
@@ -26,7 +26,7 @@ impl Eq for SignedDuration {}
 /// ghost cmp = { int_cmp };
 /// ```
 ///
-/// [docs/STATEMENT.md](crate::proved#contracts) explains the words.
+/// [docs/proofs/STATEMENT.md](crate::proved#contracts) explains the words.
 impl Ord for SignedDuration {
     #[inline]
     fn cmp(&self, other: &SignedDuration) -> Ordering {
@@ -42,7 +42,7 @@ impl Ord for SignedDuration {
 /// ghost partial_cmp = { as_partial_cmp int_cmp };
 /// ```
 ///
-/// [docs/STATEMENT.md](crate::proved#contracts) explains the words.
+/// [docs/proofs/STATEMENT.md](crate::proved#contracts) explains the words.
 impl PartialOrd for SignedDuration {
     #[inline]
     fn partial_cmp(&self, other: &SignedDuration) -> Option<Ordering> {
@@ -56,7 +56,7 @@ impl PartialOrd for SignedDuration {
 /// ghost hash_input = { fed.i128 };
 /// ```
 ///
-/// [docs/STATEMENT.md](crate::proved#contracts) explains the words.
+/// [docs/proofs/STATEMENT.md](crate::proved#contracts) explains the words.
 impl Hash for SignedDuration {
     #[inline]
     fn hash<H: Hasher>(&self, state: &mut H) {

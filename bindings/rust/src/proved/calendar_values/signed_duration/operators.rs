@@ -10,7 +10,7 @@ use std::ops::{Add, AddAssign, Neg, Sub, SubAssign};
 /// ghost add_gives = { λ a b sum. sum ≡ a +ℤ b };
 /// ```
 ///
-/// [docs/STATEMENT.md](crate::proved#contracts) explains the words.
+/// [docs/proofs/STATEMENT.md](crate::proved#contracts) explains the words.
 impl Add for SignedDuration {
     type Output = SignedDuration;
 
@@ -28,7 +28,7 @@ impl Add for SignedDuration {
 /// ghost add_assign_gives = { λ a b sum. sum ≡ a +ℤ b };
 /// ```
 ///
-/// [docs/STATEMENT.md](crate::proved#contracts) explains the words.
+/// [docs/proofs/STATEMENT.md](crate::proved#contracts) explains the words.
 impl AddAssign for SignedDuration {
     #[inline]
     #[track_caller]
@@ -44,7 +44,7 @@ impl AddAssign for SignedDuration {
 /// ghost sub_gives = { λ a b difference. difference ≡ a -ℤ b };
 /// ```
 ///
-/// [docs/STATEMENT.md](crate::proved#contracts) explains the words.
+/// [docs/proofs/STATEMENT.md](crate::proved#contracts) explains the words.
 impl Sub for SignedDuration {
     type Output = SignedDuration;
 
@@ -62,7 +62,7 @@ impl Sub for SignedDuration {
 /// ghost sub_assign_gives = { λ a b difference. difference ≡ a -ℤ b };
 /// ```
 ///
-/// [docs/STATEMENT.md](crate::proved#contracts) explains the words.
+/// [docs/proofs/STATEMENT.md](crate::proved#contracts) explains the words.
 impl SubAssign for SignedDuration {
     #[inline]
     #[track_caller]
@@ -78,7 +78,7 @@ impl SubAssign for SignedDuration {
 /// ghost neg_gives = { λ a negative. negative ≡ neg_ℤ a };
 /// ```
 ///
-/// [docs/STATEMENT.md](crate::proved#contracts) explains the words.
+/// [docs/proofs/STATEMENT.md](crate::proved#contracts) explains the words.
 impl Neg for SignedDuration {
     type Output = SignedDuration;
 

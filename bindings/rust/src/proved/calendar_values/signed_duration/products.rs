@@ -24,7 +24,7 @@ impl SignedDuration {
     /// ensures { SomeDuration result (self *ℤ factor) }
     /// ```
     ///
-    /// [docs/STATEMENT.md](crate::proved#contracts) explains the words.
+    /// [docs/proofs/STATEMENT.md](crate::proved#contracts) explains the words.
     #[inline]
     pub const fn checked_mul(self, factor: i32) -> Option<SignedDuration> {
         self.times(factor as i64)
@@ -47,7 +47,7 @@ impl SignedDuration {
     /// ensures { IsNearestDuration (self *ℤ factor) result }
     /// ```
     ///
-    /// [docs/STATEMENT.md](crate::proved#contracts) explains the words.
+    /// [docs/proofs/STATEMENT.md](crate::proved#contracts) explains the words.
     #[inline]
     pub const fn saturating_mul(self, factor: i32) -> SignedDuration {
         SignedDuration::nearest(self.nanoseconds_times(factor as i64))
@@ -61,7 +61,7 @@ impl SignedDuration {
     /// ensures { SomeDuration result (self *ℤ factor) }
     /// ```
     ///
-    /// [docs/STATEMENT.md](crate::proved#contracts) explains the words.
+    /// [docs/proofs/STATEMENT.md](crate::proved#contracts) explains the words.
     #[inline]
     const fn times(self, factor: i64) -> Option<SignedDuration> {
         SignedDuration::from_whole_nanoseconds(self.nanoseconds_times(factor))
@@ -75,7 +75,7 @@ impl SignedDuration {
     /// ensures { result ≡ self *ℤ factor }
     /// ```
     ///
-    /// [docs/STATEMENT.md](crate::proved#contracts) explains the words.
+    /// [docs/proofs/STATEMENT.md](crate::proved#contracts) explains the words.
     #[inline]
     const fn nanoseconds_times(self, factor: i64) -> i128 {
         self.whole_nanoseconds() * factor as i128
@@ -89,7 +89,7 @@ impl SignedDuration {
 /// ghost mul_gives = { λ duration factor product. product ≡ duration *ℤ factor };
 /// ```
 ///
-/// [docs/STATEMENT.md](crate::proved#contracts) explains the words.
+/// [docs/proofs/STATEMENT.md](crate::proved#contracts) explains the words.
 impl Mul<i8> for SignedDuration {
     type Output = SignedDuration;
 
@@ -107,7 +107,7 @@ impl Mul<i8> for SignedDuration {
 /// ghost mul_gives = { λ factor duration product. product ≡ duration *ℤ factor };
 /// ```
 ///
-/// [docs/STATEMENT.md](crate::proved#contracts) explains the words.
+/// [docs/proofs/STATEMENT.md](crate::proved#contracts) explains the words.
 impl Mul<SignedDuration> for i8 {
     type Output = SignedDuration;
 
@@ -125,7 +125,7 @@ impl Mul<SignedDuration> for i8 {
 /// ghost mul_assign_gives = { λ duration factor product. product ≡ duration *ℤ factor };
 /// ```
 ///
-/// [docs/STATEMENT.md](crate::proved#contracts) explains the words.
+/// [docs/proofs/STATEMENT.md](crate::proved#contracts) explains the words.
 impl MulAssign<i8> for SignedDuration {
     #[inline]
     #[track_caller]
@@ -141,7 +141,7 @@ impl MulAssign<i8> for SignedDuration {
 /// ghost mul_gives = { λ duration factor product. product ≡ duration *ℤ factor };
 /// ```
 ///
-/// [docs/STATEMENT.md](crate::proved#contracts) explains the words.
+/// [docs/proofs/STATEMENT.md](crate::proved#contracts) explains the words.
 impl Mul<i16> for SignedDuration {
     type Output = SignedDuration;
 
@@ -159,7 +159,7 @@ impl Mul<i16> for SignedDuration {
 /// ghost mul_gives = { λ factor duration product. product ≡ duration *ℤ factor };
 /// ```
 ///
-/// [docs/STATEMENT.md](crate::proved#contracts) explains the words.
+/// [docs/proofs/STATEMENT.md](crate::proved#contracts) explains the words.
 impl Mul<SignedDuration> for i16 {
     type Output = SignedDuration;
 
@@ -177,7 +177,7 @@ impl Mul<SignedDuration> for i16 {
 /// ghost mul_assign_gives = { λ duration factor product. product ≡ duration *ℤ factor };
 /// ```
 ///
-/// [docs/STATEMENT.md](crate::proved#contracts) explains the words.
+/// [docs/proofs/STATEMENT.md](crate::proved#contracts) explains the words.
 impl MulAssign<i16> for SignedDuration {
     #[inline]
     #[track_caller]
@@ -193,7 +193,7 @@ impl MulAssign<i16> for SignedDuration {
 /// ghost mul_gives = { λ duration factor product. product ≡ duration *ℤ factor };
 /// ```
 ///
-/// [docs/STATEMENT.md](crate::proved#contracts) explains the words.
+/// [docs/proofs/STATEMENT.md](crate::proved#contracts) explains the words.
 impl Mul<i32> for SignedDuration {
     type Output = SignedDuration;
 
@@ -211,7 +211,7 @@ impl Mul<i32> for SignedDuration {
 /// ghost mul_gives = { λ factor duration product. product ≡ duration *ℤ factor };
 /// ```
 ///
-/// [docs/STATEMENT.md](crate::proved#contracts) explains the words.
+/// [docs/proofs/STATEMENT.md](crate::proved#contracts) explains the words.
 impl Mul<SignedDuration> for i32 {
     type Output = SignedDuration;
 
@@ -229,7 +229,7 @@ impl Mul<SignedDuration> for i32 {
 /// ghost mul_assign_gives = { λ duration factor product. product ≡ duration *ℤ factor };
 /// ```
 ///
-/// [docs/STATEMENT.md](crate::proved#contracts) explains the words.
+/// [docs/proofs/STATEMENT.md](crate::proved#contracts) explains the words.
 impl MulAssign<i32> for SignedDuration {
     #[inline]
     #[track_caller]
@@ -245,7 +245,7 @@ impl MulAssign<i32> for SignedDuration {
 /// ghost mul_gives = { λ duration factor product. product ≡ duration *ℤ pos factor };
 /// ```
 ///
-/// [docs/STATEMENT.md](crate::proved#contracts) explains the words.
+/// [docs/proofs/STATEMENT.md](crate::proved#contracts) explains the words.
 impl Mul<u8> for SignedDuration {
     type Output = SignedDuration;
 
@@ -263,7 +263,7 @@ impl Mul<u8> for SignedDuration {
 /// ghost mul_gives = { λ factor duration product. product ≡ duration *ℤ pos factor };
 /// ```
 ///
-/// [docs/STATEMENT.md](crate::proved#contracts) explains the words.
+/// [docs/proofs/STATEMENT.md](crate::proved#contracts) explains the words.
 impl Mul<SignedDuration> for u8 {
     type Output = SignedDuration;
 
@@ -281,7 +281,7 @@ impl Mul<SignedDuration> for u8 {
 /// ghost mul_assign_gives = { λ duration factor product. product ≡ duration *ℤ pos factor };
 /// ```
 ///
-/// [docs/STATEMENT.md](crate::proved#contracts) explains the words.
+/// [docs/proofs/STATEMENT.md](crate::proved#contracts) explains the words.
 impl MulAssign<u8> for SignedDuration {
     #[inline]
     #[track_caller]
@@ -297,7 +297,7 @@ impl MulAssign<u8> for SignedDuration {
 /// ghost mul_gives = { λ duration factor product. product ≡ duration *ℤ pos factor };
 /// ```
 ///
-/// [docs/STATEMENT.md](crate::proved#contracts) explains the words.
+/// [docs/proofs/STATEMENT.md](crate::proved#contracts) explains the words.
 impl Mul<u16> for SignedDuration {
     type Output = SignedDuration;
 
@@ -315,7 +315,7 @@ impl Mul<u16> for SignedDuration {
 /// ghost mul_gives = { λ factor duration product. product ≡ duration *ℤ pos factor };
 /// ```
 ///
-/// [docs/STATEMENT.md](crate::proved#contracts) explains the words.
+/// [docs/proofs/STATEMENT.md](crate::proved#contracts) explains the words.
 impl Mul<SignedDuration> for u16 {
     type Output = SignedDuration;
 
@@ -333,7 +333,7 @@ impl Mul<SignedDuration> for u16 {
 /// ghost mul_assign_gives = { λ duration factor product. product ≡ duration *ℤ pos factor };
 /// ```
 ///
-/// [docs/STATEMENT.md](crate::proved#contracts) explains the words.
+/// [docs/proofs/STATEMENT.md](crate::proved#contracts) explains the words.
 impl MulAssign<u16> for SignedDuration {
     #[inline]
     #[track_caller]
@@ -349,7 +349,7 @@ impl MulAssign<u16> for SignedDuration {
 /// ghost mul_gives = { λ duration factor product. product ≡ duration *ℤ pos factor };
 /// ```
 ///
-/// [docs/STATEMENT.md](crate::proved#contracts) explains the words.
+/// [docs/proofs/STATEMENT.md](crate::proved#contracts) explains the words.
 impl Mul<u32> for SignedDuration {
     type Output = SignedDuration;
 
@@ -367,7 +367,7 @@ impl Mul<u32> for SignedDuration {
 /// ghost mul_gives = { λ factor duration product. product ≡ duration *ℤ pos factor };
 /// ```
 ///
-/// [docs/STATEMENT.md](crate::proved#contracts) explains the words.
+/// [docs/proofs/STATEMENT.md](crate::proved#contracts) explains the words.
 impl Mul<SignedDuration> for u32 {
     type Output = SignedDuration;
 
@@ -385,7 +385,7 @@ impl Mul<SignedDuration> for u32 {
 /// ghost mul_assign_gives = { λ duration factor product. product ≡ duration *ℤ pos factor };
 /// ```
 ///
-/// [docs/STATEMENT.md](crate::proved#contracts) explains the words.
+/// [docs/proofs/STATEMENT.md](crate::proved#contracts) explains the words.
 impl MulAssign<u32> for SignedDuration {
     #[inline]
     #[track_caller]

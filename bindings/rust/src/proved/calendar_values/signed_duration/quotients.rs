@@ -25,7 +25,7 @@ impl SignedDuration {
     /// ensures { SomeIff result (HasQuotient self divisor) (int_div self divisor) }
     /// ```
     ///
-    /// [docs/STATEMENT.md](crate::proved#contracts) explains the words.
+    /// [docs/proofs/STATEMENT.md](crate::proved#contracts) explains the words.
     #[inline]
     pub const fn checked_div(self, divisor: i32) -> Option<SignedDuration> {
         self.over(divisor as i64)
@@ -38,7 +38,7 @@ impl SignedDuration {
     /// ensures { SomeIff result (HasQuotient self divisor) (int_div self divisor) }
     /// ```
     ///
-    /// [docs/STATEMENT.md](crate::proved#contracts) explains the words.
+    /// [docs/proofs/STATEMENT.md](crate::proved#contracts) explains the words.
     #[inline]
     const fn over(self, divisor: i64) -> Option<SignedDuration> {
         if divisor == 0 {
@@ -55,7 +55,7 @@ impl SignedDuration {
 /// ghost div_gives = { λ duration divisor quotient. quotient ≡ int_div duration divisor };
 /// ```
 ///
-/// [docs/STATEMENT.md](crate::proved#contracts) explains the words.
+/// [docs/proofs/STATEMENT.md](crate::proved#contracts) explains the words.
 impl Div<i8> for SignedDuration {
     type Output = SignedDuration;
 
@@ -73,7 +73,7 @@ impl Div<i8> for SignedDuration {
 /// ghost div_assign_gives = { λ before divisor after. after ≡ int_div before divisor };
 /// ```
 ///
-/// [docs/STATEMENT.md](crate::proved#contracts) explains the words.
+/// [docs/proofs/STATEMENT.md](crate::proved#contracts) explains the words.
 impl DivAssign<i8> for SignedDuration {
     #[inline]
     #[track_caller]
@@ -89,7 +89,7 @@ impl DivAssign<i8> for SignedDuration {
 /// ghost div_gives = { λ duration divisor quotient. quotient ≡ int_div duration divisor };
 /// ```
 ///
-/// [docs/STATEMENT.md](crate::proved#contracts) explains the words.
+/// [docs/proofs/STATEMENT.md](crate::proved#contracts) explains the words.
 impl Div<i16> for SignedDuration {
     type Output = SignedDuration;
 
@@ -107,7 +107,7 @@ impl Div<i16> for SignedDuration {
 /// ghost div_assign_gives = { λ before divisor after. after ≡ int_div before divisor };
 /// ```
 ///
-/// [docs/STATEMENT.md](crate::proved#contracts) explains the words.
+/// [docs/proofs/STATEMENT.md](crate::proved#contracts) explains the words.
 impl DivAssign<i16> for SignedDuration {
     #[inline]
     #[track_caller]
@@ -123,7 +123,7 @@ impl DivAssign<i16> for SignedDuration {
 /// ghost div_gives = { λ duration divisor quotient. quotient ≡ int_div duration divisor };
 /// ```
 ///
-/// [docs/STATEMENT.md](crate::proved#contracts) explains the words.
+/// [docs/proofs/STATEMENT.md](crate::proved#contracts) explains the words.
 impl Div<i32> for SignedDuration {
     type Output = SignedDuration;
 
@@ -141,7 +141,7 @@ impl Div<i32> for SignedDuration {
 /// ghost div_assign_gives = { λ before divisor after. after ≡ int_div before divisor };
 /// ```
 ///
-/// [docs/STATEMENT.md](crate::proved#contracts) explains the words.
+/// [docs/proofs/STATEMENT.md](crate::proved#contracts) explains the words.
 impl DivAssign<i32> for SignedDuration {
     #[inline]
     #[track_caller]
@@ -157,7 +157,7 @@ impl DivAssign<i32> for SignedDuration {
 /// ghost div_gives = { λ duration divisor quotient. quotient ≡ int_div duration (pos divisor) };
 /// ```
 ///
-/// [docs/STATEMENT.md](crate::proved#contracts) explains the words.
+/// [docs/proofs/STATEMENT.md](crate::proved#contracts) explains the words.
 impl Div<u8> for SignedDuration {
     type Output = SignedDuration;
 
@@ -175,7 +175,7 @@ impl Div<u8> for SignedDuration {
 /// ghost div_assign_gives = { λ before divisor after. after ≡ int_div before (pos divisor) };
 /// ```
 ///
-/// [docs/STATEMENT.md](crate::proved#contracts) explains the words.
+/// [docs/proofs/STATEMENT.md](crate::proved#contracts) explains the words.
 impl DivAssign<u8> for SignedDuration {
     #[inline]
     #[track_caller]
@@ -191,7 +191,7 @@ impl DivAssign<u8> for SignedDuration {
 /// ghost div_gives = { λ duration divisor quotient. quotient ≡ int_div duration (pos divisor) };
 /// ```
 ///
-/// [docs/STATEMENT.md](crate::proved#contracts) explains the words.
+/// [docs/proofs/STATEMENT.md](crate::proved#contracts) explains the words.
 impl Div<u16> for SignedDuration {
     type Output = SignedDuration;
 
@@ -209,7 +209,7 @@ impl Div<u16> for SignedDuration {
 /// ghost div_assign_gives = { λ before divisor after. after ≡ int_div before (pos divisor) };
 /// ```
 ///
-/// [docs/STATEMENT.md](crate::proved#contracts) explains the words.
+/// [docs/proofs/STATEMENT.md](crate::proved#contracts) explains the words.
 impl DivAssign<u16> for SignedDuration {
     #[inline]
     #[track_caller]
@@ -225,7 +225,7 @@ impl DivAssign<u16> for SignedDuration {
 /// ghost div_gives = { λ duration divisor quotient. quotient ≡ int_div duration (pos divisor) };
 /// ```
 ///
-/// [docs/STATEMENT.md](crate::proved#contracts) explains the words.
+/// [docs/proofs/STATEMENT.md](crate::proved#contracts) explains the words.
 impl Div<u32> for SignedDuration {
     type Output = SignedDuration;
 
@@ -243,7 +243,7 @@ impl Div<u32> for SignedDuration {
 /// ghost div_assign_gives = { λ before divisor after. after ≡ int_div before (pos divisor) };
 /// ```
 ///
-/// [docs/STATEMENT.md](crate::proved#contracts) explains the words.
+/// [docs/proofs/STATEMENT.md](crate::proved#contracts) explains the words.
 impl DivAssign<u32> for SignedDuration {
     #[inline]
     #[track_caller]

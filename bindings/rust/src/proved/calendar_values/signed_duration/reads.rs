@@ -24,7 +24,7 @@ impl SignedDuration {
     /// ensures { IsTrue result ↔ (self ≡ pos 0) }
     /// ```
     ///
-    /// [docs/STATEMENT.md](crate::proved#contracts) explains the words.
+    /// [docs/proofs/STATEMENT.md](crate::proved#contracts) explains the words.
     #[inline]
     pub const fn is_zero(self) -> bool {
         self.seconds == 0 && self.nanoseconds == 0
@@ -47,7 +47,7 @@ impl SignedDuration {
     /// ensures { IsTrue result ↔ (self <ℤ pos 0) }
     /// ```
     ///
-    /// [docs/STATEMENT.md](crate::proved#contracts) explains the words.
+    /// [docs/proofs/STATEMENT.md](crate::proved#contracts) explains the words.
     #[inline]
     pub const fn is_negative(self) -> bool {
         self.seconds < 0 || self.nanoseconds < 0
@@ -70,7 +70,7 @@ impl SignedDuration {
     /// ensures { IsTrue result ↔ (pos 0 <ℤ self) }
     /// ```
     ///
-    /// [docs/STATEMENT.md](crate::proved#contracts) explains the words.
+    /// [docs/proofs/STATEMENT.md](crate::proved#contracts) explains the words.
     #[inline]
     pub const fn is_positive(self) -> bool {
         self.seconds > 0 || self.nanoseconds > 0
@@ -94,7 +94,7 @@ impl SignedDuration {
     /// ensures { result ≡ pos (min (unsigned_abs self) (unsigned_abs greatest_duration)) }
     /// ```
     ///
-    /// [docs/STATEMENT.md](crate::proved#contracts) explains the words.
+    /// [docs/proofs/STATEMENT.md](crate::proved#contracts) explains the words.
     #[inline]
     pub const fn abs(self) -> SignedDuration {
         if self.seconds == i64::MIN {
@@ -126,7 +126,7 @@ impl SignedDuration {
     /// ensures { as_nanos result ≡ unsigned_abs self }
     /// ```
     ///
-    /// [docs/STATEMENT.md](crate::proved#contracts) explains the words.
+    /// [docs/proofs/STATEMENT.md](crate::proved#contracts) explains the words.
     #[inline]
     pub const fn unsigned_abs(self) -> Duration {
         Duration::new(self.seconds.unsigned_abs(), self.nanoseconds.unsigned_abs())
@@ -151,7 +151,7 @@ impl SignedDuration {
     /// ensures in_range { unsigned_abs result ≤ 15_250_284_452_471 }
     /// ```
     ///
-    /// [docs/STATEMENT.md](crate::proved#contracts) explains the words.
+    /// [docs/proofs/STATEMENT.md](crate::proved#contracts) explains the words.
     #[inline]
     pub const fn whole_weeks(self) -> i64 {
         self.seconds / SECONDS_PER_WEEK
@@ -175,7 +175,7 @@ impl SignedDuration {
     /// ensures in_range { unsigned_abs result ≤ 106_751_991_167_300 }
     /// ```
     ///
-    /// [docs/STATEMENT.md](crate::proved#contracts) explains the words.
+    /// [docs/proofs/STATEMENT.md](crate::proved#contracts) explains the words.
     #[inline]
     pub const fn whole_days(self) -> i64 {
         self.seconds / SECONDS_PER_DAY
@@ -199,7 +199,7 @@ impl SignedDuration {
     /// ensures in_range { unsigned_abs result ≤ 2_562_047_788_015_215 }
     /// ```
     ///
-    /// [docs/STATEMENT.md](crate::proved#contracts) explains the words.
+    /// [docs/proofs/STATEMENT.md](crate::proved#contracts) explains the words.
     #[inline]
     pub const fn whole_hours(self) -> i64 {
         self.seconds / SECONDS_PER_HOUR as i64
@@ -224,7 +224,7 @@ impl SignedDuration {
     /// ensures in_range { unsigned_abs result ≤ 153_722_867_280_912_930 }
     /// ```
     ///
-    /// [docs/STATEMENT.md](crate::proved#contracts) explains the words.
+    /// [docs/proofs/STATEMENT.md](crate::proved#contracts) explains the words.
     #[inline]
     pub const fn whole_minutes(self) -> i64 {
         self.seconds / SECONDS_PER_MINUTE
@@ -250,7 +250,7 @@ impl SignedDuration {
     /// ensures parts { duration_of_parts result (subsec_nanoseconds_of self) ≡ self }
     /// ```
     ///
-    /// [docs/STATEMENT.md](crate::proved#contracts) explains the words.
+    /// [docs/proofs/STATEMENT.md](crate::proved#contracts) explains the words.
     #[inline]
     pub const fn whole_seconds(self) -> i64 {
         self.seconds
@@ -276,7 +276,7 @@ impl SignedDuration {
     /// ensures parts { duration_of_parts (whole_seconds_of self) result ≡ self }
     /// ```
     ///
-    /// [docs/STATEMENT.md](crate::proved#contracts) explains the words.
+    /// [docs/proofs/STATEMENT.md](crate::proved#contracts) explains the words.
     #[inline]
     pub const fn subsec_nanoseconds(self) -> i32 {
         self.nanoseconds
@@ -300,7 +300,7 @@ impl SignedDuration {
     /// ensures in_range { unsigned_abs result ≤ 9_223_372_036_854_775_808_999 }
     /// ```
     ///
-    /// [docs/STATEMENT.md](crate::proved#contracts) explains the words.
+    /// [docs/proofs/STATEMENT.md](crate::proved#contracts) explains the words.
     #[inline]
     pub const fn whole_milliseconds(self) -> i128 {
         self.whole_seconds() as i128 * 1_000 + self.subsec_milliseconds() as i128
@@ -324,7 +324,7 @@ impl SignedDuration {
     /// ensures in_range { unsigned_abs result ≤ 999 }
     /// ```
     ///
-    /// [docs/STATEMENT.md](crate::proved#contracts) explains the words.
+    /// [docs/proofs/STATEMENT.md](crate::proved#contracts) explains the words.
     #[inline]
     pub const fn subsec_milliseconds(self) -> i16 {
         (self.subsec_nanoseconds() / 1_000_000) as i16
@@ -348,7 +348,7 @@ impl SignedDuration {
     /// ensures in_range { unsigned_abs result ≤ 9_223_372_036_854_775_808_999_999 }
     /// ```
     ///
-    /// [docs/STATEMENT.md](crate::proved#contracts) explains the words.
+    /// [docs/proofs/STATEMENT.md](crate::proved#contracts) explains the words.
     #[inline]
     pub const fn whole_microseconds(self) -> i128 {
         self.whole_seconds() as i128 * 1_000_000 + self.subsec_microseconds() as i128
@@ -372,7 +372,7 @@ impl SignedDuration {
     /// ensures in_range { unsigned_abs result ≤ 999_999 }
     /// ```
     ///
-    /// [docs/STATEMENT.md](crate::proved#contracts) explains the words.
+    /// [docs/proofs/STATEMENT.md](crate::proved#contracts) explains the words.
     #[inline]
     pub const fn subsec_microseconds(self) -> i32 {
         self.subsec_nanoseconds() / 1_000
@@ -396,7 +396,7 @@ impl SignedDuration {
     /// ensures self_in_range { IsDuration self }
     /// ```
     ///
-    /// [docs/STATEMENT.md](crate::proved#contracts) explains the words.
+    /// [docs/proofs/STATEMENT.md](crate::proved#contracts) explains the words.
     #[inline]
     pub const fn whole_nanoseconds(self) -> i128 {
         self.whole_seconds() as i128 * NANOS_PER_SECOND as i128 + self.subsec_nanoseconds() as i128

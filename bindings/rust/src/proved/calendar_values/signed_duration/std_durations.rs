@@ -12,7 +12,7 @@ use std::time::Duration;
 ///     OkIff result (IsDuration (pos (as_nanos duration))) (pos (as_nanos duration)) };
 /// ```
 ///
-/// [docs/STATEMENT.md](crate::proved#contracts) explains the words.
+/// [docs/proofs/STATEMENT.md](crate::proved#contracts) explains the words.
 impl TryFrom<Duration> for SignedDuration {
     type Error = ConversionRange;
 
@@ -32,7 +32,7 @@ impl TryFrom<Duration> for SignedDuration {
 ///     (λ value. pos (as_nanos value) ≡ duration) (λ _. duration <ℤ pos 0) };
 /// ```
 ///
-/// [docs/STATEMENT.md](crate::proved#contracts) explains the words.
+/// [docs/proofs/STATEMENT.md](crate::proved#contracts) explains the words.
 impl TryFrom<SignedDuration> for Duration {
     type Error = ConversionRange;
 
@@ -64,7 +64,7 @@ impl SignedDuration {
     /// ensures { result ≡ int_cmp self (pos (as_nanos other)) }
     /// ```
     ///
-    /// [docs/STATEMENT.md](crate::proved#contracts) explains the words.
+    /// [docs/proofs/STATEMENT.md](crate::proved#contracts) explains the words.
     #[inline]
     pub fn cmp_std(self, other: Duration) -> Ordering {
         self.whole_nanoseconds().cmp(&(other.as_nanos() as i128))
@@ -77,7 +77,7 @@ impl SignedDuration {
     /// ensures { SomeDuration result (self +ℤ pos (as_nanos other)) }
     /// ```
     ///
-    /// [docs/STATEMENT.md](crate::proved#contracts) explains the words.
+    /// [docs/proofs/STATEMENT.md](crate::proved#contracts) explains the words.
     #[inline]
     const fn plus_std(self, other: Duration) -> Option<SignedDuration> {
         SignedDuration::from_whole_nanoseconds(self.whole_nanoseconds() + other.as_nanos() as i128)
@@ -90,7 +90,7 @@ impl SignedDuration {
     /// ensures { SomeDuration result (self -ℤ pos (as_nanos other)) }
     /// ```
     ///
-    /// [docs/STATEMENT.md](crate::proved#contracts) explains the words.
+    /// [docs/proofs/STATEMENT.md](crate::proved#contracts) explains the words.
     #[inline]
     const fn minus_std(self, other: Duration) -> Option<SignedDuration> {
         SignedDuration::from_whole_nanoseconds(self.whole_nanoseconds() - other.as_nanos() as i128)
@@ -103,7 +103,7 @@ impl SignedDuration {
     /// ensures { SomeDuration result (pos (as_nanos other) -ℤ self) }
     /// ```
     ///
-    /// [docs/STATEMENT.md](crate::proved#contracts) explains the words.
+    /// [docs/proofs/STATEMENT.md](crate::proved#contracts) explains the words.
     #[inline]
     const fn until_std(self, other: Duration) -> Option<SignedDuration> {
         SignedDuration::from_whole_nanoseconds(other.as_nanos() as i128 - self.whole_nanoseconds())
@@ -117,7 +117,7 @@ impl SignedDuration {
 /// ghost add_gives = { λ a b sum. sum ≡ a +ℤ pos (as_nanos b) };
 /// ```
 ///
-/// [docs/STATEMENT.md](crate::proved#contracts) explains the words.
+/// [docs/proofs/STATEMENT.md](crate::proved#contracts) explains the words.
 impl Add<Duration> for SignedDuration {
     type Output = SignedDuration;
 
@@ -135,7 +135,7 @@ impl Add<Duration> for SignedDuration {
 /// ghost add_assign_gives = { λ a b sum. sum ≡ a +ℤ pos (as_nanos b) };
 /// ```
 ///
-/// [docs/STATEMENT.md](crate::proved#contracts) explains the words.
+/// [docs/proofs/STATEMENT.md](crate::proved#contracts) explains the words.
 impl AddAssign<Duration> for SignedDuration {
     #[inline]
     #[track_caller]
@@ -151,7 +151,7 @@ impl AddAssign<Duration> for SignedDuration {
 /// ghost add_gives = { λ a b sum. sum ≡ b +ℤ pos (as_nanos a) };
 /// ```
 ///
-/// [docs/STATEMENT.md](crate::proved#contracts) explains the words.
+/// [docs/proofs/STATEMENT.md](crate::proved#contracts) explains the words.
 impl Add<SignedDuration> for Duration {
     type Output = SignedDuration;
 
@@ -170,7 +170,7 @@ impl Add<SignedDuration> for Duration {
 /// ghost add_assign_gives = { λ a b sum. pos (as_nanos sum) ≡ b +ℤ pos (as_nanos a) };
 /// ```
 ///
-/// [docs/STATEMENT.md](crate::proved#contracts) explains the words.
+/// [docs/proofs/STATEMENT.md](crate::proved#contracts) explains the words.
 impl AddAssign<SignedDuration> for Duration {
     #[inline]
     #[track_caller]
@@ -186,7 +186,7 @@ impl AddAssign<SignedDuration> for Duration {
 /// ghost sub_gives = { λ a b difference. difference ≡ a -ℤ pos (as_nanos b) };
 /// ```
 ///
-/// [docs/STATEMENT.md](crate::proved#contracts) explains the words.
+/// [docs/proofs/STATEMENT.md](crate::proved#contracts) explains the words.
 impl Sub<Duration> for SignedDuration {
     type Output = SignedDuration;
 
@@ -204,7 +204,7 @@ impl Sub<Duration> for SignedDuration {
 /// ghost sub_assign_gives = { λ a b difference. difference ≡ a -ℤ pos (as_nanos b) };
 /// ```
 ///
-/// [docs/STATEMENT.md](crate::proved#contracts) explains the words.
+/// [docs/proofs/STATEMENT.md](crate::proved#contracts) explains the words.
 impl SubAssign<Duration> for SignedDuration {
     #[inline]
     #[track_caller]
@@ -220,7 +220,7 @@ impl SubAssign<Duration> for SignedDuration {
 /// ghost sub_gives = { λ a b difference. difference ≡ pos (as_nanos a) -ℤ b };
 /// ```
 ///
-/// [docs/STATEMENT.md](crate::proved#contracts) explains the words.
+/// [docs/proofs/STATEMENT.md](crate::proved#contracts) explains the words.
 impl Sub<SignedDuration> for Duration {
     type Output = SignedDuration;
 
@@ -239,7 +239,7 @@ impl Sub<SignedDuration> for Duration {
 /// ghost sub_assign_gives = { λ a b after. pos (as_nanos after) ≡ pos (as_nanos a) -ℤ b };
 /// ```
 ///
-/// [docs/STATEMENT.md](crate::proved#contracts) explains the words.
+/// [docs/proofs/STATEMENT.md](crate::proved#contracts) explains the words.
 impl SubAssign<SignedDuration> for Duration {
     #[inline]
     #[track_caller]

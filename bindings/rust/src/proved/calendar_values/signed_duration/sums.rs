@@ -23,7 +23,7 @@ impl SignedDuration {
     /// ensures { SomeDuration result (self +ℤ other) }
     /// ```
     ///
-    /// [docs/STATEMENT.md](crate::proved#contracts) explains the words.
+    /// [docs/proofs/STATEMENT.md](crate::proved#contracts) explains the words.
     #[inline]
     pub const fn checked_add(self, other: SignedDuration) -> Option<SignedDuration> {
         match self.seconds.checked_add(other.seconds) {
@@ -54,7 +54,7 @@ impl SignedDuration {
     /// ensures { SomeDuration result (self -ℤ other) }
     /// ```
     ///
-    /// [docs/STATEMENT.md](crate::proved#contracts) explains the words.
+    /// [docs/proofs/STATEMENT.md](crate::proved#contracts) explains the words.
     #[inline]
     pub const fn checked_sub(self, other: SignedDuration) -> Option<SignedDuration> {
         match self.seconds.checked_sub(other.seconds) {
@@ -85,7 +85,7 @@ impl SignedDuration {
     /// ensures { SomeDuration result (neg_ℤ self) }
     /// ```
     ///
-    /// [docs/STATEMENT.md](crate::proved#contracts) explains the words.
+    /// [docs/proofs/STATEMENT.md](crate::proved#contracts) explains the words.
     #[inline]
     pub const fn checked_neg(self) -> Option<SignedDuration> {
         match self.seconds.checked_neg() {
@@ -117,7 +117,7 @@ impl SignedDuration {
     /// ensures { IsNearestDuration (self +ℤ other) result }
     /// ```
     ///
-    /// [docs/STATEMENT.md](crate::proved#contracts) explains the words.
+    /// [docs/proofs/STATEMENT.md](crate::proved#contracts) explains the words.
     #[inline]
     pub const fn saturating_add(self, other: SignedDuration) -> SignedDuration {
         match self.checked_add(other) {
@@ -149,7 +149,7 @@ impl SignedDuration {
     /// ensures { IsNearestDuration (self -ℤ other) result }
     /// ```
     ///
-    /// [docs/STATEMENT.md](crate::proved#contracts) explains the words.
+    /// [docs/proofs/STATEMENT.md](crate::proved#contracts) explains the words.
     #[inline]
     pub const fn saturating_sub(self, other: SignedDuration) -> SignedDuration {
         match self.checked_sub(other) {

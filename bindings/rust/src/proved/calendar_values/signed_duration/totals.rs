@@ -10,7 +10,7 @@ use std::iter::Sum;
 /// ghost sum_gives = { λ durations sum. sum ≡ fold ◌+ℤ◌ (pos 0) durations };
 /// ```
 ///
-/// [docs/STATEMENT.md](crate::proved#contracts) explains the words.
+/// [docs/proofs/STATEMENT.md](crate::proved#contracts) explains the words.
 impl Sum<SignedDuration> for SignedDuration {
     #[inline]
     #[track_caller]
@@ -27,7 +27,7 @@ impl Sum<SignedDuration> for SignedDuration {
 ///     sum ≡ fold (λ sum x. sum +ℤ x.now) (pos 0) durations };
 /// ```
 ///
-/// [docs/STATEMENT.md](crate::proved#contracts) explains the words.
+/// [docs/proofs/STATEMENT.md](crate::proved#contracts) explains the words.
 impl<'a> Sum<&'a SignedDuration> for SignedDuration {
     #[inline]
     #[track_caller]
@@ -48,7 +48,7 @@ impl<'a> Sum<&'a SignedDuration> for SignedDuration {
 ///     × (result ≡ fold ◌+ℤ◌ (pos 0) xs) }
 /// ```
 ///
-/// [docs/STATEMENT.md](crate::proved#contracts) explains the words.
+/// [docs/proofs/STATEMENT.md](crate::proved#contracts) explains the words.
 #[inline]
 fn total<I: Iterator<Item = SignedDuration>>(mut durations: I) -> SignedDuration {
     let mut sum = SignedDuration::ZERO;
@@ -70,7 +70,7 @@ fn total<I: Iterator<Item = SignedDuration>>(mut durations: I) -> SignedDuration
 ///     × (result ≡ fold (λ sum x. sum +ℤ x.now) (pos 0) xs) }
 /// ```
 ///
-/// [docs/STATEMENT.md](crate::proved#contracts) explains the words.
+/// [docs/proofs/STATEMENT.md](crate::proved#contracts) explains the words.
 #[inline]
 fn total_of_references<'a, I: Iterator<Item = &'a SignedDuration>>(
     mut durations: I,

@@ -10,7 +10,7 @@ use std::hash::{Hash, Hasher};
 /// ghost eq = { ◌==◌ };
 /// ```
 ///
-/// [docs/STATEMENT.md](crate::proved#contracts) explains the words.
+/// [docs/proofs/STATEMENT.md](crate::proved#contracts) explains the words.
 impl PartialEq for Time {
     #[inline]
     fn eq(&self, other: &Time) -> bool {
@@ -26,7 +26,7 @@ impl Eq for Time {}
 /// ghost cmp = { nat_cmp };
 /// ```
 ///
-/// [docs/STATEMENT.md](crate::proved#contracts) explains the words.
+/// [docs/proofs/STATEMENT.md](crate::proved#contracts) explains the words.
 impl Ord for Time {
     #[inline]
     fn cmp(&self, other: &Time) -> Ordering {
@@ -40,7 +40,7 @@ impl Ord for Time {
 /// ghost partial_cmp = { as_partial_cmp nat_cmp };
 /// ```
 ///
-/// [docs/STATEMENT.md](crate::proved#contracts) explains the words.
+/// [docs/proofs/STATEMENT.md](crate::proved#contracts) explains the words.
 impl PartialOrd for Time {
     #[inline]
     fn partial_cmp(&self, other: &Time) -> Option<Ordering> {
@@ -54,7 +54,7 @@ impl PartialOrd for Time {
 /// ghost hash_input = { fed.u64 };
 /// ```
 ///
-/// [docs/STATEMENT.md](crate::proved#contracts) explains the words.
+/// [docs/proofs/STATEMENT.md](crate::proved#contracts) explains the words.
 impl Hash for Time {
     #[inline]
     fn hash<H: Hasher>(&self, state: &mut H) {

@@ -9,7 +9,7 @@ use std::ops::Sub;
 /// ghost sub_gives = { λ a b difference. difference ≡ pos a -ℤ pos b };
 /// ```
 ///
-/// [docs/STATEMENT.md](crate::proved#contracts) explains the words.
+/// [docs/proofs/STATEMENT.md](crate::proved#contracts) explains the words.
 impl Sub for Time {
     type Output = SignedDuration;
 

@@ -22,7 +22,7 @@ impl Time {
     /// ensures in_range { AreTimeParts result.0 result.1 result.2 0 }
     /// ```
     ///
-    /// [docs/STATEMENT.md](crate::proved#contracts) explains the words.
+    /// [docs/proofs/STATEMENT.md](crate::proved#contracts) explains the words.
     #[inline]
     pub const fn as_hms(self) -> (u8, u8, u8) {
         (self.hour, self.minute, self.second)
@@ -52,7 +52,7 @@ impl Time {
     ///     (result.3 * nanos_per_millisecond) }
     /// ```
     ///
-    /// [docs/STATEMENT.md](crate::proved#contracts) explains the words.
+    /// [docs/proofs/STATEMENT.md](crate::proved#contracts) explains the words.
     #[inline]
     pub const fn as_hms_milli(self) -> (u8, u8, u8, u16) {
         (self.hour, self.minute, self.second, self.millisecond())
@@ -82,7 +82,7 @@ impl Time {
     ///     (result.3 * nanos_per_microsecond) }
     /// ```
     ///
-    /// [docs/STATEMENT.md](crate::proved#contracts) explains the words.
+    /// [docs/proofs/STATEMENT.md](crate::proved#contracts) explains the words.
     #[inline]
     pub const fn as_hms_micro(self) -> (u8, u8, u8, u32) {
         (self.hour, self.minute, self.second, self.microsecond())
@@ -111,7 +111,7 @@ impl Time {
     /// ensures in_range { AreTimeParts result.0 result.1 result.2 result.3 }
     /// ```
     ///
-    /// [docs/STATEMENT.md](crate::proved#contracts) explains the words.
+    /// [docs/proofs/STATEMENT.md](crate::proved#contracts) explains the words.
     #[inline]
     pub const fn as_hms_nano(self) -> (u8, u8, u8, u32) {
         (self.hour, self.minute, self.second, self.nanosecond)
@@ -135,7 +135,7 @@ impl Time {
     /// ensures in_range { result ≤ 23 }
     /// ```
     ///
-    /// [docs/STATEMENT.md](crate::proved#contracts) explains the words.
+    /// [docs/proofs/STATEMENT.md](crate::proved#contracts) explains the words.
     #[inline]
     pub const fn hour(self) -> u8 {
         self.hour
@@ -159,7 +159,7 @@ impl Time {
     /// ensures in_range { result ≤ 59 }
     /// ```
     ///
-    /// [docs/STATEMENT.md](crate::proved#contracts) explains the words.
+    /// [docs/proofs/STATEMENT.md](crate::proved#contracts) explains the words.
     #[inline]
     pub const fn minute(self) -> u8 {
         self.minute
@@ -183,7 +183,7 @@ impl Time {
     /// ensures in_range { result ≤ 59 }
     /// ```
     ///
-    /// [docs/STATEMENT.md](crate::proved#contracts) explains the words.
+    /// [docs/proofs/STATEMENT.md](crate::proved#contracts) explains the words.
     #[inline]
     pub const fn second(self) -> u8 {
         self.second
@@ -207,7 +207,7 @@ impl Time {
     /// ensures in_range { result ≤ 999 }
     /// ```
     ///
-    /// [docs/STATEMENT.md](crate::proved#contracts) explains the words.
+    /// [docs/proofs/STATEMENT.md](crate::proved#contracts) explains the words.
     #[inline]
     pub const fn millisecond(self) -> u16 {
         (self.nanosecond / 1_000_000) as u16
@@ -231,7 +231,7 @@ impl Time {
     /// ensures in_range { result ≤ 999_999 }
     /// ```
     ///
-    /// [docs/STATEMENT.md](crate::proved#contracts) explains the words.
+    /// [docs/proofs/STATEMENT.md](crate::proved#contracts) explains the words.
     #[inline]
     pub const fn microsecond(self) -> u32 {
         self.nanosecond / 1_000
@@ -255,7 +255,7 @@ impl Time {
     /// ensures in_range { result ≤ 999_999_999 }
     /// ```
     ///
-    /// [docs/STATEMENT.md](crate::proved#contracts) explains the words.
+    /// [docs/proofs/STATEMENT.md](crate::proved#contracts) explains the words.
     #[inline]
     pub const fn nanosecond(self) -> u32 {
         self.nanosecond
@@ -279,7 +279,7 @@ impl Time {
     /// ensures in_range { result < 86_400 }
     /// ```
     ///
-    /// [docs/STATEMENT.md](crate::proved#contracts) explains the words.
+    /// [docs/proofs/STATEMENT.md](crate::proved#contracts) explains the words.
     #[inline(always)]
     pub const fn second_of_day(self) -> u32 {
         (self.hour as u32 * 60 + self.minute as u32) * 60 + self.second as u32
@@ -303,7 +303,7 @@ impl Time {
     /// ensures self_in_range { IsClock self }
     /// ```
     ///
-    /// [docs/STATEMENT.md](crate::proved#contracts) explains the words.
+    /// [docs/proofs/STATEMENT.md](crate::proved#contracts) explains the words.
     #[inline(always)]
     pub const fn nanosecond_of_day(self) -> u64 {
         self.second_of_day() as u64 * NANOS_PER_SECOND as u64 + self.nanosecond as u64

@@ -23,7 +23,7 @@ impl Time {
     ///     HasTimeParts time hour (minute_of self) (second_of self) (nanosecond_of self)) }
     /// ```
     ///
-    /// [docs/STATEMENT.md](crate::proved#contracts) explains the words.
+    /// [docs/proofs/STATEMENT.md](crate::proved#contracts) explains the words.
     #[inline]
     pub const fn replace_hour(self, hour: u8) -> Result<Time, ComponentRange> {
         if hour <= 23 {
@@ -52,7 +52,7 @@ impl Time {
     /// ensures within { self < result + nanos_per_hour }
     /// ```
     ///
-    /// [docs/STATEMENT.md](crate::proved#contracts) explains the words.
+    /// [docs/proofs/STATEMENT.md](crate::proved#contracts) explains the words.
     #[inline]
     pub const fn truncate_to_hour(self) -> Time {
         Time {
@@ -83,7 +83,7 @@ impl Time {
     ///     HasTimeParts time (hour_of self) minute (second_of self) (nanosecond_of self)) }
     /// ```
     ///
-    /// [docs/STATEMENT.md](crate::proved#contracts) explains the words.
+    /// [docs/proofs/STATEMENT.md](crate::proved#contracts) explains the words.
     #[inline]
     pub const fn replace_minute(self, minute: u8) -> Result<Time, ComponentRange> {
         if minute <= 59 {
@@ -112,7 +112,7 @@ impl Time {
     /// ensures within { self < result + nanos_per_minute }
     /// ```
     ///
-    /// [docs/STATEMENT.md](crate::proved#contracts) explains the words.
+    /// [docs/proofs/STATEMENT.md](crate::proved#contracts) explains the words.
     #[inline]
     pub const fn truncate_to_minute(self) -> Time {
         Time {
@@ -142,7 +142,7 @@ impl Time {
     ///     HasTimeParts time (hour_of self) (minute_of self) second (nanosecond_of self)) }
     /// ```
     ///
-    /// [docs/STATEMENT.md](crate::proved#contracts) explains the words.
+    /// [docs/proofs/STATEMENT.md](crate::proved#contracts) explains the words.
     #[inline]
     pub const fn replace_second(self, second: u8) -> Result<Time, ComponentRange> {
         if second <= 59 {
@@ -171,7 +171,7 @@ impl Time {
     /// ensures within { self < result + nanos_per_second }
     /// ```
     ///
-    /// [docs/STATEMENT.md](crate::proved#contracts) explains the words.
+    /// [docs/proofs/STATEMENT.md](crate::proved#contracts) explains the words.
     #[inline]
     pub const fn truncate_to_second(self) -> Time {
         Time {
@@ -205,7 +205,7 @@ impl Time {
     ///     (millisecond * nanos_per_millisecond)) }
     /// ```
     ///
-    /// [docs/STATEMENT.md](crate::proved#contracts) explains the words.
+    /// [docs/proofs/STATEMENT.md](crate::proved#contracts) explains the words.
     #[inline]
     pub const fn replace_millisecond(self, millisecond: u16) -> Result<Time, ComponentRange> {
         if millisecond <= 999 {
@@ -237,7 +237,7 @@ impl Time {
     /// ensures within { self < result + nanos_per_millisecond }
     /// ```
     ///
-    /// [docs/STATEMENT.md](crate::proved#contracts) explains the words.
+    /// [docs/proofs/STATEMENT.md](crate::proved#contracts) explains the words.
     #[inline]
     pub const fn truncate_to_millisecond(self) -> Time {
         Time {
@@ -271,7 +271,7 @@ impl Time {
     ///     (microsecond * nanos_per_microsecond)) }
     /// ```
     ///
-    /// [docs/STATEMENT.md](crate::proved#contracts) explains the words.
+    /// [docs/proofs/STATEMENT.md](crate::proved#contracts) explains the words.
     #[inline]
     pub const fn replace_microsecond(self, microsecond: u32) -> Result<Time, ComponentRange> {
         if microsecond <= 999_999 {
@@ -303,7 +303,7 @@ impl Time {
     /// ensures within { self < result + nanos_per_microsecond }
     /// ```
     ///
-    /// [docs/STATEMENT.md](crate::proved#contracts) explains the words.
+    /// [docs/proofs/STATEMENT.md](crate::proved#contracts) explains the words.
     #[inline]
     pub const fn truncate_to_microsecond(self) -> Time {
         Time {
@@ -336,7 +336,7 @@ impl Time {
     ///     HasTimeParts time (hour_of self) (minute_of self) (second_of self) nanosecond) }
     /// ```
     ///
-    /// [docs/STATEMENT.md](crate::proved#contracts) explains the words.
+    /// [docs/proofs/STATEMENT.md](crate::proved#contracts) explains the words.
     #[inline]
     pub const fn replace_nanosecond(self, nanosecond: u32) -> Result<Time, ComponentRange> {
         if nanosecond <= 999_999_999 {

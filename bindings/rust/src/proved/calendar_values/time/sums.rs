@@ -28,7 +28,7 @@ impl Time {
     /// ensures in_range { IsClock result.1 }
     /// ```
     ///
-    /// [docs/STATEMENT.md](crate::proved#contracts) explains the words.
+    /// [docs/proofs/STATEMENT.md](crate::proved#contracts) explains the words.
     #[inline]
     pub const fn adjusting_add(self, duration: SignedDuration) -> (DateAdjustment, Time) {
         self.moved_by(subday_nanoseconds(duration))
@@ -57,7 +57,7 @@ impl Time {
     /// ensures in_range { IsClock result.1 }
     /// ```
     ///
-    /// [docs/STATEMENT.md](crate::proved#contracts) explains the words.
+    /// [docs/proofs/STATEMENT.md](crate::proved#contracts) explains the words.
     #[inline]
     pub const fn adjusting_sub(self, duration: SignedDuration) -> (DateAdjustment, Time) {
         self.moved_by(-subday_nanoseconds(duration))
@@ -85,7 +85,7 @@ impl Time {
     /// ensures in_range { IsClock result.1 }
     /// ```
     ///
-    /// [docs/STATEMENT.md](crate::proved#contracts) explains the words.
+    /// [docs/proofs/STATEMENT.md](crate::proved#contracts) explains the words.
     #[inline]
     pub const fn adjusting_add_std(self, duration: Duration) -> (bool, Time) {
         let (adjustment, time) = self.moved_by(subday_nanoseconds_std(duration));
@@ -114,7 +114,7 @@ impl Time {
     /// ensures in_range { IsClock result.1 }
     /// ```
     ///
-    /// [docs/STATEMENT.md](crate::proved#contracts) explains the words.
+    /// [docs/proofs/STATEMENT.md](crate::proved#contracts) explains the words.
     #[inline]
     pub const fn adjusting_sub_std(self, duration: Duration) -> (bool, Time) {
         let (adjustment, time) = self.moved_by(-subday_nanoseconds_std(duration));
@@ -129,7 +129,7 @@ impl Time {
     /// ensures { result ≡ nanoseconds }
     /// ```
     ///
-    /// [docs/STATEMENT.md](crate::proved#contracts) explains the words.
+    /// [docs/proofs/STATEMENT.md](crate::proved#contracts) explains the words.
     #[inline]
     const fn from_nanosecond_of_day(nanoseconds: u64) -> Time {
         Time::at_second_of_day(
@@ -149,7 +149,7 @@ impl Time {
     /// ensures self_in_range { IsClock self }
     /// ```
     ///
-    /// [docs/STATEMENT.md](crate::proved#contracts) explains the words.
+    /// [docs/proofs/STATEMENT.md](crate::proved#contracts) explains the words.
     #[inline]
     const fn moved_by(self, nanoseconds: i64) -> (DateAdjustment, Time) {
         let (adjustment, nanosecond) = within_day(self.nanosecond_of_day() as i64 + nanoseconds);
@@ -167,7 +167,7 @@ impl Time {
 /// ensures in_range { IsClock result.1 }
 /// ```
 ///
-/// [docs/STATEMENT.md](crate::proved#contracts) explains the words.
+/// [docs/proofs/STATEMENT.md](crate::proved#contracts) explains the words.
 #[inline(always)]
 const fn within_day(nanoseconds: i64) -> (DateAdjustment, u64) {
     let from_previous = (nanoseconds + NANOS_PER_DAY) as u64;
@@ -188,7 +188,7 @@ const fn within_day(nanoseconds: i64) -> (DateAdjustment, u64) {
 /// ensures high { result <ℤ pos nanos_per_day }
 /// ```
 ///
-/// [docs/STATEMENT.md](crate::proved#contracts) explains the words.
+/// [docs/proofs/STATEMENT.md](crate::proved#contracts) explains the words.
 #[inline]
 const fn subday_nanoseconds(duration: SignedDuration) -> i64 {
     nanoseconds_of(
@@ -206,7 +206,7 @@ const fn subday_nanoseconds(duration: SignedDuration) -> i64 {
 /// ensures { result ≡ duration_of_parts seconds nanoseconds }
 /// ```
 ///
-/// [docs/STATEMENT.md](crate::proved#contracts) explains the words.
+/// [docs/proofs/STATEMENT.md](crate::proved#contracts) explains the words.
 #[inline]
 const fn nanoseconds_of(seconds: i64, nanoseconds: i32) -> i64 {
     seconds * NANOS_PER_SECOND as i64 + nanoseconds as i64
@@ -220,7 +220,7 @@ const fn nanoseconds_of(seconds: i64, nanoseconds: i32) -> i64 {
 /// ensures high { result <ℤ pos nanos_per_day }
 /// ```
 ///
-/// [docs/STATEMENT.md](crate::proved#contracts) explains the words.
+/// [docs/proofs/STATEMENT.md](crate::proved#contracts) explains the words.
 #[inline]
 const fn subday_nanoseconds_std(duration: Duration) -> i64 {
     let seconds = duration.as_secs() % SECONDS_PER_DAY as u64;

@@ -24,7 +24,7 @@ impl Time {
     /// ensures length { length result ≤ 18 }
     /// ```
     ///
-    /// [docs/STATEMENT.md](crate::proved#contracts) explains the words.
+    /// [docs/proofs/STATEMENT.md](crate::proved#contracts) explains the words.
     #[inline]
     pub fn text(self) -> Text {
         let mut text = Text::new();
@@ -42,7 +42,7 @@ impl Time {
     /// ensures length { length text.new ≤ length text.old + 18 }
     /// ```
     ///
-    /// [docs/STATEMENT.md](crate::proved#contracts) explains the words.
+    /// [docs/proofs/STATEMENT.md](crate::proved#contracts) explains the words.
     #[inline(always)]
     pub(in crate::proved) fn append_to(self, text: &mut Text) {
         text.push_short_decimal(self.hour);
@@ -61,7 +61,7 @@ impl Time {
 /// ensures length { length text.new ≤ length text.old + 10 }
 /// ```
 ///
-/// [docs/STATEMENT.md](crate::proved#contracts) explains the words.
+/// [docs/proofs/STATEMENT.md](crate::proved#contracts) explains the words.
 #[inline(always)]
 fn push_fraction(text: &mut Text, nanosecond: u32) {
     if nanosecond == 0 {
@@ -79,7 +79,7 @@ fn push_fraction(text: &mut Text, nanosecond: u32) {
 /// ghost styled_output = { λ c spec. Some (padded spec (time_text c)) };
 /// ```
 ///
-/// [docs/STATEMENT.md](crate::proved#contracts) explains the words.
+/// [docs/proofs/STATEMENT.md](crate::proved#contracts) explains the words.
 impl fmt::Display for Time {
     #[inline]
     fn fmt(&self, f: &mut fmt::Formatter) -> fmt::Result {
@@ -93,7 +93,7 @@ impl fmt::Display for Time {
 /// ghost debug_output = { λ c. Some (time_text c) };
 /// ```
 ///
-/// [docs/STATEMENT.md](crate::proved#contracts) explains the words.
+/// [docs/proofs/STATEMENT.md](crate::proved#contracts) explains the words.
 impl fmt::Debug for Time {
     #[inline]
     fn fmt(&self, f: &mut fmt::Formatter) -> fmt::Result {

@@ -8,7 +8,7 @@ use crate::proved::calendar_values::UtcOffset;
 /// ghost eq = { int_eq };
 /// ```
 ///
-/// [docs/STATEMENT.md](crate::proved#contracts) explains the words.
+/// [docs/proofs/STATEMENT.md](crate::proved#contracts) explains the words.
 impl PartialEq for UtcOffset {
     #[inline]
     fn eq(&self, other: &UtcOffset) -> bool {

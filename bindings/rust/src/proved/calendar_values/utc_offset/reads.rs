@@ -24,7 +24,7 @@ impl UtcOffset {
     /// ensures parts { seconds_of_parts result.0 result.1 result.2 ≡ self }
     /// ```
     ///
-    /// [docs/STATEMENT.md](crate::proved#contracts) explains the words.
+    /// [docs/proofs/STATEMENT.md](crate::proved#contracts) explains the words.
     #[inline]
     pub const fn as_hms(self) -> (i8, i8, i8) {
         (self.hours, self.minutes, self.seconds)
@@ -48,7 +48,7 @@ impl UtcOffset {
     /// ensures in_range { unsigned_abs result ≤ 25 }
     /// ```
     ///
-    /// [docs/STATEMENT.md](crate::proved#contracts) explains the words.
+    /// [docs/proofs/STATEMENT.md](crate::proved#contracts) explains the words.
     #[inline]
     pub const fn whole_hours(self) -> i8 {
         self.hours
@@ -72,7 +72,7 @@ impl UtcOffset {
     /// ensures in_range { unsigned_abs result ≤ 59 }
     /// ```
     ///
-    /// [docs/STATEMENT.md](crate::proved#contracts) explains the words.
+    /// [docs/proofs/STATEMENT.md](crate::proved#contracts) explains the words.
     #[inline]
     pub const fn minutes_past_hour(self) -> i8 {
         self.minutes
@@ -96,7 +96,7 @@ impl UtcOffset {
     /// ensures in_range { unsigned_abs result ≤ 59 }
     /// ```
     ///
-    /// [docs/STATEMENT.md](crate::proved#contracts) explains the words.
+    /// [docs/proofs/STATEMENT.md](crate::proved#contracts) explains the words.
     #[inline]
     pub const fn seconds_past_minute(self) -> i8 {
         self.seconds
@@ -121,7 +121,7 @@ impl UtcOffset {
     /// ensures self_in_range { IsOffset self }
     /// ```
     ///
-    /// [docs/STATEMENT.md](crate::proved#contracts) explains the words.
+    /// [docs/proofs/STATEMENT.md](crate::proved#contracts) explains the words.
     #[inline]
     pub const fn whole_seconds(self) -> i32 {
         let minutes = in_sixtieths(self.hours as i32, self.minutes as i32);
@@ -145,7 +145,7 @@ impl UtcOffset {
     /// ensures { IsTrue result ↔ (self ≡ pos 0) }
     /// ```
     ///
-    /// [docs/STATEMENT.md](crate::proved#contracts) explains the words.
+    /// [docs/proofs/STATEMENT.md](crate::proved#contracts) explains the words.
     #[inline]
     pub const fn is_utc(self) -> bool {
         self.whole_seconds() == 0
@@ -168,7 +168,7 @@ impl UtcOffset {
     /// ensures { IsTrue result ↔ (self <ℤ pos 0) }
     /// ```
     ///
-    /// [docs/STATEMENT.md](crate::proved#contracts) explains the words.
+    /// [docs/proofs/STATEMENT.md](crate::proved#contracts) explains the words.
     #[inline]
     pub const fn is_negative(self) -> bool {
         self.whole_seconds() < 0
@@ -184,7 +184,7 @@ impl UtcOffset {
 /// ensures { result ≡ units *ℤ pos 60 +ℤ sixtieths }
 /// ```
 ///
-/// [docs/STATEMENT.md](crate::proved#contracts) explains the words.
+/// [docs/proofs/STATEMENT.md](crate::proved#contracts) explains the words.
 #[inline(always)]
 const fn in_sixtieths(units: i32, sixtieths: i32) -> i32 {
     units * 60 + sixtieths

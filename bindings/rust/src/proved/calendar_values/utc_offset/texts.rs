@@ -22,7 +22,7 @@ impl UtcOffset {
     /// ensures length { length result ≡ 9 }
     /// ```
     ///
-    /// [docs/STATEMENT.md](crate::proved#contracts) explains the words.
+    /// [docs/proofs/STATEMENT.md](crate::proved#contracts) explains the words.
     #[inline]
     pub fn text(self) -> Text {
         let mut text = Text::new();
@@ -40,7 +40,7 @@ impl UtcOffset {
     /// ensures length { length text.new ≡ length text.old + 9 }
     /// ```
     ///
-    /// [docs/STATEMENT.md](crate::proved#contracts) explains the words.
+    /// [docs/proofs/STATEMENT.md](crate::proved#contracts) explains the words.
     #[inline]
     pub(in crate::proved) fn append_to(self, text: &mut Text) {
         let sign = if self.is_negative() { b'-' } else { b'+' };
@@ -57,7 +57,7 @@ impl UtcOffset {
 /// ghost styled_output = { λ o spec. Some (padded spec (offset_text o)) };
 /// ```
 ///
-/// [docs/STATEMENT.md](crate::proved#contracts) explains the words.
+/// [docs/proofs/STATEMENT.md](crate::proved#contracts) explains the words.
 impl fmt::Display for UtcOffset {
     #[inline]
     fn fmt(&self, f: &mut fmt::Formatter) -> fmt::Result {
@@ -71,7 +71,7 @@ impl fmt::Display for UtcOffset {
 /// ghost debug_output = { λ o. Some (offset_text o) };
 /// ```
 ///
-/// [docs/STATEMENT.md](crate::proved#contracts) explains the words.
+/// [docs/proofs/STATEMENT.md](crate::proved#contracts) explains the words.
 impl fmt::Debug for UtcOffset {
     #[inline]
     fn fmt(&self, f: &mut fmt::Formatter) -> fmt::Result {

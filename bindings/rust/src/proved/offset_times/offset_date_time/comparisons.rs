@@ -15,7 +15,7 @@ impl OffsetDateTime {
     /// ensures { result ≡ int_cmp (instant_of self.now) (instant_of other.now) }
     /// ```
     ///
-    /// [docs/STATEMENT.md](crate::proved#contracts) explains the words.
+    /// [docs/proofs/STATEMENT.md](crate::proved#contracts) explains the words.
     #[inline(always)]
     fn by_instant(&self, other: &OffsetDateTime) -> Ordering {
         self.sign_after(other).cmp(&0)
@@ -30,7 +30,7 @@ impl OffsetDateTime {
     ///     (instant_of other.now) }
     /// ```
     ///
-    /// [docs/STATEMENT.md](crate::proved#contracts) explains the words.
+    /// [docs/proofs/STATEMENT.md](crate::proved#contracts) explains the words.
     #[inline(always)]
     const fn sign_after(&self, other: &OffsetDateTime) -> i64 {
         let days = self.rough_days_from(*other);
@@ -53,7 +53,7 @@ impl OffsetDateTime {
     /// ensures sign { int_cmp result (pos 0) ≡ int_cmp (instant_of self) (instant_of other) }
     /// ```
     ///
-    /// [docs/STATEMENT.md](crate::proved#contracts) explains the words.
+    /// [docs/proofs/STATEMENT.md](crate::proved#contracts) explains the words.
     #[inline(always)]
     const fn nanoseconds_within_year(self, other: OffsetDateTime) -> i64 {
         let (at, other_at) = (self.time(), other.time());
@@ -89,7 +89,7 @@ impl OffsetDateTime {
     /// ensures { int_cmp result (pos 0) ≡ int_cmp (instant_of self) (instant_of other) }
     /// ```
     ///
-    /// [docs/STATEMENT.md](crate::proved#contracts) explains the words.
+    /// [docs/proofs/STATEMENT.md](crate::proved#contracts) explains the words.
     #[inline(never)]
     const fn sign_converted_after(self, other: OffsetDateTime) -> i64 {
         sign_of_parts_after(self.raw(), other.shown_raw(self.offset()))
@@ -105,7 +105,7 @@ impl OffsetDateTime {
     ///     shown_at (instant_of self) offset }
     /// ```
     ///
-    /// [docs/STATEMENT.md](crate::proved#contracts) explains the words.
+    /// [docs/proofs/STATEMENT.md](crate::proved#contracts) explains the words.
     #[inline(always)]
     const fn shown_raw(self, offset: UtcOffset) -> (i32, u16, u64) {
         let (year, ordinal, time) = to_offset_raw(self, offset);
@@ -120,7 +120,7 @@ impl OffsetDateTime {
     /// ensures shown { wall_clock_of_parts result.0 result.1 result.2 ≡ self.wall }
     /// ```
     ///
-    /// [docs/STATEMENT.md](crate::proved#contracts) explains the words.
+    /// [docs/proofs/STATEMENT.md](crate::proved#contracts) explains the words.
     #[inline(always)]
     const fn raw(self) -> (i32, u16, u64) {
         let (year, ordinal) = self.to_ordinal_date();
@@ -134,7 +134,7 @@ impl OffsetDateTime {
     /// ensures { result ≡ packed_wall_clock (instant_of self) }
     /// ```
     ///
-    /// [docs/STATEMENT.md](crate::proved#contracts) explains the words.
+    /// [docs/proofs/STATEMENT.md](crate::proved#contracts) explains the words.
     #[inline]
     const fn packed_instant(self) -> i128 {
         let (year, ordinal, time) = to_utc_raw(self);
@@ -149,7 +149,7 @@ impl OffsetDateTime {
     /// ensures earlier { result <ℤ neg_ℤ (pos 4) → instant_of self <ℤ instant_of other }
     /// ```
     ///
-    /// [docs/STATEMENT.md](crate::proved#contracts) explains the words.
+    /// [docs/proofs/STATEMENT.md](crate::proved#contracts) explains the words.
     #[inline(always)]
     const fn rough_days_from(self, other: OffsetDateTime) -> i64 {
         let day = self.date_time().to_ordinal_date();
@@ -167,7 +167,7 @@ impl OffsetDateTime {
 /// ensures few { IsWithin 366 result }
 /// ```
 ///
-/// [docs/STATEMENT.md](crate::proved#contracts) explains the words.
+/// [docs/proofs/STATEMENT.md](crate::proved#contracts) explains the words.
 #[inline(always)]
 const fn days_between(ordinal: u16, other: u16) -> i64 {
     ordinal as i64 - other as i64
@@ -183,7 +183,7 @@ const fn days_between(ordinal: u16, other: u16) -> i64 {
 /// ensures few { IsWithin 1_000_000_000 result }
 /// ```
 ///
-/// [docs/STATEMENT.md](crate::proved#contracts) explains the words.
+/// [docs/proofs/STATEMENT.md](crate::proved#contracts) explains the words.
 #[inline(always)]
 const fn fractions_between(nanosecond: u32, other: u32) -> i64 {
     nanosecond as i64 - other as i64
@@ -201,7 +201,7 @@ const fn fractions_between(nanosecond: u32, other: u32) -> i64 {
 /// ensures few { IsWithin 240 result }
 /// ```
 ///
-/// [docs/STATEMENT.md](crate::proved#contracts) explains the words.
+/// [docs/proofs/STATEMENT.md](crate::proved#contracts) explains the words.
 #[inline(always)]
 const fn part_between(part: u8, offset: i8, other: u8, other_offset: i8) -> i64 {
     less_offset(part, offset) - less_offset(other, other_offset)
@@ -217,7 +217,7 @@ const fn part_between(part: u8, offset: i8, other: u8, other_offset: i8) -> i64 
 /// ensures few { IsWithin 120 result }
 /// ```
 ///
-/// [docs/STATEMENT.md](crate::proved#contracts) explains the words.
+/// [docs/proofs/STATEMENT.md](crate::proved#contracts) explains the words.
 #[inline(always)]
 const fn less_offset(part: u8, offset: i8) -> i64 {
     part as i64 - offset as i64
@@ -236,7 +236,7 @@ const fn less_offset(part: u8, offset: i8) -> i64 {
 /// ensures few { IsWithin 100_000_000 result }
 /// ```
 ///
-/// [docs/STATEMENT.md](crate::proved#contracts) explains the words.
+/// [docs/proofs/STATEMENT.md](crate::proved#contracts) explains the words.
 #[inline(always)]
 const fn in_seconds(days: i64, hours: i64, minutes: i64, seconds: i64) -> i64 {
     in_sixtieths(in_sixtieths(in_hours(days, hours), minutes), seconds)
@@ -252,7 +252,7 @@ const fn in_seconds(days: i64, hours: i64, minutes: i64, seconds: i64) -> i64 {
 /// ensures few { IsWithin 10_000 result }
 /// ```
 ///
-/// [docs/STATEMENT.md](crate::proved#contracts) explains the words.
+/// [docs/proofs/STATEMENT.md](crate::proved#contracts) explains the words.
 #[inline(always)]
 const fn in_hours(days: i64, hours: i64) -> i64 {
     days * 24 + hours
@@ -267,7 +267,7 @@ const fn in_hours(days: i64, hours: i64) -> i64 {
 /// ensures { result ≡ units *ℤ pos 60 +ℤ sixtieths }
 /// ```
 ///
-/// [docs/STATEMENT.md](crate::proved#contracts) explains the words.
+/// [docs/proofs/STATEMENT.md](crate::proved#contracts) explains the words.
 #[inline(always)]
 const fn in_sixtieths(units: i64, sixtieths: i64) -> i64 {
     units * 60 + sixtieths
@@ -282,7 +282,7 @@ const fn in_sixtieths(units: i64, sixtieths: i64) -> i64 {
 /// ensures { result ≡ seconds *ℤ pos nanos_per_second +ℤ nanoseconds }
 /// ```
 ///
-/// [docs/STATEMENT.md](crate::proved#contracts) explains the words.
+/// [docs/proofs/STATEMENT.md](crate::proved#contracts) explains the words.
 #[inline(always)]
 const fn in_nanoseconds(seconds: i64, nanoseconds: i64) -> i64 {
     seconds * NANOS_PER_SECOND as i64 + nanoseconds
@@ -298,7 +298,7 @@ const fn in_nanoseconds(seconds: i64, nanoseconds: i64) -> i64 {
 ///     (wall_clock_of_parts other.0 other.1 other.2) }
 /// ```
 ///
-/// [docs/STATEMENT.md](crate::proved#contracts) explains the words.
+/// [docs/proofs/STATEMENT.md](crate::proved#contracts) explains the words.
 #[inline(always)]
 const fn sign_of_parts_after(at: (i32, u16, u64), other: (i32, u16, u64)) -> i64 {
     let (year, ordinal, nanosecond) = at;
@@ -316,7 +316,7 @@ const fn sign_of_parts_after(at: (i32, u16, u64), other: (i32, u16, u64)) -> i64
 /// ensures { result ≡ (day.0 -ℤ other.0) *ℤ pos 366 +ℤ pos day.1 -ℤ pos other.1 }
 /// ```
 ///
-/// [docs/STATEMENT.md](crate::proved#contracts) explains the words.
+/// [docs/proofs/STATEMENT.md](crate::proved#contracts) explains the words.
 #[inline(always)]
 const fn rough_days(day: (i32, u16), other: (i32, u16)) -> i64 {
     let (year, ordinal) = day;
@@ -330,7 +330,7 @@ const fn rough_days(day: (i32, u16), other: (i32, u16)) -> i64 {
 /// ghost eq = { on instant_of int_eq };
 /// ```
 ///
-/// [docs/STATEMENT.md](crate::proved#contracts) explains the words.
+/// [docs/proofs/STATEMENT.md](crate::proved#contracts) explains the words.
 impl PartialEq for OffsetDateTime {
     #[inline]
     fn eq(&self, other: &OffsetDateTime) -> bool {
@@ -346,7 +346,7 @@ impl Eq for OffsetDateTime {}
 /// ghost cmp = { on instant_of int_cmp };
 /// ```
 ///
-/// [docs/STATEMENT.md](crate::proved#contracts) explains the words.
+/// [docs/proofs/STATEMENT.md](crate::proved#contracts) explains the words.
 impl Ord for OffsetDateTime {
     #[inline]
     fn cmp(&self, other: &OffsetDateTime) -> Ordering {
@@ -360,7 +360,7 @@ impl Ord for OffsetDateTime {
 /// ghost partial_cmp = { as_partial_cmp (on instant_of int_cmp) };
 /// ```
 ///
-/// [docs/STATEMENT.md](crate::proved#contracts) explains the words.
+/// [docs/proofs/STATEMENT.md](crate::proved#contracts) explains the words.
 impl PartialOrd for OffsetDateTime {
     #[inline]
     fn partial_cmp(&self, other: &OffsetDateTime) -> Option<Ordering> {
@@ -375,7 +375,7 @@ impl PartialOrd for OffsetDateTime {
 /// ghost hash_input = { λ at. fed.i128 (packed_wall_clock (instant_of at)) };
 /// ```
 ///
-/// [docs/STATEMENT.md](crate::proved#contracts) explains the words.
+/// [docs/proofs/STATEMENT.md](crate::proved#contracts) explains the words.
 impl Hash for OffsetDateTime {
     #[inline]
     fn hash<H: Hasher>(&self, state: &mut H) {

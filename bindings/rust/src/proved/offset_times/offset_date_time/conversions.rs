@@ -29,7 +29,7 @@ impl OffsetDateTime {
     /// ensures instant { instant_of result ≡ instant_of self }
     /// ```
     ///
-    /// [docs/STATEMENT.md](crate::proved#contracts) explains the words.
+    /// [docs/proofs/STATEMENT.md](crate::proved#contracts) explains the words.
     #[inline]
     #[track_caller]
     pub const fn to_offset(self, offset: UtcOffset) -> OffsetDateTime {
@@ -59,7 +59,7 @@ impl OffsetDateTime {
     /// ensures instant { IfSome result (λ at. instant_of at ≡ instant_of self) }
     /// ```
     ///
-    /// [docs/STATEMENT.md](crate::proved#contracts) explains the words.
+    /// [docs/proofs/STATEMENT.md](crate::proved#contracts) explains the words.
     #[inline]
     pub const fn checked_to_offset(self, offset: UtcOffset) -> Option<OffsetDateTime> {
         let (from, to) = (self.offset().whole_seconds(), offset.whole_seconds());
@@ -93,7 +93,7 @@ impl OffsetDateTime {
     /// ensures { result ≡ instant_of self }
     /// ```
     ///
-    /// [docs/STATEMENT.md](crate::proved#contracts) explains the words.
+    /// [docs/proofs/STATEMENT.md](crate::proved#contracts) explains the words.
     #[inline]
     #[track_caller]
     pub const fn to_utc(self) -> UtcDateTime {
@@ -119,7 +119,7 @@ impl OffsetDateTime {
     /// ensures { SomeInRange result (instant_of self) }
     /// ```
     ///
-    /// [docs/STATEMENT.md](crate::proved#contracts) explains the words.
+    /// [docs/proofs/STATEMENT.md](crate::proved#contracts) explains the words.
     #[inline]
     pub const fn checked_to_utc(self) -> Option<UtcDateTime> {
         if self.offset().is_utc() {
@@ -142,7 +142,7 @@ impl OffsetDateTime {
 /// ensures { SomeInRange result (wall_clock (day_of_ordinal_date year ordinal) time) }
 /// ```
 ///
-/// [docs/STATEMENT.md](crate::proved#contracts) explains the words.
+/// [docs/proofs/STATEMENT.md](crate::proved#contracts) explains the words.
 #[inline]
 pub(crate) const fn date_time_if_any(year: i32, ordinal: u16, time: Time) -> Option<PlainDateTime> {
     match Date::from_ordinal_date(year, ordinal) {

@@ -12,7 +12,7 @@ use std::time::Duration;
 /// ghost add_gives = { λ at duration sum. IsLater at duration sum };
 /// ```
 ///
-/// [docs/STATEMENT.md](crate::proved#contracts) explains the words.
+/// [docs/proofs/STATEMENT.md](crate::proved#contracts) explains the words.
 impl Add<SignedDuration> for OffsetDateTime {
     type Output = OffsetDateTime;
 
@@ -30,7 +30,7 @@ impl Add<SignedDuration> for OffsetDateTime {
 /// ghost add_assign_gives = { λ at duration sum. IsLater at duration sum };
 /// ```
 ///
-/// [docs/STATEMENT.md](crate::proved#contracts) explains the words.
+/// [docs/proofs/STATEMENT.md](crate::proved#contracts) explains the words.
 impl AddAssign<SignedDuration> for OffsetDateTime {
     #[inline]
     #[track_caller]
@@ -46,7 +46,7 @@ impl AddAssign<SignedDuration> for OffsetDateTime {
 /// ghost add_gives = { λ at duration sum. IsLater at (pos (as_nanos duration)) sum };
 /// ```
 ///
-/// [docs/STATEMENT.md](crate::proved#contracts) explains the words.
+/// [docs/proofs/STATEMENT.md](crate::proved#contracts) explains the words.
 impl Add<Duration> for OffsetDateTime {
     type Output = OffsetDateTime;
 
@@ -64,7 +64,7 @@ impl Add<Duration> for OffsetDateTime {
 /// ghost add_assign_gives = { λ at duration sum. IsLater at (pos (as_nanos duration)) sum };
 /// ```
 ///
-/// [docs/STATEMENT.md](crate::proved#contracts) explains the words.
+/// [docs/proofs/STATEMENT.md](crate::proved#contracts) explains the words.
 impl AddAssign<Duration> for OffsetDateTime {
     #[inline]
     #[track_caller]
@@ -80,7 +80,7 @@ impl AddAssign<Duration> for OffsetDateTime {
 /// ghost sub_gives = { λ at duration difference. IsEarlier at duration difference };
 /// ```
 ///
-/// [docs/STATEMENT.md](crate::proved#contracts) explains the words.
+/// [docs/proofs/STATEMENT.md](crate::proved#contracts) explains the words.
 impl Sub<SignedDuration> for OffsetDateTime {
     type Output = OffsetDateTime;
 
@@ -98,7 +98,7 @@ impl Sub<SignedDuration> for OffsetDateTime {
 /// ghost sub_assign_gives = { λ at duration difference. IsEarlier at duration difference };
 /// ```
 ///
-/// [docs/STATEMENT.md](crate::proved#contracts) explains the words.
+/// [docs/proofs/STATEMENT.md](crate::proved#contracts) explains the words.
 impl SubAssign<SignedDuration> for OffsetDateTime {
     #[inline]
     #[track_caller]
@@ -115,7 +115,7 @@ impl SubAssign<SignedDuration> for OffsetDateTime {
 ///     IsEarlier at (pos (as_nanos duration)) difference };
 /// ```
 ///
-/// [docs/STATEMENT.md](crate::proved#contracts) explains the words.
+/// [docs/proofs/STATEMENT.md](crate::proved#contracts) explains the words.
 impl Sub<Duration> for OffsetDateTime {
     type Output = OffsetDateTime;
 
@@ -134,7 +134,7 @@ impl Sub<Duration> for OffsetDateTime {
 ///     IsEarlier at (pos (as_nanos duration)) difference };
 /// ```
 ///
-/// [docs/STATEMENT.md](crate::proved#contracts) explains the words.
+/// [docs/proofs/STATEMENT.md](crate::proved#contracts) explains the words.
 impl SubAssign<Duration> for OffsetDateTime {
     #[inline]
     #[track_caller]
@@ -149,7 +149,7 @@ impl SubAssign<Duration> for OffsetDateTime {
 /// ghost sub_gives = { λ at other difference. difference ≡ instant_of at -ℤ instant_of other };
 /// ```
 ///
-/// [docs/STATEMENT.md](crate::proved#contracts) explains the words.
+/// [docs/proofs/STATEMENT.md](crate::proved#contracts) explains the words.
 impl Sub for OffsetDateTime {
     type Output = SignedDuration;
 
@@ -167,7 +167,7 @@ impl Sub for OffsetDateTime {
 /// ensures { result ≡ offset_nanos (to -ℤ from) }
 /// ```
 ///
-/// [docs/STATEMENT.md](crate::proved#contracts) explains the words.
+/// [docs/proofs/STATEMENT.md](crate::proved#contracts) explains the words.
 #[inline]
 const fn between_offsets(from: UtcOffset, to: UtcOffset) -> SignedDuration {
     SignedDuration::seconds((to.whole_seconds() - from.whole_seconds()) as i64)

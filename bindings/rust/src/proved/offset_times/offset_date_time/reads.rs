@@ -25,7 +25,7 @@ impl OffsetDateTime {
     /// ensures self_in_range { IsLocal self }
     /// ```
     ///
-    /// [docs/STATEMENT.md](crate::proved#contracts) explains the words.
+    /// [docs/proofs/STATEMENT.md](crate::proved#contracts) explains the words.
     #[inline]
     pub const fn date(self) -> Date {
         self.date_time().date()
@@ -51,7 +51,7 @@ impl OffsetDateTime {
     /// ensures self_in_range { IsLocal self }
     /// ```
     ///
-    /// [docs/STATEMENT.md](crate::proved#contracts) explains the words.
+    /// [docs/proofs/STATEMENT.md](crate::proved#contracts) explains the words.
     #[inline]
     pub const fn time(self) -> Time {
         self.date_time().time()
@@ -77,7 +77,7 @@ impl OffsetDateTime {
     /// ensures in_range { IsYear result }
     /// ```
     ///
-    /// [docs/STATEMENT.md](crate::proved#contracts) explains the words.
+    /// [docs/proofs/STATEMENT.md](crate::proved#contracts) explains the words.
     #[inline]
     pub const fn year(self) -> i32 {
         self.date_time().year()
@@ -102,7 +102,7 @@ impl OffsetDateTime {
     /// ensures { month_number result ≡ month_of (wall_day self.wall) }
     /// ```
     ///
-    /// [docs/STATEMENT.md](crate::proved#contracts) explains the words.
+    /// [docs/proofs/STATEMENT.md](crate::proved#contracts) explains the words.
     #[inline]
     pub const fn month(self) -> Month {
         self.date_time().month()
@@ -128,7 +128,7 @@ impl OffsetDateTime {
     /// ensures in_range { IsInRange 1 31 result }
     /// ```
     ///
-    /// [docs/STATEMENT.md](crate::proved#contracts) explains the words.
+    /// [docs/proofs/STATEMENT.md](crate::proved#contracts) explains the words.
     #[inline]
     pub const fn day(self) -> u8 {
         self.date_time().day()
@@ -154,7 +154,7 @@ impl OffsetDateTime {
     /// ensures in_range { IsInRange 1 366 result }
     /// ```
     ///
-    /// [docs/STATEMENT.md](crate::proved#contracts) explains the words.
+    /// [docs/proofs/STATEMENT.md](crate::proved#contracts) explains the words.
     #[inline]
     pub const fn ordinal(self) -> u16 {
         self.date_time().ordinal()
@@ -180,7 +180,7 @@ impl OffsetDateTime {
     /// ensures in_range { IsInRange 1 53 result }
     /// ```
     ///
-    /// [docs/STATEMENT.md](crate::proved#contracts) explains the words.
+    /// [docs/proofs/STATEMENT.md](crate::proved#contracts) explains the words.
     #[inline]
     pub const fn iso_week(self) -> u8 {
         self.date_time().iso_week()
@@ -206,7 +206,7 @@ impl OffsetDateTime {
     /// ensures in_range { result ≤ 53 }
     /// ```
     ///
-    /// [docs/STATEMENT.md](crate::proved#contracts) explains the words.
+    /// [docs/proofs/STATEMENT.md](crate::proved#contracts) explains the words.
     #[inline]
     pub const fn sunday_based_week(self) -> u8 {
         self.date_time().sunday_based_week()
@@ -232,7 +232,7 @@ impl OffsetDateTime {
     /// ensures in_range { result ≤ 53 }
     /// ```
     ///
-    /// [docs/STATEMENT.md](crate::proved#contracts) explains the words.
+    /// [docs/proofs/STATEMENT.md](crate::proved#contracts) explains the words.
     #[inline]
     pub const fn monday_based_week(self) -> u8 {
         self.date_time().monday_based_week()
@@ -257,7 +257,7 @@ impl OffsetDateTime {
     /// ensures { IsCalendarDateOf (wall_day self.wall) result }
     /// ```
     ///
-    /// [docs/STATEMENT.md](crate::proved#contracts) explains the words.
+    /// [docs/proofs/STATEMENT.md](crate::proved#contracts) explains the words.
     #[inline]
     pub const fn to_calendar_date(self) -> (i32, Month, u8) {
         self.date_time().to_calendar_date()
@@ -282,7 +282,7 @@ impl OffsetDateTime {
     /// ensures { IsOrdinalDateOf (wall_day self.wall) result }
     /// ```
     ///
-    /// [docs/STATEMENT.md](crate::proved#contracts) explains the words.
+    /// [docs/proofs/STATEMENT.md](crate::proved#contracts) explains the words.
     #[inline]
     pub const fn to_ordinal_date(self) -> (i32, u16) {
         self.date_time().to_ordinal_date()
@@ -307,7 +307,7 @@ impl OffsetDateTime {
     /// ensures { IsIsoWeekDateOf (wall_day self.wall) result }
     /// ```
     ///
-    /// [docs/STATEMENT.md](crate::proved#contracts) explains the words.
+    /// [docs/proofs/STATEMENT.md](crate::proved#contracts) explains the words.
     #[inline]
     pub const fn to_iso_week_date(self) -> (i32, u8, Weekday) {
         self.date_time().to_iso_week_date()
@@ -332,7 +332,7 @@ impl OffsetDateTime {
     /// ensures { weekday_number result ≡ weekday_of (wall_day self.wall) }
     /// ```
     ///
-    /// [docs/STATEMENT.md](crate::proved#contracts) explains the words.
+    /// [docs/proofs/STATEMENT.md](crate::proved#contracts) explains the words.
     #[inline]
     pub const fn weekday(self) -> Weekday {
         self.date_time().weekday()
@@ -358,7 +358,7 @@ impl OffsetDateTime {
     /// ensures self_in_range { IsLocal self }
     /// ```
     ///
-    /// [docs/STATEMENT.md](crate::proved#contracts) explains the words.
+    /// [docs/proofs/STATEMENT.md](crate::proved#contracts) explains the words.
     #[inline]
     pub const fn to_julian_day(self) -> i32 {
         self.date_time().to_julian_day()
@@ -385,7 +385,7 @@ impl OffsetDateTime {
     /// ensures in_range { AreTimeParts result.0 result.1 result.2 0 }
     /// ```
     ///
-    /// [docs/STATEMENT.md](crate::proved#contracts) explains the words.
+    /// [docs/proofs/STATEMENT.md](crate::proved#contracts) explains the words.
     #[inline]
     pub const fn to_hms(self) -> (u8, u8, u8) {
         self.date_time().as_hms()
@@ -413,7 +413,7 @@ impl OffsetDateTime {
     ///     (result.3 * nanos_per_millisecond) }
     /// ```
     ///
-    /// [docs/STATEMENT.md](crate::proved#contracts) explains the words.
+    /// [docs/proofs/STATEMENT.md](crate::proved#contracts) explains the words.
     #[inline]
     pub const fn to_hms_milli(self) -> (u8, u8, u8, u16) {
         self.date_time().as_hms_milli()
@@ -441,7 +441,7 @@ impl OffsetDateTime {
     ///     (result.3 * nanos_per_microsecond) }
     /// ```
     ///
-    /// [docs/STATEMENT.md](crate::proved#contracts) explains the words.
+    /// [docs/proofs/STATEMENT.md](crate::proved#contracts) explains the words.
     #[inline]
     pub const fn to_hms_micro(self) -> (u8, u8, u8, u32) {
         self.date_time().as_hms_micro()
@@ -468,7 +468,7 @@ impl OffsetDateTime {
     /// ensures in_range { AreTimeParts result.0 result.1 result.2 result.3 }
     /// ```
     ///
-    /// [docs/STATEMENT.md](crate::proved#contracts) explains the words.
+    /// [docs/proofs/STATEMENT.md](crate::proved#contracts) explains the words.
     #[inline]
     pub const fn to_hms_nano(self) -> (u8, u8, u8, u32) {
         self.date_time().as_hms_nano()
@@ -494,7 +494,7 @@ impl OffsetDateTime {
     /// ensures in_range { result ≤ 23 }
     /// ```
     ///
-    /// [docs/STATEMENT.md](crate::proved#contracts) explains the words.
+    /// [docs/proofs/STATEMENT.md](crate::proved#contracts) explains the words.
     #[inline]
     pub const fn hour(self) -> u8 {
         self.date_time().hour()
@@ -520,7 +520,7 @@ impl OffsetDateTime {
     /// ensures in_range { result ≤ 59 }
     /// ```
     ///
-    /// [docs/STATEMENT.md](crate::proved#contracts) explains the words.
+    /// [docs/proofs/STATEMENT.md](crate::proved#contracts) explains the words.
     #[inline]
     pub const fn minute(self) -> u8 {
         self.date_time().minute()
@@ -546,7 +546,7 @@ impl OffsetDateTime {
     /// ensures in_range { result ≤ 59 }
     /// ```
     ///
-    /// [docs/STATEMENT.md](crate::proved#contracts) explains the words.
+    /// [docs/proofs/STATEMENT.md](crate::proved#contracts) explains the words.
     #[inline]
     pub const fn second(self) -> u8 {
         self.date_time().second()
@@ -572,7 +572,7 @@ impl OffsetDateTime {
     /// ensures in_range { result ≤ 999 }
     /// ```
     ///
-    /// [docs/STATEMENT.md](crate::proved#contracts) explains the words.
+    /// [docs/proofs/STATEMENT.md](crate::proved#contracts) explains the words.
     #[inline]
     pub const fn millisecond(self) -> u16 {
         self.date_time().millisecond()
@@ -598,7 +598,7 @@ impl OffsetDateTime {
     /// ensures in_range { result ≤ 999_999 }
     /// ```
     ///
-    /// [docs/STATEMENT.md](crate::proved#contracts) explains the words.
+    /// [docs/proofs/STATEMENT.md](crate::proved#contracts) explains the words.
     #[inline]
     pub const fn microsecond(self) -> u32 {
         self.date_time().microsecond()
@@ -624,7 +624,7 @@ impl OffsetDateTime {
     /// ensures in_range { result ≤ 999_999_999 }
     /// ```
     ///
-    /// [docs/STATEMENT.md](crate::proved#contracts) explains the words.
+    /// [docs/proofs/STATEMENT.md](crate::proved#contracts) explains the words.
     #[inline]
     pub const fn nanosecond(self) -> u32 {
         self.date_time().nanosecond()

@@ -25,7 +25,7 @@ impl OffsetDateTime {
     /// ensures instant { SameOffset self result }
     /// ```
     ///
-    /// [docs/STATEMENT.md](crate::proved#contracts) explains the words.
+    /// [docs/proofs/STATEMENT.md](crate::proved#contracts) explains the words.
     #[inline]
     pub const fn replace_date_time(self, date_time: PlainDateTime) -> OffsetDateTime {
         date_time.assume_offset(self.offset())
@@ -51,7 +51,7 @@ impl OffsetDateTime {
     /// ensures instant { instant_of result ≡ self.wall -ℤ offset_nanos offset }
     /// ```
     ///
-    /// [docs/STATEMENT.md](crate::proved#contracts) explains the words.
+    /// [docs/proofs/STATEMENT.md](crate::proved#contracts) explains the words.
     #[inline]
     pub const fn replace_offset(self, offset: UtcOffset) -> OffsetDateTime {
         self.date_time().assume_offset(offset)
@@ -82,7 +82,7 @@ impl OffsetDateTime {
     /// ensures not_a_day_earlier { instant_of self <ℤ (instant_of result +ℤ pos nanos_per_day) }
     /// ```
     ///
-    /// [docs/STATEMENT.md](crate::proved#contracts) explains the words.
+    /// [docs/proofs/STATEMENT.md](crate::proved#contracts) explains the words.
     #[inline]
     pub const fn replace_time(self, time: Time) -> OffsetDateTime {
         self.replace_date_time(self.date_time().replace_time(time))
@@ -112,7 +112,7 @@ impl OffsetDateTime {
     /// ensures instant { SameOffset self result }
     /// ```
     ///
-    /// [docs/STATEMENT.md](crate::proved#contracts) explains the words.
+    /// [docs/proofs/STATEMENT.md](crate::proved#contracts) explains the words.
     #[inline]
     pub const fn replace_date(self, date: Date) -> OffsetDateTime {
         self.replace_date_time(self.date_time().replace_date(date))
@@ -142,7 +142,7 @@ impl OffsetDateTime {
     /// ensures instant { IfOk result (λ at. SameOffset self at) }
     /// ```
     ///
-    /// [docs/STATEMENT.md](crate::proved#contracts) explains the words.
+    /// [docs/proofs/STATEMENT.md](crate::proved#contracts) explains the words.
     #[inline]
     pub const fn replace_year(self, year: i32) -> Result<OffsetDateTime, ComponentRange> {
         match self.date_time().replace_year(year) {
@@ -175,7 +175,7 @@ impl OffsetDateTime {
     /// ensures instant { IfOk result (λ at. SameOffset self at) }
     /// ```
     ///
-    /// [docs/STATEMENT.md](crate::proved#contracts) explains the words.
+    /// [docs/proofs/STATEMENT.md](crate::proved#contracts) explains the words.
     #[inline]
     pub const fn replace_month(self, month: Month) -> Result<OffsetDateTime, ComponentRange> {
         match self.date_time().replace_month(month) {
@@ -208,7 +208,7 @@ impl OffsetDateTime {
     /// ensures instant { IfOk result (λ at. SameOffset self at) }
     /// ```
     ///
-    /// [docs/STATEMENT.md](crate::proved#contracts) explains the words.
+    /// [docs/proofs/STATEMENT.md](crate::proved#contracts) explains the words.
     #[inline]
     pub const fn replace_day(self, day: u8) -> Result<OffsetDateTime, ComponentRange> {
         match self.date_time().replace_day(day) {
@@ -241,7 +241,7 @@ impl OffsetDateTime {
     /// ensures instant { IfOk result (λ at. SameOffset self at) }
     /// ```
     ///
-    /// [docs/STATEMENT.md](crate::proved#contracts) explains the words.
+    /// [docs/proofs/STATEMENT.md](crate::proved#contracts) explains the words.
     #[inline]
     pub const fn replace_ordinal(self, ordinal: u16) -> Result<OffsetDateTime, ComponentRange> {
         match self.date_time().replace_ordinal(ordinal) {
@@ -276,7 +276,7 @@ impl OffsetDateTime {
     /// ensures within { instant_of self <ℤ (instant_of result +ℤ pos nanos_per_day) }
     /// ```
     ///
-    /// [docs/STATEMENT.md](crate::proved#contracts) explains the words.
+    /// [docs/proofs/STATEMENT.md](crate::proved#contracts) explains the words.
     #[inline]
     pub const fn truncate_to_day(self) -> OffsetDateTime {
         self.replace_date_time(self.date_time().truncate_to_day())
@@ -306,7 +306,7 @@ impl OffsetDateTime {
     /// ensures instant { IfOk result (λ at. SameOffset self at) }
     /// ```
     ///
-    /// [docs/STATEMENT.md](crate::proved#contracts) explains the words.
+    /// [docs/proofs/STATEMENT.md](crate::proved#contracts) explains the words.
     #[inline]
     pub const fn replace_hour(self, hour: u8) -> Result<OffsetDateTime, ComponentRange> {
         match self.date_time().replace_hour(hour) {
@@ -338,7 +338,7 @@ impl OffsetDateTime {
     /// ensures within { instant_of self <ℤ (instant_of result +ℤ pos nanos_per_hour) }
     /// ```
     ///
-    /// [docs/STATEMENT.md](crate::proved#contracts) explains the words.
+    /// [docs/proofs/STATEMENT.md](crate::proved#contracts) explains the words.
     #[inline]
     pub const fn truncate_to_hour(self) -> OffsetDateTime {
         self.replace_date_time(self.date_time().truncate_to_hour())
@@ -368,7 +368,7 @@ impl OffsetDateTime {
     /// ensures instant { IfOk result (λ at. SameOffset self at) }
     /// ```
     ///
-    /// [docs/STATEMENT.md](crate::proved#contracts) explains the words.
+    /// [docs/proofs/STATEMENT.md](crate::proved#contracts) explains the words.
     #[inline]
     pub const fn replace_minute(self, minute: u8) -> Result<OffsetDateTime, ComponentRange> {
         match self.date_time().replace_minute(minute) {
@@ -400,7 +400,7 @@ impl OffsetDateTime {
     /// ensures within { instant_of self <ℤ (instant_of result +ℤ pos nanos_per_minute) }
     /// ```
     ///
-    /// [docs/STATEMENT.md](crate::proved#contracts) explains the words.
+    /// [docs/proofs/STATEMENT.md](crate::proved#contracts) explains the words.
     #[inline]
     pub const fn truncate_to_minute(self) -> OffsetDateTime {
         self.replace_date_time(self.date_time().truncate_to_minute())
@@ -430,7 +430,7 @@ impl OffsetDateTime {
     /// ensures instant { IfOk result (λ at. SameOffset self at) }
     /// ```
     ///
-    /// [docs/STATEMENT.md](crate::proved#contracts) explains the words.
+    /// [docs/proofs/STATEMENT.md](crate::proved#contracts) explains the words.
     #[inline]
     pub const fn replace_second(self, second: u8) -> Result<OffsetDateTime, ComponentRange> {
         match self.date_time().replace_second(second) {
@@ -462,7 +462,7 @@ impl OffsetDateTime {
     /// ensures within { instant_of self <ℤ (instant_of result +ℤ pos nanos_per_second) }
     /// ```
     ///
-    /// [docs/STATEMENT.md](crate::proved#contracts) explains the words.
+    /// [docs/proofs/STATEMENT.md](crate::proved#contracts) explains the words.
     #[inline]
     pub const fn truncate_to_second(self) -> OffsetDateTime {
         self.replace_date_time(self.date_time().truncate_to_second())
@@ -495,7 +495,7 @@ impl OffsetDateTime {
     /// ensures instant { IfOk result (λ at. SameOffset self at) }
     /// ```
     ///
-    /// [docs/STATEMENT.md](crate::proved#contracts) explains the words.
+    /// [docs/proofs/STATEMENT.md](crate::proved#contracts) explains the words.
     #[inline]
     pub const fn replace_millisecond(
         self,
@@ -531,7 +531,7 @@ impl OffsetDateTime {
     /// ensures within { instant_of self <ℤ (instant_of result +ℤ pos nanos_per_millisecond) }
     /// ```
     ///
-    /// [docs/STATEMENT.md](crate::proved#contracts) explains the words.
+    /// [docs/proofs/STATEMENT.md](crate::proved#contracts) explains the words.
     #[inline]
     pub const fn truncate_to_millisecond(self) -> OffsetDateTime {
         self.replace_date_time(self.date_time().truncate_to_millisecond())
@@ -564,7 +564,7 @@ impl OffsetDateTime {
     /// ensures instant { IfOk result (λ at. SameOffset self at) }
     /// ```
     ///
-    /// [docs/STATEMENT.md](crate::proved#contracts) explains the words.
+    /// [docs/proofs/STATEMENT.md](crate::proved#contracts) explains the words.
     #[inline]
     pub const fn replace_microsecond(
         self,
@@ -600,7 +600,7 @@ impl OffsetDateTime {
     /// ensures within { instant_of self <ℤ (instant_of result +ℤ pos nanos_per_microsecond) }
     /// ```
     ///
-    /// [docs/STATEMENT.md](crate::proved#contracts) explains the words.
+    /// [docs/proofs/STATEMENT.md](crate::proved#contracts) explains the words.
     #[inline]
     pub const fn truncate_to_microsecond(self) -> OffsetDateTime {
         self.replace_date_time(self.date_time().truncate_to_microsecond())
@@ -633,7 +633,7 @@ impl OffsetDateTime {
     /// ensures instant { IfOk result (λ at. SameOffset self at) }
     /// ```
     ///
-    /// [docs/STATEMENT.md](crate::proved#contracts) explains the words.
+    /// [docs/proofs/STATEMENT.md](crate::proved#contracts) explains the words.
     #[inline]
     pub const fn replace_nanosecond(
         self,

@@ -31,7 +31,7 @@ impl OffsetDateTime {
     /// ensures instant { IfSome result (λ at. instant_of at ≡ instant_of self +ℤ duration) }
     /// ```
     ///
-    /// [docs/STATEMENT.md](crate::proved#contracts) explains the words.
+    /// [docs/proofs/STATEMENT.md](crate::proved#contracts) explains the words.
     #[inline]
     pub const fn checked_add(self, duration: SignedDuration) -> Option<OffsetDateTime> {
         match self.date_time().checked_add(duration) {
@@ -66,7 +66,7 @@ impl OffsetDateTime {
     /// ensures instant { IfSome result (λ at. instant_of at ≡ instant_of self -ℤ duration) }
     /// ```
     ///
-    /// [docs/STATEMENT.md](crate::proved#contracts) explains the words.
+    /// [docs/proofs/STATEMENT.md](crate::proved#contracts) explains the words.
     #[inline]
     pub const fn checked_sub(self, duration: SignedDuration) -> Option<OffsetDateTime> {
         match self.date_time().checked_sub(duration) {
@@ -100,7 +100,7 @@ impl OffsetDateTime {
     ///     instant_of at ≡ instant_of self +ℤ pos (as_nanos duration)) }
     /// ```
     ///
-    /// [docs/STATEMENT.md](crate::proved#contracts) explains the words.
+    /// [docs/proofs/STATEMENT.md](crate::proved#contracts) explains the words.
     #[inline]
     pub const fn checked_add_std(self, duration: Duration) -> Option<OffsetDateTime> {
         match self.date_time().checked_add_std(duration) {
@@ -134,7 +134,7 @@ impl OffsetDateTime {
     ///     instant_of at ≡ instant_of self -ℤ pos (as_nanos duration)) }
     /// ```
     ///
-    /// [docs/STATEMENT.md](crate::proved#contracts) explains the words.
+    /// [docs/proofs/STATEMENT.md](crate::proved#contracts) explains the words.
     #[inline]
     pub const fn checked_sub_std(self, duration: Duration) -> Option<OffsetDateTime> {
         match self.date_time().checked_sub_std(duration) {
@@ -169,7 +169,7 @@ impl OffsetDateTime {
     /// ensures instant { SameOffset self result }
     /// ```
     ///
-    /// [docs/STATEMENT.md](crate::proved#contracts) explains the words.
+    /// [docs/proofs/STATEMENT.md](crate::proved#contracts) explains the words.
     #[inline]
     pub const fn saturating_add(self, duration: SignedDuration) -> OffsetDateTime {
         self.replace_date_time(self.date_time().saturating_add(duration))
@@ -201,7 +201,7 @@ impl OffsetDateTime {
     /// ensures instant { SameOffset self result }
     /// ```
     ///
-    /// [docs/STATEMENT.md](crate::proved#contracts) explains the words.
+    /// [docs/proofs/STATEMENT.md](crate::proved#contracts) explains the words.
     #[inline]
     pub const fn saturating_sub(self, duration: SignedDuration) -> OffsetDateTime {
         self.replace_date_time(self.date_time().saturating_sub(duration))

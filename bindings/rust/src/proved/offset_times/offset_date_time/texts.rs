@@ -26,7 +26,7 @@ impl OffsetDateTime {
     /// ensures length { length result ≤ 42 }
     /// ```
     ///
-    /// [docs/STATEMENT.md](crate::proved#contracts) explains the words.
+    /// [docs/proofs/STATEMENT.md](crate::proved#contracts) explains the words.
     #[inline]
     pub fn text(self) -> Text {
         let mut text = Text::new();
@@ -44,7 +44,7 @@ impl OffsetDateTime {
     /// ensures length { length text.new ≤ length text.old + 42 }
     /// ```
     ///
-    /// [docs/STATEMENT.md](crate::proved#contracts) explains the words.
+    /// [docs/proofs/STATEMENT.md](crate::proved#contracts) explains the words.
     #[inline]
     pub(in crate::proved) fn append_to(self, text: &mut Text) {
         self.date_time().append_to(text);
@@ -60,7 +60,7 @@ impl OffsetDateTime {
 /// ghost styled_output = { λ at spec. Some (padded spec (offset_date_time_text at)) };
 /// ```
 ///
-/// [docs/STATEMENT.md](crate::proved#contracts) explains the words.
+/// [docs/proofs/STATEMENT.md](crate::proved#contracts) explains the words.
 impl fmt::Display for OffsetDateTime {
     #[inline]
     fn fmt(&self, f: &mut fmt::Formatter) -> fmt::Result {
@@ -74,7 +74,7 @@ impl fmt::Display for OffsetDateTime {
 /// ghost debug_output = { λ at. Some (offset_date_time_text at) };
 /// ```
 ///
-/// [docs/STATEMENT.md](crate::proved#contracts) explains the words.
+/// [docs/proofs/STATEMENT.md](crate::proved#contracts) explains the words.
 impl fmt::Debug for OffsetDateTime {
     #[inline]
     fn fmt(&self, f: &mut fmt::Formatter) -> fmt::Result {

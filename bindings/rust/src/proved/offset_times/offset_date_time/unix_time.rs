@@ -30,7 +30,7 @@ impl OffsetDateTime {
     /// ensures instant { IfOk result (λ at. instant_of at ≡ instant_of_second timestamp) }
     /// ```
     ///
-    /// [docs/STATEMENT.md](crate::proved#contracts) explains the words.
+    /// [docs/proofs/STATEMENT.md](crate::proved#contracts) explains the words.
     #[inline]
     pub const fn from_unix_timestamp(timestamp: i64) -> Result<OffsetDateTime, ComponentRange> {
         match UtcDateTime::from_unix_timestamp(timestamp) {
@@ -60,7 +60,7 @@ impl OffsetDateTime {
     /// ensures instant { IfOk result (λ at. instant_of at ≡ timestamp) }
     /// ```
     ///
-    /// [docs/STATEMENT.md](crate::proved#contracts) explains the words.
+    /// [docs/proofs/STATEMENT.md](crate::proved#contracts) explains the words.
     #[inline]
     pub const fn from_unix_timestamp_nanos(
         timestamp: i128,
@@ -91,7 +91,7 @@ impl OffsetDateTime {
     /// ensures { result ≡ unix_seconds_of (instant_of self) }
     /// ```
     ///
-    /// [docs/STATEMENT.md](crate::proved#contracts) explains the words.
+    /// [docs/proofs/STATEMENT.md](crate::proved#contracts) explains the words.
     #[inline]
     pub const fn unix_timestamp(self) -> i64 {
         self.date_time().as_utc().unix_timestamp() - self.offset().whole_seconds() as i64
@@ -116,7 +116,7 @@ impl OffsetDateTime {
     /// ensures { result ≡ instant_of self }
     /// ```
     ///
-    /// [docs/STATEMENT.md](crate::proved#contracts) explains the words.
+    /// [docs/proofs/STATEMENT.md](crate::proved#contracts) explains the words.
     #[inline]
     pub const fn unix_timestamp_nanos(self) -> i128 {
         let offset = self.offset().whole_seconds() as i128;

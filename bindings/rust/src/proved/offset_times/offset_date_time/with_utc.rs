@@ -27,7 +27,7 @@ impl OffsetDateTime {
     /// ensures { result ≡ int_eq (instant_of self) other }
     /// ```
     ///
-    /// [docs/STATEMENT.md](crate::proved#contracts) explains the words.
+    /// [docs/proofs/STATEMENT.md](crate::proved#contracts) explains the words.
     #[inline]
     pub fn eq_utc(self, other: UtcDateTime) -> bool {
         self == OffsetDateTime::from(other)
@@ -50,7 +50,7 @@ impl OffsetDateTime {
     /// ensures { result ≡ int_cmp (instant_of self) other }
     /// ```
     ///
-    /// [docs/STATEMENT.md](crate::proved#contracts) explains the words.
+    /// [docs/proofs/STATEMENT.md](crate::proved#contracts) explains the words.
     #[inline]
     pub fn cmp_utc(self, other: UtcDateTime) -> Ordering {
         self.cmp(&OffsetDateTime::from(other))
@@ -64,7 +64,7 @@ impl OffsetDateTime {
     /// ensures instant { instant_of result ≡ at }
     /// ```
     ///
-    /// [docs/STATEMENT.md](crate::proved#contracts) explains the words.
+    /// [docs/proofs/STATEMENT.md](crate::proved#contracts) explains the words.
     #[inline]
     pub(crate) const fn from_utc(at: UtcDateTime) -> OffsetDateTime {
         OffsetDateTime::new_utc(at.date(), at.time())
@@ -77,7 +77,7 @@ impl OffsetDateTime {
 /// ghost from_gives = { λ instant at. (at ≡ local_in_utc instant) × (instant_of at ≡ instant) };
 /// ```
 ///
-/// [docs/STATEMENT.md](crate::proved#contracts) explains the words.
+/// [docs/proofs/STATEMENT.md](crate::proved#contracts) explains the words.
 impl From<UtcDateTime> for OffsetDateTime {
     #[inline]
     fn from(at: UtcDateTime) -> OffsetDateTime {
@@ -91,7 +91,7 @@ impl From<UtcDateTime> for OffsetDateTime {
 /// ghost sub_gives = { λ at other difference. difference ≡ instant_of at -ℤ other };
 /// ```
 ///
-/// [docs/STATEMENT.md](crate::proved#contracts) explains the words.
+/// [docs/proofs/STATEMENT.md](crate::proved#contracts) explains the words.
 impl Sub<UtcDateTime> for OffsetDateTime {
     type Output = SignedDuration;
     #[inline]
@@ -106,7 +106,7 @@ impl Sub<UtcDateTime> for OffsetDateTime {
 /// ghost sub_gives = { λ at other difference. difference ≡ at -ℤ instant_of other };
 /// ```
 ///
-/// [docs/STATEMENT.md](crate::proved#contracts) explains the words.
+/// [docs/proofs/STATEMENT.md](crate::proved#contracts) explains the words.
 impl Sub<OffsetDateTime> for UtcDateTime {
     type Output = SignedDuration;
     #[inline]

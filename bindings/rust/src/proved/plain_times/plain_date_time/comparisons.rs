@@ -18,7 +18,7 @@ impl PlainDateTime {
     /// ensures { result ≡ packed_wall_clock self }
     /// ```
     ///
-    /// [docs/STATEMENT.md](crate::proved#contracts) explains the words.
+    /// [docs/proofs/STATEMENT.md](crate::proved#contracts) explains the words.
     #[inline]
     const fn packed_number(self) -> i128 {
         let (year, ordinal) = self.date().to_ordinal_date();
@@ -35,7 +35,7 @@ impl PlainDateTime {
 /// ensures { result ≡ packed_parts year ordinal time }
 /// ```
 ///
-/// [docs/STATEMENT.md](crate::proved#contracts) explains the words.
+/// [docs/proofs/STATEMENT.md](crate::proved#contracts) explains the words.
 #[inline]
 pub const fn packed_number(year: i32, ordinal: u16, time: Time) -> i128 {
     let nanosecond = time.nanosecond_of_day();
@@ -48,7 +48,7 @@ pub const fn packed_number(year: i32, ordinal: u16, time: Time) -> i128 {
 /// ghost eq = { int_eq };
 /// ```
 ///
-/// [docs/STATEMENT.md](crate::proved#contracts) explains the words.
+/// [docs/proofs/STATEMENT.md](crate::proved#contracts) explains the words.
 impl PartialEq for PlainDateTime {
     #[inline]
     fn eq(&self, other: &PlainDateTime) -> bool {
@@ -64,7 +64,7 @@ impl Eq for PlainDateTime {}
 /// ghost cmp = { int_cmp };
 /// ```
 ///
-/// [docs/STATEMENT.md](crate::proved#contracts) explains the words.
+/// [docs/proofs/STATEMENT.md](crate::proved#contracts) explains the words.
 impl Ord for PlainDateTime {
     #[inline]
     fn cmp(&self, other: &PlainDateTime) -> Ordering {
@@ -78,7 +78,7 @@ impl Ord for PlainDateTime {
 /// ghost partial_cmp = { as_partial_cmp int_cmp };
 /// ```
 ///
-/// [docs/STATEMENT.md](crate::proved#contracts) explains the words.
+/// [docs/proofs/STATEMENT.md](crate::proved#contracts) explains the words.
 impl PartialOrd for PlainDateTime {
     #[inline]
     fn partial_cmp(&self, other: &PlainDateTime) -> Option<Ordering> {
@@ -93,7 +93,7 @@ impl PartialOrd for PlainDateTime {
 /// ghost hash_input = { λ w. fed.i128 (packed_wall_clock w) };
 /// ```
 ///
-/// [docs/STATEMENT.md](crate::proved#contracts) explains the words.
+/// [docs/proofs/STATEMENT.md](crate::proved#contracts) explains the words.
 impl Hash for PlainDateTime {
     #[inline]
     fn hash<H: Hasher>(&self, state: &mut H) {

@@ -23,7 +23,7 @@ impl PlainDateTime {
     /// ensures self_in_range { IsWallClock self }
     /// ```
     ///
-    /// [docs/STATEMENT.md](crate::proved#contracts) explains the words.
+    /// [docs/proofs/STATEMENT.md](crate::proved#contracts) explains the words.
     #[inline]
     pub const fn date(self) -> Date {
         self.date
@@ -48,7 +48,7 @@ impl PlainDateTime {
     /// ensures self_in_range { IsWallClock self }
     /// ```
     ///
-    /// [docs/STATEMENT.md](crate::proved#contracts) explains the words.
+    /// [docs/proofs/STATEMENT.md](crate::proved#contracts) explains the words.
     #[inline]
     pub const fn time(self) -> Time {
         self.time
@@ -73,7 +73,7 @@ impl PlainDateTime {
     /// ensures in_range { IsYear result }
     /// ```
     ///
-    /// [docs/STATEMENT.md](crate::proved#contracts) explains the words.
+    /// [docs/proofs/STATEMENT.md](crate::proved#contracts) explains the words.
     #[inline]
     pub const fn year(self) -> i32 {
         self.date().year()
@@ -97,7 +97,7 @@ impl PlainDateTime {
     /// ensures { month_number result ≡ month_of (wall_day self) }
     /// ```
     ///
-    /// [docs/STATEMENT.md](crate::proved#contracts) explains the words.
+    /// [docs/proofs/STATEMENT.md](crate::proved#contracts) explains the words.
     #[inline]
     pub const fn month(self) -> Month {
         self.date().month()
@@ -122,7 +122,7 @@ impl PlainDateTime {
     /// ensures in_range { IsInRange 1 31 result }
     /// ```
     ///
-    /// [docs/STATEMENT.md](crate::proved#contracts) explains the words.
+    /// [docs/proofs/STATEMENT.md](crate::proved#contracts) explains the words.
     #[inline]
     pub const fn day(self) -> u8 {
         self.date().day()
@@ -147,7 +147,7 @@ impl PlainDateTime {
     /// ensures in_range { IsInRange 1 366 result }
     /// ```
     ///
-    /// [docs/STATEMENT.md](crate::proved#contracts) explains the words.
+    /// [docs/proofs/STATEMENT.md](crate::proved#contracts) explains the words.
     #[inline]
     pub const fn ordinal(self) -> u16 {
         self.date().ordinal()
@@ -172,7 +172,7 @@ impl PlainDateTime {
     /// ensures in_range { IsInRange 1 53 result }
     /// ```
     ///
-    /// [docs/STATEMENT.md](crate::proved#contracts) explains the words.
+    /// [docs/proofs/STATEMENT.md](crate::proved#contracts) explains the words.
     #[inline]
     pub const fn iso_week(self) -> u8 {
         self.date().iso_week()
@@ -197,7 +197,7 @@ impl PlainDateTime {
     /// ensures in_range { result ≤ 53 }
     /// ```
     ///
-    /// [docs/STATEMENT.md](crate::proved#contracts) explains the words.
+    /// [docs/proofs/STATEMENT.md](crate::proved#contracts) explains the words.
     #[inline]
     pub const fn sunday_based_week(self) -> u8 {
         self.date().sunday_based_week()
@@ -222,7 +222,7 @@ impl PlainDateTime {
     /// ensures in_range { result ≤ 53 }
     /// ```
     ///
-    /// [docs/STATEMENT.md](crate::proved#contracts) explains the words.
+    /// [docs/proofs/STATEMENT.md](crate::proved#contracts) explains the words.
     #[inline]
     pub const fn monday_based_week(self) -> u8 {
         self.date().monday_based_week()
@@ -246,7 +246,7 @@ impl PlainDateTime {
     /// ensures { IsCalendarDateOf (wall_day self) result }
     /// ```
     ///
-    /// [docs/STATEMENT.md](crate::proved#contracts) explains the words.
+    /// [docs/proofs/STATEMENT.md](crate::proved#contracts) explains the words.
     #[inline]
     pub const fn to_calendar_date(self) -> (i32, Month, u8) {
         self.date().to_calendar_date()
@@ -270,7 +270,7 @@ impl PlainDateTime {
     /// ensures { IsOrdinalDateOf (wall_day self) result }
     /// ```
     ///
-    /// [docs/STATEMENT.md](crate::proved#contracts) explains the words.
+    /// [docs/proofs/STATEMENT.md](crate::proved#contracts) explains the words.
     #[inline]
     pub const fn to_ordinal_date(self) -> (i32, u16) {
         self.date().to_ordinal_date()
@@ -294,7 +294,7 @@ impl PlainDateTime {
     /// ensures { IsIsoWeekDateOf (wall_day self) result }
     /// ```
     ///
-    /// [docs/STATEMENT.md](crate::proved#contracts) explains the words.
+    /// [docs/proofs/STATEMENT.md](crate::proved#contracts) explains the words.
     #[inline]
     pub const fn to_iso_week_date(self) -> (i32, u8, Weekday) {
         self.date().to_iso_week_date()
@@ -318,7 +318,7 @@ impl PlainDateTime {
     /// ensures { weekday_number result ≡ weekday_of (wall_day self) }
     /// ```
     ///
-    /// [docs/STATEMENT.md](crate::proved#contracts) explains the words.
+    /// [docs/proofs/STATEMENT.md](crate::proved#contracts) explains the words.
     #[inline]
     pub const fn weekday(self) -> Weekday {
         self.date().weekday()
@@ -343,7 +343,7 @@ impl PlainDateTime {
     /// ensures self_in_range { IsWallClock self }
     /// ```
     ///
-    /// [docs/STATEMENT.md](crate::proved#contracts) explains the words.
+    /// [docs/proofs/STATEMENT.md](crate::proved#contracts) explains the words.
     #[inline]
     pub const fn to_julian_day(self) -> i32 {
         self.date().to_julian_day()
@@ -368,7 +368,7 @@ impl PlainDateTime {
     /// ensures in_range { AreTimeParts result.0 result.1 result.2 0 }
     /// ```
     ///
-    /// [docs/STATEMENT.md](crate::proved#contracts) explains the words.
+    /// [docs/proofs/STATEMENT.md](crate::proved#contracts) explains the words.
     #[inline]
     pub const fn as_hms(self) -> (u8, u8, u8) {
         self.time().as_hms()
@@ -395,7 +395,7 @@ impl PlainDateTime {
     ///     (result.3 * nanos_per_millisecond) }
     /// ```
     ///
-    /// [docs/STATEMENT.md](crate::proved#contracts) explains the words.
+    /// [docs/proofs/STATEMENT.md](crate::proved#contracts) explains the words.
     #[inline]
     pub const fn as_hms_milli(self) -> (u8, u8, u8, u16) {
         self.time().as_hms_milli()
@@ -422,7 +422,7 @@ impl PlainDateTime {
     ///     (result.3 * nanos_per_microsecond) }
     /// ```
     ///
-    /// [docs/STATEMENT.md](crate::proved#contracts) explains the words.
+    /// [docs/proofs/STATEMENT.md](crate::proved#contracts) explains the words.
     #[inline]
     pub const fn as_hms_micro(self) -> (u8, u8, u8, u32) {
         self.time().as_hms_micro()
@@ -448,7 +448,7 @@ impl PlainDateTime {
     /// ensures in_range { AreTimeParts result.0 result.1 result.2 result.3 }
     /// ```
     ///
-    /// [docs/STATEMENT.md](crate::proved#contracts) explains the words.
+    /// [docs/proofs/STATEMENT.md](crate::proved#contracts) explains the words.
     #[inline]
     pub const fn as_hms_nano(self) -> (u8, u8, u8, u32) {
         self.time().as_hms_nano()
@@ -473,7 +473,7 @@ impl PlainDateTime {
     /// ensures in_range { result ≤ 23 }
     /// ```
     ///
-    /// [docs/STATEMENT.md](crate::proved#contracts) explains the words.
+    /// [docs/proofs/STATEMENT.md](crate::proved#contracts) explains the words.
     #[inline]
     pub const fn hour(self) -> u8 {
         self.time().hour()
@@ -498,7 +498,7 @@ impl PlainDateTime {
     /// ensures in_range { result ≤ 59 }
     /// ```
     ///
-    /// [docs/STATEMENT.md](crate::proved#contracts) explains the words.
+    /// [docs/proofs/STATEMENT.md](crate::proved#contracts) explains the words.
     #[inline]
     pub const fn minute(self) -> u8 {
         self.time().minute()
@@ -523,7 +523,7 @@ impl PlainDateTime {
     /// ensures in_range { result ≤ 59 }
     /// ```
     ///
-    /// [docs/STATEMENT.md](crate::proved#contracts) explains the words.
+    /// [docs/proofs/STATEMENT.md](crate::proved#contracts) explains the words.
     #[inline]
     pub const fn second(self) -> u8 {
         self.time().second()
@@ -548,7 +548,7 @@ impl PlainDateTime {
     /// ensures in_range { result ≤ 999 }
     /// ```
     ///
-    /// [docs/STATEMENT.md](crate::proved#contracts) explains the words.
+    /// [docs/proofs/STATEMENT.md](crate::proved#contracts) explains the words.
     #[inline]
     pub const fn millisecond(self) -> u16 {
         self.time().millisecond()
@@ -573,7 +573,7 @@ impl PlainDateTime {
     /// ensures in_range { result ≤ 999_999 }
     /// ```
     ///
-    /// [docs/STATEMENT.md](crate::proved#contracts) explains the words.
+    /// [docs/proofs/STATEMENT.md](crate::proved#contracts) explains the words.
     #[inline]
     pub const fn microsecond(self) -> u32 {
         self.time().microsecond()
@@ -598,7 +598,7 @@ impl PlainDateTime {
     /// ensures in_range { result ≤ 999_999_999 }
     /// ```
     ///
-    /// [docs/STATEMENT.md](crate::proved#contracts) explains the words.
+    /// [docs/proofs/STATEMENT.md](crate::proved#contracts) explains the words.
     #[inline]
     pub const fn nanosecond(self) -> u32 {
         self.time().nanosecond()

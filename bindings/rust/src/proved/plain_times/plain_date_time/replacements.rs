@@ -24,7 +24,7 @@ impl PlainDateTime {
     /// ensures { ReplacesTime self time result }
     /// ```
     ///
-    /// [docs/STATEMENT.md](crate::proved#contracts) explains the words.
+    /// [docs/proofs/STATEMENT.md](crate::proved#contracts) explains the words.
     #[inline]
     pub const fn replace_time(self, time: Time) -> PlainDateTime {
         PlainDateTime::new(self.date(), time)
@@ -51,7 +51,7 @@ impl PlainDateTime {
     /// ensures { ReplacesDate self date result }
     /// ```
     ///
-    /// [docs/STATEMENT.md](crate::proved#contracts) explains the words.
+    /// [docs/proofs/STATEMENT.md](crate::proved#contracts) explains the words.
     #[inline]
     pub const fn replace_date(self, date: Date) -> PlainDateTime {
         PlainDateTime::new(date, self.time())
@@ -77,7 +77,7 @@ impl PlainDateTime {
     /// ensures shown { IfOk result (ShowsYear self year) }
     /// ```
     ///
-    /// [docs/STATEMENT.md](crate::proved#contracts) explains the words.
+    /// [docs/proofs/STATEMENT.md](crate::proved#contracts) explains the words.
     #[inline]
     pub const fn replace_year(self, year: i32) -> Result<PlainDateTime, ComponentRange> {
         match self.date().replace_year(year) {
@@ -106,7 +106,7 @@ impl PlainDateTime {
     /// ensures shown { IfOk result (ShowsMonth self (month_number month)) }
     /// ```
     ///
-    /// [docs/STATEMENT.md](crate::proved#contracts) explains the words.
+    /// [docs/proofs/STATEMENT.md](crate::proved#contracts) explains the words.
     #[inline]
     pub const fn replace_month(self, month: Month) -> Result<PlainDateTime, ComponentRange> {
         match self.date().replace_month(month) {
@@ -135,7 +135,7 @@ impl PlainDateTime {
     /// ensures shown { IfOk result (ShowsDay self day) }
     /// ```
     ///
-    /// [docs/STATEMENT.md](crate::proved#contracts) explains the words.
+    /// [docs/proofs/STATEMENT.md](crate::proved#contracts) explains the words.
     #[inline]
     pub const fn replace_day(self, day: u8) -> Result<PlainDateTime, ComponentRange> {
         match self.date().replace_day(day) {
@@ -164,7 +164,7 @@ impl PlainDateTime {
     /// ensures shown { IfOk result (ShowsOrdinal self ordinal) }
     /// ```
     ///
-    /// [docs/STATEMENT.md](crate::proved#contracts) explains the words.
+    /// [docs/proofs/STATEMENT.md](crate::proved#contracts) explains the words.
     #[inline]
     pub const fn replace_ordinal(self, ordinal: u16) -> Result<PlainDateTime, ComponentRange> {
         match self.date().replace_ordinal(ordinal) {
@@ -194,7 +194,7 @@ impl PlainDateTime {
     /// ensures time { wall_time result ≡ 0 }
     /// ```
     ///
-    /// [docs/STATEMENT.md](crate::proved#contracts) explains the words.
+    /// [docs/proofs/STATEMENT.md](crate::proved#contracts) explains the words.
     #[inline]
     pub const fn truncate_to_day(self) -> PlainDateTime {
         self.replace_time(Time::MIDNIGHT)
@@ -220,7 +220,7 @@ impl PlainDateTime {
     /// ensures shown { IfOk result (ShowsHour self hour) }
     /// ```
     ///
-    /// [docs/STATEMENT.md](crate::proved#contracts) explains the words.
+    /// [docs/proofs/STATEMENT.md](crate::proved#contracts) explains the words.
     #[inline]
     pub const fn replace_hour(self, hour: u8) -> Result<PlainDateTime, ComponentRange> {
         match self.time().replace_hour(hour) {
@@ -247,7 +247,7 @@ impl PlainDateTime {
     /// ensures { TruncatesTo nanos_per_hour self result }
     /// ```
     ///
-    /// [docs/STATEMENT.md](crate::proved#contracts) explains the words.
+    /// [docs/proofs/STATEMENT.md](crate::proved#contracts) explains the words.
     #[inline]
     pub const fn truncate_to_hour(self) -> PlainDateTime {
         self.replace_time(self.time().truncate_to_hour())
@@ -273,7 +273,7 @@ impl PlainDateTime {
     /// ensures shown { IfOk result (ShowsMinute self minute) }
     /// ```
     ///
-    /// [docs/STATEMENT.md](crate::proved#contracts) explains the words.
+    /// [docs/proofs/STATEMENT.md](crate::proved#contracts) explains the words.
     #[inline]
     pub const fn replace_minute(self, minute: u8) -> Result<PlainDateTime, ComponentRange> {
         match self.time().replace_minute(minute) {
@@ -300,7 +300,7 @@ impl PlainDateTime {
     /// ensures { TruncatesTo nanos_per_minute self result }
     /// ```
     ///
-    /// [docs/STATEMENT.md](crate::proved#contracts) explains the words.
+    /// [docs/proofs/STATEMENT.md](crate::proved#contracts) explains the words.
     #[inline]
     pub const fn truncate_to_minute(self) -> PlainDateTime {
         self.replace_time(self.time().truncate_to_minute())
@@ -326,7 +326,7 @@ impl PlainDateTime {
     /// ensures shown { IfOk result (ShowsSecond self second) }
     /// ```
     ///
-    /// [docs/STATEMENT.md](crate::proved#contracts) explains the words.
+    /// [docs/proofs/STATEMENT.md](crate::proved#contracts) explains the words.
     #[inline]
     pub const fn replace_second(self, second: u8) -> Result<PlainDateTime, ComponentRange> {
         match self.time().replace_second(second) {
@@ -353,7 +353,7 @@ impl PlainDateTime {
     /// ensures { TruncatesTo nanos_per_second self result }
     /// ```
     ///
-    /// [docs/STATEMENT.md](crate::proved#contracts) explains the words.
+    /// [docs/proofs/STATEMENT.md](crate::proved#contracts) explains the words.
     #[inline]
     pub const fn truncate_to_second(self) -> PlainDateTime {
         self.replace_time(self.time().truncate_to_second())
@@ -382,7 +382,7 @@ impl PlainDateTime {
     /// ensures shown { IfOk result (ShowsMillisecond self millisecond) }
     /// ```
     ///
-    /// [docs/STATEMENT.md](crate::proved#contracts) explains the words.
+    /// [docs/proofs/STATEMENT.md](crate::proved#contracts) explains the words.
     #[inline]
     pub const fn replace_millisecond(
         self,
@@ -412,7 +412,7 @@ impl PlainDateTime {
     /// ensures { TruncatesTo nanos_per_millisecond self result }
     /// ```
     ///
-    /// [docs/STATEMENT.md](crate::proved#contracts) explains the words.
+    /// [docs/proofs/STATEMENT.md](crate::proved#contracts) explains the words.
     #[inline]
     pub const fn truncate_to_millisecond(self) -> PlainDateTime {
         self.replace_time(self.time().truncate_to_millisecond())
@@ -441,7 +441,7 @@ impl PlainDateTime {
     /// ensures shown { IfOk result (ShowsMicrosecond self microsecond) }
     /// ```
     ///
-    /// [docs/STATEMENT.md](crate::proved#contracts) explains the words.
+    /// [docs/proofs/STATEMENT.md](crate::proved#contracts) explains the words.
     #[inline]
     pub const fn replace_microsecond(
         self,
@@ -471,7 +471,7 @@ impl PlainDateTime {
     /// ensures { TruncatesTo nanos_per_microsecond self result }
     /// ```
     ///
-    /// [docs/STATEMENT.md](crate::proved#contracts) explains the words.
+    /// [docs/proofs/STATEMENT.md](crate::proved#contracts) explains the words.
     #[inline]
     pub const fn truncate_to_microsecond(self) -> PlainDateTime {
         self.replace_time(self.time().truncate_to_microsecond())
@@ -500,7 +500,7 @@ impl PlainDateTime {
     /// ensures shown { IfOk result (ShowsNanosecond self nanosecond) }
     /// ```
     ///
-    /// [docs/STATEMENT.md](crate::proved#contracts) explains the words.
+    /// [docs/proofs/STATEMENT.md](crate::proved#contracts) explains the words.
     #[inline]
     pub const fn replace_nanosecond(
         self,

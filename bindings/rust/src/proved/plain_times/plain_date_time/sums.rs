@@ -27,7 +27,7 @@ impl PlainDateTime {
     /// ensures { SomeInRange result (self +ℤ duration) }
     /// ```
     ///
-    /// [docs/STATEMENT.md](crate::proved#contracts) explains the words.
+    /// [docs/proofs/STATEMENT.md](crate::proved#contracts) explains the words.
     #[inline]
     pub const fn checked_add(self, duration: SignedDuration) -> Option<PlainDateTime> {
         let (adjustment, time) = self.time().adjusting_add(duration);
@@ -55,7 +55,7 @@ impl PlainDateTime {
     /// ensures { SomeInRange result (self -ℤ duration) }
     /// ```
     ///
-    /// [docs/STATEMENT.md](crate::proved#contracts) explains the words.
+    /// [docs/proofs/STATEMENT.md](crate::proved#contracts) explains the words.
     #[inline]
     pub const fn checked_sub(self, duration: SignedDuration) -> Option<PlainDateTime> {
         let (adjustment, time) = self.time().adjusting_sub(duration);
@@ -84,7 +84,7 @@ impl PlainDateTime {
     /// ensures { SomeInRange result (self +ℤ pos (as_nanos duration)) }
     /// ```
     ///
-    /// [docs/STATEMENT.md](crate::proved#contracts) explains the words.
+    /// [docs/proofs/STATEMENT.md](crate::proved#contracts) explains the words.
     #[inline]
     pub const fn checked_add_std(self, duration: Duration) -> Option<PlainDateTime> {
         let (is_next_day, time) = self.time().adjusting_add_std(duration);
@@ -113,7 +113,7 @@ impl PlainDateTime {
     /// ensures { SomeInRange result (self -ℤ pos (as_nanos duration)) }
     /// ```
     ///
-    /// [docs/STATEMENT.md](crate::proved#contracts) explains the words.
+    /// [docs/proofs/STATEMENT.md](crate::proved#contracts) explains the words.
     #[inline]
     pub const fn checked_sub_std(self, duration: Duration) -> Option<PlainDateTime> {
         let (is_previous_day, time) = self.time().adjusting_sub_std(duration);
@@ -128,7 +128,7 @@ impl PlainDateTime {
     /// ensures { SomeInRange result (wall_clock (wall_day self +ℤ days) time) }
     /// ```
     ///
-    /// [docs/STATEMENT.md](crate::proved#contracts) explains the words.
+    /// [docs/proofs/STATEMENT.md](crate::proved#contracts) explains the words.
     #[inline]
     const fn moved(self, days: i64, time: Time) -> Option<PlainDateTime> {
         match self.date().checked_add_days(days) {
@@ -159,7 +159,7 @@ impl PlainDateTime {
     /// ensures { IsSaturatingSum self duration result }
     /// ```
     ///
-    /// [docs/STATEMENT.md](crate::proved#contracts) explains the words.
+    /// [docs/proofs/STATEMENT.md](crate::proved#contracts) explains the words.
     #[inline]
     pub const fn saturating_add(self, duration: SignedDuration) -> PlainDateTime {
         // For the proof alone: what is read lies in its range.
@@ -192,7 +192,7 @@ impl PlainDateTime {
     /// ensures { IsSaturatingDifference self duration result }
     /// ```
     ///
-    /// [docs/STATEMENT.md](crate::proved#contracts) explains the words.
+    /// [docs/proofs/STATEMENT.md](crate::proved#contracts) explains the words.
     #[inline]
     pub const fn saturating_sub(self, duration: SignedDuration) -> PlainDateTime {
         // For the proof alone: what is read lies in its range.
@@ -211,7 +211,7 @@ impl PlainDateTime {
 /// ensures { result ≡ if is_earlier then first_wall_clock else last_wall_clock }
 /// ```
 ///
-/// [docs/STATEMENT.md](crate::proved#contracts) explains the words.
+/// [docs/proofs/STATEMENT.md](crate::proved#contracts) explains the words.
 #[inline]
 const fn end_of_range(is_earlier: bool) -> PlainDateTime {
     if is_earlier {
@@ -229,7 +229,7 @@ const fn end_of_range(is_earlier: bool) -> PlainDateTime {
 /// ensures in_range { unsigned_abs result ≤ 1 }
 /// ```
 ///
-/// [docs/STATEMENT.md](crate::proved#contracts) explains the words.
+/// [docs/proofs/STATEMENT.md](crate::proved#contracts) explains the words.
 #[inline]
 const fn days_of(adjustment: DateAdjustment) -> i64 {
     match adjustment {
@@ -247,7 +247,7 @@ const fn days_of(adjustment: DateAdjustment) -> i64 {
 /// ensures in_range { unsigned_abs result ≤ 1 }
 /// ```
 ///
-/// [docs/STATEMENT.md](crate::proved#contracts) explains the words.
+/// [docs/proofs/STATEMENT.md](crate::proved#contracts) explains the words.
 #[inline]
 const fn a_day_if(changes: bool) -> i64 {
     if changes { 1 } else { 0 }
@@ -261,7 +261,7 @@ const fn a_day_if(changes: bool) -> i64 {
 /// ensures in_range { unsigned_abs result < 2 ^ 62 }
 /// ```
 ///
-/// [docs/STATEMENT.md](crate::proved#contracts) explains the words.
+/// [docs/proofs/STATEMENT.md](crate::proved#contracts) explains the words.
 #[inline]
 const fn whole_days(duration: Duration) -> i64 {
     (duration.as_secs() / SECONDS_PER_DAY as u64) as i64

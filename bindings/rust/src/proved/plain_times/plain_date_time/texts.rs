@@ -25,7 +25,7 @@ impl PlainDateTime {
     /// ensures length { length result ≤ 32 }
     /// ```
     ///
-    /// [docs/STATEMENT.md](crate::proved#contracts) explains the words.
+    /// [docs/proofs/STATEMENT.md](crate::proved#contracts) explains the words.
     #[inline]
     pub fn text(self) -> Text {
         let mut text = Text::new();
@@ -43,7 +43,7 @@ impl PlainDateTime {
     /// ensures length { length text.new ≤ length text.old + 32 }
     /// ```
     ///
-    /// [docs/STATEMENT.md](crate::proved#contracts) explains the words.
+    /// [docs/proofs/STATEMENT.md](crate::proved#contracts) explains the words.
     #[inline]
     pub(in crate::proved) fn append_to(self, text: &mut Text) {
         self.date().append_to(text);
@@ -59,7 +59,7 @@ impl PlainDateTime {
 /// ghost styled_output = { λ w spec. Some (padded spec (plain_text w)) };
 /// ```
 ///
-/// [docs/STATEMENT.md](crate::proved#contracts) explains the words.
+/// [docs/proofs/STATEMENT.md](crate::proved#contracts) explains the words.
 impl fmt::Display for PlainDateTime {
     #[inline]
     fn fmt(&self, f: &mut fmt::Formatter) -> fmt::Result {
@@ -73,7 +73,7 @@ impl fmt::Display for PlainDateTime {
 /// ghost debug_output = { λ w. Some (plain_text w) };
 /// ```
 ///
-/// [docs/STATEMENT.md](crate::proved#contracts) explains the words.
+/// [docs/proofs/STATEMENT.md](crate::proved#contracts) explains the words.
 impl fmt::Debug for PlainDateTime {
     #[inline]
     fn fmt(&self, f: &mut fmt::Formatter) -> fmt::Result {

@@ -20,7 +20,7 @@ use crate::proved::utc_times::UtcDateTime;
 /// ghost cmp_by_instant: { (x y : Self) → Self.cmp x y ≡ int_cmp (instant x) (instant y) };
 /// ```
 ///
-/// [docs/STATEMENT.md](crate::proved#contracts) explains the words.
+/// [docs/proofs/STATEMENT.md](crate::proved#contracts) explains the words.
 pub trait Moment: Copy + Eq + Ord + Hash {
     /// A part of the date in UTC.
     ///
@@ -41,7 +41,7 @@ pub trait Moment: Copy + Eq + Ord + Hash {
     /// ensures { result ≡ date_part_of (wall_day (instant self)) read }
     /// ```
     ///
-    /// [docs/STATEMENT.md](crate::proved#contracts) explains the words.
+    /// [docs/proofs/STATEMENT.md](crate::proved#contracts) explains the words.
     fn date_part(self, read: DateRead) -> DatePart;
 
     /// A part of the time of day in UTC.
@@ -63,7 +63,7 @@ pub trait Moment: Copy + Eq + Ord + Hash {
     /// ensures { result ≡ clock_part_of (wall_time (instant self)) read }
     /// ```
     ///
-    /// [docs/STATEMENT.md](crate::proved#contracts) explains the words.
+    /// [docs/proofs/STATEMENT.md](crate::proved#contracts) explains the words.
     fn clock_part(self, read: ClockRead) -> ClockPart;
 
     /// A sum or a difference, or None if a checked one is out of the range.
@@ -86,7 +86,7 @@ pub trait Moment: Copy + Eq + Ord + Hash {
     /// ensures order { IfSome result (λ next. Saturates (instant self) shift (instant next)) }
     /// ```
     ///
-    /// [docs/STATEMENT.md](crate::proved#contracts) explains the words.
+    /// [docs/proofs/STATEMENT.md](crate::proved#contracts) explains the words.
     fn shift(self, shift: Shift) -> Option<Self>;
 
     /// The value with a part replaced in UTC. Fails as the replacement of that part does, exactly
@@ -116,7 +116,7 @@ pub trait Moment: Copy + Eq + Ord + Hash {
     ///     ShowsReplaced (instant self) replace (instant next)) }
     /// ```
     ///
-    /// [docs/STATEMENT.md](crate::proved#contracts) explains the words.
+    /// [docs/proofs/STATEMENT.md](crate::proved#contracts) explains the words.
     fn replace(self, replace: Replace) -> Result<Self, ComponentRange>;
 
     /// The date and the time of day in UTC.
@@ -139,7 +139,7 @@ pub trait Moment: Copy + Eq + Ord + Hash {
     /// ensures self_in_range { IsInstant (instant self) }
     /// ```
     ///
-    /// [docs/STATEMENT.md](crate::proved#contracts) explains the words.
+    /// [docs/proofs/STATEMENT.md](crate::proved#contracts) explains the words.
     fn parts(self) -> (Date, Time);
 
     /// The wall clock of the instant at the offset, with the offset, as
@@ -165,7 +165,7 @@ pub trait Moment: Copy + Eq + Ord + Hash {
     /// ensures instant { IfSome result (λ at. instant_of at ≡ instant self) }
     /// ```
     ///
-    /// [docs/STATEMENT.md](crate::proved#contracts) explains the words.
+    /// [docs/proofs/STATEMENT.md](crate::proved#contracts) explains the words.
     fn at_offset(self, offset: UtcOffset) -> Option<OffsetDateTime>;
 }
 
@@ -255,7 +255,7 @@ macro_rules! replace {
 /// ensures shown { IfOk result (ShowsReplaced at replace) }
 /// ```
 ///
-/// [docs/STATEMENT.md](crate::proved#contracts) explains the words.
+/// [docs/proofs/STATEMENT.md](crate::proved#contracts) explains the words.
 #[inline]
 const fn utc_with(at: UtcDateTime, replace: Replace) -> Result<UtcDateTime, ComponentRange> {
     replace!(at, replace)
@@ -269,7 +269,7 @@ const fn utc_with(at: UtcDateTime, replace: Replace) -> Result<UtcDateTime, Comp
 /// ghost cmp_by_instant = { λ x y. refl };
 /// ```
 ///
-/// [docs/STATEMENT.md](crate::proved#contracts) explains the words.
+/// [docs/proofs/STATEMENT.md](crate::proved#contracts) explains the words.
 impl Moment for UtcDateTime {
     #[inline]
     fn date_part(self, read: DateRead) -> DatePart {
@@ -310,7 +310,7 @@ impl Moment for UtcDateTime {
 /// ensures shown { IfOk result (ShowsReplaced at replace) }
 /// ```
 ///
-/// [docs/STATEMENT.md](crate::proved#contracts) explains the words.
+/// [docs/proofs/STATEMENT.md](crate::proved#contracts) explains the words.
 #[inline]
 const fn stamp_with(at: Timestamp, replace: Replace) -> Result<Timestamp, ComponentRange> {
     replace!(at, replace)
@@ -324,7 +324,7 @@ const fn stamp_with(at: Timestamp, replace: Replace) -> Result<Timestamp, Compon
 /// ghost cmp_by_instant = { λ x y. refl };
 /// ```
 ///
-/// [docs/STATEMENT.md](crate::proved#contracts) explains the words.
+/// [docs/proofs/STATEMENT.md](crate::proved#contracts) explains the words.
 impl Moment for Timestamp {
     #[inline]
     fn date_part(self, read: DateRead) -> DatePart {

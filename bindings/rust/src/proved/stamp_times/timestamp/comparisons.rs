@@ -10,7 +10,7 @@ use std::hash::{Hash, Hasher};
 /// ghost eq = { int_eq };
 /// ```
 ///
-/// [docs/STATEMENT.md](crate::proved#contracts) explains the words.
+/// [docs/proofs/STATEMENT.md](crate::proved#contracts) explains the words.
 impl PartialEq for Timestamp {
     #[inline]
     fn eq(&self, other: &Timestamp) -> bool {
@@ -26,7 +26,7 @@ impl Eq for Timestamp {}
 /// ghost cmp = { int_cmp };
 /// ```
 ///
-/// [docs/STATEMENT.md](crate::proved#contracts) explains the words.
+/// [docs/proofs/STATEMENT.md](crate::proved#contracts) explains the words.
 impl Ord for Timestamp {
     #[inline]
     fn cmp(&self, other: &Timestamp) -> Ordering {
@@ -42,7 +42,7 @@ impl Ord for Timestamp {
 /// ghost partial_cmp = { as_partial_cmp int_cmp };
 /// ```
 ///
-/// [docs/STATEMENT.md](crate::proved#contracts) explains the words.
+/// [docs/proofs/STATEMENT.md](crate::proved#contracts) explains the words.
 impl PartialOrd for Timestamp {
     #[inline]
     fn partial_cmp(&self, other: &Timestamp) -> Option<Ordering> {
@@ -57,7 +57,7 @@ impl PartialOrd for Timestamp {
 /// ghost hash_input = { hashed_instant };
 /// ```
 ///
-/// [docs/STATEMENT.md](crate::proved#contracts) explains the words.
+/// [docs/proofs/STATEMENT.md](crate::proved#contracts) explains the words.
 impl Hash for Timestamp {
     #[inline]
     fn hash<H: Hasher>(&self, state: &mut H) {

@@ -12,7 +12,7 @@ use std::time::Duration;
 /// ghost add_gives = { λ at duration sum. sum ≡ at +ℤ duration };
 /// ```
 ///
-/// [docs/STATEMENT.md](crate::proved#contracts) explains the words.
+/// [docs/proofs/STATEMENT.md](crate::proved#contracts) explains the words.
 impl Add<SignedDuration> for Timestamp {
     type Output = Timestamp;
 
@@ -30,7 +30,7 @@ impl Add<SignedDuration> for Timestamp {
 /// ghost add_assign_gives = { λ at duration sum. sum ≡ at +ℤ duration };
 /// ```
 ///
-/// [docs/STATEMENT.md](crate::proved#contracts) explains the words.
+/// [docs/proofs/STATEMENT.md](crate::proved#contracts) explains the words.
 impl AddAssign<SignedDuration> for Timestamp {
     #[inline]
     #[track_caller]
@@ -46,7 +46,7 @@ impl AddAssign<SignedDuration> for Timestamp {
 /// ghost add_gives = { λ at duration sum. sum ≡ at +ℤ pos (as_nanos duration) };
 /// ```
 ///
-/// [docs/STATEMENT.md](crate::proved#contracts) explains the words.
+/// [docs/proofs/STATEMENT.md](crate::proved#contracts) explains the words.
 impl Add<Duration> for Timestamp {
     type Output = Timestamp;
 
@@ -64,7 +64,7 @@ impl Add<Duration> for Timestamp {
 /// ghost add_assign_gives = { λ at duration sum. sum ≡ at +ℤ pos (as_nanos duration) };
 /// ```
 ///
-/// [docs/STATEMENT.md](crate::proved#contracts) explains the words.
+/// [docs/proofs/STATEMENT.md](crate::proved#contracts) explains the words.
 impl AddAssign<Duration> for Timestamp {
     #[inline]
     #[track_caller]
@@ -80,7 +80,7 @@ impl AddAssign<Duration> for Timestamp {
 /// ghost sub_gives = { λ at duration difference. difference ≡ at -ℤ duration };
 /// ```
 ///
-/// [docs/STATEMENT.md](crate::proved#contracts) explains the words.
+/// [docs/proofs/STATEMENT.md](crate::proved#contracts) explains the words.
 impl Sub<SignedDuration> for Timestamp {
     type Output = Timestamp;
 
@@ -98,7 +98,7 @@ impl Sub<SignedDuration> for Timestamp {
 /// ghost sub_assign_gives = { λ at duration difference. difference ≡ at -ℤ duration };
 /// ```
 ///
-/// [docs/STATEMENT.md](crate::proved#contracts) explains the words.
+/// [docs/proofs/STATEMENT.md](crate::proved#contracts) explains the words.
 impl SubAssign<SignedDuration> for Timestamp {
     #[inline]
     #[track_caller]
@@ -114,7 +114,7 @@ impl SubAssign<SignedDuration> for Timestamp {
 /// ghost sub_gives = { λ at duration difference. difference ≡ at -ℤ pos (as_nanos duration) };
 /// ```
 ///
-/// [docs/STATEMENT.md](crate::proved#contracts) explains the words.
+/// [docs/proofs/STATEMENT.md](crate::proved#contracts) explains the words.
 impl Sub<Duration> for Timestamp {
     type Output = Timestamp;
 
@@ -133,7 +133,7 @@ impl Sub<Duration> for Timestamp {
 ///     difference ≡ at -ℤ pos (as_nanos duration) };
 /// ```
 ///
-/// [docs/STATEMENT.md](crate::proved#contracts) explains the words.
+/// [docs/proofs/STATEMENT.md](crate::proved#contracts) explains the words.
 impl SubAssign<Duration> for Timestamp {
     #[inline]
     #[track_caller]
@@ -148,7 +148,7 @@ impl SubAssign<Duration> for Timestamp {
 /// ghost sub_gives = { λ at other difference. difference ≡ at -ℤ other };
 /// ```
 ///
-/// [docs/STATEMENT.md](crate::proved#contracts) explains the words.
+/// [docs/proofs/STATEMENT.md](crate::proved#contracts) explains the words.
 impl Sub for Timestamp {
     type Output = SignedDuration;
 

@@ -19,7 +19,7 @@ impl Timestamp {
     /// ensures in_range { IsDay result }
     /// ```
     ///
-    /// [docs/STATEMENT.md](crate::proved#contracts) explains the words.
+    /// [docs/proofs/STATEMENT.md](crate::proved#contracts) explains the words.
     #[inline]
     pub(crate) const fn day_number(self) -> i32 {
         day_and_second(self.as_seconds()).0
@@ -33,7 +33,7 @@ impl Timestamp {
     /// ensures in_range { result < 86_400 }
     /// ```
     ///
-    /// [docs/STATEMENT.md](crate::proved#contracts) explains the words.
+    /// [docs/proofs/STATEMENT.md](crate::proved#contracts) explains the words.
     #[inline]
     pub(crate) const fn second_of_day(self) -> u32 {
         day_and_second(self.as_seconds()).1
@@ -57,7 +57,7 @@ impl Timestamp {
     /// ensures self_in_range { IsInstant self }
     /// ```
     ///
-    /// [docs/STATEMENT.md](crate::proved#contracts) explains the words.
+    /// [docs/proofs/STATEMENT.md](crate::proved#contracts) explains the words.
     #[inline]
     pub const fn date(self) -> Date {
         let (year, _, ordinal) = year_leap_ordinal(self.day_number());
@@ -82,7 +82,7 @@ impl Timestamp {
     /// ensures self_in_range { IsInstant self }
     /// ```
     ///
-    /// [docs/STATEMENT.md](crate::proved#contracts) explains the words.
+    /// [docs/proofs/STATEMENT.md](crate::proved#contracts) explains the words.
     #[inline]
     pub const fn time(self) -> Time {
         Time::at_second_of_day(self.second_of_day(), self.nanosecond())
@@ -106,7 +106,7 @@ impl Timestamp {
     /// ensures in_range { IsYear result }
     /// ```
     ///
-    /// [docs/STATEMENT.md](crate::proved#contracts) explains the words.
+    /// [docs/proofs/STATEMENT.md](crate::proved#contracts) explains the words.
     #[inline]
     pub const fn year(self) -> i32 {
         year_leap_ordinal(self.day_number()).0
@@ -129,7 +129,7 @@ impl Timestamp {
     /// ensures { month_number result ≡ month_of (wall_day self) }
     /// ```
     ///
-    /// [docs/STATEMENT.md](crate::proved#contracts) explains the words.
+    /// [docs/proofs/STATEMENT.md](crate::proved#contracts) explains the words.
     #[inline]
     pub const fn month(self) -> Month {
         let (_, is_leap, ordinal) = year_leap_ordinal(self.day_number());
@@ -154,7 +154,7 @@ impl Timestamp {
     /// ensures in_range { IsInRange 1 31 result }
     /// ```
     ///
-    /// [docs/STATEMENT.md](crate::proved#contracts) explains the words.
+    /// [docs/proofs/STATEMENT.md](crate::proved#contracts) explains the words.
     #[inline]
     pub const fn day(self) -> u8 {
         let (_, is_leap, ordinal) = year_leap_ordinal(self.day_number());
@@ -179,7 +179,7 @@ impl Timestamp {
     /// ensures in_range { IsInRange 1 366 result }
     /// ```
     ///
-    /// [docs/STATEMENT.md](crate::proved#contracts) explains the words.
+    /// [docs/proofs/STATEMENT.md](crate::proved#contracts) explains the words.
     #[inline]
     pub const fn ordinal(self) -> u16 {
         year_leap_ordinal(self.day_number()).2
@@ -203,7 +203,7 @@ impl Timestamp {
     /// ensures in_range { IsInRange 1 53 result }
     /// ```
     ///
-    /// [docs/STATEMENT.md](crate::proved#contracts) explains the words.
+    /// [docs/proofs/STATEMENT.md](crate::proved#contracts) explains the words.
     #[inline]
     pub const fn iso_week(self) -> u8 {
         self.date().iso_week()
@@ -227,7 +227,7 @@ impl Timestamp {
     /// ensures in_range { result ≤ 53 }
     /// ```
     ///
-    /// [docs/STATEMENT.md](crate::proved#contracts) explains the words.
+    /// [docs/proofs/STATEMENT.md](crate::proved#contracts) explains the words.
     #[inline]
     pub const fn sunday_based_week(self) -> u8 {
         self.date().sunday_based_week()
@@ -251,7 +251,7 @@ impl Timestamp {
     /// ensures in_range { result ≤ 53 }
     /// ```
     ///
-    /// [docs/STATEMENT.md](crate::proved#contracts) explains the words.
+    /// [docs/proofs/STATEMENT.md](crate::proved#contracts) explains the words.
     #[inline]
     pub const fn monday_based_week(self) -> u8 {
         self.date().monday_based_week()
@@ -274,7 +274,7 @@ impl Timestamp {
     /// ensures { IsCalendarDateOf (wall_day self) result }
     /// ```
     ///
-    /// [docs/STATEMENT.md](crate::proved#contracts) explains the words.
+    /// [docs/proofs/STATEMENT.md](crate::proved#contracts) explains the words.
     #[inline]
     pub const fn to_calendar_date(self) -> (i32, Month, u8) {
         let (year, is_leap, ordinal) = year_leap_ordinal(self.day_number());
@@ -299,7 +299,7 @@ impl Timestamp {
     /// ensures { IsOrdinalDateOf (wall_day self) result }
     /// ```
     ///
-    /// [docs/STATEMENT.md](crate::proved#contracts) explains the words.
+    /// [docs/proofs/STATEMENT.md](crate::proved#contracts) explains the words.
     #[inline]
     pub const fn to_ordinal_date(self) -> (i32, u16) {
         let (year, _, ordinal) = year_leap_ordinal(self.day_number());
@@ -323,7 +323,7 @@ impl Timestamp {
     /// ensures { IsIsoWeekDateOf (wall_day self) result }
     /// ```
     ///
-    /// [docs/STATEMENT.md](crate::proved#contracts) explains the words.
+    /// [docs/proofs/STATEMENT.md](crate::proved#contracts) explains the words.
     #[inline]
     pub const fn to_iso_week_date(self) -> (i32, u8, Weekday) {
         self.date().to_iso_week_date()
@@ -346,7 +346,7 @@ impl Timestamp {
     /// ensures { weekday_number result ≡ weekday_of (wall_day self) }
     /// ```
     ///
-    /// [docs/STATEMENT.md](crate::proved#contracts) explains the words.
+    /// [docs/proofs/STATEMENT.md](crate::proved#contracts) explains the words.
     #[inline]
     pub const fn weekday(self) -> Weekday {
         Weekday::numbered(self.days_from_monday())
@@ -360,7 +360,7 @@ impl Timestamp {
     /// ensures in_range { result < 7 }
     /// ```
     ///
-    /// [docs/STATEMENT.md](crate::proved#contracts) explains the words.
+    /// [docs/proofs/STATEMENT.md](crate::proved#contracts) explains the words.
     #[inline]
     const fn days_from_monday(self) -> u8 {
         ((self.day_number() + DAYS_FROM_MONDAY) as u32 % 7) as u8
@@ -384,7 +384,7 @@ impl Timestamp {
     /// ensures self_in_range { IsInstant self }
     /// ```
     ///
-    /// [docs/STATEMENT.md](crate::proved#contracts) explains the words.
+    /// [docs/proofs/STATEMENT.md](crate::proved#contracts) explains the words.
     #[inline]
     pub const fn to_julian_day(self) -> i32 {
         self.day_number() + EPOCH_JULIAN_DAY
@@ -408,7 +408,7 @@ impl Timestamp {
     /// ensures in_range { AreTimeParts result.0 result.1 result.2 0 }
     /// ```
     ///
-    /// [docs/STATEMENT.md](crate::proved#contracts) explains the words.
+    /// [docs/proofs/STATEMENT.md](crate::proved#contracts) explains the words.
     #[inline]
     pub const fn as_hms(self) -> (u8, u8, u8) {
         self.time().as_hms()
@@ -434,7 +434,7 @@ impl Timestamp {
     ///     (result.3 * nanos_per_millisecond) }
     /// ```
     ///
-    /// [docs/STATEMENT.md](crate::proved#contracts) explains the words.
+    /// [docs/proofs/STATEMENT.md](crate::proved#contracts) explains the words.
     #[inline]
     pub const fn as_hms_milli(self) -> (u8, u8, u8, u16) {
         let (hour, minute, second) = self.as_hms();
@@ -461,7 +461,7 @@ impl Timestamp {
     ///     (result.3 * nanos_per_microsecond) }
     /// ```
     ///
-    /// [docs/STATEMENT.md](crate::proved#contracts) explains the words.
+    /// [docs/proofs/STATEMENT.md](crate::proved#contracts) explains the words.
     #[inline]
     pub const fn as_hms_micro(self) -> (u8, u8, u8, u32) {
         let (hour, minute, second) = self.as_hms();
@@ -487,7 +487,7 @@ impl Timestamp {
     /// ensures in_range { AreTimeParts result.0 result.1 result.2 result.3 }
     /// ```
     ///
-    /// [docs/STATEMENT.md](crate::proved#contracts) explains the words.
+    /// [docs/proofs/STATEMENT.md](crate::proved#contracts) explains the words.
     #[inline]
     pub const fn as_hms_nano(self) -> (u8, u8, u8, u32) {
         let (hour, minute, second) = self.as_hms();
@@ -512,7 +512,7 @@ impl Timestamp {
     /// ensures in_range { result ≤ 23 }
     /// ```
     ///
-    /// [docs/STATEMENT.md](crate::proved#contracts) explains the words.
+    /// [docs/proofs/STATEMENT.md](crate::proved#contracts) explains the words.
     #[inline]
     pub const fn hour(self) -> u8 {
         self.time().hour()
@@ -536,7 +536,7 @@ impl Timestamp {
     /// ensures in_range { result ≤ 59 }
     /// ```
     ///
-    /// [docs/STATEMENT.md](crate::proved#contracts) explains the words.
+    /// [docs/proofs/STATEMENT.md](crate::proved#contracts) explains the words.
     #[inline]
     pub const fn minute(self) -> u8 {
         self.time().minute()
@@ -560,7 +560,7 @@ impl Timestamp {
     /// ensures in_range { result ≤ 59 }
     /// ```
     ///
-    /// [docs/STATEMENT.md](crate::proved#contracts) explains the words.
+    /// [docs/proofs/STATEMENT.md](crate::proved#contracts) explains the words.
     #[inline]
     pub const fn second(self) -> u8 {
         self.time().second()
@@ -584,7 +584,7 @@ impl Timestamp {
     /// ensures in_range { result ≤ 999 }
     /// ```
     ///
-    /// [docs/STATEMENT.md](crate::proved#contracts) explains the words.
+    /// [docs/proofs/STATEMENT.md](crate::proved#contracts) explains the words.
     #[inline]
     pub const fn millisecond(self) -> u16 {
         (self.nanosecond() / 1_000_000) as u16
@@ -608,7 +608,7 @@ impl Timestamp {
     /// ensures in_range { result ≤ 999_999 }
     /// ```
     ///
-    /// [docs/STATEMENT.md](crate::proved#contracts) explains the words.
+    /// [docs/proofs/STATEMENT.md](crate::proved#contracts) explains the words.
     #[inline]
     pub const fn microsecond(self) -> u32 {
         self.nanosecond() / 1_000
@@ -632,7 +632,7 @@ impl Timestamp {
     /// ensures in_range { result ≤ 999_999_999 }
     /// ```
     ///
-    /// [docs/STATEMENT.md](crate::proved#contracts) explains the words.
+    /// [docs/proofs/STATEMENT.md](crate::proved#contracts) explains the words.
     #[inline]
     pub const fn nanosecond(self) -> u32 {
         self.nanosecond

@@ -24,7 +24,7 @@ impl Timestamp {
     /// ensures { ReplacesTime self time result }
     /// ```
     ///
-    /// [docs/STATEMENT.md](crate::proved#contracts) explains the words.
+    /// [docs/proofs/STATEMENT.md](crate::proved#contracts) explains the words.
     #[inline]
     pub const fn replace_time(self, time: Time) -> Timestamp {
         instant_on_day(self.day_number(), time.second_of_day(), time.nanosecond())
@@ -50,7 +50,7 @@ impl Timestamp {
     /// ensures { ReplacesDate self date result }
     /// ```
     ///
-    /// [docs/STATEMENT.md](crate::proved#contracts) explains the words.
+    /// [docs/proofs/STATEMENT.md](crate::proved#contracts) explains the words.
     #[inline]
     pub const fn replace_date(self, date: Date) -> Timestamp {
         instant_on_day(
@@ -79,7 +79,7 @@ impl Timestamp {
     /// ensures shown { IfOk result (ShowsYear self year) }
     /// ```
     ///
-    /// [docs/STATEMENT.md](crate::proved#contracts) explains the words.
+    /// [docs/proofs/STATEMENT.md](crate::proved#contracts) explains the words.
     #[inline]
     pub const fn replace_year(self, year: i32) -> Result<Timestamp, ComponentRange> {
         match self.date().replace_year(year) {
@@ -107,7 +107,7 @@ impl Timestamp {
     /// ensures shown { IfOk result (ShowsMonth self (month_number month)) }
     /// ```
     ///
-    /// [docs/STATEMENT.md](crate::proved#contracts) explains the words.
+    /// [docs/proofs/STATEMENT.md](crate::proved#contracts) explains the words.
     #[inline]
     pub const fn replace_month(self, month: Month) -> Result<Timestamp, ComponentRange> {
         match self.date().replace_month(month) {
@@ -135,7 +135,7 @@ impl Timestamp {
     /// ensures shown { IfOk result (ShowsDay self day) }
     /// ```
     ///
-    /// [docs/STATEMENT.md](crate::proved#contracts) explains the words.
+    /// [docs/proofs/STATEMENT.md](crate::proved#contracts) explains the words.
     #[inline]
     pub const fn replace_day(self, day: u8) -> Result<Timestamp, ComponentRange> {
         match self.date().replace_day(day) {
@@ -163,7 +163,7 @@ impl Timestamp {
     /// ensures shown { IfOk result (ShowsOrdinal self ordinal) }
     /// ```
     ///
-    /// [docs/STATEMENT.md](crate::proved#contracts) explains the words.
+    /// [docs/proofs/STATEMENT.md](crate::proved#contracts) explains the words.
     #[inline]
     pub const fn replace_ordinal(self, ordinal: u16) -> Result<Timestamp, ComponentRange> {
         match self.date().replace_ordinal(ordinal) {
@@ -191,7 +191,7 @@ impl Timestamp {
     /// ensures shown { IfOk result (ShowsHour self hour) }
     /// ```
     ///
-    /// [docs/STATEMENT.md](crate::proved#contracts) explains the words.
+    /// [docs/proofs/STATEMENT.md](crate::proved#contracts) explains the words.
     #[inline]
     pub const fn replace_hour(self, hour: u8) -> Result<Timestamp, ComponentRange> {
         match self.time().replace_hour(hour) {
@@ -219,7 +219,7 @@ impl Timestamp {
     /// ensures shown { IfOk result (ShowsMinute self minute) }
     /// ```
     ///
-    /// [docs/STATEMENT.md](crate::proved#contracts) explains the words.
+    /// [docs/proofs/STATEMENT.md](crate::proved#contracts) explains the words.
     #[inline]
     pub const fn replace_minute(self, minute: u8) -> Result<Timestamp, ComponentRange> {
         match self.time().replace_minute(minute) {
@@ -247,7 +247,7 @@ impl Timestamp {
     /// ensures shown { IfOk result (ShowsSecond self second) }
     /// ```
     ///
-    /// [docs/STATEMENT.md](crate::proved#contracts) explains the words.
+    /// [docs/proofs/STATEMENT.md](crate::proved#contracts) explains the words.
     #[inline]
     pub const fn replace_second(self, second: u8) -> Result<Timestamp, ComponentRange> {
         match self.time().replace_second(second) {
@@ -279,7 +279,7 @@ impl Timestamp {
     /// ensures shown { IfOk result (ShowsMillisecond self millisecond) }
     /// ```
     ///
-    /// [docs/STATEMENT.md](crate::proved#contracts) explains the words.
+    /// [docs/proofs/STATEMENT.md](crate::proved#contracts) explains the words.
     #[inline]
     pub const fn replace_millisecond(self, millisecond: u16) -> Result<Timestamp, ComponentRange> {
         if millisecond > 999 {
@@ -311,7 +311,7 @@ impl Timestamp {
     /// ensures shown { IfOk result (ShowsMicrosecond self microsecond) }
     /// ```
     ///
-    /// [docs/STATEMENT.md](crate::proved#contracts) explains the words.
+    /// [docs/proofs/STATEMENT.md](crate::proved#contracts) explains the words.
     #[inline]
     pub const fn replace_microsecond(self, microsecond: u32) -> Result<Timestamp, ComponentRange> {
         if microsecond > 999_999 {
@@ -343,7 +343,7 @@ impl Timestamp {
     /// ensures shown { IfOk result (ShowsNanosecond self nanosecond) }
     /// ```
     ///
-    /// [docs/STATEMENT.md](crate::proved#contracts) explains the words.
+    /// [docs/proofs/STATEMENT.md](crate::proved#contracts) explains the words.
     #[inline]
     pub const fn replace_nanosecond(self, nanosecond: u32) -> Result<Timestamp, ComponentRange> {
         if nanosecond > 999_999_999 {
@@ -361,7 +361,7 @@ impl Timestamp {
     ///     with_time self (clock_of_parts (hour_of c) (minute_of c) (second_of c) nanosecond) }
     /// ```
     ///
-    /// [docs/STATEMENT.md](crate::proved#contracts) explains the words.
+    /// [docs/proofs/STATEMENT.md](crate::proved#contracts) explains the words.
     #[inline]
     const fn with_nanosecond(self, nanosecond: u32) -> Timestamp {
         Timestamp { nanosecond, ..self }
@@ -378,7 +378,7 @@ impl Timestamp {
 /// ensures { result ≡ wall_clock day (second * nanos_per_second + nanosecond) }
 /// ```
 ///
-/// [docs/STATEMENT.md](crate::proved#contracts) explains the words.
+/// [docs/proofs/STATEMENT.md](crate::proved#contracts) explains the words.
 #[inline]
 const fn instant_on_day(day: i32, second: u32, nanosecond: u32) -> Timestamp {
     Timestamp {

@@ -27,7 +27,7 @@ impl Timestamp {
     /// ensures { SomeInRange result (self +ℤ duration) }
     /// ```
     ///
-    /// [docs/STATEMENT.md](crate::proved#contracts) explains the words.
+    /// [docs/proofs/STATEMENT.md](crate::proved#contracts) explains the words.
     #[inline]
     pub const fn checked_add(self, duration: SignedDuration) -> Option<Timestamp> {
         match self.as_seconds().checked_add(duration.whole_seconds()) {
@@ -56,7 +56,7 @@ impl Timestamp {
     /// ensures { SomeInRange result (self -ℤ duration) }
     /// ```
     ///
-    /// [docs/STATEMENT.md](crate::proved#contracts) explains the words.
+    /// [docs/proofs/STATEMENT.md](crate::proved#contracts) explains the words.
     #[inline]
     pub const fn checked_sub(self, duration: SignedDuration) -> Option<Timestamp> {
         match self.as_seconds().checked_sub(duration.whole_seconds()) {
@@ -86,7 +86,7 @@ impl Timestamp {
     /// ensures { SomeInRange result (self +ℤ pos (as_nanos duration)) }
     /// ```
     ///
-    /// [docs/STATEMENT.md](crate::proved#contracts) explains the words.
+    /// [docs/proofs/STATEMENT.md](crate::proved#contracts) explains the words.
     #[inline]
     pub const fn checked_add_std(self, duration: Duration) -> Option<Timestamp> {
         match self.as_seconds().checked_add_unsigned(duration.as_secs()) {
@@ -116,7 +116,7 @@ impl Timestamp {
     /// ensures { SomeInRange result (self -ℤ pos (as_nanos duration)) }
     /// ```
     ///
-    /// [docs/STATEMENT.md](crate::proved#contracts) explains the words.
+    /// [docs/proofs/STATEMENT.md](crate::proved#contracts) explains the words.
     #[inline]
     pub const fn checked_sub_std(self, duration: Duration) -> Option<Timestamp> {
         match self.as_seconds().checked_sub_unsigned(duration.as_secs()) {
@@ -150,7 +150,7 @@ impl Timestamp {
     /// ensures { IsSaturatingSum self duration result }
     /// ```
     ///
-    /// [docs/STATEMENT.md](crate::proved#contracts) explains the words.
+    /// [docs/proofs/STATEMENT.md](crate::proved#contracts) explains the words.
     #[inline]
     pub const fn saturating_add(self, duration: SignedDuration) -> Timestamp {
         // For the proof alone: what is read lies in its range.
@@ -183,7 +183,7 @@ impl Timestamp {
     /// ensures { IsSaturatingDifference self duration result }
     /// ```
     ///
-    /// [docs/STATEMENT.md](crate::proved#contracts) explains the words.
+    /// [docs/proofs/STATEMENT.md](crate::proved#contracts) explains the words.
     #[inline]
     pub const fn saturating_sub(self, duration: SignedDuration) -> Timestamp {
         // For the proof alone: what is read lies in its range.
@@ -206,7 +206,7 @@ impl Timestamp {
 /// ensures { SomeInRange result (instant_of_parts seconds nanosecond +ℤ change) }
 /// ```
 ///
-/// [docs/STATEMENT.md](crate::proved#contracts) explains the words.
+/// [docs/proofs/STATEMENT.md](crate::proved#contracts) explains the words.
 #[inline]
 const fn carried(seconds: i64, nanosecond: u32, change: i32) -> Option<Timestamp> {
     let nanoseconds = nanosecond as i32 + change;
@@ -233,7 +233,7 @@ const fn carried(seconds: i64, nanosecond: u32, change: i32) -> Option<Timestamp
 /// ensures { SomeInRange result (instant_of_parts seconds nanosecond) }
 /// ```
 ///
-/// [docs/STATEMENT.md](crate::proved#contracts) explains the words.
+/// [docs/proofs/STATEMENT.md](crate::proved#contracts) explains the words.
 #[inline]
 const fn from_parts(seconds: i64, nanosecond: u32) -> Option<Timestamp> {
     if seconds < FIRST_SECOND || seconds > LAST_SECOND {

@@ -25,7 +25,7 @@ impl Timestamp {
     /// ensures length { length result ≤ 25 }
     /// ```
     ///
-    /// [docs/STATEMENT.md](crate::proved#contracts) explains the words.
+    /// [docs/proofs/STATEMENT.md](crate::proved#contracts) explains the words.
     #[inline]
     pub fn text(self) -> Text {
         let mut text = Text::new();
@@ -43,7 +43,7 @@ impl Timestamp {
     /// ensures length { length text.new ≤ length text.old + 25 }
     /// ```
     ///
-    /// [docs/STATEMENT.md](crate::proved#contracts) explains the words.
+    /// [docs/proofs/STATEMENT.md](crate::proved#contracts) explains the words.
     #[inline]
     pub(in crate::proved) fn append_to(self, text: &mut Text) {
         let (seconds, nanoseconds) = self.magnitude();
@@ -62,7 +62,7 @@ impl Timestamp {
     /// ensures in_range { result.0 < 10 ^ 14 }
     /// ```
     ///
-    /// [docs/STATEMENT.md](crate::proved#contracts) explains the words.
+    /// [docs/proofs/STATEMENT.md](crate::proved#contracts) explains the words.
     #[inline]
     const fn magnitude(self) -> (u64, u32) {
         let seconds = self.as_seconds();
@@ -88,7 +88,7 @@ impl Timestamp {
 /// ensures length { length text.new ≤ length text.old + 24 }
 /// ```
 ///
-/// [docs/STATEMENT.md](crate::proved#contracts) explains the words.
+/// [docs/proofs/STATEMENT.md](crate::proved#contracts) explains the words.
 #[inline]
 fn push_seconds(text: &mut Text, seconds: u64, nanoseconds: u32) {
     text.push_decimal(seconds);
@@ -105,7 +105,7 @@ fn push_seconds(text: &mut Text, seconds: u64, nanoseconds: u32) {
 /// ghost styled_output = { λ i spec. Some (padded spec (timestamp_text i)) };
 /// ```
 ///
-/// [docs/STATEMENT.md](crate::proved#contracts) explains the words.
+/// [docs/proofs/STATEMENT.md](crate::proved#contracts) explains the words.
 impl fmt::Display for Timestamp {
     #[inline]
     fn fmt(&self, f: &mut fmt::Formatter) -> fmt::Result {
@@ -119,7 +119,7 @@ impl fmt::Display for Timestamp {
 /// ghost debug_output = { λ i. Some (timestamp_text i) };
 /// ```
 ///
-/// [docs/STATEMENT.md](crate::proved#contracts) explains the words.
+/// [docs/proofs/STATEMENT.md](crate::proved#contracts) explains the words.
 impl fmt::Debug for Timestamp {
     #[inline]
     fn fmt(&self, f: &mut fmt::Formatter) -> fmt::Result {

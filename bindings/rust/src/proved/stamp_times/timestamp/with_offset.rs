@@ -29,7 +29,7 @@ impl Timestamp {
     /// ensures instant { instant_of result ≡ self }
     /// ```
     ///
-    /// [docs/STATEMENT.md](crate::proved#contracts) explains the words.
+    /// [docs/proofs/STATEMENT.md](crate::proved#contracts) explains the words.
     #[inline]
     #[track_caller]
     pub const fn to_offset(self, offset: UtcOffset) -> OffsetDateTime {
@@ -58,7 +58,7 @@ impl Timestamp {
     /// ensures instant { IfSome result (λ at. instant_of at ≡ self) }
     /// ```
     ///
-    /// [docs/STATEMENT.md](crate::proved#contracts) explains the words.
+    /// [docs/proofs/STATEMENT.md](crate::proved#contracts) explains the words.
     #[inline]
     pub const fn checked_to_offset(self, offset: UtcOffset) -> Option<OffsetDateTime> {
         self.to_utc().checked_to_offset(offset)
@@ -81,7 +81,7 @@ impl Timestamp {
     /// ensures { result ≡ int_eq self (instant_of other) }
     /// ```
     ///
-    /// [docs/STATEMENT.md](crate::proved#contracts) explains the words.
+    /// [docs/proofs/STATEMENT.md](crate::proved#contracts) explains the words.
     #[inline]
     pub fn eq_offset(self, other: OffsetDateTime) -> bool {
         OffsetDateTime::from(self) == other
@@ -104,7 +104,7 @@ impl Timestamp {
     /// ensures { result ≡ int_cmp self (instant_of other) }
     /// ```
     ///
-    /// [docs/STATEMENT.md](crate::proved#contracts) explains the words.
+    /// [docs/proofs/STATEMENT.md](crate::proved#contracts) explains the words.
     #[inline]
     pub fn cmp_offset(self, other: OffsetDateTime) -> Ordering {
         OffsetDateTime::from(self).cmp(&other)
@@ -117,7 +117,7 @@ impl Timestamp {
 /// ghost from_gives = { λ stamp at. (at ≡ local_in_utc stamp) × (instant_of at ≡ stamp) };
 /// ```
 ///
-/// [docs/STATEMENT.md](crate::proved#contracts) explains the words.
+/// [docs/proofs/STATEMENT.md](crate::proved#contracts) explains the words.
 impl From<Timestamp> for OffsetDateTime {
     #[inline]
     fn from(stamp: Timestamp) -> OffsetDateTime {
@@ -131,7 +131,7 @@ impl From<Timestamp> for OffsetDateTime {
 /// ghost sub_gives = { λ stamp at difference. difference ≡ stamp -ℤ instant_of at };
 /// ```
 ///
-/// [docs/STATEMENT.md](crate::proved#contracts) explains the words.
+/// [docs/proofs/STATEMENT.md](crate::proved#contracts) explains the words.
 impl Sub<OffsetDateTime> for Timestamp {
     type Output = SignedDuration;
     #[inline]
@@ -146,7 +146,7 @@ impl Sub<OffsetDateTime> for Timestamp {
 /// ghost sub_gives = { λ at stamp difference. difference ≡ instant_of at -ℤ stamp };
 /// ```
 ///
-/// [docs/STATEMENT.md](crate::proved#contracts) explains the words.
+/// [docs/proofs/STATEMENT.md](crate::proved#contracts) explains the words.
 impl Sub<Timestamp> for OffsetDateTime {
     type Output = SignedDuration;
     #[inline]

@@ -23,7 +23,7 @@ impl Timestamp {
     /// ensures { result ≡ self }
     /// ```
     ///
-    /// [docs/STATEMENT.md](crate::proved#contracts) explains the words.
+    /// [docs/proofs/STATEMENT.md](crate::proved#contracts) explains the words.
     #[inline]
     pub const fn to_utc(self) -> UtcDateTime {
         UtcDateTime::new(self.date(), self.time())
@@ -46,7 +46,7 @@ impl Timestamp {
     /// ensures { result ≡ int_eq self other }
     /// ```
     ///
-    /// [docs/STATEMENT.md](crate::proved#contracts) explains the words.
+    /// [docs/proofs/STATEMENT.md](crate::proved#contracts) explains the words.
     #[inline]
     pub fn eq_utc(self, other: UtcDateTime) -> bool {
         self == Timestamp::from(other)
@@ -71,7 +71,7 @@ impl Timestamp {
     /// ensures { result ≡ int_cmp self other }
     /// ```
     ///
-    /// [docs/STATEMENT.md](crate::proved#contracts) explains the words.
+    /// [docs/proofs/STATEMENT.md](crate::proved#contracts) explains the words.
     #[inline]
     pub fn cmp_utc(self, other: UtcDateTime) -> Ordering {
         self.cmp(&Timestamp::from(other))
@@ -84,7 +84,7 @@ impl Timestamp {
     /// ensures { result ≡ at }
     /// ```
     ///
-    /// [docs/STATEMENT.md](crate::proved#contracts) explains the words.
+    /// [docs/proofs/STATEMENT.md](crate::proved#contracts) explains the words.
     #[inline]
     pub(crate) const fn from_utc(at: UtcDateTime) -> Timestamp {
         Timestamp {
@@ -101,7 +101,7 @@ impl Timestamp {
 /// ghost from_gives = { λ at stamp. stamp ≡ at };
 /// ```
 ///
-/// [docs/STATEMENT.md](crate::proved#contracts) explains the words.
+/// [docs/proofs/STATEMENT.md](crate::proved#contracts) explains the words.
 impl From<UtcDateTime> for Timestamp {
     #[inline]
     fn from(at: UtcDateTime) -> Timestamp {
@@ -115,7 +115,7 @@ impl From<UtcDateTime> for Timestamp {
 /// ghost from_gives = { λ stamp at. at ≡ stamp };
 /// ```
 ///
-/// [docs/STATEMENT.md](crate::proved#contracts) explains the words.
+/// [docs/proofs/STATEMENT.md](crate::proved#contracts) explains the words.
 impl From<Timestamp> for UtcDateTime {
     #[inline]
     fn from(stamp: Timestamp) -> UtcDateTime {
@@ -129,7 +129,7 @@ impl From<Timestamp> for UtcDateTime {
 /// ghost sub_gives = { λ stamp at difference. difference ≡ stamp -ℤ at };
 /// ```
 ///
-/// [docs/STATEMENT.md](crate::proved#contracts) explains the words.
+/// [docs/proofs/STATEMENT.md](crate::proved#contracts) explains the words.
 impl Sub<UtcDateTime> for Timestamp {
     type Output = SignedDuration;
 
@@ -145,7 +145,7 @@ impl Sub<UtcDateTime> for Timestamp {
 /// ghost sub_gives = { λ at stamp difference. difference ≡ at -ℤ stamp };
 /// ```
 ///
-/// [docs/STATEMENT.md](crate::proved#contracts) explains the words.
+/// [docs/proofs/STATEMENT.md](crate::proved#contracts) explains the words.
 impl Sub<Timestamp> for UtcDateTime {
     type Output = SignedDuration;
 

@@ -10,7 +10,7 @@ use std::hash::{Hash, Hasher};
 /// ghost eq = { int_eq };
 /// ```
 ///
-/// [docs/STATEMENT.md](crate::proved#contracts) explains the words.
+/// [docs/proofs/STATEMENT.md](crate::proved#contracts) explains the words.
 impl PartialEq for UtcDateTime {
     #[inline]
     fn eq(&self, other: &UtcDateTime) -> bool {
@@ -26,7 +26,7 @@ impl Eq for UtcDateTime {}
 /// ghost cmp = { int_cmp };
 /// ```
 ///
-/// [docs/STATEMENT.md](crate::proved#contracts) explains the words.
+/// [docs/proofs/STATEMENT.md](crate::proved#contracts) explains the words.
 impl Ord for UtcDateTime {
     #[inline]
     fn cmp(&self, other: &UtcDateTime) -> Ordering {
@@ -40,7 +40,7 @@ impl Ord for UtcDateTime {
 /// ghost partial_cmp = { as_partial_cmp int_cmp };
 /// ```
 ///
-/// [docs/STATEMENT.md](crate::proved#contracts) explains the words.
+/// [docs/proofs/STATEMENT.md](crate::proved#contracts) explains the words.
 impl PartialOrd for UtcDateTime {
     #[inline]
     fn partial_cmp(&self, other: &UtcDateTime) -> Option<Ordering> {
@@ -55,7 +55,7 @@ impl PartialOrd for UtcDateTime {
 /// ghost hash_input = { λ i. fed.i128 (packed_wall_clock i) };
 /// ```
 ///
-/// [docs/STATEMENT.md](crate::proved#contracts) explains the words.
+/// [docs/proofs/STATEMENT.md](crate::proved#contracts) explains the words.
 impl Hash for UtcDateTime {
     #[inline]
     fn hash<H: Hasher>(&self, state: &mut H) {

@@ -22,7 +22,7 @@ impl UtcDateTime {
     /// ensures self_in_range { IsInstant self }
     /// ```
     ///
-    /// [docs/STATEMENT.md](crate::proved#contracts) explains the words.
+    /// [docs/proofs/STATEMENT.md](crate::proved#contracts) explains the words.
     #[inline]
     pub const fn date(self) -> Date {
         self.as_plain().date()
@@ -46,7 +46,7 @@ impl UtcDateTime {
     /// ensures self_in_range { IsInstant self }
     /// ```
     ///
-    /// [docs/STATEMENT.md](crate::proved#contracts) explains the words.
+    /// [docs/proofs/STATEMENT.md](crate::proved#contracts) explains the words.
     #[inline]
     pub const fn time(self) -> Time {
         self.as_plain().time()
@@ -70,7 +70,7 @@ impl UtcDateTime {
     /// ensures in_range { IsYear result }
     /// ```
     ///
-    /// [docs/STATEMENT.md](crate::proved#contracts) explains the words.
+    /// [docs/proofs/STATEMENT.md](crate::proved#contracts) explains the words.
     #[inline]
     pub const fn year(self) -> i32 {
         self.as_plain().year()
@@ -93,7 +93,7 @@ impl UtcDateTime {
     /// ensures { month_number result ≡ month_of (wall_day self) }
     /// ```
     ///
-    /// [docs/STATEMENT.md](crate::proved#contracts) explains the words.
+    /// [docs/proofs/STATEMENT.md](crate::proved#contracts) explains the words.
     #[inline]
     pub const fn month(self) -> Month {
         self.as_plain().month()
@@ -117,7 +117,7 @@ impl UtcDateTime {
     /// ensures in_range { IsInRange 1 31 result }
     /// ```
     ///
-    /// [docs/STATEMENT.md](crate::proved#contracts) explains the words.
+    /// [docs/proofs/STATEMENT.md](crate::proved#contracts) explains the words.
     #[inline]
     pub const fn day(self) -> u8 {
         self.as_plain().day()
@@ -141,7 +141,7 @@ impl UtcDateTime {
     /// ensures in_range { IsInRange 1 366 result }
     /// ```
     ///
-    /// [docs/STATEMENT.md](crate::proved#contracts) explains the words.
+    /// [docs/proofs/STATEMENT.md](crate::proved#contracts) explains the words.
     #[inline]
     pub const fn ordinal(self) -> u16 {
         self.as_plain().ordinal()
@@ -165,7 +165,7 @@ impl UtcDateTime {
     /// ensures in_range { IsInRange 1 53 result }
     /// ```
     ///
-    /// [docs/STATEMENT.md](crate::proved#contracts) explains the words.
+    /// [docs/proofs/STATEMENT.md](crate::proved#contracts) explains the words.
     #[inline]
     pub const fn iso_week(self) -> u8 {
         self.as_plain().iso_week()
@@ -189,7 +189,7 @@ impl UtcDateTime {
     /// ensures in_range { result ≤ 53 }
     /// ```
     ///
-    /// [docs/STATEMENT.md](crate::proved#contracts) explains the words.
+    /// [docs/proofs/STATEMENT.md](crate::proved#contracts) explains the words.
     #[inline]
     pub const fn sunday_based_week(self) -> u8 {
         self.as_plain().sunday_based_week()
@@ -213,7 +213,7 @@ impl UtcDateTime {
     /// ensures in_range { result ≤ 53 }
     /// ```
     ///
-    /// [docs/STATEMENT.md](crate::proved#contracts) explains the words.
+    /// [docs/proofs/STATEMENT.md](crate::proved#contracts) explains the words.
     #[inline]
     pub const fn monday_based_week(self) -> u8 {
         self.as_plain().monday_based_week()
@@ -236,7 +236,7 @@ impl UtcDateTime {
     /// ensures { IsCalendarDateOf (wall_day self) result }
     /// ```
     ///
-    /// [docs/STATEMENT.md](crate::proved#contracts) explains the words.
+    /// [docs/proofs/STATEMENT.md](crate::proved#contracts) explains the words.
     #[inline]
     pub const fn to_calendar_date(self) -> (i32, Month, u8) {
         self.as_plain().to_calendar_date()
@@ -259,7 +259,7 @@ impl UtcDateTime {
     /// ensures { IsOrdinalDateOf (wall_day self) result }
     /// ```
     ///
-    /// [docs/STATEMENT.md](crate::proved#contracts) explains the words.
+    /// [docs/proofs/STATEMENT.md](crate::proved#contracts) explains the words.
     #[inline]
     pub const fn to_ordinal_date(self) -> (i32, u16) {
         self.as_plain().to_ordinal_date()
@@ -282,7 +282,7 @@ impl UtcDateTime {
     /// ensures { IsIsoWeekDateOf (wall_day self) result }
     /// ```
     ///
-    /// [docs/STATEMENT.md](crate::proved#contracts) explains the words.
+    /// [docs/proofs/STATEMENT.md](crate::proved#contracts) explains the words.
     #[inline]
     pub const fn to_iso_week_date(self) -> (i32, u8, Weekday) {
         self.as_plain().to_iso_week_date()
@@ -305,7 +305,7 @@ impl UtcDateTime {
     /// ensures { weekday_number result ≡ weekday_of (wall_day self) }
     /// ```
     ///
-    /// [docs/STATEMENT.md](crate::proved#contracts) explains the words.
+    /// [docs/proofs/STATEMENT.md](crate::proved#contracts) explains the words.
     #[inline]
     pub const fn weekday(self) -> Weekday {
         self.as_plain().weekday()
@@ -329,7 +329,7 @@ impl UtcDateTime {
     /// ensures self_in_range { IsInstant self }
     /// ```
     ///
-    /// [docs/STATEMENT.md](crate::proved#contracts) explains the words.
+    /// [docs/proofs/STATEMENT.md](crate::proved#contracts) explains the words.
     #[inline]
     pub const fn to_julian_day(self) -> i32 {
         self.as_plain().to_julian_day()
@@ -353,7 +353,7 @@ impl UtcDateTime {
     /// ensures in_range { AreTimeParts result.0 result.1 result.2 0 }
     /// ```
     ///
-    /// [docs/STATEMENT.md](crate::proved#contracts) explains the words.
+    /// [docs/proofs/STATEMENT.md](crate::proved#contracts) explains the words.
     #[inline]
     pub const fn as_hms(self) -> (u8, u8, u8) {
         self.as_plain().as_hms()
@@ -379,7 +379,7 @@ impl UtcDateTime {
     ///     (result.3 * nanos_per_millisecond) }
     /// ```
     ///
-    /// [docs/STATEMENT.md](crate::proved#contracts) explains the words.
+    /// [docs/proofs/STATEMENT.md](crate::proved#contracts) explains the words.
     #[inline]
     pub const fn as_hms_milli(self) -> (u8, u8, u8, u16) {
         self.as_plain().as_hms_milli()
@@ -405,7 +405,7 @@ impl UtcDateTime {
     ///     (result.3 * nanos_per_microsecond) }
     /// ```
     ///
-    /// [docs/STATEMENT.md](crate::proved#contracts) explains the words.
+    /// [docs/proofs/STATEMENT.md](crate::proved#contracts) explains the words.
     #[inline]
     pub const fn as_hms_micro(self) -> (u8, u8, u8, u32) {
         self.as_plain().as_hms_micro()
@@ -430,7 +430,7 @@ impl UtcDateTime {
     /// ensures in_range { AreTimeParts result.0 result.1 result.2 result.3 }
     /// ```
     ///
-    /// [docs/STATEMENT.md](crate::proved#contracts) explains the words.
+    /// [docs/proofs/STATEMENT.md](crate::proved#contracts) explains the words.
     #[inline]
     pub const fn as_hms_nano(self) -> (u8, u8, u8, u32) {
         self.as_plain().as_hms_nano()
@@ -454,7 +454,7 @@ impl UtcDateTime {
     /// ensures in_range { result ≤ 23 }
     /// ```
     ///
-    /// [docs/STATEMENT.md](crate::proved#contracts) explains the words.
+    /// [docs/proofs/STATEMENT.md](crate::proved#contracts) explains the words.
     #[inline]
     pub const fn hour(self) -> u8 {
         self.as_plain().hour()
@@ -478,7 +478,7 @@ impl UtcDateTime {
     /// ensures in_range { result ≤ 59 }
     /// ```
     ///
-    /// [docs/STATEMENT.md](crate::proved#contracts) explains the words.
+    /// [docs/proofs/STATEMENT.md](crate::proved#contracts) explains the words.
     #[inline]
     pub const fn minute(self) -> u8 {
         self.as_plain().minute()
@@ -502,7 +502,7 @@ impl UtcDateTime {
     /// ensures in_range { result ≤ 59 }
     /// ```
     ///
-    /// [docs/STATEMENT.md](crate::proved#contracts) explains the words.
+    /// [docs/proofs/STATEMENT.md](crate::proved#contracts) explains the words.
     #[inline]
     pub const fn second(self) -> u8 {
         self.as_plain().second()
@@ -526,7 +526,7 @@ impl UtcDateTime {
     /// ensures in_range { result ≤ 999 }
     /// ```
     ///
-    /// [docs/STATEMENT.md](crate::proved#contracts) explains the words.
+    /// [docs/proofs/STATEMENT.md](crate::proved#contracts) explains the words.
     #[inline]
     pub const fn millisecond(self) -> u16 {
         self.as_plain().millisecond()
@@ -550,7 +550,7 @@ impl UtcDateTime {
     /// ensures in_range { result ≤ 999_999 }
     /// ```
     ///
-    /// [docs/STATEMENT.md](crate::proved#contracts) explains the words.
+    /// [docs/proofs/STATEMENT.md](crate::proved#contracts) explains the words.
     #[inline]
     pub const fn microsecond(self) -> u32 {
         self.as_plain().microsecond()
@@ -574,7 +574,7 @@ impl UtcDateTime {
     /// ensures in_range { result ≤ 999_999_999 }
     /// ```
     ///
-    /// [docs/STATEMENT.md](crate::proved#contracts) explains the words.
+    /// [docs/proofs/STATEMENT.md](crate::proved#contracts) explains the words.
     #[inline]
     pub const fn nanosecond(self) -> u32 {
         self.as_plain().nanosecond()

@@ -24,7 +24,7 @@ impl UtcDateTime {
     /// ensures { ReplacesTime self time result }
     /// ```
     ///
-    /// [docs/STATEMENT.md](crate::proved#contracts) explains the words.
+    /// [docs/proofs/STATEMENT.md](crate::proved#contracts) explains the words.
     #[inline]
     pub const fn replace_time(self, time: Time) -> UtcDateTime {
         UtcDateTime::from_plain(self.as_plain().replace_time(time))
@@ -50,7 +50,7 @@ impl UtcDateTime {
     /// ensures { ReplacesDate self date result }
     /// ```
     ///
-    /// [docs/STATEMENT.md](crate::proved#contracts) explains the words.
+    /// [docs/proofs/STATEMENT.md](crate::proved#contracts) explains the words.
     #[inline]
     pub const fn replace_date(self, date: Date) -> UtcDateTime {
         UtcDateTime::from_plain(self.as_plain().replace_date(date))
@@ -75,7 +75,7 @@ impl UtcDateTime {
     /// ensures shown { IfOk result (ShowsYear self year) }
     /// ```
     ///
-    /// [docs/STATEMENT.md](crate::proved#contracts) explains the words.
+    /// [docs/proofs/STATEMENT.md](crate::proved#contracts) explains the words.
     #[inline]
     pub const fn replace_year(self, year: i32) -> Result<UtcDateTime, ComponentRange> {
         UtcDateTime::or_refused(self.as_plain().replace_year(year))
@@ -100,7 +100,7 @@ impl UtcDateTime {
     /// ensures shown { IfOk result (ShowsMonth self (month_number month)) }
     /// ```
     ///
-    /// [docs/STATEMENT.md](crate::proved#contracts) explains the words.
+    /// [docs/proofs/STATEMENT.md](crate::proved#contracts) explains the words.
     #[inline]
     pub const fn replace_month(self, month: Month) -> Result<UtcDateTime, ComponentRange> {
         UtcDateTime::or_refused(self.as_plain().replace_month(month))
@@ -125,7 +125,7 @@ impl UtcDateTime {
     /// ensures shown { IfOk result (ShowsDay self day) }
     /// ```
     ///
-    /// [docs/STATEMENT.md](crate::proved#contracts) explains the words.
+    /// [docs/proofs/STATEMENT.md](crate::proved#contracts) explains the words.
     #[inline]
     pub const fn replace_day(self, day: u8) -> Result<UtcDateTime, ComponentRange> {
         UtcDateTime::or_refused(self.as_plain().replace_day(day))
@@ -150,7 +150,7 @@ impl UtcDateTime {
     /// ensures shown { IfOk result (ShowsOrdinal self ordinal) }
     /// ```
     ///
-    /// [docs/STATEMENT.md](crate::proved#contracts) explains the words.
+    /// [docs/proofs/STATEMENT.md](crate::proved#contracts) explains the words.
     #[inline]
     pub const fn replace_ordinal(self, ordinal: u16) -> Result<UtcDateTime, ComponentRange> {
         UtcDateTime::or_refused(self.as_plain().replace_ordinal(ordinal))
@@ -176,7 +176,7 @@ impl UtcDateTime {
     /// ensures time { wall_time result ≡ 0 }
     /// ```
     ///
-    /// [docs/STATEMENT.md](crate::proved#contracts) explains the words.
+    /// [docs/proofs/STATEMENT.md](crate::proved#contracts) explains the words.
     #[inline]
     pub const fn truncate_to_day(self) -> UtcDateTime {
         UtcDateTime::from_plain(self.as_plain().truncate_to_day())
@@ -201,7 +201,7 @@ impl UtcDateTime {
     /// ensures shown { IfOk result (ShowsHour self hour) }
     /// ```
     ///
-    /// [docs/STATEMENT.md](crate::proved#contracts) explains the words.
+    /// [docs/proofs/STATEMENT.md](crate::proved#contracts) explains the words.
     #[inline]
     pub const fn replace_hour(self, hour: u8) -> Result<UtcDateTime, ComponentRange> {
         UtcDateTime::or_refused(self.as_plain().replace_hour(hour))
@@ -224,7 +224,7 @@ impl UtcDateTime {
     /// ensures { TruncatesTo nanos_per_hour self result }
     /// ```
     ///
-    /// [docs/STATEMENT.md](crate::proved#contracts) explains the words.
+    /// [docs/proofs/STATEMENT.md](crate::proved#contracts) explains the words.
     #[inline]
     pub const fn truncate_to_hour(self) -> UtcDateTime {
         UtcDateTime::from_plain(self.as_plain().truncate_to_hour())
@@ -249,7 +249,7 @@ impl UtcDateTime {
     /// ensures shown { IfOk result (ShowsMinute self minute) }
     /// ```
     ///
-    /// [docs/STATEMENT.md](crate::proved#contracts) explains the words.
+    /// [docs/proofs/STATEMENT.md](crate::proved#contracts) explains the words.
     #[inline]
     pub const fn replace_minute(self, minute: u8) -> Result<UtcDateTime, ComponentRange> {
         UtcDateTime::or_refused(self.as_plain().replace_minute(minute))
@@ -272,7 +272,7 @@ impl UtcDateTime {
     /// ensures { TruncatesTo nanos_per_minute self result }
     /// ```
     ///
-    /// [docs/STATEMENT.md](crate::proved#contracts) explains the words.
+    /// [docs/proofs/STATEMENT.md](crate::proved#contracts) explains the words.
     #[inline]
     pub const fn truncate_to_minute(self) -> UtcDateTime {
         UtcDateTime::from_plain(self.as_plain().truncate_to_minute())
@@ -297,7 +297,7 @@ impl UtcDateTime {
     /// ensures shown { IfOk result (ShowsSecond self second) }
     /// ```
     ///
-    /// [docs/STATEMENT.md](crate::proved#contracts) explains the words.
+    /// [docs/proofs/STATEMENT.md](crate::proved#contracts) explains the words.
     #[inline]
     pub const fn replace_second(self, second: u8) -> Result<UtcDateTime, ComponentRange> {
         UtcDateTime::or_refused(self.as_plain().replace_second(second))
@@ -320,7 +320,7 @@ impl UtcDateTime {
     /// ensures { TruncatesTo nanos_per_second self result }
     /// ```
     ///
-    /// [docs/STATEMENT.md](crate::proved#contracts) explains the words.
+    /// [docs/proofs/STATEMENT.md](crate::proved#contracts) explains the words.
     #[inline]
     pub const fn truncate_to_second(self) -> UtcDateTime {
         UtcDateTime::from_plain(self.as_plain().truncate_to_second())
@@ -348,7 +348,7 @@ impl UtcDateTime {
     /// ensures shown { IfOk result (ShowsMillisecond self millisecond) }
     /// ```
     ///
-    /// [docs/STATEMENT.md](crate::proved#contracts) explains the words.
+    /// [docs/proofs/STATEMENT.md](crate::proved#contracts) explains the words.
     #[inline]
     pub const fn replace_millisecond(
         self,
@@ -374,7 +374,7 @@ impl UtcDateTime {
     /// ensures { TruncatesTo nanos_per_millisecond self result }
     /// ```
     ///
-    /// [docs/STATEMENT.md](crate::proved#contracts) explains the words.
+    /// [docs/proofs/STATEMENT.md](crate::proved#contracts) explains the words.
     #[inline]
     pub const fn truncate_to_millisecond(self) -> UtcDateTime {
         UtcDateTime::from_plain(self.as_plain().truncate_to_millisecond())
@@ -402,7 +402,7 @@ impl UtcDateTime {
     /// ensures shown { IfOk result (ShowsMicrosecond self microsecond) }
     /// ```
     ///
-    /// [docs/STATEMENT.md](crate::proved#contracts) explains the words.
+    /// [docs/proofs/STATEMENT.md](crate::proved#contracts) explains the words.
     #[inline]
     pub const fn replace_microsecond(
         self,
@@ -428,7 +428,7 @@ impl UtcDateTime {
     /// ensures { TruncatesTo nanos_per_microsecond self result }
     /// ```
     ///
-    /// [docs/STATEMENT.md](crate::proved#contracts) explains the words.
+    /// [docs/proofs/STATEMENT.md](crate::proved#contracts) explains the words.
     #[inline]
     pub const fn truncate_to_microsecond(self) -> UtcDateTime {
         UtcDateTime::from_plain(self.as_plain().truncate_to_microsecond())
@@ -456,7 +456,7 @@ impl UtcDateTime {
     /// ensures shown { IfOk result (ShowsNanosecond self nanosecond) }
     /// ```
     ///
-    /// [docs/STATEMENT.md](crate::proved#contracts) explains the words.
+    /// [docs/proofs/STATEMENT.md](crate::proved#contracts) explains the words.
     #[inline]
     pub const fn replace_nanosecond(self, nanosecond: u32) -> Result<UtcDateTime, ComponentRange> {
         UtcDateTime::or_refused(self.as_plain().replace_nanosecond(nanosecond))
@@ -469,7 +469,7 @@ impl UtcDateTime {
     /// ensures { result ≡ plain }
     /// ```
     ///
-    /// [docs/STATEMENT.md](crate::proved#contracts) explains the words.
+    /// [docs/proofs/STATEMENT.md](crate::proved#contracts) explains the words.
     #[inline]
     const fn or_refused(
         plain: Result<PlainDateTime, ComponentRange>,

@@ -25,7 +25,7 @@ impl UtcDateTime {
     /// ensures { SomeInRange result (self +ℤ duration) }
     /// ```
     ///
-    /// [docs/STATEMENT.md](crate::proved#contracts) explains the words.
+    /// [docs/proofs/STATEMENT.md](crate::proved#contracts) explains the words.
     #[inline]
     pub const fn checked_add(self, duration: SignedDuration) -> Option<UtcDateTime> {
         match self.as_plain().checked_add(duration) {
@@ -54,7 +54,7 @@ impl UtcDateTime {
     /// ensures { SomeInRange result (self -ℤ duration) }
     /// ```
     ///
-    /// [docs/STATEMENT.md](crate::proved#contracts) explains the words.
+    /// [docs/proofs/STATEMENT.md](crate::proved#contracts) explains the words.
     #[inline]
     pub const fn checked_sub(self, duration: SignedDuration) -> Option<UtcDateTime> {
         match self.as_plain().checked_sub(duration) {
@@ -84,7 +84,7 @@ impl UtcDateTime {
     /// ensures { SomeInRange result (self +ℤ pos (as_nanos duration)) }
     /// ```
     ///
-    /// [docs/STATEMENT.md](crate::proved#contracts) explains the words.
+    /// [docs/proofs/STATEMENT.md](crate::proved#contracts) explains the words.
     #[inline]
     pub const fn checked_add_std(self, duration: Duration) -> Option<UtcDateTime> {
         match self.as_plain().checked_add_std(duration) {
@@ -114,7 +114,7 @@ impl UtcDateTime {
     /// ensures { SomeInRange result (self -ℤ pos (as_nanos duration)) }
     /// ```
     ///
-    /// [docs/STATEMENT.md](crate::proved#contracts) explains the words.
+    /// [docs/proofs/STATEMENT.md](crate::proved#contracts) explains the words.
     #[inline]
     pub const fn checked_sub_std(self, duration: Duration) -> Option<UtcDateTime> {
         match self.as_plain().checked_sub_std(duration) {
@@ -144,7 +144,7 @@ impl UtcDateTime {
     /// ensures { IsSaturatingSum self duration result }
     /// ```
     ///
-    /// [docs/STATEMENT.md](crate::proved#contracts) explains the words.
+    /// [docs/proofs/STATEMENT.md](crate::proved#contracts) explains the words.
     #[inline]
     pub const fn saturating_add(self, duration: SignedDuration) -> UtcDateTime {
         UtcDateTime::from_plain(self.as_plain().saturating_add(duration))
@@ -171,7 +171,7 @@ impl UtcDateTime {
     /// ensures { IsSaturatingDifference self duration result }
     /// ```
     ///
-    /// [docs/STATEMENT.md](crate::proved#contracts) explains the words.
+    /// [docs/proofs/STATEMENT.md](crate::proved#contracts) explains the words.
     #[inline]
     pub const fn saturating_sub(self, duration: SignedDuration) -> UtcDateTime {
         UtcDateTime::from_plain(self.as_plain().saturating_sub(duration))

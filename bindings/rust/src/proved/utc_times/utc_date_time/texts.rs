@@ -23,7 +23,7 @@ impl UtcDateTime {
     /// ensures length { length result ≤ 36 }
     /// ```
     ///
-    /// [docs/STATEMENT.md](crate::proved#contracts) explains the words.
+    /// [docs/proofs/STATEMENT.md](crate::proved#contracts) explains the words.
     #[inline]
     pub fn text(self) -> Text {
         let mut text = Text::new();
@@ -41,7 +41,7 @@ impl UtcDateTime {
     /// ensures length { length text.new ≤ length text.old + 36 }
     /// ```
     ///
-    /// [docs/STATEMENT.md](crate::proved#contracts) explains the words.
+    /// [docs/proofs/STATEMENT.md](crate::proved#contracts) explains the words.
     #[inline]
     pub(in crate::proved) fn append_to(self, text: &mut Text) {
         self.as_plain().append_to(text);
@@ -56,7 +56,7 @@ impl UtcDateTime {
 /// ghost styled_output = { λ i spec. Some (padded spec (utc_text i)) };
 /// ```
 ///
-/// [docs/STATEMENT.md](crate::proved#contracts) explains the words.
+/// [docs/proofs/STATEMENT.md](crate::proved#contracts) explains the words.
 impl fmt::Display for UtcDateTime {
     #[inline]
     fn fmt(&self, f: &mut fmt::Formatter) -> fmt::Result {
@@ -70,7 +70,7 @@ impl fmt::Display for UtcDateTime {
 /// ghost debug_output = { λ i. Some (utc_text i) };
 /// ```
 ///
-/// [docs/STATEMENT.md](crate::proved#contracts) explains the words.
+/// [docs/proofs/STATEMENT.md](crate::proved#contracts) explains the words.
 impl fmt::Debug for UtcDateTime {
     #[inline]
     fn fmt(&self, f: &mut fmt::Formatter) -> fmt::Result {

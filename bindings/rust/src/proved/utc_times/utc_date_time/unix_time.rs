@@ -30,7 +30,7 @@ impl UtcDateTime {
     /// ensures { Gives result (instant_outcome (codes "timestamp") (instant_of_second timestamp)) }
     /// ```
     ///
-    /// [docs/STATEMENT.md](crate::proved#contracts) explains the words.
+    /// [docs/proofs/STATEMENT.md](crate::proved#contracts) explains the words.
     #[inline]
     pub const fn from_unix_timestamp(timestamp: i64) -> Result<UtcDateTime, ComponentRange> {
         UtcDateTime::after_second(timestamp, 0)
@@ -55,7 +55,7 @@ impl UtcDateTime {
     /// ensures { Gives result (instant_outcome (codes "timestamp") timestamp) }
     /// ```
     ///
-    /// [docs/STATEMENT.md](crate::proved#contracts) explains the words.
+    /// [docs/proofs/STATEMENT.md](crate::proved#contracts) explains the words.
     #[inline]
     pub const fn from_unix_timestamp_nanos(timestamp: i128) -> Result<UtcDateTime, ComponentRange> {
         let nanosecond = timestamp.rem_euclid(NANOS_PER_SECOND as i128) as u32;
@@ -76,7 +76,7 @@ impl UtcDateTime {
     /// ensures refused { IfErr result (λ refusal. refusal ≡ outright_refusal (codes "timestamp")) }
     /// ```
     ///
-    /// [docs/STATEMENT.md](crate::proved#contracts) explains the words.
+    /// [docs/proofs/STATEMENT.md](crate::proved#contracts) explains the words.
     #[inline]
     const fn after_second(second: i64, nanosecond: u32) -> Result<UtcDateTime, ComponentRange> {
         match date_of_second(second) {
@@ -103,7 +103,7 @@ impl UtcDateTime {
     /// ensures self_in_range { IsInstant self }
     /// ```
     ///
-    /// [docs/STATEMENT.md](crate::proved#contracts) explains the words.
+    /// [docs/proofs/STATEMENT.md](crate::proved#contracts) explains the words.
     #[inline]
     pub const fn unix_timestamp(self) -> i64 {
         let plain = self.as_plain();
@@ -132,7 +132,7 @@ impl UtcDateTime {
     /// ensures self_in_range { IsInstant self }
     /// ```
     ///
-    /// [docs/STATEMENT.md](crate::proved#contracts) explains the words.
+    /// [docs/proofs/STATEMENT.md](crate::proved#contracts) explains the words.
     #[inline]
     pub const fn unix_timestamp_nanos(self) -> i128 {
         self.unix_timestamp() as i128 * NANOS_PER_SECOND as i128
@@ -149,7 +149,7 @@ impl UtcDateTime {
 /// ensures { result ≡ day *ℤ pos 86_400 +ℤ pos second_of_day }
 /// ```
 ///
-/// [docs/STATEMENT.md](crate::proved#contracts) explains the words.
+/// [docs/proofs/STATEMENT.md](crate::proved#contracts) explains the words.
 #[inline]
 const fn second_of_parts(day: i32, second_of_day: u32) -> i64 {
     day as i64 * SECONDS_PER_DAY + second_of_day as i64
@@ -162,7 +162,7 @@ const fn second_of_parts(day: i32, second_of_day: u32) -> i64 {
 /// ensures { SomeDay result (int_div_euclid second (pos 86_400)) }
 /// ```
 ///
-/// [docs/STATEMENT.md](crate::proved#contracts) explains the words.
+/// [docs/proofs/STATEMENT.md](crate::proved#contracts) explains the words.
 #[inline]
 const fn date_of_second(second: i64) -> Option<Date> {
     if second < -FARTHEST_SECOND || second > FARTHEST_SECOND {
@@ -181,7 +181,7 @@ const fn date_of_second(second: i64) -> Option<Date> {
 ///     pos nanosecond }
 /// ```
 ///
-/// [docs/STATEMENT.md](crate::proved#contracts) explains the words.
+/// [docs/proofs/STATEMENT.md](crate::proved#contracts) explains the words.
 #[inline]
 const fn time_of_second(second: i64, nanosecond: u32) -> Time {
     Time::at_second_of_day(day_and_second(second).1, nanosecond)
