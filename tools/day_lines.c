@@ -13,7 +13,7 @@
 #include <stdlib.h>
 #include <string.h>
 
-#include "../bindings/tests/counter.h"
+#include "../packages/c/tests/counter.h"
 
 /* The most bytes of the lines of a day, and of their answers. */
 enum { MOST = 512, ROOM = 1 << 16 };

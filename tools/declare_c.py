@@ -1,4 +1,4 @@
-"""bindings/muxandu.h, of the description of the interface."""
+"""packages/c/muxandu.h, of the description of the interface."""
 
 from interface import CONSTANTS, HEAD, LICENCE, WIDTH, duties, quoted, variants_of, wrapped
 

@@ -1,4 +1,4 @@
-"""bindings/python/muxandu/muxandu_sys.py, of the description of the interface."""
+"""packages/python/muxandu/muxandu_sys.py, of the description of the interface."""
 
 from declare_c import NUMBERS
 from interface import CONSTANTS, HEAD, WIDTH, duties, quoted, type_of, variants_of, wrapped

@@ -1,4 +1,4 @@
-"""bindings/tests/muxandu_sys.rs, of the description of the interface."""
+"""packages/c/tests/muxandu_sys.rs, of the description of the interface."""
 
 from interface import CONSTANTS, HEAD, duties, type_of, variants_of, wrapped
 

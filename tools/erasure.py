@@ -10,7 +10,7 @@ from rattle_tokens import CLOSING, COMMENTS, Lexer, Refused
 
 # The libraries, each a module of the erased text, the package that has it, and the root of that text and its folder there.
 CRATES = ("calendar_values", "plain_times", "utc_times", "offset_times", "stamp_times", "rfc3339", "format_descriptions")
-FOLDER = os.path.join("bindings", "rust")
+FOLDER = os.path.join("packages", "rust")
 NAME = "muxandu"
 MODULE = "proved"
 MADE = os.path.join(FOLDER, "src", MODULE)

@@ -16,16 +16,15 @@ PAGES = (
     "CONTRIBUTING.md",
     "SECURITY.md",
     "docs/**/*.md",
-    "examples/README.md",
-    "bindings/README.md",
-    "bindings/*/README.md",
-    "bindings/*/*/README.md",
+    "packages/README.md",
+    "packages/*/README.md",
+    "packages/*/*/README.md",
     "tools/README.md",
 )
 
 # The kinds of blocks, by the tool that reads them and by the page. Of a kind that ends with `*` more words may follow.
 READERS = {
-    "javascript": {"docs/guide/JAVASCRIPT.md": ("js", "text"), "bindings/js/README.md": ("js", "text")},
+    "javascript": {"docs/guide/JAVASCRIPT.md": ("js", "text"), "packages/javascript/README.md": ("js", "text")},
     "library": {"docs/guide/C.md": ("c", "rust", "python", "sh", "text")},
     "newcomer": {
         "README.md": ("sh", "c", "python", "rust package", "mermaid"),
@@ -39,7 +38,7 @@ READERS = {
         "docs/guide/RUST.md": ("toml",),
         "docs/guide/SQL.md": ("sh",),
         "docs/guide/STAMPS.md": ("sh",),
-        "bindings/python/README.md": ("python",),
+        "packages/python/README.md": ("python",),
     },
     "package_beside_time": {"docs/guide/RUST.md": ("diff", "text")},
     "pages": {

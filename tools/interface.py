@@ -1,11 +1,11 @@
-"""The interface for C as data: bindings/interface.json, which tools/bindings writes from the sources of muxandu_c."""
+"""The interface for C as data: packages/c/interface.json, which tools/bindings writes from the sources of muxandu_c."""
 
 import json
 import textwrap
 from pathlib import Path
 
 ROOT = Path(__file__).resolve().parent.parent
-PATH = ROOT / "bindings/interface.json"
+PATH = ROOT / "packages/c/interface.json"
 
 # The widest line of what is made.
 WIDTH = 120

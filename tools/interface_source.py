@@ -1,4 +1,4 @@
-"""The interface for C as the source of crates/muxandu_c declares it, as data: what bindings/interface.json has.
+"""The interface for C as the source of crates/muxandu_c declares it, as data: what packages/c/interface.json has.
 
 A source that the description cannot tell stops the tool with its file, its line and what was expected there.
 """

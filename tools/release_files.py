@@ -111,7 +111,7 @@ def write_sources(release):
 def write_rust(release):
     """The crate, and the crate named `time` with the same sources."""
     folder, target = release.folder("rust"), release.empty("rust")
-    package = ROOT / "bindings" / "rust"
+    package = ROOT / "packages" / "rust"
     words = ("--offline", "--no-verify", "--allow-dirty", "--quiet")
     release.run("cargo", "package", *words, "--target-dir", target, folder=package)
     name = f"muxandu-{release.version}.crate"
@@ -120,7 +120,7 @@ def write_rust(release):
     changed = target / "Cargo.toml"
     changed.write_text(manifest.replace('path = "../src/lib.rs"', 'path = "src/lib.rs"'), encoding="utf-8")
     if changed.read_text(encoding="utf-8") == manifest:
-        raise Failed("bindings/rust/time/Cargo.toml names no path of its sources")
+        raise Failed("packages/rust/time/Cargo.toml names no path of its sources")
     kind = f"time-{value_of(manifest, 'version')}"
     files = files_below(package / "src", f"{kind}/src") | files_below(package / "time" / "tests", f"{kind}/tests")
     files |= {f"{kind}/Cargo.toml": changed} | {f"{kind}/{path.name}": path for path in ROOT.glob("LICENSE-*")}
@@ -138,12 +138,12 @@ def write_python(release, dist):
     program = "import sys, wheel_backend as made; made.build_wheel(sys.argv[1]); made.build_sdist(sys.argv[1])"
     python = "/usr/bin/python3" if glob.glob("/usr/include/python3.*/Python.h") else "python3"
     variables = {"MUXANDU_DIST": str(dist), "MUXANDU_EXTENSION": "must", "PYTHONDONTWRITEBYTECODE": "1"}
-    release.run(python, "-c", program, folder, folder=ROOT / "bindings" / "python", **variables)
+    release.run(python, "-c", program, folder, folder=ROOT / "packages" / "python", **variables)
 
 
 def write_javascript(release):
     """The package for npm."""
-    source = ROOT / "bindings" / "js"
+    source = ROOT / "packages" / "javascript"
     package = json.loads((source / "package.json").read_text(encoding="utf-8"))
     paths = [path for form in ("package.json", *package["files"]) for path in source.glob(form)]
     files = {f"package/{path.name}": path for path in [*paths, *ROOT.glob("LICENSE-*")]}
@@ -152,7 +152,7 @@ def write_javascript(release):
 
 def write_sqlite(release, dist):
     """The extension, whose name must be that of its entry point."""
-    release.run(ROOT / "bindings" / "sqlite" / "build", dist, release.folder("sqlite") / "muxandu.so")
+    release.run(ROOT / "packages" / "sqlite" / "build", dist, release.folder("sqlite") / "muxandu.so")
 
 
 def write_library(release, dist):

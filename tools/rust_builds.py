@@ -240,7 +240,7 @@ def main():
     if len(sys.argv) > 2 or set(sys.argv[1:]) - set(CASES):
         sys.exit(f"usage: {sys.argv[0]} [{' | '.join(CASES)}]")
     tally = Tally()
-    count(tally, os.path.join(REPOSITORY, "bindings", "rust"), sys.argv[1:] or tuple(CASES))
+    count(tally, os.path.join(REPOSITORY, "packages", "rust"), sys.argv[1:] or tuple(CASES))
     tally.end()
 
 

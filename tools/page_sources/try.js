@@ -1,7 +1,7 @@
-import { Timestamp } from "../../bindings/js/timestamp.js";
-import { OffsetDateTime, parseOffset } from "../../bindings/js/offset_date_time.js";
-import { Refused } from "../../bindings/js/refused.js";
-import { PROVED_MODULE } from "../../bindings/js/module.js";
+import { Timestamp } from "../../packages/javascript/timestamp.js";
+import { OffsetDateTime, parseOffset } from "../../packages/javascript/offset_date_time.js";
+import { Refused } from "../../packages/javascript/refused.js";
+import { PROVED_MODULE } from "../../packages/javascript/module.js";
 
 const WEEKDAYS = ["Monday", "Tuesday", "Wednesday", "Thursday", "Friday", "Saturday", "Sunday"];
 const MONTHS = ["Jan", "Feb", "Mar", "Apr", "May", "Jun", "Jul", "Aug", "Sep", "Oct", "Nov", "Dec"];

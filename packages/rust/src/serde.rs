@@ -5,7 +5,7 @@
 //!
 //! ```toml
 //! [dependencies]
-//! muxandu = { package = "time", path = "../muxandu/bindings/rust/time", features = ["serde-human-readable", "serde-well-known"] }
+//! muxandu = { package = "time", path = "../muxandu/packages/rust/time", features = ["serde-human-readable", "serde-well-known"] }
 //! ```
 //!
 //! | Type | Numbers | Text, with the feature `serde-human-readable`, in formats for people |

@@ -21,7 +21,7 @@ import sys
 from pathlib import Path
 
 if not os.environ.get("MUXANDU_INSTALLED"):
-    sys.path[:0] = [str(Path(__file__).resolve().parent.parent / "python")]
+    sys.path[:0] = [str(Path(__file__).resolve().parents[2])]
 sys.dont_write_bytecode = True
 
 

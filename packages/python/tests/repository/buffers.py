@@ -21,9 +21,9 @@ import sys
 from pathlib import Path
 
 HERE = Path(__file__).resolve().parent
-sys.path[:0] = [str(HERE.parent.parent / "tools")]
+sys.path[:0] = [str(HERE.parents[3] / "tools")]
 if not os.environ.get("MUXANDU_INSTALLED"):
-    sys.path[:0] = [str(HERE.parent / "python")]
+    sys.path[:0] = [str(HERE.parents[1])]
 sys.dont_write_bytecode = True
 
 import civil as calendar  # noqa: E402

@@ -14,7 +14,7 @@ import sys
 from pathlib import Path
 
 HERE = Path(__file__).resolve().parent
-sys.path[:0] = [str(HERE.parent / "python"), str(HERE.parent.parent / "tools")]
+sys.path[:0] = [str(HERE.parents[1]), str(HERE.parents[3] / "tools")]
 sys.dont_write_bytecode = True
 
 import civil as calendar  # noqa: E402

@@ -8,8 +8,8 @@ import tempfile
 import unittest
 from pathlib import Path
 
-ROOT = Path(__file__).resolve().parent.parent.parent
-INTERFACE = "bindings/interface.json"
+ROOT = Path(__file__).resolve().parents[4]
+INTERFACE = "packages/c/interface.json"
 NEEDED = (
     "tools/python_calls",
     "tools/interface.py",
@@ -17,10 +17,10 @@ NEEDED = (
     "tools/gate.py",
     "tools/declare_c.py",
     INTERFACE,
-    "bindings/python/muxandu/_methods.py",
-    "bindings/python/extension/calls.h",
-    "bindings/python/muxandu/_refusals.py",
-    "bindings/python/muxandu/_places.py",
+    "packages/python/muxandu/_methods.py",
+    "packages/python/extension/calls.h",
+    "packages/python/muxandu/_refusals.py",
+    "packages/python/muxandu/_places.py",
 )
 
 # Calls whose names say nothing of what they write: one over many items, and one over none.
@@ -71,21 +71,21 @@ class Tables(unittest.TestCase):
         status, said = self.run_tool("write")
         self.assertEqual(status, 1)
         self.assertRegex(said, r"METHODS, OPERATORS and FUNCTIONS .* have no row for day_of_luck")
-        self.change("bindings/python/muxandu/_methods.py", "FUNCTIONS = (\n", 'FUNCTIONS = (\n    "day_of_luck",\n')
+        self.change("packages/python/muxandu/_methods.py", "FUNCTIONS = (\n", 'FUNCTIONS = (\n    "day_of_luck",\n')
         self.assertEqual(self.run_tool("write"), (0, ""))
-        made = (self.root / "bindings/python/extension/calls.h").read_text(encoding="utf-8")
+        made = (self.root / "packages/python/extension/calls.h").read_text(encoding="utf-8")
         body = made.partition("PyObject *seconds_in_order(")[2].partition("\n}")[0]
         for place, is_written in ((0, 0), (2, 1), (4, 1)):
             self.assertIn(f"take_items(words + {place}, &word_{place}, {is_written})", body)
 
     def test_the_room_of_a_text_is_that_of_its_contract(self):
-        made = (self.root / "bindings/python/extension/calls.h").read_text(encoding="utf-8")
+        made = (self.root / "packages/python/extension/calls.h").read_text(encoding="utf-8")
         for name, room in (("date_time_text", 42), ("status_name", 15), ("date_to_rfc3339", 10)):
             body = made.partition(f"PyObject *{name}(")[2].partition("\n}")[0]
             self.assertIn(f"char text[{room}];", body)
 
     def test_what_is_stale_is_named(self):
-        self.change("bindings/python/muxandu/_methods.py", "The milliseconds from 1970-01-01 0:00 UTC, rounded down.", "Others.")
+        self.change("packages/python/muxandu/_methods.py", "The milliseconds from 1970-01-01 0:00 UTC, rounded down.", "Others.")
         status, said = self.run_tool("compare")
         self.assertEqual(status, 1)
         self.assertIn("extension/calls.h", said)

@@ -1,4 +1,4 @@
-"""What bindings/python/wheel_backend.py makes: the wheel, the source archive, and the extension by the words of CC.
+"""What packages/python/wheel_backend.py makes: the wheel, the source archive, and the extension by the words of CC.
 
 MUXANDU_DIST names a folder that ./build-library has laid out, unless dist/ of the repository is one.
 """
@@ -20,7 +20,7 @@ import zipfile
 from pathlib import Path
 from unittest import mock
 
-SOURCES = Path(__file__).resolve().parent.parent / "python"
+SOURCES = Path(__file__).resolve().parents[2]
 sys.path[:0] = [str(SOURCES)]
 sys.dont_write_bytecode = True
 
