@@ -1,6 +1,6 @@
 """Counts the lines of the Rust package that are written by hand, and lists functions there that have a rule of the calendar.
 
-    python3 tools/code_by_hand.py
+    python3 gate/code_by_hand.py
 
 A rule of the calendar is code that says how long a year, a month or a week is, or counts days: the numbers of such rules, and a
 `match` on months. Tests and comments do not count. What src/proved has is made, but for memory.rs. It ends with status 1 where it lists
@@ -11,8 +11,8 @@ import os
 import re
 import sys
 
-from erasure import BY_HAND, FOLDER
-from gate import REPOSITORY
+from shared.erasure import BY_HAND, FOLDER
+from shared.gate import REPOSITORY
 
 FOLDERS = ("src", os.path.join("src", "format_description"), os.path.join("src", "serde"))
 

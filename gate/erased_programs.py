@@ -4,10 +4,23 @@ import os
 import re
 import shutil
 
-from erasure import BY_PACKAGE, CRATES, FOLDER, LEFT_OUT, MADE, MODULE, NAME, ROOT, Source, erased_name, shim_names, sources
-from gate import REPOSITORY, TOOLS
+from shared.erasure import (
+    BY_PACKAGE,
+    CRATES,
+    FOLDER,
+    LEFT_OUT,
+    MADE,
+    MODULE,
+    NAME,
+    ROOT,
+    Source,
+    erased_name,
+    shim_names,
+    sources,
+)
+from shared.gate import GATE, REPOSITORY
 
-OWN = os.path.join(TOOLS, "erased_sources")
+OWN = os.path.join(GATE, "erased_sources")
 
 # What the program has of std and not of core.
 MODULES_OF_PROGRAMS = ("io",)

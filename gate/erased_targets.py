@@ -5,10 +5,10 @@ import re
 import shutil
 import subprocess
 
-from erasure import FOLDER, NAME
-from gate import REPOSITORY, TOOLS
+from shared.erasure import FOLDER, NAME
+from shared.gate import GATE, REPOSITORY
 
-OWN = os.path.join(TOOLS, "erased_sources")
+OWN = os.path.join(GATE, "erased_sources")
 
 WASM = "wasm32-unknown-unknown"
 TARGETS = (

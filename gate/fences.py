@@ -1,7 +1,7 @@
 """The fenced blocks of the pages: which kinds there are, and which tool reads each.
 
 A tool that runs blocks has a function `examples`, which gives them, or their texts, in groups that belong together.
-tools/newcomer compares what it gives with READERS, and reads the other blocks itself.
+gate/newcomer compares what it gives with READERS, and reads the other blocks itself.
 """
 
 import glob
@@ -9,7 +9,7 @@ import os
 import re
 from typing import NamedTuple
 
-from gate import REPOSITORY
+from shared.gate import REPOSITORY
 
 PAGES = (
     "README.md",
@@ -19,7 +19,9 @@ PAGES = (
     "packages/README.md",
     "packages/*/README.md",
     "packages/*/*/README.md",
-    "tools/README.md",
+    "gate/README.md",
+    "make/README.md",
+    "measure/README.md",
 )
 
 # The kinds of blocks, by the tool that reads them and by the page. Of a kind that ends with `*` more words may follow.

@@ -7,8 +7,8 @@ import shutil
 import signal
 import subprocess
 
-from gate import ARCHIVE, PROVED, REPOSITORY, SHARED_FOLDER, crates, program, wait_for
-from version import version
+from shared.gate import ARCHIVE, PROVED, REPOSITORY, SHARED_FOLDER, crates, program, wait_for
+from shared.version import version
 
 # Variables of whoever runs this step that a newcomer has not.
 NOT_OURS = (

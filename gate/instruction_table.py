@@ -1,13 +1,13 @@
-"""The table of instructions that calls and lines take, tools/instructions.txt: how it is read, compared with counts, and written."""
+"""The table of instructions that calls and lines take, gate/instructions.txt: how it is read, compared with counts, and written."""
 
 import os
 
-from gate import TOOLS
+from shared.gate import GATE
 
-TABLE = os.path.join(TOOLS, "instructions.txt")
+TABLE = os.path.join(GATE, "instructions.txt")
 HEAD = """\
 # What a call of the library for C, or a line of a program, takes in instructions, and the reason of the last change.
-# Made by tools/instructions write REASON..
+# Made by gate/instructions write REASON..
 """
 SEPARATOR = " | "
 
@@ -39,17 +39,17 @@ def compare(tally, counts, names, path=TABLE):
         tally.count(name + said_of(count, before), problem_of(count, before))
     for name in table:
         if name not in names:
-            tally.count(name, "the table has this row, and nothing is counted by this name: tools/instructions write REASON..")
+            tally.count(name, "the table has this row, and nothing is counted by this name: gate/instructions write REASON..")
 
 
 def problem_of(count, before):
     """What is wrong with a count, by that of the table, or None."""
     if before is None:
-        return f"the table has no such row, and {count:.1f} instructions are counted: tools/instructions write REASON.."
+        return f"the table has no such row, and {count:.1f} instructions are counted: gate/instructions write REASON.."
     if count < before * TOO_MANY:
         return None
     change = f"was {before:.1f} instructions, is {count:.1f}, {(count / before - 1) * 100:.1f} % more"
-    return f"{change}: make it cheaper, or give the reason: tools/instructions write REASON.."
+    return f"{change}: make it cheaper, or give the reason: gate/instructions write REASON.."
 
 
 def said_of(count, before):

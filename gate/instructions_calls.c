@@ -1,4 +1,4 @@
-/* Calls of the library for C whose instructions tools/instructions counts: instructions_calls COUNT makes each call COUNT
+/* Calls of the library for C whose instructions gate/instructions counts: instructions_calls COUNT makes each call COUNT
  * times, or a call over COUNT items. Each row is a function of its own, by whose name the counts are found. The inputs are the
  * same at each run. Ends with 1 where a call does not succeed. */
 #include <stdio.h>

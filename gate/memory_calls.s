@@ -1,5 +1,5 @@
 # memcpy, memmove, memset, memcmp and bcmp of the same instructions on every machine: those of a C library go by the processor.
-# Eight bytes that are copied or set count as one instruction, a byte that is compared too. tools/instructions links them with
+# Eight bytes that are copied or set count as one instruction, a byte that is compared too. gate/instructions links them with
 # calls of the archive, and loads them with a program.
 
     .intel_syntax noprefix

@@ -1,12 +1,12 @@
-"""How tools/javascript uses docs/try.html in a browser as a person would: by keys, and by looking."""
+"""How gate/javascript uses docs/try.html in a browser as a person would: by keys, and by looking."""
 
 import os
 import time
 
 from browser import COMPLAINTS, Browser, Page
-from gate import TOOLS
+from shared.gate import GATE
 
-CONTRAST = os.path.join(TOOLS, "page_sources", "contrast.js")
+CONTRAST = os.path.join(GATE, "page_checks", "contrast.js")
 
 # The least contrast of a text that is well, by WCAG 2 (1.4.3).
 LEAST_CONTRAST = 4.5

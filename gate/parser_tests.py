@@ -1,11 +1,11 @@
-"""Cases of tools/gate_tests over the readers of sources on which the gate rests: `items`, `definitions` and `wrong`."""
+"""Cases of gate/gate_tests over the readers of sources on which the gate rests: `items`, `definitions` and `wrong`."""
 
 import os
 import tempfile
 
-from definitions import declarations, imports, module_of, words_of
-from items import contracts, exports_of, first_sentence, implementations, public_items
-from wrong import put, read, right_bodies, wrong_bodies
+from shared.definitions import declarations, imports, module_of, words_of
+from shared.items import contracts, exports_of, first_sentence, implementations, public_items
+from shared.wrong import put, read, right_bodies, wrong_bodies
 
 ROOT = """//! A library.
 mod hidden;

@@ -2,7 +2,7 @@
 
 import random
 
-from civil import (
+from shared.civil import (
     DAY,
     FIRST,
     FIRST_SECOND,

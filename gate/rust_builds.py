@@ -2,9 +2,9 @@
 """Builds the Rust package where a build is not the usual one: after it was packed, in place of the crate `time`, with each
 feature of that crate, without std, and with literals that name no date.
 
-    python3 tools/rust_builds.py [CASE]
+    python3 gate/rust_builds.py [CASE]
 
-tools/library has all cases tried. With CASE that one alone is. The last line is 'N passed, M failed', a build each.
+gate/library has all cases tried. With CASE that one alone is. The last line is 'N passed, M failed', a build each.
 """
 
 import os
@@ -14,8 +14,8 @@ import subprocess
 import sys
 import tempfile
 
-from debian_crates import SOURCE, lacking, write
-from gate import REPOSITORY, Tally
+from shared.debian_crates import SOURCE, lacking, write
+from shared.gate import REPOSITORY, Tally
 
 # The crates that features of the folder `time` need, and its tests.
 CRATES = ("quickcheck", "rand", "serde", "serde_derive", "serde_json")

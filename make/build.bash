@@ -12,7 +12,7 @@ trap '[ "${#temporary[@]}" -eq 0 ] || rm -rf "${temporary[@]}"' EXIT
 trap 'exit 130' INT
 trap 'exit 143' TERM
 
-source "$top/tools/usage.bash"
+source "$top/make/usage.bash"
 
 if [ "$kind" = program ]; then
     built="$top/crates/$name/out/$name"
@@ -68,7 +68,7 @@ prove() {
         [ ! -f "$top/crates/$crate/args" ] || mapfile -t words < "$top/crates/$crate/args"
         (cd "$top/crates/$crate" && rt run --jobs "$jobs" ${words:+-- "${words[@]}"})
     elif [ "$first" = yes ]; then
-        JOBS="$jobs" "$top/tools/statements" "$crate"
+        JOBS="$jobs" "$top/make/prove_statements" "$crate"
     else
         (cd "$top/crates/$crate" && rt lib --jobs "$jobs")
     fi
@@ -76,7 +76,7 @@ prove() {
 
 build() {
     local jobs first=no start=$SECONDS before=0 number=0
-    jobs="$("$top/tools/jobs")"
+    jobs="$("$top/gate/jobs")"
     echo "$command: proving and building $name and the ${#below[@]} crates below it, with $jobs jobs" >&2
     if [ "$kind" = program ] && is_first; then
         first=yes

@@ -1,6 +1,6 @@
 """packages/c/muxandu.h, of the description of the interface."""
 
-from interface import CONSTANTS, HEAD, LICENCE, WIDTH, duties, quoted, variants_of, wrapped
+from shared.interface import CONSTANTS, HEAD, LICENCE, WIDTH, duties, quoted, variants_of, wrapped
 
 NUMBERS = {
     "i8": "int8_t",

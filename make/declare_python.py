@@ -1,7 +1,7 @@
 """packages/python/muxandu/muxandu_sys.py, of the description of the interface."""
 
 from declare_c import NUMBERS
-from interface import CONSTANTS, HEAD, WIDTH, duties, quoted, type_of, variants_of, wrapped
+from shared.interface import CONSTANTS, HEAD, WIDTH, duties, quoted, type_of, variants_of, wrapped
 
 # The type of ctypes whose name is not that of C without its end.
 SHORT = {"usize": "size_t"}

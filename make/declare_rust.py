@@ -1,6 +1,6 @@
 """packages/c/tests/muxandu_sys.rs, of the description of the interface."""
 
-from interface import CONSTANTS, HEAD, duties, type_of, variants_of, wrapped
+from shared.interface import CONSTANTS, HEAD, duties, type_of, variants_of, wrapped
 
 # How a parameter of each role is declared. A call with one whose role is not here is unsafe.
 SAFE = {"in": "{kind}", "out": "&mut {kind}"}

@@ -4,7 +4,7 @@ import difflib
 import os
 import sys
 
-from gate import REPOSITORY
+from shared.gate import REPOSITORY
 
 
 def standing(name):

@@ -7,8 +7,8 @@ import re
 import sys
 from pathlib import Path
 
-from items import above, body_from, head_from, one_line
-from version import version_text
+from shared.items import above, body_from, head_from, one_line
+from shared.version import version_text
 
 ROOT = Path(__file__).resolve().parent.parent
 SOURCE = ROOT / "crates/muxandu_c/src"

@@ -13,8 +13,8 @@ import tarfile
 from dataclasses import dataclass
 from pathlib import Path
 
-from gate import REPOSITORY
-from interface import read as read_interface
+from shared.gate import REPOSITORY
+from shared.interface import read as read_interface
 
 ROOT = Path(REPOSITORY)
 MAINTAINERS = "Muxandu maintainers <maintainers@users.noreply.muxandu.example>"

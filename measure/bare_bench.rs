@@ -1,10 +1,10 @@
-// The work of times_bench on `unix` lines, written for speed alone: one file, no library, no proof. tools/speed
+// The work of times_bench on `unix` lines, written for speed alone: one file, no library, no proof. measure/speed
 // builds it with `rustc -O` and compares times_bench with it, in what is written and in processor time.
 use std::io::{self, Read, Write};
 
 const BLOCK: usize = 65_536;
 const LONGEST_LINE: usize = 1024;
-// The ends of the range, which tools/speed names.
+// The ends of the range, which measure/speed names.
 const FIRST_SECOND: i64 = number(env!("FIRST_SECOND"));
 const LAST_SECOND: i64 = number(env!("LAST_SECOND"));
 

@@ -1,4 +1,4 @@
-// Calls of the library for C and others of the same work, for tools/library_speed:
+// Calls of the library for C and others of the same work, for measure/library_speed:
 //
 //     library_peers times ROUNDS [WORD]    the nanoseconds of processor time an item, of each contender in each round
 //     library_peers instructions [WORD]    has callgrind write a profile for each contender

@@ -1,4 +1,4 @@
-/* The quickest conversions that were found, with the structs of the library for C and its tests, for tools/library_peers.cpp:
+/* The quickest conversions that were found, with the structs of the library for C and its tests, for measure/library_peers.cpp:
  *
  * - dates of days, and back, by Cassio Neri and Lorenz Schneider, Euclidean affine functions and their application to calendar
  *   algorithms (2022): sections 'to_date' and 'to_rata_die',

@@ -1,4 +1,4 @@
-// The work of times_bench on lines of all kinds, by the crate `time` 0.3.9 with its feature `large-dates`. tools/speed
+// The work of times_bench on lines of all kinds, by the crate `time` 0.3.9 with its feature `large-dates`. measure/speed
 // builds it twice, with the texts of `time` and, by the feature `by_hand`, with digits written by hand, and compares
 // times_bench with either, in what is written and in processor time.
 //

@@ -1,12 +1,12 @@
 /* The work of times_bench on `unix` lines, as fast as C and the vector instructions of an x86-64 processor go here: sixteen
  * digits at a time, texts of two and four digits by tables, the date by the multiplications of Neri and Schneider. It answers
- * every line, other lines with `bad line`. tools/speed builds it by `cc -O3 -msse4.1` and measures times_bench beside it. */
+ * every line, other lines with `bad line`. measure/speed builds it by `cc -O3 -msse4.1` and measures times_bench beside it. */
 #include <immintrin.h>
 #include <stdint.h>
 #include <string.h>
 #include <unistd.h>
 
-/* FIRST_SECOND and LAST_SECOND, the ends of the range, are named by tools/speed. */
+/* FIRST_SECOND and LAST_SECOND, the ends of the range, are named by measure/speed. */
 enum { BLOCK = 65536, LONGEST_LINE = 1024, TOO_LONG = LONGEST_LINE + 1, MOST_ANSWER = 64 };
 
 static char input[2 * TOO_LONG + BLOCK + 64];

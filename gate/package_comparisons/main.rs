@@ -1,4 +1,4 @@
-//! Compares the package `muxandu` with the crate `time` 0.3.9, call by call. tools/package_beside_time builds it.
+//! Compares the package `muxandu` with the crate `time` 0.3.9, call by call. gate/package_beside_time builds it.
 //!
 //!     package_comparisons ROUNDS SEED    random rounds of every call that both have
 //!     package_comparisons speed ROUNDS   what each call costs in both

@@ -1,4 +1,4 @@
-//! Compares values of `muxandu` and of `time` 0.3.9 as serde and rand have them. tools/package_beside_time builds it twice: with
+//! Compares values of `muxandu` and of `time` 0.3.9 as serde and rand have them. gate/package_beside_time builds it twice: with
 //! texts for people, and with numbers alone.
 //!
 //!     serde_comparisons ROUNDS SEED

@@ -5,7 +5,7 @@ import os
 import subprocess
 import sys
 
-from gate import ARCHIVE, REPOSITORY, SHARED_FOLDER, copy_repository, own_folder, wait_for
+from shared.gate import ARCHIVE, REPOSITORY, SHARED_FOLDER, copy_repository, own_folder, wait_for
 
 
 @contextlib.contextmanager

@@ -5,8 +5,8 @@ A form that is neither in these lists nor plain Rust ends the tool with its file
 import os
 import re
 
-from gate import REPOSITORY, TOOLS
-from rattle_tokens import CLOSING, COMMENTS, Lexer, Refused
+from shared.gate import REPOSITORY
+from shared.rattle_tokens import CLOSING, COMMENTS, Lexer, Refused
 
 # The libraries, each a module of the erased text, the package that has it, and the root of that text and its folder there.
 CRATES = ("calendar_values", "plain_times", "utc_times", "offset_times", "stamp_times", "rfc3339", "format_descriptions")
@@ -16,7 +16,7 @@ MODULE = "proved"
 MADE = os.path.join(FOLDER, "src", MODULE)
 ROOT = f"{MADE}.rs"
 BY_HAND = (ROOT, os.path.join(MADE, "memory.rs"))
-LISTS = os.path.join("tools", "erased_lists")
+LISTS = os.path.join("make", "erased_lists")
 
 TAKEN_OUT = {
     "ghost use": "imports of names for clauses and proofs",
@@ -90,7 +90,7 @@ OF_RUST = ("Err", "None", "Ok", "Option", "Result", "Self", "Some", "bool", "cor
 
 
 class Lists:
-    """What the lists in tools/erased_lists say of functions, each by its file and its name."""
+    """What the lists in make/erased_lists say of functions, each by its file and its name."""
 
     def __init__(self, root):
         self.lines, self.used = {}, set()
@@ -709,7 +709,7 @@ def erase_all(root=REPOSITORY, const=None):
     for crate, path, source in found:
         source.put_closed_uses(closed[crate])
         text = examples_of_rust(source, source.left())
-        head = f"// Made by {os.path.basename(TOOLS)}/erase of {source.path}. Do not edit.\n"
+        head = f"// Made by make/erase of {source.path}. Do not edit.\n"
         made[erased_name(crate, path)] = head + text
         keys += [source.key(place, owner) for place, kind, owner, _ in source.functions() if kind in ("own", "free")]
         keys += [source.key(place, type_name) for place, type_name, _ in source.inherent()]

@@ -12,13 +12,16 @@ import tempfile
 import threading
 import time
 
-TOOLS = os.path.dirname(os.path.realpath(__file__))
-REPOSITORY = os.path.dirname(TOOLS)
+SHARED = os.path.dirname(os.path.realpath(__file__))
+GATE = os.path.dirname(SHARED)
+REPOSITORY = os.path.dirname(GATE)
+MAKE = os.path.join(REPOSITORY, "make")
+MEASURE = os.path.join(REPOSITORY, "measure")
 
 # The variable that names the folder that the steps of one gate share. ./test sets it.
 SHARED_FOLDER = "GATE_FOLDER"
 
-# What ./test, and then tools/proved_copy, leave in that folder: the first for as long as other work goes on beside.
+# What ./test, and then gate/proved_copy, leave in that folder: the first for as long as other work goes on beside.
 BESIDE, PROVED, UNPROVED = "beside", "proved", "unproved"
 
 # The library for C in that folder, once it is proved and built.
@@ -43,8 +46,8 @@ LONGEST_WAIT = 10_000
 COUNT = re.compile(r"(\d+) passed, (\d+) failed(?:, (\d+) skipped)?")
 
 # The least cases, passed and skipped, that each step has.
-FLOORS = os.path.join(TOOLS, "counts.txt")
-FLOORS_HEAD = "# The least cases, passed and skipped, that a step has. Made by tools/counts.\n"
+FLOORS = os.path.join(GATE, "counts.txt")
+FLOORS_HEAD = "# The least cases, passed and skipped, that a step has. Made by gate/counts.\n"
 
 # Programs say the same on every machine, and `bash` does not complain of a locale that is not installed.
 os.environ["LC_ALL"] = "C.UTF-8"
@@ -150,8 +153,8 @@ def is_beside():
 
 
 def most_jobs():
-    """How many jobs a check may have on this machine, as tools/jobs says."""
-    return int(subprocess.run([os.path.join(TOOLS, "jobs")], stdout=subprocess.PIPE, check=True).stdout)
+    """How many jobs a check may have on this machine, as gate/jobs says."""
+    return int(subprocess.run([os.path.join(GATE, "jobs")], stdout=subprocess.PIPE, check=True).stdout)
 
 
 def jobs():
@@ -238,12 +241,12 @@ def own_folder():
 
 
 def proof_of(crate):
-    """The file that tools/proved_copy leaves in the folder that the steps share, once that crate is proved."""
+    """The file that gate/proved_copy leaves in the folder that the steps share, once that crate is proved."""
     return f"{PROVED}_{crate}"
 
 
 def wait_for(folder, name):
-    """Waits until tools/proved_copy has left that file in the folder. Ends the step where it could not."""
+    """Waits until gate/proved_copy has left that file in the folder. Ends the step where it could not."""
     end = time.monotonic() + LONGEST_WAIT
     while not os.path.exists(os.path.join(folder, name)):
         if os.path.exists(os.path.join(folder, UNPROVED)) or time.monotonic() > end:
@@ -313,7 +316,7 @@ def lines_and_answers(tool, *numbers):
     """The lines for times_bench that a tool prints, and the answers that it says they must have, as bytes."""
 
     def printed(*flags):
-        command = [os.path.join(TOOLS, tool), *flags, *map(str, numbers)]
+        command = [os.path.join(GATE, tool), *flags, *map(str, numbers)]
         return subprocess.run(command, stdout=subprocess.PIPE, check=True).stdout
 
     return printed(), printed("--answers")

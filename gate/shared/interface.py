@@ -1,10 +1,10 @@
-"""The interface for C as data: packages/c/interface.json, which tools/bindings writes from the sources of muxandu_c."""
+"""The interface for C as data: packages/c/interface.json, which make/bindings writes from the sources of muxandu_c."""
 
 import json
 import textwrap
 from pathlib import Path
 
-ROOT = Path(__file__).resolve().parent.parent
+ROOT = Path(__file__).resolve().parents[2]
 PATH = ROOT / "packages/c/interface.json"
 
 # The widest line of what is made.
@@ -14,7 +14,7 @@ LICENCE = "MIT OR Apache-2.0"
 
 HEAD = (
     "Dates and times, proved: the calls of the Rattle crate muxandu_c.",
-    "Made by tools/bindings from crates/muxandu_c/src. Do not edit.",
+    "Made by make/bindings from crates/muxandu_c/src. Do not edit.",
 )
 
 # The groups of constants besides the version, in their order.

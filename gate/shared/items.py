@@ -4,7 +4,7 @@ import os
 import re
 from dataclasses import dataclass
 
-from sources import crate_of
+from shared.sources import crate_of
 
 # Functions whose contracts are laws, or say what a constant is: no code calls them.
 FOR_CONTRACTS = ("laws.rt", "constants.rt")

@@ -8,7 +8,7 @@ import statistics
 import subprocess
 import time
 
-from gate import TOOLS
+from shared.gate import SHARED
 
 # The additions in a cycle from which on a processor is in its fast state. It is slow where another thread uses the same core.
 FAST = 3.0
@@ -25,14 +25,14 @@ def model():
 
 
 class Processor:
-    """The processor that this process stays on, with all that it starts. Where tools/processor_state.rs cannot be built, its state
+    """The processor that this process stays on, with all that it starts. Where gate/shared/processor_state.rs cannot be built, its state
     is not known."""
 
     def __init__(self, folder):
         self.states, self.program = [], None
         if platform.machine() == "x86_64" and shutil.which("rustc") is not None:
             self.program = os.path.join(folder, "processor_state")
-            source = os.path.join(TOOLS, "processor_state.rs")
+            source = os.path.join(SHARED, "processor_state.rs")
             subprocess.run(["rustc", "--edition", "2024", "-O", "-o", self.program, source], check=True)
         found = {}
         for processor in sorted(os.sched_getaffinity(0)):

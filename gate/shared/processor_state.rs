@@ -1,5 +1,5 @@
 // Prints how many additions that do not wait for one another the processor makes in a cycle: at its full speed four or
-// more, and about half of that while another thread shares its core. tools/speed builds it with `rustc -O` and runs it
+// more, and about half of that while another thread shares its core. measure/speed builds it with `rustc -O` and runs it
 // beside what it measures.
 use std::arch::asm;
 

@@ -2,7 +2,7 @@
 
 import os
 
-from gate import REPOSITORY
+from shared.gate import REPOSITORY
 
 
 def texts(*endings):

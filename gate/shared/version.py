@@ -3,7 +3,7 @@
 import os
 import re
 
-from gate import REPOSITORY
+from shared.gate import REPOSITORY
 
 SOURCE = os.path.join("crates", "muxandu_c", "src", "version.rt")
 CONSTANT = re.compile(r"^pub const MUXANDU_VERSION: u32 = ([\d_]+);$", re.MULTILINE)

@@ -1,4 +1,4 @@
-//! Compares the library for C with the crate `time` 0.3.9. tools/beside_time builds it, and reads what it prints.
+//! Compares the library for C with the crate `time` 0.3.9. gate/beside_time builds it, and reads what it prints.
 //!
 //!     time_comparisons ROUNDS SEED
 //!

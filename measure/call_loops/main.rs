@@ -1,5 +1,5 @@
 //! Measures calls of the crates in a caller's loop, beside the same work in bare Rust and, where they are installed, by the
-//! crates `time` and chrono. tools/call_speed builds it:
+//! crates `time` and chrono. measure/call_speed builds it:
 //!
 //!     calls names          prints the names of the rows
 //!     calls ROUNDS NAME    measures a row

@@ -1,7 +1,7 @@
 /* SPDX-License-Identifier: MIT OR Apache-2.0
  *
  * Dates and times, proved: the calls of the Rattle crate muxandu_c.
- * Made by tools/bindings from crates/muxandu_c/src. Do not edit.
+ * Made by make/bindings from crates/muxandu_c/src. Do not edit.
  *
  * What a caller must see to, since nothing checks it:
  * - each pointer is not NULL, but one to items whose count is 0, and is aligned for what it points to;

@@ -1,4 +1,4 @@
-// Made by tools/declarations from packages/c/interface.json. Do not edit.
+// Made by make/declarations from packages/c/interface.json. Do not edit.
 
 /** The name of what is refused. */
 export type RefusalName =

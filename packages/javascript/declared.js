@@ -1,4 +1,4 @@
-// Made by tools/declarations from packages/c/interface.json. Do not edit.
+// Made by make/declarations from packages/c/interface.json. Do not edit.
 
 /** The refusals, the first of which is number 1. */
 export const REFUSALS = [

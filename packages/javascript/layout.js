@@ -1,4 +1,4 @@
-// Made by tools/declarations from packages/c/interface.json. Do not edit.
+// Made by make/declarations from packages/c/interface.json. Do not edit.
 
 /** An instant: a Unix second and a nanosecond of that second, before 1970 too. */
 export const MuxanduTimestamp = {

@@ -1,4 +1,4 @@
-// The library as a module of WebAssembly, in base64. Made by tools/module. Do not edit.
+// The library as a module of WebAssembly, in base64. Made by make/module. Do not edit.
 
 /** The SHA-256 of the module as it is proved, for addresses of 64 bits. */
 export const PROVED_MODULE = "ea362334da3a6d1e0e241f4c9bf48fc17cf1f93538fe5c2e688ca05911d6df00";

@@ -1,4 +1,4 @@
-/* The refusals of muxandu.h, by their numbers. Made by tools/declarations from packages/c/interface.json. Do not edit. */
+/* The refusals of muxandu.h, by their numbers. Made by make/declarations from packages/c/interface.json. Do not edit. */
 typedef struct Refusal {
     const char *name;
     const char *meaning;

@@ -1,4 +1,4 @@
-/* Made by tools/python_calls from packages/c/interface.json. Do not edit. */
+/* Made by make/python_calls from packages/c/interface.json. Do not edit. */
 
 /* The version of the library, a number like MUXANDU_VERSION. A library with a lower number lacks some of these
  * declarations. */

@@ -1,6 +1,6 @@
 """Which word of a call each refusal is of, by its status.
 
-Made by tools/python_calls from packages/c/interface.json. Do not edit.
+Made by make/python_calls from packages/c/interface.json. Do not edit.
 """
 
 PLACES: dict[str, dict[int, int]] = {

@@ -1,6 +1,6 @@
 """The errors of calls as classes, the units of time, and the parts of a date-time.
 
-Made by tools/python_calls from packages/c/interface.json. Do not edit.
+Made by make/python_calls from packages/c/interface.json. Do not edit.
 """
 
 from __future__ import annotations

@@ -1,7 +1,7 @@
 //! The proved sources of Muxandu as plain Rust: all the rules of the calendar, of time and of texts that this package has.
 //!
 //! The repository has these functions as Rattle sources, Rust with contracts, and proves that each meets its contract.
-//! `tools/erase write` takes the contracts out and writes this module; only this page and the module [`memory`] are written by
+//! `make/erase write` takes the contracts out and writes this module; only this page and the module [`memory`] are written by
 //! hand. The libraries `calendar_values`, `plain_times`, `utc_times`, `offset_times`, `stamp_times`, `rfc3339` and
 //! `format_descriptions` are modules here. Each type also has the methods of the traits [`AsUtc`], [`Assume`], [`ToOffset`],
 //! [`ToTimestamp`] and [`Rfc3339`] itself, so that a program imports none of these.
@@ -11,13 +11,13 @@
 //! 1. Every function has the body that is proved, word by word, for callers that meet what it requires, where `usize` has 64 bits.
 //!    `Date`, `Time`, `UtcOffset`, `SignedDuration` and `Timestamp` have a field more, `niche`, which has one value: an `Option` of
 //!    one then takes no more memory.
-//! 2. You trust `tools/erase`, which takes the contracts out, and `tools/check_erased`, which shares no code with it and compares
+//! 2. You trust `make/erase`, which takes the contracts out, and `gate/check_erased`, which shares no code with it and compares
 //!    each word.
 //! 3. You trust rustc and its `core` in place of Rattle's compiler and library.
 //! 4. You trust the lines of [`memory`]: a list whose growth can fail.
 //! 5. A call that breaks a `requires` panics, and names the line of its caller.
 //!
-//! A function whose wrong use nothing would stop is closed: this module alone calls it. `tools/erased_lists/requires.txt` lists
+//! A function whose wrong use nothing would stop is closed: this module alone calls it. `make/erased_lists/requires.txt` lists
 //! all that require something.
 //!
 //! # Contracts
@@ -29,8 +29,8 @@
 //! # Whether it is in step
 //!
 //! The file `PROVED` names the kit that proved the sources, the trees of their folders as `git rev-parse HEAD:FOLDER` prints
-//! them, and the SHA-256 of each source and of each file of this module. `tools/erase check` compares them, `tools/check_erased`
-//! compares the words, and `tools/erase compare` makes the module again.
+//! them, and the SHA-256 of each source and of each file of this module. `make/erase check` compares them, `gate/check_erased`
+//! compares the words, and `make/erase compare` makes the module again.
 
 // What the made modules have for Rattle or for their contracts alone.
 #![allow(

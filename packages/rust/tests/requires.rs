@@ -1,5 +1,5 @@
 //! Calls that break what a public function requires: each panics, also in a release build. The names are those of
-//! tools/erased_lists/requires.txt.
+//! make/erased_lists/requires.txt.
 
 use muxandu::proved::*;
 use std::hint::black_box;

@@ -7,7 +7,7 @@ A buffer is of structures or numbers of any kind: in another order, of another b
 packed, of bits, nested; it begins anywhere, goes by steps forwards and back, can be read-only, and lies over the place of the
 results or apart from it. A call must take what its documentation says, and refuse all else with a TypeError or a ValueError
 and write nothing. The reader knows where each number lies from how the buffer was made, reads the bytes before the call, and
-counts dates by tools/civil.py. Where NumPy is there, half of the kinds are its own, and arrays of its datetime64, of each unit,
+counts dates by gate/shared/civil.py. Where NumPy is there, half of the kinds are its own, and arrays of its datetime64, of each unit,
 go in and out.
 
 The package is that of the sources, or with MUXANDU_INSTALLED that which is installed. The last line is 'N passed, M failed', a
@@ -21,13 +21,13 @@ import sys
 from pathlib import Path
 
 HERE = Path(__file__).resolve().parent
-sys.path[:0] = [str(HERE.parents[3] / "tools")]
+sys.path[:0] = [str(HERE.parents[3] / "gate")]
 if not os.environ.get("MUXANDU_INSTALLED"):
     sys.path[:0] = [str(HERE.parents[1])]
 sys.dont_write_bytecode = True
 
-import civil as calendar  # noqa: E402
-import rfc3339  # noqa: E402
+from shared import civil as calendar  # noqa: E402
+from shared import rfc3339  # noqa: E402
 
 import muxandu  # noqa: E402
 

@@ -1,5 +1,5 @@
 #!/usr/bin/env python3
-"""Random calls of all kinds through the Python package, each compared with Python's `datetime` and tools/civil.py.
+"""Random calls of all kinds through the Python package, each compared with Python's `datetime` and gate/shared/civil.py.
 
     compare.py [COUNT [SEED]]
 
@@ -14,17 +14,17 @@ import sys
 from pathlib import Path
 
 HERE = Path(__file__).resolve().parent
-sys.path[:0] = [str(HERE.parents[1]), str(HERE.parents[3] / "tools")]
+sys.path[:0] = [str(HERE.parents[1]), str(HERE.parents[3] / "gate")]
 sys.dont_write_bytecode = True
 
-import civil as calendar  # noqa: E402
-import rfc3339  # noqa: E402
 from muxandu import DateTimeParts, Refused, muxandu_sys  # noqa: E402
 from muxandu import date_times_from_seconds, dates_from_days, days_from_dates  # noqa: E402
 from muxandu import seconds_from_date_times, timestamps_from_rfc3339  # noqa: E402
 from muxandu._library import library  # noqa: E402
 from muxandu.muxandu_sys import MuxanduDate, MuxanduDuration, MuxanduTimestamp  # noqa: E402
 from muxandu.muxandu_sys import MuxanduOrdinalDate, MuxanduWeekDate  # noqa: E402
+from shared import civil as calendar  # noqa: E402
+from shared import rfc3339  # noqa: E402
 
 SECOND, FIRST, LAST = calendar.SECOND, calendar.FIRST_SECOND, calendar.LAST_SECOND
 FIRST_DAY, LAST_DAY = FIRST // 86_400, LAST // 86_400
@@ -237,7 +237,7 @@ def spelled(source):
     return text.encode()
 
 
-# The name in the library of each refusal of tools/rfc3339.py, but of a day of 1 to 31 that its month has not.
+# The name in the library of each refusal of gate/shared/rfc3339.py, but of a day of 1 to 31 that its month has not.
 TEXT_STATUS = {
     "Syntax": "SYNTAX", "Month": "MONTH", "Day": "DAY", "Hour": "HOUR", "Minute": "MINUTE", "Second": "SECOND",
     "OffsetHour": "OFFSET_HOUR", "OffsetMinute": "OFFSET_MINUTE",

@@ -1,4 +1,4 @@
-"""tools/python_calls: which parameters of a call it takes for written, and what it says of a call that its tables lack."""
+"""make/python_calls: which parameters of a call it takes for written, and what it says of a call that its tables lack."""
 
 import json
 import shutil
@@ -11,11 +11,12 @@ from pathlib import Path
 ROOT = Path(__file__).resolve().parents[4]
 INTERFACE = "packages/c/interface.json"
 NEEDED = (
-    "tools/python_calls",
-    "tools/interface.py",
-    "tools/generated.py",
-    "tools/gate.py",
-    "tools/declare_c.py",
+    "make/python_calls",
+    "make/shared.py",
+    "gate/shared/interface.py",
+    "make/generated.py",
+    "gate/shared/gate.py",
+    "make/declare_c.py",
     INTERFACE,
     "packages/python/muxandu/_methods.py",
     "packages/python/extension/calls.h",

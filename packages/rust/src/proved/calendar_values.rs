@@ -1,4 +1,4 @@
-// Made by tools/erase of crates/calendar_values/src/lib.rt. Do not edit.
+// Made by make/erase of crates/calendar_values/src/lib.rt. Do not edit.
 //! Dates, times of day, offsets from UTC and durations: the values that date-times are made of.
 mod calendar;
 mod component_range;

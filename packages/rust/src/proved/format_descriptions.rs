@@ -1,4 +1,4 @@
-// Made by tools/erase of crates/format_descriptions/src/lib.rt. Do not edit.
+// Made by make/erase of crates/format_descriptions/src/lib.rt. Do not edit.
 //! Format descriptions: date-times written and read by a list of items.
 mod clock_values;
 mod component;

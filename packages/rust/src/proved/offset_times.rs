@@ -1,4 +1,4 @@
-// Made by tools/erase of crates/offset_times/src/lib.rt. Do not edit.
+// Made by make/erase of crates/offset_times/src/lib.rt. Do not edit.
 //! Dates with a time of day at an offset from UTC.
 mod assume;
 pub mod carries;

@@ -1,4 +1,4 @@
-// Made by tools/erase of crates/plain_times/src/lib.rt. Do not edit.
+// Made by make/erase of crates/plain_times/src/lib.rt. Do not edit.
 //! Dates with a time of day.
 mod plain_date_time;
 

@@ -1,4 +1,4 @@
-// Made by tools/erase of crates/rfc3339/src/lib.rt. Do not edit.
+// Made by make/erase of crates/rfc3339/src/lib.rt. Do not edit.
 //! Texts of exchange: date-times as RFC 3339 writes them, written and read.
 mod fault;
 mod front;

@@ -1,4 +1,4 @@
-// Made by tools/erase of crates/stamp_times/src/lib.rt. Do not edit.
+// Made by make/erase of crates/stamp_times/src/lib.rt. Do not edit.
 //! Instants by their Unix seconds, runs of calls over instants of every type, and chains of conversions.
 pub mod batches;
 pub mod chains;

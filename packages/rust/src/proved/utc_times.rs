@@ -1,4 +1,4 @@
-// Made by tools/erase of crates/utc_times/src/lib.rt. Do not edit.
+// Made by make/erase of crates/utc_times/src/lib.rt. Do not edit.
 //! Dates with a time of day in UTC.
 mod as_utc;
 mod utc_date_time;

@@ -1,4 +1,4 @@
-// Made by tools/erase of crates/calendar_values/src/calendar.rt. Do not edit.
+// Made by make/erase of crates/calendar_values/src/calendar.rt. Do not edit.
 //! The rules of the proleptic Gregorian calendar.
 use crate::proved::calendar_values::Month;
 use crate::proved::calendar_values::range::FIRST_YEAR;

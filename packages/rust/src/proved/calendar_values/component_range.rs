@@ -1,4 +1,4 @@
-// Made by tools/erase of crates/calendar_values/src/component_range.rt. Do not edit.
+// Made by make/erase of crates/calendar_values/src/component_range.rt. Do not edit.
 //! The refusal of a part that is out of its range.
 use crate::proved::calendar_values::Text;
 use std::error::Error;

@@ -1,4 +1,4 @@
-// Made by tools/erase of crates/calendar_values/src/conversion_range.rt. Do not edit.
+// Made by make/erase of crates/calendar_values/src/conversion_range.rt. Do not edit.
 //! The refusal of conversions.
 
 /// The error of a conversion between [`SignedDuration`](crate::proved::calendar_values::SignedDuration) and std's

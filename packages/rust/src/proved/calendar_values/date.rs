@@ -1,4 +1,4 @@
-// Made by tools/erase of crates/calendar_values/src/date.rt. Do not edit.
+// Made by make/erase of crates/calendar_values/src/date.rt. Do not edit.
 //! The days of the calendar.
 use crate::proved::calendar_values::calendar::{
     days_before_month, leap_ordinal_to_month_day, year_and_ordinal,

@@ -1,4 +1,4 @@
-// Made by tools/erase of crates/calendar_values/src/month.rt. Do not edit.
+// Made by make/erase of crates/calendar_values/src/month.rt. Do not edit.
 //! The months.
 use crate::proved::calendar_values::{ComponentRange, Part, Text};
 use std::fmt;

@@ -1,4 +1,4 @@
-// Made by tools/erase of crates/calendar_values/src/range.rt. Do not edit.
+// Made by make/erase of crates/calendar_values/src/range.rt. Do not edit.
 //! The range of the library. Limits elsewhere are computed from the numbers here, or proved to agree with them.
 
 // The first year and the last.

@@ -1,4 +1,4 @@
-// Made by tools/erase of crates/calendar_values/src/signed_duration.rt. Do not edit.
+// Made by make/erase of crates/calendar_values/src/signed_duration.rt. Do not edit.
 //! Durations, which may be negative.
 use crate::proved::calendar_values::units::{
     NANOS_PER_SECOND, SECONDS_PER_DAY, SECONDS_PER_HOUR, SECONDS_PER_MINUTE, SECONDS_PER_WEEK,

@@ -1,4 +1,4 @@
-// Made by tools/erase of crates/calendar_values/src/text.rt. Do not edit.
+// Made by make/erase of crates/calendar_values/src/text.rt. Do not edit.
 //! Texts, in a table of fixed size that takes no memory of an allocator.
 use std::fmt;
 // The most bytes that a text has.

@@ -1,4 +1,4 @@
-// Made by tools/erase of crates/calendar_values/src/time.rt. Do not edit.
+// Made by make/erase of crates/calendar_values/src/time.rt. Do not edit.
 //! Times of day.
 use crate::proved::calendar_values::units::{NANOS_PER_SECOND, SECONDS_PER_DAY, SECONDS_PER_HOUR};
 use crate::proved::calendar_values::{ComponentRange, Part};

@@ -1,4 +1,4 @@
-// Made by tools/erase of crates/calendar_values/src/units.rt. Do not edit.
+// Made by make/erase of crates/calendar_values/src/units.rt. Do not edit.
 //! How many of one unit of time another has, and the day from which days are counted. There are no leap seconds.
 
 /// The seconds of a minute.

@@ -1,4 +1,4 @@
-// Made by tools/erase of crates/calendar_values/src/utc_offset.rt. Do not edit.
+// Made by make/erase of crates/calendar_values/src/utc_offset.rt. Do not edit.
 //! Offsets from UTC.
 use crate::proved::calendar_values::component_range::{ComponentRange, Part};
 use crate::proved::calendar_values::units::SECONDS_PER_HOUR;

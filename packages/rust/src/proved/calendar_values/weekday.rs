@@ -1,4 +1,4 @@
-// Made by tools/erase of crates/calendar_values/src/weekday.rt. Do not edit.
+// Made by make/erase of crates/calendar_values/src/weekday.rt. Do not edit.
 //! The days of the week.
 use crate::proved::calendar_values::Text;
 use std::fmt;

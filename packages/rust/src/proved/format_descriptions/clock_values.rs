@@ -1,4 +1,4 @@
-// Made by tools/erase of crates/format_descriptions/src/clock_values.rt. Do not edit.
+// Made by make/erase of crates/format_descriptions/src/clock_values.rt. Do not edit.
 //! The time of day that the parts of a text name.
 use crate::proved::format_descriptions::parts::{fits, fits_choice};
 use crate::proved::format_descriptions::pieces::hour_12;

@@ -1,4 +1,4 @@
-// Made by tools/erase of crates/format_descriptions/src/component.rt. Do not edit.
+// Made by make/erase of crates/format_descriptions/src/component.rt. Do not edit.
 //! The parts of a value that a description can name.
 use crate::proved::format_descriptions::{
     Case, NameForm, Padding, ReadCase, Sign, SubsecondDigits, UnixPrecision, WeekRule, WeekStart,

@@ -1,4 +1,4 @@
-// Made by tools/erase of crates/format_descriptions/src/description_components.rt. Do not edit.
+// Made by make/erase of crates/format_descriptions/src/description_components.rt. Do not edit.
 //! The components that descriptions name.
 use crate::proved::format_descriptions::Component;
 use crate::proved::format_descriptions::description_modifiers::Modifiers;

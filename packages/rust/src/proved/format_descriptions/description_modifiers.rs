@@ -1,4 +1,4 @@
-// Made by tools/erase of crates/format_descriptions/src/description_modifiers.rt. Do not edit.
+// Made by make/erase of crates/format_descriptions/src/description_modifiers.rt. Do not edit.
 //! The modifiers of a component.
 use crate::proved::format_descriptions::DescriptionFault;
 use crate::proved::format_descriptions::description_names::Name;

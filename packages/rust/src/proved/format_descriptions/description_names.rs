@@ -1,4 +1,4 @@
-// Made by tools/erase of crates/format_descriptions/src/description_names.rt. Do not edit.
+// Made by make/erase of crates/format_descriptions/src/description_names.rt. Do not edit.
 //! The names of components in descriptions.
 use crate::proved::format_descriptions::description_words::is_word_at;
 

@@ -1,4 +1,4 @@
-// Made by tools/erase of crates/format_descriptions/src/description_refusal.rt. Do not edit.
+// Made by make/erase of crates/format_descriptions/src/description_refusal.rt. Do not edit.
 //! Why a text is no description.
 
 /// A text that is no description: where, and why.

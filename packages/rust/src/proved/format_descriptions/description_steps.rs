@@ -1,4 +1,4 @@
-// Made by tools/erase of crates/format_descriptions/src/description_steps.rt. Do not edit.
+// Made by make/erase of crates/format_descriptions/src/description_steps.rt. Do not edit.
 //! Descriptions, read byte by byte.
 use crate::proved::format_descriptions::description_components::component_of;
 use crate::proved::format_descriptions::description_modifiers::{Modifiers, modifier_at};

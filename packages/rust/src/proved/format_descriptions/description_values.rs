@@ -1,4 +1,4 @@
-// Made by tools/erase of crates/format_descriptions/src/description_values.rt. Do not edit.
+// Made by make/erase of crates/format_descriptions/src/description_values.rt. Do not edit.
 //! The values of the modifiers of descriptions.
 use crate::proved::format_descriptions::description_words::{ends_word, is_word_at};
 use crate::proved::format_descriptions::modifiers::{

@@ -1,4 +1,4 @@
-// Made by tools/erase of crates/format_descriptions/src/description_words.rt. Do not edit.
+// Made by make/erase of crates/format_descriptions/src/description_words.rt. Do not edit.
 //! The words of descriptions.
 // White space between the words of a component.
 /// # Contract

@@ -1,4 +1,4 @@
-// Made by tools/erase of crates/format_descriptions/src/descriptions.rt. Do not edit.
+// Made by make/erase of crates/format_descriptions/src/descriptions.rt. Do not edit.
 //! Descriptions that texts give.
 use crate::proved::format_descriptions::description_steps::{
     DescriptionVersion, Place, fault_at_end, step,

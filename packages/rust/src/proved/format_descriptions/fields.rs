@@ -1,4 +1,4 @@
-// Made by tools/erase of crates/format_descriptions/src/fields.rt. Do not edit.
+// Made by make/erase of crates/format_descriptions/src/fields.rt. Do not edit.
 //! The number of each component, read from the front of a text.
 use crate::proved::format_descriptions::fractions::fraction;
 use crate::proved::format_descriptions::reading::{four, more, sign, three, two};

@@ -1,4 +1,4 @@
-// Made by tools/erase of crates/format_descriptions/src/format_refusal.rt. Do not edit.
+// Made by make/erase of crates/format_descriptions/src/format_refusal.rt. Do not edit.
 //! Why a value is not written.
 use crate::proved::format_descriptions::Component;
 

@@ -1,4 +1,4 @@
-// Made by tools/erase of crates/format_descriptions/src/fractions.rt. Do not edit.
+// Made by make/erase of crates/format_descriptions/src/fractions.rt. Do not edit.
 //! Digits of a fraction, read from the front of a text.
 use crate::proved::format_descriptions::SubsecondDigits;
 use crate::proved::format_descriptions::reading::digit;

@@ -1,4 +1,4 @@
-// Made by tools/erase of crates/format_descriptions/src/instant_values.rt. Do not edit.
+// Made by make/erase of crates/format_descriptions/src/instant_values.rt. Do not edit.
 //! The instant that the Unix timestamps of a text name.
 use crate::proved::format_descriptions::clock_values::or_zero;
 use crate::proved::format_descriptions::parts::{fits, fits_count};

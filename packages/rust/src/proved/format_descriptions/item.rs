@@ -1,4 +1,4 @@
-// Made by tools/erase of crates/format_descriptions/src/item.rt. Do not edit.
+// Made by make/erase of crates/format_descriptions/src/item.rt. Do not edit.
 //! The items of a description.
 use crate::proved::format_descriptions::Component;
 

@@ -1,4 +1,4 @@
-// Made by tools/erase of crates/format_descriptions/src/kinds.rt. Do not edit.
+// Made by make/erase of crates/format_descriptions/src/kinds.rt. Do not edit.
 //! Texts of dates, of times of day, of offsets and of wall clocks, which have not every component.
 use crate::proved::format_descriptions::write::format;
 use crate::proved::format_descriptions::{Component, FormatRefusal, Item};

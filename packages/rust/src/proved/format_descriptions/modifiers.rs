@@ -1,4 +1,4 @@
-// Made by tools/erase of crates/format_descriptions/src/modifiers.rt. Do not edit.
+// Made by make/erase of crates/format_descriptions/src/modifiers.rt. Do not edit.
 //! How a component is written.
 /// The filler before a number that has fewer digits than its width.
 #[derive(Clone, Copy, Debug, PartialEq, Eq)]

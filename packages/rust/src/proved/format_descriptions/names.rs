@@ -1,4 +1,4 @@
-// Made by tools/erase of crates/format_descriptions/src/names.rt. Do not edit.
+// Made by make/erase of crates/format_descriptions/src/names.rt. Do not edit.
 //! Names of months, of days of the week and of halves of the day.
 use crate::proved::format_descriptions::{Case, NameForm};
 use crate::proved::calendar_values::{Month, Text, Weekday};

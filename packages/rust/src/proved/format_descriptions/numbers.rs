@@ -1,4 +1,4 @@
-// Made by tools/erase of crates/format_descriptions/src/numbers.rt. Do not edit.
+// Made by make/erase of crates/format_descriptions/src/numbers.rt. Do not edit.
 //! Numbers written with their padding.
 use crate::proved::format_descriptions::{Padding, SubsecondDigits};
 use crate::proved::calendar_values::Text;

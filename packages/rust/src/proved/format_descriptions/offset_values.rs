@@ -1,4 +1,4 @@
-// Made by tools/erase of crates/format_descriptions/src/offset_values.rt. Do not edit.
+// Made by make/erase of crates/format_descriptions/src/offset_values.rt. Do not edit.
 //! The offset that the parts of a text name.
 use crate::proved::format_descriptions::clock_values::or_zero;
 use crate::proved::format_descriptions::parts::signed;

@@ -1,4 +1,4 @@
-// Made by tools/erase of crates/format_descriptions/src/parts.rt. Do not edit.
+// Made by make/erase of crates/format_descriptions/src/parts.rt. Do not edit.
 //! What a text says.
 use crate::proved::format_descriptions::{Component, UnixPrecision, WeekRule, YearBase};
 

@@ -1,4 +1,4 @@
-// Made by tools/erase of crates/format_descriptions/src/pieces.rt. Do not edit.
+// Made by make/erase of crates/format_descriptions/src/pieces.rt. Do not edit.
 //! The text of each component.
 use crate::proved::format_descriptions::names::{month_name, period_text, weekday_name};
 use crate::proved::format_descriptions::numbers::{

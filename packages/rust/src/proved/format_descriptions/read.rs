@@ -1,4 +1,4 @@
-// Made by tools/erase of crates/format_descriptions/src/read.rt. Do not edit.
+// Made by make/erase of crates/format_descriptions/src/read.rt. Do not edit.
 //! Texts read by descriptions.
 use crate::proved::format_descriptions::fields::component_at;
 use crate::proved::format_descriptions::reading::after_mark;

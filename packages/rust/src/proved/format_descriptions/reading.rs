@@ -1,4 +1,4 @@
-// Made by tools/erase of crates/format_descriptions/src/reading.rt. Do not edit.
+// Made by make/erase of crates/format_descriptions/src/reading.rt. Do not edit.
 //! Numbers, names and signs, read from the front of a text.
 use crate::proved::format_descriptions::{Padding, ReadCase, YearRange};
 

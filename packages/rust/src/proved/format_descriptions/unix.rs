@@ -1,4 +1,4 @@
-// Made by tools/erase of crates/format_descriptions/src/unix.rt. Do not edit.
+// Made by make/erase of crates/format_descriptions/src/unix.rt. Do not edit.
 //! Unix timestamps, written and read.
 use crate::proved::format_descriptions::reading::{digit, sign};
 use crate::proved::format_descriptions::{Sign, UnixPrecision};

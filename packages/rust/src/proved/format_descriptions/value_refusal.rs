@@ -1,4 +1,4 @@
-// Made by tools/erase of crates/format_descriptions/src/value_refusal.rt. Do not edit.
+// Made by make/erase of crates/format_descriptions/src/value_refusal.rt. Do not edit.
 //! Why the parts of a text are no value.
 
 /// A part of a value.

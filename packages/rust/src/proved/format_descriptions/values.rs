@@ -1,4 +1,4 @@
-// Made by tools/erase of crates/format_descriptions/src/values.rt. Do not edit.
+// Made by make/erase of crates/format_descriptions/src/values.rt. Do not edit.
 //! The dates that the parts of a text name.
 use crate::proved::format_descriptions::clock_values::or_zero;
 use crate::proved::format_descriptions::parts::{fits, fits_choice, fits_signed, signed};

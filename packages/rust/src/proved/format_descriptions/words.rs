@@ -1,4 +1,4 @@
-// Made by tools/erase of crates/format_descriptions/src/words.rt. Do not edit.
+// Made by make/erase of crates/format_descriptions/src/words.rt. Do not edit.
 //! Names, read from the front of a text.
 use crate::proved::format_descriptions::names::{month_name, period_word, weekday_name};
 use crate::proved::format_descriptions::reading::{after_word, digit};

@@ -1,4 +1,4 @@
-// Made by tools/erase of crates/format_descriptions/src/write.rt. Do not edit.
+// Made by make/erase of crates/format_descriptions/src/write.rt. Do not edit.
 //! Texts written by descriptions.
 use crate::proved::format_descriptions::Item;
 use crate::proved::format_descriptions::pieces::component_text;

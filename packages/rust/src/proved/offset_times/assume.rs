@@ -1,4 +1,4 @@
-// Made by tools/erase of crates/offset_times/src/assume.rt. Do not edit.
+// Made by make/erase of crates/offset_times/src/assume.rt. Do not edit.
 //! Wall clocks read at an offset.
 use crate::proved::offset_times::OffsetDateTime;
 use crate::proved::calendar_values::UtcOffset;

@@ -1,4 +1,4 @@
-// Made by tools/erase of crates/offset_times/src/carries.rt. Do not edit.
+// Made by make/erase of crates/offset_times/src/carries.rt. Do not edit.
 //! What clocks at another offset show, by carries: the second carries into the minute, the minute into the
 //! hour, the hour into the day, and the day into the year. So it is told in the year before and after the
 //! range too.

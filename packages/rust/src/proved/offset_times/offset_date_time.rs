@@ -1,4 +1,4 @@
-// Made by tools/erase of crates/offset_times/src/offset_date_time.rt. Do not edit.
+// Made by make/erase of crates/offset_times/src/offset_date_time.rt. Do not edit.
 //! A date and a time of day at an offset from UTC.
 use crate::proved::calendar_values::{Date, Time, UtcOffset};
 use crate::proved::plain_times::PlainDateTime;

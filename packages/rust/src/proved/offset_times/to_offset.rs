@@ -1,4 +1,4 @@
-// Made by tools/erase of crates/offset_times/src/to_offset.rt. Do not edit.
+// Made by make/erase of crates/offset_times/src/to_offset.rt. Do not edit.
 //! Conversions from UTC to an offset.
 use crate::proved::offset_times::carries::utc_to_offset_raw;
 use crate::proved::offset_times::offset_date_time::date_time_if_any;

@@ -1,4 +1,4 @@
-// Made by tools/erase of crates/plain_times/src/plain_date_time.rt. Do not edit.
+// Made by make/erase of crates/plain_times/src/plain_date_time.rt. Do not edit.
 //! A date with a time of day, and no offset from UTC.
 use crate::proved::calendar_values::{Date, Time};
 mod comparisons;

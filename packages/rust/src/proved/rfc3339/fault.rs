@@ -1,4 +1,4 @@
-// Made by tools/erase of crates/rfc3339/src/fault.rt. Do not edit.
+// Made by make/erase of crates/rfc3339/src/fault.rt. Do not edit.
 //! Where a text has not the form.
 // The places of the form after the 19 bytes of the date and of the time of day: before a point or an offset,
 const AFTER_SECOND: u8 = 19;

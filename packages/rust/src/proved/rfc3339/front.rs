@@ -1,4 +1,4 @@
-// Made by tools/erase of crates/rfc3339/src/front.rt. Do not edit.
+// Made by make/erase of crates/rfc3339/src/front.rt. Do not edit.
 //! Texts read that stand in front of others, and offsets alone.
 use crate::proved::rfc3339::parse::{date_time, offset};
 use crate::proved::rfc3339::reading::{front, zone};

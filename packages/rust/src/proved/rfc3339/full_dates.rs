@@ -1,4 +1,4 @@
-// Made by tools/erase of crates/rfc3339/src/full_dates.rt. Do not edit.
+// Made by make/erase of crates/rfc3339/src/full_dates.rt. Do not edit.
 //! Days as texts, written and read.
 use crate::proved::rfc3339::reading::{part, year};
 use crate::proved::rfc3339::write::push_date;

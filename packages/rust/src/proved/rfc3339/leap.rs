@@ -1,4 +1,4 @@
-// Made by tools/erase of crates/rfc3339/src/leap.rt. Do not edit.
+// Made by make/erase of crates/rfc3339/src/leap.rt. Do not edit.
 //! Texts read whose second may be 60.
 use crate::proved::rfc3339::parse::date_time;
 use crate::proved::rfc3339::reading::parts;

@@ -1,4 +1,4 @@
-// Made by tools/erase of crates/rfc3339/src/pairs.rt. Do not edit.
+// Made by make/erase of crates/rfc3339/src/pairs.rt. Do not edit.
 //! Two digits of a number, from a table.
 // The digits of 0 to 99.
 static PAIRS: [[u8; 2]; 100] = [

@@ -1,4 +1,4 @@
-// Made by tools/erase of crates/rfc3339/src/parse.rt. Do not edit.
+// Made by make/erase of crates/rfc3339/src/parse.rt. Do not edit.
 //! Texts read.
 use crate::proved::rfc3339::reading::parts;
 use crate::proved::rfc3339::{Component, Parts, TextRefusal};

@@ -1,4 +1,4 @@
-// Made by tools/erase of crates/rfc3339/src/parts.rt. Do not edit.
+// Made by make/erase of crates/rfc3339/src/parts.rt. Do not edit.
 //! The numbers of a text.
 
 /// The numbers that a text of RFC 3339 spells, each as the text has it, and not yet tested for its

@@ -1,4 +1,4 @@
-// Made by tools/erase of crates/rfc3339/src/reading.rt. Do not edit.
+// Made by make/erase of crates/rfc3339/src/reading.rt. Do not edit.
 //! The parts of a text, read from its front on.
 use crate::proved::rfc3339::Parts;
 

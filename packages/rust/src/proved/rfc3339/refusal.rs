@@ -1,4 +1,4 @@
-// Made by tools/erase of crates/rfc3339/src/refusal.rt. Do not edit.
+// Made by make/erase of crates/rfc3339/src/refusal.rt. Do not edit.
 //! Why a text is refused.
 use crate::proved::calendar_values::Text;
 use std::error::Error;

@@ -1,4 +1,4 @@
-// Made by tools/erase of crates/rfc3339/src/texts.rt. Do not edit.
+// Made by make/erase of crates/rfc3339/src/texts.rt. Do not edit.
 //! Every type that has texts of RFC 3339.
 use crate::proved::rfc3339::write::text_of;
 use crate::proved::rfc3339::{TextRefusal, parse_rfc3339};

@@ -1,4 +1,4 @@
-// Made by tools/erase of crates/rfc3339/src/write.rt. Do not edit.
+// Made by make/erase of crates/rfc3339/src/write.rt. Do not edit.
 //! Texts written.
 use crate::proved::calendar_values::Text;
 use crate::proved::offset_times::OffsetDateTime;

@@ -1,4 +1,4 @@
-// Made by tools/erase of crates/rfc3339/src/write_fixed.rt. Do not edit.
+// Made by make/erase of crates/rfc3339/src/write_fixed.rt. Do not edit.
 //! Texts of fixed width written.
 use crate::proved::rfc3339::write::{push_clock, push_date, push_whole_fraction, text_with};
 use crate::proved::calendar_values::Text;

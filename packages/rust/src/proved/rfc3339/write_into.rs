@@ -1,4 +1,4 @@
-// Made by tools/erase of crates/rfc3339/src/write_into.rt. Do not edit.
+// Made by make/erase of crates/rfc3339/src/write_into.rt. Do not edit.
 //! Texts written into bytes of the caller's.
 use crate::proved::rfc3339::Parts;
 use crate::proved::rfc3339::pairs::pair;

@@ -1,4 +1,4 @@
-// Made by tools/erase of crates/rfc3339/src/write_unix.rt. Do not edit.
+// Made by make/erase of crates/rfc3339/src/write_unix.rt. Do not edit.
 //! Unix seconds written with a fraction of fixed width.
 use crate::proved::rfc3339::write::push_whole_fraction;
 use crate::proved::calendar_values::Text;

@@ -1,4 +1,4 @@
-// Made by tools/erase of crates/stamp_times/src/batches.rt. Do not edit.
+// Made by make/erase of crates/stamp_times/src/batches.rt. Do not edit.
 //! Many timestamps at once.
 use crate::proved::stamp_times::Timestamp;
 use crate::proved::stamp_times::runs::put_in_room;

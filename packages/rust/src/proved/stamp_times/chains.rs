@@ -1,4 +1,4 @@
-// Made by tools/erase of crates/stamp_times/src/chains.rt. Do not edit.
+// Made by make/erase of crates/stamp_times/src/chains.rt. Do not edit.
 //! Chains of conversions.
 use crate::proved::stamp_times::chains::steps::{Held, Step, StoppedAt};
 use crate::proved::stamp_times::{Moment, Timestamp};

@@ -1,4 +1,4 @@
-// Made by tools/erase of crates/stamp_times/src/logs.rt. Do not edit.
+// Made by make/erase of crates/stamp_times/src/logs.rt. Do not edit.
 //! Logs: timestamps in the order of time.
 use crate::proved::stamp_times::Timestamp;
 use crate::proved::offset_times::OffsetDateTime;

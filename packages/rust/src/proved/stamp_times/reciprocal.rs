@@ -1,4 +1,4 @@
-// Made by tools/erase of crates/stamp_times/src/reciprocal.rt. Do not edit.
+// Made by make/erase of crates/stamp_times/src/reciprocal.rt. Do not edit.
 //! The calendar by two multiplications: a year, its kind and the day of the year with no division.
 //!
 //! A day is counted from 1 January of a year that 400 divides, so that it is not negative. The first

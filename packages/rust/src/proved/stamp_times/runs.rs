@@ -1,4 +1,4 @@
-// Made by tools/erase of crates/stamp_times/src/runs.rt. Do not edit.
+// Made by make/erase of crates/stamp_times/src/runs.rt. Do not edit.
 //! Runs of calls.
 use crate::proved::stamp_times::runs::calls::{Call, Reply};
 use crate::proved::stamp_times::{Moment, Timestamp};

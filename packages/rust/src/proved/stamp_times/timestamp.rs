@@ -1,4 +1,4 @@
-// Made by tools/erase of crates/stamp_times/src/timestamp.rt. Do not edit.
+// Made by make/erase of crates/stamp_times/src/timestamp.rt. Do not edit.
 //! An instant by its Unix seconds.
 use crate::proved::calendar_values::units::NANOS_PER_SECOND;
 use crate::proved::calendar_values::{ComponentRange, Part};

@@ -1,4 +1,4 @@
-// Made by tools/erase of crates/stamp_times/src/to_timestamp.rt. Do not edit.
+// Made by make/erase of crates/stamp_times/src/to_timestamp.rt. Do not edit.
 //! Date-times at an offset as timestamps.
 use crate::proved::stamp_times::Timestamp;
 use crate::proved::offset_times::OffsetDateTime;

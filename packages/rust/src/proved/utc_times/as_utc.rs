@@ -1,4 +1,4 @@
-// Made by tools/erase of crates/utc_times/src/as_utc.rt. Do not edit.
+// Made by make/erase of crates/utc_times/src/as_utc.rt. Do not edit.
 //! Wall clocks read as UTC.
 use crate::proved::utc_times::UtcDateTime;
 use crate::proved::plain_times::PlainDateTime;

@@ -1,4 +1,4 @@
-// Made by tools/erase of crates/utc_times/src/utc_date_time.rt. Do not edit.
+// Made by make/erase of crates/utc_times/src/utc_date_time.rt. Do not edit.
 //! A date and a time of day in UTC.
 use crate::proved::calendar_values::{Date, Month, Time};
 use crate::proved::plain_times::PlainDateTime;

@@ -1,4 +1,4 @@
-// Made by tools/erase of crates/calendar_values/src/date/comparisons.rt. Do not edit.
+// Made by make/erase of crates/calendar_values/src/date/comparisons.rt. Do not edit.
 //! Dates compare, and feed a hasher, by their day numbers.
 use crate::proved::calendar_values::Date;
 use std::cmp::Ordering;

@@ -1,4 +1,4 @@
-// Made by tools/erase of crates/calendar_values/src/date/months.rt. Do not edit.
+// Made by make/erase of crates/calendar_values/src/date/months.rt. Do not edit.
 //! The first and the last day of a date's month, and dates a number of months later.
 use crate::proved::calendar_values::calendar::days_before_month;
 use crate::proved::calendar_values::range::{FIRST_YEAR, LAST_YEAR};

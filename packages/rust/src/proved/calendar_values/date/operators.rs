@@ -1,4 +1,4 @@
-// Made by tools/erase of crates/calendar_values/src/date/operators.rt. Do not edit.
+// Made by make/erase of crates/calendar_values/src/date/operators.rt. Do not edit.
 //! The difference of two dates.
 use crate::proved::calendar_values::{Date, SignedDuration};
 use std::ops::Sub;

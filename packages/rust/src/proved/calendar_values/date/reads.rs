@@ -1,4 +1,4 @@
-// Made by tools/erase of crates/calendar_values/src/date/reads.rt. Do not edit.
+// Made by make/erase of crates/calendar_values/src/date/reads.rt. Do not edit.
 //! What a date shows.
 use crate::proved::calendar_values::calendar::year_start;
 use crate::proved::calendar_values::units::EPOCH_JULIAN_DAY;

@@ -1,4 +1,4 @@
-// Made by tools/erase of crates/calendar_values/src/date/replacements.rt. Do not edit.
+// Made by make/erase of crates/calendar_values/src/date/replacements.rt. Do not edit.
 //! Dates with a part replaced.
 use crate::proved::calendar_values::{ComponentRange, Date, Month};
 

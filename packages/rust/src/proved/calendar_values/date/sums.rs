@@ -1,4 +1,4 @@
-// Made by tools/erase of crates/calendar_values/src/date/sums.rt. Do not edit.
+// Made by make/erase of crates/calendar_values/src/date/sums.rt. Do not edit.
 //! The dates before and after a date, and sums of a date and a duration.
 use crate::proved::calendar_values::range::{FIRST_DAY, FIRST_YEAR, LAST_DAY, LAST_YEAR};
 use crate::proved::calendar_values::units::SECONDS_PER_DAY;

@@ -1,4 +1,4 @@
-// Made by tools/erase of crates/calendar_values/src/date/texts.rt. Do not edit.
+// Made by make/erase of crates/calendar_values/src/date/texts.rt. Do not edit.
 //! How dates print.
 use crate::proved::calendar_values::{Date, Text};
 use std::fmt;

@@ -1,4 +1,4 @@
-// Made by tools/erase of crates/calendar_values/src/signed_duration/comparisons.rt. Do not edit.
+// Made by make/erase of crates/calendar_values/src/signed_duration/comparisons.rt. Do not edit.
 //! Durations compare, and feed a hasher, by their nanoseconds.
 use crate::proved::calendar_values::SignedDuration;
 use std::cmp::Ordering;

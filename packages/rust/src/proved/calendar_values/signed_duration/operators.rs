@@ -1,4 +1,4 @@
-// Made by tools/erase of crates/calendar_values/src/signed_duration/operators.rt. Do not edit.
+// Made by make/erase of crates/calendar_values/src/signed_duration/operators.rt. Do not edit.
 //! Sums and differences of durations, and negation.
 use crate::proved::calendar_values::SignedDuration;
 use std::ops::{Add, AddAssign, Neg, Sub, SubAssign};

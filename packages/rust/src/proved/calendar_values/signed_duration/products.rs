@@ -1,4 +1,4 @@
-// Made by tools/erase of crates/calendar_values/src/signed_duration/products.rt. Do not edit.
+// Made by make/erase of crates/calendar_values/src/signed_duration/products.rt. Do not edit.
 //! Products of durations and whole numbers.
 use crate::proved::calendar_values::SignedDuration;
 use std::ops::{Mul, MulAssign};

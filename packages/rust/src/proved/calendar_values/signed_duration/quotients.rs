@@ -1,4 +1,4 @@
-// Made by tools/erase of crates/calendar_values/src/signed_duration/quotients.rt. Do not edit.
+// Made by make/erase of crates/calendar_values/src/signed_duration/quotients.rt. Do not edit.
 //! Quotients of durations and whole numbers, rounded towards zero.
 use crate::proved::calendar_values::SignedDuration;
 use std::ops::{Div, DivAssign};

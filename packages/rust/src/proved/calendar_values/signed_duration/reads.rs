@@ -1,4 +1,4 @@
-// Made by tools/erase of crates/calendar_values/src/signed_duration/reads.rt. Do not edit.
+// Made by make/erase of crates/calendar_values/src/signed_duration/reads.rt. Do not edit.
 //! What a duration is made of.
 use crate::proved::calendar_values::SignedDuration;
 use crate::proved::calendar_values::units::{

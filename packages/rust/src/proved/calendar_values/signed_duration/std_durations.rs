@@ -1,4 +1,4 @@
-// Made by tools/erase of crates/calendar_values/src/signed_duration/std_durations.rt. Do not edit.
+// Made by make/erase of crates/calendar_values/src/signed_duration/std_durations.rt. Do not edit.
 //! Conversions, comparisons, sums and differences with std's `Duration`, which has no sign.
 use crate::proved::calendar_values::{ConversionRange, SignedDuration};
 use std::cmp::Ordering;

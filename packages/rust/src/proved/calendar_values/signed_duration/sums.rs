@@ -1,4 +1,4 @@
-// Made by tools/erase of crates/calendar_values/src/signed_duration/sums.rt. Do not edit.
+// Made by make/erase of crates/calendar_values/src/signed_duration/sums.rt. Do not edit.
 //! Sums and differences that may lie outside the range.
 use crate::proved::calendar_values::SignedDuration;
 

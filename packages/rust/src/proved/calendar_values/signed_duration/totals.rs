@@ -1,4 +1,4 @@
-// Made by tools/erase of crates/calendar_values/src/signed_duration/totals.rt. Do not edit.
+// Made by make/erase of crates/calendar_values/src/signed_duration/totals.rt. Do not edit.
 //! Sums of the durations that an iterator gives.
 use crate::proved::calendar_values::SignedDuration;
 use std::iter::Sum;

@@ -1,4 +1,4 @@
-// Made by tools/erase of crates/calendar_values/src/time/comparisons.rt. Do not edit.
+// Made by make/erase of crates/calendar_values/src/time/comparisons.rt. Do not edit.
 //! Times of day compare, and feed a hasher, by their nanoseconds since midnight.
 use crate::proved::calendar_values::Time;
 use std::cmp::Ordering;

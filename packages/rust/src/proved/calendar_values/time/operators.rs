@@ -1,4 +1,4 @@
-// Made by tools/erase of crates/calendar_values/src/time/operators.rt. Do not edit.
+// Made by make/erase of crates/calendar_values/src/time/operators.rt. Do not edit.
 //! The difference of two times of day.
 use crate::proved::calendar_values::{SignedDuration, Time};
 use std::ops::Sub;

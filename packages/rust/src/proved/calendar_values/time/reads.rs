@@ -1,4 +1,4 @@
-// Made by tools/erase of crates/calendar_values/src/time/reads.rt. Do not edit.
+// Made by make/erase of crates/calendar_values/src/time/reads.rt. Do not edit.
 //! What a time of day shows.
 use crate::proved::calendar_values::Time;
 use crate::proved::calendar_values::units::NANOS_PER_SECOND;

@@ -1,4 +1,4 @@
-// Made by tools/erase of crates/calendar_values/src/time/replacements.rt. Do not edit.
+// Made by make/erase of crates/calendar_values/src/time/replacements.rt. Do not edit.
 //! Times of day with a part replaced, or truncated to a unit of time.
 use crate::proved::calendar_values::{ComponentRange, Part, Time};
 

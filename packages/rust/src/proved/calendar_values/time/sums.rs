@@ -1,4 +1,4 @@
-// Made by tools/erase of crates/calendar_values/src/time/sums.rt. Do not edit.
+// Made by make/erase of crates/calendar_values/src/time/sums.rt. Do not edit.
 //! Sums of a time of day and a duration.
 use crate::proved::calendar_values::units::{NANOS_PER_DAY, NANOS_PER_SECOND, SECONDS_PER_DAY};
 use crate::proved::calendar_values::{DateAdjustment, SignedDuration, Time};

@@ -1,4 +1,4 @@
-// Made by tools/erase of crates/calendar_values/src/time/texts.rt. Do not edit.
+// Made by make/erase of crates/calendar_values/src/time/texts.rt. Do not edit.
 //! How times of day print.
 use crate::proved::calendar_values::{Text, Time};
 use std::fmt;

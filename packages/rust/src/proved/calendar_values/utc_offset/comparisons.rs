@@ -1,4 +1,4 @@
-// Made by tools/erase of crates/calendar_values/src/utc_offset/comparisons.rt. Do not edit.
+// Made by make/erase of crates/calendar_values/src/utc_offset/comparisons.rt. Do not edit.
 //! Offsets compare by their seconds.
 use crate::proved::calendar_values::UtcOffset;
 

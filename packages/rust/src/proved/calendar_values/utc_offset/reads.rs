@@ -1,4 +1,4 @@
-// Made by tools/erase of crates/calendar_values/src/utc_offset/reads.rt. Do not edit.
+// Made by make/erase of crates/calendar_values/src/utc_offset/reads.rt. Do not edit.
 //! What an offset shows.
 use crate::proved::calendar_values::UtcOffset;
 

@@ -1,4 +1,4 @@
-// Made by tools/erase of crates/calendar_values/src/utc_offset/texts.rt. Do not edit.
+// Made by make/erase of crates/calendar_values/src/utc_offset/texts.rt. Do not edit.
 //! How offsets print.
 use crate::proved::calendar_values::UtcOffset;
 use crate::proved::calendar_values::text::Text;

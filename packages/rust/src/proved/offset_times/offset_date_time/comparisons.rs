@@ -1,4 +1,4 @@
-// Made by tools/erase of crates/offset_times/src/offset_date_time/comparisons.rt. Do not edit.
+// Made by make/erase of crates/offset_times/src/offset_date_time/comparisons.rt. Do not edit.
 //! Date-times with an offset compare, and feed a hasher, by their instants.
 use crate::proved::offset_times::OffsetDateTime;
 use crate::proved::offset_times::carries::{to_offset_raw, to_utc_raw};

@@ -1,4 +1,4 @@
-// Made by tools/erase of crates/offset_times/src/offset_date_time/conversions.rt. Do not edit.
+// Made by make/erase of crates/offset_times/src/offset_date_time/conversions.rt. Do not edit.
 //! Conversions to another offset, and to UTC.
 use crate::proved::offset_times::carries::{to_offset_raw, to_utc_raw};
 use crate::proved::offset_times::{Assume, OffsetDateTime};

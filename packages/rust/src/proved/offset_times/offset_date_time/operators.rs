@@ -1,4 +1,4 @@
-// Made by tools/erase of crates/offset_times/src/offset_date_time/operators.rt. Do not edit.
+// Made by make/erase of crates/offset_times/src/offset_date_time/operators.rt. Do not edit.
 //! Sums and differences by operators.
 use crate::proved::offset_times::OffsetDateTime;
 use crate::proved::calendar_values::{SignedDuration, UtcOffset};

@@ -1,4 +1,4 @@
-// Made by tools/erase of crates/offset_times/src/offset_date_time/reads.rt. Do not edit.
+// Made by make/erase of crates/offset_times/src/offset_date_time/reads.rt. Do not edit.
 //! The parts of the date and of the time of day that clocks show.
 use crate::proved::offset_times::OffsetDateTime;
 use crate::proved::calendar_values::{Date, Month, Time, Weekday};

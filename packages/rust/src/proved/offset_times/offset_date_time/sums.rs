@@ -1,4 +1,4 @@
-// Made by tools/erase of crates/offset_times/src/offset_date_time/sums.rt. Do not edit.
+// Made by make/erase of crates/offset_times/src/offset_date_time/sums.rt. Do not edit.
 //! Sums of a date-time and a duration: the wall clock moves, and the offset stays.
 use crate::proved::offset_times::OffsetDateTime;
 use crate::proved::calendar_values::SignedDuration;

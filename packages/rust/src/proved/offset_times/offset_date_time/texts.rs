@@ -1,4 +1,4 @@
-// Made by tools/erase of crates/offset_times/src/offset_date_time/texts.rt. Do not edit.
+// Made by make/erase of crates/offset_times/src/offset_date_time/texts.rt. Do not edit.
 //! How date-times with an offset print.
 use crate::proved::offset_times::OffsetDateTime;
 use crate::proved::calendar_values::Text;

@@ -1,4 +1,4 @@
-// Made by tools/erase of crates/offset_times/src/offset_date_time/unix_time.rt. Do not edit.
+// Made by make/erase of crates/offset_times/src/offset_date_time/unix_time.rt. Do not edit.
 //! Unix time: instants counted from 1970-01-01 0:00 UTC, with no leap seconds.
 use crate::proved::offset_times::OffsetDateTime;
 use crate::proved::calendar_values::ComponentRange;

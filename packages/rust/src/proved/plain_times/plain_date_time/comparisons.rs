@@ -1,4 +1,4 @@
-// Made by tools/erase of crates/plain_times/src/plain_date_time/comparisons.rt. Do not edit.
+// Made by make/erase of crates/plain_times/src/plain_date_time/comparisons.rt. Do not edit.
 //! Date-times compare, and feed a hasher, by their wall clocks.
 use crate::proved::plain_times::PlainDateTime;
 use crate::proved::calendar_values::Time;

@@ -1,4 +1,4 @@
-// Made by tools/erase of crates/plain_times/src/plain_date_time/operators.rt. Do not edit.
+// Made by make/erase of crates/plain_times/src/plain_date_time/operators.rt. Do not edit.
 //! Sums and differences by operators.
 use crate::proved::plain_times::PlainDateTime;
 use crate::proved::calendar_values::SignedDuration;

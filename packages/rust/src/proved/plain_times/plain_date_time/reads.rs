@@ -1,4 +1,4 @@
-// Made by tools/erase of crates/plain_times/src/plain_date_time/reads.rt. Do not edit.
+// Made by make/erase of crates/plain_times/src/plain_date_time/reads.rt. Do not edit.
 //! What a plain date-time shows.
 use crate::proved::plain_times::PlainDateTime;
 use crate::proved::calendar_values::{Date, Month, Time, Weekday};

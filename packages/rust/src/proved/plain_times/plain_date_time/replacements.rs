@@ -1,4 +1,4 @@
-// Made by tools/erase of crates/plain_times/src/plain_date_time/replacements.rt. Do not edit.
+// Made by make/erase of crates/plain_times/src/plain_date_time/replacements.rt. Do not edit.
 //! Plain date-times with a part replaced, or truncated to a unit of time.
 use crate::proved::plain_times::PlainDateTime;
 use crate::proved::calendar_values::{ComponentRange, Date, Month, Time};

@@ -1,4 +1,4 @@
-// Made by tools/erase of crates/plain_times/src/plain_date_time/sums.rt. Do not edit.
+// Made by make/erase of crates/plain_times/src/plain_date_time/sums.rt. Do not edit.
 //! Sums of a plain date-time and a duration.
 use crate::proved::plain_times::PlainDateTime;
 use crate::proved::calendar_values::units::SECONDS_PER_DAY;

@@ -1,4 +1,4 @@
-// Made by tools/erase of crates/plain_times/src/plain_date_time/texts.rt. Do not edit.
+// Made by make/erase of crates/plain_times/src/plain_date_time/texts.rt. Do not edit.
 //! How plain date-times print.
 use crate::proved::plain_times::PlainDateTime;
 use crate::proved::calendar_values::Text;

@@ -1,4 +1,4 @@
-// Made by tools/erase of crates/stamp_times/src/chains/steps.rt. Do not edit.
+// Made by make/erase of crates/stamp_times/src/chains/steps.rt. Do not edit.
 //! The steps of a chain of conversions, and what it holds.
 use crate::proved::stamp_times::Timestamp;
 use crate::proved::calendar_values::UtcOffset;

@@ -1,4 +1,4 @@
-// Made by tools/erase of crates/stamp_times/src/runs/calls.rt. Do not edit.
+// Made by make/erase of crates/stamp_times/src/runs/calls.rt. Do not edit.
 //! The calls that instants of every type have, and what they reply.
 use crate::proved::calendar_values::{
     ComponentRange, Date, Month, SignedDuration, Time, UtcOffset, Weekday,

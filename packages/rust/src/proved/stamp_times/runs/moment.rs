@@ -1,4 +1,4 @@
-// Made by tools/erase of crates/stamp_times/src/runs/moment.rt. Do not edit.
+// Made by make/erase of crates/stamp_times/src/runs/moment.rt. Do not edit.
 //! What instants of every type have in common.
 use crate::proved::stamp_times::Timestamp;
 use crate::proved::stamp_times::runs::calls::{

@@ -1,4 +1,4 @@
-// Made by tools/erase of crates/stamp_times/src/timestamp/comparisons.rt. Do not edit.
+// Made by make/erase of crates/stamp_times/src/timestamp/comparisons.rt. Do not edit.
 //! Timestamps compare, and feed a hasher, by their instants.
 use crate::proved::stamp_times::Timestamp;
 use std::cmp::Ordering;

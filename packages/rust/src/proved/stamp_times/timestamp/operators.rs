@@ -1,4 +1,4 @@
-// Made by tools/erase of crates/stamp_times/src/timestamp/operators.rt. Do not edit.
+// Made by make/erase of crates/stamp_times/src/timestamp/operators.rt. Do not edit.
 //! Sums and differences by operators.
 use crate::proved::stamp_times::Timestamp;
 use crate::proved::calendar_values::SignedDuration;

@@ -1,4 +1,4 @@
-// Made by tools/erase of crates/stamp_times/src/timestamp/reads.rt. Do not edit.
+// Made by make/erase of crates/stamp_times/src/timestamp/reads.rt. Do not edit.
 //! The date and the time of day of a timestamp, in UTC.
 use crate::proved::stamp_times::Timestamp;
 use crate::proved::stamp_times::reciprocal::year_leap_ordinal;

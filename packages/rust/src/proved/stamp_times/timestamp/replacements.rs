@@ -1,4 +1,4 @@
-// Made by tools/erase of crates/stamp_times/src/timestamp/replacements.rt. Do not edit.
+// Made by make/erase of crates/stamp_times/src/timestamp/replacements.rt. Do not edit.
 //! A timestamp with a part of its date or of its time of day replaced, in UTC.
 use crate::proved::stamp_times::Timestamp;
 use crate::proved::calendar_values::units::SECONDS_PER_DAY;

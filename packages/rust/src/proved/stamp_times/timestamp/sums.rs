@@ -1,4 +1,4 @@
-// Made by tools/erase of crates/stamp_times/src/timestamp/sums.rt. Do not edit.
+// Made by make/erase of crates/stamp_times/src/timestamp/sums.rt. Do not edit.
 //! Sums of a timestamp and a duration, in seconds and nanoseconds.
 use super::{FIRST_SECOND, LAST_SECOND};
 use crate::proved::stamp_times::Timestamp;

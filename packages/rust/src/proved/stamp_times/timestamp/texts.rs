@@ -1,4 +1,4 @@
-// Made by tools/erase of crates/stamp_times/src/timestamp/texts.rt. Do not edit.
+// Made by make/erase of crates/stamp_times/src/timestamp/texts.rt. Do not edit.
 //! The text of a timestamp.
 use crate::proved::stamp_times::Timestamp;
 use crate::proved::calendar_values::Text;

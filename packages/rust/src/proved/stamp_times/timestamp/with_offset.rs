@@ -1,4 +1,4 @@
-// Made by tools/erase of crates/stamp_times/src/timestamp/with_offset.rt. Do not edit.
+// Made by make/erase of crates/stamp_times/src/timestamp/with_offset.rt. Do not edit.
 //! Timestamps and date-times at offsets from UTC: the same instants.
 use crate::proved::stamp_times::Timestamp;
 use crate::proved::calendar_values::{SignedDuration, UtcOffset};

@@ -1,4 +1,4 @@
-// Made by tools/erase of crates/utc_times/src/utc_date_time/comparisons.rt. Do not edit.
+// Made by make/erase of crates/utc_times/src/utc_date_time/comparisons.rt. Do not edit.
 //! Date-times in UTC compare, and feed a hasher, by their instants.
 use crate::proved::utc_times::UtcDateTime;
 use std::cmp::Ordering;

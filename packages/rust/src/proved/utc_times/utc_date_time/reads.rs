@@ -1,4 +1,4 @@
-// Made by tools/erase of crates/utc_times/src/utc_date_time/reads.rt. Do not edit.
+// Made by make/erase of crates/utc_times/src/utc_date_time/reads.rt. Do not edit.
 //! What a date-time in UTC shows.
 use crate::proved::utc_times::UtcDateTime;
 use crate::proved::calendar_values::{Date, Month, Time, Weekday};

@@ -1,4 +1,4 @@
-// Made by tools/erase of crates/utc_times/src/utc_date_time/replacements.rt. Do not edit.
+// Made by make/erase of crates/utc_times/src/utc_date_time/replacements.rt. Do not edit.
 //! Date-times in UTC with a part replaced, or truncated to a unit of time.
 use crate::proved::utc_times::UtcDateTime;
 use crate::proved::calendar_values::{ComponentRange, Date, Month, Time};

@@ -1,4 +1,4 @@
-// Made by tools/erase of crates/utc_times/src/utc_date_time/sums.rt. Do not edit.
+// Made by make/erase of crates/utc_times/src/utc_date_time/sums.rt. Do not edit.
 //! Sums of a date-time in UTC and a duration.
 use crate::proved::utc_times::UtcDateTime;
 use crate::proved::calendar_values::SignedDuration;

@@ -1,4 +1,4 @@
-// Made by tools/erase of crates/utc_times/src/utc_date_time/texts.rt. Do not edit.
+// Made by make/erase of crates/utc_times/src/utc_date_time/texts.rt. Do not edit.
 //! How date-times in UTC print.
 use crate::proved::utc_times::UtcDateTime;
 use crate::proved::calendar_values::Text;

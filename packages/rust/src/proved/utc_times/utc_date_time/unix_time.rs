@@ -1,4 +1,4 @@
-// Made by tools/erase of crates/utc_times/src/utc_date_time/unix_time.rt. Do not edit.
+// Made by make/erase of crates/utc_times/src/utc_date_time/unix_time.rt. Do not edit.
 //! Unix time: instants counted from 1970-01-01 0:00 UTC, with no leap seconds.
 use crate::proved::utc_times::UtcDateTime;
 use crate::proved::calendar_values::units::{NANOS_PER_SECOND, SECONDS_PER_DAY};
