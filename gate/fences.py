@@ -46,6 +46,7 @@ READERS = {
     "pages": {
         "README.md": ("rust",),
         "CONTRIBUTING.md": ("text crates/*",),
+        "packages/README.md": ("c packages/*", "rust packages/*", "python packages/*", "js packages/*", "sql packages/*"),
         "docs/guide/C.md": ("text muxandu.h",),
         "docs/guide/CALLING.md": ("rust", "rust program"),
         "docs/guide/COOKBOOK.md": ("rust", "rust program"),
