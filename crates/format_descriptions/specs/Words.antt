@@ -1,4 +1,4 @@
--- The words of contracts, of this library, of those below it and of std, for callers: tools/words writes this file.
+-- The words of contracts, of this library, of those below it and of std, for callers: make/words writes this file.
 pub use Rattle.calendar_values.specs.Adjustments.{adjustment_days, days_if_next, days_if_previous}
 unfoldable pub use Rattle.calendar_values.specs.Adjustments.{subday_nanoseconds_of}
 pub use Rattle.calendar_values.specs.Calendar.{IsOrdinalDate, day_of_calendar_date, day_of_month_of, day_of_ordinal_date, days_before_month}

@@ -1,5 +1,5 @@
 //! Texts that stand in front of others, offsets alone, and instants at fixed width: what is expected is of
-//! `tools/stamp_lines.py`.
+//! `gate/shared/stamp_lines.py`.
 use super::is;
 use calendar_values::UtcOffset;
 use offset_times::ToOffset;

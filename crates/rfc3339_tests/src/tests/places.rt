@@ -1,4 +1,4 @@
-//! Every byte at every place of a text, as `tools/rfc3339_rows` says.
+//! Every byte at every place of a text, as `make/rfc3339_rows` says.
 use super::is;
 use rfc3339::{Component, TextRefusal, parse_rfc3339};
 use std::test::Fail;

@@ -1,5 +1,5 @@
 //! Texts with what they say: the examples of RFC 3339, both ends, each refusal, and every byte at every place. What is
-//! expected is of Python's `re` and `datetime` (`tools/rfc3339.py`).
+//! expected is of Python's `re` and `datetime` (`gate/shared/rfc3339.py`).
 use super::is;
 use calendar_values::{Date, Month, Text, Time, UtcOffset};
 use offset_times::OffsetDateTime;

@@ -1,0 +1,322 @@
+"""What the steps of the gate share: how cases are counted, and the copy of the repository that they work on."""
+
+import contextlib
+import errno
+import os
+import re
+import shutil
+import signal
+import subprocess
+import sys
+import tempfile
+import threading
+import time
+
+SHARED = os.path.dirname(os.path.realpath(__file__))
+GATE = os.path.dirname(SHARED)
+REPOSITORY = os.path.dirname(GATE)
+MAKE = os.path.join(REPOSITORY, "make")
+MEASURE = os.path.join(REPOSITORY, "measure")
+
+# The variable that names the folder that the steps of one gate share. ./test sets it.
+SHARED_FOLDER = "GATE_FOLDER"
+
+# What ./test, and then gate/proved_copy, leave in that folder: the first for as long as other work goes on beside.
+BESIDE, PROVED, UNPROVED = "beside", "proved", "unproved"
+
+# The library for C in that folder, once it is proved and built.
+ARCHIVE = "libmuxandu_c.a"
+
+# What `rt ci` has printed so far, in that folder.
+CI_LOG = "rt.log"
+
+# The compilers that build a program, by the names that `rt` has for them.
+COMPILERS = ("llvm", "rattle")
+
+# The programs, and the commands that prove, build and run them.
+STARTERS = {"times_bench": ("bench",), "stamps": ("stamps", "check")}
+
+# How much of what a command printed is shown where it failed.
+SHOWN = 3_000
+
+# How many seconds a step waits for another.
+LONGEST_WAIT = 10_000
+
+# The last line of a step: how many cases passed, failed and were skipped.
+COUNT = re.compile(r"(\d+) passed, (\d+) failed(?:, (\d+) skipped)?")
+
+# The least cases, passed and skipped, that each step has.
+FLOORS = os.path.join(GATE, "counts.txt")
+FLOORS_HEAD = "# The least cases, passed and skipped, that a step has. Made by gate/counts.\n"
+
+# Programs say the same on every machine, and `bash` does not complain of a locale that is not installed.
+os.environ["LC_ALL"] = "C.UTF-8"
+
+
+def say_full_disk(kind, error, trace):
+    """Ends a step with one line where a disk is full, and as ever otherwise."""
+    if isinstance(error, OSError) and error.errno in (errno.ENOSPC, errno.EDQUOT, errno.EFBIG):
+        place = error.filename or tempfile.gettempdir()
+        print(f"FAILED: no room is left on the disk of {place}: {error.strerror}", file=sys.stderr, flush=True)
+        return
+    sys.__excepthook__(kind, error, trace)
+
+
+sys.excepthook = say_full_disk
+
+
+def has_gnu_parallel():
+    """Whether `parallel` is GNU's, which the pages use: that of moreutils takes other words."""
+    if shutil.which("parallel") is None:
+        return False
+    ended = subprocess.run(["parallel", "--version"], stdin=subprocess.DEVNULL, capture_output=True, check=False)
+    return ended.returncode == 0 and b"GNU parallel" in ended.stdout
+
+
+def floors():
+    """The least cases of each step, by its name."""
+    if not os.path.exists(FLOORS):
+        return {}
+    with open(FLOORS, encoding="utf-8") as file:
+        lines = [line.rpartition(": ") for line in file.read().splitlines() if not line.startswith("#")]
+    return {name: int(cases) for name, _, cases in lines}
+
+
+def write_floors(found):
+    """Writes the least cases of each step."""
+    with open(FLOORS, "w", encoding="utf-8") as file:
+        file.write(FLOORS_HEAD + "".join(f"{name}: {cases}\n" for name, cases in sorted(found.items())))
+
+
+class Tally:
+    """The cases of a step: how many passed, how many failed, and how many were skipped."""
+
+    def __init__(self):
+        self.passed = 0
+        self.failed = 0
+        self.skipped = []
+
+    def count(self, case, problem=None, printed=""):
+        """Counts a case and tells of it: it failed if it has a problem, and then the end of what was printed is shown."""
+        if problem is None:
+            self.passed += 1
+            print(case, flush=True)
+            return
+        self.failed += 1
+        print(f"{case}: FAILED: {problem}\n{printed[-SHOWN:]}".rstrip(), flush=True)
+
+    def skip(self, case, reason, cases=1):
+        """Counts cases that this machine cannot run, for a reason. The step prints them again at its end."""
+        self.skipped.append((case, reason, cases))
+        print(f"{case}: skipped: {reason}", flush=True)
+
+    def skip_rest(self, reason):
+        """Counts all cases that the step has beyond those that were counted as skipped, for a reason: as many as it has on a
+        machine where each can run."""
+        step = os.path.basename(sys.argv[0])
+        counted = self.passed + self.failed + sum(cases for _, _, cases in self.skipped)
+        self.skip(f"the rest of {step}", reason, max(1, floors().get(step, 0) - counted))
+
+    def end(self, *others):
+        """Prints the count, with those of other halves of the step, and ends the step: as a failure where a case failed,
+        or where none passed and none was skipped in one of the halves."""
+        halves = (self, *others)
+        passed, failed = (sum(getattr(half, name) for half in halves) for name in ("passed", "failed"))
+        skipped = [case for half in halves for case in half.skipped]
+        if failed == 0 and not all(half.passed or half.skipped for half in halves):
+            failed = 1
+            print("a part of this step checked nothing", flush=True)
+        for case, reason, cases in skipped:
+            print(f"skipped: {case}, {cases} {'case' if cases == 1 else 'cases'}: {reason}", flush=True)
+        print(f"{passed} passed, {failed} failed, {sum(cases for _, _, cases in skipped)} skipped", flush=True)
+        sys.exit(0 if failed == 0 else 1)
+
+
+def rt(words, folder):
+    """Runs `rt` in a folder, and gives the ended process with all that it printed, in one text."""
+    return subprocess.run(
+        ["rt", *words],
+        cwd=folder,
+        stdin=subprocess.DEVNULL,
+        stdout=subprocess.PIPE,
+        stderr=subprocess.STDOUT,
+        encoding="utf-8",
+        errors="replace",
+        check=False,
+    )
+
+
+def is_beside():
+    """Whether this step runs beside another that takes all processors."""
+    shared = os.environ.get(SHARED_FOLDER)
+    return bool(shared) and os.path.exists(os.path.join(shared, BESIDE))
+
+
+def most_jobs():
+    """How many jobs a check may have on this machine, as gate/jobs says."""
+    return int(subprocess.run([os.path.join(GATE, "jobs")], stdout=subprocess.PIPE, check=True).stdout)
+
+
+def jobs():
+    """How many jobs a check may have now: as many as this machine has room for, or one beside other work."""
+    return 1 if is_beside() else most_jobs()
+
+
+class Room:
+    """Room for checks of one job side by side: as many as there are jobs at the time."""
+
+    def __init__(self):
+        self.running = 0
+        self.condition = threading.Condition()
+
+    def __enter__(self):
+        with self.condition:
+            while self.running >= jobs():
+                self.condition.wait(timeout=10)
+            self.running += 1
+
+    def __exit__(self, *_):
+        with self.condition:
+            self.running -= 1
+            self.condition.notify_all()
+
+
+def crates(root=REPOSITORY):
+    """The names of the crates of a repository, each after those that it stands on, as crates.txt lists them."""
+    with open(os.path.join(root, "crates.txt"), encoding="utf-8") as lines:
+        return [line.split(":")[0].split()[0] for line in lines if ":" in line and not line.startswith("#")]
+
+
+def copy_repository(folder, repository=REPOSITORY):
+    """The path of a copy of a repository in the folder, with what checks have kept."""
+    copy = os.path.join(folder, "copy")
+    shutil.copytree(repository, copy, symlinks=True, ignore=shutil.ignore_patterns(".git", "__pycache__"))
+    return copy
+
+
+def fresh_copy(folder, repository=REPOSITORY):
+    """The path of a copy of a repository in the folder, as a clone of it has its files: with the edits that are not committed,
+    and without what checks have kept. Wrong and right bodies are left out, since no command but the gate reads them."""
+    copy, left_out = os.path.join(folder, "fresh copy"), ("wrong", "must-fail", "right")
+    words = ["git", "ls-files", "-z", "--cached", "--others", "--exclude-standard"]
+    listed = subprocess.run(words, cwd=repository, stdout=subprocess.PIPE, stderr=subprocess.DEVNULL, check=False)
+    if listed.returncode != 0:
+        ignored = shutil.ignore_patterns(".git", "__pycache__", "out", "dist", "target", "*.so", *left_out)
+        return shutil.copytree(repository, copy, symlinks=True, ignore=ignored)
+    for name in map(os.fsdecode, filter(None, listed.stdout.split(b"\0"))):
+        path = os.path.join(repository, name)
+        if os.path.lexists(path) and not set(left_out) & set(name.split("/")):
+            os.makedirs(os.path.dirname(os.path.join(copy, name)), exist_ok=True)
+            shutil.copy2(path, os.path.join(copy, name), follow_symlinks=False)
+    return copy
+
+
+def program(folder, compiler, crate):
+    """The path in the folder of the program of a crate as that compiler builds it."""
+    return os.path.join(folder, f"{crate}_{compiler}")
+
+
+def build(folder, crate):
+    """Makes a copy of the repository in the folder, has the program of a crate proved and built in it, and then has Rattle's
+    own compiler build it too. What checks kept in the repository comes along, so little is left to do where it is proved."""
+    print("building a copy of the repository", flush=True)
+    copy = copy_repository(folder)
+    starter, *words = STARTERS[crate]
+    if subprocess.run([os.path.join(copy, starter), *words], stdin=subprocess.DEVNULL, check=False).returncode != 0:
+        sys.exit("the copy of the repository is not proved and built")
+    place = os.path.join(copy, "crates", crate)
+    shutil.copy(os.path.join(place, "out", crate), program(folder, "llvm", crate))
+    run = rt(["run", "--backend", "rattle", *(["--", *words] if words else [])], place)
+    if run.returncode != 0:
+        sys.exit(f"Rattle's own compiler does not build {crate}:\n{run.stdout[-SHOWN:]}")
+    shutil.copy(os.path.join(place, "out", crate), program(folder, "rattle", crate))
+
+
+@contextlib.contextmanager
+def own_folder():
+    """A folder for this step alone, which is removed at the end, and where the step is asked to end early."""
+    signal.signal(signal.SIGTERM, lambda *_: sys.exit("asked to end"))
+    with tempfile.TemporaryDirectory(prefix="gate-") as folder:
+        yield folder
+
+
+def proof_of(crate):
+    """The file that gate/proved_copy leaves in the folder that the steps share, once that crate is proved."""
+    return f"{PROVED}_{crate}"
+
+
+def wait_for(folder, name):
+    """Waits until gate/proved_copy has left that file in the folder. Ends the step where it could not."""
+    end = time.monotonic() + LONGEST_WAIT
+    while not os.path.exists(os.path.join(folder, name)):
+        if os.path.exists(os.path.join(folder, UNPROVED)) or time.monotonic() > end:
+            sys.exit("the copy of the repository is not proved")
+        time.sleep(1)
+
+
+@contextlib.contextmanager
+def proved_copy(is_changed=False):
+    """The path of a copy of the repository whose crates are proved, with what their checks kept: that of the gate, or where
+    it is to be changed a copy of that; or one of its own."""
+    shared = os.environ.get(SHARED_FOLDER)
+    if shared:
+        wait_for(shared, PROVED)
+        if not is_changed:
+            yield os.path.join(shared, "copy")
+            return
+    with own_folder() as folder:
+        copy = copy_repository(folder, os.path.join(shared, "copy") if shared else REPOSITORY)
+        for crate in crates(copy) if not shared else ():
+            prove(copy, crate)
+        yield copy
+
+
+def is_test(crate):
+    """Whether a crate has tests alone."""
+    return crate.endswith("_tests")
+
+
+def prove(root, crate, is_built=False):
+    """Proves a crate of that repository, unless it is one of tests, and keeps what the check keeps; a library is built too,
+    unless it is built elsewhere. Ends the step where it is not proved."""
+    if is_test(crate):
+        return
+    folder = os.path.join(root, "crates", crate)
+    is_library = crate != "uses" and not is_built and not os.path.exists(os.path.join(folder, "src", "main.rt"))
+    # a library that was built by its statements alone has kept nothing
+    for word in ("lib", "check") if is_library else ("check",):
+        if word == "check" and is_library and os.path.exists(os.path.join(folder, "out", "incremental")):
+            continue
+        run = rt([word, "--jobs", str(jobs())], folder)
+        if run.returncode != 0:
+            sys.exit(f"{crate} is not proved:\n{run.stdout[-SHOWN:]}")
+
+
+@contextlib.contextmanager
+def programs(crate="times_bench"):
+    """What the program of a crate is, and its path: as each compiler builds it, or the one program that `--program PATH` names
+    on the command line. In the gate these are the programs that `rt ci` has proved and built, else those of a copy."""
+    words = sys.argv[1:]
+    if words[:1] == ["--program"] and len(words) == 2:
+        yield [(words[1], os.path.abspath(words[1]))]
+        return
+    if words:
+        sys.exit(f"usage: {sys.argv[0]} [--program PATH]")
+    shared = os.environ.get(SHARED_FOLDER)
+    with contextlib.nullcontext(shared) if shared else own_folder() as folder:
+        if not shared:
+            build(folder, crate)
+        lacking = [compiler for compiler in COMPILERS if not os.path.exists(program(folder, compiler, crate))]
+        if lacking:
+            sys.exit(f"there is no {crate} built by {' or '.join(lacking)}")
+        yield [(f"{crate} built by {compiler}", program(folder, compiler, crate)) for compiler in COMPILERS]
+
+
+def lines_and_answers(tool, *numbers):
+    """The lines for times_bench that a tool prints, and the answers that it says they must have, as bytes."""
+
+    def printed(*flags):
+        command = [os.path.join(GATE, tool), *flags, *map(str, numbers)]
+        return subprocess.run(command, stdout=subprocess.PIPE, check=True).stdout
+
+    return printed(), printed("--answers")

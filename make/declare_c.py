@@ -1,0 +1,218 @@
+"""packages/c/muxandu.h, of the description of the interface."""
+
+from shared.interface import CONSTANTS, HEAD, LICENCE, WIDTH, duties, quoted, variants_of, wrapped
+
+NUMBERS = {
+    "i8": "int8_t",
+    "u8": "uint8_t",
+    "u16": "uint16_t",
+    "u32": "uint32_t",
+    "i32": "int32_t",
+    "i64": "int64_t",
+    "usize": "size_t",
+}
+
+# The number of a status, as C calls it, and the enum of those of this version.
+STATUS, STATUSES = "MuxanduStatus", "MuxanduStatusCode"
+
+# What stands before the name of a parameter of each role.
+POINTERS = {"out": "{kind} {star}", "items in": "const {kind} {star}", "items out": "{kind} {star}"}
+POINTERS |= {"text": "const char {star}", "room": "char {star}", "in": "{kind} ", "count": "{kind} "}
+
+# What each language that reads the header calls: a pointer through which alone its items are reached, a function that each file
+# has by itself, a number as another type, an enum of 32 bits.
+WORDS = """\
+#if !defined(__cplusplus) && defined(__STDC_VERSION__) && __STDC_VERSION__ >= 199901L
+#define MUXANDU_RESTRICT restrict
+#else
+#define MUXANDU_RESTRICT __restrict
+#endif
+#if defined(__cplusplus) || (defined(__STDC_VERSION__) && __STDC_VERSION__ >= 199901L)
+#define MUXANDU_INLINE static inline
+#elif defined(__GNUC__)
+#define MUXANDU_INLINE static __inline__
+#else
+#define MUXANDU_INLINE static
+#endif
+#ifdef __cplusplus
+#define MUXANDU_CAST(type, value) static_cast<type>(value)
+#else
+#define MUXANDU_CAST(type, value) ((type)(value))
+#endif
+#if (defined(__cplusplus) && __cplusplus >= 201103L) || (defined(__STDC_VERSION__) && __STDC_VERSION__ >= 202311L)
+#define MUXANDU_ENUM(name) enum name : uint32_t
+#else
+#define MUXANDU_ENUM(name) enum name
+#endif
+"""
+
+# A text as C has it, of a call that writes one: compiled with the program.
+TERMINATED = """\
+MUXANDU_INLINE {head} {{
+    size_t size = 0;
+    {status} answer = {name}({given}, {room}_count == 0 ? 0 : {room}_count - 1, &size);
+    if (answer == MUXANDU_OK) {room}[size] = '\\0';
+    return answer;
+}}
+"""
+
+STRING = f"""\
+/* What a status says, as muxandu_status_text writes it: a text that stays and ends with a byte 0, for a message. This call and
+ * those that end with _z are compiled with the program, and not proved; what they answer is what the proved calls answer. */
+MUXANDU_INLINE const char *muxandu_status_string({STATUS} status) {{
+    switch (status) {{
+"""
+
+# A blank at which a line does not end.
+HOLDS = "\0"
+
+
+def comment(doc, indent=""):
+    """A doc comment in the words of the header, with no marks of Markdown."""
+    text = doc.replace("`", "'")
+    if len(indent) + len(text) + 6 <= WIDTH:
+        return [f"{indent}/* {text} */"]
+    lines = wrapped(text, f"{indent}/* ", f"{indent} * ", WIDTH - 3)
+    return lines[:-1] + [lines[-1] + " */"]
+
+
+def number(constant):
+    """A constant, as C writes it."""
+    digits = str(abs(constant["number"]))
+    if constant["type"] == "i64":
+        digits = f"INT64_C({digits})"
+    return f"(-{digits})" if constant["number"] < 0 else digits
+
+
+def c_type(kind):
+    """A type, as C calls it."""
+    return NUMBERS.get(kind, kind)
+
+
+def parameter(one, star="*"):
+    """A parameter as C declares it."""
+    return POINTERS[one["role"]].format(kind=c_type(one["type"]), star=star) + one["name"]
+
+
+def declaration(name, call):
+    """The lines that declare a call, each parameter on one line."""
+    pointers = [one for one in call["parameters"] if one["role"] not in ("in", "count")]
+    star = "*" if len(pointers) < 2 else "*MUXANDU_RESTRICT "
+    words = [parameter(one, star).replace(" ", HOLDS) for one in call["parameters"]]
+    line = f"{c_type(call['result'] or 'void')} {name}({', '.join(words) or 'void'});"
+    return [made.replace(HOLDS, " ") for made in wrapped(line, "", " " * (line.index("(") + 1))]
+
+
+def terminated_declaration(name, call):
+    """The line that declares the call that writes the text of another and a byte 0, if that one writes a text."""
+    room = room_of(call)
+    if room is None:
+        return []
+    words = [parameter(one) for one in call["parameters"][: room + 2]]
+    return [f"{c_type(call['result'])} {name}_z({', '.join(words)});"]
+
+
+def room_of(call):
+    """The place of the parameter for the text that a call writes, or None."""
+    return next((place for place, one in enumerate(call["parameters"]) if "most" in one), None)
+
+
+def terminated(name, call):
+    """The lines of that call."""
+    place = room_of(call)
+    if place is None:
+        return []
+    room, most = call["parameters"][place]["name"], call["parameters"][place]["most"]
+    told = f"As {name}, with a byte 0 at the end of the text. Errors: also BUFFER if `{room}` has no room for that byte. "
+    told += f"A buffer of {most + 1} bytes is always enough."
+    [line] = terminated_declaration(name, call)
+    given = ", ".join(one["name"] for one in call["parameters"][: place + 1])
+    made = TERMINATED.format(status=c_type(call["result"]), name=name, head=line.rstrip(";"), given=given, room=room)
+    return [*comment(told), *made.rstrip("\n").split("\n"), ""]
+
+
+class Header:
+    """The lines of the header."""
+
+    def __init__(self, interface):
+        self.interface = interface
+
+    def enums(self):
+        made = []
+        for numbers, number_type in self.interface["numbers"].items():
+            name = STATUSES if numbers == STATUS else numbers
+            made += [*comment(self.interface["enums"][number_type["of"]]["doc"]), f"typedef MUXANDU_ENUM({name}) {{"]
+            if numbers == STATUS:
+                made += [*comment(self.interface["other statuses"]["OK"]["doc"], "    "), "    MUXANDU_OK = 0,"]
+            for variant in variants_of(self.interface, number_type["of"]):
+                made += [*comment(variant["doc"], "    "), f"    MUXANDU_{variant['constant']} = {variant['number']},"]
+            made[-1] = made[-1].rstrip(",")
+            made += [f"}} {name};", ""]
+            if numbers == STATUS:
+                made += comment(number_type["doc"]) + [f"typedef uint32_t {STATUS};", ""]
+        return made
+
+    def constants(self):
+        version = self.interface["version"]
+        made = [*comment(version["doc"]), f"#define MUXANDU_{version['name']} {number(version)}", ""]
+        made += ["/* The same as a text. */", f'#define MUXANDU_{version["name"]}_TEXT "{version["text"]}"', ""]
+        for group in CONSTANTS:
+            for name, constant in self.interface[group].items():
+                made += [*comment(constant["doc"]), f"#define MUXANDU_{name} {number(constant)}", ""]
+        return made
+
+    def structs(self):
+        made = []
+        for name, struct in self.interface["structs"].items():
+            made += [*comment(struct["doc"]), f"typedef struct {name} {{"]
+            for field in struct["fields"]:
+                made += [*comment(field["doc"], "    "), f"    {c_type(field['type'])} {field['name']};"]
+            made += [f"}} {name};", ""]
+        return made
+
+    def layout(self):
+        """Tests of the layout that each standard of C and C++ has."""
+        made = [
+            "#if defined(__cplusplus) && __cplusplus >= 201103L",
+            "#define MUXANDU_LAYOUT(name, holds) static_assert(holds, #name)",
+        ]
+        made += ["#elif defined(__STDC_VERSION__) && __STDC_VERSION__ >= 201112L"]
+        made += ["#define MUXANDU_LAYOUT(name, holds) _Static_assert(holds, #name)"]
+        made += ["#else", "#define MUXANDU_LAYOUT(name, holds) typedef char muxandu_layout_##name[(holds) ? 1 : -1]", "#endif"]
+        made.append("MUXANDU_LAYOUT(Bits64, sizeof(size_t) == 8 && sizeof(void *) == 8);")
+        made += [f"MUXANDU_LAYOUT({name}, sizeof({name}) == 4);" for name in self.interface["numbers"]]
+        for name, struct in self.interface["structs"].items():
+            made.append(f"MUXANDU_LAYOUT({name}, sizeof({name}) == {struct['size']});")
+            for field in struct["fields"]:
+                place = f"offsetof({name}, {field['name']}) == {field['offset']}"
+                made.append(f"MUXANDU_LAYOUT({name}_{field['name']}, {place});")
+        return [*made, "#undef MUXANDU_LAYOUT", ""]
+
+    def calls(self):
+        made = []
+        for name, call in self.interface["calls"].items():
+            made += [*comment(call["doc"]), *declaration(name, call), ""]
+        return made
+
+    def strings(self):
+        """The calls that give texts as C has them."""
+        made = STRING.rstrip("\n").split("\n")
+        others = self.interface["other statuses"]
+        made += ["    case MUXANDU_OK:", f"        return {quoted(others['OK']['doc'])};"]
+        for variant in variants_of(self.interface, self.interface["numbers"][STATUS]["of"]):
+            made += [f"    case MUXANDU_{variant['constant']}:", f"        return {quoted(variant['doc'])};"]
+        made += ["    default:", f"        return {quoted(others['UNKNOWN']['doc'])};", "    }", "}", ""]
+        for name, call in self.interface["calls"].items():
+            made += terminated(name, call)
+        return made
+
+
+def write_c(interface):
+    header = Header(interface)
+    made = [f"/* SPDX-License-Identifier: {LICENCE}", " *", *(f" * {line}" for line in HEAD), " *"]
+    made += [f" * {line.replace('`', chr(39))}".rstrip() for line in duties()]
+    made += [" */", "#ifndef MUXANDU_H", "#define MUXANDU_H", "", "#include <stddef.h>", "#include <stdint.h>"]
+    made += ["", "#ifdef __cplusplus", 'extern "C" {', "#endif", "", *WORDS.split("\n")]
+    made += [*header.enums(), *header.constants(), *header.structs(), *header.layout(), *header.calls(), *header.strings()]
+    made += ["#ifdef __cplusplus", "}", "#endif", "", "#endif", ""]
+    return "\n".join(made)

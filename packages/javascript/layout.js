@@ -1,0 +1,154 @@
+// Made by make/declarations from packages/c/interface.json. Do not edit.
+
+/** An instant: a Unix second and a nanosecond of that second, before 1970 too. */
+export const MuxanduTimestamp = {
+    get: (view, place) => ({
+        seconds: view.getBigInt64(place + 0, true),
+        nanoseconds: view.getUint32(place + 8, true),
+    }),
+    put(view, place, { seconds, nanoseconds }) {
+        view.setBigInt64(place + 0, seconds, true);
+        view.setUint32(place + 8, nanoseconds, true);
+    },
+};
+
+/** A duration: the sum of its seconds and its nanoseconds. A call writes both with one sign, and less than a second of
+ * nanoseconds. It takes any whose sum is at least -2^63 seconds - 999999999 ns and at most 2^63 - 1 seconds + 999999999
+ * ns. */
+export const MuxanduDuration = {
+    get: (view, place) => ({
+        seconds: view.getBigInt64(place + 0, true),
+        nanoseconds: view.getInt32(place + 8, true),
+    }),
+    put(view, place, { seconds, nanoseconds }) {
+        view.setBigInt64(place + 0, seconds, true);
+        view.setInt32(place + 8, nanoseconds, true);
+    },
+};
+
+/** A date and a time of day in the proleptic Gregorian calendar, and their offset from UTC. */
+export const MuxanduDateTime = {
+    get: (view, place) => ({
+        year: view.getInt32(place + 0, true),
+        month: view.getUint8(place + 4),
+        day: view.getUint8(place + 5),
+        hour: view.getUint8(place + 6),
+        minute: view.getUint8(place + 7),
+        second: view.getUint8(place + 8),
+        nanosecond: view.getUint32(place + 12, true),
+        offsetSeconds: view.getInt32(place + 16, true),
+    }),
+    put(view, place, { year, month, day, hour, minute, second, nanosecond, offsetSeconds }) {
+        view.setInt32(place + 0, year, true);
+        view.setUint8(place + 4, month);
+        view.setUint8(place + 5, day);
+        view.setUint8(place + 6, hour);
+        view.setUint8(place + 7, minute);
+        view.setUint8(place + 8, second);
+        view.setUint32(place + 12, nanosecond, true);
+        view.setInt32(place + 16, offsetSeconds, true);
+    },
+};
+
+/** A date: a year, a month and a day of the month. */
+export const MuxanduDate = {
+    get: (view, place) => ({
+        year: view.getInt32(place + 0, true),
+        month: view.getUint8(place + 4),
+        day: view.getUint8(place + 5),
+    }),
+    put(view, place, { year, month, day }) {
+        view.setInt32(place + 0, year, true);
+        view.setUint8(place + 4, month);
+        view.setUint8(place + 5, day);
+    },
+};
+
+/** A date as a year and a day of the year. */
+export const MuxanduOrdinalDate = {
+    get: (view, place) => ({
+        year: view.getInt32(place + 0, true),
+        ordinal: view.getUint16(place + 4, true),
+    }),
+    put(view, place, { year, ordinal }) {
+        view.setInt32(place + 0, year, true);
+        view.setUint16(place + 4, ordinal, true);
+    },
+};
+
+/** A date as an ISO year, an ISO week and a day of the week (ISO 8601). The week belongs to the year of its Thursday.
+ * */
+export const MuxanduWeekDate = {
+    get: (view, place) => ({
+        year: view.getInt32(place + 0, true),
+        week: view.getUint8(place + 4),
+        weekday: view.getUint8(place + 5),
+    }),
+    put(view, place, { year, week, weekday }) {
+        view.setInt32(place + 0, year, true);
+        view.setUint8(place + 4, week);
+        view.setUint8(place + 5, weekday);
+    },
+};
+
+/** The place of a text in a block of texts. */
+export const MuxanduSpan = {
+    get: (view, place) => ({
+        start: view.getBigUint64(place + 0, true),
+        length: view.getBigUint64(place + 8, true),
+    }),
+    put(view, place, { start, length }) {
+        view.setBigUint64(place + 0, start, true);
+        view.setBigUint64(place + 8, length, true);
+    },
+};
+
+/** The result of a call with many items. It converts them in their order, up to the first that it rejects. */
+export const MuxanduBatch = {
+    get: (view, place) => ({
+        count: view.getBigUint64(place + 0, true),
+        status: view.getUint32(place + 8, true),
+    }),
+    put(view, place, { count, status }) {
+        view.setBigUint64(place + 0, count, true);
+        view.setUint32(place + 8, status, true);
+    },
+};
+
+/** An offset from UTC as hours, minutes and seconds, all of one sign. */
+export const MuxanduOffset = {
+    get: (view, place) => ({
+        hours: view.getInt8(place + 0),
+        minutes: view.getInt8(place + 1),
+        seconds: view.getInt8(place + 2),
+    }),
+    put(view, place, { hours, minutes, seconds }) {
+        view.setInt8(place + 0, hours);
+        view.setInt8(place + 1, minutes);
+        view.setInt8(place + 2, seconds);
+    },
+};
+
+/** Every reading of a date: its day numbers, its day of the year and of the week, and its weeks. */
+export const MuxanduDateReads = {
+    get: (view, place) => ({
+        day: view.getInt32(place + 0, true),
+        julianDay: view.getInt32(place + 4, true),
+        isoYear: view.getInt32(place + 8, true),
+        ordinal: view.getUint16(place + 12, true),
+        isoWeek: view.getUint8(place + 14),
+        weekday: view.getUint8(place + 15),
+        sundayBasedWeek: view.getUint8(place + 16),
+        mondayBasedWeek: view.getUint8(place + 17),
+    }),
+    put(view, place, { day, julianDay, isoYear, ordinal, isoWeek, weekday, sundayBasedWeek, mondayBasedWeek }) {
+        view.setInt32(place + 0, day, true);
+        view.setInt32(place + 4, julianDay, true);
+        view.setInt32(place + 8, isoYear, true);
+        view.setUint16(place + 12, ordinal, true);
+        view.setUint8(place + 14, isoWeek);
+        view.setUint8(place + 15, weekday);
+        view.setUint8(place + 16, sundayBasedWeek);
+        view.setUint8(place + 17, mondayBasedWeek);
+    },
+};

@@ -1,0 +1,283 @@
+"""The errors of calls as classes, the units of time, and the parts of a date-time.
+
+Made by make/python_calls from packages/c/interface.json. Do not edit.
+"""
+
+from __future__ import annotations
+
+import enum
+from typing import Optional
+
+
+class Refused(ValueError):
+    """A call failed. `name` is the name of the error in the library, `status` its number.
+
+    Each error has a class, such as RefusedMonth or RefusedDayOfMonth. If a call over many items fails, `count` is the number
+    of items that it converted: it rejected the next, and left the rest of the output as it was. `value` is the number or the
+    text that it rejected, if that is a single one. `place` is the index of the byte of a text with the fault.
+    """
+
+    name: str = ""
+    status: int = 0
+    count: Optional[int] = None
+    value: object = None
+    place: Optional[int] = None
+
+    def __init__(self, count: Optional[int] = None, value: object = None, place: Optional[int] = None) -> None:
+        told = f"{self.name}: {' '.join((self.__doc__ or '').split())}"
+        shown = _shown(value)
+        if shown:
+            told = f"{told.rstrip('.')}: {shown}" + ("" if place is None else f", at byte {place}")
+        super().__init__(told if count is None else f"item {count}: {told}")
+        self.count, self.value, self.place = count, value, place
+
+    def __reduce__(self) -> tuple[type[Refused], tuple[Optional[int], object, Optional[int]]]:
+        return type(self), (self.count, self.value, self.place)
+
+    def __init_subclass__(cls) -> None:
+        cls.__module__ = "muxandu"
+
+
+def _shown(value: object) -> str:
+    """A number or a text for a message, cut to its limit, or an empty text for another value, which may print anything."""
+    if type(value) is int:
+        return str(value) if value.bit_length() <= _MOST_BITS else f"a number of {value.bit_length()} bits"
+    if type(value) not in (str, bytes):
+        return ""
+    shown = ascii(value[: _MOST_SHOWN + 1])  # type: ignore[index]
+    return shown if len(shown) <= _MOST_SHOWN else shown[:_MOST_SHOWN] + ".."
+
+
+# The most bits of a number, and the most characters of a text, that a message shows.
+_MOST_BITS, _MOST_SHOWN = 128, 60
+
+
+
+class RefusedYear(Refused):
+    """A year before -999999 or after 999999."""
+
+    name = "YEAR"
+    status = 1
+
+
+class RefusedMonth(Refused):
+    """A month that is not 1 to 12."""
+
+    name = "MONTH"
+    status = 2
+
+
+class RefusedDay(Refused):
+    """A day that is not 1 to 31."""
+
+    name = "DAY"
+    status = 3
+
+
+class RefusedDayOfMonth(Refused):
+    """A day of 1 to 31 that its month does not have in its year."""
+
+    name = "DAY_OF_MONTH"
+    status = 4
+
+
+class RefusedOrdinal(Refused):
+    """A day of the year that is not 1 to 366."""
+
+    name = "ORDINAL"
+    status = 5
+
+
+class RefusedOrdinalOfYear(Refused):
+    """Day 366 of a year that has 365."""
+
+    name = "ORDINAL_OF_YEAR"
+    status = 6
+
+
+class RefusedWeek(Refused):
+    """An ISO week that is not 1 to 53."""
+
+    name = "WEEK"
+    status = 7
+
+
+class RefusedWeekOfYear(Refused):
+    """Week 53 of an ISO year that has 52."""
+
+    name = "WEEK_OF_YEAR"
+    status = 8
+
+
+class RefusedWeekday(Refused):
+    """A number that is not a day of the week."""
+
+    name = "WEEKDAY"
+    status = 9
+
+
+class RefusedHour(Refused):
+    """An hour that is not 0 to 23."""
+
+    name = "HOUR"
+    status = 10
+
+
+class RefusedMinute(Refused):
+    """A minute that is not 0 to 59."""
+
+    name = "MINUTE"
+    status = 11
+
+
+class RefusedSecond(Refused):
+    """A second that is not 0 to 59."""
+
+    name = "SECOND"
+    status = 12
+
+
+class RefusedNanosecond(Refused):
+    """A nanosecond that is not 0 to 999999999."""
+
+    name = "NANOSECOND"
+    status = 13
+
+
+class RefusedOffsetSeconds(Refused):
+    """An offset that is not -93599 to 93599 seconds, or whose part in seconds is not -59 to 59."""
+
+    name = "OFFSET_SECONDS"
+    status = 14
+
+
+class RefusedTimestamp(Refused):
+    """A Unix second, or a count of another unit from 1970-01-01, outside the range of timestamps."""
+
+    name = "TIMESTAMP"
+    status = 15
+
+
+class RefusedDayNumber(Refused):
+    """A day number that is not -365961662 to 364522971, or a Julian day outside the range of dates."""
+
+    name = "DAY_NUMBER"
+    status = 16
+
+
+class RefusedDuration(Refused):
+    """A duration whose whole seconds do not fit in 64 bits."""
+
+    name = "DURATION"
+    status = 17
+
+
+class RefusedUnit(Refused):
+    """A number that is not a unit, or not a part of a date-time."""
+
+    name = "UNIT"
+    status = 18
+
+
+class RefusedResult(Refused):
+    """A result that is outside the range, or that its type cannot hold."""
+
+    name = "RESULT"
+    status = 19
+
+
+class RefusedBuffer(Refused):
+    """A buffer that is too short for what the call writes."""
+
+    name = "BUFFER"
+    status = 20
+
+
+class RefusedSpan(Refused):
+    """A span that does not lie in the block of texts."""
+
+    name = "SPAN"
+    status = 21
+
+
+class RefusedSyntax(Refused):
+    """A text that does not have the form that the call reads, such as a date-time of RFC 3339."""
+
+    name = "SYNTAX"
+    status = 22
+
+
+class RefusedOffsetHour(Refused):
+    """Hours of an offset that are out of range: above 23 in a text of RFC 3339, not -25 to 25 elsewhere."""
+
+    name = "OFFSET_HOUR"
+    status = 23
+
+
+class RefusedOffsetMinute(Refused):
+    """Minutes of an offset that are not -59 to 59."""
+
+    name = "OFFSET_MINUTE"
+    status = 24
+
+
+class RefusedNoText(Refused):
+    """A value that has no text in RFC 3339: a year outside 0 to 9999, or an offset with seconds or beyond 23:59."""
+
+    name = "NO_TEXT"
+    status = 25
+
+
+# The class of each error, by its status.
+REFUSALS: dict[int, type[Refused]] = {
+    1: RefusedYear,
+    2: RefusedMonth,
+    3: RefusedDay,
+    4: RefusedDayOfMonth,
+    5: RefusedOrdinal,
+    6: RefusedOrdinalOfYear,
+    7: RefusedWeek,
+    8: RefusedWeekOfYear,
+    9: RefusedWeekday,
+    10: RefusedHour,
+    11: RefusedMinute,
+    12: RefusedSecond,
+    13: RefusedNanosecond,
+    14: RefusedOffsetSeconds,
+    15: RefusedTimestamp,
+    16: RefusedDayNumber,
+    17: RefusedDuration,
+    18: RefusedUnit,
+    19: RefusedResult,
+    20: RefusedBuffer,
+    21: RefusedSpan,
+    22: RefusedSyntax,
+    23: RefusedOffsetHour,
+    24: RefusedOffsetMinute,
+    25: RefusedNoText,
+}
+
+
+class Unit(enum.IntEnum):
+    """A unit of time, to which a value is rounded down."""
+
+    DAY = 1
+    HOUR = 2
+    MINUTE = 3
+    SECOND = 4
+    MILLISECOND = 5
+    MICROSECOND = 6
+    NANOSECOND = 7
+
+
+class Part(enum.IntEnum):
+    """A part of a date-time, which `with_part` replaces."""
+
+    YEAR = 1
+    MONTH = 2
+    DAY = 3
+    ORDINAL = 4
+    HOUR = 5
+    MINUTE = 6
+    SECOND = 7
+    NANOSECOND = 8

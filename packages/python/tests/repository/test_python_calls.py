@@ -1,0 +1,96 @@
+"""make/python_calls: which parameters of a call it takes for written, and what it says of a call that its tables lack."""
+
+import json
+import shutil
+import subprocess
+import sys
+import tempfile
+import unittest
+from pathlib import Path
+
+ROOT = Path(__file__).resolve().parents[4]
+INTERFACE = "packages/c/interface.json"
+NEEDED = (
+    "make/python_calls",
+    "make/shared.py",
+    "gate/shared/interface.py",
+    "make/generated.py",
+    "gate/shared/gate.py",
+    "make/declare_c.py",
+    INTERFACE,
+    "packages/python/muxandu/_methods.py",
+    "packages/python/extension/calls.h",
+    "packages/python/muxandu/_refusals.py",
+    "packages/python/muxandu/_places.py",
+)
+
+# Calls whose names say nothing of what they write: one over many items, and one over none.
+CALLS = {
+    "muxandu_seconds_in_order": {
+        "doc": "Sorts seconds where they lie.",
+        "parameters": [
+            {"name": "days", "type": "i32", "role": "items in"},
+            {"name": "days_count", "type": "usize", "role": "count"},
+            {"name": "seconds", "type": "i64", "role": "items out"},
+            {"name": "seconds_count", "type": "usize", "role": "count"},
+            {"name": "texts", "type": "u8", "role": "room"},
+            {"name": "texts_count", "type": "usize", "role": "count"},
+        ],
+        "result": "MuxanduBatch",
+    },
+    "muxandu_day_of_luck": {"doc": "A day.", "parameters": [], "result": "i32"},
+}
+
+
+class Tables(unittest.TestCase):
+    def setUp(self):
+        self.folder = tempfile.TemporaryDirectory()
+        self.addCleanup(self.folder.cleanup)
+        self.root = Path(self.folder.name)
+        for name in NEEDED:
+            (self.root / name).parent.mkdir(parents=True, exist_ok=True)
+            shutil.copy(ROOT / name, self.root / name)
+
+    def change(self, name, old, new):
+        path = self.root / name
+        text = path.read_text(encoding="utf-8")
+        self.assertEqual(text.count(old), 1, old)
+        path.write_text(text.replace(old, new), encoding="utf-8")
+
+    def run_tool(self, task):
+        ended = subprocess.run([sys.executable, self.root / NEEDED[0], task], capture_output=True, encoding="utf-8", check=False)
+        return ended.returncode, ended.stderr
+
+    def test_what_stands_is_what_it_writes(self):
+        self.assertEqual(self.run_tool("compare"), (0, ""))
+
+    def test_roles_say_what_a_call_writes(self):
+        path = self.root / INTERFACE
+        interface = json.loads(path.read_text(encoding="utf-8"))
+        interface["calls"].update(CALLS)
+        path.write_text(json.dumps(interface), encoding="utf-8")
+        status, said = self.run_tool("write")
+        self.assertEqual(status, 1)
+        self.assertRegex(said, r"METHODS, OPERATORS and FUNCTIONS .* have no row for day_of_luck")
+        self.change("packages/python/muxandu/_methods.py", "FUNCTIONS = (\n", 'FUNCTIONS = (\n    "day_of_luck",\n')
+        self.assertEqual(self.run_tool("write"), (0, ""))
+        made = (self.root / "packages/python/extension/calls.h").read_text(encoding="utf-8")
+        body = made.partition("PyObject *seconds_in_order(")[2].partition("\n}")[0]
+        for place, is_written in ((0, 0), (2, 1), (4, 1)):
+            self.assertIn(f"take_items(words + {place}, &word_{place}, {is_written})", body)
+
+    def test_the_room_of_a_text_is_that_of_its_contract(self):
+        made = (self.root / "packages/python/extension/calls.h").read_text(encoding="utf-8")
+        for name, room in (("date_time_text", 42), ("status_name", 15), ("date_to_rfc3339", 10)):
+            body = made.partition(f"PyObject *{name}(")[2].partition("\n}")[0]
+            self.assertIn(f"char text[{room}];", body)
+
+    def test_what_is_stale_is_named(self):
+        self.change("packages/python/muxandu/_methods.py", "The milliseconds from 1970-01-01 0:00 UTC, rounded down.", "Others.")
+        status, said = self.run_tool("compare")
+        self.assertEqual(status, 1)
+        self.assertIn("extension/calls.h", said)
+
+
+if __name__ == "__main__":
+    unittest.main()

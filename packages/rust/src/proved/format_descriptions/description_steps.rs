@@ -1,0 +1,253 @@
+// Made by make/erase of crates/format_descriptions/src/description_steps.rt. Do not edit.
+//! Descriptions, read byte by byte.
+use crate::proved::format_descriptions::description_components::component_of;
+use crate::proved::format_descriptions::description_modifiers::{Modifiers, modifier_at};
+use crate::proved::format_descriptions::description_names::{Name, name_at};
+use crate::proved::format_descriptions::description_words::is_white_space;
+use crate::proved::format_descriptions::{DescriptionFault, Item};
+
+/// A version of the language of descriptions.
+#[derive(Clone, Copy, Debug, PartialEq, Eq)]
+pub enum DescriptionVersion {
+    /// `[[` is a `[`, and a backslash is itself.
+    One,
+    /// A backslash before ``, `` or a backslash is that byte.
+    Two,
+}
+
+// Where the next byte of a description stands. The number is that of the bytes left from a `[` on.
+#[derive(Clone, Copy)]
+pub(crate) enum Place {
+    // Outside of brackets.
+    Outside,
+    // Directly behind a backslash of version 2.
+    Escaped,
+    // Directly behind a `[`.
+    Opened(usize),
+    // Behind white space that follows a `[`.
+    Unnamed(usize),
+    // In a word of a component, or directly behind one.
+    InWord(usize, Name, Modifiers),
+    // Behind white space that follows a word.
+    BetweenWords(usize, Name, Modifiers),
+}
+
+// The place of the next byte, and the item that ends with this one, or a fault and how many bytes are left from it on.
+pub(crate) type Step = Result<(Place, Option<Item>), (DescriptionFault, usize)>;
+
+// The step of a byte, the first of a text.
+/// # Contract
+///
+/// ```text
+/// ensures { result ≡ step version place first text.now }
+/// ```
+///
+/// [docs/proofs/STATEMENT.md](crate::proved#contracts) explains the words.
+#[inline]
+pub(crate) const fn step(
+    version: DescriptionVersion,
+    place: Place,
+    first: u8,
+    text: &[u8],
+) -> Step {
+    match place {
+        Place::Outside => outside(version, first, text),
+        Place::Escaped => escaped(first, text),
+        Place::Opened(bracket) => opened(version, bracket, first, text),
+        Place::Unnamed(bracket) => unnamed(bracket, first, text),
+        Place::InWord(bracket, name, modifiers) => in_word(bracket, name, modifiers, first, text),
+        Place::BetweenWords(bracket, name, modifiers) => {
+            between_words(bracket, name, modifiers, first, text)
+        }
+    }
+}
+
+// A byte outside of brackets.
+/// # Contract
+///
+/// ```text
+/// ensures { result ≡ outside version first text.now }
+/// ```
+///
+/// [docs/proofs/STATEMENT.md](crate::proved#contracts) explains the words.
+#[inline]
+const fn outside(version: DescriptionVersion, first: u8, text: &[u8]) -> Step {
+    if first == b'[' {
+        return Ok((Place::Opened(text.len()), None));
+    }
+    match version {
+        DescriptionVersion::Two if first == b'\\' => Ok((Place::Escaped, None)),
+        _ => Ok((Place::Outside, Some(Item::Byte(first)))),
+    }
+}
+
+// A byte behind a backslash.
+/// # Contract
+///
+/// ```text
+/// ensures { result ≡ escaped first text.now }
+/// ```
+///
+/// [docs/proofs/STATEMENT.md](crate::proved#contracts) explains the words.
+#[inline]
+const fn escaped(first: u8, text: &[u8]) -> Step {
+    if first == b'[' || first == b']' || first == b'\\' {
+        Ok((Place::Outside, Some(Item::Byte(first))))
+    } else {
+        Err((DescriptionFault::WrongEscape, text.len()))
+    }
+}
+
+// A byte behind a `[`.
+/// # Contract
+///
+/// ```text
+/// ensures { result ≡ opened version bracket first text.now }
+/// ```
+///
+/// [docs/proofs/STATEMENT.md](crate::proved#contracts) explains the words.
+#[inline]
+const fn opened(version: DescriptionVersion, bracket: usize, first: u8, text: &[u8]) -> Step {
+    match version {
+        DescriptionVersion::One if first == b'[' => Ok((Place::Outside, Some(Item::Byte(b'[')))),
+        _ => {
+            if is_closed(text) {
+                unnamed(bracket, first, text)
+            } else {
+                Err((DescriptionFault::NoEnd, bracket))
+            }
+        }
+    }
+}
+
+// A byte of brackets that have no name yet.
+/// # Contract
+///
+/// ```text
+/// ensures { result ≡ unnamed bracket first text.now }
+/// ```
+///
+/// [docs/proofs/STATEMENT.md](crate::proved#contracts) explains the words.
+#[inline]
+const fn unnamed(bracket: usize, first: u8, text: &[u8]) -> Step {
+    if is_white_space(first) {
+        return Ok((Place::Unnamed(bracket), None));
+    }
+    if first == b'[' || first == b']' {
+        return Err((DescriptionFault::NoName, bracket));
+    }
+    match name_at(text) {
+        Some(name) => Ok((Place::InWord(bracket, name, Modifiers::none()), None)),
+        None => Err((DescriptionFault::UnknownComponent, text.len())),
+    }
+}
+
+// A byte of a word, or the one behind it.
+/// # Contract
+///
+/// ```text
+/// ensures { result ≡ in_word bracket name modifiers first text.now }
+/// ```
+///
+/// [docs/proofs/STATEMENT.md](crate::proved#contracts) explains the words.
+#[inline]
+const fn in_word(bracket: usize, name: Name, modifiers: Modifiers, first: u8, text: &[u8]) -> Step {
+    if first == b']' {
+        return finished(bracket, name, modifiers);
+    }
+    if first == b'[' {
+        return Err((DescriptionFault::NestedBracket, text.len()));
+    }
+    if is_white_space(first) {
+        Ok((Place::BetweenWords(bracket, name, modifiers), None))
+    } else {
+        Ok((Place::InWord(bracket, name, modifiers), None))
+    }
+}
+
+// A byte behind white space that follows a word.
+/// # Contract
+///
+/// ```text
+/// ensures { result ≡ between_words bracket name modifiers first text.now }
+/// ```
+///
+/// [docs/proofs/STATEMENT.md](crate::proved#contracts) explains the words.
+#[inline]
+const fn between_words(
+    bracket: usize,
+    name: Name,
+    modifiers: Modifiers,
+    first: u8,
+    text: &[u8],
+) -> Step {
+    if first == b']' {
+        return finished(bracket, name, modifiers);
+    }
+    if first == b'[' {
+        return Err((DescriptionFault::NestedBracket, text.len()));
+    }
+    if is_white_space(first) {
+        return Ok((Place::BetweenWords(bracket, name, modifiers), None));
+    }
+    match modifier_at(name, text, modifiers) {
+        Ok(more) => Ok((Place::InWord(bracket, name, more), None)),
+        Err(fault) => Err(fault),
+    }
+}
+
+// The `]` of a component.
+/// # Contract
+///
+/// ```text
+/// ensures { result ≡ finished bracket name modifiers }
+/// ```
+///
+/// [docs/proofs/STATEMENT.md](crate::proved#contracts) explains the words.
+#[inline]
+const fn finished(bracket: usize, name: Name, modifiers: Modifiers) -> Step {
+    match component_of(name, modifiers) {
+        Some(component) => Ok((Place::Outside, Some(Item::Part(component)))),
+        None => Err((DescriptionFault::MissingModifier, bracket)),
+    }
+}
+
+// The fault of a description that ends here, and how many bytes are left from it on.
+/// # Contract
+///
+/// ```text
+/// ensures { result ≡ fault_at_end place }
+/// ```
+///
+/// [docs/proofs/STATEMENT.md](crate::proved#contracts) explains the words.
+#[inline]
+pub(crate) const fn fault_at_end(place: Place) -> Option<(DescriptionFault, usize)> {
+    match place {
+        Place::Outside => None,
+        Place::Escaped => Some((DescriptionFault::WrongEscape, 0)),
+        Place::Opened(bracket)
+        | Place::Unnamed(bracket)
+        | Place::InWord(bracket, _, _)
+        | Place::BetweenWords(bracket, _, _) => Some((DescriptionFault::NoEnd, bracket)),
+    }
+}
+
+// Whether a `]` stands in a text.
+/// # Contract
+///
+/// ```text
+/// ensures { result ≡ is_closed text.now }
+/// ```
+///
+/// [docs/proofs/STATEMENT.md](crate::proved#contracts) explains the words.
+#[inline]
+const fn is_closed(text: &[u8]) -> bool {
+    let mut rest = text;
+    while let Some((first, more)) = rest.split_first() {
+        if *first == b']' {
+            return true;
+        }
+        rest = more;
+    }
+    false
+}

@@ -1,0 +1,78 @@
+// Made by make/erase of crates/format_descriptions/src/descriptions.rt. Do not edit.
+//! Descriptions that texts give.
+use crate::proved::format_descriptions::description_steps::{
+    DescriptionVersion, Place, fault_at_end, step,
+};
+use crate::proved::format_descriptions::{DescriptionFault, DescriptionRefusal, Item};
+
+/// How many items a text has as a description. They are put at the front of `room`, whose others do not change.
+/// Else why the text is no description, and where: its first fault, which `NoRoom` is too.
+///
+/// ```
+/// # use muxandu::proved::*;
+/// # fn main() -> Result<(), Box<dyn std::error::Error>> {
+/// use format_descriptions::{DescriptionVersion, Item, parse_description};
+/// let mut room = [Item::Byte(0); 4];
+/// assert_eq!(parse_description(DescriptionVersion::Two, b"[hour]h", &mut room), Ok(2));
+/// assert_eq!(room[1], Item::Byte(b'h'));
+/// assert_eq!(parse_description(DescriptionVersion::Two, b"[hours]", &mut room).is_err(), true);
+/// # Ok(())
+/// # }
+/// ```
+///
+/// # Contract
+///
+/// ```text
+/// ensures count { result ≡ result_map_both (λ items. length items) (refusal_of text.now)
+///     (described version (length room.old) text.now) }
+/// ensures items { IfOk (described version (length room.old) text.now)
+///     (λ items. room.new ≡ items ++ drop (length items) room.old) }
+/// ```
+///
+/// [docs/proofs/STATEMENT.md](crate::proved#contracts) explains the words.
+#[inline]
+pub const fn parse_description(
+    version: DescriptionVersion,
+    text: &[u8],
+    room: &mut [Item],
+) -> Result<usize, DescriptionRefusal> {
+    let mut place = Place::Outside;
+    let mut rest = text;
+    let mut count = 0;
+    while let Some((first, more)) = rest.split_first() {
+        let (next, item) = match step(version, place, *first, rest) {
+            Ok(read) => read,
+            Err(fault) => return Err(refusal(text, fault)),
+        };
+        if let Some(item) = item {
+            if count >= room.len() {
+                return Err(refusal(text, (DescriptionFault::NoRoom, rest.len())));
+            }
+            room[count] = item;
+            count += 1;
+        }
+        place = next;
+        rest = more;
+    }
+    match fault_at_end(place) {
+        Some(fault) => Err(refusal(text, fault)),
+        None => Ok(count),
+    }
+}
+
+// A fault by its place from the front.
+/// # Contract
+///
+/// ```text
+/// ensures { result ≡ refusal_of text.now fault }
+/// ```
+///
+/// [docs/proofs/STATEMENT.md](crate::proved#contracts) explains the words.
+#[inline]
+const fn refusal(text: &[u8], fault: (DescriptionFault, usize)) -> DescriptionRefusal {
+    let (fault, left) = fault;
+    DescriptionRefusal {
+        place: text.len().saturating_sub(left),
+        fault,
+    }
+}

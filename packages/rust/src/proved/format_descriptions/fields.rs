@@ -1,0 +1,224 @@
+// Made by make/erase of crates/format_descriptions/src/fields.rt. Do not edit.
+//! The number of each component, read from the front of a text.
+use crate::proved::format_descriptions::fractions::fraction;
+use crate::proved::format_descriptions::reading::{four, more, sign, three, two};
+use crate::proved::format_descriptions::words::{month, period, weekday, weekday_number};
+use crate::proved::format_descriptions::{Component, Padding, Sign, YearRange};
+
+// The sign and the number of a component, and what follows them.
+/// # Contract
+///
+/// ```text
+/// requires { is_timestamp component ≡ false }
+/// ensures value { option_map (λ read. (read.0, read.1.now)) result
+///     ≡ component_at component text.now }
+/// ensures below { IfSome result (λ read. read.0.1 ≤ 1_000_000_000) }
+/// ensures shorter { IfSome result (λ read. length read.1.now ≤ length text.now) }
+/// ```
+///
+/// [docs/proofs/STATEMENT.md](crate::proved#contracts) explains the words.
+#[inline]
+pub(crate) fn component_at(component: Component, text: &[u8]) -> Option<((bool, u32), &[u8])> {
+    match component {
+        Component::Year(_, sign, padding, range) => signed_year(sign, padding, range, text),
+        Component::YearCentury(_, sign, padding, range) => {
+            signed_century(sign, padding, range, text)
+        }
+        Component::Ordinal(padding) => {
+            let (number, rest) = three(padding, text)?;
+            unsigned(number, rest)
+        }
+        Component::MonthName(form, case) => {
+            let (number, rest) = month(form, case, 12, text)?;
+            unsigned(number, rest)
+        }
+        Component::WeekdayName(form, case) => {
+            let (number, rest) = weekday(form, case, 7, text)?;
+            unsigned(number, rest)
+        }
+        Component::WeekdayNumber(start, count) => {
+            let (number, rest) = weekday_number(start, count, text)?;
+            unsigned(number, rest)
+        }
+        Component::Period(case, read) => period(case, read, text),
+        Component::Ignore(count) => nothing(ignored(count, text)?),
+        Component::End => nothing(end(text)?),
+        Component::UnixTimestamp(_, _) => None,
+        Component::Subsecond(digits) => {
+            let (number, rest) = fraction(digits, text)?;
+            unsigned(number, rest)
+        }
+        Component::OffsetHour(sign, padding) => signed_hours(sign, padding, text),
+        Component::YearLastTwo(_, padding)
+        | Component::WeekNumber(_, padding)
+        | Component::Month(padding)
+        | Component::Day(padding)
+        | Component::Hour(padding)
+        | Component::Hour12(padding)
+        | Component::Minute(padding)
+        | Component::Second(padding)
+        | Component::OffsetMinute(padding)
+        | Component::OffsetSecond(padding) => {
+            let (number, rest) = two(padding, text)?;
+            unsigned(number, rest)
+        }
+    }
+}
+
+// A number without a sign.
+/// # Contract
+///
+/// ```text
+/// ensures value { option_map (λ read. (read.0, read.1.now)) result
+///     ≡ unsigned (Some (number, rest.now)) }
+/// ensures same { IfSome result (λ read. read.0.1 ≡ number) }
+/// ensures shorter { IfSome result (λ read. length read.1.now ≡ length rest.now) }
+/// ```
+///
+/// [docs/proofs/STATEMENT.md](crate::proved#contracts) explains the words.
+#[inline]
+const fn unsigned(number: u32, rest: &[u8]) -> Option<((bool, u32), &[u8])> {
+    Some(((false, number), rest))
+}
+
+// A year: four digits without a sign, or a sign and four digits or more.
+/// # Contract
+///
+/// ```text
+/// ensures value { option_map (λ read. (read.0, read.1.now)) result
+///     ≡ signed_year_at sign_given padding range text.now }
+/// ensures below { IfSome result (λ read. read.0.1 ≤ 1_000_000_000) }
+/// ensures shorter { IfSome result (λ read. length read.1.now ≤ length text.now) }
+/// ```
+///
+/// [docs/proofs/STATEMENT.md](crate::proved#contracts) explains the words.
+#[inline]
+fn signed_year(
+    sign_given: Sign,
+    padding: Padding,
+    range: YearRange,
+    text: &[u8],
+) -> Option<((bool, u32), &[u8])> {
+    match sign(text) {
+        Some((is_negative, digits)) => {
+            let (first, rest) = four(padding, digits)?;
+            let (number, rest) = more(range, first, rest);
+            Some(((is_negative, number), rest))
+        }
+        None => match sign_given {
+            Sign::Automatic => {
+                let (number, rest) = four(padding, text)?;
+                unsigned(number, rest)
+            }
+            Sign::Mandatory => None,
+        },
+    }
+}
+
+// A year without its last two digits.
+/// # Contract
+///
+/// ```text
+/// ensures value { option_map (λ read. (read.0, read.1.now)) result
+///     ≡ signed_century_at sign_given padding range text.now }
+/// ensures below { IfSome result (λ read. read.0.1 ≤ 1_000_000_000) }
+/// ensures shorter { IfSome result (λ read. length read.1.now ≤ length text.now) }
+/// ```
+///
+/// [docs/proofs/STATEMENT.md](crate::proved#contracts) explains the words.
+#[inline]
+fn signed_century(
+    sign_given: Sign,
+    padding: Padding,
+    range: YearRange,
+    text: &[u8],
+) -> Option<((bool, u32), &[u8])> {
+    match sign(text) {
+        Some((is_negative, digits)) => {
+            let (first, rest) = two(padding, digits)?;
+            let (number, rest) = more(range, first, rest);
+            Some(((is_negative, number), rest))
+        }
+        None => match sign_given {
+            Sign::Automatic => {
+                let (number, rest) = two(padding, text)?;
+                unsigned(number, rest)
+            }
+            Sign::Mandatory => None,
+        },
+    }
+}
+
+// The sign and the hours of an offset.
+/// # Contract
+///
+/// ```text
+/// ensures value { option_map (λ read. (read.0, read.1.now)) result
+///     ≡ signed_hours_at sign_given padding text.now }
+/// ensures below { IfSome result (λ read. read.0.1 ≤ 1_000_000_000) }
+/// ensures shorter { IfSome result (λ read. length read.1.now ≤ length text.now) }
+/// ```
+///
+/// [docs/proofs/STATEMENT.md](crate::proved#contracts) explains the words.
+#[inline]
+fn signed_hours(sign_given: Sign, padding: Padding, text: &[u8]) -> Option<((bool, u32), &[u8])> {
+    match sign(text) {
+        Some((is_negative, digits)) => {
+            let (number, rest) = two(padding, digits)?;
+            Some(((is_negative, number), rest))
+        }
+        None => match sign_given {
+            Sign::Automatic => {
+                let (number, rest) = two(padding, text)?;
+                unsigned(number, rest)
+            }
+            Sign::Mandatory => None,
+        },
+    }
+}
+
+// What has no number.
+/// # Contract
+///
+/// ```text
+/// ensures value { option_map (λ read. (read.0, read.1.now)) result ≡ nothing (Some rest.now) }
+/// ensures below { IfSome result (λ read. read.0.1 ≤ 1_000_000_000) }
+/// ensures shorter { IfSome result (λ read. length read.1.now ≤ length rest.now) }
+/// ```
+///
+/// [docs/proofs/STATEMENT.md](crate::proved#contracts) explains the words.
+#[inline]
+const fn nothing(rest: &[u8]) -> Option<((bool, u32), &[u8])> {
+    Some(((false, 0), rest))
+}
+
+// What follows so many bytes.
+/// # Contract
+///
+/// ```text
+/// ensures value { option_map (λ rest. rest.now) result ≡ ignored_at count text.now }
+/// ensures shorter { IfSome result (λ read. length read.now ≤ length text.now) }
+/// ```
+///
+/// [docs/proofs/STATEMENT.md](crate::proved#contracts) explains the words.
+#[inline]
+fn ignored(count: u16, text: &[u8]) -> Option<&[u8]> {
+    if text.len() < count as usize {
+        return None;
+    }
+    Some(&text[count as usize..])
+}
+
+// The end of the text.
+/// # Contract
+///
+/// ```text
+/// ensures value { option_map (λ rest. rest.now) result ≡ end_at text.now }
+/// ensures shorter { IfSome result (λ read. length read.now ≤ length text.now) }
+/// ```
+///
+/// [docs/proofs/STATEMENT.md](crate::proved#contracts) explains the words.
+#[inline]
+const fn end(text: &[u8]) -> Option<&[u8]> {
+    if text.is_empty() { Some(text) } else { None }
+}

@@ -1,0 +1,171 @@
+// Made by make/erase of crates/format_descriptions/src/unix.rt. Do not edit.
+//! Unix timestamps, written and read.
+use crate::proved::format_descriptions::reading::{digit, sign};
+use crate::proved::format_descriptions::{Sign, UnixPrecision};
+use crate::proved::calendar_values::{Date, Text, Time, UtcOffset};
+use crate::proved::offset_times::OffsetDateTime;
+
+// What a Unix timestamp counts, rounded down.
+/// # Contract
+///
+/// ```text
+/// ensures value { result ≡ unix_count precision date time offset }
+/// ensures below { unsigned_abs result < 10 ^ 23 }
+/// ```
+///
+/// [docs/proofs/STATEMENT.md](crate::proved#contracts) explains the words.
+#[inline]
+pub(crate) const fn unix_count(
+    precision: UnixPrecision,
+    date: Date,
+    time: Time,
+    offset: UtcOffset,
+) -> i128 {
+    unix_rounded(precision, nanoseconds(date, time, offset))
+}
+
+// The nanoseconds of the instant of a date and a time of day at an offset.
+/// # Contract
+///
+/// ```text
+/// ensures value { result ≡ instant_of (wall_at (wall_clock date time) offset) }
+/// ensures below { unsigned_abs result < 10 ^ 23 }
+/// ```
+///
+/// [docs/proofs/STATEMENT.md](crate::proved#contracts) explains the words.
+#[inline]
+const fn nanoseconds(date: Date, time: Time, offset: UtcOffset) -> i128 {
+    let at = OffsetDateTime::new_in_offset(date, time, offset);
+    // For the proof alone: the wall clock and the offset lie in their ranges.
+    let _in_range = at.date_time();
+    at.unix_timestamp_nanos()
+}
+
+// What a Unix timestamp counts of an instant.
+/// # Contract
+///
+/// ```text
+/// requires { unsigned_abs instant < 10 ^ 23 }
+/// ensures value { result ≡ unix_rounded precision instant }
+/// ensures below { unsigned_abs result < 10 ^ 23 }
+/// ```
+///
+/// [docs/proofs/STATEMENT.md](crate::proved#contracts) explains the words.
+#[inline]
+const fn unix_rounded(precision: UnixPrecision, instant: i128) -> i128 {
+    match precision {
+        UnixPrecision::Seconds => instant.div_euclid(1_000_000_000),
+        UnixPrecision::Milliseconds => instant.div_euclid(1_000_000),
+        UnixPrecision::Microseconds => instant.div_euclid(1_000),
+        UnixPrecision::Nanoseconds => instant,
+    }
+}
+
+// The sign and the digits of a Unix timestamp.
+/// # Contract
+///
+/// ```text
+/// requires { unsigned_abs count < 10 ^ 23 }
+/// ensures text { result ≡ unix_text sign count }
+/// ```
+///
+/// [docs/proofs/STATEMENT.md](crate::proved#contracts) explains the words.
+#[inline]
+pub(crate) fn unix_text(sign: Sign, count: i128) -> Text {
+    let mut text = Text::new();
+    if count < 0 {
+        text.push(b'-');
+    } else if sign.is_mandatory() {
+        text.push(b'+');
+    }
+    push_long_decimal(&mut text, count.unsigned_abs());
+    text
+}
+
+// Adds a number of up to 23 digits.
+/// # Contract
+///
+/// ```text
+/// requires room { length text.old ≤ 1 }
+/// requires below { number < 10 ^ 23 }
+/// ensures { text.new ≡ text.old ++ decimal number }
+/// ```
+///
+/// [docs/proofs/STATEMENT.md](crate::proved#contracts) explains the words.
+#[inline]
+fn push_long_decimal(text: &mut Text, number: u128) {
+    if number < 10_000_000_000_000_000_000 {
+        text.push_decimal(number as u64);
+    } else {
+        text.push_decimal((number / 10_000) as u64);
+        text.push_four_digits((number % 10_000) as u32);
+    }
+}
+
+// The sign and the digits of a Unix timestamp, read from the front of a text.
+/// # Contract
+///
+/// ```text
+/// requires { (1 ≤ most) × (most ≤ 23) }
+/// ensures value { option_map (λ read. (read.0, read.1.now)) result
+///     ≡ unix_at sign_given most text.now }
+/// ensures below { IfSome result (λ read. read.0.1 < 10 ^ 23) }
+/// ensures shorter { IfSome result (λ read. length read.1.now ≤ length text.now) }
+/// ```
+///
+/// [docs/proofs/STATEMENT.md](crate::proved#contracts) explains the words.
+#[inline]
+pub(crate) fn unix_at(sign_given: Sign, most: u8, text: &[u8]) -> Option<((bool, u128), &[u8])> {
+    match sign(text) {
+        Some((is_negative, digits)) => {
+            let (number, rest) = decimal_at(most, digits)?;
+            Some(((is_negative, number), rest))
+        }
+        None => match sign_given {
+            Sign::Automatic => {
+                let (number, rest) = decimal_at(most, text)?;
+                Some(((false, number), rest))
+            }
+            Sign::Mandatory => None,
+        },
+    }
+}
+
+// A number of one to so many digits.
+/// # Contract
+///
+/// ```text
+/// requires { (1 ≤ most) × (most ≤ 23) }
+/// ensures value { option_map (λ read. (read.0, read.1.now)) result ≡ decimal_at most text.now }
+/// ensures below { IfSome result (λ read. read.0 < 10 ^ 23) }
+/// ensures shorter { IfSome result (λ read. length read.1.now ≤ length text.now) }
+/// ```
+///
+/// [docs/proofs/STATEMENT.md](crate::proved#contracts) explains the words.
+#[inline]
+fn decimal_at(most: u8, text: &[u8]) -> Option<(u128, &[u8])> {
+    let (first, rest) = digit(text)?;
+    Some(digits_on(most - 1, first as u128, rest))
+}
+
+// Up to so many digits behind those of a number.
+/// # Contract
+///
+/// ```text
+/// requires room { (number + 1) * 10 ^ count ≤ 10 ^ 23 }
+/// ensures value { (result.0, result.1.now) ≡ digits_on count (number, text.now) }
+/// ensures below { result.0 < 10 ^ 23 }
+/// ensures shorter { length result.1.now ≤ length text.now }
+/// ```
+///
+/// [docs/proofs/STATEMENT.md](crate::proved#contracts) explains the words.
+#[inline]
+fn digits_on(count: u8, number: u128, text: &[u8]) -> (u128, &[u8]) {
+    if count == 0 {
+        return (number, text);
+    }
+    match digit(text) {
+        Some((digit, rest)) => digits_on(count - 1, number * 10 + digit as u128, rest),
+        None => (number, text),
+    }
+}

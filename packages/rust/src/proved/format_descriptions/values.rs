@@ -1,0 +1,492 @@
+// Made by make/erase of crates/format_descriptions/src/values.rt. Do not edit.
+//! The dates that the parts of a text name.
+use crate::proved::format_descriptions::clock_values::or_zero;
+use crate::proved::format_descriptions::parts::{fits, fits_choice, fits_signed, signed};
+use crate::proved::format_descriptions::{Field, Parts, ValueRefusal};
+use crate::proved::calendar_values::{Date, Month, Weekday};
+
+impl Parts {
+    /// The date of these parts: its year, with its month and day, its day of the year, or its week by Sundays or Mondays
+    /// and its day of the week; or its ISO year, its ISO week and its day of the week. Each other part of a date that the
+    /// text gives has to be that of the date. Fails with `Missing` if there are too few parts. Fails with `Wrong` for
+    /// the first part out of range, or other than that of the date.
+    ///
+    /// ```
+    /// # use muxandu::proved::*;
+    /// # fn main() -> Result<(), Box<dyn std::error::Error>> {
+    /// use format_descriptions::{Component, Item, Padding};
+    /// let items = [Item::Part(Component::Day(Padding::Zero)), Item::Byte(b'!')];
+    /// let parts = format_descriptions::parse(&items, b"29!");
+    /// assert_eq!(parts.map(|parts| parts.date().is_err()), Ok(true));
+    /// # Ok(())
+    /// # }
+    /// ```
+    ///
+    /// # Contract
+    ///
+    /// ```text
+    /// ensures equation { result ≡ date_of_parts self }
+    /// ensures value { IfOk result (λ day. HasDateParts self day) }
+    /// ensures only { (day : ℤ) → IsDay day → IsTrue (tells_date self) →
+    ///     HasDateParts self day → result ≡ Ok day }
+    /// ```
+    ///
+    /// [docs/proofs/STATEMENT.md](crate::proved#contracts) explains the words.
+    #[inline]
+    pub fn date(self) -> Result<Date, ValueRefusal> {
+        named_date(self)
+    }
+}
+
+// The same.
+/// # Contract
+///
+/// ```text
+/// ensures { result ≡ date_of_parts parts }
+/// ```
+///
+/// [docs/proofs/STATEMENT.md](crate::proved#contracts) explains the words.
+#[inline]
+fn named_date(parts: Parts) -> Result<Date, ValueRefusal> {
+    let Some(year) = calendar_year(parts) else {
+        return day_in_iso_year(parts, Field::Year);
+    };
+    if year < -999_999 || year > 999_999 {
+        return Err(ValueRefusal::Wrong(Field::Year));
+    }
+    day_in_year(parts, year)
+}
+
+// The year of the calendar that is known.
+/// # Contract
+///
+/// ```text
+/// ensures { result ≡ calendar_year parts }
+/// ```
+///
+/// [docs/proofs/STATEMENT.md](crate::proved#contracts) explains the words.
+#[inline]
+const fn calendar_year(parts: Parts) -> Option<i32> {
+    year_known(
+        parts.year,
+        parts.year_century,
+        parts.is_before_zero,
+        parts.year_last_two,
+    )
+}
+
+// The year of the ISO week that is known.
+/// # Contract
+///
+/// ```text
+/// ensures { result ≡ iso_year parts }
+/// ```
+///
+/// [docs/proofs/STATEMENT.md](crate::proved#contracts) explains the words.
+#[inline]
+const fn iso_year(parts: Parts) -> Option<i32> {
+    year_known(
+        parts.iso_year,
+        parts.iso_year_century,
+        parts.is_iso_before_zero,
+        parts.iso_year_last_two,
+    )
+}
+
+// The year that is known, whole or by its digits.
+/// # Contract
+///
+/// ```text
+/// ensures { result ≡ year_known year century is_before_zero last_two }
+/// ```
+///
+/// [docs/proofs/STATEMENT.md](crate::proved#contracts) explains the words.
+#[inline]
+const fn year_known(
+    year: Option<i32>,
+    century: Option<u32>,
+    is_before_zero: Option<bool>,
+    last_two: Option<u32>,
+) -> Option<i32> {
+    if let Some(year) = year {
+        return Some(year);
+    }
+    let Some(century) = century else {
+        return None;
+    };
+    let Some(is_negative) = is_before_zero else {
+        return None;
+    };
+    let Some(last_two) = last_two else {
+        return None;
+    };
+    if century > 9_999 || last_two > 99 {
+        return None;
+    }
+    Some(signed(is_negative, century * 100 + last_two))
+}
+
+// The day of a year, by the first of the ways whose parts are known.
+/// # Contract
+///
+/// ```text
+/// requires { IsYear year }
+/// ensures { result ≡ day_in_year parts year }
+/// ```
+///
+/// [docs/proofs/STATEMENT.md](crate::proved#contracts) explains the words.
+#[inline]
+fn day_in_year(parts: Parts, year: i32) -> Result<Date, ValueRefusal> {
+    if parts.month.is_some() & parts.day.is_some() {
+        return month_day(parts, year, or_zero(parts.month), or_zero(parts.day));
+    }
+    if parts.ordinal.is_some() {
+        return year_day(parts, year, or_zero(parts.ordinal), Field::Ordinal);
+    }
+    if parts.weekday.is_some() & parts.sunday_week.is_some() {
+        let week = or_zero(parts.sunday_week);
+        return week_day(
+            6,
+            parts,
+            year,
+            week,
+            or_zero(parts.weekday),
+            Field::SundayWeek,
+        );
+    }
+    if parts.weekday.is_some() & parts.monday_week.is_some() {
+        let week = or_zero(parts.monday_week);
+        return week_day(
+            0,
+            parts,
+            year,
+            week,
+            or_zero(parts.weekday),
+            Field::MondayWeek,
+        );
+    }
+    let missing = if parts.month.is_some() {
+        Field::Day
+    } else {
+        Field::Month
+    };
+    day_in_iso_year(parts, missing)
+}
+
+// The day by an ISO year, if that is known, or else what is missing.
+/// # Contract
+///
+/// ```text
+/// ensures { result ≡ day_in_iso_year parts missing (iso_year parts) }
+/// ```
+///
+/// [docs/proofs/STATEMENT.md](crate::proved#contracts) explains the words.
+#[inline]
+fn day_in_iso_year(parts: Parts, missing: Field) -> Result<Date, ValueRefusal> {
+    let Some(year) = iso_year(parts) else {
+        return Err(ValueRefusal::Missing(missing));
+    };
+    if parts.iso_week.is_some() & parts.weekday.is_some() {
+        iso_day(parts, year, or_zero(parts.iso_week), or_zero(parts.weekday))
+    } else {
+        Err(ValueRefusal::Missing(missing))
+    }
+}
+
+// The date of a month and a day of it.
+/// # Contract
+///
+/// ```text
+/// requires { IsYear year }
+/// ensures { result ≡ month_day parts year month day }
+/// ```
+///
+/// [docs/proofs/STATEMENT.md](crate::proved#contracts) explains the words.
+#[inline]
+fn month_day(parts: Parts, year: i32, month: u32, day: u32) -> Result<Date, ValueRefusal> {
+    if month == 0 || month > 12 {
+        return Err(ValueRefusal::Wrong(Field::Month));
+    }
+    let Ok(name) = Month::from_number(month as u8) else {
+        return Err(ValueRefusal::Wrong(Field::Month));
+    };
+    if day > 31 {
+        return Err(ValueRefusal::Wrong(Field::Day));
+    }
+    match Date::from_calendar_date(year, name, day as u8) {
+        Ok(date) => date_with(parts, date),
+        Err(_) => Err(ValueRefusal::Wrong(Field::Day)),
+    }
+}
+
+// The date of a day of the year.
+/// # Contract
+///
+/// ```text
+/// requires { IsYear year }
+/// ensures { result ≡ year_day parts year ordinal wrong }
+/// ```
+///
+/// [docs/proofs/STATEMENT.md](crate::proved#contracts) explains the words.
+#[inline]
+fn year_day(parts: Parts, year: i32, ordinal: u32, wrong: Field) -> Result<Date, ValueRefusal> {
+    if ordinal > 366 {
+        return Err(ValueRefusal::Wrong(wrong));
+    }
+    match Date::from_ordinal_date(year, ordinal as u16) {
+        Ok(date) => date_with(parts, date),
+        Err(_) => Err(ValueRefusal::Wrong(wrong)),
+    }
+}
+
+// The date of a day of a week that begins on a day of the week.
+/// # Contract
+///
+/// ```text
+/// requires year { IsYear year }
+/// requires first { first < 7 }
+/// ensures { result ≡ week_day first parts year week weekday wrong }
+/// ```
+///
+/// [docs/proofs/STATEMENT.md](crate::proved#contracts) explains the words.
+#[inline]
+fn week_day(
+    first: u8,
+    parts: Parts,
+    year: i32,
+    week: u32,
+    weekday: u32,
+    wrong: Field,
+) -> Result<Date, ValueRefusal> {
+    if week > 53 {
+        return Err(ValueRefusal::Wrong(wrong));
+    }
+    if weekday > 6 {
+        return Err(ValueRefusal::Wrong(Field::Weekday));
+    }
+    year_day(parts, year, week_ordinal(first, year, week, weekday), wrong)
+}
+
+// The day of the year of such a day, and 0 before the year.
+/// # Contract
+///
+/// ```text
+/// requires year { IsYear year }
+/// requires first { first < 7 }
+/// requires week { week ≤ 53 }
+/// requires weekday { weekday < 7 }
+/// ensures { result ≡ week_ordinal first year week weekday }
+/// ```
+///
+/// [docs/proofs/STATEMENT.md](crate::proved#contracts) explains the words.
+#[inline]
+const fn week_ordinal(first: u8, year: i32, week: u32, weekday: u32) -> u32 {
+    let start = first_weekday(year) as u32;
+    let ordinal = (7 + first as u32 - start) % 7 + 1 + 7 * week + (weekday + 7 - first as u32) % 7;
+    ordinal.saturating_sub(7)
+}
+
+// The day of the week of 1 January.
+/// # Contract
+///
+/// ```text
+/// requires { IsYear year }
+/// ensures value { result ≡ weekday_of (year_start year) }
+/// ensures below { result < 7 }
+/// ```
+///
+/// [docs/proofs/STATEMENT.md](crate::proved#contracts) explains the words.
+#[inline]
+const fn first_weekday(year: i32) -> u8 {
+    Date::at_ordinal_date(year, 1)
+        .weekday()
+        .number_days_from_monday()
+}
+
+// The date of an ISO week date.
+/// # Contract
+///
+/// ```text
+/// ensures { result ≡ iso_day parts year week weekday }
+/// ```
+///
+/// [docs/proofs/STATEMENT.md](crate::proved#contracts) explains the words.
+#[inline]
+fn iso_day(parts: Parts, year: i32, week: u32, weekday: u32) -> Result<Date, ValueRefusal> {
+    if week > 53 {
+        return Err(ValueRefusal::Wrong(Field::IsoWeek));
+    }
+    if weekday > 6 {
+        return Err(ValueRefusal::Wrong(Field::Weekday));
+    }
+    match Date::from_iso_week_date(year, week as u8, Weekday::numbered(weekday as u8)) {
+        Ok(date) => date_with(parts, date),
+        Err(_) => Err(ValueRefusal::Wrong(Field::IsoWeek)),
+    }
+}
+
+// The date, if each part is that of it.
+/// # Contract
+///
+/// ```text
+/// ensures { result ≡ day_with parts date }
+/// ```
+///
+/// [docs/proofs/STATEMENT.md](crate::proved#contracts) explains the words.
+#[inline]
+fn date_with(parts: Parts, date: Date) -> Result<Date, ValueRefusal> {
+    match wrong_date(parts, date) {
+        None => Ok(date),
+        Some(field) => Err(ValueRefusal::Wrong(field)),
+    }
+}
+
+// The first part of a date that is not that of this one.
+/// # Contract
+///
+/// ```text
+/// ensures { result ≡ wrong_date parts date }
+/// ```
+///
+/// [docs/proofs/STATEMENT.md](crate::proved#contracts) explains the words.
+#[inline]
+fn wrong_date(parts: Parts, date: Date) -> Option<Field> {
+    if let Some(field) = wrong_day(parts, date) {
+        return Some(field);
+    }
+    if let Some(field) = wrong_week(parts, date) {
+        return Some(field);
+    }
+    if let Some(field) = wrong_calendar_year(parts, date.year()) {
+        return Some(field);
+    }
+    wrong_iso_year(parts, date.to_iso_week_date().0)
+}
+
+// The first part of the year of the calendar that is not that of this one.
+/// # Contract
+///
+/// ```text
+/// requires { IsYear year }
+/// ensures { result ≡ wrong_year parts.year parts.year_century parts.is_before_zero
+///     parts.year_last_two year Year YearCentury YearLastTwo }
+/// ```
+///
+/// [docs/proofs/STATEMENT.md](crate::proved#contracts) explains the words.
+#[inline]
+const fn wrong_calendar_year(parts: Parts, year: i32) -> Option<Field> {
+    wrong_year(
+        (
+            parts.year,
+            parts.year_century,
+            parts.is_before_zero,
+            parts.year_last_two,
+        ),
+        year,
+        (Field::Year, Field::YearCentury, Field::YearLastTwo),
+    )
+}
+
+// The first part of the year of the ISO week that is not that of this one.
+/// # Contract
+///
+/// ```text
+/// requires { IsYear year }
+/// ensures { result ≡ wrong_year parts.iso_year parts.iso_year_century parts.is_iso_before_zero
+///     parts.iso_year_last_two year IsoYear IsoYearCentury IsoYearLastTwo }
+/// ```
+///
+/// [docs/proofs/STATEMENT.md](crate::proved#contracts) explains the words.
+#[inline]
+const fn wrong_iso_year(parts: Parts, year: i32) -> Option<Field> {
+    wrong_year(
+        (
+            parts.iso_year,
+            parts.iso_year_century,
+            parts.is_iso_before_zero,
+            parts.iso_year_last_two,
+        ),
+        year,
+        (Field::IsoYear, Field::IsoYearCentury, Field::IsoYearLastTwo),
+    )
+}
+
+// The first part of a year that is not that of this one.
+/// # Contract
+///
+/// ```text
+/// requires { IsYear year }
+/// ensures { result ≡ wrong_year known.0 known.1 known.2 known.3 year names.0 names.1 names.2 }
+/// ```
+///
+/// [docs/proofs/STATEMENT.md](crate::proved#contracts) explains the words.
+#[inline]
+const fn wrong_year(
+    known: (Option<i32>, Option<u32>, Option<bool>, Option<u32>),
+    year: i32,
+    names: (Field, Field, Field),
+) -> Option<Field> {
+    if !fits_signed(known.0, year) {
+        return Some(names.0);
+    }
+    if !fits(known.1, year.unsigned_abs() / 100) {
+        return Some(names.1);
+    }
+    if !fits_choice(known.2, year < 0) {
+        return Some(names.1);
+    }
+    if !fits(known.3, year.unsigned_abs() % 100) {
+        return Some(names.2);
+    }
+    None
+}
+
+// The first of the other parts that is not that of this date.
+/// # Contract
+///
+/// ```text
+/// ensures { result ≡ wrong_day parts date }
+/// ```
+///
+/// [docs/proofs/STATEMENT.md](crate::proved#contracts) explains the words.
+#[inline]
+fn wrong_day(parts: Parts, date: Date) -> Option<Field> {
+    if !fits(parts.month, u8::from(date.month()) as u32) {
+        return Some(Field::Month);
+    }
+    if !fits(parts.day, date.day() as u32) {
+        return Some(Field::Day);
+    }
+    if !fits(parts.ordinal, date.ordinal() as u32) {
+        return Some(Field::Ordinal);
+    }
+    if !fits(
+        parts.weekday,
+        date.weekday().number_days_from_monday() as u32,
+    ) {
+        return Some(Field::Weekday);
+    }
+    None
+}
+
+// The first week that is not that of this date.
+/// # Contract
+///
+/// ```text
+/// ensures { result ≡ wrong_week parts date }
+/// ```
+///
+/// [docs/proofs/STATEMENT.md](crate::proved#contracts) explains the words.
+#[inline]
+const fn wrong_week(parts: Parts, date: Date) -> Option<Field> {
+    if !fits(parts.iso_week, date.iso_week() as u32) {
+        return Some(Field::IsoWeek);
+    }
+    if !fits(parts.sunday_week, date.sunday_based_week() as u32) {
+        return Some(Field::SundayWeek);
+    }
+    if !fits(parts.monday_week, date.monday_based_week() as u32) {
+        return Some(Field::MondayWeek);
+    }
+    None
+}

@@ -1,0 +1,111 @@
+// Made by make/erase of crates/format_descriptions/src/words.rt. Do not edit.
+//! Names, read from the front of a text.
+use crate::proved::format_descriptions::names::{month_name, period_word, weekday_name};
+use crate::proved::format_descriptions::reading::{after_word, digit};
+use crate::proved::format_descriptions::{Case, NameForm, ReadCase, WeekStart, WeekdayCount};
+use crate::proved::calendar_values::{Month, Weekday};
+
+// The name of a month up to this one.
+/// # Contract
+///
+/// ```text
+/// requires { last ≤ 12 }
+/// ensures value { option_map (λ read. (read.0, read.1.now)) result
+///     ≡ month_at form case last text.now }
+/// ensures below { IfSome result (λ read. read.0 ≤ 12) }
+/// ensures shorter { IfSome result (λ read. length read.1.now ≤ length text.now) }
+/// ```
+///
+/// [docs/proofs/STATEMENT.md](crate::proved#contracts) explains the words.
+#[inline]
+pub(crate) fn month(form: NameForm, case: ReadCase, last: u8, text: &[u8]) -> Option<(u32, &[u8])> {
+    if last == 0 {
+        return None;
+    }
+    let Ok(name) = Month::from_number(last) else {
+        return None;
+    };
+    match after_word(case, month_name(form, name).as_bytes(), text) {
+        Some(rest) => Some((last as u32, rest)),
+        None => month(form, case, last - 1, text),
+    }
+}
+
+// The name of a day of the week before this one.
+/// # Contract
+///
+/// ```text
+/// requires { end ≤ 7 }
+/// ensures value { option_map (λ read. (read.0, read.1.now)) result
+///     ≡ weekday_at form case end text.now }
+/// ensures below { IfSome result (λ read. read.0 ≤ 7) }
+/// ensures shorter { IfSome result (λ read. length read.1.now ≤ length text.now) }
+/// ```
+///
+/// [docs/proofs/STATEMENT.md](crate::proved#contracts) explains the words.
+#[inline]
+pub(crate) fn weekday(
+    form: NameForm,
+    case: ReadCase,
+    end: u8,
+    text: &[u8],
+) -> Option<(u32, &[u8])> {
+    if end == 0 {
+        return None;
+    }
+    let name = Weekday::numbered(end - 1);
+    match after_word(case, weekday_name(form, name).as_bytes(), text) {
+        Some(rest) => Some(((end - 1) as u32, rest)),
+        None => weekday(form, case, end - 1, text),
+    }
+}
+
+// The number of a day of the week, which gives 0 for Monday.
+/// # Contract
+///
+/// ```text
+/// ensures value { option_map (λ read. (read.0, read.1.now)) result
+///     ≡ weekday_number_at start count text.now }
+/// ensures below { IfSome result (λ read. read.0 ≤ 7) }
+/// ensures shorter { IfSome result (λ read. length read.1.now ≤ length text.now) }
+/// ```
+///
+/// [docs/proofs/STATEMENT.md](crate::proved#contracts) explains the words.
+#[inline]
+pub(crate) fn weekday_number(
+    start: WeekStart,
+    count: WeekdayCount,
+    text: &[u8],
+) -> Option<(u32, &[u8])> {
+    let (number, rest) = digit(text)?;
+    let first = count.first() as u32;
+    if number < first {
+        return None;
+    }
+    if number - first > 6 {
+        return None;
+    }
+    Some(((number - first + start.weekday() as u32) % 7, rest))
+}
+
+// The half of the day: true for the second.
+/// # Contract
+///
+/// ```text
+/// ensures value { option_map (λ read. (read.0, read.1.now)) result
+///     ≡ period_at case read text.now }
+/// ensures below { IfSome result (λ read. read.0.1 ≤ 1_000_000_000) }
+/// ensures shorter { IfSome result (λ read. length read.1.now ≤ length text.now) }
+/// ```
+///
+/// [docs/proofs/STATEMENT.md](crate::proved#contracts) explains the words.
+#[inline]
+pub(crate) fn period(case: Case, read: ReadCase, text: &[u8]) -> Option<((bool, u32), &[u8])> {
+    if let Some(rest) = after_word(read, period_word(case, 0), text) {
+        return Some(((false, 0), rest));
+    }
+    match after_word(read, period_word(case, 12), text) {
+        Some(rest) => Some(((true, 0), rest)),
+        None => None,
+    }
+}

@@ -1,0 +1,123 @@
+// Made by make/erase of crates/format_descriptions/src/write.rt. Do not edit.
+//! Texts written by descriptions.
+use crate::proved::format_descriptions::Item;
+use crate::proved::format_descriptions::pieces::component_text;
+use crate::proved::calendar_values::{Date, Text, Time, UtcOffset};
+use crate::proved::offset_times::OffsetDateTime;
+
+/// The text of a date-time as the items write it, by its own wall clock and offset. None where the text has more than
+/// 64 bytes, or one that is not ASCII.
+///
+/// ```
+/// # use muxandu::proved::*;
+/// # fn main() -> Result<(), Box<dyn std::error::Error>> {
+/// use format_descriptions::{Component, Item, Padding};
+/// let items = [Item::Part(Component::Day(Padding::Zero)), Item::Byte(b'!')];
+/// let at = OffsetDateTime::from_unix_timestamp(0)?;
+/// let text = format_descriptions::format_date_time(&items, at);
+/// assert_eq!(text.map(|text| text.as_bytes() == b"01!"), Some(true));
+/// # Ok(())
+/// # }
+/// ```
+///
+/// # Contract
+///
+/// ```text
+/// ensures text { SomeIff result (Fits (described_text items.now at))
+///     (described_text items.now at) }
+/// ```
+///
+/// [docs/proofs/STATEMENT.md](crate::proved#contracts) explains the words.
+#[inline]
+pub fn format_date_time(items: &[Item], at: OffsetDateTime) -> Option<Text> {
+    let (date, time, offset) = at.parts();
+    format(items, date, time, offset)
+}
+
+/// The text of a date, a time of day and an offset as the items write them. None where the text has more than 64 bytes,
+/// or one that is not ASCII.
+///
+/// ```
+/// # use muxandu::proved::*;
+/// # fn main() -> Result<(), Box<dyn std::error::Error>> {
+/// use format_descriptions::{Component, Item, Padding};
+/// let items = [Item::Part(Component::Day(Padding::Zero)), Item::Byte(b'!')];
+/// let date = Date::from_calendar_date(2024, Month::March, 5)?;
+/// let text = format_descriptions::format(&items, date, Time::MIDNIGHT, UtcOffset::UTC);
+/// assert_eq!(text.map(|text| text.as_bytes() == b"05!"), Some(true));
+/// # Ok(())
+/// # }
+/// ```
+///
+/// # Contract
+///
+/// ```text
+/// ensures text { SomeIff result (Fits (items_text items.now date time offset))
+///     (items_text items.now date time offset) }
+/// ```
+///
+/// [docs/proofs/STATEMENT.md](crate::proved#contracts) explains the words.
+#[inline]
+pub fn format(items: &[Item], date: Date, time: Time, offset: UtcOffset) -> Option<Text> {
+    let mut text = Text::new();
+    for (k, item) in items.iter().enumerate() {
+        let Some(piece) = item_text(*item, date, time, offset) else {
+            return None;
+        };
+        if text.as_bytes().len() + piece.as_bytes().len() > 64 {
+            return None;
+        }
+        text.push_bytes(piece.as_bytes());
+    }
+    Some(text)
+}
+
+// The text of an item. None of a byte that is not ASCII.
+/// # Contract
+///
+/// ```text
+/// ensures text { let text = item_text item date time offset in
+///     SomeIff result (IsAscii text) text }
+/// ```
+///
+/// [docs/proofs/STATEMENT.md](crate::proved#contracts) explains the words.
+#[inline]
+fn item_text(item: Item, date: Date, time: Time, offset: UtcOffset) -> Option<Text> {
+    match item {
+        Item::Byte(byte) => byte_text(byte),
+        Item::Part(component) => Some(seen(component_text(component, date, time, offset))),
+    }
+}
+
+// The same text, of which a caller then knows that it is ASCII.
+/// # Contract
+///
+/// ```text
+/// ensures text { result ≡ text }
+/// ensures ascii { IsAscii text }
+/// ```
+///
+/// [docs/proofs/STATEMENT.md](crate::proved#contracts) explains the words.
+#[inline]
+fn seen(text: Text) -> Text {
+    let _bytes = text.as_bytes();
+    text
+}
+
+// A byte by itself.
+/// # Contract
+///
+/// ```text
+/// ensures { SomeIff result (IsAscii (byte ∷ [])) (byte ∷ []) }
+/// ```
+///
+/// [docs/proofs/STATEMENT.md](crate::proved#contracts) explains the words.
+#[inline]
+fn byte_text(byte: u8) -> Option<Text> {
+    if byte >= 128 {
+        return None;
+    }
+    let mut text = Text::new();
+    text.push(byte);
+    Some(seen(text))
+}

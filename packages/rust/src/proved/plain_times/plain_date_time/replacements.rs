@@ -1,0 +1,514 @@
+// Made by make/erase of crates/plain_times/src/plain_date_time/replacements.rt. Do not edit.
+//! Plain date-times with a part replaced, or truncated to a unit of time.
+use crate::proved::plain_times::PlainDateTime;
+use crate::proved::calendar_values::{ComponentRange, Date, Month, Time};
+
+impl PlainDateTime {
+    /// The same date at another time of day.
+    ///
+    /// ```
+    /// # use muxandu::proved::*;
+    /// # fn main() -> Result<(), Box<dyn std::error::Error>> {
+    /// let date = Date::from_calendar_date(2024, Month::February, 29)?;
+    /// let at = PlainDateTime::new(date, Time::MIDNIGHT);
+    /// let noon = Time::from_hms(12, 0, 0)?;
+    /// assert_eq!(at.replace_time(noon).time(), noon);
+    /// assert_eq!(at.replace_time(noon).day(), 29);
+    /// # Ok(())
+    /// # }
+    /// ```
+    ///
+    /// # Contract
+    ///
+    /// ```text
+    /// ensures { ReplacesTime self time result }
+    /// ```
+    ///
+    /// [docs/proofs/STATEMENT.md](crate::proved#contracts) explains the words.
+    #[inline]
+    pub const fn replace_time(self, time: Time) -> PlainDateTime {
+        PlainDateTime::new(self.date(), time)
+    }
+
+    /// The same time of day on another date.
+    ///
+    /// ```
+    /// # use muxandu::proved::*;
+    /// # fn main() -> Result<(), Box<dyn std::error::Error>> {
+    /// let time = Time::from_hms_nano(13, 2, 59, 480_300_002)?;
+    /// let at = PlainDateTime::new(Date::from_calendar_date(2019, Month::December, 30)?, time);
+    /// assert_eq!(
+    ///     at.replace_date(Date::from_calendar_date(2024, Month::February, 29)?).as_hms(),
+    ///     (13, 2, 59)
+    /// );
+    /// # Ok(())
+    /// # }
+    /// ```
+    ///
+    /// # Contract
+    ///
+    /// ```text
+    /// ensures { ReplacesDate self date result }
+    /// ```
+    ///
+    /// [docs/proofs/STATEMENT.md](crate::proved#contracts) explains the words.
+    #[inline]
+    pub const fn replace_date(self, date: Date) -> PlainDateTime {
+        PlainDateTime::new(date, self.time())
+    }
+
+    /// As [`Date::replace_year`] of the date, with the time of day kept.
+    ///
+    /// ```
+    /// # use muxandu::proved::*;
+    /// # fn main() -> Result<(), Box<dyn std::error::Error>> {
+    /// let date = Date::from_calendar_date(2024, Month::February, 29)?;
+    /// let at = PlainDateTime::new(date, Time::MIDNIGHT);
+    /// assert_eq!(at.replace_year(2028)?.to_ordinal_date(), (2028, 60));
+    /// assert_eq!(at.replace_year(2023), Err(ComponentRange::new("day", true)));
+    /// # Ok(())
+    /// # }
+    /// ```
+    ///
+    /// # Contract
+    ///
+    /// ```text
+    /// ensures value { Gives result (wall_year_outcome self year) }
+    /// ensures shown { IfOk result (ShowsYear self year) }
+    /// ```
+    ///
+    /// [docs/proofs/STATEMENT.md](crate::proved#contracts) explains the words.
+    #[inline]
+    pub const fn replace_year(self, year: i32) -> Result<PlainDateTime, ComponentRange> {
+        match self.date().replace_year(year) {
+            Ok(date) => Ok(self.replace_date(date)),
+            Err(refusal) => Err(refusal),
+        }
+    }
+
+    /// As [`Date::replace_month`] of the date, with the time of day kept.
+    ///
+    /// ```
+    /// # use muxandu::proved::*;
+    /// # fn main() -> Result<(), Box<dyn std::error::Error>> {
+    /// let date = Date::from_calendar_date(2024, Month::January, 31)?;
+    /// let at = PlainDateTime::new(date, Time::MIDNIGHT);
+    /// assert_eq!(at.replace_month(Month::March)?.ordinal(), 91);
+    /// assert_eq!(at.replace_month(Month::April), Err(ComponentRange::new("day", true)));
+    /// # Ok(())
+    /// # }
+    /// ```
+    ///
+    /// # Contract
+    ///
+    /// ```text
+    /// ensures value { Gives result (wall_month_outcome self (month_number month)) }
+    /// ensures shown { IfOk result (ShowsMonth self (month_number month)) }
+    /// ```
+    ///
+    /// [docs/proofs/STATEMENT.md](crate::proved#contracts) explains the words.
+    #[inline]
+    pub const fn replace_month(self, month: Month) -> Result<PlainDateTime, ComponentRange> {
+        match self.date().replace_month(month) {
+            Ok(date) => Ok(self.replace_date(date)),
+            Err(refusal) => Err(refusal),
+        }
+    }
+
+    /// As [`Date::replace_day`] of the date, with the time of day kept.
+    ///
+    /// ```
+    /// # use muxandu::proved::*;
+    /// # fn main() -> Result<(), Box<dyn std::error::Error>> {
+    /// let date = Date::from_calendar_date(2024, Month::February, 29)?;
+    /// let at = PlainDateTime::new(date, Time::MIDNIGHT);
+    /// assert_eq!(at.replace_day(1)?.ordinal(), 32);
+    /// assert_eq!(at.replace_day(30), Err(ComponentRange::new("day", true)));
+    /// # Ok(())
+    /// # }
+    /// ```
+    ///
+    /// # Contract
+    ///
+    /// ```text
+    /// ensures value { Gives result (wall_day_outcome self day) }
+    /// ensures shown { IfOk result (ShowsDay self day) }
+    /// ```
+    ///
+    /// [docs/proofs/STATEMENT.md](crate::proved#contracts) explains the words.
+    #[inline]
+    pub const fn replace_day(self, day: u8) -> Result<PlainDateTime, ComponentRange> {
+        match self.date().replace_day(day) {
+            Ok(date) => Ok(self.replace_date(date)),
+            Err(refusal) => Err(refusal),
+        }
+    }
+
+    /// As [`Date::replace_ordinal`] of the date, with the time of day kept.
+    ///
+    /// ```
+    /// # use muxandu::proved::*;
+    /// # fn main() -> Result<(), Box<dyn std::error::Error>> {
+    /// let date = Date::from_calendar_date(2024, Month::February, 29)?;
+    /// let at = PlainDateTime::new(date, Time::MIDNIGHT);
+    /// assert_eq!(at.replace_ordinal(366)?.to_calendar_date(), (2024, Month::December, 31));
+    /// assert_eq!(at.replace_ordinal(367), Err(ComponentRange::new("ordinal", false)));
+    /// # Ok(())
+    /// # }
+    /// ```
+    ///
+    /// # Contract
+    ///
+    /// ```text
+    /// ensures value { Gives result (wall_ordinal_outcome self ordinal) }
+    /// ensures shown { IfOk result (ShowsOrdinal self ordinal) }
+    /// ```
+    ///
+    /// [docs/proofs/STATEMENT.md](crate::proved#contracts) explains the words.
+    #[inline]
+    pub const fn replace_ordinal(self, ordinal: u16) -> Result<PlainDateTime, ComponentRange> {
+        match self.date().replace_ordinal(ordinal) {
+            Ok(date) => Ok(self.replace_date(date)),
+            Err(refusal) => Err(refusal),
+        }
+    }
+
+    /// The first nanosecond of the day that it is in.
+    ///
+    /// ```
+    /// # use muxandu::proved::*;
+    /// # fn main() -> Result<(), Box<dyn std::error::Error>> {
+    /// let time = Time::from_hms_nano(13, 2, 59, 480_300_002)?;
+    /// let at = PlainDateTime::new(Date::from_calendar_date(2019, Month::December, 30)?, time);
+    /// assert_eq!(at.truncate_to_day().as_hms_nano(), (0, 0, 0, 0));
+    /// # Ok(())
+    /// # }
+    /// ```
+    ///
+    /// # Contract
+    ///
+    /// ```text
+    /// ensures value { TruncatesTo nanos_per_day self result }
+    /// ensures midnight { result ≡ wall_clock (wall_day self) 0 }
+    /// ensures date { wall_day result ≡ wall_day self }
+    /// ensures time { wall_time result ≡ 0 }
+    /// ```
+    ///
+    /// [docs/proofs/STATEMENT.md](crate::proved#contracts) explains the words.
+    #[inline]
+    pub const fn truncate_to_day(self) -> PlainDateTime {
+        self.replace_time(Time::MIDNIGHT)
+    }
+
+    /// As [`Time::replace_hour`] of the time of day, with the date kept.
+    ///
+    /// ```
+    /// # use muxandu::proved::*;
+    /// # fn main() -> Result<(), Box<dyn std::error::Error>> {
+    /// let time = Time::from_hms_nano(13, 2, 59, 480_300_002)?;
+    /// let at = PlainDateTime::new(Date::from_calendar_date(2019, Month::December, 30)?, time);
+    /// assert_eq!(at.replace_hour(0)?.as_hms_nano(), (0, 2, 59, 480_300_002));
+    /// assert_eq!(at.replace_hour(24), Err(ComponentRange::new("hour", false)));
+    /// # Ok(())
+    /// # }
+    /// ```
+    ///
+    /// # Contract
+    ///
+    /// ```text
+    /// ensures value { Gives result (wall_hour_outcome self hour) }
+    /// ensures shown { IfOk result (ShowsHour self hour) }
+    /// ```
+    ///
+    /// [docs/proofs/STATEMENT.md](crate::proved#contracts) explains the words.
+    #[inline]
+    pub const fn replace_hour(self, hour: u8) -> Result<PlainDateTime, ComponentRange> {
+        match self.time().replace_hour(hour) {
+            Ok(time) => Ok(self.replace_time(time)),
+            Err(refusal) => Err(refusal),
+        }
+    }
+
+    /// The first nanosecond of the hour that it is in.
+    ///
+    /// ```
+    /// # use muxandu::proved::*;
+    /// # fn main() -> Result<(), Box<dyn std::error::Error>> {
+    /// let time = Time::from_hms_nano(13, 2, 59, 480_300_002)?;
+    /// let at = PlainDateTime::new(Date::from_calendar_date(2019, Month::December, 30)?, time);
+    /// assert_eq!(at.truncate_to_hour().as_hms_nano(), (13, 0, 0, 0));
+    /// # Ok(())
+    /// # }
+    /// ```
+    ///
+    /// # Contract
+    ///
+    /// ```text
+    /// ensures { TruncatesTo nanos_per_hour self result }
+    /// ```
+    ///
+    /// [docs/proofs/STATEMENT.md](crate::proved#contracts) explains the words.
+    #[inline]
+    pub const fn truncate_to_hour(self) -> PlainDateTime {
+        self.replace_time(self.time().truncate_to_hour())
+    }
+
+    /// As [`Time::replace_minute`] of the time of day, with the date kept.
+    ///
+    /// ```
+    /// # use muxandu::proved::*;
+    /// # fn main() -> Result<(), Box<dyn std::error::Error>> {
+    /// let time = Time::from_hms_nano(13, 2, 59, 480_300_002)?;
+    /// let at = PlainDateTime::new(Date::from_calendar_date(2019, Month::December, 30)?, time);
+    /// assert_eq!(at.replace_minute(30)?.as_hms_nano(), (13, 30, 59, 480_300_002));
+    /// assert_eq!(at.replace_minute(60), Err(ComponentRange::new("minute", false)));
+    /// # Ok(())
+    /// # }
+    /// ```
+    ///
+    /// # Contract
+    ///
+    /// ```text
+    /// ensures value { Gives result (wall_minute_outcome self minute) }
+    /// ensures shown { IfOk result (ShowsMinute self minute) }
+    /// ```
+    ///
+    /// [docs/proofs/STATEMENT.md](crate::proved#contracts) explains the words.
+    #[inline]
+    pub const fn replace_minute(self, minute: u8) -> Result<PlainDateTime, ComponentRange> {
+        match self.time().replace_minute(minute) {
+            Ok(time) => Ok(self.replace_time(time)),
+            Err(refusal) => Err(refusal),
+        }
+    }
+
+    /// The first nanosecond of the minute that it is in.
+    ///
+    /// ```
+    /// # use muxandu::proved::*;
+    /// # fn main() -> Result<(), Box<dyn std::error::Error>> {
+    /// let time = Time::from_hms_nano(13, 2, 59, 480_300_002)?;
+    /// let at = PlainDateTime::new(Date::from_calendar_date(2019, Month::December, 30)?, time);
+    /// assert_eq!(at.truncate_to_minute().as_hms_nano(), (13, 2, 0, 0));
+    /// # Ok(())
+    /// # }
+    /// ```
+    ///
+    /// # Contract
+    ///
+    /// ```text
+    /// ensures { TruncatesTo nanos_per_minute self result }
+    /// ```
+    ///
+    /// [docs/proofs/STATEMENT.md](crate::proved#contracts) explains the words.
+    #[inline]
+    pub const fn truncate_to_minute(self) -> PlainDateTime {
+        self.replace_time(self.time().truncate_to_minute())
+    }
+
+    /// As [`Time::replace_second`] of the time of day, with the date kept.
+    ///
+    /// ```
+    /// # use muxandu::proved::*;
+    /// # fn main() -> Result<(), Box<dyn std::error::Error>> {
+    /// let time = Time::from_hms_nano(13, 2, 59, 480_300_002)?;
+    /// let at = PlainDateTime::new(Date::from_calendar_date(2019, Month::December, 30)?, time);
+    /// assert_eq!(at.replace_second(0)?.as_hms_nano(), (13, 2, 0, 480_300_002));
+    /// assert_eq!(at.replace_second(60), Err(ComponentRange::new("second", false)));
+    /// # Ok(())
+    /// # }
+    /// ```
+    ///
+    /// # Contract
+    ///
+    /// ```text
+    /// ensures value { Gives result (wall_second_outcome self second) }
+    /// ensures shown { IfOk result (ShowsSecond self second) }
+    /// ```
+    ///
+    /// [docs/proofs/STATEMENT.md](crate::proved#contracts) explains the words.
+    #[inline]
+    pub const fn replace_second(self, second: u8) -> Result<PlainDateTime, ComponentRange> {
+        match self.time().replace_second(second) {
+            Ok(time) => Ok(self.replace_time(time)),
+            Err(refusal) => Err(refusal),
+        }
+    }
+
+    /// The first nanosecond of the second that it is in.
+    ///
+    /// ```
+    /// # use muxandu::proved::*;
+    /// # fn main() -> Result<(), Box<dyn std::error::Error>> {
+    /// let time = Time::from_hms_nano(13, 2, 59, 480_300_002)?;
+    /// let at = PlainDateTime::new(Date::from_calendar_date(2019, Month::December, 30)?, time);
+    /// assert_eq!(at.truncate_to_second().as_hms_nano(), (13, 2, 59, 0));
+    /// # Ok(())
+    /// # }
+    /// ```
+    ///
+    /// # Contract
+    ///
+    /// ```text
+    /// ensures { TruncatesTo nanos_per_second self result }
+    /// ```
+    ///
+    /// [docs/proofs/STATEMENT.md](crate::proved#contracts) explains the words.
+    #[inline]
+    pub const fn truncate_to_second(self) -> PlainDateTime {
+        self.replace_time(self.time().truncate_to_second())
+    }
+
+    /// As [`Time::replace_millisecond`] of the time of day, with the date kept.
+    ///
+    /// ```
+    /// # use muxandu::proved::*;
+    /// # fn main() -> Result<(), Box<dyn std::error::Error>> {
+    /// let time = Time::from_hms_nano(13, 2, 59, 480_300_002)?;
+    /// let at = PlainDateTime::new(Date::from_calendar_date(2019, Month::December, 30)?, time);
+    /// assert_eq!(at.replace_millisecond(7)?.as_hms_nano(), (13, 2, 59, 7_000_000));
+    /// assert_eq!(
+    ///     at.replace_millisecond(1_000),
+    ///     Err(ComponentRange::new("millisecond", false))
+    /// );
+    /// # Ok(())
+    /// # }
+    /// ```
+    ///
+    /// # Contract
+    ///
+    /// ```text
+    /// ensures value { Gives result (wall_millisecond_outcome self millisecond) }
+    /// ensures shown { IfOk result (ShowsMillisecond self millisecond) }
+    /// ```
+    ///
+    /// [docs/proofs/STATEMENT.md](crate::proved#contracts) explains the words.
+    #[inline]
+    pub const fn replace_millisecond(
+        self,
+        millisecond: u16,
+    ) -> Result<PlainDateTime, ComponentRange> {
+        match self.time().replace_millisecond(millisecond) {
+            Ok(time) => Ok(self.replace_time(time)),
+            Err(refusal) => Err(refusal),
+        }
+    }
+
+    /// The first nanosecond of the millisecond that it is in.
+    ///
+    /// ```
+    /// # use muxandu::proved::*;
+    /// # fn main() -> Result<(), Box<dyn std::error::Error>> {
+    /// let time = Time::from_hms_nano(13, 2, 59, 480_300_002)?;
+    /// let at = PlainDateTime::new(Date::from_calendar_date(2019, Month::December, 30)?, time);
+    /// assert_eq!(at.truncate_to_millisecond().as_hms_nano(), (13, 2, 59, 480_000_000));
+    /// # Ok(())
+    /// # }
+    /// ```
+    ///
+    /// # Contract
+    ///
+    /// ```text
+    /// ensures { TruncatesTo nanos_per_millisecond self result }
+    /// ```
+    ///
+    /// [docs/proofs/STATEMENT.md](crate::proved#contracts) explains the words.
+    #[inline]
+    pub const fn truncate_to_millisecond(self) -> PlainDateTime {
+        self.replace_time(self.time().truncate_to_millisecond())
+    }
+
+    /// As [`Time::replace_microsecond`] of the time of day, with the date kept.
+    ///
+    /// ```
+    /// # use muxandu::proved::*;
+    /// # fn main() -> Result<(), Box<dyn std::error::Error>> {
+    /// let time = Time::from_hms_nano(13, 2, 59, 480_300_002)?;
+    /// let at = PlainDateTime::new(Date::from_calendar_date(2019, Month::December, 30)?, time);
+    /// assert_eq!(at.replace_microsecond(7)?.as_hms_nano(), (13, 2, 59, 7_000));
+    /// assert_eq!(
+    ///     at.replace_microsecond(1_000_000),
+    ///     Err(ComponentRange::new("microsecond", false))
+    /// );
+    /// # Ok(())
+    /// # }
+    /// ```
+    ///
+    /// # Contract
+    ///
+    /// ```text
+    /// ensures value { Gives result (wall_microsecond_outcome self microsecond) }
+    /// ensures shown { IfOk result (ShowsMicrosecond self microsecond) }
+    /// ```
+    ///
+    /// [docs/proofs/STATEMENT.md](crate::proved#contracts) explains the words.
+    #[inline]
+    pub const fn replace_microsecond(
+        self,
+        microsecond: u32,
+    ) -> Result<PlainDateTime, ComponentRange> {
+        match self.time().replace_microsecond(microsecond) {
+            Ok(time) => Ok(self.replace_time(time)),
+            Err(refusal) => Err(refusal),
+        }
+    }
+
+    /// The first nanosecond of the microsecond that it is in.
+    ///
+    /// ```
+    /// # use muxandu::proved::*;
+    /// # fn main() -> Result<(), Box<dyn std::error::Error>> {
+    /// let time = Time::from_hms_nano(13, 2, 59, 480_300_002)?;
+    /// let at = PlainDateTime::new(Date::from_calendar_date(2019, Month::December, 30)?, time);
+    /// assert_eq!(at.truncate_to_microsecond().as_hms_nano(), (13, 2, 59, 480_300_000));
+    /// # Ok(())
+    /// # }
+    /// ```
+    ///
+    /// # Contract
+    ///
+    /// ```text
+    /// ensures { TruncatesTo nanos_per_microsecond self result }
+    /// ```
+    ///
+    /// [docs/proofs/STATEMENT.md](crate::proved#contracts) explains the words.
+    #[inline]
+    pub const fn truncate_to_microsecond(self) -> PlainDateTime {
+        self.replace_time(self.time().truncate_to_microsecond())
+    }
+
+    /// As [`Time::replace_nanosecond`] of the time of day, with the date kept.
+    ///
+    /// ```
+    /// # use muxandu::proved::*;
+    /// # fn main() -> Result<(), Box<dyn std::error::Error>> {
+    /// let time = Time::from_hms_nano(13, 2, 59, 480_300_002)?;
+    /// let at = PlainDateTime::new(Date::from_calendar_date(2019, Month::December, 30)?, time);
+    /// assert_eq!(at.replace_nanosecond(7)?.as_hms_nano(), (13, 2, 59, 7));
+    /// assert_eq!(
+    ///     at.replace_nanosecond(1_000_000_000),
+    ///     Err(ComponentRange::new("nanosecond", false))
+    /// );
+    /// # Ok(())
+    /// # }
+    /// ```
+    ///
+    /// # Contract
+    ///
+    /// ```text
+    /// ensures value { Gives result (wall_nanosecond_outcome self nanosecond) }
+    /// ensures shown { IfOk result (ShowsNanosecond self nanosecond) }
+    /// ```
+    ///
+    /// [docs/proofs/STATEMENT.md](crate::proved#contracts) explains the words.
+    #[inline]
+    pub const fn replace_nanosecond(
+        self,
+        nanosecond: u32,
+    ) -> Result<PlainDateTime, ComponentRange> {
+        match self.time().replace_nanosecond(nanosecond) {
+            Ok(time) => Ok(self.replace_time(time)),
+            Err(refusal) => Err(refusal),
+        }
+    }
+}

@@ -1,0 +1,130 @@
+// Made by make/erase of crates/rfc3339/src/front.rt. Do not edit.
+//! Texts read that stand in front of others, and offsets alone.
+use crate::proved::rfc3339::parse::{date_time, offset};
+use crate::proved::rfc3339::reading::{front, zone};
+use crate::proved::rfc3339::{Component, TextRefusal};
+use crate::proved::calendar_values::UtcOffset;
+use crate::proved::offset_times::OffsetDateTime;
+
+/// The wall clock and the offset at the front of a text, and the number of bytes read: 23 for
+/// `1985-04-12T23:20:50.52Z done`. It reads them as [`parse_rfc3339`](crate::proved::rfc3339::parse_rfc3339) reads
+/// these bytes alone. Fails with `Syntax` if no front of the text has that form.
+///
+/// ```
+/// # use muxandu::proved::*;
+/// # fn main() -> Result<(), Box<dyn std::error::Error>> {
+/// let (at, length) = rfc3339::parse_rfc3339_front(b"1990-12-31T23:59:59Z ready")?;
+/// assert_eq!(at.year(), 1990);
+/// assert_eq!(length, 20);
+/// # Ok(())
+/// # }
+/// ```
+///
+/// # Contract
+///
+/// ```text
+/// ensures reading { result ≡ front_reading_of text.now }
+/// ensures value { (stamp rest : List ℕ) (p : Parts) → text.now ≡ stamp ++ rest
+///     → IsDateTime stamp p → OkIff result (AreInRange p) (value_of p, length stamp) }
+/// ensures accepted { IfOk result (λ read. (stamp : List ℕ) × (rest : List ℕ) × (p : Parts) ×
+///     (text.now ≡ stamp ++ rest) × (length stamp ≡ read.1) × (rest ≡ drop read.1 text.now) ×
+///     IsDateTime stamp p × AreInRange p × (read.0 ≡ value_of p)) }
+/// ensures longest { (stamp rest : List ℕ) (p : Parts) → text.now ≡ stamp ++ rest
+///     → IsDateTime stamp p → IfOk result (λ read. length stamp ≤ read.1) }
+/// ensures length { IfOk result (λ read. read.1 ≤ length text.now) }
+/// ensures has_text { IfOk result (λ read. HasText read.0) }
+/// ensures instant { IfOk result (λ read. IsInstant (instant_of read.0)) }
+/// ```
+///
+/// [docs/proofs/STATEMENT.md](crate::proved#contracts) explains the words.
+#[inline]
+pub fn parse_rfc3339_front(text: &[u8]) -> Result<(OffsetDateTime, usize), TextRefusal> {
+    read_front(text)
+}
+
+// The same, and that what is read can be written.
+/// # Contract
+///
+/// ```text
+/// ensures reading { result ≡ front_reading_of text.now }
+/// ensures length { IfOk result (λ read. read.1 ≤ length text.now) }
+/// ensures has_text { IfOk result (λ read. HasText read.0) }
+/// ```
+///
+/// [docs/proofs/STATEMENT.md](crate::proved#contracts) explains the words.
+#[inline(always)]
+fn read_front(text: &[u8]) -> Result<(OffsetDateTime, usize), TextRefusal> {
+    let Some((parts, rest)) = front(text) else {
+        return Err(TextRefusal::Syntax);
+    };
+    match date_time(parts) {
+        Ok(at) => Ok((at, text.len() - rest.len())),
+        Err(refusal) => Err(refusal),
+    }
+}
+
+/// Reads an offset of RFC 3339 with nothing before or after it, as `+05:30` or `Z`. Fails with
+/// `Syntax` if the text has another form, else with the first of its numbers that is out of range.
+///
+/// ```
+/// # use muxandu::proved::*;
+/// # fn main() -> Result<(), Box<dyn std::error::Error>> {
+/// assert_eq!(rfc3339::parse_rfc3339_offset(b"-02:30"), Ok(UtcOffset::from_hms(-2, -30, 0)?));
+/// assert_eq!(
+///     rfc3339::parse_rfc3339_offset(b"+24:00"),
+///     Err(TextRefusal::OutOfRange(Component::OffsetHour))
+/// );
+/// # Ok(())
+/// # }
+/// ```
+///
+/// # Contract
+///
+/// ```text
+/// ensures reading { result ≡ offset_reading_of text.now }
+/// ensures value { (is_west : Bool) (hour minute : ℕ)
+///     → IsOffsetText text.now is_west hour minute → hour < 100 → minute < 100
+///     → OkIff result ((hour ≤ 23) × (minute ≤ 59)) (offset_of is_west hour minute) }
+/// ```
+///
+/// [docs/proofs/STATEMENT.md](crate::proved#contracts) explains the words.
+#[inline]
+pub fn parse_rfc3339_offset(text: &[u8]) -> Result<UtcOffset, TextRefusal> {
+    read_offset(text)
+}
+
+// The same by its digits.
+/// # Contract
+///
+/// ```text
+/// ensures reading { result ≡ offset_reading_of text.now }
+/// ```
+///
+/// [docs/proofs/STATEMENT.md](crate::proved#contracts) explains the words.
+#[inline]
+fn read_offset(text: &[u8]) -> Result<UtcOffset, TextRefusal> {
+    let Some((is_west, hour, minute)) = offset_numbers(text) else {
+        return Err(TextRefusal::Syntax);
+    };
+    if hour > 23 {
+        return Err(TextRefusal::OutOfRange(Component::OffsetHour));
+    }
+    if minute > 59 {
+        return Err(TextRefusal::OutOfRange(Component::OffsetMinute));
+    }
+    Ok(offset(is_west, hour, minute))
+}
+
+// The sign, the hours and the minutes, if nothing follows them.
+/// # Contract
+///
+/// ```text
+/// ensures { result ≡ offset_numbers text.now }
+/// ```
+///
+/// [docs/proofs/STATEMENT.md](crate::proved#contracts) explains the words.
+#[inline]
+fn offset_numbers(text: &[u8]) -> Option<(bool, u8, u8)> {
+    let (numbers, rest) = zone(text)?;
+    if rest.is_empty() { Some(numbers) } else { None }
+}

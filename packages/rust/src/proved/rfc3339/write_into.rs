@@ -1,0 +1,278 @@
+// Made by make/erase of crates/rfc3339/src/write_into.rt. Do not edit.
+//! Texts written into bytes of the caller's.
+use crate::proved::rfc3339::Parts;
+use crate::proved::rfc3339::pairs::pair;
+use crate::proved::rfc3339::write::push_fraction;
+use crate::proved::calendar_values::Text;
+
+/// The bytes of the longest text that is written, as `1985-04-12T23:20:50.520000001+05:30`.
+pub const TEXT_ROOM: usize = 35;
+
+/// Writes the text of the date-time that these numbers mean, as
+/// [`Rfc3339::to_rfc3339`](crate::proved::rfc3339::Rfc3339::to_rfc3339) has it, at the front of `bytes`, and gives
+/// its length. Each number must be in its range, and `bytes` must have 35 bytes or more, which no
+/// text is longer than. The bytes after the text do not change.
+///
+/// # Contract
+///
+/// ```text
+/// requires parts { AreInRange parts }
+/// requires year { parts.year ≤ 9_999 }
+/// requires nanosecond { parts.nanosecond ≤ 999_999_999 }
+/// requires room { 35 ≤ length bytes.old }
+/// ensures text { bytes.new ≡ rfc3339_text (value_of parts) ++ drop result bytes.old }
+/// ensures length { result ≡ length (rfc3339_text (value_of parts)) }
+/// ensures at_most { result ≤ 35 }
+/// ```
+///
+/// [docs/proofs/STATEMENT.md](crate::proved#contracts) explains the words.
+#[inline(always)]
+pub(in crate::proved) fn write_rfc3339_parts(parts: Parts, bytes: &mut [u8]) -> usize {
+    put(bytes, 0, &wall_bytes(parts));
+    let end = put_fraction(bytes, 19, parts.nanosecond);
+    put_offset(
+        bytes,
+        end,
+        parts.is_west,
+        parts.offset_hour,
+        parts.offset_minute,
+    )
+}
+
+// A date, a `T` and a time of day to the second.
+/// # Contract
+///
+/// ```text
+/// requires year { parts.year ≤ 9_999 }
+/// requires month { parts.month < 100 }
+/// requires day { parts.day < 100 }
+/// requires hour { parts.hour < 100 }
+/// requires minute { parts.minute < 100 }
+/// requires second { parts.second < 100 }
+/// ensures { result ≡ wall_text parts }
+/// ```
+///
+/// [docs/proofs/STATEMENT.md](crate::proved#contracts) explains the words.
+#[inline(always)]
+const fn wall_bytes(parts: Parts) -> [u8; 19] {
+    let [thousands, hundreds] = pair((parts.year / 100) as u8);
+    let [tens, units] = pair((parts.year % 100) as u8);
+    let [month_tens, month] = pair(parts.month);
+    let [day_tens, day] = pair(parts.day);
+    let [hour_tens, hour] = pair(parts.hour);
+    let [minute_tens, minute] = pair(parts.minute);
+    let [second_tens, second] = pair(parts.second);
+    [
+        thousands,
+        hundreds,
+        tens,
+        units,
+        b'-',
+        month_tens,
+        month,
+        b'-',
+        day_tens,
+        day,
+        b'T',
+        hour_tens,
+        hour,
+        b':',
+        minute_tens,
+        minute,
+        b':',
+        second_tens,
+        second,
+    ]
+}
+
+// Puts the fraction at a place, if there is one, and gives the place behind it.
+/// # Contract
+///
+/// ```text
+/// requires nanosecond { nanosecond ≤ 999_999_999 }
+/// requires room { place + 10 ≤ length bytes.old }
+/// ensures value { bytes.new ≡ take place bytes.old ++ fraction_text nanosecond
+///     ++ drop result bytes.old }
+/// ensures place { result ≡ place + length (fraction_text nanosecond) }
+/// ensures at_most { result ≤ place + 10 }
+/// ```
+///
+/// [docs/proofs/STATEMENT.md](crate::proved#contracts) explains the words.
+#[inline(always)]
+fn put_fraction(bytes: &mut [u8], place: usize, nanosecond: u32) -> usize {
+    if nanosecond == 0 {
+        place
+    } else {
+        put_some_fraction(bytes, place, nanosecond)
+    }
+}
+
+// The same for a nanosecond that is not 0. It stands apart, since many texts have no fraction.
+/// # Contract
+///
+/// ```text
+/// requires nanosecond { nanosecond ≤ 999_999_999 }
+/// requires room { place + 10 ≤ length bytes.old }
+/// ensures value { bytes.new ≡ take place bytes.old ++ fraction_text nanosecond
+///     ++ drop result bytes.old }
+/// ensures place { result ≡ place + length (fraction_text nanosecond) }
+/// ensures at_most { result ≤ place + 10 }
+/// ```
+///
+/// [docs/proofs/STATEMENT.md](crate::proved#contracts) explains the words.
+#[inline(never)]
+fn put_some_fraction(bytes: &mut [u8], place: usize, nanosecond: u32) -> usize {
+    if nanosecond % 10 != 0 {
+        return put(bytes, place, &nine_digits(nanosecond));
+    }
+    let microsecond = nanosecond / 1_000;
+    if nanosecond % 1_000 == 0 && microsecond % 10 != 0 {
+        return put(bytes, place, &six_digits(microsecond));
+    }
+    let millisecond = nanosecond / 1_000_000;
+    if nanosecond % 1_000_000 == 0 && millisecond % 10 != 0 {
+        return put(bytes, place, &three_digits(millisecond));
+    }
+    put_any_fraction(bytes, place, nanosecond)
+}
+
+// The same, one digit after another.
+/// # Contract
+///
+/// ```text
+/// requires { place + 10 ≤ length bytes.old }
+/// ensures value { bytes.new ≡ take place bytes.old ++ fraction_text nanosecond
+///     ++ drop result bytes.old }
+/// ensures place { result ≡ place + length (fraction_text nanosecond) }
+/// ensures at_most { result ≤ place + 10 }
+/// ```
+///
+/// [docs/proofs/STATEMENT.md](crate::proved#contracts) explains the words.
+#[inline]
+fn put_any_fraction(bytes: &mut [u8], place: usize, nanosecond: u32) -> usize {
+    let mut text = Text::new();
+    push_fraction(&mut text, nanosecond);
+    put(bytes, place, text.as_bytes())
+}
+
+// A point and nine digits.
+/// # Contract
+///
+/// ```text
+/// requires { number ≤ 999_999_999 }
+/// ensures { result ≡ codes "." ++ last_digits 9 number }
+/// ```
+///
+/// [docs/proofs/STATEMENT.md](crate::proved#contracts) explains the words.
+#[inline(always)]
+const fn nine_digits(number: u32) -> [u8; 10] {
+    let [b, c] = pair((number / 1_000_000 % 100) as u8);
+    let [d, e] = pair((number / 10_000 % 100) as u8);
+    let [f, g] = pair((number / 100 % 100) as u8);
+    let [h, i] = pair((number % 100) as u8);
+    [
+        b'.',
+        b'0' + (number / 100_000_000) as u8,
+        b,
+        c,
+        d,
+        e,
+        f,
+        g,
+        h,
+        i,
+    ]
+}
+
+// A point and six digits.
+/// # Contract
+///
+/// ```text
+/// requires { number ≤ 999_999 }
+/// ensures { result ≡ codes "." ++ last_digits 6 number }
+/// ```
+///
+/// [docs/proofs/STATEMENT.md](crate::proved#contracts) explains the words.
+#[inline(always)]
+const fn six_digits(number: u32) -> [u8; 7] {
+    let [a, b] = pair((number / 10_000) as u8);
+    let [c, d] = pair((number / 100 % 100) as u8);
+    let [e, f] = pair((number % 100) as u8);
+    [b'.', a, b, c, d, e, f]
+}
+
+// A point and three digits.
+/// # Contract
+///
+/// ```text
+/// requires { number ≤ 999 }
+/// ensures { result ≡ codes "." ++ last_digits 3 number }
+/// ```
+///
+/// [docs/proofs/STATEMENT.md](crate::proved#contracts) explains the words.
+#[inline(always)]
+const fn three_digits(number: u32) -> [u8; 4] {
+    let [b, c] = pair((number % 100) as u8);
+    [b'.', b'0' + (number / 100) as u8, b, c]
+}
+
+// Puts the offset of so many hours and minutes at a place, and gives the place behind it.
+/// # Contract
+///
+/// ```text
+/// requires room { place + 6 ≤ length bytes.old }
+/// requires hour { hour ≤ 23 }
+/// requires minute { minute ≤ 59 }
+/// ensures value { bytes.new ≡ take place bytes.old
+///     ++ time_offset_text (offset_of is_west hour minute) ++ drop result bytes.old }
+/// ensures place { result ≡ place + length (time_offset_text (offset_of is_west hour minute)) }
+/// ensures at_most { result ≤ place + 6 }
+/// ```
+///
+/// [docs/proofs/STATEMENT.md](crate::proved#contracts) explains the words.
+#[inline(always)]
+fn put_offset(bytes: &mut [u8], place: usize, is_west: bool, hour: u8, minute: u8) -> usize {
+    if (hour == 0) & (minute == 0) {
+        return put(bytes, place, b"Z");
+    }
+    put(bytes, place, &offset_bytes(is_west, hour, minute))
+}
+
+// A sign, two digits of the hours, `:` and two digits of the minutes.
+/// # Contract
+///
+/// ```text
+/// requires hour { hour < 100 }
+/// requires minute { minute < 100 }
+/// ensures { result ≡ (if is_west then codes "-" else codes "+") ++ last_digits 2 hour
+///     ++ codes ":" ++ last_digits 2 minute }
+/// ```
+///
+/// [docs/proofs/STATEMENT.md](crate::proved#contracts) explains the words.
+#[inline(always)]
+const fn offset_bytes(is_west: bool, hour: u8, minute: u8) -> [u8; 6] {
+    let [hour_tens, hour] = pair(hour);
+    let [minute_tens, minute] = pair(minute);
+    if is_west {
+        [b'-', hour_tens, hour, b':', minute_tens, minute]
+    } else {
+        [b'+', hour_tens, hour, b':', minute_tens, minute]
+    }
+}
+
+// Puts bytes at a place, and gives the place behind them.
+/// # Contract
+///
+/// ```text
+/// requires { place + length text.now ≤ length bytes.old }
+/// ensures value { bytes.new ≡ take place bytes.old ++ text.now ++ drop result bytes.old }
+/// ensures place { result ≡ place + length text.now }
+/// ```
+///
+/// [docs/proofs/STATEMENT.md](crate::proved#contracts) explains the words.
+#[inline(always)]
+fn put(bytes: &mut [u8], place: usize, text: &[u8]) -> usize {
+    let end = place + text.len();
+    bytes[place..end].copy_from_slice(text);
+    end
+}
