@@ -3,7 +3,15 @@
 from shared.interface import type_of
 
 # The types of numbers in C.
-NUMBERS = {"i8": "int8_t", "u8": "uint8_t", "u16": "uint16_t", "i32": "int32_t", "u32": "uint32_t", "i64": "int64_t", "usize": "size_t"}
+NUMBERS = {
+    "i8": "int8_t",
+    "u8": "uint8_t",
+    "u16": "uint16_t",
+    "i32": "int32_t",
+    "u32": "uint32_t",
+    "i64": "int64_t",
+    "usize": "size_t",
+}
 
 # The name that a call of the portable library has there.
 OTHER = "other_"
