@@ -16,5 +16,6 @@ mod TextBlockLemmas
 mod UnitLemmas
 mod UtcTextLemmas
 mod ValuesLemmas
+mod WallTextLemmas
 mod WeekDateLemmas
 mod WrittenTextLemmas

@@ -131,13 +131,23 @@ pub(crate) fn instant_of_date_time(
 }
 
 // The instant of a date-time, which the range has.
-#[tactic(auto, unfolding(offset_times::specs::Local::instant_of))]
 #[inline(always)]
 pub(crate) fn instant_in_range(at: OffsetDateTime) -> Timestamp
     requires { IsInstant (instant_of at) }
     ensures { result ≡ instant_of at }
 {
-    wall_of(at) - seconds_of(at.offset().whole_seconds())
+    instant_in_range_at(at, at.offset().whole_seconds())
+}
+
+// The same of a date-time at an offset in seconds.
+#[tactic(auto, unfolding(offset_times::specs::Local::instant_of))]
+#[inline(always)]
+pub(crate) fn instant_in_range_at(at: OffsetDateTime, offset_seconds: i32) -> Timestamp
+    requires instant { IsInstant (instant_of at) }
+    requires offset { at.offset ≡ offset_seconds }
+    ensures { result ≡ instant_of at }
+{
+    wall_of(at) - seconds_of(offset_seconds)
 }
 
 // The duration of its parts together. Most have less than a second of nanoseconds, and carry none.

@@ -24,6 +24,7 @@ pub use full_dates::{date_from_rfc3339, date_to_rfc3339};
 pub use leap::parse_rfc3339_leap;
 pub use parse::parse_rfc3339;
 pub use parts::Parts;
+pub use reading::parts_after_second;
 pub use refusal::{Component, TextRefusal};
 pub use texts::Rfc3339;
 pub use write_fixed::{to_rfc3339_digits, to_rfc3339_nanos, to_rfc3339_nanos_at};
