@@ -5,7 +5,7 @@ ghost use Rattle.std.specs.Int.{IsInRange};
 ghost use Rattle.rfc3339.specs.Reading.{digit_at, two_digits_at, mark_at, part_at, year_at};
 ghost use Rattle.rfc3339.specs.Form.{is_separator};
 ghost use Rattle.rfc3339.specs.Reading.{separator_at, digits_at, fraction_at, zone_at, second_on, time_on, front_at, parts_at};
-ghost use Rattle.rfc3339.specs.Walls.{fraction_on, parts_on};
+ghost use Rattle.rfc3339.specs.Walls.{fraction_on};
 
 use crate::Parts;
 
@@ -36,18 +36,6 @@ pub(crate) fn front(text: &[u8]) -> Option<(Parts, &[u8])>
         Some((parts, text)) => after_second(parts, text),
         None => front_by_parts(text),
     }
-}
-
-/// The numbers of a text whose date and time of day to the second were read already: those of
-/// `parts`, and those of a fraction and an offset in `text`, which follows the second. `None` if
-/// `text` has another form, or more bytes.
-#[inline(always)]
-pub fn parts_after_second(parts: Parts, text: &[u8]) -> Option<Parts>
-    requires { parts.year ≤ 9_999 }
-    ensures value { result ≡ parts_on parts text.now }
-{
-    let (parts, rest) = after_second(parts, text)?;
-    if rest.is_empty() { Some(parts) } else { None }
 }
 
 // The numbers of the first 19 bytes, tested all at once, and what follows them. None says nothing of the text.
@@ -203,7 +191,7 @@ fn after_minute(
 
 // The same, from what follows its second on.
 #[inline(always)]
-fn after_second(parts: Parts, text: &[u8]) -> Option<(Parts, &[u8])>
+pub(crate) fn after_second(parts: Parts, text: &[u8]) -> Option<(Parts, &[u8])>
     requires { parts.year ≤ 9_999 }
     ensures value { option_map (λ read. (read.0, read.1.now)) result ≡ fraction_on parts text.now }
     ensures in_range { IfSome result (λ read.
