@@ -9,6 +9,7 @@ mod DigitTextLemmas
 mod EachBatchLemmas
 mod FrontTextLemmas
 mod MonthReplacedLemmas
+mod OrderLemmas
 mod SecondBatchLemmas
 mod StatusTextLemmas
 mod TextBatchLemmas
