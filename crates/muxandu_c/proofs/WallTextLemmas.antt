@@ -105,8 +105,8 @@ front_at-wall t long form second =
 
 -- ---- what follows them
 
-pub parts_at-wall : (text : List ℕ) (p : Parts) (o : Option Parts) → front_at text ≡ fraction_on p (drop 19 text) → o ≡ parts_on p (take (length text - 19) (drop 19 text))
-    → IfSome o (λ q. parts_at text ≡ Some q)
+pub parts_at-wall : (text : List ℕ) (p : Parts) (o : Option Parts) → front_at text ≡ fraction_on p (drop 19 text)
+    → o ≡ parts_on p (take (length text - 19) (drop 19 text)) → IfSome o (λ q. parts_at text ≡ Some q)
 unfolding parts_at
 parts_at-wall text p None e f = tt
 parts_at-wall text p (Some q) e f = rw e (sym (rw (take_rest text 19) at f))
