@@ -9,6 +9,7 @@ mod DigitTextLemmas
 mod EachBatchLemmas
 mod FrontTextLemmas
 mod MonthReplacedLemmas
+mod OrderLemmas
 mod SecondBatchLemmas
 mod StatusTextLemmas
 mod TextBatchLemmas
@@ -16,5 +17,6 @@ mod TextBlockLemmas
 mod UnitLemmas
 mod UtcTextLemmas
 mod ValuesLemmas
+mod WallTextLemmas
 mod WeekDateLemmas
 mod WrittenTextLemmas

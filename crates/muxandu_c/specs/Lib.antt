@@ -18,5 +18,6 @@ pub mod TextBatches
 pub mod TextBlocks
 pub mod UtcTexts
 pub mod Values
+pub mod WallTexts
 pub mod WeekDates
 pub mod WrittenTexts

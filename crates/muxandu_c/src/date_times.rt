@@ -10,8 +10,8 @@ ghost use Rattle.muxandu_c.specs.Values.{date_time_difference, date_time_truncat
 
 use crate::parts::{
     apart, checked_difference, checked_offset, checked_sum, date_time_of, day_of, duration_of,
-    in_unit, instant_of_date_time, read_date_time, read_duration, read_timestamp, shown_as_if_utc,
-    sign, timestamp_of, to_offset, wall_of, wall_parts,
+    in_unit, instant_of_date_time, order, read_date_time, read_duration, read_timestamp,
+    shown_as_if_utc, sign, timestamp_of, to_offset, wall_of, wall_parts,
 };
 use crate::refused::{MuxanduStatus, Refused, answer, status_of};
 use crate::unit::{MuxanduUnit, read_unit};
@@ -264,8 +264,12 @@ pub extern "C" fn muxandu_date_time_truncate(
 fn date_time_compare(first: MuxanduDateTime, second: MuxanduDateTime) -> Result<i32, Refused>
     ensures { result ≡ date_time_compare first second }
 {
-    let first = read_date_time(first)?;
-    Ok(sign(first.cmp(&read_date_time(second)?)))
+    let at = read_date_time(first)?;
+    let other = read_date_time(second)?;
+    if first.year == second.year {
+        return Ok(sign(order(at, first.offset_seconds, other, second.offset_seconds)));
+    }
+    Ok(sign(at.cmp(&other)))
 }
 
 /// The order of two instants: -1 if `first` comes first, 0 if both are one instant, 1 if `second`

@@ -13,11 +13,15 @@ ghost use Rattle.muxandu_c.specs.Exchange.{date_time_to_rfc3339, timestamp_to_rf
 ghost use Rattle.muxandu_c.specs.Exchange.{read_parts, date_time_spelled, timestamp_spelled};
 ghost use Rattle.muxandu_c.specs.declared.refused.Refused.TheVariants as refused;
 
-use crate::parts::{date_time_of, instant_in_range, read_date_time, read_timestamp, timestamp_of};
+use crate::parts::{
+    date_time_of, instant_in_range, instant_in_range_at, read_date_time, read_timestamp,
+    timestamp_of,
+};
 use crate::refused::{MuxanduStatus, Refused, answer};
 use crate::texts::put;
 use crate::utc_texts::read_utc_text;
 use crate::values::{MuxanduDateTime, MuxanduTimestamp};
+use crate::wall_texts::read_wall_text;
 use crate::written_texts::{write_date_time, write_timestamp};
 use calendar_values::Text;
 use offset_times::OffsetDateTime;
@@ -138,20 +142,8 @@ pub extern "C" fn muxandu_timestamp_to_rfc3339_nanos(
     put(timestamp_to_rfc3339_nanos(at), buffer, size)
 }
 
-#[inline(always)]
-fn read_text(text: &[u8]) -> Result<OffsetDateTime, Refused>
-    ensures spelled { (p : Parts) → IsDateTime text.now p → result ≡ read_parts p }
-    ensures syntax { ((p : Parts) × IsDateTime text.now p) ⊎ (result ≡ Err refused.Syntax) }
-    ensures instant { IfOk result (λ at. IsInstant (instant_of at)) }
-{
-    match read_utc_text(text) {
-        Some(at) => Ok(at),
-        None => read_any_text(text),
-    }
-}
-
-// The same of a text of any length, byte by byte.
-#[inline(always)]
+// The date-time of a text of any form, byte by byte. It stands apart, since vector lanes read most texts.
+#[inline(never)]
 fn read_any_text(text: &[u8]) -> Result<OffsetDateTime, Refused>
     ensures spelled { (p : Parts) → IsDateTime text.now p → result ≡ read_parts p }
     ensures syntax { ((p : Parts) × IsDateTime text.now p) ⊎ (result ≡ Err refused.Syntax) }
@@ -221,7 +213,10 @@ pub(crate) fn date_time_from_rfc3339(text: &[u8]) -> Result<MuxanduDateTime, Ref
     ensures spelled { (p : Parts) → IsDateTime text.now p → result ≡ date_time_spelled p }
     ensures syntax { ((p : Parts) × IsDateTime text.now p) ⊎ (result ≡ Err refused.Syntax) }
 {
-    Ok(date_time_of(read_text(text)?))
+    match read_wall_text(text) {
+        Some((_, parts)) => Ok(parts),
+        None => Ok(date_time_of(read_any_text(text)?)),
+    }
 }
 
 /// The date-time and the offset in an RFC 3339 text, with nothing before or after it. Examples are
@@ -249,7 +244,14 @@ pub(crate) fn timestamp_from_rfc3339(text: &[u8]) -> Result<MuxanduTimestamp, Re
     ensures spelled { (p : Parts) → IsDateTime text.now p → result ≡ timestamp_spelled p }
     ensures syntax { ((p : Parts) × IsDateTime text.now p) ⊎ (result ≡ Err refused.Syntax) }
 {
-    Ok(timestamp_of(instant_in_range(read_text(text)?)))
+    // Those of 20 bytes in UTC are read without a test for a fraction or an offset.
+    if let Some(at) = read_utc_text(text) {
+        return Ok(timestamp_of(instant_in_range(at)));
+    }
+    if let Some((at, parts)) = read_wall_text(text) {
+        return Ok(timestamp_of(instant_in_range_at(at, parts.offset_seconds)));
+    }
+    Ok(timestamp_of(instant_in_range(read_any_text(text)?)))
 }
 
 /// The instant of an RFC 3339 text, as muxandu_date_time_from_rfc3339 reads it. Errors: those of

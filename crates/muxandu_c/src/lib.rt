@@ -35,4 +35,5 @@ pub mod unit;
 mod utc_texts;
 pub mod values;
 pub mod version;
+mod wall_texts;
 mod written_texts;

@@ -4,7 +4,8 @@ ghost use Rattle.calendar_values.specs.Calendar.{year_of, month_of, day_of_month
 ghost use Rattle.calendar_values.specs.Dates.{ShowsDate};
 ghost use Rattle.calendar_values.specs.Offsets.{IsOffset, offset_of_seconds};
 ghost use Rattle.calendar_values.specs.Range.{IsDay};
-ghost use Rattle.calendar_values.specs.WallClock.{IsInstant, IsWallClock};
+ghost use Rattle.calendar_values.specs.WallClock.{IsInstant, IsWallClock, unix_seconds_of};
+ghost use Rattle.std.specs.Ordering.{int_cmp};
 ghost use Rattle.plain_times.specs.Truncations.{wall_multiple_below};
 ghost use Rattle.offset_times.specs.Local.{local_multiple_below, instant_of, shown_at, wall_at, offset_nanos};
 ghost use Rattle.muxandu_c.specs.Answers.{as_refused};
@@ -131,13 +132,23 @@ pub(crate) fn instant_of_date_time(
 }
 
 // The instant of a date-time, which the range has.
-#[tactic(auto, unfolding(offset_times::specs::Local::instant_of))]
 #[inline(always)]
 pub(crate) fn instant_in_range(at: OffsetDateTime) -> Timestamp
     requires { IsInstant (instant_of at) }
     ensures { result ≡ instant_of at }
 {
-    wall_of(at) - seconds_of(at.offset().whole_seconds())
+    instant_in_range_at(at, at.offset().whole_seconds())
+}
+
+// The same of a date-time at an offset in seconds.
+#[tactic(auto, unfolding(offset_times::specs::Local::instant_of))]
+#[inline(always)]
+pub(crate) fn instant_in_range_at(at: OffsetDateTime, offset_seconds: i32) -> Timestamp
+    requires instant { IsInstant (instant_of at) }
+    requires offset { at.offset ≡ offset_seconds }
+    ensures { result ≡ instant_of at }
+{
+    wall_of(at) - seconds_of(offset_seconds)
 }
 
 // The duration of its parts together. Most have less than a second of nanoseconds, and carry none.
@@ -256,6 +267,37 @@ pub(crate) fn to_offset(at: OffsetDateTime, from: i32, to: i32) -> Result<Timest
     ensures { result ≡ instant_if_any (shown_at (instant_of at) to) }
 {
     checked_sum(wall_of(at), seconds_of(to - from))
+}
+
+// The order of two instants, by what clocks show and by the seconds of the offsets.
+#[inline(always)]
+pub(crate) fn order(
+    first: OffsetDateTime,
+    first_offset: i32,
+    second: OffsetDateTime,
+    second_offset: i32,
+) -> Ordering
+    requires first { first.offset ≡ first_offset }
+    requires second { second.offset ≡ second_offset }
+    requires first_in_range { IsOffset first.offset }
+    requires second_in_range { IsOffset second.offset }
+    ensures { result ≡ int_cmp (instant_of first) (instant_of second) }
+{
+    let (at, other) = (wall_of(first), wall_of(second));
+    let seconds = seconds_less(at, first_offset);
+    let other_seconds = seconds_less(other, second_offset);
+    seconds
+        .cmp(&other_seconds)
+        .then(at.nanosecond().cmp(&other.nanosecond()))
+}
+
+// The seconds of an instant, less those of an offset.
+#[inline(always)]
+fn seconds_less(at: Timestamp, offset_seconds: i32) -> i64
+    requires { IsOffset offset_seconds }
+    ensures { result ≡ unix_seconds_of at -ℤ offset_seconds }
+{
+    at.as_seconds() - offset_seconds as i64
 }
 
 // The date of a day number.

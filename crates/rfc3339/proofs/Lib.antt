@@ -21,4 +21,5 @@ pub mod TextOrderLemmas
 pub mod UnixLemmas
 mod WallLemmas
 pub mod WriteLemmas
+mod ZeroLemmas
 mod ZoneLemmas

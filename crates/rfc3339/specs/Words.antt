@@ -111,5 +111,5 @@ pub use Rattle.rfc3339.specs.Refusals.{component_name}
 pub use Rattle.rfc3339.specs.Texts.{HasFixedText, HasText, fraction_with}
 unfoldable pub use Rattle.rfc3339.specs.Texts.{digits_text, fixed_text, fixed_text_at, fraction_of_digits, rfc3339_text, text_with, time_offset_text}
 unfoldable pub use Rattle.rfc3339.specs.UnixTexts.{unix_text}
-pub use Rattle.rfc3339.specs.Walls.{fraction_on}
+pub use Rattle.rfc3339.specs.Walls.{fraction_on, parts_on}
 unfoldable pub use Rattle.rfc3339.specs.Walls.{wall_text}

@@ -22,7 +22,7 @@ pub use fault::syntax_fault;
 pub use front::{parse_rfc3339_front, parse_rfc3339_offset};
 pub use full_dates::{date_from_rfc3339, date_to_rfc3339};
 pub use leap::parse_rfc3339_leap;
-pub use parse::parse_rfc3339;
+pub use parse::{parse_rfc3339, parts_after_second};
 pub use parts::Parts;
 pub use refusal::{Component, TextRefusal};
 pub use texts::Rfc3339;

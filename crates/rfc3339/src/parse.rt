@@ -6,10 +6,11 @@ ghost use Rattle.rfc3339.specs.Form.{IsDateTime};
 ghost use Rattle.rfc3339.specs.Meaning.{meaning, offset_of, value_of, AreInRange};
 ghost use Rattle.rfc3339.specs.Reading.{reading_of};
 ghost use Rattle.rfc3339.specs.Texts.{HasText, rfc3339_text, HasFixedText, fixed_text};
+ghost use Rattle.rfc3339.specs.Walls.{parts_on};
 ghost use Rattle.rfc3339.specs.declared.parts.Parts.{Parts};
 ghost use Rattle.rfc3339.specs.declared.refusal.TextRefusal.TheVariants.{Syntax};
 
-use crate::reading::parts;
+use crate::reading::{after_second, parts};
 use crate::{Component, Parts, TextRefusal};
 use calendar_values::{Date, Month, Time, UtcOffset};
 use offset_times::OffsetDateTime;
@@ -53,6 +54,18 @@ pub fn parse_rfc3339(text: &[u8]) -> Result<OffsetDateTime, TextRefusal>
         Some(parts) => date_time(parts),
         None => Err(TextRefusal::Syntax),
     }
+}
+
+/// The numbers of a text whose date and time of day to the second were read already: those of
+/// `parts`, and those of a fraction and an offset in `text`, which follows the second. `None` if
+/// `text` has another form, or more bytes.
+#[inline(always)]
+pub fn parts_after_second(parts: Parts, text: &[u8]) -> Option<Parts>
+    requires { parts.year ≤ 9_999 }
+    ensures value { result ≡ parts_on parts text.now }
+{
+    let (parts, rest) = after_second(parts, text)?;
+    if rest.is_empty() { Some(parts) } else { None }
 }
 
 // What the numbers of a text mean.

@@ -191,7 +191,7 @@ fn after_minute(
 
 // The same, from what follows its second on.
 #[inline(always)]
-fn after_second(parts: Parts, text: &[u8]) -> Option<(Parts, &[u8])>
+pub(crate) fn after_second(parts: Parts, text: &[u8]) -> Option<(Parts, &[u8])>
     requires { parts.year ≤ 9_999 }
     ensures value { option_map (λ read. (read.0, read.1.now)) result ≡ fraction_on parts text.now }
     ensures in_range { IfSome result (λ read.

@@ -1,6 +1,6 @@
 //! Texts written into bytes of the caller's.
 ghost use Rattle.std.specs.Prelude.{◌≡◌, ◌≤◌, ◌<◌, ◌+◌, ◌++◌, length, take, drop, codes, if◌then◌else◌};
-ghost use Rattle.calendar_values.specs.Digits.{last_digits};
+ghost use Rattle.calendar_values.specs.Digits.{last_digits, fraction_digits};
 ghost use Rattle.rfc3339.specs.Meaning.{offset_of, value_of, AreInRange};
 ghost use Rattle.rfc3339.specs.Texts.{time_offset_text, rfc3339_text};
 ghost use Rattle.rfc3339.specs.Walls.{wall_text};
@@ -8,8 +8,6 @@ ghost use Rattle.stamp_times.specs.Texts.{fraction_text};
 
 use crate::Parts;
 use crate::pairs::pair;
-use crate::write::push_fraction;
-use calendar_values::Text;
 
 /// The bytes of the longest text that is written, as `1985-04-12T23:20:50.520000001+05:30`.
 pub const TEXT_ROOM: usize = 35;
@@ -102,6 +100,7 @@ fn put_fraction(bytes: &mut [u8], place: usize, nanosecond: u32) -> usize
 #[inline(never)]
 fn put_some_fraction(bytes: &mut [u8], place: usize, nanosecond: u32) -> usize
     requires nanosecond { nanosecond ≤ 999_999_999 }
+    requires some { 1 ≤ nanosecond }
     requires room { place + 10 ≤ length bytes.old }
     ensures value { bytes.new ≡ take place bytes.old ++ fraction_text nanosecond
         ++ drop result bytes.old }
@@ -122,17 +121,37 @@ fn put_some_fraction(bytes: &mut [u8], place: usize, nanosecond: u32) -> usize
     put_any_fraction(bytes, place, nanosecond)
 }
 
-// The same, one digit after another.
+// The same of any, by nine digits, of which the zeros at the end are left out.
 fn put_any_fraction(bytes: &mut [u8], place: usize, nanosecond: u32) -> usize
-    requires { place + 10 ≤ length bytes.old }
+    requires nanosecond { nanosecond ≤ 999_999_999 }
+    requires some { 1 ≤ nanosecond }
+    requires room { place + 10 ≤ length bytes.old }
     ensures value { bytes.new ≡ take place bytes.old ++ fraction_text nanosecond
         ++ drop result bytes.old }
     ensures place { result ≡ place + length (fraction_text nanosecond) }
     ensures at_most { result ≤ place + 10 }
 {
-    let mut text = Text::new();
-    push_fraction(&mut text, nanosecond);
-    put(bytes, place, text.as_bytes())
+    let digits = nine_digits(nanosecond);
+    let end = 1 + count_before_zeros(nanosecond);
+    put(bytes, place, &digits[..end])
+}
+
+// How many of the nine digits of a fraction come before the zeros at its end, and 1 where all are zeros.
+#[inline(always)]
+fn count_before_zeros(nanosecond: u32) -> usize
+    ensures value { take result (last_digits 9 nanosecond) ≡ fraction_digits 9 nanosecond }
+    ensures at_most { result ≤ 9 }
+{
+    let mut rest = nanosecond;
+    let mut count = 9;
+    while count > 1 {
+        if rest % 10 != 0 {
+            return count;
+        }
+        rest /= 10;
+        count -= 1;
+    }
+    count
 }
 
 // A point and nine digits.

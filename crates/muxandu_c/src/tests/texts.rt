@@ -83,6 +83,7 @@ fn texts_of_timestamps(rt: HostRuntime) {
 fn texts_read(rt: HostRuntime) {
     for (text, expected) in [
         ("1996-12-19T16:39:57-08:00", (0, 1996, 16, -28_800)),
+        ("1996-12-19t16:39:57-08:00", (0, 1996, 16, -28_800)),
         ("1996-12-19T16:39:57", (22, 7, 0, 7)),
         ("1996-02-30T16:39:57Z", (4, 7, 0, 7)),
         ("1996-02-32T16:39:57Z", (3, 7, 0, 7)),
@@ -112,6 +113,18 @@ fn timestamps_read(rt: HostRuntime) {
         (status, out.seconds, out.nanoseconds),
         (0, 482_196_050, 520_000_000),
     );
+    for text in [
+        "1996-12-20T00:39:57Z",
+        "1996-12-19T16:39:57-08:00",
+        "1996-12-19t16:39:57-08:00",
+    ] {
+        let (status, out) = called!(muxandu_timestamp_from_rfc3339(text.as_bytes()), at(7, 7));
+        is(
+            &rt,
+            (status, out.seconds, out.nanoseconds),
+            (0, 851_042_397, 0),
+        );
+    }
 }
 
 #[test]

@@ -1,9 +1,10 @@
-//! Texts written from their numbers. What is expected is an example of RFC 3339, section 5.8, with other fractions and offsets.
+//! Texts written from their numbers, and numbers read. What is expected is an example of RFC 3339, section 5.8, with other fractions and
+//! offsets.
 ghost use Rattle.std.specs.Prelude.{◌≡◌, ◌≤◌};
 ghost use Rattle.rfc3339.specs.Meaning.{AreInRange};
 
 use super::is;
-use rfc3339::{Parts, TEXT_ROOM, write_rfc3339_parts};
+use rfc3339::{Parts, TEXT_ROOM, parts_after_second, write_rfc3339_parts};
 use std::process::Abort;
 
 // The numbers of the first example, with this fraction and this offset.
@@ -65,4 +66,25 @@ fn texts_of_parts(rt: HostRuntime) {
         "1985-04-12T23:20:50.000000001-08:00",
     );
     is_text(&rt, parts(0, false, 0, 20), "1985-04-12T23:20:50+00:20");
+}
+
+// Whether this is read behind a second of the first example: the nanosecond and the offset, or nothing.
+fn is_read(rt: &impl Abort, text: &str, expected: Option<(u32, bool, u8, u8)>) {
+    let read = parts_after_second(parts(0, false, 0, 0), text.as_bytes());
+    let found = read.map(|it| (it.nanosecond, it.is_west, it.offset_hour, it.offset_minute));
+    is(rt, found, expected);
+    is(
+        rt,
+        read.map(|it| (it.year, it.month, it.second)),
+        expected.map(|_| (1985, 4, 50)),
+    );
+}
+
+#[test]
+fn parts_behind_a_second(rt: HostRuntime) {
+    is_read(&rt, "Z", Some((0, false, 0, 0)));
+    is_read(&rt, ".52-08:30", Some((520_000_000, true, 8, 30)));
+    for text in ["", ".52", "Z ", "+08"] {
+        is_read(&rt, text, None);
+    }
 }

@@ -1,6 +1,6 @@
 // Made by make/erase of crates/rfc3339/src/parse.rt. Do not edit.
 //! Texts read.
-use crate::proved::rfc3339::reading::parts;
+use crate::proved::rfc3339::reading::{after_second, parts};
 use crate::proved::rfc3339::{Component, Parts, TextRefusal};
 use crate::proved::calendar_values::{Date, Month, Time, UtcOffset};
 use crate::proved::offset_times::OffsetDateTime;
@@ -45,6 +45,24 @@ pub fn parse_rfc3339(text: &[u8]) -> Result<OffsetDateTime, TextRefusal> {
         Some(parts) => date_time(parts),
         None => Err(TextRefusal::Syntax),
     }
+}
+
+/// The numbers of a text whose date and time of day to the second were read already: those of
+/// `parts`, and those of a fraction and an offset in `text`, which follows the second. `None` if
+/// `text` has another form, or more bytes.
+///
+/// # Contract
+///
+/// ```text
+/// requires { parts.year ≤ 9_999 }
+/// ensures value { result ≡ parts_on parts text.now }
+/// ```
+///
+/// [docs/STATEMENT.md](crate::proved#contracts) explains the words.
+#[inline(always)]
+pub(in crate::proved) fn parts_after_second(parts: Parts, text: &[u8]) -> Option<Parts> {
+    let (parts, rest) = after_second(parts, text)?;
+    if rest.is_empty() { Some(parts) } else { None }
 }
 
 // What the numbers of a text mean.

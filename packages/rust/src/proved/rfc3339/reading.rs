@@ -237,7 +237,7 @@ fn after_minute(
 ///
 /// [docs/proofs/STATEMENT.md](crate::proved#contracts) explains the words.
 #[inline(always)]
-fn after_second(parts: Parts, text: &[u8]) -> Option<(Parts, &[u8])> {
+pub(crate) fn after_second(parts: Parts, text: &[u8]) -> Option<(Parts, &[u8])> {
     let (nanosecond, text) = fraction(text)?;
     let ((is_west, offset_hour, offset_minute), text) = zone(text)?;
     let parts = Parts {

@@ -2,8 +2,6 @@
 //! Texts written into bytes of the caller's.
 use crate::proved::rfc3339::Parts;
 use crate::proved::rfc3339::pairs::pair;
-use crate::proved::rfc3339::write::push_fraction;
-use crate::proved::calendar_values::Text;
 
 /// The bytes of the longest text that is written, as `1985-04-12T23:20:50.520000001+05:30`.
 pub const TEXT_ROOM: usize = 35;
@@ -112,6 +110,7 @@ fn put_fraction(bytes: &mut [u8], place: usize, nanosecond: u32) -> usize {
 ///
 /// ```text
 /// requires nanosecond { nanosecond ≤ 999_999_999 }
+/// requires some { 1 ≤ nanosecond }
 /// requires room { place + 10 ≤ length bytes.old }
 /// ensures value { bytes.new ≡ take place bytes.old ++ fraction_text nanosecond
 ///     ++ drop result bytes.old }
@@ -136,11 +135,13 @@ fn put_some_fraction(bytes: &mut [u8], place: usize, nanosecond: u32) -> usize {
     put_any_fraction(bytes, place, nanosecond)
 }
 
-// The same, one digit after another.
+// The same of any, by nine digits, of which the zeros at the end are left out.
 /// # Contract
 ///
 /// ```text
-/// requires { place + 10 ≤ length bytes.old }
+/// requires nanosecond { nanosecond ≤ 999_999_999 }
+/// requires some { 1 ≤ nanosecond }
+/// requires room { place + 10 ≤ length bytes.old }
 /// ensures value { bytes.new ≡ take place bytes.old ++ fraction_text nanosecond
 ///     ++ drop result bytes.old }
 /// ensures place { result ≡ place + length (fraction_text nanosecond) }
@@ -150,9 +151,32 @@ fn put_some_fraction(bytes: &mut [u8], place: usize, nanosecond: u32) -> usize {
 /// [docs/proofs/STATEMENT.md](crate::proved#contracts) explains the words.
 #[inline]
 fn put_any_fraction(bytes: &mut [u8], place: usize, nanosecond: u32) -> usize {
-    let mut text = Text::new();
-    push_fraction(&mut text, nanosecond);
-    put(bytes, place, text.as_bytes())
+    let digits = nine_digits(nanosecond);
+    let end = 1 + count_before_zeros(nanosecond);
+    put(bytes, place, &digits[..end])
+}
+
+// How many of the nine digits of a fraction come before the zeros at its end, and 1 where all are zeros.
+/// # Contract
+///
+/// ```text
+/// ensures value { take result (last_digits 9 nanosecond) ≡ fraction_digits 9 nanosecond }
+/// ensures at_most { result ≤ 9 }
+/// ```
+///
+/// [docs/STATEMENT.md](crate::proved#contracts) explains the words.
+#[inline(always)]
+const fn count_before_zeros(nanosecond: u32) -> usize {
+    let mut rest = nanosecond;
+    let mut count = 9;
+    while count > 1 {
+        if rest % 10 != 0 {
+            return count;
+        }
+        rest /= 10;
+        count -= 1;
+    }
+    count
 }
 
 // A point and nine digits.
