@@ -58,7 +58,7 @@ pub fn parse_rfc3339(text: &[u8]) -> Result<OffsetDateTime, TextRefusal> {
 /// ensures value { result ≡ parts_on parts text.now }
 /// ```
 ///
-/// [docs/STATEMENT.md](crate::proved#contracts) explains the words.
+/// [docs/proofs/STATEMENT.md](crate::proved#contracts) explains the words.
 #[inline(always)]
 pub(in crate::proved) fn parts_after_second(parts: Parts, text: &[u8]) -> Option<Parts> {
     let (parts, rest) = after_second(parts, text)?;

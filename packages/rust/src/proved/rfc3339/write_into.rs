@@ -164,7 +164,7 @@ fn put_any_fraction(bytes: &mut [u8], place: usize, nanosecond: u32) -> usize {
 /// ensures at_most { result ≤ 9 }
 /// ```
 ///
-/// [docs/STATEMENT.md](crate::proved#contracts) explains the words.
+/// [docs/proofs/STATEMENT.md](crate::proved#contracts) explains the words.
 #[inline(always)]
 const fn count_before_zeros(nanosecond: u32) -> usize {
     let mut rest = nanosecond;
