@@ -1,11 +1,13 @@
 -- What is read in the case that is written is read in any case.
 use Rattle.std.proofs.Common.{◌≡◌, ap, sym, ℕ, zero, suc, ◌<◌, ◌≤◌, ◌==◌, List, [], ◌∷◌, ◌++◌, refl, arith, Bool, true, false, Option, Some, None}
-use Rattle.std.proofs.Common.{Result, Ok, Err, inl, inr}
+use Rattle.std.proofs.Common.{Result, Ok, Err, inl, inr, length}
+use Rattle.std.specs.Prelude.{IsTrue}
 use Rattle.std.proofs.lemmas.Bool.{cases_Bool}
 use Rattle.std.proofs.lemmas.Bool.Decides.{nat_tests}
 use Rattle.rfc3339.specs.Reading.{◌>>=◌}
+use Rattle.format_descriptions.specs.Groups.{has_no_group}
 use Rattle.format_descriptions.specs.Names.{name_of_month, name_of_weekday}
-use Rattle.format_descriptions.specs.Read.{component_at, agrees, with_part, part_given, part_at, item_at, going_on, items_at}
+use Rattle.format_descriptions.specs.Read.{component_at, agrees, with_part, part_given, part_at, item_at, going_on, Front, read_from, at_end, items_at}
 use Rattle.format_descriptions.specs.Reading.{letter_at, word_at, named, half_of, month_at, weekday_at, period_at, unsigned}
 use Rattle.format_descriptions.specs.CaseLaws.{in_any_case, items_in_any_case}
 use Rattle.format_descriptions.specs.Written.{shortened, period_text}
@@ -15,7 +17,7 @@ use Rattle.format_descriptions.specs.declared.component.Component.TheVariants.{W
 use Rattle.format_descriptions.specs.declared.component.Component.TheVariants.{Second, Subsecond}
 use Rattle.format_descriptions.specs.declared.component.Component.TheVariants.{OffsetHour, OffsetMinute, OffsetSecond, UnixTimestamp, Ignore, End}
 use Rattle.format_descriptions.specs.declared.item.Item.{Item}
-use Rattle.format_descriptions.specs.declared.item.Item.TheVariants.{Byte, Part}
+use Rattle.format_descriptions.specs.declared.item.Item.TheVariants.{Byte, Part, Optional, First, Or}
 use Rattle.format_descriptions.specs.declared.modifiers.Case.{Case}
 use Rattle.format_descriptions.specs.declared.modifiers.NameForm.{NameForm}
 use Rattle.format_descriptions.specs.declared.modifiers.ReadCase.TheVariants.{Same, Any}
@@ -169,17 +171,40 @@ part-on : (c : Component) (text : List ℕ) (p : Parts) (o : Option ((Bool × �
 part-on c text p None q e h = absurd cc
 part-on c text p (Some read) q e h = rw (component-any c text read e, given-any c p read) h
 
-going-any : (text : List ℕ) (f g : Parts × List ℕ → Result Parts ℕ) (a b : Option (Parts × List ℕ)) (parts : Parts)
-    → ((q : Parts × List ℕ) → a ≡ Some q → b ≡ Some q) → ((q : Parts × List ℕ) → f q ≡ Ok parts → g q ≡ Ok parts)
-    → going_on text f a ≡ Ok parts → going_on text g b ≡ Ok parts
-going-any text f g None b parts first others h = absurd cc
-going-any text f g (Some q) b parts first others h = rw (first q refl) (others q h)
+going-any : (text : List ℕ) (f g : Parts × List ℕ → Front) (a b : Option (Parts × List ℕ)) (read : Parts × List ℕ)
+    → ((q : Parts × List ℕ) → a ≡ Some q → b ≡ Some q) → ((q : Parts × List ℕ) → f q ≡ Ok read → g q ≡ Ok read)
+    → going_on text f a ≡ Ok read → going_on text g b ≡ Ok read
+going-any text f g None b read first others h = absurd cc
+going-any text f g (Some q) b read first others h = rw (first q refl) (others q h)
 
--- a text that items read is read by them in any case
-pub items-any : (items : List Item) (text : List ℕ) (p parts : Parts) → items_at items text p ≡ Ok parts → items_at (items_in_any_case items) text p ≡ Ok parts
-unfolding items_at item_at
-items-any [] text p parts h = h
-items-any (Byte byte ∷ items) text p parts h =
-    going-any text _ _ _ _ parts (λ q e. e) (λ q e. items-any items q.1 q.0 parts e) h
-items-any (Part c ∷ items) text p parts h =
-    going-any text _ _ _ _ parts (λ q e. part-on c text p _ q refl e) (λ q e. items-any items q.1 q.0 parts e) h
+-- a text that items without groups read is read by them in any case
+front-any : (items : List Item) (count : ℕ) (text : List ℕ) (p : Parts) (q : Parts × List ℕ) → IsTrue (has_no_group items)
+    → read_from items 0 count None text p ≡ Ok q → read_from (items_in_any_case items) 0 count None text p ≡ Ok q
+unfolding read_from item_at
+front-any [] count text p q none h = h
+front-any (Byte byte ∷ items) zero text p q none h = h
+front-any (Byte byte ∷ items) (suc count) text p q none h =
+    going-any text _ _ _ _ q (λ r e. e) (λ r e. front-any items count r.1 r.0 q none e) h
+front-any (Part c ∷ items) zero text p q none h = h
+front-any (Part c ∷ items) (suc count) text p q none h =
+    going-any text _ _ _ _ q (λ r e. part-on c text p _ r refl e) (λ r e. front-any items count r.1 r.0 q none e) h
+front-any (Optional size ∷ items) count text p q none h = absurd cc
+front-any (First size ∷ items) count text p q none h = absurd cc
+front-any (Or size ∷ items) count text p q none h = absurd cc
+
+length-any : (items : List Item) → length (items_in_any_case items) ≡ length items
+length-any [] = refl
+length-any (Byte byte ∷ items) = rw (length-any items) refl
+length-any (Part c ∷ items) = rw (length-any items) refl
+length-any (Optional size ∷ items) = rw (length-any items) refl
+length-any (First size ∷ items) = rw (length-any items) refl
+length-any (Or size ∷ items) = rw (length-any items) refl
+
+end-any : (a b : Front) (parts : Parts) → ((q : Parts × List ℕ) → a ≡ Ok q → b ≡ Ok q) → at_end a ≡ Ok parts → at_end b ≡ Ok parts
+end-any (Err left) b parts same h = absurd cc
+end-any (Ok read) b parts same h = rw (same read refl) h
+
+pub items-any : (items : List Item) (text : List ℕ) (p parts : Parts) → IsTrue (has_no_group items) → items_at items text p ≡ Ok parts
+    → items_at (items_in_any_case items) text p ≡ Ok parts
+items-any items text p parts none h =
+    rw (length-any items) (end-any _ _ parts (λ q e. front-any items (length items) text p q none e) h)

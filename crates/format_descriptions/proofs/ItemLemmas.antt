@@ -1,37 +1,68 @@
--- Items written one after another.
-use Rattle.std.proofs.Common.{◌≡◌, ℕ, ◌+◌, ◌<◌, ◌≤◌, ℤ, List, ◌++◌, length, drop, get_or, append_assoc, append-nil, length-append, sym, ap, refl, ◌∙◌, arith}
-use Rattle.std.proofs.Common.{inl, inr}
-use Rattle.std.proofs.Math.Numerals.{add-one}
+-- Items written one after another, and their groups.
+use Rattle.std.proofs.Common.{◌≡◌, ℕ, zero, suc, ◌+◌, ◌-◌, ◌<◌, ◌≤◌, ℤ, Bool, true, false, List, [], ◌∷◌, ◌++◌, length, drop, min, get_or, append_assoc, append-nil}
+use Rattle.std.proofs.Common.{length-append, sym, ap, refl, ◌∙◌, arith, inl, inr, Option, Some, None}
 use Rattle.std.proofs.lemmas.Bool.{cases_order}
 use Rattle.std.specs.Prelude.{IsAscii}
-use Rattle.std.proofs.Math.Seq.{drop-cons}
-use Rattle.std.proofs.lemmas.List.{drop_all, get_or-append-add, get_or_append_left, get_or_past}
+use Rattle.std.proofs.lemmas.List.{get_or-append-add, get_or_append_left, get_or_past}
 use Rattle.calendar_values.specs.Digits.{text_capacity}
-use Rattle.format_descriptions.specs.Written.{items_text, item_text, Fits}
+use Rattle.format_descriptions.specs.Groups.{size_of, is_other, written_from}
+use Rattle.format_descriptions.specs.Kinds.{flat_lacking, by_kind}
+use Rattle.format_descriptions.specs.Written.{flat_text, item_text, Fits}
+use Rattle.format_descriptions.specs.declared.component.Component.{Component}
 use Rattle.format_descriptions.specs.declared.item.Item.{Item}
+use Rattle.format_descriptions.specs.declared.item.Item.TheVariants.{Byte, Part, Optional, First, Or}
+use Rattle.format_descriptions.proofs.GroupLemmas.{written_from-drop}
 
--- the item at a place, and then the others
-items_text-next : (items : List Item) (k : ℕ) (d : Item) (day : ℤ) (clock : ℕ) (o : ℤ) → k < length items
-    → items_text (drop k items) day clock o ≡ item_text (get_or items k d) day clock o ++ items_text (drop (k + 1) items) day clock o
-unfolding items_text
-items_text-next items k d day clock o below = rw (add-one, drop-cons items k d below) refl
-
--- what is written so far, the next piece, and the others, are all
-pub goes_on : (items : List Item) (k : ℕ) (d : Item) (day : ℤ) (clock : ℕ) (o : ℤ) (old all piece : List ℕ) → k < length items
-    → old ++ items_text (drop k items) day clock o ≡ all → piece ≡ item_text (get_or items k d) day clock o
-    → (old ++ piece) ++ items_text (drop (k + 1) items) day clock o ≡ all
-goes_on items k d day clock o old all piece below so is =
+-- what two lists of items write
+flat_text-append : (first second : List Item) (day : ℤ) (clock : ℕ) (o : ℤ)
+    → flat_text (first ++ second) day clock o ≡ flat_text first day clock o ++ flat_text second day clock o
+unfolding flat_text
+flat_text-append [] second day clock o = refl
+flat_text-append (item ∷ first) second day clock o =
     rw (
-      is,
-      append_assoc old (item_text (get_or items k d) day clock o) (items_text (drop (k + 1) items) day clock o),
-      ← items_text-next items k d day clock o below,
-    ) so
+      flat_text-append first second day clock o,
+      append_assoc (item_text item day clock o) (flat_text first day clock o) (flat_text second day clock o),
+    ) refl
 
--- there is nothing left
-pub all_written : (items : List Item) (k : ℕ) (day : ℤ) (clock : ℕ) (o : ℤ) (text all : List ℕ) → length items ≤ k
-    → text ++ items_text (drop k items) day clock o ≡ all → text ≡ all
-unfolding items_text
-all_written items k day clock o text all over so = sym (append-nil text) ∙ rw (drop_all k items over) at so
+-- an item that is no head, and then the others
+pub goes_on : (item : Item) (items others : List Item) (count n : ℕ) (day : ℤ) (clock : ℕ) (o : ℤ) (old all piece : List ℕ) → items ≡ item ∷ others
+    → count ≡ suc n → None ≡ size_of item → old ++ flat_text (written_from items 0 count) day clock o ≡ all → piece ≡ item_text item day clock o
+    → (old ++ piece) ++ flat_text (written_from others 0 n) day clock o ≡ all
+unfolding flat_text written_from
+goes_on item items others count n day clock o old all piece front place plain so is =
+    rw (is, append_assoc old (item_text item day clock o) (flat_text (written_from others 0 n) day clock o)) (rw (front, place, ← plain) at so)
+
+-- the items of a group, and then the others
+pub group_goes_on : (item : Item) (items others : List Item) (size count n : ℕ) (day : ℤ) (clock : ℕ) (o : ℤ) (old all : List ℕ) → items ≡ item ∷ others
+    → count ≡ suc n → Some size ≡ size_of item → is_other item ≡ false → old ++ flat_text (written_from items 0 count) day clock o ≡ all
+    → (old ++ flat_text (written_from others 0 (min size n)) day clock o) ++ flat_text (written_from (drop size others) 0 (n - size)) day clock o ≡ all
+unfolding written_from
+group_goes_on item items others size count n day clock o old all front place head own so =
+    let own_text = flat_text (written_from others 0 (min size n)) day clock o in
+    let both = rw (front, place, ← head, own, flat_text-append (written_from others 0 (min size n)) (written_from others size (n - size)) day clock o) at so in
+    rw (append_assoc old own_text (flat_text (written_from (drop size others) 0 (n - size)) day clock o), ← written_from-drop others size (n - size)) both
+
+-- a group in place of another
+pub other_goes_on : (item : Item) (items others : List Item) (size count n : ℕ) (day : ℤ) (clock : ℕ) (o : ℤ) (old all : List ℕ) → items ≡ item ∷ others
+    → count ≡ suc n → Some size ≡ size_of item → is_other item ≡ true → old ++ flat_text (written_from items 0 count) day clock o ≡ all
+    → old ++ flat_text (written_from (drop size others) 0 (n - size)) day clock o ≡ all
+unfolding written_from
+other_goes_on item items others size count n day clock o old all front place head other so =
+    rw (← written_from-drop others size (n - size)) (rw (front, place, ← head, other) at so)
+
+-- there is nothing left, or nothing that is taken
+pub all_written : (items : List Item) (n : ℕ) (day : ℤ) (clock : ℕ) (o : ℤ) (text all : List ℕ) → length items ≡ 0
+    → text ++ flat_text (written_from items 0 n) day clock o ≡ all → text ≡ all
+unfolding flat_text written_from
+all_written [] n day clock o text all none so = sym (append-nil text) ∙ so
+all_written (item ∷ items) n day clock o text all none so = absurd (omega (arith, none))
+
+pub count_written : (items : List Item) (count : ℕ) (day : ℤ) (clock : ℕ) (o : ℤ) (text all : List ℕ) → count ≡ 0
+    → text ++ flat_text (written_from items 0 count) day clock o ≡ all → text ≡ all
+unfolding flat_text written_from
+count_written [] count day clock o text all none so = sym (append-nil text) ∙ so
+count_written (item ∷ items) zero day clock o text all none so = sym (append-nil text) ∙ so
+count_written (item ∷ items) (suc count) day clock o text all none so = absurd (omega (arith, none))
 
 IsAscii-right : (xs ys : List ℕ) → IsAscii (xs ++ ys) → IsAscii ys
 IsAscii-right xs ys h = λ i. omega (arith, get_or-append-add xs ys i 0, h (length xs + i))
@@ -51,3 +82,9 @@ not_ascii old piece others all other so fits = other (IsAscii-right old piece (I
 pub no_room : (old piece others all : List ℕ) → text_capacity < length old + length piece → (old ++ piece) ++ others ≡ all → ¬ Fits all
 no_room old piece others all more so fits =
     omega (arith, ap (length {A = ℕ}) so, length-append (old ++ piece) others, length-append old piece, fits.0)
+
+-- a group that does not fit
+pub group_unfit : (old own others all : List ℕ) → ¬ Fits (old ++ own) → (old ++ own) ++ others ≡ all → ¬ Fits all
+group_unfit old own others all other so fits =
+    other
+    (omega (arith, ap (length {A = ℕ}) so, length-append (old ++ own) others, fits.0), IsAscii-left (old ++ own) others (rw so fits.1))

@@ -1,5 +1,7 @@
 mod DigitLemmas
 mod NameLemmas
+mod GroupLemmas
+mod KindLemmas
 mod ItemLemmas
 mod ReadLemmas
 mod NumberAgainLemmas

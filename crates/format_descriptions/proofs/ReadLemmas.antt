@@ -1,36 +1,96 @@
--- Items read one after another.
-use Rattle.std.proofs.Common.{◌≡◌, ℕ, ◌+◌, ◌<◌, ◌≤◌, List, [], ◌∷◌, length, drop, get_or, refl, sym, add-one, Some, None, Result, Ok, Err}
-use Rattle.std.proofs.Common.{arith, true, false, nat_eq}
-use Rattle.std.proofs.lemmas.Bool.Decides.{nat_tests}
-use Rattle.std.proofs.Math.Seq.{drop-cons}
-use Rattle.std.proofs.lemmas.List.{drop_all}
-use Rattle.format_descriptions.specs.Read.{items_at, item_at, going_on, at_end}
+-- Items read one after another, and their groups.
+use Rattle.std.proofs.Common.{◌≡◌, ℕ, zero, suc, ◌-◌, Bool, true, false, List, [], ◌∷◌, length, drop, min, refl, sym, Option, Some, None, Result, Ok, Err}
+use Rattle.std.proofs.Common.{◌≤◌, arith}
+use Rattle.std.specs.Prelude.{IfSome}
+use Rattle.format_descriptions.specs.Groups.{size_of, is_other, fault_after}
+use Rattle.format_descriptions.specs.Read.{Front, Reader, item_at, read_from, read_end, read_instead, tried}
 use Rattle.format_descriptions.specs.declared.item.Item.{Item}
+use Rattle.format_descriptions.specs.declared.item.Item.TheVariants.{Byte, Part, Optional, First, Or}
 use Rattle.format_descriptions.specs.declared.parts.Parts.{Parts}
+use Rattle.format_descriptions.proofs.GroupLemmas.{read_from-drop}
 
--- the item at a place, and then the others
-items_at-next : (items : List Item) (k : ℕ) (d : Item) (text : List ℕ) (p : Parts) → k < length items
-    → items_at (drop k items) text p ≡ going_on text (λ read. items_at (drop (k + 1) items) read.1 read.0) (item_at (get_or items k d) text p)
-unfolding items_at
-items_at-next items k d text p below = rw (add-one, drop-cons items k d below) refl
+-- the end of the items, and that of those which are taken
+pub read_ends : (items : List Item) (count : ℕ) (fault : Option ℕ) (text : List ℕ) (p : Parts) (all : Front) → count ≡ 0
+    → read_from items 0 count fault text p ≡ all → all ≡ read_end fault text p
+unfolding read_from
+read_ends [] count fault text p all none so = sym so
+read_ends (item ∷ items) zero fault text p all none so = sym so
+read_ends (item ∷ items) (suc count) fault text p all none so = absurd (omega (arith, none))
 
-pub read_on : (items : List Item) (k : ℕ) (d : Item) (text : List ℕ) (p q : Parts) (rest : List ℕ) (all : Result Parts ℕ) → k < length items
-    → items_at (drop k items) text p ≡ all → Some (q, rest) ≡ item_at (get_or items k d) text p → items_at (drop (k + 1) items) rest q ≡ all
-read_on items k d text p q rest all below so is = rw (items_at-next items k d text p below, ← is) at so
+pub read_none : (items : List Item) (count : ℕ) (fault : Option ℕ) (text : List ℕ) (p : Parts) (all : Front) → length items ≡ 0
+    → read_from items 0 count fault text p ≡ all → all ≡ read_end fault text p
+unfolding read_from
+read_none [] count fault text p all none so = sym so
+read_none (item ∷ items) count fault text p all none so = absurd (omega (arith, none))
 
-pub read_stops : (items : List Item) (k : ℕ) (d : Item) (text : List ℕ) (p : Parts) (all : Result Parts ℕ) → k < length items
-    → items_at (drop k items) text p ≡ all → None ≡ item_at (get_or items k d) text p → all ≡ Err (length text)
-read_stops items k d text p all below so is = sym (rw (items_at-next items k d text p below, ← is) at so)
+-- an item that is no head
+pub read_on : (item : Item) (items others : List Item) (count n : ℕ) (fault : Option ℕ) (text rest : List ℕ) (p q : Parts) (all : Front)
+    → items ≡ item ∷ others → count ≡ suc n → fault ≡ None → None ≡ size_of item → Some (q, rest) ≡ item_at item text p
+    → read_from items 0 count fault text p ≡ all → read_from others 0 n None rest q ≡ all
+unfolding read_from
+read_on item items others count n fault text rest p q all front place none plain is so = rw (front, place, none, ← plain, ← is) at so
 
-pub read_all : (items : List Item) (k : ℕ) (text : List ℕ) (p : Parts) (all : Result Parts ℕ) → length items ≤ k
-    → items_at (drop k items) text p ≡ all → all ≡ at_end text p
-unfolding items_at
-read_all items k text p all over so = sym (rw (drop_all k items over) at so)
+pub read_stops : (item : Item) (items others : List Item) (count n : ℕ) (fault : Option ℕ) (text : List ℕ) (p : Parts) (all : Front)
+    → items ≡ item ∷ others → count ≡ suc n → fault ≡ None → None ≡ size_of item → None ≡ item_at item text p
+    → read_from items 0 count fault text p ≡ all → all ≡ Err (length text)
+unfolding read_from
+read_stops item items others count n fault text p all front place none plain is so = sym (rw (front, place, none, ← plain, ← is) at so)
 
-pub at_end-empty : (text : List ℕ) (p : Parts) (all : Result Parts ℕ) → true ≡ nat_eq (length text) 0 → all ≡ at_end text p → all ≡ Ok p
-at_end-empty [] p all none e = e
-at_end-empty (first ∷ text) p all none e = absurd (grind (arith, nat_tests, none))
+-- behind a fault an item that is no other group
+instead-none : (item : Item) (others : Reader) (count left : ℕ) (text : List ℕ) (p : Parts) (size : Option ℕ) → is_other item ≡ false
+    → read_instead item others count left text p size ≡ Err left
+instead-none item others count left text p None plain = refl
+instead-none item others count left text p (Some size) plain = rw plain refl
 
-pub at_end-more : (text : List ℕ) (p : Parts) (all : Result Parts ℕ) → false ≡ nat_eq (length text) 0 → all ≡ at_end text p → all ≡ Err (length text)
-at_end-more [] p all some e = absurd (grind (arith, nat_tests, some))
-at_end-more (first ∷ text) p all some e = e
+pub read_fault : (item : Item) (items others : List Item) (count n left : ℕ) (fault : Option ℕ) (text : List ℕ) (p : Parts) (all : Front)
+    → items ≡ item ∷ others → count ≡ suc n → fault ≡ Some left → is_other item ≡ false → read_from items 0 count fault text p ≡ all → all ≡ Err left
+unfolding read_from
+read_fault item items others count n left fault text p all front place some plain so =
+    sym (rw (front, place, some, instead-none item (λ s n f t q. read_from others s n f t q) n left text p (size_of item) plain) at so)
+
+pub read_fault_plain : (item : Item) (items others : List Item) (count n left : ℕ) (fault : Option ℕ) (text : List ℕ) (p : Parts) (all : Front)
+    → items ≡ item ∷ others → count ≡ suc n → fault ≡ Some left → None ≡ size_of item → read_from items 0 count fault text p ≡ all → all ≡ Err left
+unfolding read_from
+read_fault_plain item items others count n left fault text p all front place some plain so = sym (rw (front, place, some, ← plain) at so)
+
+-- a group in place of one that was read
+pub read_passed : (item : Item) (items others : List Item) (size count n : ℕ) (fault : Option ℕ) (text : List ℕ) (p : Parts) (all : Front)
+    → items ≡ item ∷ others → count ≡ suc n → fault ≡ None → Some size ≡ size_of item → is_other item ≡ true
+    → read_from items 0 count fault text p ≡ all → read_from (drop size others) 0 (n - size) None text p ≡ all
+unfolding read_from
+read_passed item items others size count n fault text p all front place none head other so =
+    rw (← read_from-drop others size (n - size) None text p) (rw (front, place, none, ← head, other) at so)
+
+-- a group that is tried: nothing is read behind a fault but another group
+pub tried_first : (item : Item) (items others : List Item) (size count n : ℕ) (fault : Option ℕ) (text : List ℕ) (p : Parts) (all : Front)
+    → items ≡ item ∷ others → count ≡ suc n → fault ≡ None → Some size ≡ size_of item → is_other item ≡ false
+    → read_from items 0 count fault text p ≡ all → tried item size (λ s n f t q. read_from others s n f t q) n fault text p ≡ all
+unfolding read_from
+tried_first item items others size count n fault text p all front place none head own so = rw none (rw (front, place, none, ← head, own) at so)
+
+pub tried_instead : (item : Item) (items others : List Item) (size count n left : ℕ) (fault : Option ℕ) (text : List ℕ) (p : Parts) (all : Front)
+    → items ≡ item ∷ others → count ≡ suc n → fault ≡ Some left → Some size ≡ size_of item → is_other item ≡ true
+    → read_from items 0 count fault text p ≡ all → tried item size (λ s n f t q. read_from others s n f t q) n (Some left) text p ≡ all
+unfolding read_from
+tried_instead item items others size count n left fault text p all front place some head other so =
+    rw (front, place, some, ← head, other) at so
+
+pub group_read : (item : Item) (others : List Item) (size n : ℕ) (fault : Option ℕ) (text rest : List ℕ) (p q : Parts) (all : Front)
+    → Ok (q, rest) ≡ read_from others 0 (min size n) None text p → tried item size (λ s n f t q. read_from others s n f t q) n fault text p ≡ all
+    → read_from (drop size others) 0 (n - size) None rest q ≡ all
+group_read item others size n fault text rest p q all is so = rw (← read_from-drop others size (n - size) None rest q) (rw (← is) at so)
+
+pub group_fault : (item : Item) (others : List Item) (size n left : ℕ) (fault : Option ℕ) (text : List ℕ) (p : Parts) (all : Front)
+    → Err left ≡ read_from others 0 (min size n) None text p → tried item size (λ s n f t q. read_from others s n f t q) n fault text p ≡ all
+    → read_from (drop size others) 0 (n - size) (fault_after item fault left) text p ≡ all
+group_fault item others size n left fault text p all is so =
+    rw (← read_from-drop others size (n - size) (fault_after item fault left) text p) (rw (← is) at so)
+
+-- the fault that waits is one of the text
+pub fault_after-within : (item : Item) (fault : Option ℕ) (left most : ℕ) → IfSome fault (λ l. l ≤ most) → left ≤ most
+    → IfSome (fault_after item fault left) (λ l. l ≤ most)
+fault_after-within (Byte byte) fault left most before within = before
+fault_after-within (Part component) fault left most before within = before
+fault_after-within (Optional size) fault left most before within = before
+fault_after-within (First size) fault left most before within = within
+fault_after-within (Or size) fault left most before within = before

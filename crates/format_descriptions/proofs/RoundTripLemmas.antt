@@ -20,12 +20,14 @@ use Rattle.calendar_values.specs.YearLemmas.{days_in_year_bounds}
 use Rattle.rfc3339.specs.FormLemmas.{mark_again}
 use Rattle.rfc3339.specs.Reading.{digit_at}
 use Rattle.format_descriptions.specs.Modifiers.{is_padded, is_mandatory, is_extended, digit_count}
+use Rattle.format_descriptions.specs.Groups.{written_items}
 use Rattle.format_descriptions.specs.Read.{items_at, item_at, component_at, with_part, no_parts}
 use Rattle.format_descriptions.specs.Reading.{fraction_at, sign_at, signed_year_at, signed_century_at, signed_hours_at}
-use Rattle.format_descriptions.specs.RoundTrips.{takes_digits, is_whole, begins_apart, starts_apart, is_clear, number_of, parts_of, AreParts, AreWritten}
-use Rattle.format_descriptions.specs.Written.{items_text, item_text, component_text, year_by, year_sign, year_text, four_text, century_text, century_digits}
+use Rattle.format_descriptions.specs.RoundTrips.{takes_digits, is_whole, begins_apart, starts_apart, are_clear, is_clear, number_of, flat_parts, parts_of, AreParts, AreWritten}
+use Rattle.format_descriptions.specs.Written.{items_text, flat_text, item_text, component_text, year_by, year_sign, year_text, four_text, century_text, century_digits}
 use Rattle.format_descriptions.specs.Written.{week_by, subsecond_text, offset_hour_text, hour_12, unix_count, unix_text}
 use Rattle.format_descriptions.proofs.DecimalLemmas.{unix-again}
+use Rattle.format_descriptions.proofs.GroupLemmas.{flat_at, items_at-written}
 use Rattle.format_descriptions.proofs.NameAgainLemmas.{month-again, weekday-again, period-again, no_digit-month, no_digit-weekday, no_digit-period}
 use Rattle.format_descriptions.proofs.NumberAgainLemmas.{two-again, three-again, four-again, more-again, nine-again, all-again}
 use Rattle.format_descriptions.proofs.NumberAgainLemmas.{weekday_number-again, no_sign-two, no_sign-four_text}
@@ -36,7 +38,7 @@ use Rattle.format_descriptions.specs.declared.component.Component.TheVariants.{W
 use Rattle.format_descriptions.specs.declared.component.Component.TheVariants.{Second, Subsecond}
 use Rattle.format_descriptions.specs.declared.component.Component.TheVariants.{OffsetHour, OffsetMinute, OffsetSecond, UnixTimestamp, Ignore, End}
 use Rattle.format_descriptions.specs.declared.item.Item.{Item}
-use Rattle.format_descriptions.specs.declared.item.Item.TheVariants.{Byte, Part}
+use Rattle.format_descriptions.specs.declared.item.Item.TheVariants.{Byte, Part, Optional, First, Or}
 use Rattle.format_descriptions.specs.declared.modifiers.Padding.{Padding}
 use Rattle.format_descriptions.specs.declared.modifiers.Sign.{Sign}
 use Rattle.format_descriptions.specs.declared.modifiers.Sign.TheVariants.{Automatic, Mandatory}
@@ -291,32 +293,46 @@ or_not true b h takes = h
 or_not false b h takes = absurd cc
 
 -- items that begin with no digit
-items-apart : (items : List Item) (day : ℤ) (clock : ℕ) (o : ℤ) → IsTrue (starts_apart items) → digit_at (items_text items day clock o) ≡ None
-unfolding items_text item_text digit_at
+items-apart : (items : List Item) (day : ℤ) (clock : ℕ) (o : ℤ) → IsTrue (starts_apart items) → digit_at (flat_text items day clock o) ≡ None
+unfolding flat_text item_text digit_at
 items-apart [] day clock o h = refl
-items-apart (Byte byte ∷ items) day clock o h = byte-apart byte (items_text items day clock o) h
-items-apart (Part c ∷ items) day clock o h = component-apart c day clock o (items_text items day clock o) h
+items-apart (Byte byte ∷ items) day clock o h = byte-apart byte (flat_text items day clock o) h
+items-apart (Optional size ∷ items) day clock o h = absurd cc
+items-apart (First size ∷ items) day clock o h = absurd cc
+items-apart (Or size ∷ items) day clock o h = absurd cc
+items-apart (Part c ∷ items) day clock o h = component-apart c day clock o (flat_text items day clock o) h
 
 -- the items, one after another
-pub items-again : (items : List Item) (day : ℤ) (clock : ℕ) (o : ℤ) (p : Parts) → IsTrue (is_clear items) → AreWritten day clock o → AreParts p day clock o
-    → items_at items (items_text items day clock o) p ≡ Ok (parts_of items day clock o p)
-unfolding items_at items_text item_text item_at
+pub items-again : (items : List Item) (day : ℤ) (clock : ℕ) (o : ℤ) (p : Parts) → IsTrue (are_clear items) → AreWritten day clock o → AreParts p day clock o
+    → flat_at items (flat_text items day clock o) p ≡ Ok (flat_parts items day clock o p, [])
+unfolding flat_at flat_text item_text item_at
 items-again [] day clock o p h w a = refl
-items-again (Byte byte ∷ items) day clock o p h w a = rw (mark_again byte (items_text items day clock o)) (items-again items day clock o p h w a)
+items-again (Byte byte ∷ items) day clock o p h w a = rw (mark_again byte (flat_text items day clock o)) (items-again items day clock o p h w a)
+items-again (Optional size ∷ items) day clock o p h w a = absurd cc
+items-again (First size ∷ items) day clock o p h w a = absurd cc
+items-again (Or size ∷ items) day clock o p h w a = absurd cc
 items-again (Part c ∷ items) day clock o p h w a =
-    let parts = and_parts (is_whole c) ((not (takes_digits c) || starts_apart items) && is_clear items) h in
-    let others = and_parts (not (takes_digits c) || starts_apart items) (is_clear items) parts.1 in
-    let apart : (IsTrue (takes_digits c) → digit_at (items_text items day clock o) ≡ None) =
+    let parts = and_parts (is_whole c) ((not (takes_digits c) || starts_apart items) && are_clear items) h in
+    let others = and_parts (not (takes_digits c) || starts_apart items) (are_clear items) parts.1 in
+    let apart : (IsTrue (takes_digits c) → digit_at (flat_text items day clock o) ≡ None) =
     λ takes. items-apart items day clock o (or_not (takes_digits c) (starts_apart items) others.0 takes)
     in
-    rw (component-again c day clock o (items_text items day clock o) parts.0 apart w, agrees-same c day clock o p a)
+    rw (component-again c day clock o (flat_text items day clock o) parts.0 apart w, agrees-same c day clock o p a)
     (items-again items day clock o (with_part c (number_of c day clock o) p) others.1 w (AreParts-next c day clock o p a))
 
 -- the parts of the items are those of the value
-pub AreParts-of : (items : List Item) (day : ℤ) (clock : ℕ) (o : ℤ) (p : Parts) → AreParts p day clock o → AreParts (parts_of items day clock o p) day clock o
+pub AreParts-of : (items : List Item) (day : ℤ) (clock : ℕ) (o : ℤ) (p : Parts) → AreParts p day clock o → AreParts (flat_parts items day clock o p) day clock o
 AreParts-of [] day clock o p a = a
 AreParts-of (Byte byte ∷ items) day clock o p a = AreParts-of items day clock o p a
+AreParts-of (Optional size ∷ items) day clock o p a = AreParts-of items day clock o p a
+AreParts-of (First size ∷ items) day clock o p a = AreParts-of items day clock o p a
+AreParts-of (Or size ∷ items) day clock o p a = AreParts-of items day clock o p a
 AreParts-of (Part c ∷ items) day clock o p a = AreParts-of items day clock o (with_part c (number_of c day clock o) p) (AreParts-next c day clock o p a)
+
+-- what a clear description writes is read back
+pub written-again : (items : List Item) (day : ℤ) (clock : ℕ) (o : ℤ) (p : Parts) → IsTrue (is_clear items) → AreWritten day clock o → AreParts p day clock o
+    → items_at items (items_text items day clock o) p ≡ Ok (parts_of items day clock o p)
+written-again items day clock o p h w a = items_at-written items _ p _ (items-again (written_items items) day clock o p h w a)
 
 -- a reading of parts
 abbrev same_ok : Parts → Result Parts ℕ
@@ -330,6 +346,6 @@ pub parts_of-unique : (items : List Item) (day other : ℤ) (clock later : ℕ) 
     → AreWritten other later p → items_text items day clock o ≡ items_text items other later p
     → parts_of items day clock o no_parts ≡ parts_of items other later p no_parts
 parts_of-unique items day other clock later o p h w v e =
-    let first = items-again items day clock o no_parts h w (AreParts-none day clock o) in
-    let second = items-again items other later p no_parts h v (AreParts-none other later p) in
+    let first = written-again items day clock o no_parts h w (AreParts-none day clock o) in
+    let second = written-again items other later p no_parts h v (AreParts-none other later p) in
     ok-same _ _ (sym first ∙ ap (λ (text : List ℕ). items_at items text no_parts) e ∙ second)

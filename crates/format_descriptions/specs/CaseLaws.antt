@@ -1,5 +1,6 @@
 -- What is read in the case that is written is read in any case, and gives the same parts.
-use Rattle.std.specs.Prelude.{◌≡◌, ℕ, List, [], ◌∷◌, Ok}
+use Rattle.std.specs.Prelude.{◌≡◌, ℕ, List, [], ◌∷◌, IsTrue, Ok}
+use Rattle.format_descriptions.specs.Groups.{has_no_group}
 use Rattle.format_descriptions.specs.Read.{items_at}
 use Rattle.format_descriptions.specs.declared.component.Component.{Component}
 use Rattle.format_descriptions.specs.declared.component.Component.TheVariants.{Year, YearCentury, YearLastTwo, Month, MonthName, Day, Ordinal}
@@ -7,7 +8,7 @@ use Rattle.format_descriptions.specs.declared.component.Component.TheVariants.{W
 use Rattle.format_descriptions.specs.declared.component.Component.TheVariants.{Second, Subsecond}
 use Rattle.format_descriptions.specs.declared.component.Component.TheVariants.{OffsetHour, OffsetMinute, OffsetSecond, UnixTimestamp, Ignore, End}
 use Rattle.format_descriptions.specs.declared.item.Item.{Item}
-use Rattle.format_descriptions.specs.declared.item.Item.TheVariants.{Byte, Part}
+use Rattle.format_descriptions.specs.declared.item.Item.TheVariants.{Byte, Part, Optional, First, Or}
 use Rattle.format_descriptions.specs.declared.modifiers.ReadCase.TheVariants.{Any}
 use Rattle.format_descriptions.specs.declared.parts.Parts.{Parts}
 
@@ -40,9 +41,12 @@ in_any_case End = End
 abbrev pub items_in_any_case : List Item → List Item
 items_in_any_case [] = []
 items_in_any_case (Byte byte ∷ items) = Byte byte ∷ items_in_any_case items
+items_in_any_case (Optional size ∷ items) = Optional size ∷ items_in_any_case items
+items_in_any_case (First size ∷ items) = First size ∷ items_in_any_case items
+items_in_any_case (Or size ∷ items) = Or size ∷ items_in_any_case items
 items_in_any_case (Part component ∷ items) = Part (in_any_case component) ∷ items_in_any_case items
 
--- a text that items read is read by them in any case, and has the same parts
+-- a text that items without groups read is read by them in any case, and has the same parts
 abbrev pub AnyCaseReadsTheSame : Type 0
 AnyCaseReadsTheSame =
-    (items : List Item) (text : List ℕ) (p parts : Parts) → items_at items text p ≡ Ok parts → items_at (items_in_any_case items) text p ≡ Ok parts
+    (items : List Item) (text : List ℕ) (p parts : Parts) → IsTrue (has_no_group items) → items_at items text p ≡ Ok parts → items_at (items_in_any_case items) text p ≡ Ok parts

@@ -1,12 +1,13 @@
 -- The first component of which a value has no part.
 use Rattle.std.specs.Prelude.{Bool, true, ◌&&◌, List, [], ◌∷◌, if◌then◌else◌, Option, Some, None}
+use Rattle.format_descriptions.specs.Groups.{written_items}
 use Rattle.format_descriptions.specs.declared.component.Component.{Component}
 use Rattle.format_descriptions.specs.declared.component.Component.TheVariants.{Year, YearCentury, YearLastTwo, Month, MonthName, Day, Ordinal}
 use Rattle.format_descriptions.specs.declared.component.Component.TheVariants.{WeekdayName, WeekdayNumber, WeekNumber, Hour, Hour12, Period, Minute}
 use Rattle.format_descriptions.specs.declared.component.Component.TheVariants.{Second, Subsecond}
 use Rattle.format_descriptions.specs.declared.component.Component.TheVariants.{OffsetHour, OffsetMinute, OffsetSecond, UnixTimestamp, Ignore, End}
 use Rattle.format_descriptions.specs.declared.item.Item.{Item}
-use Rattle.format_descriptions.specs.declared.item.Item.TheVariants.{Byte, Part}
+use Rattle.format_descriptions.specs.declared.item.Item.TheVariants.{Byte, Part, Optional, First, Or}
 
 -- one of three, by what a component is of: a date, a time of day or an offset; an instant is of all three, and some of none
 abbrev pub by_kind : Component → Bool → Bool → Bool → Bool
@@ -33,9 +34,16 @@ by_kind (UnixTimestamp precision sign) date time offset = date && (time && offse
 by_kind (Ignore count) date time offset = true
 by_kind End date time offset = true
 
--- the first component of another kind than those that a value has
-unfoldable pub lacking : Bool → Bool → Bool → List Item → Option Component
-lacking date time offset [] = None
-lacking date time offset (Byte byte ∷ items) = lacking date time offset items
-lacking date time offset (Part component ∷ items) =
-    if by_kind component date time offset then lacking date time offset items else Some component
+-- the first component of these items that is of another kind than those that a value has
+unfoldable pub flat_lacking : Bool → Bool → Bool → List Item → Option Component
+flat_lacking date time offset [] = None
+flat_lacking date time offset (Byte byte ∷ items) = flat_lacking date time offset items
+flat_lacking date time offset (Optional size ∷ items) = flat_lacking date time offset items
+flat_lacking date time offset (First size ∷ items) = flat_lacking date time offset items
+flat_lacking date time offset (Or size ∷ items) = flat_lacking date time offset items
+flat_lacking date time offset (Part component ∷ items) =
+    if by_kind component date time offset then flat_lacking date time offset items else Some component
+
+-- the first component that a description writes of another kind than those that a value has
+abbrev pub lacking : Bool → Bool → Bool → List Item → Option Component
+lacking date time offset items = flat_lacking date time offset (written_items items)

@@ -1,4 +1,5 @@
 pub mod Modifiers
+pub mod Groups
 pub mod Names
 pub mod DescriptionWords
 pub mod DescriptionNames

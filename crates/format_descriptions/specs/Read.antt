@@ -1,6 +1,7 @@
 -- What a text is read as by a description: each item takes its bytes from the front.
-use Rattle.std.specs.Prelude.{ℕ, ◌&&◌, Bool, true, List, [], ◌∷◌, length, if◌then◌else◌, Option, Some, None, Result, Ok, Err}
+use Rattle.std.specs.Prelude.{ℕ, zero, suc, ◌+◌, ◌-◌, min, ◌&&◌, Bool, true, List, [], ◌∷◌, length, if◌then◌else◌, Option, Some, None, Result, Ok, Err}
 use Rattle.rfc3339.specs.Reading.{◌>>=◌, mark_at}
+use Rattle.format_descriptions.specs.Groups.{size_of, is_other, fault_after}
 use Rattle.format_descriptions.specs.Modifiers.{digit_count, unix_digits}
 use Rattle.format_descriptions.specs.Reading.{two_at, three_at, fraction_at, unsigned, signed_year_at, signed_century_at, signed_hours_at, month_at}
 use Rattle.format_descriptions.specs.Reading.{weekday_at, weekday_number_at}
@@ -12,7 +13,7 @@ use Rattle.format_descriptions.specs.declared.component.Component.TheVariants.{W
 use Rattle.format_descriptions.specs.declared.component.Component.TheVariants.{Second, Subsecond}
 use Rattle.format_descriptions.specs.declared.component.Component.TheVariants.{OffsetHour, OffsetMinute, OffsetSecond, UnixTimestamp, Ignore, End}
 use Rattle.format_descriptions.specs.declared.item.Item.{Item}
-use Rattle.format_descriptions.specs.declared.item.Item.TheVariants.{Byte, Part}
+use Rattle.format_descriptions.specs.declared.item.Item.TheVariants.{Byte, Part, Optional, First, Or}
 use Rattle.format_descriptions.specs.declared.modifiers.UnixPrecision.TheVariants.{Seconds, Milliseconds, Microseconds, Nanoseconds}
 use Rattle.format_descriptions.specs.declared.modifiers.WeekRule.TheVariants.{Iso, Sunday, Monday}
 use Rattle.format_descriptions.specs.declared.modifiers.YearBase.TheVariants.{Calendar, IsoWeek}
@@ -117,25 +118,85 @@ part_given component p read = if agrees component read.0 p then Some (with_part 
 abbrev pub part_at : Component → List ℕ → Parts → Option (Parts × List ℕ)
 part_at component text p = component_at component text >>= λ read. part_given component p read
 
--- an item, with the parts so far
+-- an item, with the parts so far; the head of a group reads nothing
 unfoldable pub item_at : Item → List ℕ → Parts → Option (Parts × List ℕ)
 item_at (Byte byte) text p = mark_at byte text >>= λ rest. Some (p, rest)
 item_at (Part component) text p = part_at component text p
+item_at (Optional size) text p = Some (p, text)
+item_at (First size) text p = Some (p, text)
+item_at (Or size) text p = Some (p, text)
 
--- what follows an item, or how many bytes were left before one that could not be read
-abbrev pub going_on : List ℕ → (Parts × List ℕ → Result Parts ℕ) → Option (Parts × List ℕ) → Result Parts ℕ
+-- the parts and what follows, or how many bytes were left before an item that could not be read
+abbrev pub Front : Type 0
+Front = Result (Parts × List ℕ) ℕ
+
+-- what follows an item
+abbrev pub going_on : List ℕ → (Parts × List ℕ → Front) → Option (Parts × List ℕ) → Front
 going_on text next None = Err (length text)
 going_on text next (Some read) = next read
 
--- the end: the parts, or how many bytes are left
-abbrev pub at_end : List ℕ → Parts → Result Parts ℕ
-at_end [] p = Ok p
-at_end (first ∷ text) p = Err (length (first ∷ text))
+-- a group that was read, and what follows it, or else what follows its fault
+abbrev pub after_group : (ℕ → Front) → (Parts × List ℕ → Front) → Front → Front
+after_group faulty next (Err left) = faulty left
+after_group faulty next (Ok read) = next read
+
+-- the reading of items: a number of them is passed over and so many are taken, with the fault of a group, in place of which another can stand
+abbrev pub Reader : Type 0
+Reader = ℕ → ℕ → Option ℕ → List ℕ → Parts → Front
+
+-- a group that is read if it can be, and then the others
+abbrev pub tried : Item → ℕ → Reader → ℕ → Option ℕ → List ℕ → Parts → Front
+tried item size others count fault text p =
+    after_group (λ left. others size (count - size) (fault_after item fault left) text p)
+    (λ read. others size (count - size) None read.1 read.0)
+    (others 0 (min size count) None text p)
+
+-- an item behind which the others follow
+abbrev pub read_by : Item → Reader → ℕ → List ℕ → Parts → Option ℕ → Front
+read_by item others count text p None = going_on text (λ read. others 0 count None read.1 read.0) (item_at item text p)
+read_by item others count text p (Some size) =
+    if is_other item then others size (count - size) None text p else tried item size others count None text p
+
+-- the same behind a fault: only another group can stand there
+abbrev pub read_instead : Item → Reader → ℕ → ℕ → List ℕ → Parts → Option ℕ → Front
+read_instead item others count left text p None = Err left
+read_instead item others count left text p (Some size) =
+    if is_other item then tried item size others count (Some left) text p else Err left
+
+-- an item behind a fault, or behind none
+abbrev pub read_item : Item → Reader → ℕ → Option ℕ → List ℕ → Parts → Front
+read_item item others count None text p = read_by item others count text p (size_of item)
+read_item item others count (Some left) text p = read_instead item others count left text p (size_of item)
+
+-- the end of the items, behind a fault or behind none
+abbrev pub read_end : Option ℕ → List ℕ → Parts → Front
+read_end None text p = Ok (p, text)
+read_end (Some left) text p = Err left
+
+-- items from the front of a text
+unfoldable pub read_from : List Item → ℕ → ℕ → Option ℕ → List ℕ → Parts → Front
+read_from [] skip count fault text p = read_end fault text p
+read_from (item ∷ items) (suc skip) count fault text p = read_from items skip count fault text p
+read_from (item ∷ items) zero zero fault text p = read_end fault text p
+read_from (item ∷ items) zero (suc count) fault text p = read_item item (λ s n f t q. read_from items s n f t q) count fault text p
+
+-- all items, from the front of a text
+abbrev pub front_of : List Item → List ℕ → Parts → Front
+front_of items text p = read_from items 0 (length items) None text p
+
+-- the parts, or how many bytes are left
+abbrev pub whole : Parts → List ℕ → Result Parts ℕ
+whole p [] = Ok p
+whole p (first ∷ text) = Err (length (first ∷ text))
+
+-- the end
+abbrev pub at_end : Front → Result Parts ℕ
+at_end (Err left) = Err left
+at_end (Ok read) = whole read.0 read.1
 
 -- the items, and then the end
-unfoldable pub items_at : List Item → List ℕ → Parts → Result Parts ℕ
-items_at [] text p = at_end text p
-items_at (item ∷ items) text p = going_on text (λ read. items_at items read.1 read.0) (item_at item text p)
+abbrev pub items_at : List Item → List ℕ → Parts → Result Parts ℕ
+items_at items text p = at_end (front_of items text p)
 
 -- no part is known
 abbrev pub no_parts : Parts

@@ -6,6 +6,7 @@ use Rattle.calendar_values.specs.Calendar.{year_of, month_of, day_of_month_of, o
 use Rattle.calendar_values.specs.Clock.{IsClock, hour_of, minute_of, second_of, nanosecond_of}
 use Rattle.calendar_values.specs.Offsets.{IsOffset}
 use Rattle.calendar_values.specs.Weeks.{weekday_of, iso_year_of, iso_week_of, sunday_week_of, monday_week_of}
+use Rattle.format_descriptions.specs.Groups.{written_items}
 use Rattle.format_descriptions.specs.Modifiers.{is_mandatory, is_padded, is_extended, is_calendar, digit_count}
 use Rattle.format_descriptions.specs.Written.{items_text, hour_12, year_by, week_by, unix_count}
 use Rattle.format_descriptions.specs.Read.{items_at, with_part, no_parts}
@@ -15,7 +16,7 @@ use Rattle.format_descriptions.specs.declared.component.Component.TheVariants.{W
 use Rattle.format_descriptions.specs.declared.component.Component.TheVariants.{Second, Subsecond}
 use Rattle.format_descriptions.specs.declared.component.Component.TheVariants.{OffsetHour, OffsetMinute, OffsetSecond, UnixTimestamp, Ignore, End}
 use Rattle.format_descriptions.specs.declared.item.Item.{Item}
-use Rattle.format_descriptions.specs.declared.item.Item.TheVariants.{Byte, Part}
+use Rattle.format_descriptions.specs.declared.item.Item.TheVariants.{Byte, Part, Optional, First, Or}
 use Rattle.format_descriptions.specs.declared.modifiers.UnixPrecision.TheVariants.{Seconds, Milliseconds, Microseconds, Nanoseconds}
 use Rattle.format_descriptions.specs.declared.parts.Parts.{Parts}
 
@@ -99,12 +100,18 @@ abbrev pub starts_apart : List Item → Bool
 starts_apart [] = true
 starts_apart (Byte byte ∷ items) = not (is_ascii_digit byte)
 starts_apart (Part component ∷ items) = begins_apart component
+starts_apart (Optional size ∷ items) = false
+starts_apart (First size ∷ items) = false
+starts_apart (Or size ∷ items) = false
 
--- no component of the items is cut, and no digit follows one that takes all digits
-abbrev pub is_clear : List Item → Bool
-is_clear [] = true
-is_clear (Byte byte ∷ items) = is_clear items
-is_clear (Part component ∷ items) = is_whole component && ((not (takes_digits component) || starts_apart items) && is_clear items)
+-- no component of the items is cut, no digit follows one that takes all digits, and none is a group
+abbrev pub are_clear : List Item → Bool
+are_clear [] = true
+are_clear (Byte byte ∷ items) = are_clear items
+are_clear (Optional size ∷ items) = false
+are_clear (First size ∷ items) = false
+are_clear (Or size ∷ items) = false
+are_clear (Part component ∷ items) = is_whole component && ((not (takes_digits component) || starts_apart items) && are_clear items)
 
 -- the sign and the number of a component
 abbrev pub number_of : Component → ℤ → ℕ → ℤ → Bool × ℕ
@@ -133,10 +140,21 @@ number_of (Ignore count) day clock o = (false, 0)
 number_of End day clock o = (false, 0)
 
 -- the parts with those of the components of a description
+abbrev pub flat_parts : List Item → ℤ → ℕ → ℤ → Parts → Parts
+flat_parts [] day clock o p = p
+flat_parts (Byte byte ∷ items) day clock o p = flat_parts items day clock o p
+flat_parts (Optional size ∷ items) day clock o p = flat_parts items day clock o p
+flat_parts (First size ∷ items) day clock o p = flat_parts items day clock o p
+flat_parts (Or size ∷ items) day clock o p = flat_parts items day clock o p
+flat_parts (Part component ∷ items) day clock o p = flat_parts items day clock o (with_part component (number_of component day clock o) p)
+
+-- the parts that a description writes
 abbrev pub parts_of : List Item → ℤ → ℕ → ℤ → Parts → Parts
-parts_of [] day clock o p = p
-parts_of (Byte byte ∷ items) day clock o p = parts_of items day clock o p
-parts_of (Part component ∷ items) day clock o p = parts_of items day clock o (with_part component (number_of component day clock o) p)
+parts_of items day clock o p = flat_parts (written_items items) day clock o p
+
+-- what a description writes is clear
+abbrev pub is_clear : List Item → Bool
+is_clear items = are_clear (written_items items)
 
 -- each part that is known is that of this day, this time of day and this offset
 pub record AreParts (p : Parts) (day : ℤ) (clock : ℕ) (o : ℤ) : Type 0 where

@@ -133,10 +133,12 @@ unfoldable pub use Rattle.format_descriptions.specs.DescriptionWords.{ends_word,
 pub use Rattle.format_descriptions.specs.Descriptions.{described, refusal_of}
 unfoldable pub use Rattle.format_descriptions.specs.Descriptions.{between_words, escaped, fault_at_end, finished, in_word, is_closed, opened, outside}
 unfoldable pub use Rattle.format_descriptions.specs.Descriptions.{step, unnamed}
+pub use Rattle.format_descriptions.specs.Groups.{fault_after, is_other, size_of}
+unfoldable pub use Rattle.format_descriptions.specs.Groups.{written_from}
 pub use Rattle.format_descriptions.specs.InstantValues.{HasInstantParts, instant_at, or_no_count, unix_nanoseconds}
 unfoldable pub use Rattle.format_descriptions.specs.InstantValues.{counted_instant, instant_of_counts, wrong_instant}
-pub use Rattle.format_descriptions.specs.Kinds.{by_kind}
-unfoldable pub use Rattle.format_descriptions.specs.Kinds.{lacking}
+pub use Rattle.format_descriptions.specs.Kinds.{by_kind, lacking}
+unfoldable pub use Rattle.format_descriptions.specs.Kinds.{flat_lacking}
 pub use Rattle.format_descriptions.specs.Known.{date_items}
 pub use Rattle.format_descriptions.specs.Modifiers.{digit_count, first_number, first_weekday, is_extended, is_mandatory, is_timestamp, reads_any_case}
 pub use Rattle.format_descriptions.specs.Modifiers.{unix_digits}
@@ -144,8 +146,8 @@ pub use Rattle.format_descriptions.specs.Names.{name_of_month, name_of_weekday}
 pub use Rattle.format_descriptions.specs.OffsetValues.{HasOffsetParts, or_false, tells_offset}
 unfoldable pub use Rattle.format_descriptions.specs.OffsetValues.{offset_at, offset_of_parts}
 pub use Rattle.format_descriptions.specs.PartTests.{fits, fits_choice, fits_signed, signed}
-pub use Rattle.format_descriptions.specs.Read.{no_parts}
-unfoldable pub use Rattle.format_descriptions.specs.Read.{agrees, component_at, item_at, items_at, with_part}
+pub use Rattle.format_descriptions.specs.Read.{front_of, items_at, no_parts, read_end}
+unfoldable pub use Rattle.format_descriptions.specs.Read.{agrees, component_at, item_at, read_from, with_part}
 pub use Rattle.format_descriptions.specs.Reading.{digit_more, end_at, ignored_at, is_letter, nothing, unsigned, with_sign}
 unfoldable pub use Rattle.format_descriptions.specs.Reading.{counted_at, decimal_at, digits_on, four_at, letter_at, month_at, more_at, period_at}
 unfoldable pub use Rattle.format_descriptions.specs.Reading.{sign_at, signed_century_at, signed_hours_at, signed_year_at, three_at, three_digits_at}
@@ -153,7 +155,7 @@ unfoldable pub use Rattle.format_descriptions.specs.Reading.{two_at, unix_at, we
 pub use Rattle.format_descriptions.specs.Values.{HasDateParts, calendar_year, day_in_iso_year, day_with, iso_year, tells_date, year_known}
 unfoldable pub use Rattle.format_descriptions.specs.Values.{date_of_parts, day_in_year, iso_day, month_day, week_day, week_ordinal, wrong_date}
 unfoldable pub use Rattle.format_descriptions.specs.Values.{wrong_day, wrong_week, wrong_year, year_day}
-pub use Rattle.format_descriptions.specs.Written.{Fits, described_text, shortened, unix_rounded, week_by, year_by, year_sign}
-unfoldable pub use Rattle.format_descriptions.specs.Written.{century_digits, century_text, component_text, four_text, hour_12, item_text, items_text}
+pub use Rattle.format_descriptions.specs.Written.{Fits, described_text, items_text, shortened, unix_rounded, week_by, year_by, year_sign}
+unfoldable pub use Rattle.format_descriptions.specs.Written.{century_digits, century_text, component_text, flat_text, four_text, hour_12, item_text}
 unfoldable pub use Rattle.format_descriptions.specs.Written.{offset_hour_text, period_text, subsecond_text, three_text, two_text, unix_count}
 unfoldable pub use Rattle.format_descriptions.specs.Written.{weekday_number_by}

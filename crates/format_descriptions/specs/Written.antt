@@ -9,9 +9,10 @@ use Rattle.calendar_values.specs.Texts.{year_digits}
 use Rattle.calendar_values.specs.WallClock.{wall_clock, wall_day, wall_time}
 use Rattle.calendar_values.specs.Weeks.{weekday_of, iso_year_of, iso_week_of, sunday_week_of, monday_week_of}
 use Rattle.offset_times.specs.Local.{Local, instant_of, wall_at}
+use Rattle.format_descriptions.specs.Groups.{written_items}
 use Rattle.format_descriptions.specs.Names.{name_of_month, name_of_weekday}
 use Rattle.format_descriptions.specs.declared.item.Item.{Item}
-use Rattle.format_descriptions.specs.declared.item.Item.TheVariants.{Byte, Part}
+use Rattle.format_descriptions.specs.declared.item.Item.TheVariants.{Byte, Part, Optional, First, Or}
 use Rattle.format_descriptions.specs.declared.component.Component.{Component}
 use Rattle.format_descriptions.specs.declared.component.Component.TheVariants.{Year, YearCentury, YearLastTwo, Month, MonthName, Day, Ordinal}
 use Rattle.format_descriptions.specs.declared.component.Component.TheVariants.{WeekdayName, WeekdayNumber, WeekNumber, Hour, Hour12, Period, Minute}
@@ -147,15 +148,22 @@ component_text (UnixTimestamp precision sign) day clock o = unix_text sign (unix
 component_text (Ignore count) day clock o = []
 component_text End day clock o = []
 
--- an item
+-- an item; the head of a group writes nothing
 unfoldable pub item_text : Item → ℤ → ℕ → ℤ → List ℕ
 item_text (Byte byte) day clock o = byte ∷ []
 item_text (Part component) day clock o = component_text component day clock o
+item_text (Optional size) day clock o = []
+item_text (First size) day clock o = []
+item_text (Or size) day clock o = []
 
--- the items, one after another
-unfoldable pub items_text : List Item → ℤ → ℕ → ℤ → List ℕ
-items_text [] day clock o = []
-items_text (item ∷ items) day clock o = item_text item day clock o ++ items_text items day clock o
+-- items, one after another
+unfoldable pub flat_text : List Item → ℤ → ℕ → ℤ → List ℕ
+flat_text [] day clock o = []
+flat_text (item ∷ items) day clock o = item_text item day clock o ++ flat_text items day clock o
+
+-- what a description writes
+abbrev pub items_text : List Item → ℤ → ℕ → ℤ → List ℕ
+items_text items day clock o = flat_text (written_items items) day clock o
 
 -- what a description writes of a wall clock at an offset
 abbrev pub described_text : List Item → Local → List ℕ

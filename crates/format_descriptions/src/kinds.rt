@@ -1,11 +1,13 @@
 //! Texts of dates, of times of day, of offsets and of wall clocks, which have not every component.
 ghost use Rattle.std.specs.Prelude.{◌≡◌, Some, None, true, false, Err, OkIff, pos};
 ghost use Rattle.calendar_values.specs.WallClock.{wall_day, wall_time};
-ghost use Rattle.format_descriptions.specs.Kinds.{lacking, by_kind};
+ghost use Rattle.format_descriptions.specs.Groups.{written_from};
+ghost use Rattle.format_descriptions.specs.Kinds.{lacking, flat_lacking, by_kind};
 ghost use Rattle.format_descriptions.specs.Written.{items_text, Fits};
 ghost use Rattle.format_descriptions.specs.declared.component.Component.{Component};
 ghost use Rattle.format_descriptions.specs.declared.format_refusal.FormatRefusal.TheVariants.{Lacks};
 
+use crate::item::{behind, is_other, size_of};
 use crate::write::format;
 use crate::{Component, FormatRefusal, Item};
 use calendar_values::{Date, Text, Time, UtcOffset};
@@ -103,20 +105,48 @@ pub fn format_plain(items: &[Item], at: PlainDateTime) -> Result<Text, FormatRef
     }
 }
 
-// The first component of another kind than those that a value has.
-#[tactic(auto, unfolding(crate::specs::Kinds::lacking))]
+// The first component that is written of another kind than those that a value has.
 fn lacking(items: &[Item], date: bool, time: bool, offset: bool) -> Option<Component>
     ensures { result ≡ lacking date time offset items.now }
 {
-    let Some((item, items)) = items.split_first() else {
-        return None;
-    };
-    if let Item::Part(component) = *item {
-        if !by_kind(component, date, time, offset) {
-            return Some(component);
+    lacking_of(items, items.len(), date, time, offset)
+}
+
+// The same of the first items.
+fn lacking_of(
+    items: &[Item],
+    count: usize,
+    date: bool,
+    time: bool,
+    offset: bool,
+) -> Option<Component>
+    ensures { result ≡ flat_lacking date time offset (written_from items.now 0 count) }
+{
+    let mut items = items;
+    let mut count = count;
+    while let Some((item, others)) = items.split_first() {
+        if count == 0 {
+            return None;
         }
+        count -= 1;
+        let Some(size) = size_of(*item) else {
+            if let Item::Part(component) = *item {
+                if !by_kind(component, date, time, offset) {
+                    return Some(component);
+                }
+            }
+            items = others;
+            continue;
+        };
+        if !is_other(*item) {
+            if let Some(component) = lacking_of(others, size.min(count), date, time, offset) {
+                return Some(component);
+            }
+        }
+        items = behind(size, others);
+        count = count.saturating_sub(size);
     }
-    lacking(items, date, time, offset)
+    None
 }
 
 // One of three, by what a component is of: a date, a time of day or an offset.

@@ -1,10 +1,11 @@
 //! Texts read by descriptions.
-ghost use Rattle.std.specs.Prelude.{◌≡◌, ◌-◌, ◌≤◌, length, option_map, IfSome};
+ghost use Rattle.std.specs.Prelude.{◌≡◌, ◌-◌, None, ◌≤◌, length, option_map, IfErr, IfOk, IfSome};
 ghost use Rattle.std.specs.Result.{result_map_both};
-ghost use Rattle.format_descriptions.specs.Read.{part_at, item_at, items_at, no_parts};
+ghost use Rattle.format_descriptions.specs.Read.{part_at, item_at, items_at, no_parts, front_of, read_from, read_end};
 ghost use Rattle.format_descriptions.specs.declared.component.Component.TheVariants.{UnixTimestamp};
 
 use crate::fields::component_at;
+use crate::item::{behind, fault_after, is_other, size_of};
 use crate::reading::after_mark;
 use crate::unix::unix_at;
 use crate::{Component, Item, Parts, Sign, UnixPrecision};
@@ -22,19 +23,110 @@ pub fn parse(items: &[Item], text: &[u8]) -> Result<Parts, usize>
     ensures reading { result ≡ result_map_both (λ p. p) (λ left. length text.now - left)
         (items_at items.now text.now no_parts) }
 {
-    let mut parts = Parts::none();
-    let mut rest = text;
-    for (k, item) in items.iter().enumerate() {
-        let Some((read, more)) = item_at(*item, rest, parts) else {
-            return Err(text.len() - rest.len());
-        };
-        parts = read;
-        rest = more;
+    match front(items, items.len(), text, Parts::none()) {
+        Ok((parts, rest)) => {
+            if rest.is_empty() {
+                Ok(parts)
+            } else {
+                Err(text.len() - rest.len())
+            }
+        }
+        Err(left) => Err(text.len() - left),
     }
-    if rest.is_empty() {
-        Ok(parts)
-    } else {
-        Err(text.len() - rest.len())
+}
+
+/// The parts at the front of a text that is written as the items say, and how many bytes they take. Else the place,
+/// counted from 0, where the item begins that cannot be read or contradicts a part before it.
+///
+/// ```
+/// use format_descriptions::{Component, Item, Padding, parse_front};
+/// let items = [Item::Part(Component::Day(Padding::Zero))];
+/// let front = parse_front(&items, b"29 February");
+/// assert_eq!(rt; front.map(|(parts, count)| (parts.day, count)), Ok((Some(29), 2)));
+/// assert_eq!(rt; parse_front(&items, b"February").map(|(_, count)| count), Err(0));
+/// ```
+pub fn parse_front(items: &[Item], text: &[u8]) -> Result<(Parts, usize), usize>
+    ensures reading { result ≡ result_map_both (λ read. (read.0, length text.now - length read.1))
+        (λ left. length text.now - left) (front_of items.now text.now no_parts) }
+{
+    match front(items, items.len(), text, Parts::none()) {
+        Ok((parts, rest)) => Ok((parts, text.len() - rest.len())),
+        Err(left) => Err(text.len() - left),
+    }
+}
+
+// The first items, from the front of a text, and what follows them. Else how many bytes are left from the item on that
+// cannot be read.
+fn front<'a>(
+    items: &[Item],
+    count: usize,
+    text: &'a [u8],
+    parts: Parts,
+) -> Result<(Parts, &'a [u8]), usize>
+    ensures value { result_map_both (λ read. (read.0, read.1.now)) (λ left. left) result
+        ≡ read_from items.now 0 count None text.now parts }
+    ensures shorter { IfOk result (λ read. length read.1.now ≤ length text.now) }
+    ensures left { IfErr result (λ left. left ≤ length text.now) }
+{
+    let mut items = items;
+    let mut count = count;
+    let mut fault = None;
+    let mut rest = text;
+    let mut parts = parts;
+    while let Some((item, others)) = items.split_first() {
+        if count == 0 {
+            return front_end(fault, rest, parts);
+        }
+        count -= 1;
+        let Some(size) = size_of(*item) else {
+            if let Some(left) = fault {
+                return Err(left);
+            }
+            let Some((read, more)) = item_at(*item, rest, parts) else {
+                return Err(rest.len());
+            };
+            parts = read;
+            rest = more;
+            items = others;
+            continue;
+        };
+        match fault {
+            None => {
+                if is_other(*item) {
+                    items = behind(size, others);
+                    count = count.saturating_sub(size);
+                    continue;
+                }
+            }
+            Some(left) => {
+                if !is_other(*item) {
+                    return Err(left);
+                }
+            }
+        }
+        match front(others, size.min(count), rest, parts) {
+            Ok((read, more)) => {
+                parts = read;
+                rest = more;
+                fault = None;
+            }
+            Err(left) => fault = fault_after(*item, fault, left),
+        }
+        items = behind(size, others);
+        count = count.saturating_sub(size);
+    }
+    front_end(fault, rest, parts)
+}
+
+// The end of the items, behind a fault or behind none.
+fn front_end(fault: Option<usize>, text: &[u8], parts: Parts) -> Result<(Parts, &[u8]), usize>
+    ensures value { result_map_both (λ read. (read.0, read.1.now)) (λ left. left) result
+        ≡ read_end fault text.now parts }
+    ensures shorter { IfOk result (λ read. length read.1.now ≤ length text.now) }
+{
+    match fault {
+        None => Ok((parts, text)),
+        Some(left) => Err(left),
     }
 }
 
@@ -49,6 +141,7 @@ fn item_at(item: Item, text: &[u8], parts: Parts) -> Option<(Parts, &[u8])>
             let rest = after_mark(byte, text)?;
             Some((parts, rest))
         }
+        Item::Optional(_) | Item::First(_) | Item::Or(_) => Some((parts, text)),
         Item::Part(component) => part_at(component, text, parts),
     }
 }

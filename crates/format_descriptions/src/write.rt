@@ -1,8 +1,10 @@
 //! Texts written by descriptions.
-ghost use Rattle.std.specs.Prelude.{◌≡◌, ◌≤◌, ◌∷◌, [], length, SomeIff, IsAscii};
-ghost use Rattle.format_descriptions.specs.Written.{item_text, items_text, described_text, Fits};
+ghost use Rattle.std.specs.Prelude.{◌≡◌, ◌≤◌, ◌∷◌, ◌++◌, [], length, SomeIff, IsAscii};
+ghost use Rattle.format_descriptions.specs.Groups.{written_from};
+ghost use Rattle.format_descriptions.specs.Written.{item_text, items_text, flat_text, described_text, Fits};
 
 use crate::Item;
+use crate::item::{behind, is_other, size_of};
 use crate::pieces::component_text;
 use calendar_values::{Date, Text, Time, UtcOffset};
 use offset_times::OffsetDateTime;
@@ -39,15 +41,49 @@ pub fn format(items: &[Item], date: Date, time: Time, offset: UtcOffset) -> Opti
     ensures text { SomeIff result (Fits (items_text items.now date time offset))
         (items_text items.now date time offset) }
 {
-    let mut text = Text::new();
-    for (k, item) in items.iter().enumerate() {
-        let Some(piece) = item_text(*item, date, time, offset) else {
-            return None;
-        };
-        if text.as_bytes().len() + piece.as_bytes().len() > 64 {
-            return None;
+    write_items(items, items.len(), date, time, offset, Text::new())
+}
+
+// A text with what the first items write.
+fn write_items(
+    items: &[Item],
+    count: usize,
+    date: Date,
+    time: Time,
+    offset: UtcOffset,
+    text: Text,
+) -> Option<Text>
+    requires { Fits text }
+    ensures text { let all = text ++ flat_text (written_from items.now 0 count) date time offset in
+        SomeIff result (Fits all) all }
+{
+    let mut items = items;
+    let mut count = count;
+    let mut text = text;
+    while let Some((item, others)) = items.split_first() {
+        if count == 0 {
+            return Some(text);
         }
-        text.push_bytes(piece.as_bytes());
+        count -= 1;
+        let Some(size) = size_of(*item) else {
+            let Some(piece) = item_text(*item, date, time, offset) else {
+                return None;
+            };
+            if text.as_bytes().len() + piece.as_bytes().len() > 64 {
+                return None;
+            }
+            text.push_bytes(piece.as_bytes());
+            items = others;
+            continue;
+        };
+        if !is_other(*item) {
+            let Some(longer) = write_items(others, size.min(count), date, time, offset, text) else {
+                return None;
+            };
+            text = longer;
+        }
+        items = behind(size, others);
+        count = count.saturating_sub(size);
     }
     Some(text)
 }
@@ -61,6 +97,7 @@ fn item_text(item: Item, date: Date, time: Time, offset: UtcOffset) -> Option<Te
     match item {
         Item::Byte(byte) => byte_text(byte),
         Item::Part(component) => Some(seen(component_text(component, date, time, offset))),
+        Item::Optional(_) | Item::First(_) | Item::Or(_) => Some(seen(Text::new())),
     }
 }
 

@@ -5,6 +5,7 @@ use std::process::Abort;
 mod clocks;
 mod dates;
 mod descriptions;
+mod groups;
 mod kinds;
 mod offsets;
 mod parts;

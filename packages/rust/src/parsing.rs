@@ -71,17 +71,7 @@ fn together(mut parts: Parts, others: Parts) -> Option<Parts> {
 
 /// What a component reads at the front of a text, and how many bytes it takes.
 fn front(component: Component, input: &[u8]) -> Option<(Parts, usize)> {
-    if let Component::End(_) = component {
-        return input.is_empty().then(|| (Parts::none(), 0));
-    }
-    let items = [Item::Part(component.proved())];
-    match proved::parse(&items, input) {
-        Ok(parts) => Some((parts, input.len())),
-        // What follows the component is not of it.
-        Err(place) => proved::parse(&items, &input[..place])
-            .ok()
-            .map(|parts| (parts, place)),
-    }
+    proved::parse_front(&[Item::Part(component.proved())], input).ok()
 }
 
 impl Parsed {

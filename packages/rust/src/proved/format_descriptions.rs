@@ -42,6 +42,6 @@ pub use modifiers::{
     WeekdayCount, YearBase, YearRange,
 };
 pub use parts::Parts;
-pub use read::parse;
+pub use read::{parse, parse_front};
 pub use value_refusal::{Field, ValueRefusal};
 pub use write::{format, format_date_time};

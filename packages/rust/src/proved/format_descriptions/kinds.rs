@@ -1,5 +1,6 @@
 // Made by make/erase of crates/format_descriptions/src/kinds.rt. Do not edit.
 //! Texts of dates, of times of day, of offsets and of wall clocks, which have not every component.
+use crate::proved::format_descriptions::item::{behind, is_other, size_of};
 use crate::proved::format_descriptions::write::format;
 use crate::proved::format_descriptions::{Component, FormatRefusal, Item};
 use crate::proved::calendar_values::{Date, Text, Time, UtcOffset};
@@ -141,7 +142,7 @@ pub fn format_plain(items: &[Item], at: PlainDateTime) -> Result<Text, FormatRef
     }
 }
 
-// The first component of another kind than those that a value has.
+// The first component that is written of another kind than those that a value has.
 /// # Contract
 ///
 /// ```text
@@ -150,16 +151,51 @@ pub fn format_plain(items: &[Item], at: PlainDateTime) -> Result<Text, FormatRef
 ///
 /// [docs/proofs/STATEMENT.md](crate::proved#contracts) explains the words.
 #[inline]
-const fn lacking(items: &[Item], date: bool, time: bool, offset: bool) -> Option<Component> {
-    let Some((item, items)) = items.split_first() else {
-        return None;
-    };
-    if let Item::Part(component) = *item {
-        if !by_kind(component, date, time, offset) {
-            return Some(component);
+fn lacking(items: &[Item], date: bool, time: bool, offset: bool) -> Option<Component> {
+    lacking_of(items, items.len(), date, time, offset)
+}
+
+// The same of the first items.
+/// # Contract
+///
+/// ```text
+/// ensures { result ≡ flat_lacking date time offset (written_from items.now 0 count) }
+/// ```
+///
+/// [docs/STATEMENT.md](crate::proved#contracts) explains the words.
+#[inline]
+fn lacking_of(
+    items: &[Item],
+    count: usize,
+    date: bool,
+    time: bool,
+    offset: bool,
+) -> Option<Component> {
+    let mut items = items;
+    let mut count = count;
+    while let Some((item, others)) = items.split_first() {
+        if count == 0 {
+            return None;
         }
+        count -= 1;
+        let Some(size) = size_of(*item) else {
+            if let Item::Part(component) = *item {
+                if !by_kind(component, date, time, offset) {
+                    return Some(component);
+                }
+            }
+            items = others;
+            continue;
+        };
+        if !is_other(*item) {
+            if let Some(component) = lacking_of(others, size.min(count), date, time, offset) {
+                return Some(component);
+            }
+        }
+        items = behind(size, others);
+        count = count.saturating_sub(size);
     }
-    lacking(items, date, time, offset)
+    None
 }
 
 // One of three, by what a component is of: a date, a time of day or an offset.

@@ -1,6 +1,7 @@
 // Made by make/erase of crates/format_descriptions/src/read.rt. Do not edit.
 //! Texts read by descriptions.
 use crate::proved::format_descriptions::fields::component_at;
+use crate::proved::format_descriptions::item::{behind, fault_after, is_other, size_of};
 use crate::proved::format_descriptions::reading::after_mark;
 use crate::proved::format_descriptions::unix::unix_at;
 use crate::proved::format_descriptions::{Component, Item, Parts, Sign, UnixPrecision};
@@ -29,19 +30,137 @@ use crate::proved::format_descriptions::{Component, Item, Parts, Sign, UnixPreci
 /// [docs/proofs/STATEMENT.md](crate::proved#contracts) explains the words.
 #[inline]
 pub fn parse(items: &[Item], text: &[u8]) -> Result<Parts, usize> {
-    let mut parts = Parts::none();
-    let mut rest = text;
-    for (k, item) in items.iter().enumerate() {
-        let Some((read, more)) = item_at(*item, rest, parts) else {
-            return Err(text.len() - rest.len());
-        };
-        parts = read;
-        rest = more;
+    match front(items, items.len(), text, Parts::none()) {
+        Ok((parts, rest)) => {
+            if rest.is_empty() {
+                Ok(parts)
+            } else {
+                Err(text.len() - rest.len())
+            }
+        }
+        Err(left) => Err(text.len() - left),
     }
-    if rest.is_empty() {
-        Ok(parts)
-    } else {
-        Err(text.len() - rest.len())
+}
+
+/// The parts at the front of a text that is written as the items say, and how many bytes they take. Else the place,
+/// counted from 0, where the item begins that cannot be read or contradicts a part before it.
+///
+/// ```
+/// # use muxandu::proved::*;
+/// # fn main() -> Result<(), Box<dyn std::error::Error>> {
+/// use format_descriptions::{Component, Item, Padding, parse_front};
+/// let items = [Item::Part(Component::Day(Padding::Zero))];
+/// let front = parse_front(&items, b"29 February");
+/// assert_eq!(front.map(|(parts, count)| (parts.day, count)), Ok((Some(29), 2)));
+/// assert_eq!(parse_front(&items, b"February").map(|(_, count)| count), Err(0));
+/// # Ok(())
+/// # }
+/// ```
+///
+/// # Contract
+///
+/// ```text
+/// ensures reading { result ≡ result_map_both (λ read. (read.0, length text.now - length read.1))
+///     (λ left. length text.now - left) (front_of items.now text.now no_parts) }
+/// ```
+///
+/// [docs/STATEMENT.md](crate::proved#contracts) explains the words.
+#[inline]
+pub fn parse_front(items: &[Item], text: &[u8]) -> Result<(Parts, usize), usize> {
+    match front(items, items.len(), text, Parts::none()) {
+        Ok((parts, rest)) => Ok((parts, text.len() - rest.len())),
+        Err(left) => Err(text.len() - left),
+    }
+}
+
+// The first items, from the front of a text, and what follows them. Else how many bytes are left from the item on that
+// cannot be read.
+/// # Contract
+///
+/// ```text
+/// ensures value { result_map_both (λ read. (read.0, read.1.now)) (λ left. left) result
+///     ≡ read_from items.now 0 count None text.now parts }
+/// ensures shorter { IfOk result (λ read. length read.1.now ≤ length text.now) }
+/// ensures left { IfErr result (λ left. left ≤ length text.now) }
+/// ```
+///
+/// [docs/STATEMENT.md](crate::proved#contracts) explains the words.
+#[inline]
+fn front<'a>(
+    items: &[Item],
+    count: usize,
+    text: &'a [u8],
+    parts: Parts,
+) -> Result<(Parts, &'a [u8]), usize> {
+    let mut items = items;
+    let mut count = count;
+    let mut fault = None;
+    let mut rest = text;
+    let mut parts = parts;
+    while let Some((item, others)) = items.split_first() {
+        if count == 0 {
+            return front_end(fault, rest, parts);
+        }
+        count -= 1;
+        let Some(size) = size_of(*item) else {
+            if let Some(left) = fault {
+                return Err(left);
+            }
+            let Some((read, more)) = item_at(*item, rest, parts) else {
+                return Err(rest.len());
+            };
+            parts = read;
+            rest = more;
+            items = others;
+            continue;
+        };
+        match fault {
+            None => {
+                if is_other(*item) {
+                    items = behind(size, others);
+                    count = count.saturating_sub(size);
+                    continue;
+                }
+            }
+            Some(left) => {
+                if !is_other(*item) {
+                    return Err(left);
+                }
+            }
+        }
+        match front(others, size.min(count), rest, parts) {
+            Ok((read, more)) => {
+                parts = read;
+                rest = more;
+                fault = None;
+            }
+            Err(left) => fault = fault_after(*item, fault, left),
+        }
+        items = behind(size, others);
+        count = count.saturating_sub(size);
+    }
+    front_end(fault, rest, parts)
+}
+
+// The end of the items, behind a fault or behind none.
+/// # Contract
+///
+/// ```text
+/// ensures value { result_map_both (λ read. (read.0, read.1.now)) (λ left. left) result
+///     ≡ read_end fault text.now parts }
+/// ensures shorter { IfOk result (λ read. length read.1.now ≤ length text.now) }
+/// ```
+///
+/// [docs/STATEMENT.md](crate::proved#contracts) explains the words.
+#[inline]
+const fn front_end(
+    fault: Option<usize>,
+    text: &[u8],
+    parts: Parts,
+) -> Result<(Parts, &[u8]), usize> {
+    match fault {
+        None => Ok((parts, text)),
+        Some(left) => Err(left),
     }
 }
 
@@ -61,6 +180,7 @@ fn item_at(item: Item, text: &[u8], parts: Parts) -> Option<(Parts, &[u8])> {
             let rest = after_mark(byte, text)?;
             Some((parts, rest))
         }
+        Item::Optional(_) | Item::First(_) | Item::Or(_) => Some((parts, text)),
         Item::Part(component) => part_at(component, text, parts),
     }
 }

@@ -1,6 +1,7 @@
 // Made by make/erase of crates/format_descriptions/src/write.rt. Do not edit.
 //! Texts written by descriptions.
 use crate::proved::format_descriptions::Item;
+use crate::proved::format_descriptions::item::{behind, is_other, size_of};
 use crate::proved::format_descriptions::pieces::component_text;
 use crate::proved::calendar_values::{Date, Text, Time, UtcOffset};
 use crate::proved::offset_times::OffsetDateTime;
@@ -59,15 +60,56 @@ pub fn format_date_time(items: &[Item], at: OffsetDateTime) -> Option<Text> {
 /// [docs/proofs/STATEMENT.md](crate::proved#contracts) explains the words.
 #[inline]
 pub fn format(items: &[Item], date: Date, time: Time, offset: UtcOffset) -> Option<Text> {
-    let mut text = Text::new();
-    for (k, item) in items.iter().enumerate() {
-        let Some(piece) = item_text(*item, date, time, offset) else {
-            return None;
-        };
-        if text.as_bytes().len() + piece.as_bytes().len() > 64 {
-            return None;
+    write_items(items, items.len(), date, time, offset, Text::new())
+}
+
+// A text with what the first items write.
+/// # Contract
+///
+/// ```text
+/// requires { Fits text }
+/// ensures text { let all = text ++ flat_text (written_from items.now 0 count) date time offset in
+///     SomeIff result (Fits all) all }
+/// ```
+///
+/// [docs/STATEMENT.md](crate::proved#contracts) explains the words.
+#[inline]
+fn write_items(
+    items: &[Item],
+    count: usize,
+    date: Date,
+    time: Time,
+    offset: UtcOffset,
+    text: Text,
+) -> Option<Text> {
+    let mut items = items;
+    let mut count = count;
+    let mut text = text;
+    while let Some((item, others)) = items.split_first() {
+        if count == 0 {
+            return Some(text);
         }
-        text.push_bytes(piece.as_bytes());
+        count -= 1;
+        let Some(size) = size_of(*item) else {
+            let Some(piece) = item_text(*item, date, time, offset) else {
+                return None;
+            };
+            if text.as_bytes().len() + piece.as_bytes().len() > 64 {
+                return None;
+            }
+            text.push_bytes(piece.as_bytes());
+            items = others;
+            continue;
+        };
+        if !is_other(*item) {
+            let Some(longer) = write_items(others, size.min(count), date, time, offset, text)
+            else {
+                return None;
+            };
+            text = longer;
+        }
+        items = behind(size, others);
+        count = count.saturating_sub(size);
     }
     Some(text)
 }
@@ -86,6 +128,7 @@ fn item_text(item: Item, date: Date, time: Time, offset: UtcOffset) -> Option<Te
     match item {
         Item::Byte(byte) => byte_text(byte),
         Item::Part(component) => Some(seen(component_text(component, date, time, offset))),
+        Item::Optional(_) | Item::First(_) | Item::Or(_) => Some(seen(Text::new())),
     }
 }
 

@@ -1,0 +1,58 @@
+-- The groups of items: how many items belong to one, and which items are written.
+use Rattle.std.specs.Prelude.{ℕ, zero, suc, ◌-◌, Bool, true, false, List, [], ◌∷◌, ◌++◌, length, min, Option, Some, None}
+use Rattle.format_descriptions.specs.declared.item.Item.{Item}
+use Rattle.format_descriptions.specs.declared.item.Item.TheVariants.{Byte, Part, Optional, First, Or}
+
+-- how many items belong to the group of a head
+abbrev pub size_of : Item → Option ℕ
+size_of (Byte byte) = None
+size_of (Part component) = None
+size_of (Optional size) = Some size
+size_of (First size) = Some size
+size_of (Or size) = Some size
+
+-- the head of a group in place of another
+abbrev pub is_other : Item → Bool
+is_other (Byte byte) = false
+is_other (Part component) = false
+is_other (Optional size) = false
+is_other (First size) = false
+is_other (Or size) = true
+
+-- the fault that waits for another group, behind one that could not be read: that of the first of several
+abbrev pub fault_after : Item → Option ℕ → ℕ → Option ℕ
+fault_after (Byte byte) earlier left = earlier
+fault_after (Part component) earlier left = earlier
+fault_after (Optional size) earlier left = earlier
+fault_after (First size) earlier left = Some left
+fault_after (Or size) earlier left = earlier
+
+-- the items of a group that are written: none of a group in place of another
+abbrev pub own_items : Bool → List Item → List Item
+own_items true own = []
+own_items false own = own
+
+-- an item that is no head, or the items of a group, and then the others: a number of items is passed over, and so many are taken
+abbrev pub written_by : Item → (ℕ → ℕ → List Item) → ℕ → Option ℕ → List Item
+written_by item others count None = item ∷ others 0 count
+written_by item others count (Some size) = own_items (is_other item) (others 0 (min size count)) ++ others size (count - size)
+
+-- what is written of the items, where a number of them is passed over and so many are taken: items that are no heads
+unfoldable pub written_from : List Item → ℕ → ℕ → List Item
+written_from [] skip count = []
+written_from (item ∷ items) (suc skip) count = written_from items skip count
+written_from (item ∷ items) zero zero = []
+written_from (item ∷ items) zero (suc count) = written_by item (λ s n. written_from items s n) count (size_of item)
+
+-- the items that are written
+abbrev pub written_items : List Item → List Item
+written_items items = written_from items 0 (length items)
+
+-- no item is the head of a group
+abbrev pub has_no_group : List Item → Bool
+has_no_group [] = true
+has_no_group (Byte byte ∷ items) = has_no_group items
+has_no_group (Part component ∷ items) = has_no_group items
+has_no_group (Optional size ∷ items) = false
+has_no_group (First size ∷ items) = false
+has_no_group (Or size ∷ items) = false
