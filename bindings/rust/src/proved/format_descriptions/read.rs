@@ -24,6 +24,9 @@ use crate::proved::format_descriptions::{Component, Item, Parts, Sign, UnixPreci
 /// ```text
 /// ensures reading { result ≡ result_map_both (λ p. p) (λ left. length text.now - left)
 ///     (items_at items.now text.now no_parts) }
+/// ensures accepted { IfOk result (λ parts. items_at items.now text.now no_parts ≡ Ok parts) }
+/// ensures refused { IfErr result (λ place. (left : ℕ) ×
+///     (items_at items.now text.now no_parts ≡ Err left) × (place ≡ length text.now - left)) }
 /// ```
 ///
 /// [docs/STATEMENT.md](crate::proved#contracts) explains the words.
