@@ -1,7 +1,8 @@
 //! Descriptions that texts give.
-ghost use Rattle.std.specs.Prelude.{◌≡◌, ◌++◌, length, drop, IfOk};
+ghost use Rattle.std.specs.Prelude.{◌≡◌, ◌++◌, ◌-◌, ℕ, List, Ok, Err, length, drop, IfOk, IfErr};
 ghost use Rattle.std.specs.Result.{result_map_both};
 ghost use Rattle.format_descriptions.specs.Descriptions.{described, refusal_of};
+ghost use Rattle.format_descriptions.specs.declared.item.Item.{Item};
 
 use crate::description_steps::{DescriptionVersion, Place, fault_at_end, step};
 use crate::{DescriptionFault, DescriptionRefusal, Item};
@@ -25,6 +26,13 @@ pub fn parse_description(
         (described version (length room.old) text.now) }
     ensures items { IfOk (described version (length room.old) text.now)
         (λ items. room.new ≡ items ++ drop (length items) room.old) }
+    // What the text says, by the result.
+    ensures read { IfOk result (λ count. (items : List Item) ×
+        (described version (length room.old) text.now ≡ Ok items) ×
+        (length items ≡ count) × (room.new ≡ items ++ drop count room.old)) }
+    ensures refused { IfErr result (λ refusal. (left : ℕ) ×
+        (described version (length room.old) text.now ≡ Err (refusal.fault, left)) ×
+        (refusal.place ≡ length text.now - left)) }
 {
     let mut place = Place::Outside;
     let mut rest = text;

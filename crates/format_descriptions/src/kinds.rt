@@ -20,7 +20,7 @@ use plain_times::PlainDateTime;
 /// use format_descriptions::{Component, Item, Padding};
 /// let items = [Item::Part(Component::Day(Padding::Zero)), Item::Byte(b'!')];
 /// let text = format_descriptions::format_date(&items, Date::UNIX_EPOCH);
-/// assert_eq!(rt; text.map(|text| text.as_bytes() == b"01!"), Ok(true));
+/// assert_eq!(rt; text.map(|text| text.as_bytes() == b"01!".as_slice()), Ok(true));
 /// let hour = [Item::Part(Component::Hour(Padding::Zero))];
 /// assert_eq!(rt; format_descriptions::format_date(&hour, Date::UNIX_EPOCH).is_err(), true);
 /// ```
@@ -44,7 +44,7 @@ pub fn format_date(items: &[Item], date: Date) -> Result<Text, FormatRefusal>
 /// use format_descriptions::{Component, Item, Padding};
 /// let items = [Item::Part(Component::Hour(Padding::Space))];
 /// let text = format_descriptions::format_time(&items, Time::from_hms(9, 30, 0)?);
-/// assert_eq!(rt; text.map(|text| text.as_bytes() == b" 9"), Ok(true));
+/// assert_eq!(rt; text.map(|text| text.as_bytes() == b" 9".as_slice()), Ok(true));
 /// ```
 pub fn format_time(items: &[Item], time: Time) -> Result<Text, FormatRefusal>
     ensures text { lacking false true false items.now ≡ None →
@@ -66,7 +66,7 @@ pub fn format_time(items: &[Item], time: Time) -> Result<Text, FormatRefusal>
 /// use format_descriptions::{Component, Item, Padding, Sign};
 /// let items = [Item::Part(Component::OffsetHour(Sign::Mandatory, Padding::Zero))];
 /// let text = format_descriptions::format_offset(&items, UtcOffset::from_hms(2, 0, 0)?);
-/// assert_eq!(rt; text.map(|text| text.as_bytes() == b"+02"), Ok(true));
+/// assert_eq!(rt; text.map(|text| text.as_bytes() == b"+02".as_slice()), Ok(true));
 /// ```
 pub fn format_offset(items: &[Item], offset: UtcOffset) -> Result<Text, FormatRefusal>
     ensures text { lacking false false true items.now ≡ None →
@@ -90,7 +90,7 @@ pub fn format_offset(items: &[Item], offset: UtcOffset) -> Result<Text, FormatRe
 /// use format_descriptions::{Component, Item, Padding};
 /// let items = [Item::Part(Component::Minute(Padding::Bare))];
 /// let text = format_descriptions::format_plain(&items, PlainDateTime::MIN);
-/// assert_eq!(rt; text.map(|text| text.as_bytes() == b"0"), Ok(true));
+/// assert_eq!(rt; text.map(|text| text.as_bytes() == b"0".as_slice()), Ok(true));
 /// ```
 pub fn format_plain(items: &[Item], at: PlainDateTime) -> Result<Text, FormatRefusal>
     ensures text { lacking true true false items.now ≡ None →

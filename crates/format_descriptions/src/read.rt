@@ -1,5 +1,5 @@
 //! Texts read by descriptions.
-ghost use Rattle.std.specs.Prelude.{◌≡◌, ◌-◌, None, ◌≤◌, length, option_map, IfErr, IfOk, IfSome};
+ghost use Rattle.std.specs.Prelude.{◌≡◌, ◌-◌, ◌≤◌, ℕ, None, Ok, Err, length, option_map, IfOk, IfErr, IfSome};
 ghost use Rattle.std.specs.Result.{result_map_both};
 ghost use Rattle.format_descriptions.specs.Read.{part_at, item_at, items_at, no_parts, front_of, read_from, read_end};
 ghost use Rattle.format_descriptions.specs.declared.component.Component.TheVariants.{UnixTimestamp};
@@ -22,6 +22,10 @@ use crate::{Component, Item, Parts, Sign, UnixPrecision};
 pub fn parse(items: &[Item], text: &[u8]) -> Result<Parts, usize>
     ensures reading { result ≡ result_map_both (λ p. p) (λ left. length text.now - left)
         (items_at items.now text.now no_parts) }
+    // What the text says, by the result.
+    ensures accepted { IfOk result (λ parts. items_at items.now text.now no_parts ≡ Ok parts) }
+    ensures refused { IfErr result (λ place. (left : ℕ) ×
+        (items_at items.now text.now no_parts ≡ Err left) × (place ≡ length text.now - left)) }
 {
     match front(items, items.len(), text, Parts::none()) {
         Ok((parts, rest)) => {

@@ -17,7 +17,7 @@ use offset_times::OffsetDateTime;
 /// let items = [Item::Part(Component::Day(Padding::Zero)), Item::Byte(b'!')];
 /// let at = OffsetDateTime::from_unix_timestamp(0)?;
 /// let text = format_descriptions::format_date_time(&items, at);
-/// assert_eq!(rt; text.map(|text| text.as_bytes() == b"01!"), Some(true));
+/// assert_eq!(rt; text.map(|text| text.as_bytes() == b"01!".as_slice()), Some(true));
 /// ```
 pub fn format_date_time(items: &[Item], at: OffsetDateTime) -> Option<Text>
     ensures text { SomeIff result (Fits (described_text items.now at))
@@ -35,7 +35,7 @@ pub fn format_date_time(items: &[Item], at: OffsetDateTime) -> Option<Text>
 /// let items = [Item::Part(Component::Day(Padding::Zero)), Item::Byte(b'!')];
 /// let date = Date::from_calendar_date(2024, Month::March, 5)?;
 /// let text = format_descriptions::format(&items, date, Time::MIDNIGHT, UtcOffset::UTC);
-/// assert_eq!(rt; text.map(|text| text.as_bytes() == b"05!"), Some(true));
+/// assert_eq!(rt; text.map(|text| text.as_bytes() == b"05!".as_slice()), Some(true));
 /// ```
 pub fn format(items: &[Item], date: Date, time: Time, offset: UtcOffset) -> Option<Text>
     ensures text { SomeIff result (Fits (items_text items.now date time offset))

@@ -1,6 +1,7 @@
 //! Each caller is called.
 use super::is;
 use calendar_values::{ComponentRange, Date, Month, SignedDuration, Time, UtcOffset, Weekday};
+use format_descriptions::{Component, DescriptionFault, Item, Sign, UnixPrecision};
 use offset_times::OffsetDateTime;
 use stamp_times::{Call, ClockRead, Held, Shift, Step, Timestamp, ToTimestamp};
 use std::cmp::Ordering;
@@ -582,5 +583,24 @@ fn headings_of_days(rt: HostRuntime) -> Result<(), Fail> {
         Ok(Some(29)),
     );
     is(&rt, patterns::parts_of_heading(b"2024-02").err(), Some(7));
+    Ok(())
+}
+
+#[test]
+fn patterns_of_users(rt: HostRuntime) -> Result<(), Fail> {
+    is(
+        &rt,
+        patterns::fault_of_pattern("[hours]"),
+        Some(DescriptionFault::UnknownComponent),
+    );
+    is(&rt, patterns::fault_of_pattern("[hour]h"), None);
+    let second = Item::Part(Component::UnixTimestamp(UnixPrecision::Seconds, Sign::Automatic));
+    let last_second = Timestamp::new(-1, 0)?;
+    is(
+        &rt,
+        patterns::timestamp_by(&[second], b"-1"),
+        Some(last_second),
+    );
+    is(&rt, patterns::timestamp_by(&[second], b"one"), None);
     Ok(())
 }

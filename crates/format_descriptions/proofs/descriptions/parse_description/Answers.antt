@@ -16,6 +16,12 @@ returns-in-Err-clause-items c =
     let all = step_fault c.args.version _ _ c.loop-first.place c.in-Err.fault _ _ _ _ c.loop-first.invariant.same front c.in-Err.ensures in
     rw all tt
 
+pub returns-in-Err-clause-refused : goal.returns-in-Err-clause-refused
+returns-in-Err-clause-refused c =
+    let front : c.loop-first.rest.now ≡ c.in-Some.first.now ∷ c.in-Some.more.now = search rules in
+    let all = step_fault c.args.version _ _ c.loop-first.place c.in-Err.fault _ _ _ _ c.loop-first.invariant.same front c.in-Err.ensures in
+    rw c.refusal.ensures (c.in-Err.fault.1, all, refl)
+
 pub returns-then-count-room-clause-count : goal.returns-then-count-room-clause-count
 returns-then-count-room-clause-count c =
     let front : c.loop-first.rest.now ≡ c.in-Some.first.now ∷ c.in-Some.more.now = search rules in
@@ -35,6 +41,16 @@ returns-then-count-room-clause-items c =
     c.in-Ok.ensures c.in-Some-item.is full
     in
     rw all tt
+
+pub returns-then-count-room-clause-refused : goal.returns-then-count-room-clause-refused
+returns-then-count-room-clause-refused c =
+    let front : c.loop-first.rest.now ≡ c.in-Some.first.now ∷ c.in-Some.more.now = search rules in
+    let full : length c.args.room.now - c.loop-first.count ≡ 0 = omega (arith, c.if-count-room.true, c.loop-first.invariant.length) in
+    let all =
+    step_full c.args.version _ _ c.loop-first.place c.in-Ok.read c.in-Some-item.item _ _ _ _ c.loop-first.invariant.same front
+    c.in-Ok.ensures c.in-Some-item.is full
+    in
+    rw c.refusal-then-count-room.ensures (length c.loop-first.rest.now, all, refl)
 
 pub loop-first-preserved-else-count-room : goal.loop-first-preserved-else-count-room
 loop-first-preserved-else-count-room c =
@@ -84,6 +100,15 @@ returns-in-Some-fault_at_end-clause-items c =
     in
     rw all tt
 
+pub returns-in-Some-fault_at_end-clause-refused : goal.returns-in-Some-fault_at_end-clause-refused
+returns-in-Some-fault_at_end-clause-refused c =
+    let none : length c.loop-first.rest.now ≡ 0 = search rules in
+    let all =
+    end_fault c.args.version _ c.loop-first.place c.in-Some-fault_at_end.fault _ _ _ c.loop-first.invariant.same none
+    c.in-Some-fault_at_end.ensures
+    in
+    rw c.refusal-in-Some-fault_at_end.ensures (c.in-Some-fault_at_end.fault.1, all, refl)
+
 pub returns-in-None-clause-count : goal.returns-in-None-clause-count
 returns-in-None-clause-count c =
     let none : length c.loop-first.rest.now ≡ 0 = search rules in
@@ -97,3 +122,10 @@ returns-in-None-clause-items c =
     let all = end_items c.args.version _ c.loop-first.place _ _ _ c.loop-first.invariant.same none c.in-None.ensures in
     let short = length-take-le c.loop-first.count c.loop-first.room (omega (arith, c.loop-first.invariant.count, c.loop-first.invariant.length)) in
     rw (all, short, ← c.loop-first.invariant.others c.loop-first.count (omega arith), take-append-drop c.loop-first.count c.loop-first.room) refl
+
+pub returns-in-None-clause-read : goal.returns-in-None-clause-read
+returns-in-None-clause-read c =
+    let none : length c.loop-first.rest.now ≡ 0 = search rules in
+    let all = end_items c.args.version _ c.loop-first.place _ _ _ c.loop-first.invariant.same none c.in-None.ensures in
+    let short = length-take-le c.loop-first.count c.loop-first.room (omega (arith, c.loop-first.invariant.count, c.loop-first.invariant.length)) in
+    (_, all, short, rw (← c.loop-first.invariant.others c.loop-first.count (omega arith), take-append-drop c.loop-first.count c.loop-first.room) refl)

@@ -27,6 +27,12 @@ use crate::proved::format_descriptions::{DescriptionFault, DescriptionRefusal, I
 ///     (described version (length room.old) text.now) }
 /// ensures items { IfOk (described version (length room.old) text.now)
 ///     (λ items. room.new ≡ items ++ drop (length items) room.old) }
+/// ensures read { IfOk result (λ count. (items : List Item) ×
+///     (described version (length room.old) text.now ≡ Ok items) ×
+///     (length items ≡ count) × (room.new ≡ items ++ drop count room.old)) }
+/// ensures refused { IfErr result (λ refusal. (left : ℕ) ×
+///     (described version (length room.old) text.now ≡ Err (refusal.fault, left)) ×
+///     (refusal.place ≡ length text.now - left)) }
 /// ```
 ///
 /// [docs/proofs/STATEMENT.md](crate::proved#contracts) explains the words.
