@@ -8,7 +8,8 @@ use crate::arguments::is;
 /// files and after its value. The first of them may be `--`, which is no file.
 #[tactic(auto, unfolding(crate::specs::Files::files_of))]
 pub fn files_of<'a>(words: &'a [&'a [u8]]) -> &'a [&'a [u8]]
-    ensures value { map (λ word. word.now) result.now ≡ files_of (map (λ word. word.now) words.now) }
+    ensures value { map (λ word. word.now) result.now
+        ≡ files_of (map (λ word. word.now) words.now) }
     ensures length { length result.now ≤ length words.now }
 {
     let Some((word, rest)) = words.split_first() else {
