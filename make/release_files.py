@@ -262,20 +262,6 @@ def changelog(release):
     )
 
 
-def manual(release, name, text):
-    """A manual page of a program, of what it prints with --help."""
-    about, *lines = text.strip().split("\n")
-    head = f'.TH {name.upper()} 1 "" "muxandu {release.version}" "User Commands"\n.SH NAME\n{name} \\- {about.partition(": ")[2] or about}'
-    body = "\n".join(lines).replace("\\", "\\e").replace("-", "\\-").replace("\n.", "\n\\&.")
-    return f"{head}\n.SH SYNOPSIS\n.nf\n{body}\n.fi\n".encode()
-
-
-def completion(name, text):
-    """The completion of bash of a program's first word."""
-    words = sorted({line.split()[1] for line in text.split("\n") if line.strip().startswith(f"./{name} ")} - {"--help"})
-    return f'complete -W "{" ".join(words)} --help --strict" {name}\n'.encode()
-
-
 def least_libc(path):
     """The version of the C library that a file asks for."""
     printed = subprocess.run(
@@ -323,11 +309,13 @@ def write_debian(release, archive):
     tools = Package(
         release, "muxandu-tools", "utils", f"libc6 (>= {least_libc(release.built / 'stamps')})", "programs for logs", {}
     )
-    usage = release.run(ROOT / "stamps", "--help").decode()
     tools.copy("usr/bin/stamps", release.out / "programs" / "stamps")
     release.run("strip", tools.root / "usr/bin/stamps")
-    tools.put("usr/share/man/man1/stamps.1.gz", packed(manual(release, "stamps", usage)))
-    tools.put("usr/share/bash-completion/completions/stamps", completion("stamps", usage))
+    share = ROOT / "crates" / "stamps" / "share"
+    tools.put("usr/share/man/man1/stamps.1.gz", packed((share / "stamps.1").read_bytes()))
+    tools.put("usr/share/bash-completion/completions/stamps", (share / "stamps.bash").read_bytes())
+    tools.put("usr/share/zsh/vendor-completions/_stamps", (share / "_stamps").read_bytes())
+    tools.put("usr/share/fish/vendor_completions.d/stamps.fish", (share / "stamps.fish").read_bytes())
     for package in (library, develop, tools):
         package.build()
 

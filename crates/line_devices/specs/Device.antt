@@ -10,6 +10,10 @@ inner_of device = device.inner
 abbrev pub has_failed : {T : Type 0} → Device T → Bool
 has_failed device = device.has_failed
 
+-- the last byte that was written, or a line feed before any was
+abbrev pub last_of : {T : Type 0} → Device T → ℕ
+last_of device = device.last
+
 -- of a reader and a writer: what is left to read and what was written, where they are known, and whether a read or a write failed
 pub record Devices : Type 0 where
   pub left : Option (List ℕ)

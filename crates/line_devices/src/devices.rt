@@ -1,5 +1,5 @@
 //! What bytes come from and go to.
-ghost use Rattle.std.specs.Prelude.{◌≡◌, ℕ, ◌<◌, Bool, false, List, length, Option, IfOk};
+ghost use Rattle.std.specs.Prelude.{◌≡◌, ℕ, ◌-◌, ◌<◌, ◌==◌, Bool, false, List, length, Option, Some, IfOk, slice_get};
 ghost use Rattle.std.specs.Io.{ReadsAtMost, WritesAtMost};
 ghost use Rattle.std.specs.Io.KnownBytes.{ReadConsumes, WriteAppends};
 ghost use Rattle.line_devices.specs.Writing.{MarksFailure, WritesAll};
@@ -58,20 +58,30 @@ pub trait Sink {
 pub struct Device<T> {
     inner: T,
     has_failed: bool,
+    last: u8,
 }
 
 impl<T> Device<T> {
-    ghost use Rattle.line_devices.specs.Device.{inner_of, has_failed};
+    ghost use Rattle.line_devices.specs.Device.{inner_of, has_failed, last_of};
 
     /// The device over a reader or a writer. Its mark is not set.
     pub fn new(inner: T) -> Device<T>
         ensures inner { inner_of result ≡ inner }
         ensures unmarked { has_failed result ≡ false }
+        ensures nothing_written { last_of result ≡ 10 }
     {
         Device {
             inner,
             has_failed: false,
+            last: b'\n',
         }
+    }
+
+    /// Whether a line feed is the last byte that was written to it, or no byte was.
+    pub fn is_at_line_start(&self) -> bool
+        ensures { result ≡ (last_of self.now == 10) }
+    {
+        self.last == b'\n'
     }
 }
 
@@ -98,15 +108,27 @@ impl<T: Read> Source for Device<T> {
 }
 
 impl<T: Write> Sink for Device<T> {
-    ghost use Rattle.line_devices.specs.Device.{inner_of, has_failed};
+    ghost use Rattle.line_devices.specs.Device.{inner_of, has_failed, last_of};
 
     ghost written = { λ device. T.contents (inner_of device) };
 
     ghost is_marked = { has_failed };
 
-    fn write_some(&mut self, text: &[u8]) -> Result<usize, DeviceFault> {
+    fn write_some(&mut self, text: &[u8]) -> Result<usize, DeviceFault>
+        ensures bound { WritesAtMost result text.now }
+        ensures progress { IfOk result (λ count. 0 < length text.now → 0 < count) }
+        ensures appended { WriteAppends (T.contents (inner_of self.old))
+            (T.contents (inner_of self.new)) result text.now }
+        ensures mark { MarksFailure result (has_failed self.old) (has_failed self.new) }
+        ensures last { IfOk result (λ count. 0 < count
+            → slice_get text.now (count - 1) ≡ Some (last_of self.new)) }
+    {
         match self.inner.write(text) {
-            Ok(count) if count > 0 || text.is_empty() => Ok(count),
+            Ok(count) if count > 0 => {
+                self.last = text[count - 1];
+                Ok(count)
+            }
+            Ok(count) if text.is_empty() => Ok(count),
             _ => {
                 self.has_failed = true;
                 Err(DeviceFault)

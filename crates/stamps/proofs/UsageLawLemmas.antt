@@ -9,18 +9,18 @@ use Rattle.offset_times.specs.Local.{instant_of}
 use Rattle.rfc3339.specs.Front.{offset_reading_of}
 use Rattle.rfc3339.specs.Reading.{reading_as}
 use Rattle.rfc3339.specs.declared.refusal.TextRefusal.{TextRefusal}
-use Rattle.stamps.specs.Arguments.{alone, at_offset, at_offset_read, bound_of, bound_read, bounded as bounded_words}
-use Rattle.stamps.specs.Arguments.{help_asked, is_finer, request_of, strictness, task_asked}
+use Rattle.stamps.specs.Arguments.{alone, asked_alone, at_offset, at_offset_read, bound_of, bound_read, bounded as bounded_words}
+use Rattle.stamps.specs.Arguments.{is_finer, request_of, strictness, task_asked}
 use Rattle.stamps.specs.Usage.{BoundWord, FrontWords, IsBound, MisuseWords, RequestWords, StrictWords, first_words}
 use Rattle.stamps.specs.Usage.BoundWord.{since, until}
 use Rattle.stamps.specs.Usage.FrontWords.{utc, unix, at, check}
-use Rattle.stamps.specs.Usage.MisuseWords.{no_word, unknown_word, no_offset, offset, no_instant, instant, too_fine, after_help, after_task, after_bound}
-use Rattle.stamps.specs.Usage.RequestWords.{help, task, bounded}
+use Rattle.stamps.specs.Usage.MisuseWords.{no_word, unknown_word, no_offset, offset, no_instant, instant, too_fine, after_help, after_version, after_task, after_bound}
+use Rattle.stamps.specs.Usage.RequestWords.{help, version, task, bounded}
 use Rattle.stamps.specs.Usage.StrictWords.{lenient, strict}
 use Rattle.stamps.specs.declared.arguments.Misuse.{Misuse}
 use Rattle.stamps.specs.declared.arguments.Misuse.TheVariants.{UnknownWord, Extra}
 use Rattle.stamps.specs.declared.arguments.Request.{Request}
-use Rattle.stamps.specs.declared.arguments.Request.TheVariants.{Work}
+use Rattle.stamps.specs.declared.arguments.Request.TheVariants.{Help, Version, Work}
 use Rattle.stamps.specs.declared.task.Style.TheVariants.{Utc, At, Unix}
 use Rattle.stamps.specs.declared.task.Task.{Task}
 use Rattle.stamps.specs.declared.task.Task.TheVariants.{Write, Check, Since, Until}
@@ -95,13 +95,18 @@ by_bound word (text ∷ more) work h = by_reading (word ∷ text ∷ more) word 
 
 -- ---- the first word
 
-by_help : (words more : List (List ℕ)) → words ≡ codes "--help" ∷ more → Outcome words (help_asked more)
+by_help : (words more : List (List ℕ)) → words ≡ codes "--help" ∷ more → Outcome words (asked_alone Help more)
 by_help words [] front = asked (help front)
 by_help words (word ∷ more) front = misused (after_help front)
+
+by_version : (words more : List (List ℕ)) → words ≡ codes "--version" ∷ more → Outcome words (asked_alone Version more)
+by_version words [] front = asked (version front)
+by_version words (word ∷ more) front = misused (after_version front)
 
 -- a first word that is none of those before
 record IsOther (word : List ℕ) : Type 0 where
   help : bytes_eq word (codes "--help") ≡ false
+  version : bytes_eq word (codes "--version") ≡ false
   utc : bytes_eq word (codes "utc") ≡ false
   unix : bytes_eq word (codes "unix") ≡ false
   at : bytes_eq word (codes "at") ≡ false
@@ -109,7 +114,7 @@ record IsOther (word : List ℕ) : Type 0 where
 
 unknown : (word : List ℕ) → IsOther word → bytes_eq word (codes "since") ≡ false → bytes_eq word (codes "until") ≡ false
     → list_any (bytes_eq word) first_words ≡ false
-unknown word h s u = rw (h.help, h.utc, h.unix, h.at, h.check, s, u) refl
+unknown word h s u = rw (h.help, h.version, h.utc, h.unix, h.at, h.check, s, u) refl
 
 after_since : (word : List ℕ) (more : List (List ℕ)) (b : Bool) → IsOther word → bytes_eq word (codes "since") ≡ false → bytes_eq word (codes "until") ≡ b
     → Outcome (word ∷ more) (result_map_both Work (λ misuse. misuse)
@@ -129,49 +134,55 @@ by_words : (word : List ℕ) (more : List (List ℕ)) → IsOther word
 unfolding bounded_words
 by_words word more h = by_bounded word more (bytes_eq word (codes "since")) h refl
 
-by_check : (word : List ℕ) (more : List (List ℕ)) (b : Bool) → bytes_eq word (codes "--help") ≡ false → bytes_eq word (codes "utc") ≡ false
+by_check : (word : List ℕ) (more : List (List ℕ)) (b : Bool) → bytes_eq word (codes "--help") ≡ false → bytes_eq word (codes "--version") ≡ false → bytes_eq word (codes "utc") ≡ false
     → bytes_eq word (codes "unix") ≡ false → bytes_eq word (codes "at") ≡ false → bytes_eq word (codes "check") ≡ b
     → Outcome (word ∷ more) (result_map_both Work (λ misuse. misuse)
     (if b then result_map_both Check (λ misuse. misuse) (strictness more) else bounded_words word more))
-by_check word more true no_help no_utc no_unix no_at e = by_strictness (word ∷ more) more Check (check (same_first word (codes "check") more e))
-by_check word more false no_help no_utc no_unix no_at e =
-    by_words word more (record { help = no_help; utc = no_utc; unix = no_unix; at = no_at; check = e })
+by_check word more true no_help no_version no_utc no_unix no_at e = by_strictness (word ∷ more) more Check (check (same_first word (codes "check") more e))
+by_check word more false no_help no_version no_utc no_unix no_at e =
+    by_words word more (record { help = no_help; version = no_version; utc = no_utc; unix = no_unix; at = no_at; check = e })
 
-by_at_word : (word : List ℕ) (more : List (List ℕ)) (b : Bool) → bytes_eq word (codes "--help") ≡ false → bytes_eq word (codes "utc") ≡ false
+by_at_word : (word : List ℕ) (more : List (List ℕ)) (b : Bool) → bytes_eq word (codes "--help") ≡ false → bytes_eq word (codes "--version") ≡ false → bytes_eq word (codes "utc") ≡ false
     → bytes_eq word (codes "unix") ≡ false → bytes_eq word (codes "at") ≡ b
     → Outcome (word ∷ more) (result_map_both Work (λ misuse. misuse)
     (if b then at_offset more
     else (if bytes_eq word (codes "check") then result_map_both Check (λ misuse. misuse) (strictness more) else bounded_words word more)))
-by_at_word word more true no_help no_utc no_unix e = by_at (word ∷ more) more (same_first word (codes "at") more e)
-by_at_word word more false no_help no_utc no_unix e = by_check word more (bytes_eq word (codes "check")) no_help no_utc no_unix e refl
+by_at_word word more true no_help no_version no_utc no_unix e = by_at (word ∷ more) more (same_first word (codes "at") more e)
+by_at_word word more false no_help no_version no_utc no_unix e = by_check word more (bytes_eq word (codes "check")) no_help no_version no_utc no_unix e refl
 
-by_unix : (word : List ℕ) (more : List (List ℕ)) (b : Bool) → bytes_eq word (codes "--help") ≡ false → bytes_eq word (codes "utc") ≡ false
+by_unix : (word : List ℕ) (more : List (List ℕ)) (b : Bool) → bytes_eq word (codes "--help") ≡ false → bytes_eq word (codes "--version") ≡ false → bytes_eq word (codes "utc") ≡ false
     → bytes_eq word (codes "unix") ≡ b
     → Outcome (word ∷ more) (result_map_both Work (λ misuse. misuse)
     (if b then result_map_both (Write Unix) (λ misuse. misuse) (strictness more)
     else (if bytes_eq word (codes "at") then at_offset more
     else (if bytes_eq word (codes "check") then result_map_both Check (λ misuse. misuse) (strictness more) else bounded_words word more))))
-by_unix word more true no_help no_utc e = by_strictness (word ∷ more) more (Write Unix) (unix (same_first word (codes "unix") more e))
-by_unix word more false no_help no_utc e = by_at_word word more (bytes_eq word (codes "at")) no_help no_utc e refl
+by_unix word more true no_help no_version no_utc e = by_strictness (word ∷ more) more (Write Unix) (unix (same_first word (codes "unix") more e))
+by_unix word more false no_help no_version no_utc e = by_at_word word more (bytes_eq word (codes "at")) no_help no_version no_utc e refl
 
-by_utc : (word : List ℕ) (more : List (List ℕ)) (b : Bool) → bytes_eq word (codes "--help") ≡ false → bytes_eq word (codes "utc") ≡ b
+by_utc : (word : List ℕ) (more : List (List ℕ)) (b : Bool) → bytes_eq word (codes "--help") ≡ false → bytes_eq word (codes "--version") ≡ false → bytes_eq word (codes "utc") ≡ b
     → Outcome (word ∷ more) (result_map_both Work (λ misuse. misuse)
     (if b then result_map_both (Write Utc) (λ misuse. misuse) (strictness more)
     else (if bytes_eq word (codes "unix") then result_map_both (Write Unix) (λ misuse. misuse) (strictness more)
     else (if bytes_eq word (codes "at") then at_offset more
     else (if bytes_eq word (codes "check") then result_map_both Check (λ misuse. misuse) (strictness more) else bounded_words word more)))))
-by_utc word more true no_help e = by_strictness (word ∷ more) more (Write Utc) (utc (same_first word (codes "utc") more e))
-by_utc word more false no_help e = by_unix word more (bytes_eq word (codes "unix")) no_help e refl
+by_utc word more true no_help no_version e = by_strictness (word ∷ more) more (Write Utc) (utc (same_first word (codes "utc") more e))
+by_utc word more false no_help no_version e = by_unix word more (bytes_eq word (codes "unix")) no_help no_version e refl
 
-by_task : (word : List ℕ) (more : List (List ℕ)) → bytes_eq word (codes "--help") ≡ false
+by_task : (word : List ℕ) (more : List (List ℕ)) → bytes_eq word (codes "--help") ≡ false → bytes_eq word (codes "--version") ≡ false
     → Outcome (word ∷ more) (result_map_both Work (λ misuse. misuse) (task_asked word more))
 unfolding task_asked
-by_task word more no_help = by_utc word more (bytes_eq word (codes "utc")) no_help refl
+by_task word more no_help no_version = by_utc word more (bytes_eq word (codes "utc")) no_help no_version refl
+
+by_second : (word : List ℕ) (more : List (List ℕ)) (b : Bool) → bytes_eq word (codes "--help") ≡ false → bytes_eq word (codes "--version") ≡ b
+    → Outcome (word ∷ more) (if b then asked_alone Version more else result_map_both Work (λ misuse. misuse) (task_asked word more))
+by_second word more true no_help e = by_version (word ∷ more) more (same_first word (codes "--version") more e)
+by_second word more false no_help e = by_task word more no_help e
 
 by_first : (word : List ℕ) (more : List (List ℕ)) (b : Bool) → bytes_eq word (codes "--help") ≡ b
-    → Outcome (word ∷ more) (if b then help_asked more else result_map_both Work (λ misuse. misuse) (task_asked word more))
+    → Outcome (word ∷ more) (if b then asked_alone Help more
+    else (if bytes_eq word (codes "--version") then asked_alone Version more else result_map_both Work (λ misuse. misuse) (task_asked word more)))
 by_first word more true e = by_help (word ∷ more) more (same_first word (codes "--help") more e)
-by_first word more false e = by_task word more e
+by_first word more false e = by_second word more (bytes_eq word (codes "--version")) e refl
 
 outcome : (words : List (List ℕ)) → Outcome words (request_of words)
 unfolding request_of
@@ -224,6 +235,7 @@ bound_is words word more work (until w) e = rw (e, w) refl
 pub request_is : (words : List (List ℕ)) (request : Request) → RequestWords words request → request_of words ≡ Ok request
 unfolding request_of
 request_is words request (help e) = rw e refl
+request_is words request (version e) = rw e refl
 request_is words request (task {work = work} {more = more} {is_strict = b} front h) =
     strict_task words more work (Ok b) front (strict_is more b h)
 request_is words request (bounded {work = work} {word = word} {text = text} {bound = bound} h e read) =
@@ -240,14 +252,15 @@ unknown_is : (words : List (List ℕ)) (word : List ℕ) (more : List (List ℕ)
     → request_of words ≡ Err UnknownWord
 unfolding request_of task_asked bounded_words after_at
 unknown_is words word more e none =
-    let one = not_first word (codes "--help") (codes "utc" ∷ codes "unix" ∷ codes "at" ∷ after_at) none in
-    let two = not_first word (codes "utc") (codes "unix" ∷ codes "at" ∷ after_at) one.1 in
+    let one = not_first word (codes "--help") (codes "--version" ∷ codes "utc" ∷ codes "unix" ∷ codes "at" ∷ after_at) none in
+    let other = not_first word (codes "--version") (codes "utc" ∷ codes "unix" ∷ codes "at" ∷ after_at) one.1 in
+    let two = not_first word (codes "utc") (codes "unix" ∷ codes "at" ∷ after_at) other.1 in
     let three = not_first word (codes "unix") (codes "at" ∷ after_at) two.1 in
     let four = not_first word (codes "at") after_at three.1 in
     let five = not_first word (codes "check") (codes "since" ∷ codes "until" ∷ []) four.1 in
     let six = not_first word (codes "since") (codes "until" ∷ []) five.1 in
     let seven = not_first word (codes "until") [] six.1 in
-    rw (e, one.0, two.0, three.0, four.0, five.0, six.0, seven.0) refl
+    rw (e, one.0, other.0, two.0, three.0, four.0, five.0, six.0, seven.0) refl
 
 pub misuse_is : (words : List (List ℕ)) (misuse : Misuse) → MisuseWords words misuse → request_of words ≡ Err misuse
 unfolding request_of task_asked
@@ -261,6 +274,7 @@ misuse_is words misuse (instant {work = work} {word = word} {text = text} {more 
 misuse_is words misuse (too_fine {work = work} {word = word} {text = text} {more = more} h e read finer) =
     bound_is words word (text ∷ more) work h e ∙ rw (read, finer) refl
 misuse_is words misuse (after_help e) = rw e refl
+misuse_is words misuse (after_version e) = rw e refl
 misuse_is words misuse (after_task {work = work} {word = word} {more = more} front none) =
     strict_task words (word ∷ more) work (Err Extra) front (extra_is word more none)
 misuse_is words misuse (after_bound {work = work} {word = word} {text = text} {other = other} {more = more} h e read) =

@@ -12,7 +12,7 @@ use Rattle.rfc3339.specs.declared.refusal.TextRefusal.TheVariants.{Syntax, OutOf
 use Rattle.stamps.specs.declared.arguments.Misuse.{Misuse}
 use Rattle.stamps.specs.declared.arguments.Misuse.TheVariants.{NoWord, UnknownWord, NoOffset, Offset, NoInstant, Instant, TooFine, Extra}
 use Rattle.stamps.specs.declared.arguments.Request.{Request}
-use Rattle.stamps.specs.declared.arguments.Request.TheVariants.{Help, Work}
+use Rattle.stamps.specs.declared.arguments.Request.TheVariants.{Help, Version, Work}
 use Rattle.stamps.specs.declared.task.Style.{Style}
 use Rattle.stamps.specs.declared.task.Style.TheVariants.{Utc, At, Unix}
 use Rattle.stamps.specs.declared.task.Task.{Task}
@@ -73,17 +73,18 @@ task_asked word words =
     else (if bytes_eq word (codes "check") then result_map_both Check (λ misuse. misuse) (strictness words)
     else bounded word words)))
 
--- the usage, if no word follows
-abbrev pub help_asked : List (List ℕ) → Result Request Misuse
-help_asked [] = Ok Help
-help_asked (word ∷ words) = Err Extra
+-- a request that no word follows
+abbrev pub asked_alone : Request → List (List ℕ) → Result Request Misuse
+asked_alone request [] = Ok request
+asked_alone request (word ∷ words) = Err Extra
 
 -- what the words after the name of the program ask for
 unfoldable pub request_of : List (List ℕ) → Result Request Misuse
 request_of [] = Err NoWord
 request_of (word ∷ words) =
-    if bytes_eq word (codes "--help") then help_asked words
-    else result_map_both Work (λ misuse. misuse) (task_asked word words)
+    if bytes_eq word (codes "--help") then asked_alone Help words
+    else (if bytes_eq word (codes "--version") then asked_alone Version words
+    else result_map_both Work (λ misuse. misuse) (task_asked word words))
 
 -- what is printed of a misuse: what is wrong, and what mends it
 abbrev pub misuse_text : Misuse → List ℕ

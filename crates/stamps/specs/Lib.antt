@@ -2,6 +2,7 @@ pub mod Arguments
 pub mod BoundLaws
 pub mod Decisions
 pub mod Faults
+pub mod Files
 pub mod Findings
 pub mod Laws
 pub mod LineStamps

@@ -10,7 +10,7 @@ use Rattle.stamps.specs.Arguments.{is_finer, request_of}
 use Rattle.stamps.specs.declared.arguments.Misuse.{Misuse}
 use Rattle.stamps.specs.declared.arguments.Misuse.TheVariants.{NoWord, UnknownWord, NoOffset, Offset, NoInstant, Instant, TooFine, Extra}
 use Rattle.stamps.specs.declared.arguments.Request.{Request}
-use Rattle.stamps.specs.declared.arguments.Request.TheVariants.{Help, Work}
+use Rattle.stamps.specs.declared.arguments.Request.TheVariants.{Help, Version, Work}
 use Rattle.stamps.specs.declared.task.Style.TheVariants.{Utc, At, Unix}
 use Rattle.stamps.specs.declared.task.Task.{Task}
 use Rattle.stamps.specs.declared.task.Task.TheVariants.{Write, Check, Since, Until}
@@ -42,6 +42,8 @@ pub record IsBound (text : List ℕ) (bound : ℤ) : Type 0 where
 pub data RequestWords (words : List (List ℕ)) : Request → Type 0 where
   -- --help
   help : words ≡ codes "--help" ∷ [] → RequestWords words Help
+  -- --version
+  version : words ≡ codes "--version" ∷ [] → RequestWords words Version
   -- utc [--strict], unix [--strict], at OFFSET [--strict], check [--strict]
   task : {work : Bool → Task} {more : List (List ℕ)} {is_strict : Bool} → FrontWords words more work → StrictWords more is_strict
       → RequestWords words (Work (work is_strict))
@@ -51,7 +53,8 @@ pub data RequestWords (words : List (List ℕ)) : Request → Type 0 where
 
 -- the words with which a request begins
 abbrev pub first_words : List (List ℕ)
-first_words = codes "--help" ∷ codes "utc" ∷ codes "unix" ∷ codes "at" ∷ codes "check" ∷ codes "since" ∷ codes "until" ∷ []
+first_words =
+    codes "--help" ∷ codes "--version" ∷ codes "utc" ∷ codes "unix" ∷ codes "at" ∷ codes "check" ∷ codes "since" ∷ codes "until" ∷ []
 
 -- the words that are a misuse
 pub data MisuseWords (words : List (List ℕ)) : Misuse → Type 0 where
@@ -72,6 +75,7 @@ pub data MisuseWords (words : List (List ℕ)) : Misuse → Type 0 where
       → words ≡ word ∷ text ∷ more → reading_as instant_of text ≡ Ok bound → is_finer text ≡ true → MisuseWords words TooFine
   -- a word follows a request, and is not `--strict` alone where that may follow
   after_help : {word : List ℕ} {more : List (List ℕ)} → words ≡ codes "--help" ∷ word ∷ more → MisuseWords words Extra
+  after_version : {word : List ℕ} {more : List (List ℕ)} → words ≡ codes "--version" ∷ word ∷ more → MisuseWords words Extra
   after_task : {work : Bool → Task} {word : List ℕ} {more : List (List ℕ)} → FrontWords words (word ∷ more) work
       → ¬ (word ∷ more ≡ codes "--strict" ∷ []) → MisuseWords words Extra
   after_bound : {work : ℤ → Task} {word text other : List ℕ} {more : List (List ℕ)} {bound : ℤ} → BoundWord word work

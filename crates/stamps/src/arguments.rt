@@ -3,7 +3,7 @@ ghost use Rattle.std.specs.Prelude.{◌≡◌, map};
 ghost use Rattle.std.specs.Str.{bytes_eq};
 ghost use Rattle.offset_times.specs.Local.{instant_of};
 ghost use Rattle.rfc3339.specs.Reading.{reading_as};
-ghost use Rattle.stamps.specs.Arguments.{alone, at_offset, bound_of, bounded, help_asked, is_finer, misuse_text, request_of};
+ghost use Rattle.stamps.specs.Arguments.{alone, asked_alone, at_offset, bound_of, bounded, is_finer, misuse_text, request_of};
 ghost use Rattle.stamps.specs.Arguments.{strictness, task_asked, written};
 
 use crate::task::{Style, Task};
@@ -15,6 +15,8 @@ use utc_times::UtcDateTime;
 pub enum Request {
     /// The usage.
     Help,
+    /// The version.
+    Version,
     /// Work on lines.
     Work(Task),
 }
@@ -49,17 +51,20 @@ pub fn request_of(words: &[&[u8]]) -> Result<Request, Misuse>
         return Err(Misuse::NoWord);
     };
     if is(word, "--help") {
-        return help_asked(rest);
+        return asked_alone(Request::Help, rest);
+    }
+    if is(word, "--version") {
+        return asked_alone(Request::Version, rest);
     }
     Ok(Request::Work(task_asked(word, rest)?))
 }
 
-// The usage, if no word follows.
-fn help_asked(words: &[&[u8]]) -> Result<Request, Misuse>
-    ensures { result ≡ help_asked (map (λ word. word.now) words.now) }
+// A request that no word follows.
+fn asked_alone(request: Request, words: &[&[u8]]) -> Result<Request, Misuse>
+    ensures { result ≡ asked_alone request (map (λ word. word.now) words.now) }
 {
     if words.is_empty() {
-        Ok(Request::Help)
+        Ok(request)
     } else {
         Err(Misuse::Extra)
     }
@@ -83,8 +88,8 @@ fn task_asked(word: &[u8], words: &[&[u8]]) -> Result<Task, Misuse>
     }
 }
 
-// Whether a word is this text.
-fn is(word: &[u8], text: &str) -> bool
+/// Whether a word is this text.
+pub(crate) fn is(word: &[u8], text: &str) -> bool
     ensures { result ≡ bytes_eq word.now text.now }
 {
     word == text.as_bytes()

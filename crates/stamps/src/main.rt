@@ -1,60 +1,68 @@
-//! Reads lines from standard input that begin with stamps of RFC 3339, and writes them as the command line asks for.
+//! Reads lines that begin with stamps of RFC 3339, and writes them as the command line asks for.
 #![tactic(auto)]
 
 mod arguments;
 mod decide;
+mod files;
 mod finding;
+mod inputs;
 mod laws;
 mod lines;
 mod stamps;
 mod style;
 mod task;
+mod usage;
 
-use arguments::{Misuse, Request, misuse_line, request_of};
-use finding::Finding;
-use line_devices::devices::Device;
-use stamps::{StampFault, stamps};
+use arguments::{Request, misuse_line, request_of};
+use files::{files_of, is_dashes, is_option};
+use inputs::{FAILED, say};
+use std::alloc::AllocError;
 use std::process::ExitCode;
 use std::{env, io};
 use task::Task;
+use usage::USAGE;
 
-// One word more than a command line has.
-const MOST_WORDS: usize = 4;
-
-// What the program takes.
-const USAGE: &str = "usage: stamps WORD < FILE
-  utc [--strict]        write each stamp in UTC
-  at OFFSET [--strict]  write each stamp at an offset, as +05:30 or Z
-  unix [--strict]       write each stamp as Unix seconds
-  check [--strict]      write nothing, and fail where the instants decrease
-  since DATE-TIME       write the lines from this instant on
-  until DATE-TIME       write the lines before this instant
-  --help                print this usage
-With --strict the first line without a stamp ends the run.";
+// The version of the library, which the program has too: make/versions writes it.
+const VERSION_LINE: &str = "stamps 0.1.0";
 
 fn main(rt: HostRuntime) -> ExitCode {
     let Ok(given) = words_given(&rt) else {
-        return misused(
-            &rt,
-            "the words are no text, or too many: use the words below",
-        );
+        return misused(&rt, "a word is no text of UTF-8: use the words below");
     };
-    match asked(&given) {
-        Ok(Request::Help) => help(&rt),
-        Ok(Request::Work(task)) => run(&rt, &task),
-        Err(misuse) => misused(&rt, misuse_line(misuse)),
+    let words = given.as_slice();
+    match words.split_first() {
+        Some((_, words)) => obey(&rt, words),
+        None => obey(&rt, words),
     }
 }
 
-// What the words ask for, of which the first is the name of the program.
-fn asked(given: &[String]) -> Result<Request, Misuse> {
-    let mut words: [&[u8]; MOST_WORDS] = [b"".as_slice(); MOST_WORDS];
-    let mut count = 0;
-    'words: while count < MOST_WORDS && count + 1 < given.len() {
-        words[count] = given[count + 1].as_bytes();
-        count += 1;
+// Does what the words ask for, without the name of the program.
+fn obey(rt: &HostRuntime, given: &[String]) -> ExitCode {
+    let Ok(words) = bytes_of(rt, given) else {
+        say(rt, "", "no memory is left");
+        return ExitCode::from(FAILED);
+    };
+    let words = words.as_slice();
+    let files = files_of(words).len();
+    if words.len() != given.len() || files > words.len() {
+        return ExitCode::from(FAILED);
     }
-    request_of(&words[..count])
+    let count = words.len() - files;
+    match request_of(&words[..count]) {
+        Ok(Request::Help) => answer(rt, USAGE),
+        Ok(Request::Version) => answer(rt, VERSION_LINE),
+        Ok(Request::Work(task)) => run(rt, &task, &given[..count], &given[count..]),
+        Err(misuse) => misused(rt, misuse_line(misuse)),
+    }
+}
+
+// The words as bytes.
+fn bytes_of<'a>(rt: &HostRuntime, given: &'a [String]) -> Result<Vec<&'a [u8]>, AllocError> {
+    let mut words = Vec::new(rt.alloc());
+    for word in given {
+        words.push(word.as_bytes())?;
+    }
+    Ok(words)
 }
 
 // The name of the program, and the words behind it.
@@ -62,43 +70,36 @@ fn words_given(rt: &HostRuntime) -> io::Result<Vec<String>> {
     Ok(env::args(rt)?.collect(rt.alloc())?)
 }
 
-// Prints the usage to standard output.
-fn help(rt: &HostRuntime) -> ExitCode {
-    match println!(rt; "{USAGE}") {
+// Prints a text to standard output.
+fn answer(rt: &HostRuntime, text: &str) -> ExitCode {
+    match println!(rt; "{text}") {
         Ok(()) => ExitCode::SUCCESS,
         Err(_) => {
-            say(rt, "write failed");
-            ExitCode::FAILURE
+            say(rt, "", "write failed");
+            ExitCode::from(FAILED)
         }
     }
 }
 
 // Prints a misuse and the usage to standard error.
 fn misused(rt: &HostRuntime, text: &str) -> ExitCode {
-    say(rt, text);
+    say(rt, "", text);
     let _ = eprintln!(rt; "{USAGE}");
-    ExitCode::from(2)
+    ExitCode::from(FAILED)
 }
 
-// Does the task from standard input to standard output.
-fn run(rt: &HostRuntime, task: &Task) -> ExitCode {
-    let mut reader = Device::new(rt.stdin());
-    let mut writer = Device::new(rt.stdout());
-    match stamps(task, &mut reader, &mut writer) {
-        Ok(()) => return ExitCode::SUCCESS,
-        Err(StampFault::Read) => say(rt, "read failed"),
-        Err(StampFault::Write) => say(rt, "write failed"),
-        Err(StampFault::Found(found)) => say_found(rt, &found),
+// Does the task on the files. The words are those before them.
+fn run(rt: &HostRuntime, task: &Task, words: &[String], files: &[String]) -> ExitCode {
+    for file in files {
+        if is_dashes(file.as_bytes()) {
+            break;
+        }
+        if is_option(file.as_bytes()) {
+            return misused(
+                rt,
+                "an option follows a file: put options before the files, or -- before a file of that name",
+            );
+        }
     }
-    ExitCode::FAILURE
-}
-
-// A line on standard error.
-fn say(rt: &HostRuntime, text: &str) {
-    let _ = eprintln!(rt; "stamps: {text}");
-}
-
-// What ends the run.
-fn say_found(rt: &HostRuntime, found: &Finding) {
-    let _ = eprintln!(rt; "stamps: {}", found.text());
+    ExitCode::from(inputs::run(rt, task, words, files))
 }

@@ -3,7 +3,7 @@ ghost use Rattle.std.specs.Prelude.{◌≡◌, ℕ, ◌-◌, ◌^◌, ◌<◌, �
 ghost use Rattle.std.specs.Io.KnownBytes.{Appends, Consumes};
 ghost use Rattle.line_devices.specs.Device.{Devices, devices};
 ghost use Rattle.line_devices.specs.Writing.{AppendsBeginning};
-ghost use Rattle.stamps.specs.Faults.{stamp_fault, FoundIn};
+ghost use Rattle.stamps.specs.Faults.{stamp_fault, status_of, FoundIn};
 ghost use Rattle.stamps.specs.Runs.{input_run, open_run};
 ghost use Rattle.stamps.specs.Turns.{GoesOn, Turns};
 
@@ -32,6 +32,18 @@ impl From<LineFault> for StampFault {
             LineFault::Write => StampFault::Write,
             LineFault::Found(found) => StampFault::Found(found),
         }
+    }
+}
+
+/// The exit status of the program: 0 at the end of the input, 1 for a finding, and 2 after a failed
+/// read or write.
+pub fn status_of(ended: &Result<(), StampFault>) -> u8
+    ensures { result ≡ status_of ended.now }
+{
+    match ended {
+        Ok(()) => 0,
+        Err(StampFault::Found(_)) => 1,
+        Err(StampFault::Read | StampFault::Write) => 2,
     }
 }
 

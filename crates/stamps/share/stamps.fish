@@ -1,0 +1,10 @@
+# The completion of stamps for fish. Made by make/stamps_words.
+complete -c stamps -n __fish_is_first_token -f -a 'utc' -d 'write each stamp in UTC'
+complete -c stamps -n __fish_is_first_token -f -a 'at' -d 'write each stamp at an offset, as +05:30 or Z'
+complete -c stamps -n __fish_is_first_token -f -a 'unix' -d 'write each stamp as Unix seconds'
+complete -c stamps -n __fish_is_first_token -f -a 'check' -d 'write nothing, and fail where the instants decrease'
+complete -c stamps -n __fish_is_first_token -f -a 'since' -d 'write the lines from this instant on'
+complete -c stamps -n __fish_is_first_token -f -a 'until' -d 'write the lines before this instant'
+complete -c stamps -n __fish_is_first_token -f -a '--help' -d 'print this usage'
+complete -c stamps -n __fish_is_first_token -f -a '--version' -d 'print the version'
+complete -c stamps -n '__fish_seen_subcommand_from utc at unix check' -l strict -d 'end the run at the first line without a stamp'
