@@ -29,7 +29,7 @@ pub enum Item {
 /// ensures { result ≡ size_of item }
 /// ```
 ///
-/// [docs/STATEMENT.md](crate::proved#contracts) explains the words.
+/// [docs/proofs/STATEMENT.md](crate::proved#contracts) explains the words.
 #[inline]
 pub(crate) const fn size_of(item: Item) -> Option<usize> {
     match item {
@@ -45,7 +45,7 @@ pub(crate) const fn size_of(item: Item) -> Option<usize> {
 /// ensures { result ≡ is_other item }
 /// ```
 ///
-/// [docs/STATEMENT.md](crate::proved#contracts) explains the words.
+/// [docs/proofs/STATEMENT.md](crate::proved#contracts) explains the words.
 #[inline]
 pub(crate) const fn is_other(item: Item) -> bool {
     match item {
@@ -61,7 +61,7 @@ pub(crate) const fn is_other(item: Item) -> bool {
 /// ensures { result ≡ fault_after item earlier left }
 /// ```
 ///
-/// [docs/STATEMENT.md](crate::proved#contracts) explains the words.
+/// [docs/proofs/STATEMENT.md](crate::proved#contracts) explains the words.
 #[inline]
 pub(crate) const fn fault_after(item: Item, earlier: Option<usize>, left: usize) -> Option<usize> {
     match item {
@@ -78,7 +78,7 @@ pub(crate) const fn fault_after(item: Item, earlier: Option<usize>, left: usize)
 /// ensures shorter { length result.now ≤ length items.now }
 /// ```
 ///
-/// [docs/STATEMENT.md](crate::proved#contracts) explains the words.
+/// [docs/proofs/STATEMENT.md](crate::proved#contracts) explains the words.
 #[inline]
 pub(crate) fn behind(count: usize, items: &[Item]) -> &[Item] {
     if count < items.len() {

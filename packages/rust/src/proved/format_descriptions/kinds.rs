@@ -162,7 +162,7 @@ fn lacking(items: &[Item], date: bool, time: bool, offset: bool) -> Option<Compo
 /// ensures { result ≡ flat_lacking date time offset (written_from items.now 0 count) }
 /// ```
 ///
-/// [docs/STATEMENT.md](crate::proved#contracts) explains the words.
+/// [docs/proofs/STATEMENT.md](crate::proved#contracts) explains the words.
 #[inline]
 fn lacking_of(
     items: &[Item],

@@ -25,6 +25,9 @@ use crate::proved::format_descriptions::{Component, Item, Parts, Sign, UnixPreci
 /// ```text
 /// ensures reading { result ≡ result_map_both (λ p. p) (λ left. length text.now - left)
 ///     (items_at items.now text.now no_parts) }
+/// ensures accepted { IfOk result (λ parts. items_at items.now text.now no_parts ≡ Ok parts) }
+/// ensures refused { IfErr result (λ place. (left : ℕ) ×
+///     (items_at items.now text.now no_parts ≡ Err left) × (place ≡ length text.now - left)) }
 /// ```
 ///
 /// [docs/proofs/STATEMENT.md](crate::proved#contracts) explains the words.
@@ -64,7 +67,7 @@ pub fn parse(items: &[Item], text: &[u8]) -> Result<Parts, usize> {
 ///     (λ left. length text.now - left) (front_of items.now text.now no_parts) }
 /// ```
 ///
-/// [docs/STATEMENT.md](crate::proved#contracts) explains the words.
+/// [docs/proofs/STATEMENT.md](crate::proved#contracts) explains the words.
 #[inline]
 pub fn parse_front(items: &[Item], text: &[u8]) -> Result<(Parts, usize), usize> {
     match front(items, items.len(), text, Parts::none()) {
@@ -84,7 +87,7 @@ pub fn parse_front(items: &[Item], text: &[u8]) -> Result<(Parts, usize), usize>
 /// ensures left { IfErr result (λ left. left ≤ length text.now) }
 /// ```
 ///
-/// [docs/STATEMENT.md](crate::proved#contracts) explains the words.
+/// [docs/proofs/STATEMENT.md](crate::proved#contracts) explains the words.
 #[inline]
 fn front<'a>(
     items: &[Item],
@@ -151,7 +154,7 @@ fn front<'a>(
 /// ensures shorter { IfOk result (λ read. length read.1.now ≤ length text.now) }
 /// ```
 ///
-/// [docs/STATEMENT.md](crate::proved#contracts) explains the words.
+/// [docs/proofs/STATEMENT.md](crate::proved#contracts) explains the words.
 #[inline]
 const fn front_end(
     fault: Option<usize>,

@@ -72,7 +72,7 @@ pub fn format(items: &[Item], date: Date, time: Time, offset: UtcOffset) -> Opti
 ///     SomeIff result (Fits all) all }
 /// ```
 ///
-/// [docs/STATEMENT.md](crate::proved#contracts) explains the words.
+/// [docs/proofs/STATEMENT.md](crate::proved#contracts) explains the words.
 #[inline]
 fn write_items(
     items: &[Item],
