@@ -72,7 +72,10 @@ pub lacking_group : (date time offset : Bool) (item : Item) (c : Component) (ite
     → flat_lacking date time offset (written_from items 0 count) ≡ all → all ≡ Some c
 unfolding written_from
 lacking_group date time offset item c items others size count n all front place head own is so =
-    let both = rw (front, place, ← head, own, flat_lacking-append date time offset (written_from others 0 (min size n)) (written_from others size (n - size))) at so in
+    let both =
+        rw (front, place, ← head, own, flat_lacking-append date time offset (written_from others 0 (min size n)) (written_from others size (n - size)))
+            at so
+    in
     sym (rw (← is) at both)
 
 pub group_on : (date time offset : Bool) (item : Item) (items others : List Item) (size count n : ℕ) (all : Option Component)
@@ -81,7 +84,10 @@ pub group_on : (date time offset : Bool) (item : Item) (items others : List Item
     → flat_lacking date time offset (written_from items 0 count) ≡ all → flat_lacking date time offset (written_from (drop size others) 0 (n - size)) ≡ all
 unfolding written_from
 group_on date time offset item items others size count n all front place head own is so =
-    let both = rw (front, place, ← head, own, flat_lacking-append date time offset (written_from others 0 (min size n)) (written_from others size (n - size))) at so in
+    let both =
+        rw (front, place, ← head, own, flat_lacking-append date time offset (written_from others 0 (min size n)) (written_from others size (n - size)))
+            at so
+    in
     rw (← written_from-drop others size (n - size)) (rw (← is) at both)
 
 pub other_on : (date time offset : Bool) (item : Item) (items others : List Item) (size count n : ℕ) (all : Option Component)

@@ -23,8 +23,10 @@ use Rattle.format_descriptions.specs.Modifiers.{is_padded, is_mandatory, is_exte
 use Rattle.format_descriptions.specs.Groups.{written_items}
 use Rattle.format_descriptions.specs.Read.{items_at, item_at, component_at, with_part, no_parts}
 use Rattle.format_descriptions.specs.Reading.{fraction_at, sign_at, signed_year_at, signed_century_at, signed_hours_at}
-use Rattle.format_descriptions.specs.RoundTrips.{takes_digits, is_whole, begins_apart, starts_apart, are_clear, is_clear, number_of, flat_parts, parts_of, AreParts, AreWritten}
-use Rattle.format_descriptions.specs.Written.{items_text, flat_text, item_text, component_text, year_by, year_sign, year_text, four_text, century_text, century_digits}
+use Rattle.format_descriptions.specs.RoundTrips.{takes_digits, is_whole, begins_apart, starts_apart, are_clear, is_clear, number_of, flat_parts}
+use Rattle.format_descriptions.specs.RoundTrips.{parts_of, AreParts, AreWritten}
+use Rattle.format_descriptions.specs.Written.{items_text, flat_text, item_text, component_text, year_by, year_sign, year_text, four_text}
+use Rattle.format_descriptions.specs.Written.{century_text, century_digits}
 use Rattle.format_descriptions.specs.Written.{week_by, subsecond_text, offset_hour_text, hour_12, unix_count, unix_text}
 use Rattle.format_descriptions.proofs.DecimalLemmas.{unix-again}
 use Rattle.format_descriptions.proofs.GroupLemmas.{flat_at, items_at-written}

@@ -10,7 +10,8 @@ use Rattle.calendar_values.specs.WallClock.{wall_day, wall_time}
 use Rattle.offset_times.specs.Local.{Local, local_in_utc}
 use Rattle.rfc3339.specs.Texts.{HasText, HasFixedText, fixed_text, fixed_text_at, time_offset_text}
 use Rattle.format_descriptions.specs.Groups.{written_from, written_items}
-use Rattle.format_descriptions.specs.Written.{items_text, flat_text, item_text, component_text, year_text, four_text, two_text, subsecond_text, offset_hour_text}
+use Rattle.format_descriptions.specs.Written.{items_text, flat_text, item_text, component_text, year_text, four_text, two_text, subsecond_text}
+use Rattle.format_descriptions.specs.Written.{offset_hour_text}
 use Rattle.format_descriptions.specs.Written.{described_text}
 use Rattle.format_descriptions.specs.declared.item.Item.{Item}
 use Rattle.format_descriptions.specs.declared.modifiers.Padding.TheVariants.{Zero}

@@ -14,7 +14,8 @@ use Rattle.stamps.specs.Arguments.{is_finer, request_of, strictness, task_asked}
 use Rattle.stamps.specs.Usage.{BoundWord, FrontWords, IsBound, MisuseWords, RequestWords, StrictWords, first_words}
 use Rattle.stamps.specs.Usage.BoundWord.{since, until}
 use Rattle.stamps.specs.Usage.FrontWords.{utc, unix, at, check}
-use Rattle.stamps.specs.Usage.MisuseWords.{no_word, unknown_word, no_offset, offset, no_instant, instant, too_fine, after_help, after_version, after_task, after_bound}
+use Rattle.stamps.specs.Usage.MisuseWords.{no_word, unknown_word, no_offset, offset, no_instant, instant, too_fine, after_help, after_version}
+use Rattle.stamps.specs.Usage.MisuseWords.{after_task, after_bound}
 use Rattle.stamps.specs.Usage.RequestWords.{help, version, task, bounded}
 use Rattle.stamps.specs.Usage.StrictWords.{lenient, strict}
 use Rattle.stamps.specs.declared.arguments.Misuse.{Misuse}
@@ -134,7 +135,8 @@ by_words : (word : List ℕ) (more : List (List ℕ)) → IsOther word
 unfolding bounded_words
 by_words word more h = by_bounded word more (bytes_eq word (codes "since")) h refl
 
-by_check : (word : List ℕ) (more : List (List ℕ)) (b : Bool) → bytes_eq word (codes "--help") ≡ false → bytes_eq word (codes "--version") ≡ false → bytes_eq word (codes "utc") ≡ false
+by_check : (word : List ℕ) (more : List (List ℕ)) (b : Bool) → bytes_eq word (codes "--help") ≡ false
+    → bytes_eq word (codes "--version") ≡ false → bytes_eq word (codes "utc") ≡ false
     → bytes_eq word (codes "unix") ≡ false → bytes_eq word (codes "at") ≡ false → bytes_eq word (codes "check") ≡ b
     → Outcome (word ∷ more) (result_map_both Work (λ misuse. misuse)
     (if b then result_map_both Check (λ misuse. misuse) (strictness more) else bounded_words word more))
@@ -142,7 +144,8 @@ by_check word more true no_help no_version no_utc no_unix no_at e = by_strictnes
 by_check word more false no_help no_version no_utc no_unix no_at e =
     by_words word more (record { help = no_help; version = no_version; utc = no_utc; unix = no_unix; at = no_at; check = e })
 
-by_at_word : (word : List ℕ) (more : List (List ℕ)) (b : Bool) → bytes_eq word (codes "--help") ≡ false → bytes_eq word (codes "--version") ≡ false → bytes_eq word (codes "utc") ≡ false
+by_at_word : (word : List ℕ) (more : List (List ℕ)) (b : Bool) → bytes_eq word (codes "--help") ≡ false
+    → bytes_eq word (codes "--version") ≡ false → bytes_eq word (codes "utc") ≡ false
     → bytes_eq word (codes "unix") ≡ false → bytes_eq word (codes "at") ≡ b
     → Outcome (word ∷ more) (result_map_both Work (λ misuse. misuse)
     (if b then at_offset more
@@ -150,7 +153,8 @@ by_at_word : (word : List ℕ) (more : List (List ℕ)) (b : Bool) → bytes_eq 
 by_at_word word more true no_help no_version no_utc no_unix e = by_at (word ∷ more) more (same_first word (codes "at") more e)
 by_at_word word more false no_help no_version no_utc no_unix e = by_check word more (bytes_eq word (codes "check")) no_help no_version no_utc no_unix e refl
 
-by_unix : (word : List ℕ) (more : List (List ℕ)) (b : Bool) → bytes_eq word (codes "--help") ≡ false → bytes_eq word (codes "--version") ≡ false → bytes_eq word (codes "utc") ≡ false
+by_unix : (word : List ℕ) (more : List (List ℕ)) (b : Bool) → bytes_eq word (codes "--help") ≡ false
+    → bytes_eq word (codes "--version") ≡ false → bytes_eq word (codes "utc") ≡ false
     → bytes_eq word (codes "unix") ≡ b
     → Outcome (word ∷ more) (result_map_both Work (λ misuse. misuse)
     (if b then result_map_both (Write Unix) (λ misuse. misuse) (strictness more)
@@ -159,7 +163,8 @@ by_unix : (word : List ℕ) (more : List (List ℕ)) (b : Bool) → bytes_eq wor
 by_unix word more true no_help no_version no_utc e = by_strictness (word ∷ more) more (Write Unix) (unix (same_first word (codes "unix") more e))
 by_unix word more false no_help no_version no_utc e = by_at_word word more (bytes_eq word (codes "at")) no_help no_version no_utc e refl
 
-by_utc : (word : List ℕ) (more : List (List ℕ)) (b : Bool) → bytes_eq word (codes "--help") ≡ false → bytes_eq word (codes "--version") ≡ false → bytes_eq word (codes "utc") ≡ b
+by_utc : (word : List ℕ) (more : List (List ℕ)) (b : Bool) → bytes_eq word (codes "--help") ≡ false
+    → bytes_eq word (codes "--version") ≡ false → bytes_eq word (codes "utc") ≡ b
     → Outcome (word ∷ more) (result_map_both Work (λ misuse. misuse)
     (if b then result_map_both (Write Utc) (λ misuse. misuse) (strictness more)
     else (if bytes_eq word (codes "unix") then result_map_both (Write Unix) (λ misuse. misuse) (strictness more)
