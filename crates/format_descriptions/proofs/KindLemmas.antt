@@ -73,8 +73,8 @@ pub lacking_group : (date time offset : Bool) (item : Item) (c : Component) (ite
 unfolding written_from
 lacking_group date time offset item c items others size count n all front place head own is so =
     let both =
-        rw (front, place, ← head, own, flat_lacking-append date time offset (written_from others 0 (min size n)) (written_from others size (n - size)))
-            at so
+    rw (front, place, ← head, own, flat_lacking-append date time offset (written_from others 0 (min size n)) (written_from others size (n - size)))
+    at so
     in
     sym (rw (← is) at both)
 
@@ -85,8 +85,8 @@ pub group_on : (date time offset : Bool) (item : Item) (items others : List Item
 unfolding written_from
 group_on date time offset item items others size count n all front place head own is so =
     let both =
-        rw (front, place, ← head, own, flat_lacking-append date time offset (written_from others 0 (min size n)) (written_from others size (n - size)))
-            at so
+    rw (front, place, ← head, own, flat_lacking-append date time offset (written_from others 0 (min size n)) (written_from others size (n - size)))
+    at so
     in
     rw (← written_from-drop others size (n - size)) (rw (← is) at both)
 

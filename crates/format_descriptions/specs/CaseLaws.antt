@@ -50,4 +50,4 @@ items_in_any_case (Part component ∷ items) = Part (in_any_case component) ∷ 
 abbrev pub AnyCaseReadsTheSame : Type 0
 AnyCaseReadsTheSame =
     (items : List Item) (text : List ℕ) (p parts : Parts) → IsTrue (has_no_group items) → items_at items text p ≡ Ok parts
-        → items_at (items_in_any_case items) text p ≡ Ok parts
+    → items_at (items_in_any_case items) text p ≡ Ok parts

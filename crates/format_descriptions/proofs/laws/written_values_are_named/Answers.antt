@@ -9,4 +9,4 @@ use Rattle.format_descriptions.proofs.laws.written_values_are_named.Goals as goa
 pub returns : goal.returns
 returns c = λ items day clock o in_range w.
     NamesAgain-of (parts_of items day clock o no_parts) day clock o in_range w
-        (AreParts-of (written_items items) day clock o no_parts (AreParts-none day clock o))
+    (AreParts-of (written_items items) day clock o no_parts (AreParts-none day clock o))

@@ -89,7 +89,7 @@ loop-item-preserved t c =
     elim c.match-front.branch [
       | in-Ok w ↦
           let is : Ok (w.in-Ok.read, w.in-Ok.more.now) ≡ read_from c.in-Some.others.now 0
-              (min c.in-Some-size_of.size (c.loop-item.count - 1)) None c.loop-item.rest.now c.loop-item.parts =
+          (min c.in-Some-size_of.size (c.loop-item.count - 1)) None c.loop-item.rest.now c.loop-item.parts =
           search rules
           in
           record {
@@ -102,13 +102,19 @@ loop-item-preserved t c =
           }
       | in-Err w ↦
           let is : Err w.in-Err.left ≡ read_from c.in-Some.others.now 0
-              (min c.in-Some-size_of.size (c.loop-item.count - 1)) None c.loop-item.rest.now c.loop-item.parts =
+          (min c.in-Some-size_of.size (c.loop-item.count - 1)) None c.loop-item.rest.now c.loop-item.parts =
           search rules
           in
           record {
             same =
-                rw (c.behind-items-in-Some.ensures.items, c.saturating_sub-count-in-Some.ensures, w.fault-is, w.rest-is, w.parts-is,
-                    w.fault_after-fault.ensures)
+                rw (
+                  c.behind-items-in-Some.ensures.items,
+                  c.saturating_sub-count-in-Some.ensures,
+                  w.fault-is,
+                  w.rest-is,
+                  w.parts-is,
+                  w.fault_after-fault.ensures,
+                )
                 (group_fault c.in-Some.item.now _ _ _ _ _ _ _ _ is group);
             shorter = search rules;
             left =
