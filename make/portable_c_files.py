@@ -262,6 +262,8 @@ def module_in_c(folder, module):
     body = without(
         body, r'^#include "module\.h"\n', r"^#else\n#include <alloca\.h>\n", r"^#define alloca _alloca\n", r"^  assert\(.*\);\n"
     )
+    # the module has no number with a point, and the functions of such numbers want another library
+    body = without(body, r"^static (?:double|float) wasm_\w+\((?:.*\n)*?}\n")
     closed = re.compile(r"^((?:u32|u64|void|u64\*|wasm_rt_memory_t\*) Z_muxandu)", re.MULTILINE)
     return closed.sub(r"static \1", header + "\n" + body), int(found[1])
 
