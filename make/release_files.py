@@ -20,6 +20,9 @@ ROOT = Path(REPOSITORY)
 MAINTAINERS = "Muxandu maintainers <maintainers@users.noreply.muxandu.example>"
 LICENCE = "MIT OR Apache-2.0"
 LIBRARIES = "lib/x86_64-linux-gnu"
+
+# The other machine, by the word of ./build-library and the folder with what it laid out.
+OF_ARM = "aarch64"
 SUMMARY = "dates and times whose every answer is proved"
 DESCRIPTION = """\
  Date-times of the proleptic Gregorian calendar, the years -999999 to 999999,
@@ -156,9 +159,11 @@ def write_sqlite(release, dist):
 
 
 def write_library(release, dist):
-    """The library for C, as ./build-library lays it out."""
+    """The library for C, as ./build-library lays it out, and that for 64-bit ARM where it is built."""
     name = f"muxandu-{release.version}"
     write_tar(release, release.folder("c") / f"{name}-x86_64-linux.tar.gz", files_below(dist, name))
+    if (release.built / OF_ARM).is_dir():
+        write_tar(release, release.folder("c") / f"{name}-{OF_ARM}-linux.tar.gz", files_below(release.built / OF_ARM, name))
 
 
 def write_portable(release):
