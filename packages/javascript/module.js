@@ -1,4 +1,4 @@
-// The library as a module of WebAssembly, in base64. Made by tools/module. Do not edit.
+// The library as a module of WebAssembly, in base64. Made by make/module. Do not edit.
 
 /** The SHA-256 of the module as it is proved, for addresses of 64 bits. */
 export const PROVED_MODULE = "aa0070b85522c3a9ae8c4f5a82e75a681931f9c49a74969fd8548ccebc3484e8";
