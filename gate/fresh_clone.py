@@ -6,8 +6,9 @@ import shlex
 import shutil
 import signal
 import subprocess
+import time
 
-from shared.gate import ARCHIVE, PROVED, REPOSITORY, SHARED_FOLDER, crates, program, wait_for
+from shared.gate import ARCHIVE, PROVED, REPOSITORY, SHARED_FOLDER, crates, is_beside, program, wait_for
 from shared.version import version
 
 # Variables of whoever runs this step that a newcomer has not.
@@ -51,6 +52,9 @@ def source_of_builds(folder):
     shared = os.environ.get(SHARED_FOLDER)
     if folder is None and shared:
         wait_for(shared, PROVED)
+        # the programs come from `rt ci`
+        while is_beside():
+            time.sleep(1)
         built = {crate: program(shared, "llvm", crate) for crate in BUILT}
         return os.path.join(shared, "copy"), {**built, "muxandu_c": os.path.join(shared, ARCHIVE)}
     folder = os.path.abspath(folder or REPOSITORY)
