@@ -15,12 +15,6 @@
 static int64_t seconds[ITEMS];
 static MuxanduDateTime wanted[ITEMS];
 
-static int is_same(const MuxanduDateTime *one, const MuxanduDateTime *other) {
-    return one->year == other->year && one->month == other->month && one->day == other->day &&
-           one->hour == other->hour && one->minute == other->minute && one->second == other->second &&
-           one->nanosecond == other->nanosecond && one->offset_seconds == other->offset_seconds;
-}
-
 static void *convert(void *differs) {
     static const size_t counts[] = {1, 7, 64, ITEMS};
     MuxanduDateTime *shown = calloc(ITEMS, sizeof *shown);
@@ -29,7 +23,7 @@ static void *convert(void *differs) {
         MuxanduBatch batch = muxandu_date_times_from_seconds(seconds, count, 3600, shown, ITEMS);
         if (batch.status != MUXANDU_OK || batch.count != count) *(int *)differs = 1;
         for (size_t n = 0; n < count; n++)
-            if (!is_same(&shown[n], &wanted[n])) *(int *)differs = 1;
+            if (!is_date_time(shown[n], wanted[n])) *(int *)differs = 1;
     }
     free(shown);
     return NULL;
@@ -45,7 +39,7 @@ static void many_items(void) {
     for (size_t n = 0; n < MANY; n++) {
         MuxanduDateTime single;
         CHECK(muxandu_date_time_from_timestamp(stamp(given[n], 0), 3600, &single) == MUXANDU_OK);
-        CHECK(is_same(&shown[n], &single));
+        CHECK(is_date_time(shown[n], single));
     }
     free(given);
     free(shown);
