@@ -10,14 +10,14 @@ adjustment_days Previous = negsuc 0
 adjustment_days Same = pos 0
 adjustment_days Next = pos 1
 
--- the day after, where the date changes, or the same day
+-- 1 if the date changes to the next day, and else 0
 abbrev pub days_if_next : Bool → ℤ
 days_if_next changes = if changes then pos 1 else pos 0
 
--- the day before, where the date changes, or the same day
+-- -1 if the date changes to the previous day, and else 0
 abbrev pub days_if_previous : Bool → ℤ
 days_if_previous changes = if changes then negsuc 0 else pos 0
 
--- the nanoseconds that the whole days of a duration leave, of the duration's sign
+-- the nanoseconds of a duration after its whole days, with the duration's sign
 unfoldable pub subday_nanoseconds_of : ℤ → ℤ
 subday_nanoseconds_of d = int_rem d (pos nanos_per_day)

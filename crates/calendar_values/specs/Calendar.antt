@@ -29,7 +29,7 @@ unfoldable pub days_until_1970 : ℕ → ℕ
 days_until_1970 zero = 0
 days_until_1970 (suc n) = days_until_1970 n + days_in_year (pos 1970 -ℤ pos (suc n))
 
--- the days from 1 January 1970 to 1 January so many years later, or earlier
+-- the number of days from 1 January 1970 to 1 January a number of years later; negative numbers count back
 unfoldable pub days_of_years : ℤ → ℤ
 days_of_years (pos n) = pos (days_from_1970 n)
 days_of_years (negsuc n) = neg_ℤ (pos (days_until_1970 (suc n)))
@@ -73,7 +73,7 @@ day_of_calendar_date y m d = year_start y +ℤ pos (days_before_month (is_leap_y
 abbrev pub day_of_ordinal_date : ℤ → ℕ → ℤ
 day_of_ordinal_date y ordinal = year_start y +ℤ pos ordinal -ℤ pos 1
 
--- the day lies in the year
+-- the day is in the year
 pub record IsInYear (n y : ℤ) : Type 0 where
   pub low : year_start y ≤ℤ n
   pub high : n <ℤ year_start (y +ℤ pos 1)
@@ -99,7 +99,7 @@ year_of (negsuc n) = year_before_1970 (suc n)
 unfoldable pub ordinal_of : ℤ → ℕ
 ordinal_of n = unsigned_abs (n -ℤ year_start (year_of n)) + 1
 
--- of the first n months, the last that begins on or before a day of the year
+-- the last of the first n months that begins on or before a day of the year
 unfoldable pub last_month_begun : ℕ → Bool → ℕ → ℕ
 last_month_begun zero is_leap ordinal = 0
 last_month_begun (suc n) is_leap ordinal =
@@ -109,7 +109,7 @@ last_month_begun (suc n) is_leap ordinal =
 unfoldable pub month_of_ordinal : Bool → ℕ → ℕ
 month_of_ordinal is_leap ordinal = last_month_begun 12 is_leap ordinal
 
--- and its day of the month
+-- the day of the month of a day of the year, in a leap year or a common year
 unfoldable pub day_of_ordinal : Bool → ℕ → ℕ
 day_of_ordinal is_leap ordinal = ordinal - days_before_month is_leap (month_of_ordinal is_leap ordinal)
 

@@ -38,7 +38,7 @@ in_last_begun (suc n) b ordinal last low high = choose (nat_lt (days_in_months b
       record { first = omega arith; last = last; low = rw back (omega (arith, ltb-true)); high = rw back (omega (arith, days_in_months-suc b n)) }
   choose false t earlier = earlier (omega (arith, ltb-false))
 
--- each day of the year lies in its month
+-- each day of the year is in its month
 pub IsInMonth-month_of_ordinal : (b : Bool) (ordinal : ℕ) → 1 ≤ ordinal → ordinal ≤ year_length b → IsInMonth b ordinal (month_of_ordinal b ordinal)
 unfolding month_of_ordinal
 IsInMonth-month_of_ordinal b ordinal low high = in_last_begun 12 b ordinal (omega arith) low (omega (arith, days_in_months-twelve b))
@@ -72,7 +72,7 @@ days_before_month-end b (suc m) d first last h =
     let back : suc m - 1 ≡ m = omega arith in
     rw back (omega (arith, days_in_months-suc b m, days_in_months-mono b (suc m) 12 last, days_in_months-twelve b))
 
--- the month and the day of a day of the year are a date of that kind of year, and make the day of the year again
+-- the month and the day of a day of the year are a date of that kind of year; together they make the day of the year
 pub record IsMonthDay (is_leap : Bool) (ordinal m d : ℕ) : Type 0 where
   pub month_first : 1 ≤ m
   pub month_last : m ≤ 12
@@ -87,7 +87,7 @@ IsMonthDay-of_ordinal b ordinal low high =
     let h = IsInMonth-month_of_ordinal b ordinal low high in
     record { month_first = h.first; month_last = h.last; day_first = omega arith; day_last = omega arith; sum = omega arith }
 
--- and no other month and day do
+-- no other month and day make that day of the year
 pub month_of_ordinal-is : (b : Bool) (ordinal m d : ℕ) → IsMonthDay b ordinal m d → month_of_ordinal b ordinal ≡ m
 month_of_ordinal-is b ordinal m d h =
     let end = days_before_month-end b m d h.month_first h.month_last h.day_last in
@@ -104,21 +104,21 @@ IsMonthDay-date y m d h = record { month_first = h.month_first; month_last = h.m
 pub IsOrdinalDate-date : (y : ℤ) (m d : ℕ) → IsCalendarDate y m d → IsOrdinalDate y (days_before_month (is_leap_year y) m + d)
 IsOrdinalDate-date y m d h = omega (arith, days_before_month-end (is_leap_year y) m d h.month_first h.month_last h.day_last)
 
--- a day shows a date of the calendar
+-- each day has a date of the calendar
 pub IsCalendarDate-of : (n : ℤ) → IsCalendarDate (year_of n) (month_of n) (day_of_month_of n)
 IsCalendarDate-of n =
     let place = IsOrdinalDate-of n in
     let h = IsMonthDay-of_ordinal (is_leap_year (year_of n)) (ordinal_of n) place.first place.last in
     record { month_first = h.month_first; month_last = h.month_last; day_first = h.day_first; day_last = h.day_last }
 
--- whose day number it is
+-- the day number of that date is the day
 pub day_of_calendar_date-of : (n : ℤ) → day_of_calendar_date (year_of n) (month_of n) (day_of_month_of n) ≡ n
 day_of_calendar_date-of n =
     let place = IsOrdinalDate-of n in
     let h = IsMonthDay-of_ordinal (is_leap_year (year_of n)) (ordinal_of n) place.first place.last in
     rw h.sum (omega (arith, signed_arith, ordinal_of-start n))
 
--- and the day number of a date shows its year, month and day
+-- the day number of a date has the year, the month and the day of the date
 pub year_of-calendar_date : (y : ℤ) (m d : ℕ) → IsCalendarDate y m d → year_of (day_of_calendar_date y m d) ≡ y
 year_of-calendar_date y m d h = year_of-ordinal_date y (days_before_month (is_leap_year y) m + d) (IsOrdinalDate-date y m d h)
 

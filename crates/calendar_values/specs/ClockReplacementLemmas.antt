@@ -1,5 +1,5 @@
--- A replacement is accepted exactly where a clock shows the part as given, the kept parts as before and 0 for the
--- cleared parts; it gives that clock, which is the only one.
+-- A replacement succeeds exactly if a clock shows the part as given, the kept parts as before and 0 for the cleared parts.
+-- It returns that clock, which is the only one.
 use Rattle.std.proofs.Common.{◌≡◌, ℕ, ◌*◌, ◌≤◌, List, Ok, Err, sym, ◌∙◌, arith}
 use Rattle.std.specs.Prelude.{if◌then◌else◌, nat_lt, ◌↔◌, codes}
 use Rattle.std.proofs.lemmas.Bool.Decides.{nat_tests}
@@ -15,7 +15,7 @@ HasTimeParts-clock_of_parts h m s n p = omega arith
 pub clock_of_parts-shown : (c h m s n : ℕ) → HasTimeParts c h m s n → clock_of_parts h m s n ≡ c
 clock_of_parts-shown c h m s n p = omega (arith, clock_of_parts-of c)
 
--- so only one clock shows them
+-- only one clock shows these parts
 pub HasTimeParts-unique : (c d h m s n : ℕ) → HasTimeParts c h m s n → HasTimeParts d h m s n → c ≡ d
 HasTimeParts-unique c d h m s n p q = sym (clock_of_parts-shown c h m s n p) ∙ clock_of_parts-shown d h m s n q
 
@@ -23,14 +23,14 @@ parts_of_shown : (c h m s n : ℕ) → HasTimeParts c h m s n → AreTimeParts h
 parts_of_shown c h m s n p =
     let parts = AreTimeParts-of c p.clock in omega arith
 
--- the part is at most the limit, and x is given
+-- the result is Ok x exactly if the part is at most the limit
 accepted : (limit part x d : ℕ) (name : List ℕ) → part ≤ limit → x ≡ d → (if nat_lt limit part then Err (outright_refusal name) else Ok x) ≡ Ok d
 accepted limit part x d name low e = grind (arith, nat_tests)
 
 accepted_is : (limit part x d : ℕ) (name : List ℕ) → (if nat_lt limit part then Err (outright_refusal name) else Ok x) ≡ Ok d → (part ≤ limit) × (x ≡ d)
 accepted_is limit part x d name e = (grind (arith, nat_tests), grind (arith, nat_tests))
 
--- what a replacement of a part up to a limit gives: the clock that shows these parts
+-- a replacement of a part up to a limit returns the clock that shows these parts
 replaced : (limit part h m s n d : ℕ) (name : List ℕ) → (part ≤ limit → AreTimeParts h m s n) → (AreTimeParts h m s n → part ≤ limit) →
     ((if nat_lt limit part then Err (outright_refusal name) else Ok (clock_of_parts h m s n)) ≡ Ok d) ↔ HasTimeParts d h m s n
 replaced limit part h m s n d name within back = (
@@ -71,10 +71,10 @@ nanosecond_outcome-shows c n d clock =
     let parts = AreTimeParts-of c clock in
     replaced 999_999_999 n (hour_of c) (minute_of c) (second_of c) n d (codes "nanosecond") (λ low. omega arith) (λ q. omega arith)
 
--- a millisecond reads as given where nothing is finer
+-- a clock shows the millisecond as given if all finer parts are 0
 pub millisecond_of-exact : (c milli : ℕ) → nanosecond_of c ≡ milli * nanos_per_millisecond → millisecond_of c ≡ milli
 millisecond_of-exact c milli e = omega arith
 
--- and so does a microsecond
+-- a clock shows the microsecond as given if all finer parts are 0
 pub microsecond_of-exact : (c micro : ℕ) → nanosecond_of c ≡ micro * nanos_per_microsecond → microsecond_of c ≡ micro
 microsecond_of-exact c micro e = omega arith

@@ -1,4 +1,4 @@
--- A truncation is what its name says.
+-- A truncation is the greatest multiple of its unit that is not above the clock.
 use Rattle.std.proofs.Common.{ℕ, ◌/◌, ◌<◌, refl, arith}
 use Rattle.std.proofs.lemmas.Nat.{div-add-mod', le-div}
 use Rattle.std.proofs.Math.Nat.{mul-le-mul_right}

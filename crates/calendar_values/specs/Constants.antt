@@ -1,4 +1,5 @@
--- Where the years of the constants begin. A caller who lists `constants` once, at its root, names each constant of each type.
+-- The first days of the years of the constants.
+-- A caller who lists `constants` once, at its root, names each constant of each type.
 use Rattle.std.proofs.Common.{◌≡◌, pos, arith, to_z-of_z}
 use Rattle.calendar_values.specs.Calendar.{year_start}
 use Rattle.calendar_values.specs.Range.{last_year}

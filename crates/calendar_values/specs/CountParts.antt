@@ -1,4 +1,4 @@
--- The parts of a refusal that count units.
+-- The parts of an error that count units.
 use Rattle.std.specs.Prelude.{ℕ, Bool, List, [], ◌∷◌}
 use Rattle.std.specs.List.{list_any}
 use Rattle.calendar_values.specs.Parts.{is_name_of}
@@ -9,6 +9,6 @@ use Rattle.calendar_values.specs.declared.component_range.Part.TheVariants.{Nano
 abbrev pub count_parts : List Part
 count_parts = Hours ∷ Minutes ∷ Seconds ∷ OffsetSeconds ∷ Timestamp ∷ Milliseconds ∷ Microseconds ∷ Nanoseconds ∷ []
 
--- one of them has this name
+-- a part that counts units has this name
 abbrev pub is_count_name : List ℕ → Bool
 is_count_name name = list_any (is_name_of name) count_parts

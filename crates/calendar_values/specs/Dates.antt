@@ -1,4 +1,4 @@
--- What a day shows, as the parts of a date together.
+-- The dates of a day: the calendar date, the ordinal date and the ISO week date, each as its parts together.
 use Rattle.std.specs.Prelude.{◌≡◌, ℕ, ℤ}
 use Rattle.std.specs.Int.{IsInRange}
 use Rattle.calendar_values.specs.Calendar.{year_of, month_of, day_of_month_of, ordinal_of}
@@ -32,19 +32,19 @@ pub record IsIsoWeekDateOf (n : ℤ) (date : ℤ × ℕ × Weekday) : Type 0 whe
   pub year_in_range : IsYear date.0
   pub week_in_range : IsInRange 1 53 date.1
 
--- the day shows this year, month and day of the month
+-- the day has this year, month and day of the month
 pub record ShowsDate (y : ℤ) (m d : ℕ) (n : ℤ) : Type 0 where
   pub year : year_of n ≡ y
   pub month : month_of n ≡ m
   pub day : day_of_month_of n ≡ d
 
--- the day shows this ISO year, ISO week and day of the week
+-- the day has this ISO year, ISO week and day of the week
 pub record ShowsIsoWeekDate (y : ℤ) (w d : ℕ) (n : ℤ) : Type 0 where
   pub year : iso_year_of n ≡ y
   pub week : iso_week_of n ≡ w
   pub weekday : weekday_of n ≡ d
 
--- the day shows this year and day of the year
+-- the day has this year and day of the year
 pub record ShowsOrdinalDate (y : ℤ) (o : ℕ) (n : ℤ) : Type 0 where
   pub year : year_of n ≡ y
   pub ordinal : ordinal_of n ≡ o

@@ -1,4 +1,4 @@
--- Each day lies in one year, and shows one day of that year.
+-- Each day is in one year, and is one day of that year.
 use Rattle.std.proofs.Common.{◌≡◌, ℕ, zero, suc, refl, cond, Bool, true, false, arith, ℤ, pos, negsuc, neg_ℤ, ◌+ℤ◌, ◌-ℤ◌, int_lt}
 use Rattle.std.proofs.lemmas.Int.{by_lt_z}
 use Rattle.calendar_values.specs.Calendar.{year_start, IsInYear, IsOrdinalDate, year_after_1970, year_before_1970, year_of, ordinal_of, day_of_ordinal_date}
@@ -10,14 +10,14 @@ use Rattle.calendar_values.specs.YearLemmas.{days_in_year_bounds}
 in_1970 : IsInYear (pos 0) (pos 1970)
 in_1970 = omega (arith, signed_arith, year_start-1970, year_start-next (pos 1970), days_in_year_bounds (pos 1970))
 
--- the next day lies in the same year, or begins the next
+-- the next day is in the same year, or begins the next year
 IsInYear-next : (n next y : ℤ) → next ≡ n +ℤ pos 1 → IsInYear n y → IsInYear next (cond (int_lt next (year_start (y +ℤ pos 1))) y (y +ℤ pos 1))
 IsInYear-next n next y e h = choose (int_lt next (year_start (y +ℤ pos 1))) refl where
   choose : (b : Bool) → int_lt next (year_start (y +ℤ pos 1)) ≡ b → IsInYear next (cond b y (y +ℤ pos 1))
   choose true t = omega (arith, signed_arith)
   choose false t = omega (arith, signed_arith, year_start-next (y +ℤ pos 1), days_in_year_bounds (y +ℤ pos 1))
 
--- the day before lies in the same year, or ends the year before
+-- the day before is in the same year, or ends the year before
 IsInYear-previous : (n previous y : ℤ) → n ≡ previous +ℤ pos 1 → IsInYear n y → IsInYear previous (cond (int_lt previous (year_start y)) (y -ℤ pos 1) y)
 IsInYear-previous n previous y e h = choose (int_lt previous (year_start y)) refl where
   choose : (b : Bool) → int_lt previous (year_start y) ≡ b → IsInYear previous (cond b (y -ℤ pos 1) y)
@@ -37,13 +37,13 @@ unfolding year_before_1970
 in_year_before zero = in_1970
 in_year_before (suc n) = IsInYear-previous (neg_ℤ (pos n)) (negsuc n) (year_before_1970 n) (omega (arith, signed_arith)) (in_year_before n)
 
--- each day lies in its year
+-- each day is in its year
 pub IsInYear-year_of : (n : ℤ) → IsInYear n (year_of n)
 unfolding year_of
 IsInYear-year_of (pos n) = in_year_after n
 IsInYear-year_of (negsuc n) = in_year_before (suc n)
 
--- and in no other
+-- each day is in no other year
 pub year_of-unique : (n y : ℤ) → IsInYear n y → year_of n ≡ y
 year_of-unique n y h = IsInYear-unique n (year_of n) y (IsInYear-year_of n) h
 
@@ -58,11 +58,11 @@ IsOrdinalDate-of n =
     let h = IsInYear-year_of n in
     omega (arith, signed_arith, ordinal_of-start n, year_start-next (year_of n))
 
--- whose day number it is
+-- the day number of that year and that day of the year is the day
 pub day_of_ordinal_date-of : (n : ℤ) → day_of_ordinal_date (year_of n) (ordinal_of n) ≡ n
 day_of_ordinal_date-of n = omega (arith, signed_arith, ordinal_of-start n)
 
--- the day number of a year and a day of the year shows both
+-- the day number of a year and a day of the year has both
 pub year_of-ordinal_date : (y : ℤ) (ordinal : ℕ) → IsOrdinalDate y ordinal → year_of (day_of_ordinal_date y ordinal) ≡ y
 year_of-ordinal_date y ordinal h =
     year_of-unique _ y (omega (arith, signed_arith, year_start-next y))
@@ -71,14 +71,14 @@ pub ordinal_of-ordinal_date : (y : ℤ) (ordinal : ℕ) → IsOrdinalDate y ordi
 ordinal_of-ordinal_date y ordinal h =
     omega (arith, signed_arith, rw (year_of-ordinal_date y ordinal h) at (ordinal_of-start (day_of_ordinal_date y ordinal)))
 
--- the same for a number that is known to be theirs
+-- the same for a number that equals that day number
 pub year_of-is : (n y : ℤ) (ordinal : ℕ) → IsOrdinalDate y ordinal → day_of_ordinal_date y ordinal ≡ n → year_of n ≡ y
 year_of-is n y ordinal h e = rw (← e) (year_of-ordinal_date y ordinal h)
 
 pub ordinal_of-is : (n y : ℤ) (ordinal : ℕ) → IsOrdinalDate y ordinal → day_of_ordinal_date y ordinal ≡ n → ordinal_of n ≡ ordinal
 ordinal_of-is n y ordinal h e = rw (← e) (ordinal_of-ordinal_date y ordinal h)
 
--- a day of the range lies in a year of the range
+-- a day of the range is in a year of the range
 pub IsYear-year_of : (n : ℤ) → IsDay n → IsYear (year_of n)
 IsYear-year_of n h =
     let here = IsInYear-year_of n in (
@@ -88,7 +88,7 @@ IsYear-year_of n h =
           absurd (omega (arith, signed_arith, h.1, year_start-after_last))) (λ le. le),
     )
 
--- so is each day of a year of the range
+-- each day of a year of the range is a day of the range
 pub IsDay-ordinal_date : (y : ℤ) (ordinal : ℕ) → IsYear y → IsOrdinalDate y ordinal → IsDay (day_of_ordinal_date y ordinal)
 IsDay-ordinal_date y ordinal year h =
     let low = year_start-mono first_year y year.0 in

@@ -1,4 +1,4 @@
--- How many digits there are.
+-- The number of digits of a text.
 use Rattle.std.proofs.Common.{◌≡◌, ℕ, zero, suc, ◌/◌, ◌%◌, ◌+◌, ◌≤◌, [], ◌∷◌, length, length-append, refl, arith}
 use Rattle.std.proofs.lemmas.Bool.Decides.{nat_tests}
 use Rattle.calendar_values.specs.Digits.{last_digits, fraction_digits}

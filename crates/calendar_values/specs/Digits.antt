@@ -5,7 +5,7 @@ use Rattle.std.specs.Prelude.{ℕ, zero, suc, ◌+◌, ◌/◌, ◌%◌, ◌==�
 abbrev pub text_capacity : ℕ
 text_capacity = 64
 
--- the last k decimal digits of n, with zeros in front where it has fewer
+-- the last k decimal digits of n, with zeros in front if it has fewer
 unfoldable pub last_digits : ℕ → ℕ → List ℕ
 last_digits zero n = []
 last_digits (suc k) n = last_digits k (n / 10) ++ (48 + n % 10) ∷ []

@@ -3,11 +3,12 @@ use Rattle.std.specs.Prelude.{◌≡◌, ◌≢◌, ◌≤◌, ◌⊎◌, ℤ, p
 use Rattle.calendar_values.specs.Clock.{nanos_per_microsecond, nanos_per_millisecond, nanos_per_second, nanos_per_minute, nanos_per_hour, nanos_per_day}
 use Rattle.calendar_values.specs.Clock.{nanos_per_week}
 
--- the duration of so many seconds and nanoseconds
+-- the duration of s seconds and n nanoseconds
 abbrev pub duration_of_parts : ℤ → ℤ → ℤ
 duration_of_parts s n = (s *ℤ pos nanos_per_second) +ℤ n
 
--- the least duration and the greatest: -2^63 seconds and 2^63 - 1 seconds, each with 999,999,999 nanoseconds more of the same sign
+-- the least duration and the greatest: -2^63 seconds and 2^63 - 1 seconds,
+-- each with 999,999,999 nanoseconds more of the same sign
 abbrev pub least_duration : ℤ
 least_duration = neg_ℤ (pos 9_223_372_036_854_775_808_999_999_999)
 
@@ -18,7 +19,7 @@ greatest_duration = pos 9_223_372_036_854_775_807_999_999_999
 abbrev pub IsDuration : ℤ → Type 0
 IsDuration d = (least_duration ≤ℤ d) × (d ≤ℤ greatest_duration)
 
--- the result is Some exactly where so many nanoseconds make a duration, and then it
+-- the result is Some d exactly if d nanoseconds are a duration of the range, and else None
 abbrev pub SomeDuration : Option ℤ → ℤ → Type 0
 SomeDuration result d = SomeIff result (IsDuration d) d
 
@@ -32,29 +33,29 @@ pub record IsNearestDuration (d n : ℤ) : Type 0 where
 abbrev pub HasQuotient : ℤ → ℤ → Type 0
 HasQuotient d divisor = (divisor ≢ pos 0) × IsDuration (int_div d divisor)
 
--- its whole seconds
+-- the whole seconds of a duration
 unfoldable pub whole_seconds_of : ℤ → ℤ
 whole_seconds_of d = int_div d (pos nanos_per_second)
 
--- the nanoseconds that the whole seconds leave
+-- the nanoseconds of a duration after its whole seconds
 unfoldable pub subsec_nanoseconds_of : ℤ → ℤ
 subsec_nanoseconds_of d = int_rem d (pos nanos_per_second)
 
--- its whole milliseconds and microseconds
+-- the whole milliseconds and microseconds of a duration
 unfoldable pub whole_milliseconds_of : ℤ → ℤ
 whole_milliseconds_of d = int_div d (pos nanos_per_millisecond)
 
 unfoldable pub whole_microseconds_of : ℤ → ℤ
 whole_microseconds_of d = int_div d (pos nanos_per_microsecond)
 
--- those that the whole seconds leave
+-- the whole milliseconds and microseconds of a duration after its whole seconds
 unfoldable pub subsec_milliseconds_of : ℤ → ℤ
 subsec_milliseconds_of d = int_div (subsec_nanoseconds_of d) (pos nanos_per_millisecond)
 
 unfoldable pub subsec_microseconds_of : ℤ → ℤ
 subsec_microseconds_of d = int_div (subsec_nanoseconds_of d) (pos nanos_per_microsecond)
 
--- its whole minutes, hours, days and weeks
+-- the whole minutes, hours, days and weeks of a duration
 unfoldable pub whole_minutes_of : ℤ → ℤ
 whole_minutes_of d = int_div d (pos nanos_per_minute)
 

@@ -1,4 +1,4 @@
--- What a hasher is fed tells the numbers that were fed, where they fit in their bytes.
+-- The bytes that a hasher receives determine their numbers, if the numbers fit in their bytes.
 use Rattle.std.proofs.Common.{◌≡◌, ℕ, zero, suc, ◌+◌, ◌*◌, ◌^◌, ◌/◌, ◌%◌, ◌<◌, ◌≤◌, List, [], ◌∷◌, ◌++◌, refl, sym, ap, ◌∙◌, arith, ℤ}
 use Rattle.std.proofs.Math.Nat.{add-mul, add_assoc, div-add-mod', div-div-eq-div-mul, div-one, mod-eq_of_lt, mod-lt, mod-one, mul-add-mod_self_right}
 use Rattle.std.proofs.Math.Nat.{mul-le-mul_right, mul_assoc, one-le-pow, pow-suc}
@@ -51,23 +51,23 @@ number_of-bytes (suc k) j x =
     let split = mod-split (x / 256 ^ j) {m = 256 ^ k} {c = 256} (omega arith) (omega arith) in
     rw (rest, shift, byte_at-pow j x, pow-suc 256 k, split) (omega arith)
 
--- a number that fits is told by its bytes
+-- the bytes of a number that fits determine it
 number_of-le_bytes : (k x : ℕ) → x < 256 ^ k → number_of (le_bytes k x) ≡ x
 unfolding le_bytes
 number_of-le_bytes k x h = number_of-bytes k 0 x ∙ ap (λ (y : ℕ). y % 256 ^ k) (div-one x) ∙ mod-eq_of_lt h
 
--- signed numbers are equal where their bits are
+-- signed numbers are equal if their bits are
 same_of_bits : (w : Width) (x y : ℤ) → SFits w x → SFits w y → of_z w x ≡ of_z w y → x ≡ y
 same_of_bits w x y f g e = sym (to_z-of_z f) ∙ ap (to_z w) e ∙ to_z-of_z g
 
--- where one number of 16 bytes was fed
+-- two numbers of 16 bytes are equal if a hasher receives the same bytes
 pub same_of_i128 : (x y : ℤ) → SFits w128 x → SFits w128 y → fed.i128 x ≡ fed.i128 y → x ≡ y
 same_of_i128 x y f g e =
     let of_x = number_of-le_bytes 16 (of_z w128 x) (Fits-of_z f).fits in
     let of_y = number_of-le_bytes 16 (of_z w128 y) (Fits-of_z g).fits in
     same_of_bits w128 x y f g (sym of_x ∙ ap first_number e ∙ of_y)
 
--- where one of 8 bytes was fed, and then one of 4
+-- the same for a number of 8 bytes, and then one of 4
 pub same_of_i64_u32 : (x y : ℤ) (m n : ℕ) → SFits w64 x → SFits w64 y → m < 2 ^ 32 → n < 2 ^ 32 → fed.i64 x ++ fed.u32 m ≡ fed.i64 y ++ fed.u32 n
     → (x ≡ y) × (m ≡ n)
 same_of_i64_u32 x y m n f g h k e =

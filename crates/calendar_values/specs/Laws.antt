@@ -1,4 +1,5 @@
--- What shows that the definitions are those of the calendar: laws of all years, days and clocks, each proved by a function of `src/laws.rt`.
+-- The laws of all years, days and clocks, which prove that the definitions are those of the calendar.
+-- A function of `src/laws.rt` proves each law.
 use Rattle.std.specs.Prelude.{◌≡◌, ◌↔◌, ℕ, ◌*◌, ◌<◌, ◌≤◌, ℤ, pos, ◌+ℤ◌, ◌*ℤ◌, Ok}
 use Rattle.calendar_values.specs.Calendar.{days_in_year, year_start, year_of, ordinal_of, month_of, day_of_month_of, day_of_calendar_date, day_of_ordinal_date}
 use Rattle.calendar_values.specs.Calendar.{IsInYear, IsCalendarDate, IsOrdinalDate}
@@ -19,12 +20,12 @@ pub record YearsFollow : Type 0 where
   pub epoch : year_start (pos 1970) ≡ pos 0
   pub next : (y : ℤ) → year_start (y +ℤ pos 1) ≡ year_start y +ℤ pos (days_in_year y)
 
--- each day lies in its year, and in no other
+-- each day is in its year, and in no other
 pub record YearIsUnique : Type 0 where
   pub lies : (n : ℤ) → IsInYear n (year_of n)
   pub only : (n y : ℤ) → IsInYear n y → year_of n ≡ y
 
--- each day shows a date of the calendar whose day number it is, and each date of the calendar is shown by its day number
+-- each day has a date of the calendar, whose day number is that day; the day number of each date of the calendar has that date
 pub record CalendarDatesAreDays : Type 0 where
   pub shown : (n : ℤ) → IsCalendarDate (year_of n) (month_of n) (day_of_month_of n)
   pub numbered : (n : ℤ) → day_of_calendar_date (year_of n) (month_of n) (day_of_month_of n) ≡ n
@@ -39,8 +40,8 @@ pub record OrdinalDatesAreDays : Type 0 where
   pub year : (y : ℤ) (ordinal : ℕ) → IsOrdinalDate y ordinal → year_of (day_of_ordinal_date y ordinal) ≡ y
   pub ordinal : (y : ℤ) (ordinal : ℕ) → IsOrdinalDate y ordinal → ordinal_of (day_of_ordinal_date y ordinal) ≡ ordinal
 
--- the ISO year, the ISO week and the day of the week that a day of the range shows give that day, and a day that such three give
--- shows them
+-- the ISO year, the ISO week and the day of the week of a day of the range return that day;
+-- a day that an ISO year, an ISO week and a day of the week return has all three
 pub record IsoWeekDatesAreDays : Type 0 where
   pub numbered : (n : ℤ) → IsDay n → (iso_week_date_outcome (iso_year_of n) (iso_week_of n) (weekday_of n)).answer ≡ Ok n
   pub shown : (y n : ℤ) (w d : ℕ) → d < 7 → (iso_week_date_outcome y w d).answer ≡ Ok n → ShowsIsoWeekDate y w d n
@@ -52,22 +53,22 @@ pub record RangeIsWholeYears : Type 0 where
   pub monday : weekday_of first_day ≡ 0
   pub friday : weekday_of last_day ≡ 4
 
--- this is the only day that shows the year, the month and the day of the month
+-- this is the only day that has the year, the month and the day of the month
 pub record IsOnlyDay (n y : ℤ) (m d : ℕ) : Type 0 where
   pub year : year_of n ≡ y
   pub month : month_of n ≡ m
   pub day : day_of_month_of n ≡ d
   pub only : (k : ℤ) → year_of k ≡ y → month_of k ≡ m → day_of_month_of k ≡ d → k ≡ n
 
--- an accepted replacement gives the only day whose named part is as given and whose other parts are as before
+-- a replacement that succeeds returns the only day whose named part is as given and whose other parts are as before
 pub record ReplacementsKeepTheRest : Type 0 where
   pub year : (n y k : ℤ) → (year_outcome n y).answer ≡ Ok k → IsOnlyDay k y (month_of n) (day_of_month_of n)
   pub month : (n k : ℤ) (m : ℕ) → 1 ≤ m → m ≤ 12 → (month_outcome n m).answer ≡ Ok k → IsOnlyDay k (year_of n) m (day_of_month_of n)
   pub day : (n k : ℤ) (d : ℕ) → (day_outcome n d).answer ≡ Ok k → IsOnlyDay k (year_of n) (month_of n) d
   pub ordinal : (n k : ℤ) (o : ℕ) → (ordinal_outcome n o).answer ≡ Ok k → (year_of k ≡ year_of n) × (ordinal_of k ≡ o)
 
--- a replacement of a part of a clock is accepted exactly where a clock shows the part as given, the other parts as
--- before and 0 for what is finer than a millisecond or a microsecond; it gives that clock
+-- a replacement of a part of a clock succeeds exactly if a clock shows the part as given and the other parts as before;
+-- parts finer than a replaced millisecond or microsecond are 0; the replacement returns that clock, which is the only one
 pub record ClockReplacementsKeepTheRest : Type 0 where
   pub hour : (c h d : ℕ) → IsClock c → ((hour_outcome c h).answer ≡ Ok d) ↔ HasTimeParts d h (minute_of c) (second_of c) (nanosecond_of c)
   pub minute : (c m d : ℕ) → IsClock c → ((minute_outcome c m).answer ≡ Ok d) ↔ HasTimeParts d (hour_of c) m (second_of c) (nanosecond_of c)
@@ -79,11 +80,11 @@ pub record ClockReplacementsKeepTheRest : Type 0 where
   pub nanosecond : (c n d : ℕ) → IsClock c → ((nanosecond_outcome c n).answer ≡ Ok d) ↔ HasTimeParts d (hour_of c) (minute_of c) (second_of c) n
   pub only : (c d h m s n : ℕ) → HasTimeParts c h m s n → HasTimeParts d h m s n → c ≡ d
 
--- a truncation gives the greatest multiple of the unit that is not above the clock
+-- a truncation returns the greatest multiple of the unit that is not above the clock
 abbrev pub TruncationIsGreatestMultiple : Type 0
 TruncationIsGreatestMultiple = (unit c : ℕ) → 0 < unit → IsGreatestMultiple unit c (multiple_below unit c)
 
--- what each call comes to that may refuse is one answer: its value where its arguments fit, and its refusal where they do not
+-- the outcome of each call that may fail is one answer: its value if its arguments fit, and else its error
 pub record OutcomesAreAnswers : Type 0 where
   pub calendar_date : (y : ℤ) (m d : ℕ) → IsOneAnswer (calendar_date_outcome y m d)
   pub ordinal_date : (y : ℤ) (o : ℕ) → IsOneAnswer (ordinal_date_outcome y o)
@@ -106,6 +107,6 @@ pub record OutcomesAreAnswers : Type 0 where
   pub microsecond : (c n : ℕ) → IsOneAnswer (microsecond_outcome c n)
   pub nanosecond : (c n : ℕ) → IsOneAnswer (nanosecond_outcome c n)
 
--- seven days later it is the same day of the week
+-- the day of the week is the same a whole number of weeks later
 abbrev pub WeekdaysRepeat : Type 0
 WeekdaysRepeat = (n weeks : ℤ) → weekday_of (n +ℤ weeks *ℤ pos 7) ≡ weekday_of n

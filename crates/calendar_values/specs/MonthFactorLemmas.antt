@@ -5,7 +5,7 @@ use Rattle.std.proofs.lemmas.Bool.Decides.{nat_tests}
 use Rattle.calendar_values.specs.CalendarDateLemmas.{IsMonthDay-of_ordinal, days_in_month_bounds}
 use Rattle.calendar_values.specs.Calendar.{year_length, days_in_months, days_before_month, last_month_begun, month_of_ordinal, day_of_ordinal}
 
--- the days that end before March
+-- the number of days before March
 abbrev pub until_march : Bool → ℕ
 until_march is_leap = cond is_leap 60 59
 
@@ -13,16 +13,16 @@ until_march is_leap = cond is_leap 60 59
 abbrev pub month_by_product : ℕ → ℕ
 month_by_product day = (day * 268 + 8031) / 8192
 
--- and the day of the month
+-- the day of the month that a product gives for such a day
 abbrev pub day_by_product : ℕ → ℕ
 day_by_product day = day - (month_by_product day * 3917 - 3866) / 128
 
--- the products agree with counting on a day that comes so many days and months after the day from which it is counted
+-- the products agree with counting on a day of the year that is counted from a day some days and months after 1 January
 abbrev agrees : Bool → ℕ → ℕ → ℕ → Bool
 agrees b days months day =
     (month_of_ordinal b (days + day) == month_by_product day + months) && (day_of_ordinal b (days + day) == day_by_product day)
 
--- and on each of the first n such days
+-- the products agree with counting on each of the first n such days
 abbrev agrees_below : Bool → ℕ → ℕ → ℕ → Bool
 agrees_below b days months zero = true
 agrees_below b days months (suc n) = agrees_below b days months n && agrees b days months (suc n)
@@ -62,7 +62,7 @@ early-day b ordinal low high =
     let same : 0 + ordinal ≡ ordinal = omega arith in
     rw same at (agrees-at b 0 0 (until_march b) ordinal (agrees-early b) low high).1
 
--- and later from 1 March
+-- from March on the day is counted from 1 March
 pub late-month : (b : Bool) (ordinal : ℕ) → until_march b < ordinal → ordinal ≤ year_length b →
     month_of_ordinal b ordinal ≡ month_by_product (ordinal - until_march b) + 2
 late-month b ordinal low high =

@@ -1,4 +1,4 @@
--- What callers name where they ask for the first day of a month, for a day that a month may not have, or for the month after a month.
+-- The rules that callers name for the first day of a month, for a day that a month may not have, or for the next month.
 use Rattle.std.proofs.Common.{◌≡◌, ℕ, zero, suc, ◌+◌, ◌-◌, ◌<◌, ◌≤◌, min, inl, inr, refl, ap, ◌∙◌, Bool, arith, ℤ, pos, ◌+ℤ◌}
 use Rattle.std.proofs.lemmas.Bool.{cases_order}
 use Rattle.calendar_values.specs.Calendar.{IsCalendarDate, is_leap_year, days_in_month, days_in_months, day_of_calendar_date, year_of, month_of}
@@ -24,7 +24,7 @@ month_of-first n y m first last e = rw e (month_of-calendar_date y m 1 (IsCalend
 pub day_of_month_of-first : (n y : ℤ) (m : ℕ) → 1 ≤ m → m ≤ 12 → n ≡ day_of_calendar_date y m 1 → day_of_month_of n ≡ 1
 day_of_month_of-first n y m first last e = rw e (day_of_month_of-calendar_date y m 1 (IsCalendarDate-first y m first last))
 
--- a day of a month, or the month's last day where it is shorter, is a day of that month
+-- a day of a month, or the month's last day if the month is shorter, is a day of that month
 IsCalendarDate-clamped : (y : ℤ) (m d : ℕ) → 1 ≤ m → m ≤ 12 → 1 ≤ d → IsCalendarDate y m (min d (days_in_month (is_leap_year y) m))
 IsCalendarDate-clamped y m d first last some = omega (arith, days_in_month_bounds (is_leap_year y) m)
 
@@ -61,13 +61,13 @@ next_month y (suc k) first =
     let after : suc k + 1 - 1 ≡ suc k = omega arith in
     rw (before, after) (omega (arith, signed_arith, days_in_months-more (is_leap_year y) k))
 
--- and after December January of the next year
+-- the day after December begins January of the next year
 next_year : (y : ℤ) → day_of_calendar_date y 12 (days_in_month (is_leap_year y) 12) +ℤ pos 1 ≡ day_of_calendar_date (y +ℤ pos 1) 1 1
 next_year y =
     let b = is_leap_year y in
     omega (arith, signed_arith, year_start-next y, days_in_months-twelve b, days_in_months-more b 11, days_in_months-none (is_leap_year (y +ℤ pos 1)))
 
--- so the day after the last of the month of a day d is the first of the next month
+-- the day after the last of the month of a day d is the first of the next month
 december : (d : ℤ) → month_of d ≡ 12 → last_of_month d +ℤ pos 1 ≡ day_of_calendar_date (year_of d +ℤ pos 1) 1 1
 unfolding last_of_month
 december d last =
@@ -112,7 +112,7 @@ month_index-next_month d =
       | inr (inr after) ↦ absurd (omega arith)
     ]
 
--- what callers name
+-- the rules that callers name
 pub ruleset month_days = (
   days_in_month_bounds,
   month_number_bounds,
@@ -125,7 +125,7 @@ pub ruleset month_days = (
   day_of_month_of-clamped,
 )
 
--- what callers name who go from a month to the next
+-- the rules that callers name if they step from a month to the next
 pub ruleset next_months = (
   day_of_month_of-next_month,
   year_of-next_month,

@@ -21,7 +21,7 @@ month_number_bounds October = omega arith
 month_number_bounds November = omega arith
 month_number_bounds December = omega arith
 
--- a day lies within the days of its month
+-- the day of the month is one of the days of its month
 pub day_of_month_bounds : (n : ℤ) → (1 ≤ day_of_month_of n) × (day_of_month_of n ≤ days_in_month (is_leap_year (year_of n)) (month_of n))
 day_of_month_bounds n = let d = IsCalendarDate-of n in (d.day_first, d.day_last)
 

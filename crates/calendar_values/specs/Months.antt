@@ -1,4 +1,4 @@
--- The first and the last day of a month, months that are counted, and the same day so many months later.
+-- The first and the last day of a month, months that are counted, and the same day a number of months later.
 use Rattle.std.specs.Prelude.{ℕ, ◌+◌, ℤ, pos, ◌+ℤ◌, ◌-ℤ◌, ◌*ℤ◌, unsigned_abs, min}
 use Rattle.std.specs.Int.{int_div_euclid, int_rem_euclid}
 use Rattle.calendar_values.specs.Calendar.{is_leap_year, days_in_month, day_of_calendar_date, year_of, month_of, day_of_month_of}
@@ -27,7 +27,7 @@ month_of_index index = unsigned_abs (int_rem_euclid index (pos 12)) + 1
 abbrev pub day_or_last : ℤ → ℕ → ℕ → ℤ
 day_or_last y m d = day_of_calendar_date y m (min d (days_in_month (is_leap_year y) m))
 
--- the same day of the month so many months later, or the month's last day if the month is shorter
+-- the same day of the month a number of months later, or the month's last day if the month is shorter
 unfoldable pub months_later : ℤ → ℤ → ℤ
 months_later n months =
     let index = month_index n +ℤ months in day_or_last (year_of_index index) (month_of_index index) (day_of_month_of n)

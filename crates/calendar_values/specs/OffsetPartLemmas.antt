@@ -48,12 +48,12 @@ unfolding offset_seconds_of
 offset_seconds_of-parts h m s p =
     omega (arith, signed_arith, offset_signs h m s p, one_part (seconds_of_parts h m s))
 
--- the seconds between two offsets fit an i32, and are what it holds
+-- the seconds between two offsets fit an i32, and the i32 has their value
 pub FitsSigned-offsets_apart : (a b : ℤ) → IsOffset a → IsOffset b → FitsSigned w32 (a -ℤ b)
 FitsSigned-offsets_apart a b h k = omega (arith, signed_arith)
 
 pub to_z-offsets_apart : (a b : ℤ) → IsOffset a → IsOffset b → to_z w32 (of_z w32 (a -ℤ b)) ≡ a -ℤ b
 to_z-offsets_apart a b h k = to_z-of_z (FitsSigned-offsets_apart a b h k)
 
--- what callers name who take the seconds of one offset from those of another
+-- the rules that callers name if they subtract the seconds of one offset from those of another
 pub ruleset offsets_apart = (FitsSigned-offsets_apart, to_z-offsets_apart)

@@ -15,7 +15,7 @@ greatest_offset = pos 93_599
 abbrev pub IsOffset : ℤ → Type 0
 IsOffset o = (least_offset ≤ℤ o) × (o ≤ℤ greatest_offset)
 
--- the seconds of so many hours, minutes and seconds
+-- the seconds of h hours, m minutes and s seconds
 abbrev pub seconds_of_parts : ℤ → ℤ → ℤ → ℤ
 seconds_of_parts h m s = ((h *ℤ pos 3_600) +ℤ (m *ℤ pos 60)) +ℤ s
 
@@ -38,7 +38,7 @@ pub record AreSignedOffsetParts (h m s : ℤ) : Type 0 where
   pub seconds_in_range : unsigned_abs s ≤ 59
   pub one_sign : ((pos 0 ≤ℤ h) × (pos 0 ≤ℤ m) × (pos 0 ≤ℤ s)) ⊎ ((h ≤ℤ pos 0) × (m ≤ℤ pos 0) × (s ≤ℤ pos 0))
 
--- a part, with the sign of a greater part; it keeps its own where that one is 0
+-- a part with the sign of a greater part; it keeps its own sign if the greater part is 0
 abbrev pub with_sign_of : ℤ → ℤ → ℤ
 with_sign_of greater part =
     if int_lt greater (pos 0) then neg_ℤ (pos (unsigned_abs part))
@@ -48,26 +48,26 @@ with_sign_of greater part =
 abbrev pub AreOffsetParts : ℤ → ℤ → ℤ → Type 0
 AreOffsetParts h m s = (unsigned_abs h ≤ 25) × (unsigned_abs m ≤ 59) × (unsigned_abs s ≤ 59)
 
--- what hours, minutes, or else seconds are refused by
+-- the error for hours, minutes and seconds: it names the hours if they are out of range, or else the minutes, or else the seconds
 abbrev pub offset_refusal : ℤ → ℤ → Refusal
 offset_refusal h m =
     if is_outside (neg_ℤ (pos 25)) (pos 25) h then outright_refusal (codes "hours")
     else (if is_outside (neg_ℤ (pos 59)) (pos 59) m then outright_refusal (codes "minutes")
     else outright_refusal (codes "seconds"))
 
--- the seconds of parts of which the smaller take the sign of the hours, or of the minutes if the hours are 0
+-- the seconds of hours, minutes and seconds: the smaller parts take the sign of the hours, or of the minutes if the hours are 0
 abbrev pub seconds_of_signed_parts : ℤ → ℤ → ℤ → ℤ
 seconds_of_signed_parts h m s =
     seconds_of_parts h (with_sign_of h m) (with_sign_of h (with_sign_of m s))
 
--- the offset of hours, minutes and seconds, or the refusal of one of them
+-- the offset of hours, minutes and seconds, or the error for one of them
 unfoldable pub offset_of_parts : ℤ → ℤ → ℤ → Result ℤ Refusal
 offset_of_parts h m s =
     if is_outside (neg_ℤ (pos 25)) (pos 25) h || (is_outside (neg_ℤ (pos 59)) (pos 59) m || is_outside (neg_ℤ (pos 59)) (pos 59) s)
     then Err (offset_refusal h m)
     else Ok (seconds_of_signed_parts h m s)
 
--- what hours, minutes and seconds come to
+-- the outcome of hours, minutes and seconds
 abbrev pub offset_outcome : ℤ → ℤ → ℤ → Outcome ℤ
 offset_outcome h m s = record {
   fits = AreOffsetParts h m s;
@@ -76,12 +76,12 @@ offset_outcome h m s = record {
   answer = offset_of_parts h m s;
 }
 
--- the offset of so many seconds, or their refusal
+-- the offset of a number of seconds, or the error for it
 unfoldable pub offset_of_seconds : ℤ → Result ℤ Refusal
 offset_of_seconds o =
     if is_outside least_offset greatest_offset o then Err (outright_refusal (codes "offset_seconds")) else Ok o
 
--- what so many seconds come to
+-- the outcome of a number of seconds
 abbrev pub offset_seconds_outcome : ℤ → Outcome ℤ
 offset_seconds_outcome o = record {
   fits = IsOffset o;

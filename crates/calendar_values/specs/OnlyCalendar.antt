@@ -1,5 +1,5 @@
--- The Gregorian calendar by its steps: day 0 is 1 January 1970, and each day has the date that follows the date of the day before. No
--- other calendar has these steps.
+-- The Gregorian calendar by its steps: day 0 is 1 January 1970, and each day has the date after the date of the day before.
+-- No other calendar has these steps.
 use Rattle.std.specs.Prelude.{◌≡◌, ◌⊎◌, ℕ, ◌+◌, ◌<◌, ℤ, pos, ◌+ℤ◌}
 use Rattle.calendar_values.specs.Calendar.{is_leap_year, days_in_month, IsCalendarDate, year_of, month_of, day_of_month_of}
 use Rattle.calendar_values.specs.Dates.{ShowsDate}
@@ -19,7 +19,7 @@ pub record IsCalendar (y : ℤ → ℤ) (m d : ℤ → ℕ) : Type 0 where
   pub dates : (n : ℤ) → IsCalendarDate (y n) (m n) (d n)
   pub follow : (n : ℤ) → IsNextDate (y n) (m n) (d n) (y (n +ℤ pos 1)) (m (n +ℤ pos 1)) (d (n +ℤ pos 1))
 
--- the definitions are a calendar, and any other calendar shows the same dates
+-- the definitions are a calendar, and any other calendar has the same dates
 pub record IsOnlyCalendar : Type 0 where
   pub is : IsCalendar year_of month_of day_of_month_of
   pub only : (y : ℤ → ℤ) (m d : ℤ → ℕ) → IsCalendar y m d → (n : ℤ) → ShowsDate (y n) (m n) (d n) n

@@ -12,7 +12,7 @@ earlier y z m n i j first whole = grind (arith, ints)
 later : (y z m n i j : ℤ) → z <ℤ y → j <ℤ i → ordering_then (int_cmp y z) (int_cmp m n) ≡ int_cmp i j
 later y z m n i j first whole = grind (arith, ints)
 
--- two comparisons that agree wherever they come out
+-- two comparisons agree if each outcome of the first implies the same outcome of the second
 pub int_cmp_agrees : (a b x y : ℤ) → (a <ℤ b → x <ℤ y) → (b <ℤ a → y <ℤ x) → (a ≡ b → x ≡ y) → int_cmp a b ≡ int_cmp x y
 int_cmp_agrees a b x y l g s = grind (arith, ints)
 
@@ -29,7 +29,7 @@ nat_cmp-pos o p = elim (cases_order o p) [
   | inr (inr gt) ↦ rw (sym (nat_cmp_is o p Greater gt)) (int_cmp_is (pos o) (pos p) Greater (omega (arith, ints)))
 ]
 
--- a number of which a first part decides, and else the second, compares as the parts do, one after the other
+-- two numbers compare as their first parts do, and as their second parts if the first are equal
 pub int_cmp-parts : (y z i j : ℤ) (o p : ℕ) → (y <ℤ z → i <ℤ j) → (z <ℤ y → j <ℤ i) → (y ≡ z → i -ℤ j ≡ pos o -ℤ pos p)
     → ordering_then (int_cmp y z) (nat_cmp o p) ≡ int_cmp i j
 int_cmp-parts y z i j o p less more same =

@@ -1,4 +1,4 @@
--- What a call comes to that may refuse is one answer: by a test, put in its place, and so for each constructor and replacement.
+-- The outcome of a call that may fail is one answer: by a test, put in its place, and so for each constructor and replacement.
 use Rattle.std.proofs.Common.{◌≡◌, ◌↔◌, ℕ, ◌≤◌, ◌==◌, ◌||◌, Bool, true, false, cond, refl, ap, arith, codes, List, Result, Ok, Err, OkIff, IfErr, nat_lt}
 use Rattle.std.proofs.Common.{ℤ, ◌≤ℤ◌, pos, neg_ℤ, ◌-ℤ◌}
 use Rattle.std.proofs.lemmas.Bool.Decides.{nat_tests}
@@ -19,13 +19,13 @@ use Rattle.calendar_values.specs.Replacements.{month_outcome, day_outcome, ordin
 use Rattle.calendar_values.specs.CalendarDateLemmas.{IsCalendarDate-of, days_in_month_bounds}
 use Rattle.calendar_values.specs.DayLemmas.{IsYear-year_of}
 
--- a refusal or a value, by a test that says where the arguments do not fit
+-- an error or a value, by a test that is true if the arguments do not fit
 pub IsOneAnswer-tested : {T : Type 0} (fits : Type 0) (test : Bool) (value : T) (refusal : Refusal) → (fits → test ≡ false) → (test ≡ false → fits)
     → IsOneAnswer (record { fits = fits; value = value; refusal = refusal; answer = cond test (Err refusal) (Ok value) })
 IsOneAnswer-tested fits true value refusal there back = record { value = λ f. let e = there f in cc; refused = refl; equation = refl }
 IsOneAnswer-tested fits false value refusal there back = record { value = (back refl, refl); refused = tt; equation = refl }
 
--- of a part up to a limit
+-- the outcome of a part up to a limit
 pub IsOneAnswer-at_most : {T : Type 0} (limit : ℕ) (name : List ℕ) (part : ℕ) (value : T) → IsOneAnswer (at_most limit name part value)
 IsOneAnswer-at_most limit name part value =
     IsOneAnswer-tested (part ≤ limit) (nat_lt limit part) value (outright_refusal name) (λ f. grind (arith, nat_tests)) (λ t. grind (arith, nat_tests))
@@ -36,7 +36,7 @@ placed : {S T : Type 0} (put : S → T) (answer : Result S Refusal) (fits : Type
 placed put (Ok x) fits value refusal given refused = record { value = (given.0, ap put given.1); refused = tt; equation = refl }
 placed put (Err r) fits value refusal given refused = record { value = given; refused = refused; equation = refl }
 
--- put in its place
+-- the outcome with its value put in its place
 pub IsOneAnswer-within : {S T : Type 0} (put : S → T) (outcome : Outcome S) → IsOneAnswer outcome → IsOneAnswer (within put outcome)
 IsOneAnswer-within put outcome h = placed put outcome.answer outcome.fits outcome.value outcome.refusal h.value h.refused
 
@@ -59,7 +59,7 @@ IsOneAnswer-iso_week_date y w d =
     (is_outside first_year last_year y || (((w == 0) || nat_lt (weeks_in_year y) w) || is_outside first_day last_day (day_of_iso_week_date y w d)))
     (day_of_iso_week_date y w d) (iso_week_date_refusal y w) (λ f. grind (arith, nat_tests, ints)) (λ t. grind (arith, nat_tests, ints))
 
--- the same of an answer that was found
+-- the same for an answer that equals that of the outcome
 Gives-answer : {T : Type 0} (outcome : Outcome T) (answer : Result T Refusal) → answer ≡ outcome.answer → IsOneAnswer outcome → Gives answer outcome
 Gives-answer outcome answer e h = rw e h
 
@@ -112,7 +112,7 @@ IsOneAnswer-julian_date j =
     IsOneAnswer-tested (IsDay (j -ℤ epoch_julian_day)) (is_outside first_day last_day (j -ℤ epoch_julian_day)) (j -ℤ epoch_julian_day) _
     (λ f. grind (arith, ints)) (λ t. grind (arith, ints))
 
--- a part of the second fits up to its limit exactly where the nanoseconds that it makes are those of a second
+-- the outcome of a clock: the part of the second is at most its limit exactly if its nanoseconds are less than a second
 pub IsOneAnswer-clock : (h m s : ℕ) (name : List ℕ) (limit part n : ℕ) → (s ≤ 59 → (part ≤ limit) ↔ (n ≤ 999_999_999))
     → IsOneAnswer (clock_outcome h m s name limit part n)
 unfolding clock_with
@@ -142,7 +142,7 @@ unfolding offset_of_seconds
 IsOneAnswer-offset_seconds o =
     IsOneAnswer-tested (IsOffset o) (is_outside least_offset greatest_offset o) o _ (λ f. grind (arith, ints)) (λ t. grind (arith, ints))
 
--- where other words say when the arguments fit, or what they are refused by
+-- the same outcome in other words, for the condition that the arguments fit or for the error
 reworded : {T : Type 0} (answer : Result T Refusal) (fits other : Type 0) (value : T) (refusal named : Refusal) → (fits → other) → (other → fits)
     → refusal ≡ named → Gives answer (record { fits = fits; value = value; refusal = refusal; answer = answer })
     → Gives answer (record { fits = other; value = value; refusal = named; answer = answer })
@@ -153,7 +153,7 @@ reworded (Err r) fits other value refusal named there back e h =
 third : {A : Type 0} (first second : Bool) (x y z : A) → first ≡ false → second ≡ false → cond first x (cond second y z) ≡ z
 third first second x y z e f = rw (e, f) refl
 
--- the year of a day of the range is not refused
+-- the year of a day of the range is not out of range
 year_fits : (n : ℤ) → IsDay n → is_outside first_year last_year (year_of n) ≡ false
 year_fits n day = let year = IsYear-year_of n day in grind (arith, ints)
 

@@ -1,4 +1,4 @@
--- The names of the parts that a refusal can name.
+-- The names of the parts that an error can name.
 use Rattle.std.specs.Prelude.{◌≡◌, ℕ, Bool, List, [], ◌∷◌, codes, find, unwrap_or, nat_eq, refl}
 use Rattle.std.specs.List.{list_any}
 use Rattle.std.specs.Cmp.Lexicographic.{pointwise}

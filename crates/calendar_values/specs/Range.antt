@@ -24,10 +24,10 @@ IsYear y = (first_year ≤ℤ y) × (y ≤ℤ last_year)
 abbrev pub IsDay : ℤ → Type 0
 IsDay n = (first_day ≤ℤ n) × (n ≤ℤ last_day)
 
--- the result is Some exactly where the range has this day, and then it
+-- the result is Some n exactly if n is a day of the range, and else None
 abbrev pub SomeDay : Option ℤ → ℤ → Type 0
 SomeDay result n = SomeIff result (IsDay n) n
 
--- the number lies before the first or after the last
+-- the number is before the first or after the last
 abbrev pub is_outside : ℤ → ℤ → ℤ → Bool
 is_outside first last n = int_lt n first || int_lt last n

@@ -1,12 +1,12 @@
--- The year of a day by two multiplications: days are counted from a year that 400 divides, and a product with a
--- reciprocal has its whole part in one word and its fraction in the word below.
+-- The year of a day by two multiplications: days are counted from a year that 400 divides.
+-- A product with a reciprocal has its whole part in one word and its fraction in the word below.
 use Rattle.std.specs.Prelude.{ℕ, ◌+◌, ◌-◌, ◌*◌, ◌/◌, ◌%◌, ◌^◌, ◌≤◌, Bool, ◌&&◌, ◌||◌, ◌==◌, nat_lt, if◌then◌else◌, ℤ, pos, ◌+ℤ◌, ◌-ℤ◌, unsigned_abs}
 
 -- the day n, counted from 1 January of the year -2379600, 5,949 spans of 400 years before the year 0
 abbrev pub shifted_day : ℤ → ℕ
 shifted_day n = unsigned_abs (n +ℤ pos 869_850_581)
 
--- the days of the range, so counted
+-- the days of the range, counted from there
 abbrev pub IsShiftedDay : ℕ → Type 0
 IsShiftedDay day = (503_888_919 ≤ day) × (day ≤ 1_234_373_552)
 
@@ -22,7 +22,8 @@ century_of day = scaled_centuries day / 2 ^ 32
 abbrev pub century_fraction_of : ℕ → ℕ
 century_fraction_of day = scaled_centuries day % 2 ^ 32
 
--- the year is as long as without the rule on centuries: its century begins with a leap year, or the first year of its century is past
+-- the year is as long as without the rule on centuries;
+-- its century begins with a leap year, or the first year of its century is past
 abbrev pub is_julian_year : ℕ → Bool
 is_julian_year day = nat_lt 42_920_275 (century_fraction_of day) || (century_of day % 4 == 0)
 
@@ -30,11 +31,11 @@ is_julian_year day = nat_lt 42_920_275 (century_fraction_of day) || (century_of 
 abbrev pub julian_count : ℕ → ℕ
 julian_count day = day - century_of day / 4 + century_of day
 
--- the days of the range, so counted
+-- the days of the range, counted in that calendar
 abbrev pub IsJulianCount : ℕ → Type 0
 IsJulianCount count = (503_899_266 ≤ count) × (count ≤ 1_234_398_899)
 
--- such a day times 4 / 1,461, the years up to it, with 32 binary places: the multiplier is 2^42 / 1,461 rounded up
+-- a day of that calendar times 4 / 1,461, the years up to it, with 32 binary places: the multiplier is 2^42 / 1,461 rounded up
 abbrev pub scaled_years : ℕ → ℕ
 scaled_years count = count * 3_010_298_776 / 2 ^ 8
 

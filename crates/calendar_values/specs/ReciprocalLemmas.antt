@@ -17,7 +17,7 @@ ordinal_sum day h = grind (arith, nat_tests)
 leap_is : (day : ℕ) → IsShiftedDay day → step_leap day ≡ is_leap_year (pos (years_of day))
 leap_is day h = grind (arith, nat_tests)
 
--- the day lies in that year
+-- the day is in that year
 year_within : (day : ℕ) → IsShiftedDay day → (days_from_0 (years_of day) ≤ day) × (day < days_from_0 (suc (years_of day)))
 year_within day h = omega arith
 
@@ -48,7 +48,7 @@ IsOrdinalDate-step n h =
     let shift = leap_day-shift 5_949 (years_of day) (step_year day) (step_year-is day) in
     omega arith
 
--- and its day number is that of the day
+-- the day number of that year and that day of the year is the day
 pub day_of_ordinal_date-step : (n : ℤ) → IsDay n → day_of_ordinal_date (step_year (shifted_day n)) (step_ordinal (shifted_day n)) ≡ n
 day_of_ordinal_date-step n h =
     let day = shifted_day n in

@@ -12,7 +12,7 @@ use native.Mathlib.Nat.{zero-mod}
 pub fits_between : (w : Width) (z : ℤ) → (up z < down z + 2 ^ hbits w) × (down z ≤ up z + 2 ^ hbits w) → FitsSigned w z
 fits_between w z h = fits_in w z (omega arith)
 
--- and comes back from its bits as it was
+-- the bits of such a number have its value
 pub back_between : (w : Width) (z : ℤ) → up z < down z + 2 ^ hbits w → down z ≤ up z + 2 ^ hbits w → (up (to_z w (of_z w z)) ≡ up z) ×
     (down (to_z w (of_z w z)) ≡ down z)
 back_between w z h k = back_is w z (omega arith)
@@ -31,7 +31,7 @@ pub int_div_euclid-parts : (a : ℤ) (k : ℕ) → 0 < k → (up (int_div_euclid
 int_div_euclid-parts (pos a) k h = omega arith
 int_div_euclid-parts (negsuc a) k h = omega arith
 
--- and the remainder is what that leaves
+-- the remainder is the rest after that quotient: at least 0 and less than k
 pub int_rem_euclid-parts : (a : ℤ) (k : ℕ) → 0 < k → (up (int_rem_euclid a (pos k)) + up (int_div_euclid a (pos k)) * k + down a ≡
     down (int_div_euclid a (pos k)) * k + up a) × (down (int_rem_euclid a (pos k)) ≡ 0) × (up (int_rem_euclid a (pos k)) < k)
 int_rem_euclid-parts (pos a) k h = omega arith
@@ -87,5 +87,5 @@ pub ruleset signed_arith = (
   read_fits,
 )
 
--- the same where the code casts from unsigned types
+-- the same for code that casts from unsigned types
 pub ruleset signed_casts = (signed_arith, small_is)

@@ -1,4 +1,4 @@
--- How dates, times of day and offsets print.
+-- The texts of dates, times of day, offsets and errors.
 use Rattle.std.specs.Prelude.{ℕ, ◌/◌, ◌%◌, List, [], ◌++◌, codes, decimal, if◌then◌else◌, nat_lt, int_lt, ℤ, pos, unsigned_abs}
 use Rattle.calendar_values.specs.Calendar.{year_of, month_of, day_of_month_of}
 use Rattle.calendar_values.specs.Clock.{hour_of, minute_of, second_of, nanosecond_of}
@@ -35,7 +35,7 @@ offset_text o =
     (if int_lt o (pos 0) then codes "-" else codes "+") ++ last_digits 2 (n / 3_600) ++ codes ":" ++ last_digits 2 (n / 60 % 60) ++ codes ":" ++
     last_digits 2 (n % 60)
 
--- the name of the part, and that it is out of range, by itself or with the other parts
+-- the text of an error: the name of the part, and that it is out of range, by itself or with the other parts
 unfoldable pub refusal_text : Refusal → List ℕ
 refusal_text refusal =
     refusal.name ++ codes " is out of range" ++ (if refusal.conditional then codes " given the other parts" else [])

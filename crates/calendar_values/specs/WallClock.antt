@@ -1,4 +1,5 @@
--- A wall clock: the day number times the nanoseconds of a day plus the nanosecond of the day. An instant is counted from 1970-01-01 0:00 UTC.
+-- A wall clock: the day number times the nanoseconds of a day plus the nanosecond of the day.
+-- An instant is counted from 1970-01-01 0:00 UTC.
 use Rattle.std.specs.Prelude.{ℕ, ℤ, pos, ◌+ℤ◌, ◌-ℤ◌, ◌*ℤ◌, ◌≤ℤ◌, unsigned_abs, Option, SomeIff}
 use Rattle.std.specs.Int.{int_div_euclid, int_rem_euclid}
 use Rattle.calendar_values.specs.Clock.{nanos_per_day, nanos_per_second}
@@ -27,11 +28,11 @@ last_wall_clock = (last_day +ℤ pos 1) *ℤ pos nanos_per_day -ℤ pos 1
 abbrev pub IsWallClock : ℤ → Type 0
 IsWallClock w = (first_wall_clock ≤ℤ w) × (w ≤ℤ last_wall_clock)
 
--- an instant of the range: one at which clocks in UTC show such a wall clock
+-- an instant of the range: clocks in UTC show a wall clock of the range
 abbrev pub IsInstant : ℤ → Type 0
 IsInstant i = IsWallClock i
 
--- the result is Some exactly where the range has this wall clock or instant, and then it
+-- the result is Some w exactly if w is a wall clock or an instant of the range, and else None
 abbrev pub SomeInRange : Option ℤ → ℤ → Type 0
 SomeInRange result w = SomeIff result (IsWallClock w) w
 

@@ -16,11 +16,11 @@ weekday_of-parts n = omega (arith, signed_arith)
 pub weekday_of-bound : (n : ℤ) → weekday_of n < 7
 weekday_of-bound n = omega (arith, weekday_of-parts n)
 
--- k days later the weekday has moved on by k
+-- k days later the number of the weekday is greater by k, modulo 7
 pub weekday_of-add : (a b : ℤ) (k : ℕ) → b ≡ a +ℤ pos k → weekday_of b ≡ (weekday_of a + k) % 7
 weekday_of-add a b k e = omega (arith, signed_arith, weekday_of-parts a, weekday_of-parts b)
 
--- of k days in a row each seventh falls on a day of the week
+-- each seventh of k days in a row falls on a day of the week
 pub count_weekday-closed : (w : ℕ) (first : ℤ) (k : ℕ) → w < 7 → count_weekday w first k ≡ (k + (weekday_of first + 13 - w) % 7) / 7
 unfolding count_weekday
 count_weekday-closed w first zero h = omega (arith, weekday_of-bound first)
@@ -53,11 +53,11 @@ iso_week_of-closed n =
       weekday_of-bound (year_start (year_of t)),
     )
 
--- the Thursday of the week of a day of the range lies in the range, which begins on a Monday and ends on a Friday
+-- the Thursday of the week of a day of the range is in the range, which begins on a Monday and ends on a Friday
 pub IsDay-thursday_of : (n : ℤ) → IsDay n → IsDay (thursday_of n)
 IsDay-thursday_of n h = (omega (arith, signed_arith, weekday_of-parts n, h.0), omega (arith, signed_arith, weekday_of-parts n, h.1))
 
--- so many days later
+-- the weekday k days later
 pub weekday_of-days_later : (n : ℤ) (k : ℕ) → weekday_of (n +ℤ pos k) ≡ (weekday_of n + k) % 7
 weekday_of-days_later n k = weekday_of-add n (n +ℤ pos k) k refl
 
@@ -68,7 +68,7 @@ weekday_of-week_later a b e = omega (arith, weekday_of-add a b 7 e, weekday_of-b
 pub weekday_of-week_earlier : (a b : ℤ) → b ≡ a -ℤ pos 7 → weekday_of b ≡ weekday_of a
 weekday_of-week_earlier a b e = let back : a ≡ b +ℤ pos 7 = omega (arith, signed_arith) in omega (arith, weekday_of-week_later b a back)
 
--- the Monday of the week of a day
+-- the Monday of the week of a day is a Monday
 pub weekday_of-monday : (n : ℤ) → weekday_of (n -ℤ pos (weekday_of n)) ≡ 0
 weekday_of-monday n = omega (arith, signed_arith, weekday_of-parts n, weekday_of-parts (n -ℤ pos (weekday_of n)))
 

@@ -11,17 +11,17 @@ weekday_of n = unsigned_abs (int_rem_euclid (n +ℤ pos 3) (pos 7))
 abbrev pub thursday_of : ℤ → ℤ
 thursday_of n = n -ℤ pos (weekday_of n) +ℤ pos 3
 
--- an ISO week belongs to the year of its Thursday
+-- the ISO year: an ISO week belongs to the year of its Thursday
 abbrev pub iso_year_of : ℤ → ℤ
 iso_year_of n = year_of (thursday_of n)
 
--- how many of the first k days from a day on fall on a day of the week
+-- the number of the first k days from a day on that fall on a day of the week
 unfoldable pub count_weekday : ℕ → ℤ → ℕ → ℕ
 count_weekday weekday first zero = 0
 count_weekday weekday first (suc k) =
     count_weekday weekday first k + (if weekday_of (first +ℤ pos k) == weekday then 1 else 0)
 
--- how many days of the year of a day, up to that day, fall on a day of the week
+-- the number of days of the year of a day, up to that day, that fall on a day of the week
 abbrev pub count_weekday_of_year : ℕ → ℤ → ℕ
 count_weekday_of_year weekday n = count_weekday weekday (year_start (year_of n)) (ordinal_of n)
 
@@ -29,7 +29,7 @@ count_weekday_of_year weekday n = count_weekday weekday (year_start (year_of n))
 abbrev pub iso_week_of : ℤ → ℕ
 iso_week_of n = count_weekday_of_year 3 (thursday_of n)
 
--- a year has as many ISO weeks as Thursdays
+-- the number of ISO weeks of a year, which is the number of its Thursdays
 abbrev pub weeks_in_year : ℤ → ℕ
 weeks_in_year y = count_weekday 3 (year_start y) (days_in_year y)
 
@@ -41,10 +41,10 @@ monday_of n = n -ℤ pos (weekday_of n)
 abbrev pub day_of_iso_week_date : ℤ → ℕ → ℕ → ℤ
 day_of_iso_week_date y week weekday = monday_of (year_start y +ℤ pos 3) +ℤ pos ((week - 1) * 7) +ℤ pos weekday
 
--- the week by Sundays: how many Sundays of the year lie on or before the day
+-- the week by Sundays: the number of Sundays of the year on or before the day
 abbrev pub sunday_week_of : ℤ → ℕ
 sunday_week_of n = count_weekday_of_year 6 n
 
--- the week by Mondays: how many Mondays of the year lie on or before the day
+-- the week by Mondays: the number of Mondays of the year on or before the day
 abbrev pub monday_week_of : ℤ → ℕ
 monday_week_of n = count_weekday_of_year 0 n

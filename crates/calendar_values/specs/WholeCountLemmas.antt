@@ -1,4 +1,4 @@
--- Whole counts of durations: of as many units, their signs, their order, and the units beside one another.
+-- Whole counts of durations: of a number of units, their signs, their order, and the units next to one another.
 use Rattle.std.proofs.Common.{◌≡◌, ℤ, pos, ◌+ℤ◌, ◌-ℤ◌, ◌*ℤ◌, ◌≤ℤ◌, int_rem, arith}
 use Rattle.calendar_values.specs.Clock.{nanos_per_microsecond, nanos_per_millisecond, nanos_per_second, nanos_per_minute, nanos_per_hour, nanos_per_day}
 use Rattle.calendar_values.specs.Clock.{nanos_per_week}
@@ -6,7 +6,7 @@ use Rattle.calendar_values.specs.Durations.{whole_seconds_of, whole_minutes_of, 
 use Rattle.calendar_values.specs.Durations.{whole_milliseconds_of, whole_microseconds_of}
 use Rattle.calendar_values.specs.SignedArith.{signed_arith, one_part}
 
--- of so many units
+-- a duration of k units has the count k
 pub whole_weeks_of-exact : (k : ℤ) → whole_weeks_of (k *ℤ pos nanos_per_week) ≡ k
 unfolding whole_weeks_of
 whole_weeks_of-exact k = omega (arith, signed_arith, one_part k)
@@ -34,6 +34,11 @@ whole_milliseconds_of-exact k = omega (arith, signed_arith, one_part k)
 pub whole_microseconds_of-exact : (k : ℤ) → whole_microseconds_of (k *ℤ pos nanos_per_microsecond) ≡ k
 unfolding whole_microseconds_of
 whole_microseconds_of-exact k = omega (arith, signed_arith, one_part k)
+
+-- a duration of s seconds has these counts of the units below a second
+pub whole_milliseconds_of-of_seconds : (s : ℤ) → whole_milliseconds_of (s *ℤ pos nanos_per_second) ≡ s *ℤ pos 1_000
+unfolding whole_milliseconds_of
+whole_milliseconds_of-of_seconds s = omega (arith, signed_arith, one_part s)
 
 -- a duration that is not below 0 has no count below 0
 pub whole_weeks_of-not_negative : (d : ℤ) → pos 0 ≤ℤ d → pos 0 ≤ℤ whole_weeks_of d
@@ -64,7 +69,7 @@ pub whole_microseconds_of-not_negative : (d : ℤ) → pos 0 ≤ℤ d → pos 0 
 unfolding whole_microseconds_of
 whole_microseconds_of-not_negative d h = omega (arith, signed_arith, one_part d)
 
--- nor has the time from an instant to one that is not earlier
+-- the time from an instant to one that is not earlier has no count below 0
 pub whole_weeks_of-later : (a b : ℤ) → a ≤ℤ b → pos 0 ≤ℤ whole_weeks_of (b -ℤ a)
 unfolding whole_weeks_of
 whole_weeks_of-later a b h = omega (arith, signed_arith, one_part (b -ℤ a))
@@ -93,7 +98,7 @@ pub whole_microseconds_of-later : (a b : ℤ) → a ≤ℤ b → pos 0 ≤ℤ wh
 unfolding whole_microseconds_of
 whole_microseconds_of-later a b h = omega (arith, signed_arith, one_part (b -ℤ a))
 
--- a longer duration has no less of them
+-- a longer duration has no smaller count
 pub whole_weeks_of-order : (a b : ℤ) → a ≤ℤ b → whole_weeks_of a ≤ℤ whole_weeks_of b
 unfolding whole_weeks_of
 whole_weeks_of-order a b h = omega (arith, signed_arith, one_part a, one_part b)
@@ -122,7 +127,7 @@ pub whole_microseconds_of-order : (a b : ℤ) → a ≤ℤ b → whole_microseco
 unfolding whole_microseconds_of
 whole_microseconds_of-order a b h = omega (arith, signed_arith, one_part a, one_part b)
 
--- what a unit leaves of the next smaller
+-- the count of a unit by the count of the next larger unit and the rest
 pub whole_days_of-weeks : (d : ℤ) → whole_days_of d ≡ (whole_weeks_of d *ℤ pos 7) +ℤ int_rem (whole_days_of d) (pos 7)
 unfolding whole_weeks_of whole_days_of
 whole_days_of-weeks d = omega (arith, signed_arith, one_part d)
@@ -157,6 +162,7 @@ pub ruleset wholes = (
   whole_seconds_of-exact,
   whole_milliseconds_of-exact,
   whole_microseconds_of-exact,
+  whole_milliseconds_of-of_seconds,
   whole_weeks_of-not_negative,
   whole_days_of-not_negative,
   whole_hours_of-not_negative,

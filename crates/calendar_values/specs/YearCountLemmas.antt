@@ -1,5 +1,5 @@
 -- Years and months that are counted fit an i32.
-use Rattle.std.proofs.Common.{◌≡◌, ℕ, ◌≤◌, ℤ, pos, ◌+ℤ◌, ◌-ℤ◌, ◌*ℤ◌, arith, FitsSigned, w32, to_z, of_z, to_z-of_z}
+use Rattle.std.proofs.Common.{◌≡◌, ◌∙◌, ℕ, ◌≤◌, ℤ, pos, ◌+ℤ◌, ◌-ℤ◌, ◌*ℤ◌, arith, FitsSigned, w32, to_z, of_z, to_z-of_z}
 use Rattle.calendar_values.specs.Range.{IsYear}
 use Rattle.calendar_values.specs.SignedArith.{signed_arith}
 
@@ -56,6 +56,28 @@ pub to_z-months_apart : (y z : ℤ) (m n : ℕ) → IsYear y → IsYear z → m 
     → to_z w32 (of_z w32 (((y -ℤ z) *ℤ pos 12) +ℤ (pos m -ℤ pos n))) ≡ ((y -ℤ z) *ℤ pos 12) +ℤ (pos m -ℤ pos n)
 to_z-months_apart y z m n h k first second = to_z-of_z (FitsSigned-months_apart y z m n h k first second)
 
+-- the months of two in one year
+pub FitsSigned-months_in_year : (m n : ℕ) → m ≤ 12 → n ≤ 12 → FitsSigned w32 (pos m -ℤ pos n)
+FitsSigned-months_in_year m n first second = omega (arith, signed_arith)
+
+pub to_z-months_in_year : (m n : ℕ) → m ≤ 12 → n ≤ 12 → to_z w32 (of_z w32 (pos m -ℤ pos n)) ≡ pos m -ℤ pos n
+to_z-months_in_year m n first second = to_z-of_z (FitsSigned-months_in_year m n first second)
+
+-- the months from one to another, each counted from the year 0
+pub FitsSigned-months_between : (y z : ℤ) (m n : ℕ) → IsYear y → IsYear z → m ≤ 12 → n ≤ 12
+    → FitsSigned w32 (((y *ℤ pos 12) +ℤ pos m) -ℤ ((z *ℤ pos 12) +ℤ pos n))
+FitsSigned-months_between y z m n h k first second = omega (arith, signed_arith, h, k)
+
+pub to_z-months_between : (y z : ℤ) (m n : ℕ) → IsYear y → IsYear z → m ≤ 12 → n ≤ 12
+    → to_z w32 (of_z w32 (((y *ℤ pos 12) +ℤ pos m) -ℤ ((z *ℤ pos 12) +ℤ pos n)))
+    ≡ ((y *ℤ pos 12) +ℤ pos m -ℤ pos 1) -ℤ ((z *ℤ pos 12) +ℤ pos n -ℤ pos 1)
+to_z-months_between y z m n h k first second = to_z-of_z (FitsSigned-months_between y z m n h k first second) ∙ omega (arith, signed_arith)
+
+pub to_z-index_between : (y z : ℤ) (m n : ℕ) → IsYear y → IsYear z → m ≤ 12 → n ≤ 12
+    → to_z w32 (of_z w32 (((y -ℤ z) *ℤ pos 12) +ℤ (pos m -ℤ pos n)))
+    ≡ ((y *ℤ pos 12) +ℤ pos m -ℤ pos 1) -ℤ ((z *ℤ pos 12) +ℤ pos n -ℤ pos 1)
+to_z-index_between y z m n h k first second = to_z-months_apart y z m n h k first second ∙ omega (arith, signed_arith)
+
 -- a caller who lists `year_counts` counts years and months in an i32
 pub ruleset year_counts = (
   FitsSigned-next_year,
@@ -74,4 +96,9 @@ pub ruleset year_counts = (
   to_z-months_of_years,
   FitsSigned-months_apart,
   to_z-months_apart,
+  FitsSigned-months_in_year,
+  to_z-months_in_year,
+  FitsSigned-months_between,
+  to_z-months_between,
+  to_z-index_between,
 )

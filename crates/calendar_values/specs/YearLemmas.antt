@@ -1,4 +1,4 @@
--- Where years begin: each year after the days of the one before, a closed form, and the order of years.
+-- The first days of years: each year begins after the days of the one before; a closed form; the order of years.
 use Rattle.std.proofs.Common.{◌≡◌, ℕ, zero, suc, ◌+◌, ◌-◌, ◌*◌, ◌/◌, ◌<◌, ◌≤◌, refl, cond, arith, ℤ, pos, negsuc, neg_ℤ, ◌+ℤ◌, ◌-ℤ◌, ◌<ℤ◌, ◌≤ℤ◌}
 use Rattle.std.proofs.lemmas.Bool.Decides.{nat_tests}
 use Rattle.std.proofs.lemmas.Int.{by_lt_z}
@@ -104,7 +104,7 @@ year_start-mono y z h = by_lt_z y z (λ lt. omega (arith, signed_arith, year_sta
 pub days_in_year_bounds : (y : ℤ) → (365 ≤ days_in_year y) × (days_in_year y ≤ 366)
 days_in_year_bounds y = grind arith
 
--- a day lies in one year at most
+-- a day is in one year at most
 pub IsInYear-unique : (n y z : ℤ) → IsInYear n y → IsInYear n z → y ≡ z
 IsInYear-unique n y z h k =
     by_lt_z y z (λ lt. absurd (omega (arith, signed_arith, year_start-mono (y +ℤ pos 1) z (omega (arith, signed_arith)))))

@@ -1,4 +1,4 @@
-//! What the constants are: each function here gives those of one type, with their numbers in its contract.
+//! The constants by their numbers: the contract of each function has those of one type.
 ghost use Rattle.std.specs.Prelude.{◌≡◌, ◌-◌, pos};
 ghost use Rattle.calendar_values.specs.Clock.{nanos_per_microsecond, nanos_per_millisecond, nanos_per_second, nanos_per_minute, nanos_per_hour};
 ghost use Rattle.calendar_values.specs.Clock.{nanos_per_day, nanos_per_week};

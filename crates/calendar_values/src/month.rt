@@ -40,10 +40,10 @@ impl Month {
         if number == 0 || number > 12 {
             return Err(ComponentRange::of_part(Part::Month, false));
         }
-        Ok(Month::numbered(number))
+        Ok(Month::of_number(number))
     }
 
-    pub(crate) fn numbered(number: u8) -> Month
+    pub(crate) fn of_number(number: u8) -> Month
         requires first { 1 ≤ number }
         requires last { number ≤ 12 }
         ensures { month_number result ≡ number }

@@ -1,4 +1,5 @@
-//! How many of one unit of time another has, and the day from which days are counted. There are no leap seconds.
+//! How many of one unit of time another has, and the day from which days are counted. There are no
+//! leap seconds.
 
 /// The seconds of a minute.
 pub const SECONDS_PER_MINUTE: i64 = 60;

@@ -47,12 +47,12 @@ impl Weekday {
         if number > 6 {
             return None;
         }
-        Some(Weekday::numbered(number))
+        Some(Weekday::of_number(number))
     }
 
     /// As [`Weekday::from_number_days_from_monday`], of a number below 7. The caller proves that it
     /// is.
-    pub fn numbered(number: u8) -> Weekday
+    pub fn of_number(number: u8) -> Weekday
         requires { number < 7 }
         ensures { weekday_number result ≡ number }
     {

@@ -95,7 +95,7 @@ impl Date {
         ensures shown { let y = year_of_index index in let m = month_of_index index in
             IfSome result (ShowsDate y m (min day (days_in_month (is_leap_year y) m))) }
     {
-        let month = Month::numbered(number_of_index(index));
+        let month = Month::of_number(number_of_index(index));
         match year_of_index(index) {
             Some(year) => Some(Date::day_or_last(year, month, day)),
             None => None,

@@ -1,4 +1,4 @@
-//! What a date shows.
+//! The parts of a date.
 ghost use Rattle.std.specs.Prelude.{◌≡◌, ◌+◌, ◌≤◌, ◌<◌, ◌-ℤ◌, ◌/◌, length};
 ghost use Rattle.calendar_values.specs.Calendar.{epoch_julian_day};
 ghost use Rattle.calendar_values.specs.Dates.{IsCalendarDateOf, IsOrdinalDateOf, IsIsoWeekDateOf};
@@ -193,7 +193,7 @@ impl Date {
     pub fn weekday(self) -> Weekday
         ensures { weekday_number result ≡ weekday_of self }
     {
-        Weekday::numbered(days_from_monday(self.to_julian_day()))
+        Weekday::of_number(days_from_monday(self.to_julian_day()))
     }
 
     /// The Julian day, which is 2,440,588 on 1970-01-01.

@@ -1,4 +1,4 @@
-//! What a duration is made of.
+//! The parts of a duration.
 ghost use Rattle.std.specs.Prelude.{◌≡◌, ℤ, pos, ◌≤◌, ◌↔◌, IsTrue, ◌<ℤ◌, min, unsigned_abs};
 ghost use Rattle.std.specs.Duration.{as_nanos};
 ghost use Rattle.calendar_values.specs.Durations.{IsDuration, IsDurationParts, duration_of_parts, whole_seconds_of, subsec_nanoseconds_of};

@@ -1,4 +1,4 @@
-//! What a time of day shows.
+//! The parts of a time of day.
 ghost use Rattle.std.specs.Prelude.{◌≡◌, ◌+◌, ◌-◌, ◌*◌, ◌/◌, ◌<◌, ◌≤◌};
 ghost use Rattle.calendar_values.specs.Clock.{IsClock, AreTimeParts, nanos_per_second, nanos_per_millisecond, nanos_per_microsecond, hour_of};
 ghost use Rattle.calendar_values.specs.Clock.{minute_of, second_of, millisecond_of, microsecond_of, nanosecond_of};

@@ -1,4 +1,4 @@
-//! What the constants are.
+//! The numbers of the constants.
 use super::is;
 use calendar_values::constants::{dates, durations, offsets, times};
 use calendar_values::{Date, SignedDuration, Time, UtcOffset};

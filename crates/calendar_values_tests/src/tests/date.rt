@@ -1,4 +1,4 @@
-//! Dates, beside tables of days counted one at a time.
+//! Dates, compared with tables of days counted one at a time.
 use super::is;
 use calendar_values::{ComponentRange, Date, Month, SignedDuration, Weekday};
 use std::hash::{DefaultHasher, Hash, Hasher};

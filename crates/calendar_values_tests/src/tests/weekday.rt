@@ -23,7 +23,7 @@ fn days_of_a_week_have_their_numbers_and_names(rt: HostRuntime) -> Result<(), Fa
             Some(weekday),
         );
     }
-    is(&rt, Weekday::numbered(6), Weekday::Sunday);
+    is(&rt, Weekday::of_number(6), Weekday::Sunday);
     is(&rt, Weekday::from_number_days_from_monday(7), None);
     Ok(())
 }
