@@ -1,3 +1,4 @@
 pub mod AgreementLemmas
+pub mod CycleLemmas
 pub mod IsoWeekLemmas
 pub mod SumLemmas

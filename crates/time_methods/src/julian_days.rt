@@ -1,8 +1,8 @@
 //! The date of a Julian day by two multiplications, with no division.
 //!
-//! A day is counted from 1 January of a year that 400 divides, so that it is not negative. The first
-//! product gives its century, and with it how many leap days the rule on centuries has left out. The second
-//! gives the year and the day of the year, as in a calendar without that rule.
+//! A day is counted from 1 January of a year that 400 divides, so that it is not negative. The
+//! first product gives its century, and with it how many leap days the rule on centuries has left
+//! out. The second gives the year and the day of the year, as in a calendar without that rule.
 ghost use Rattle.std.specs.Prelude.{◌≡◌, ◌<◌, ◌^◌, ◌/◌, ◌%◌, pos, ◌-ℤ◌, IfOk};
 ghost use Rattle.calendar_values.specs.Calendar.{epoch_julian_day, julian_day_of};
 ghost use Rattle.calendar_values.specs.Constructors.{julian_date_outcome};

@@ -1,13 +1,15 @@
-//! Each function here calls the library and the method of `time`, and proves that their answers are equal.
+//! Each function here calls the library and the other method, and proves that their answers are
+//! equal.
 ghost use Rattle.std.specs.Prelude.{◌≡◌, pos, ◌+ℤ◌};
 ghost use Rattle.calendar_values.specs.Adjustments.{adjustment_days, subday_nanoseconds_of};
 ghost use Rattle.calendar_values.specs.Constructors.{julian_date_outcome};
 ghost use Rattle.calendar_values.specs.Dates.{IsCalendarDateOf};
 ghost use Rattle.calendar_values.specs.Outcomes.{Gives};
+ghost use Rattle.calendar_values.specs.Range.{SomeDay};
 ghost use Rattle.calendar_values.specs.WallClock.{wall_clock};
 ghost use Rattle.calendar_values.specs.Weeks.{iso_week_of};
 
-use crate::{adjusting_add, from_julian_day, iso_week, to_calendar_date};
+use crate::{adjusting_add, from_days_since_epoch, from_julian_day, iso_week, to_calendar_date};
 use calendar_values::{ComponentRange, Date, DateAdjustment, Month, SignedDuration, Time};
 
 /// The dates of a Julian day, or the errors, by the library and by the method of `time`. Both are
@@ -21,6 +23,17 @@ pub fn dates_of_julian_day(
     (
         Date::from_julian_day(julian_day),
         from_julian_day(julian_day),
+    )
+}
+
+/// The dates of a day number, or None, by the library and by divisions. Both are equal.
+pub fn dates_of_day(days: i32) -> (Option<Date>, Option<Date>)
+    ensures value { SomeDay result.0 days }
+    ensures agreed { result.0 ≡ result.1 }
+{
+    (
+        Date::from_days_since_epoch(days),
+        from_days_since_epoch(days),
     )
 }
 

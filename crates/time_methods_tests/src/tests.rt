@@ -4,7 +4,9 @@ use calendar_values::{ComponentRange, Date, DateAdjustment, Month, SignedDuratio
 use std::fmt::Debug;
 use std::process::Abort;
 use std::test::Fail;
-use time_methods::{adjusting_add, from_julian_day, iso_week, laws, to_calendar_date};
+use time_methods::{
+    adjusting_add, from_days_since_epoch, from_julian_day, iso_week, laws, to_calendar_date,
+};
 
 // Ends the test unless what is shown is what is wanted.
 fn is<T: Copy + PartialEq + Debug>(rt: &impl Abort, shown: T, wanted: T) {
@@ -47,6 +49,26 @@ fn julian_days_out_of_range_are_refused(rt: HostRuntime) -> Result<(), Fail> {
     for julian_day in [i32::MIN, first - 1, last + 1, i32::MAX] {
         assert_eq!(rt; from_julian_day(julian_day), Err(refused));
     }
+    Ok(())
+}
+
+#[test]
+fn days_have_dates(rt: HostRuntime) -> Result<(), Fail> {
+    for (days, year, ordinal) in [
+        (-719_162, 1, 1),
+        (-25_203, 1900, 365),
+        (-25_202, 1901, 1),
+        (11_322, 2000, 366),
+        (12_418, 2004, 1),
+        (2_932_896, 9999, 365),
+    ] {
+        let wanted = Some(Date::from_ordinal_date(year, ordinal)?);
+        is(&rt, from_days_since_epoch(days), wanted);
+        is(&rt, laws::dates_of_day(days), (wanted, wanted));
+    }
+    let (first, last) = (Date::MIN.days_since_epoch(), Date::MAX.days_since_epoch());
+    is(&rt, from_days_since_epoch(first - 1), None);
+    is(&rt, from_days_since_epoch(last + 1), None);
     Ok(())
 }
 
