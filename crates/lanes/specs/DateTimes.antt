@@ -1,4 +1,4 @@
--- What clocks show at a second that they count from 1970.
+-- The date-time that clocks show at a second, counted from 1970.
 use Rattle.std.specs.Prelude.{ℕ, ℤ, pos, ◌+◌, ◌-◌, ◌*◌, ◌/◌, ◌%◌, ◌^◌, ◌+ℤ◌, ◌*ℤ◌, ◌≤ℤ◌, unsigned_abs}
 use Rattle.std.specs.Int.{w32, cast_signed, int_div_euclid, int_rem_euclid}
 use Rattle.calendar_values.specs.Calendar.{year_of, month_of, day_of_month_of, month_of_ordinal, day_of_ordinal}
@@ -10,15 +10,15 @@ use Rattle.lanes.specs.declared.date_times.DateTime.{DateTime}
 abbrev pub IsWallSecond : ℤ → Type 0
 IsWallSecond w = ((first_day *ℤ pos 86_400) ≤ℤ w) × (w ≤ℤ ((last_day *ℤ pos 86_400) +ℤ pos 86_399))
 
--- its day
+-- the day of a second
 abbrev pub day_of_second : ℤ → ℤ
 day_of_second w = int_div_euclid w (pos 86_400)
 
--- the second of that day
+-- the second of the day, from its midnight on
 abbrev pub second_of_day : ℤ → ℕ
 second_of_day w = unsigned_abs (int_rem_euclid w (pos 86_400))
 
--- what clocks at an offset show then
+-- the date-time that clocks at an offset show at a second
 abbrev pub date_time_of : ℤ → ℤ → DateTime
 date_time_of offset_seconds w = record {
   year = year_of (day_of_second w);
@@ -39,7 +39,7 @@ shifted_second w = unsigned_abs (w +ℤ pos 75_155_090_198_400)
 abbrev pub second_of_low_word : ℕ → ℕ → ℕ
 second_of_low_word day low = (low + (2 ^ 32 - day * 86_400 % 2 ^ 32)) % 2 ^ 32
 
--- what clocks show on a day counted from there, at a second of the day, by the steps of the reciprocals
+-- the date-time that clocks show on a day counted from there, at a second of the day, by the steps of the reciprocals
 abbrev pub date_time_by_steps : ℤ → ℕ → ℕ → DateTime
 date_time_by_steps offset_seconds day second = record {
   year = step_year day;

@@ -1,7 +1,7 @@
 -- The first sixteen bytes of a text of RFC 3339: `YYYY-MM-DDTHH:MM`.
 use Rattle.std.specs.Prelude.{◌≡◌, ℕ, ◌+◌, ◌-◌, ◌*◌, ◌≤◌, List, slice_index}
 
--- two digits stand at a place
+-- the bytes have two digits at a place
 pub record IsPairAt (bytes : List ℕ) (place : ℕ) : Type 0 where
   pub tens : (48 ≤ slice_index bytes place) × (slice_index bytes place ≤ 57)
   pub ones : (48 ≤ slice_index bytes (place + 1)) × (slice_index bytes (place + 1) ≤ 57)

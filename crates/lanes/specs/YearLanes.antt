@@ -1,4 +1,4 @@
--- The year of one lane: what tests decide, as numbers.
+-- The year of one lane: the outcomes of tests, as numbers.
 use Rattle.std.specs.Prelude.{ℕ, ◌+◌, ◌*◌, ◌/◌, ◌%◌, ◌^◌, ◌≤◌, ◌||◌, ◌==◌, nat_lt, if◌then◌else◌}
 use Rattle.calendar_values.specs.Calendar.{year_length}
 

@@ -1,5 +1,5 @@
-//! Years, months, days and times of day of four lanes at once, by products in place of divisions. Each lane takes
-//! the steps of `stamp_times::reciprocal`, whose definitions the contracts cite.
+//! Years, months, days and times of day of four lanes at once, by products in place of divisions.
+//! Each lane takes the steps of `stamp_times::reciprocal`, whose definitions the contracts cite.
 ghost use Rattle.std.specs.Prelude.{◌≡◌, ◌<◌, ◌≤◌, ◌^◌, ◌/◌, ◌%◌, ◌==◌, map, if◌then◌else◌};
 ghost use Rattle.std.specs.Simd.Lanes.{Each1, Each2, zip2};
 ghost use Rattle.calendar_values.specs.Calendar.{month_of_ordinal, day_of_ordinal};

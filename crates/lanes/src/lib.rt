@@ -1,4 +1,5 @@
-//! The calendar in vector lanes: what clocks show at four seconds at once, and the seconds of four date-times.
+//! The calendar in vector lanes: the date-times of four seconds at once, and the seconds of four
+//! date-times.
 #![tactic(auto)]
 
 pub mod calendar;

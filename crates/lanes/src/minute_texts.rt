@@ -1,4 +1,5 @@
-//! The first sixteen bytes of a text of RFC 3339, `YYYY-MM-DDTHH:MM`, tested at once and read at once.
+//! The first sixteen bytes of a text of RFC 3339, `YYYY-MM-DDTHH:MM`, tested at once and read at
+//! once.
 ghost use Rattle.std.specs.Prelude.{◌≡◌, ◌↔◌, IsTrue, [], ◌∷◌};
 ghost use Rattle.lanes.specs.MinuteTexts.{IsMinuteText, pair_number};
 

@@ -1,4 +1,5 @@
-//! Seconds of date-times, four at a time. Years begin on 1 March, so that a leap day is the last day of its year.
+//! Seconds of date-times, four at a time. Years begin on 1 March, so that a leap day is the last
+//! day of its year.
 ghost use Rattle.std.specs.Prelude.{◌≡◌, ◌+◌, ◌-◌, ◌*◌, ◌/◌, ◌^◌, ◌%◌, ◌<◌, ◌≤◌, ◌↔◌, IsTrue, map, [], ◌∷◌, nat_lt};
 ghost use Rattle.std.specs.Int.{w32, cast_unsigned};
 ghost use Rattle.std.specs.Simd.Lanes.{Each1, zip2};
