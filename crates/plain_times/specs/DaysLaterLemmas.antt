@@ -1,4 +1,4 @@
--- What callers name where they ask for the day or the time a day later, or within one day.
+-- Rule sets for callers that ask for the day or the time a day later, or within one day.
 use Rattle.std.proofs.Common.{◌≡◌, arith, ℤ, pos, ◌+ℤ◌, ◌<ℤ◌}
 use Rattle.std.proofs.lemmas.Int.{ints}
 use Rattle.calendar_values.specs.Clock.{nanos_per_day}
@@ -28,5 +28,5 @@ same_day-within v w same =
 
 pub ruleset within_a_day = same_day-within
 
--- what callers name where they ask for the day or the time a day later, or how far off another time of the day is
+-- the rule set for callers that ask for the day or the time a day later, or for the distance of times of one day
 pub ruleset days_later = (wall_time-day_later, wall_day-day_later, same_day-within)

@@ -13,7 +13,7 @@ pub record IsParts (y : ℤ) (ordinal c : ℕ) : Type 0 where
 abbrev pub wall_clock_of_parts : ℤ → ℕ → ℕ → ℤ
 wall_clock_of_parts y ordinal c = wall_clock (day_of_ordinal_date y ordinal) c
 
--- the year in the places from bit 74 on, the day of the year in those from bit 64 on, and the nanosecond of the day below
+-- the year from bit 74 up, the day of the year from bit 64 up, and the nanosecond of the day below
 abbrev pub packed_parts : ℤ → ℕ → ℕ → ℤ
 packed_parts y ordinal c = y *ℤ pos (2 ^ 74) +ℤ pos (ordinal * 2 ^ 64 + c)
 

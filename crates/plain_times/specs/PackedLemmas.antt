@@ -1,4 +1,4 @@
--- Packed numbers are in the order of the wall clocks that they stand for.
+-- Packed numbers are in the order of their wall clocks.
 use Rattle.std.proofs.Common.{◌≡◌, ◌↔◌, ℕ, ap, arith, ℤ, pos, ◌+ℤ◌, ◌<ℤ◌, ◌≤ℤ◌, FitsSigned, int_cmp}
 use Rattle.std.proofs.lemmas.Int.{ints, by_lt_z}
 use Rattle.std.specs.Bool.{one_answer}
@@ -43,7 +43,7 @@ pub int_cmp-packed_parts : (y z : ℤ) (o p c d : ℕ) → IsParts y o c → IsP
 int_cmp-packed_parts y z o p c d h k =
     int_cmp_agrees _ _ _ _ (packed_parts-lt y z o p c d h k) (packed_parts-lt z y p o d c k h) (packed_parts-same y z o p c d h k)
 
--- each wall clock has parts, and is theirs
+-- each wall clock has parts, and is the wall clock of those parts
 pub IsParts-of : (w : ℤ) → IsParts (year_of (wall_day w)) (ordinal_of (wall_day w)) (wall_time w)
 IsParts-of w = record { date = IsOrdinalDate-of (wall_day w); clock = IsClock-wall_time w }
 
@@ -56,7 +56,7 @@ unfolding packed_wall_clock
 int_cmp-packed_wall_clock w v =
     rw (wall_clock_of_parts-of w, wall_clock_of_parts-of v) at (int_cmp-packed_parts _ _ _ _ _ _ (IsParts-of w) (IsParts-of v))
 
--- and are equal where those are
+-- wall clocks are equal if their packed numbers are
 packed_wall_clock-same : (w v : ℤ) → packed_wall_clock w ≡ packed_wall_clock v → w ≡ v
 unfolding packed_wall_clock
 packed_wall_clock-same w v e =
@@ -88,7 +88,7 @@ packed_wall_clock-earlier w v = (
       (λ le. let same = packed_wall_clock-same w v (omega (arith, ints)) in absurd (omega (arith, ints)))),
 )
 
--- a day of the range, or some days before or after it
+-- a day of the range, or at most 300 days before or after it
 abbrev pub IsNearRange : ℤ → Type 0
 IsNearRange n = (first_day ≤ℤ (n +ℤ pos 300)) × (n ≤ℤ (last_day +ℤ pos 300))
 
@@ -114,7 +114,7 @@ FitsSigned-packed_wall_clock w h =
     let clock = IsClock-wall_time w in
     omega (arith, signed_arith)
 
--- a hasher is fed the same exactly where the wall clocks are the same
+-- a hasher gets the same input exactly if the wall clocks are the same
 pub hashed_by_wall_clock : (w v : ℤ) → IsNearRange (wall_day w) → IsNearRange (wall_day v)
     → (fed.i128 (packed_wall_clock w) ≡ fed.i128 (packed_wall_clock v)) ↔ (w ≡ v)
 hashed_by_wall_clock w v h k = (

@@ -1,4 +1,4 @@
--- What a replaced wall clock shows.
+-- The date and the time of day of a wall clock after a replacement.
 use Rattle.std.proofs.Common.{◌≡◌, ℕ, ◌≤◌, refl, sym, ap, ◌∙◌, arith, ℤ, Result, Ok, Err}
 use Rattle.calendar_values.specs.Calendar.{year_of, month_of, day_of_month_of, ordinal_of}
 use Rattle.calendar_values.specs.Clock.{IsClock, clock_of_parts, hour_of, minute_of, second_of, nanosecond_of}
@@ -28,19 +28,19 @@ pub wall_time-with_time : (w : ℤ) (c : ℕ) → IsClock c → wall_time (with_
 unfolding with_time
 wall_time-with_time w c clock = wall_time-wall_clock (wall_day w) c clock
 
--- an accepted replacement shows the date that was accepted
+-- after a replacement that succeeds, the wall clock has the new date
 pub wall_day-accepted : (w v : ℤ) (r : Result ℤ Refusal) → answer_within (with_date w) r ≡ Ok v → r ≡ Ok (wall_day v)
 wall_day-accepted w v (Ok n) e = let same : with_date w n ≡ v = cc in ap Ok (sym (wall_day-with_date w n) ∙ ap wall_day same)
 wall_day-accepted w v (Err refusal) e = absurd cc
 
--- or the time of day
+-- after a replacement that succeeds, the wall clock has the new time of day
 pub wall_time-accepted : (w v : ℤ) (r : Result ℕ Refusal) → ((c : ℕ) → r ≡ Ok c → IsClock c) → answer_within (with_time w) r ≡ Ok v → r ≡ Ok (wall_time v)
 wall_time-accepted w v (Ok c) clock e = let same : with_time w c ≡ v = cc in ap Ok (sym (wall_time-with_time w c (clock c refl)) ∙ ap wall_time same)
 wall_time-accepted w v (Err refusal) clock e = absurd cc
 
 pub ruleset replaced = (wall_day-with_date, wall_time-with_date, wall_day-with_time, wall_time-with_time)
 
--- on a date the parts of the date read as it shows them, and the time of day as before
+-- a wall clock moved to a date has the parts of that date, and the time of day as before
 pub OnDate-shown : (old n new y : ℤ) (m d : ℕ) → ShowsDate y m d n → ReplacesDate old n new → OnDate old y m d new
 OnDate-shown old n new y m d shown on = record {
   year = ap year_of on.date ∙ shown.year;
@@ -53,7 +53,7 @@ pub OnOrdinalDate-shown : (old n new y : ℤ) (o : ℕ) → ShowsOrdinalDate y o
 OnOrdinalDate-shown old n new y o shown on =
     record { year = ap year_of on.date ∙ shown.year; ordinal = ap ordinal_of on.date ∙ shown.ordinal; time = on.time }
 
--- a time of day reads as given, and the date as before
+-- a wall clock moved to a time of day has the parts of that time, and the date as before
 pub AtTime-hour : (old new : ℤ) (c h : ℕ) → h ≤ 23
     → c ≡ clock_of_parts h (minute_of (wall_time old)) (second_of (wall_time old)) (nanosecond_of (wall_time old)) → new ≡ with_time old c
     → AtTime old h (minute_of (wall_time old)) (second_of (wall_time old)) (nanosecond_of (wall_time old)) new

@@ -15,7 +15,7 @@ with_date w n = wall_clock n (wall_time w)
 unfoldable pub with_time : ℤ → ℕ → ℤ
 with_time w c = wall_clock (wall_day w) c
 
--- a part of the date replaced, with the time of day kept
+-- the outcome of a part of the date replaced, with the time of day kept
 abbrev pub wall_year_outcome : ℤ → ℤ → Outcome ℤ
 wall_year_outcome w y = within (with_date w) (year_outcome (wall_day w) y)
 
@@ -28,7 +28,7 @@ wall_day_outcome w d = within (with_date w) (day_outcome (wall_day w) d)
 abbrev pub wall_ordinal_outcome : ℤ → ℕ → Outcome ℤ
 wall_ordinal_outcome w ordinal = within (with_date w) (ordinal_outcome (wall_day w) ordinal)
 
--- a part of the time of day replaced, with the date kept
+-- the outcome of a part of the time of day replaced, with the date kept
 abbrev pub wall_hour_outcome : ℤ → ℕ → Outcome ℤ
 wall_hour_outcome w h = within (with_time w) (hour_outcome (wall_time w) h)
 
@@ -68,7 +68,7 @@ pub record AtTime (old : ℤ) (h m s n : ℕ) (new : ℤ) : Type 0 where
   pub second : second_of (wall_time new) ≡ s
   pub nanosecond : nanosecond_of (wall_time new) ≡ n
 
--- what the new wall clock shows after a replacement of a part of the date of the old
+-- the new wall clock has one part of the date replaced, and the rest of the old one
 abbrev pub ShowsYear : ℤ → ℤ → (ℤ → Type 0)
 ShowsYear old y = OnDate old y (month_of (wall_day old)) (day_of_month_of (wall_day old))
 
@@ -81,7 +81,7 @@ ShowsDay old d = OnDate old (year_of (wall_day old)) (month_of (wall_day old)) d
 abbrev pub ShowsOrdinal : ℤ → ℕ → (ℤ → Type 0)
 ShowsOrdinal old o = OnOrdinalDate old (year_of (wall_day old)) o
 
--- and of a part of its time of day
+-- the new wall clock has one part of the time of day replaced, and the rest of the old one
 abbrev pub ShowsHour : ℤ → ℕ → (ℤ → Type 0)
 ShowsHour old h = let c = wall_time old in AtTime old h (minute_of c) (second_of c) (nanosecond_of c)
 

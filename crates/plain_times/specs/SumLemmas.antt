@@ -1,4 +1,4 @@
--- Where sums are accepted.
+-- The values of checked and saturating sums, in range and out of range.
 use Rattle.std.proofs.Common.{◌≡◌, ◌↔◌, refl, sym, ap, ◌∙◌, Bool, true, false, cond, not, IsTrue, arith, ℤ, pos, neg_ℤ}
 use Rattle.std.proofs.Common.{◌+ℤ◌, ◌-ℤ◌, ◌≤ℤ◌, ◌<ℤ◌, Option, Some, None, SomeIff}
 use Rattle.std.proofs.lemmas.Int.{ints, by_lt_z}
@@ -18,10 +18,10 @@ pub wall_clock_if_any-after : (w : ℤ) → last_wall_clock <ℤ w → wall_cloc
 unfolding wall_clock_if_any
 wall_clock_if_any-after w h = grind (arith, ints)
 
--- what callers name who make calls that they know, by `run` or `chain`: sums, and replacements of a date or a time of day
+-- the rule set for callers of `run` or `chain` with known calls: sums, and replacements of a date or a time of day
 pub ruleset known_calls = (wall_clock_if_any-in, wall_clock_if_any-before, wall_clock_if_any-after, replaced)
 
--- an answer that is the sum exactly where the range has it is the checked sum, and the other way round
+-- a result that is Some of the sum exactly if the sum is in range is the checked sum
 pub wall_clock_if_any-SomeIff : (r : Option ℤ) (w : ℤ) → SomeIff r (IsWallClock w) w → r ≡ wall_clock_if_any w
 unfolding wall_clock_if_any
 wall_clock_if_any-SomeIff None w h =
@@ -41,11 +41,11 @@ nearest_wall_clock-after : (w : ℤ) → last_wall_clock <ℤ w → nearest_wall
 unfolding nearest_wall_clock
 nearest_wall_clock-after w h = grind (arith, ints)
 
--- a sum of the range is the saturating one
+-- a sum in range is the saturating sum
 pub IsSaturatingSum-in : (w d v : ℤ) → IsWallClock w → IsWallClock (w +ℤ d) → v ≡ w +ℤ d → IsSaturatingSum w d v
 IsSaturatingSum-in w d v h sum e = omega (arith, ints, nearest_wall_clock-in (w +ℤ d) sum)
 
--- a sum outside the range is the first wall clock where the duration is negative, else the last
+-- out of range, the saturating sum is the first wall clock if the duration is negative, and the last otherwise
 pub IsSaturatingSum-end : (w d v : ℤ) (is_negative : Bool) → IsWallClock w → (IsWallClock (w +ℤ d) → ⊥)
     → (IsTrue is_negative ↔ (d <ℤ pos 0)) → v ≡ cond is_negative first_wall_clock last_wall_clock → IsSaturatingSum w d v
 IsSaturatingSum-end w d v true h not sign e =
@@ -59,7 +59,7 @@ IsSaturatingSum-end w d v false h not sign e =
     by_lt_z last_wall_clock (w +ℤ d) (λ lt. lt) (λ to_last. absurd (not (omega (arith, ints), to_last))) in
     omega (arith, ints, nearest_wall_clock-after (w +ℤ d) after)
 
--- a saturating difference is the saturating sum with the duration reversed
+-- a saturating difference is the saturating sum with the negated duration
 IsSaturatingDifference-sum : (w d v : ℤ) → IsSaturatingSum w (neg_ℤ d) v → IsSaturatingDifference w d v
 IsSaturatingDifference-sum w d v sum = record {
   value = sum.value;

@@ -1,4 +1,4 @@
--- Sums of a wall clock and a duration: refused outside the range, or brought to the nearest wall clock of the range.
+-- Sums of a wall clock and a duration. Out of range, a checked sum is None, and a saturating one the nearest wall clock in range.
 use Rattle.std.specs.Prelude.{◌≡◌, ℤ, pos, ◌+ℤ◌, ◌-ℤ◌, ◌≤ℤ◌, ◌<ℤ◌, Option, Some, None, if◌then◌else◌, int_lt}
 use Rattle.calendar_values.specs.Range.{is_outside}
 use Rattle.calendar_values.specs.WallClock.{first_wall_clock, last_wall_clock, IsWallClock}
@@ -13,7 +13,8 @@ nearest_wall_clock w =
     if int_lt w first_wall_clock then first_wall_clock
     else (if int_lt last_wall_clock w then last_wall_clock else w)
 
--- v is the wall clock nearest to the sum of w and a duration: the sum leads no way but that of the duration, and no further
+-- v is the wall clock of the range that is nearest to w plus the duration. It moves from w in the direction of the duration,
+-- and no further than the duration
 pub record IsSaturatingSum (w duration v : ℤ) : Type 0 where
   pub value : v ≡ nearest_wall_clock (w +ℤ duration)
   pub exact : IsWallClock (w +ℤ duration) → v ≡ w +ℤ duration
@@ -24,7 +25,8 @@ pub record IsSaturatingSum (w duration v : ℤ) : Type 0 where
   pub not_above : pos 0 ≤ℤ duration → v ≤ℤ (w +ℤ duration)
   pub not_below : duration ≤ℤ pos 0 → (w +ℤ duration) ≤ℤ v
 
--- v is the wall clock nearest to the difference of w and a duration, which leads the other way, and no further
+-- v is the wall clock of the range that is nearest to w minus the duration. It moves from w against the direction of the
+-- duration, and no further than the duration
 pub record IsSaturatingDifference (w duration v : ℤ) : Type 0 where
   pub value : v ≡ nearest_wall_clock (w -ℤ duration)
   pub exact : IsWallClock (w -ℤ duration) → v ≡ w -ℤ duration

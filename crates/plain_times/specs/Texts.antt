@@ -1,4 +1,4 @@
--- How date-times print.
+-- The text of a date-time.
 use Rattle.std.specs.Prelude.{ℕ, ℤ, List, ◌++◌, codes}
 use Rattle.calendar_values.specs.Texts.{date_text, time_text}
 use Rattle.calendar_values.specs.WallClock.{wall_day, wall_time}

@@ -15,7 +15,7 @@ int_div_euclid-milliseconds a b h = omega (arith, signed_arith)
 pub int_div_euclid-microseconds : (a b : ℤ) → a ≤ℤ b → int_div_euclid a (pos nanos_per_microsecond) ≤ℤ int_div_euclid b (pos nanos_per_microsecond)
 int_div_euclid-microseconds a b h = omega (arith, signed_arith)
 
--- and an instant counts less than a unit more than its truncation to that unit
+-- the count of an instant is less than a unit above the count of its truncation to that unit
 pub day_below-seconds : (w t : ℤ) → t ≡ wall_multiple_below nanos_per_day w
     → int_div_euclid w (pos nanos_per_second) <ℤ (int_div_euclid t (pos nanos_per_second) +ℤ pos 86_400)
 unfolding wall_multiple_below
@@ -71,7 +71,7 @@ pub second_below-microseconds : (w t : ℤ) → t ≡ wall_multiple_below nanos_
 unfolding wall_multiple_below
 second_below-microseconds w t e = omega (arith, signed_arith)
 
--- what callers name who count a truncated instant
+-- the rule set for callers that count a truncated instant
 pub ruleset truncated_counts = (
   int_div_euclid-seconds,
   int_div_euclid-milliseconds,

@@ -14,7 +14,8 @@ pub record IsGreatestWallMultiple (unit : ℕ) (w t : ℤ) : Type 0 where
   pub not_above : t ≤ℤ w
   pub greatest : (q : ℤ) → (q *ℤ pos unit) ≤ℤ w → (q *ℤ pos unit) ≤ℤ t
 
--- t is that multiple, less than a unit below w: the same date, and its time of day truncated to the unit, which divides a day
+-- t is that multiple, less than a unit below w. It has the date of w, and the time of day of w truncated to the unit.
+-- The unit divides a day
 pub record TruncatesTo (unit : ℕ) (w t : ℤ) : Type 0 where
   pub value : t ≡ wall_multiple_below unit w
   pub not_above : t ≤ℤ w

@@ -1,5 +1,5 @@
-//! Laws of the definitions that the contracts cite: each function here proves one, for every wall clock
-//! and every duration, and does nothing when it is called.
+//! Laws of the definitions that the contracts cite: each function here proves one, for every wall
+//! clock and every duration. A call of it does nothing.
 ghost use Rattle.std.specs.Prelude.{◌≡◌, ◌↔◌};
 ghost use Rattle.calendar_values.specs.WallClock.{IsWallClock};
 ghost use Rattle.plain_times.specs.Laws.{DifferencesUndoSums, DifferencesLeadBack, ReplacementsKeepTheRest, ReplacedPartsReadAsGiven};

@@ -1,4 +1,4 @@
--- What a caller of this crate lists, once, at its root: all rule sets of callers, with those of the crates below.
+-- The rule sets for callers of this crate, and of the crates that it uses. A caller lists them once, at its root.
 use Rattle.plain_times.specs.Callers as plain_times
 
 pub ruleset callers = (plain_times.callers)

@@ -1,4 +1,4 @@
--- How instants print.
+-- The text of an instant.
 use Rattle.std.specs.Prelude.{ℕ, List, ◌++◌, codes, ℤ}
 use Rattle.calendar_values.specs.Texts.{date_text, time_text}
 use Rattle.calendar_values.specs.WallClock.{wall_day, wall_time}

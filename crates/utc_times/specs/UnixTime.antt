@@ -10,12 +10,12 @@ use Rattle.calendar_values.specs.WallClock.{first_wall_clock, last_wall_clock, I
 abbrev pub instant_of_second : ℤ → ℤ
 instant_of_second second = second *ℤ pos nanos_per_second
 
--- an instant if the range has it, or else the refusal of its count by this name
+-- the instant if it is in range, or else the error of its count, with this name
 unfoldable pub instant_or_refusal : List ℕ → ℤ → Result ℤ Refusal
 instant_or_refusal name instant =
     if is_outside first_wall_clock last_wall_clock instant then Err (outright_refusal name) else Ok instant
 
--- what the count of an instant, under this name, comes to
+-- the outcome of the count of an instant, with this name in the error
 abbrev pub instant_outcome : List ℕ → ℤ → Outcome ℤ
 instant_outcome name instant = record {
   fits = IsInstant instant;
@@ -24,6 +24,6 @@ instant_outcome name instant = record {
   answer = instant_or_refusal name instant;
 }
 
--- the instant of a Unix second, if the range has it
+-- the instant of a Unix second, or the error if it is out of range
 abbrev pub unix_instant : ℤ → Result ℤ Refusal
 unix_instant second = instant_or_refusal (codes "timestamp") (instant_of_second second)

@@ -1,4 +1,4 @@
--- Unix time that the range has: as a value exactly where the instant is in the range, and as an equation.
+-- Results of Unix time: a value exactly if the instant is in range, and the same as one equation.
 use Rattle.std.proofs.Common.{List, ℕ, ◌≡◌, sym, ap, ◌∙◌, arith, ℤ, ◌<ℤ◌, Result, Ok, Err, OkIff, IfErr}
 use Rattle.std.proofs.lemmas.Int.{by_lt_z, ints}
 use Rattle.calendar_values.specs.Refusals.{Refusal, outright_refusal}
@@ -17,7 +17,7 @@ pub instant_or_refusal-after : (name : List ℕ) (i : ℤ) → last_wall_clock <
 unfolding instant_or_refusal
 instant_or_refusal-after name i high = grind (arith, ints)
 
--- an answer that is the instant exactly where the range has it, and else this refusal
+-- a result that is the instant exactly if it is in range, and else this error
 pub OkIff-instant : (name : List ℕ) (r : Result ℤ Refusal) (i : ℤ) → OkIff r (IsInstant i) i →
     IfErr r (λ refusal. refusal ≡ outright_refusal name) → r ≡ instant_or_refusal name i
 OkIff-instant name (Ok x) i h refused = ap Ok h.1 ∙ sym (instant_or_refusal-in name i h.0)
@@ -28,6 +28,6 @@ OkIff-instant name (Err refusal) i h refused =
     (λ high. ap Err refused ∙ sym (instant_or_refusal-after name i high))
     (λ last. absurd (h (first, last))))
 
--- the same answer for an equal number
+-- the same result for an equal number
 pub OkIff-same : (r : Result ℤ Refusal) (i j : ℤ) → OkIff r (IsInstant i) i → i ≡ j → OkIff r (IsInstant j) j
 OkIff-same r i j h e = rw (← e) h

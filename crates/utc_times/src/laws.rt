@@ -1,5 +1,6 @@
-//! Laws of the definitions that the contracts cite: an instant of the range is counted as a wall clock in UTC,
-//! so they are those of [`plain_times::laws`]. Each function does nothing when it is called.
+//! Laws of the definitions that the contracts cite: an instant of the range is counted as a wall
+//! clock in UTC, so they are those of [`plain_times::laws`]. Each function does nothing when it is
+//! called.
 ghost use Rattle.std.specs.Prelude.{◌≡◌, ◌↔◌};
 ghost use Rattle.plain_times.specs.Laws.{DifferencesUndoSums, DifferencesLeadBack, ReplacementsKeepTheRest, ReplacedPartsReadAsGiven};
 ghost use Rattle.plain_times.specs.Laws.{TruncationsRoundDown, TruncationsRoundDownOnce, SumsAssociate, SaturatingSumsKeepTheOrder};
