@@ -1,4 +1,4 @@
--- A clock moved from one offset to another: what its seconds carry into the minutes, these into the hours, and these into the days.
+-- A clock moved from one offset to another: seconds carry into the minutes, minutes into the hours, and hours into the days.
 use Rattle.std.specs.Prelude.{ℕ, ℤ, pos, neg_ℤ, ◌+ℤ◌, ◌-ℤ◌, ◌≤ℤ◌, unsigned_abs}
 use Rattle.std.specs.Int.{int_div_euclid, int_rem_euclid}
 use Rattle.calendar_values.specs.Clock.{clock_of_parts, hour_of, minute_of, second_of, nanosecond_of}
@@ -45,11 +45,11 @@ unfoldable pub carried_clock : ℕ → ℤ → ℤ → ℕ
 carried_clock c from to =
     clock_of_parts (carried_hour c from to) (carried_minute c from to) (carried_second c from to) (nanosecond_of c)
 
--- the number lies from -n to n
+-- the number is from -n to n
 abbrev pub IsWithin : ℕ → ℤ → Type 0
 IsWithin n z = (neg_ℤ (pos n) ≤ℤ z) × (z ≤ℤ pos n)
 
--- so many minutes, hours and days are carried at most, either way of 0
+-- the clock carries at most a minutes, b hours and e days, in either direction
 pub record CarriesWithin (a b e c : ℕ) (from to : ℤ) : Type 0 where
   pub minutes : IsWithin a (minutes_carried c from to)
   pub hours : IsWithin b (hours_carried c from to)

@@ -11,7 +11,7 @@ pub instant_of-local_at : (i o : ℤ) → instant_of (local_at i o) ≡ i
 unfolding instant_of
 instant_of-local_at i o = omega (arith, ints)
 
--- an instant in UTC is what clocks there show
+-- clocks in UTC show the instant itself
 pub instant_of-utc : (i : ℤ) → instant_of (local_in_utc i) ≡ i
 unfolding instant_of
 instant_of-utc i = omega (arith, ints)
@@ -21,7 +21,7 @@ pub instant_of-in_utc : (at : Local) → at.offset ≡ pos 0 → instant_of at �
 unfolding instant_of
 instant_of-in_utc at utc = omega (arith, ints)
 
--- clocks at the own offset show the own wall clock
+-- at the instant of a value, clocks at its offset show its wall clock
 pub shown_at-instant_of : (at : Local) → shown_at (instant_of at) at.offset ≡ at.wall
 unfolding instant_of
 shown_at-instant_of at = omega (arith, ints)
@@ -30,7 +30,7 @@ pub local_at-instant_of : (at : Local) → local_at (instant_of at) at.offset �
 unfolding instant_of
 local_at-instant_of at = rw (shown_at-instant_of at)
 
--- a later wall clock at the same offset is as much later an instant
+-- at the same offset, the instant of a later wall clock is later by the same duration
 pub instant_of-later : (at : Local) (d : ℤ) → instant_of (wall_at (at.wall +ℤ d) at.offset) ≡ instant_of at +ℤ d
 unfolding instant_of
 instant_of-later at d = omega (arith, ints)
@@ -59,19 +59,19 @@ instant_of-not_a_day_earlier old new same day =
 
 pub ruleset same_day = (instant_of-not_a_day_later, instant_of-not_a_day_earlier)
 
--- the difference of two leads from the second to the first, and back
+-- j plus the difference i - j is i, and i minus the difference is j
 pub later-by_difference : (i j : ℤ) → j +ℤ (i -ℤ j) ≡ i
 later-by_difference i j = omega (arith, ints)
 
 pub earlier-by_difference : (i j : ℤ) → i -ℤ (i -ℤ j) ≡ j
 earlier-by_difference i j = omega (arith, ints)
 
--- what clocks show at two offsets, at one instant, lies the offsets apart
+-- at one instant, the wall clocks at two offsets differ by the difference of the offsets
 pub shown_at-apart : (i first second : ℤ) → shown_at i second -ℤ shown_at i first ≡ offset_nanos (second -ℤ first)
 shown_at-apart i first second = omega (arith, ints)
 
--- what callers name who compare what clocks at two offsets show
+-- the rule set for callers that compare the wall clocks at two offsets
 pub ruleset two_offsets = shown_at-apart
 
--- what callers name where they follow an instant
+-- the rule set for callers that follow an instant through conversions, sums and differences
 pub ruleset instants = (instant_of-local_at, instant_of-utc, instant_of-later, instant_of-earlier, later-by_difference, earlier-by_difference)

@@ -1,5 +1,5 @@
--- What shows that conversions, sums and truncations are what their names say: laws of all wall clocks, offsets and
--- durations, each proved by a function of `src/laws.rt`.
+-- Laws of all wall clocks, offsets and durations: conversions, sums, replacements and truncations do as their names say.
+-- A function of `src/laws.rt` proves each of them.
 use Rattle.std.specs.Prelude.{◌≡◌, ℕ, ◌<◌, ◌≤◌, ℤ, ◌+ℤ◌, ◌-ℤ◌, ◌≤ℤ◌, Option, Some, SomeIff, Ok}
 use Rattle.std.specs.Ordering.{int_cmp}
 use Rattle.calendar_values.specs.Calendar.{year_of, month_of, day_of_month_of, ordinal_of}
@@ -12,27 +12,28 @@ use Rattle.plain_times.specs.Replacements.{wall_hour_outcome, wall_minute_outcom
 use Rattle.plain_times.specs.Replacements.{wall_millisecond_outcome, wall_microsecond_outcome, wall_nanosecond_outcome}
 use Rattle.plain_times.specs.Sums.{nearest_wall_clock}
 
--- after an accepted conversion a second one answers as one of the original does: wall clock and offset alike, or refused like it
+-- after a conversion that succeeds, a second one returns the same as one conversion of the original:
+-- the same wall clock and offset, or None
 abbrev pub ConversionsCompose : Type 0
 ConversionsCompose = (at first : Local) (a b : ℤ) (second : Option Local)
     → SomeIff (Some first) (IsWallClock (shown_at (instant_of at) a)) (local_at (instant_of at) a)
     → SomeIff second (IsWallClock (shown_at (instant_of first) b)) (local_at (instant_of first) b)
     → SomeIff second (IsWallClock (shown_at (instant_of at) b)) (local_at (instant_of at) b)
 
--- a conversion to the own offset gives the value, wherever its instant lies
+-- a conversion of a value to its own offset returns the value, even if its instant is out of range
 abbrev pub OwnOffsetStays : Type 0
 OwnOffsetStays = (at : Local) (converted : Option Local) → IsWallClock at.wall
     → SomeIff converted (IsWallClock (shown_at (instant_of at) at.offset)) (local_at (instant_of at) at.offset)
     → converted ≡ Some at
 
--- where a sum is accepted, the duration taken away from it gives the value back, offset included
+-- if a sum is in range, the sum minus the duration is the value again, with its offset
 abbrev pub DifferencesUndoSums : Type 0
 DifferencesUndoSums = (at sum : Local) (d : ℤ) (back : Option Local) → IsWallClock at.wall
     → SomeIff (Some sum) (IsWallClock (at.wall +ℤ d)) (wall_at (at.wall +ℤ d) at.offset)
     → SomeIff back (IsWallClock (sum.wall -ℤ d)) (wall_at (sum.wall -ℤ d) sum.offset)
     → back ≡ Some at
 
--- the difference of two values leads from the second to the instant of the first, at the offset of the second, where clocks there show it
+-- b plus the difference a - b is the instant of a at the offset of b, if the wall clock there is in range
 pub record DifferencesLeadBack : Type 0 where
   pub sum : (a b : Local) (sum : Option Local) → IsWallClock (shown_at (instant_of a) b.offset)
       → (let wall = b.wall +ℤ (instant_of a -ℤ instant_of b) in SomeIff sum (IsWallClock wall) (wall_at wall b.offset))
@@ -44,7 +45,8 @@ abbrev pub TruncationsRoundDownOnce : Type 0
 TruncationsRoundDownOnce =
     (unit : ℕ) (at : Local) → 0 < unit → local_multiple_below unit (local_multiple_below unit at) ≡ local_multiple_below unit at
 
--- sums with one duration keep the order: accepted ones are in the order of the values, and at one offset saturating ones do not leave it
+-- sums with one duration keep the order of the values: those in range keep it exactly, and saturating ones at one offset
+-- never reverse it
 pub record SumsKeepTheOrder : Type 0 where
   pub accepted : (a b first second : Local) (d : ℤ) → SomeIff (Some first) (IsWallClock (a.wall +ℤ d)) (wall_at (a.wall +ℤ d) a.offset)
       → SomeIff (Some second) (IsWallClock (b.wall +ℤ d)) (wall_at (b.wall +ℤ d) b.offset)
@@ -52,7 +54,7 @@ pub record SumsKeepTheOrder : Type 0 where
   pub saturating : (a b : Local) (d : ℤ) → a.offset ≡ b.offset → instant_of a ≤ℤ instant_of b
       → instant_of (at_offset_of a (nearest_wall_clock (a.wall +ℤ d))) ≤ℤ instant_of (at_offset_of b (nearest_wall_clock (b.wall +ℤ d)))
 
--- after an accepted replacement the part of the wall clock reads as given
+-- after a replacement that succeeds, the part of the wall clock has the given value
 pub record ReplacedPartsReadAsGiven : Type 0 where
   pub year : (at v : Local) (y : ℤ) → (within (at_offset_of at) (wall_year_outcome at.wall y)).answer ≡ Ok v → year_of (wall_day v.wall) ≡ y
   pub month : (at v : Local) (m : ℕ) → 1 ≤ m → m ≤ 12 → (within (at_offset_of at) (wall_month_outcome at.wall m)).answer ≡ Ok v
@@ -70,7 +72,7 @@ pub record ReplacedPartsReadAsGiven : Type 0 where
   pub nanosecond : (at v : Local) (n : ℕ) → (within (at_offset_of at) (wall_nanosecond_outcome at.wall n)).answer ≡ Ok v
       → nanosecond_of (wall_time v.wall) ≡ n
 
--- after an accepted sum a second one answers as the one sum with both durations, offset included
+-- after a sum in range, a second sum returns the same as one sum with both durations, with the same offset
 abbrev pub SumsAssociate : Type 0
 SumsAssociate = (at sum : Local) (d e : ℤ) (second both : Option Local)
     → SomeIff (Some sum) (IsWallClock (at.wall +ℤ d)) (wall_at (at.wall +ℤ d) at.offset)
@@ -78,7 +80,7 @@ SumsAssociate = (at sum : Local) (d e : ℤ) (second both : Option Local)
     → SomeIff both (IsWallClock (at.wall +ℤ (d +ℤ e))) (wall_at (at.wall +ℤ (d +ℤ e)) at.offset)
     → second ≡ both
 
--- what each replacement comes to is one answer: its value where the part fits, and its refusal where it does not
+-- the outcome of each replacement is one answer: its value if the part is valid, and its error otherwise
 pub record OutcomesAreAnswers : Type 0 where
   pub year : (at : Local) (y : ℤ) → IsOneAnswer (within (at_offset_of at) (wall_year_outcome at.wall y))
   pub month : (at : Local) (m : ℕ) → IsWallClock at.wall → IsOneAnswer (within (at_offset_of at) (wall_month_outcome at.wall m))

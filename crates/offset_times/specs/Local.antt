@@ -10,7 +10,7 @@ pub record Local : Type 0 where
   pub wall : ℤ
   pub offset : ℤ
 
--- a wall clock and an offset of their ranges; the instant may lie outside the range of wall clocks
+-- the wall clock and the offset are in range, but the instant may be out of the range of wall clocks
 abbrev pub IsLocal : Local → Type 0
 IsLocal at = IsWallClock at.wall × IsOffset at.offset
 
@@ -18,11 +18,11 @@ IsLocal at = IsWallClock at.wall × IsOffset at.offset
 abbrev pub offset_nanos : ℤ → ℤ
 offset_nanos o = o *ℤ pos nanos_per_second
 
--- the instant: what clocks in UTC show then
+-- the instant, as the wall clock that clocks in UTC show then
 unfoldable pub instant_of : Local → ℤ
 instant_of at = at.wall -ℤ offset_nanos at.offset
 
--- what clocks at an offset show at an instant
+-- the wall clock that clocks at an offset show at an instant
 abbrev pub shown_at : ℤ → ℤ → ℤ
 shown_at instant o = instant +ℤ offset_nanos o
 
@@ -30,7 +30,7 @@ shown_at instant o = instant +ℤ offset_nanos o
 abbrev pub local_at : ℤ → ℤ → Local
 local_at instant o = record { wall = shown_at instant o; offset = o }
 
--- the result is Some exactly where clocks at an offset show a wall clock of the range at an instant, and then that instant there
+-- the result is Some of the instant at the offset exactly if its wall clock there is in range, and None otherwise
 abbrev pub ShownAt : Option Local → ℤ → ℤ → Type 0
 ShownAt result instant o = SomeIff result (IsWallClock (shown_at instant o)) (local_at instant o)
 
@@ -38,7 +38,7 @@ ShownAt result instant o = SomeIff result (IsWallClock (shown_at instant o)) (lo
 abbrev pub wall_at : ℤ → ℤ → Local
 wall_at wall o = record { wall = wall; offset = o }
 
--- an instant in UTC: the wall clock there
+-- an instant as a date-time in UTC: the wall clock is the instant
 abbrev pub local_in_utc : ℤ → Local
 local_in_utc instant = wall_at instant (pos 0)
 
@@ -50,15 +50,15 @@ at_offset_of at wall = wall_at wall at.offset
 abbrev pub local_multiple_below : ℕ → Local → Local
 local_multiple_below unit at = at_offset_of at (wall_multiple_below unit at.wall)
 
--- another wall clock at the same offset: the instant lies as far off as the wall clock does
+-- the new value has the offset of the old, and the instants differ as the wall clocks do
 abbrev pub SameOffset : Local → Local → Type 0
 SameOffset old new = (new.offset ≡ old.offset) × (instant_of new ≡ instant_of old +ℤ (new.wall -ℤ old.wall))
 
--- so much later at the same offset: the wall clock is, and so is the instant
+-- the sum has the offset of the value, and its wall clock and its instant are later by the duration
 abbrev pub IsLater : Local → ℤ → Local → Type 0
 IsLater at d sum = (sum ≡ at_offset_of at (at.wall +ℤ d)) × (instant_of sum ≡ instant_of at +ℤ d)
 
--- so much earlier
+-- the difference has the offset of the value, and its wall clock and its instant are earlier by the duration
 abbrev pub IsEarlier : Local → ℤ → Local → Type 0
 IsEarlier at d difference =
     (difference ≡ at_offset_of at (at.wall -ℤ d)) × (instant_of difference ≡ instant_of at -ℤ d)

@@ -1,4 +1,4 @@
--- How date-times with an offset print.
+-- The text of a date-time with an offset.
 use Rattle.std.specs.Prelude.{ℕ, List, ◌++◌, codes}
 use Rattle.calendar_values.specs.Texts.{date_text, time_text, offset_text}
 use Rattle.calendar_values.specs.WallClock.{wall_day, wall_time}

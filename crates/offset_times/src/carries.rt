@@ -1,6 +1,6 @@
-//! What clocks at another offset show, by carries: the second carries into the minute, the minute into the
-//! hour, the hour into the day, and the day into the year. So it is told in the year before and after the
-//! range too.
+//! The wall clock at another offset, by carries: the second carries into the minute, the minute
+//! into the hour, the hour into the day, and the day into the year. So it exists in the year before
+//! and after the range too.
 ghost use Rattle.std.specs.Prelude.{◌≡◌, ◌<◌, ◌≤◌, ℤ, pos, neg_ℤ, ◌+ℤ◌, ◌-ℤ◌, ◌*ℤ◌, ◌≤ℤ◌, ◌<ℤ◌};
 ghost use Rattle.calendar_values.specs.Calendar.{days_in_year, IsOrdinalDate, day_of_ordinal_date};
 ghost use Rattle.calendar_values.specs.Clock.{IsClock};

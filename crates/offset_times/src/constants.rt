@@ -1,4 +1,4 @@
-//! What the constant is: its numbers stand in the contract here.
+//! The constant by its numbers, which the contract has.
 ghost use Rattle.std.specs.Prelude.{◌≡◌, pos};
 ghost use Rattle.offset_times.specs.Local.{wall_at};
 

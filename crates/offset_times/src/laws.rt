@@ -1,5 +1,5 @@
-//! Laws of the definitions that the contracts cite: each function here proves one, for every wall clock,
-//! offset and duration, and does nothing when it is called.
+//! Laws of the definitions that the contracts cite: each function here proves one, for every wall
+//! clock, offset and duration, and does nothing when it is called.
 ghost use Rattle.std.specs.Prelude.{◌≡◌};
 ghost use Rattle.std.specs.Ordering.{int_eq, int_cmp};
 ghost use Rattle.offset_times.specs.Laws.{ConversionsCompose, OwnOffsetStays, DifferencesUndoSums, DifferencesLeadBack, TruncationsRoundDownOnce};

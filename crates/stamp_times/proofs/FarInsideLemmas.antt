@@ -4,7 +4,7 @@ use Rattle.calendar_values.specs.Calendar.{year_of}
 use Rattle.calendar_values.specs.DayLemmas.{IsInYear-year_of}
 use Rattle.calendar_values.specs.Range.{first_year, last_year, first_day, last_day}
 use Rattle.calendar_values.specs.SignedArith.{signed_arith}
-use Rattle.calendar_values.specs.WallClock.{IsWallClock, unix_seconds_of, wall_day}
+use Rattle.calendar_values.specs.WallClock.{IsWallClock, wall_day}
 use Rattle.calendar_values.specs.WallClockLemmas.{wall_clock-parts, IsClock-wall_time}
 use Rattle.calendar_values.specs.YearLemmas.{year_start-later, year_start-first, year_start-after_last}
 use Rattle.offset_times.specs.Local.{Local, IsLocal, instant_of}

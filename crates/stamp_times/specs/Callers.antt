@@ -1,4 +1,4 @@
--- What a caller of this crate lists, once, at its root: all rule sets of callers, with those of the crates below.
+-- The rule sets for callers of this crate, and of the crates that it uses. A caller lists them once, at its root.
 use Rattle.offset_times.specs.Callers as offset_times
 use Rattle.stamp_times.specs.LogLemmas.{without_repeats}
 

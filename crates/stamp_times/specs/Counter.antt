@@ -1,4 +1,4 @@
--- What a run of calls replies: a counter of nanoseconds, read by counted days. It knows no type of instants.
+-- The replies to a run of calls: a counter of nanoseconds, read by counted days. It uses no type of instants.
 use Rattle.std.specs.Prelude.{◌≡◌, ℕ, List, [], ◌∷◌, ℤ, ◌+ℤ◌, ◌-ℤ◌, Option, Some, None, Result, Ok, Err, ⊤}
 use Rattle.calendar_values.specs.Calendar.{year_of, month_of, day_of_month_of, ordinal_of, julian_day_of}
 use Rattle.calendar_values.specs.Clock.{hour_of, minute_of, second_of, millisecond_of, microsecond_of, nanosecond_of}
@@ -31,7 +31,7 @@ use Rattle.stamp_times.specs.declared.runs.calls.Call.TheVariants as call
 use Rattle.stamp_times.specs.declared.runs.calls.Reply.{Reply}
 use Rattle.stamp_times.specs.declared.runs.calls.Reply.TheVariants as replied
 
--- what a read of the date gives on a day
+-- the part of the date that a read returns on a day
 abbrev pub date_part_of : ℤ → DateRead → DatePart
 date_part_of n date_read.Date = date_part.Date n
 date_part_of n date_read.Year = date_part.Year (year_of n)
@@ -49,7 +49,7 @@ date_part_of n date_read.IsoWeekDate =
 date_part_of n date_read.Weekday = date_part.Weekday (weekday_numbered (weekday_of n))
 date_part_of n date_read.JulianDay = date_part.JulianDay (julian_day_of n)
 
--- what a read of the time of day gives on a clock
+-- the part of the time of day that a read returns at a clock
 abbrev pub clock_part_of : ℕ → ClockRead → ClockPart
 clock_part_of c clock_read.Time = clock_part.Time c
 clock_part_of c clock_read.Hms = clock_part.Hms (hour_of c, minute_of c, second_of c)
@@ -63,28 +63,28 @@ clock_part_of c clock_read.Millisecond = clock_part.Millisecond (millisecond_of 
 clock_part_of c clock_read.Microsecond = clock_part.Microsecond (microsecond_of c)
 clock_part_of c clock_read.Nanosecond = clock_part.Nanosecond (nanosecond_of c)
 
--- where a sum or a difference leads, if it is accepted
+-- the instant after a sum or a difference, or None if it is out of range
 abbrev pub instant_after_shift : ℤ → Shift → Option ℤ
 instant_after_shift i (CheckedAdd d) = wall_clock_if_any (i +ℤ d)
 instant_after_shift i (CheckedSub d) = wall_clock_if_any (i -ℤ d)
 instant_after_shift i (SaturatingAdd d) = Some (nearest_wall_clock (i +ℤ d))
 instant_after_shift i (SaturatingSub d) = Some (nearest_wall_clock (i -ℤ d))
 
--- a checked sum or difference is given exactly where the range has it, and a saturating one always is
+-- a checked sum or difference is Some exactly if it is in range, and a saturating one always is
 abbrev pub Shifts : ℤ → Shift → Option ℤ → Type 0
 Shifts i (CheckedAdd d) sum = SomeInRange sum (i +ℤ d)
 Shifts i (CheckedSub d) sum = SomeInRange sum (i -ℤ d)
 Shifts i (SaturatingAdd d) sum = sum ≡ Some (nearest_wall_clock (i +ℤ d))
 Shifts i (SaturatingSub d) sum = sum ≡ Some (nearest_wall_clock (i -ℤ d))
 
--- a saturating sum or difference leads no way but that of the duration, and no further
+-- a saturating sum moves in the direction of the duration, and a saturating difference against it, no further than the duration
 abbrev pub Saturates : ℤ → Shift → ℤ → Type 0
 Saturates i (CheckedAdd d) j = ⊤
 Saturates i (CheckedSub d) j = ⊤
 Saturates i (SaturatingAdd d) j = IsSaturatingSum i d j
 Saturates i (SaturatingSub d) j = IsSaturatingDifference i d j
 
--- where a replacement leads, or what it is refused by
+-- the instant after a replacement, or its error
 abbrev pub instant_after_replacement : ℤ → Replace → Result ℤ Refusal
 instant_after_replacement i (replacing.Time c) = Ok (with_time i c)
 instant_after_replacement i (replacing.Date n) = Ok (with_date i n)
@@ -99,7 +99,7 @@ instant_after_replacement i (replacing.Millisecond milli) = (wall_millisecond_ou
 instant_after_replacement i (replacing.Microsecond micro) = (wall_microsecond_outcome i micro).answer
 instant_after_replacement i (replacing.Nanosecond n) = (wall_nanosecond_outcome i n).answer
 
--- a replacement is accepted: that of the date or of the time of day always is, that of a part where the part fits
+-- a replacement succeeds: always for the date or the time of day, and for a part if the part is valid
 abbrev pub IsReplaceable : ℤ → Replace → Type 0
 IsReplaceable i (replacing.Time c) = ⊤
 IsReplaceable i (replacing.Date n) = ⊤
@@ -114,7 +114,7 @@ IsReplaceable i (replacing.Millisecond milli) = (wall_millisecond_outcome i mill
 IsReplaceable i (replacing.Microsecond micro) = (wall_microsecond_outcome i micro).fits
 IsReplaceable i (replacing.Nanosecond n) = (wall_nanosecond_outcome i n).fits
 
--- what a refused replacement is refused by: that of the date or of the time of day never is, that of a part by its name
+-- the error of a replacement that fails: none for the date or the time of day, and for a part the error with its name
 abbrev pub RefusesReplaced : ℤ → Replace → Refusal → Type 0
 RefusesReplaced i (replacing.Time c) refusal = ⊥
 RefusesReplaced i (replacing.Date n) refusal = ⊥
@@ -129,7 +129,7 @@ RefusesReplaced i (replacing.Millisecond milli) refusal = refusal ≡ (wall_mill
 RefusesReplaced i (replacing.Microsecond micro) refusal = refusal ≡ (wall_microsecond_outcome i micro).refusal
 RefusesReplaced i (replacing.Nanosecond n) refusal = refusal ≡ (wall_nanosecond_outcome i n).refusal
 
--- what an instant shows that an accepted replacement led to
+-- after a replacement that succeeds, the new instant has the new part, and the rest of the old one
 abbrev pub ShowsReplaced : ℤ → Replace → ℤ → Type 0
 ShowsReplaced i (replacing.Time c) j = ReplacesTime i c j
 ShowsReplaced i (replacing.Date n) j = ReplacesDate i n j
@@ -144,11 +144,11 @@ ShowsReplaced i (replacing.Millisecond milli) j = ShowsMillisecond i milli j
 ShowsReplaced i (replacing.Microsecond micro) j = ShowsMicrosecond i micro j
 ShowsReplaced i (replacing.Nanosecond n) j = ShowsNanosecond i n j
 
--- the reply that says where the counter is
+-- the reply with the counter, as a day and a time of day
 abbrev pub reply_of_instant : ℤ → Reply
 reply_of_instant i = replied.Now (wall_day i) (wall_time i)
 
--- what a sum or a difference replies, and where it leaves the counter
+-- the reply to a sum or a difference, and the counter after it
 abbrev pub shift_reply : Option ℤ → Reply
 shift_reply None = replied.Refused
 shift_reply (Some j) = reply_of_instant j
@@ -157,7 +157,7 @@ abbrev pub shift_next : ℤ → Option ℤ → ℤ
 shift_next i None = i
 shift_next i (Some j) = j
 
--- what a replacement replies, and where it leaves the counter
+-- the reply to a replacement, and the counter after it
 abbrev pub replace_reply : Result ℤ Refusal → Reply
 replace_reply (Ok j) = reply_of_instant j
 replace_reply (Err refusal) = replied.RefusedPart refusal
@@ -166,7 +166,7 @@ abbrev pub replace_next : ℤ → Result ℤ Refusal → ℤ
 replace_next i (Ok j) = j
 replace_next i (Err refusal) = i
 
--- what a conversion to an offset replies: what clocks there show, if the range has it
+-- the reply to a conversion to an offset: the wall clock there, if it is in range
 abbrev pub local_reply : ℤ → Option ℤ → Reply
 local_reply o None = replied.Refused
 local_reply o (Some w) = replied.Local (wall_day w) (wall_time w) o
@@ -179,7 +179,7 @@ reply i (call.Shift shift) = shift_reply (instant_after_shift i shift)
 reply i (call.Replace replace) = replace_reply (instant_after_replacement i replace)
 reply i (call.Local o) = local_reply o (wall_clock_if_any (shown_at i o))
 
--- where a call leaves the counter: a read, a conversion to an offset and a refused call change nothing
+-- the counter after a call: a read, a conversion to an offset and a call that fails change nothing
 abbrev pub instant_after : ℤ → Call → ℤ
 instant_after i (call.ReadDate read) = i
 instant_after i (call.ReadClock read) = i
@@ -192,7 +192,7 @@ abbrev pub replies : ℤ → List Call → List Reply
 replies i [] = []
 replies i (c ∷ cs) = reply i c ∷ replies (instant_after i c) cs
 
--- where they leave the counter
+-- the counter after them
 abbrev pub last_instant : ℤ → List Call → ℤ
 last_instant i [] = i
 last_instant i (c ∷ cs) = last_instant (instant_after i c) cs

@@ -1,4 +1,4 @@
--- An instant is a Unix second and a nanosecond of that second, and has counts in larger units that are rounded down, before 1970 too.
+-- An instant is a Unix second and a nanosecond of that second. Its counts in larger units are rounded down, before 1970 too.
 use Rattle.std.specs.Prelude.{ℕ, ℤ, pos, ◌+ℤ◌, ◌*ℤ◌, ◌++◌}
 use Rattle.std.specs.Hash as fed
 use Rattle.std.specs.Int.{int_div_euclid}
@@ -10,7 +10,7 @@ use Rattle.utc_times.specs.UnixTime.{instant_of_second}
 abbrev pub instant_of_parts : ℤ → ℕ → ℤ
 instant_of_parts s n = instant_of_second s +ℤ pos n
 
--- the instants of so many milliseconds and microseconds from 1970 on
+-- the instants of a number of milliseconds, and of microseconds, since 1970
 abbrev pub instant_of_milliseconds : ℤ → ℤ
 instant_of_milliseconds count = count *ℤ pos nanos_per_millisecond
 
@@ -21,7 +21,7 @@ instant_of_microseconds count = count *ℤ pos nanos_per_microsecond
 abbrev pub unix_nanosecond_of : ℤ → ℕ
 unix_nanosecond_of i = nanosecond_of (wall_time i)
 
--- what a hasher is fed for an instant: its second, and then the nanosecond of that second
+-- the input of a hasher for an instant: its second, and then the nanosecond of that second
 unfoldable pub hashed_instant : ℤ → fed.HashWrites
 hashed_instant i = fed.i64 (unix_seconds_of i) ++ fed.u32 (unix_nanosecond_of i)
 

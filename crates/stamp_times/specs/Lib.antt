@@ -2,6 +2,7 @@ pub mod Counter
 pub mod Instants
 pub mod Laws
 pub mod LogLemmas
+pub mod Logs
 pub mod Numbered
 pub mod NumberedLemmas
 pub mod Refusals

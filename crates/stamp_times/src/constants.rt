@@ -1,4 +1,4 @@
-//! What the constants are: their numbers stand in the contract here.
+//! The constants by their numbers, which the contract has.
 ghost use Rattle.std.specs.Prelude.{◌≡◌, pos};
 ghost use Rattle.calendar_values.specs.WallClock.{first_wall_clock, last_wall_clock};
 

@@ -1,4 +1,5 @@
-//! Laws of timestamps: each function here proves one, for every instant, and does nothing when it is called.
+//! Laws of timestamps: each function here proves one, for every instant, and does nothing when it
+//! is called.
 ghost use Rattle.std.specs.Prelude.{◌≡◌, ◌↔◌};
 ghost use Rattle.std.specs.Ordering.{int_eq, int_cmp};
 ghost use Rattle.plain_times.specs.Laws.{DifferencesUndoSums, DifferencesLeadBack, ReplacedPartsReadAsGiven, ReplacementsKeepTheRest, SumsAssociate};

@@ -1,4 +1,5 @@
-//! Instants by their Unix seconds, runs of calls over instants of every type, and chains of conversions.
+//! Instants by their Unix seconds, runs of calls over instants of every type, and chains of
+//! conversions.
 #![tactic(auto)]
 
 pub mod batches;
@@ -6,6 +7,7 @@ pub mod chains;
 pub mod constants;
 pub mod laws;
 pub mod logs;
+pub mod moment_logs;
 pub mod reciprocal;
 pub mod runs;
 mod timestamp;

@@ -6,7 +6,7 @@ ghost use Rattle.std.specs.List.Sorted.{IsStrictlySortedBy, IsStableByKey};
 ghost use Rattle.std.specs.Ordering.{int_cmp, on};
 ghost use Rattle.offset_times.specs.Local.{Local, instant_of};
 
-use crate::Timestamp;
+use crate::{Timestamp, moment_logs};
 use offset_times::OffsetDateTime;
 use std::alloc::AllocError;
 
@@ -18,10 +18,7 @@ pub fn find(log: &[Timestamp], at: Timestamp) -> Option<usize>
     ensures present { IfSome result (λ _. Contains log.now at) }
     ensures absent { IfNone result (¬ Contains log.now at) }
 {
-    match log.binary_search(&at) {
-        Ok(place) => Some(place),
-        Err(_) => None,
-    }
+    moment_logs::find(log, at)
 }
 
 /// Enters the timestamp in its place in a log that has each once. False if it is there already;
@@ -34,13 +31,7 @@ pub fn enter(log: &mut Vec<Timestamp>, at: Timestamp) -> Result<bool, AllocError
     ensures kept { (entry : ℤ) → Contains log.old.items entry → Contains log.new.items entry }
     ensures unchanged { OnErr result (log.new.items ≡ log.old.items) }
 {
-    match log.binary_search(&at) {
-        Ok(_) => Ok(false),
-        Err(place) => {
-            log.insert(place, at)?;
-            Ok(true)
-        }
-    }
+    moment_logs::enter(log, at)
 }
 
 /// Removes the timestamp from a log that has each once, and the others stay. False if it is not
@@ -54,13 +45,7 @@ pub fn remove(log: &mut Vec<Timestamp>, at: Timestamp) -> bool
         Contains log.new.items entry }
     ensures no_other { (entry : ℤ) → Contains log.new.items entry → Contains log.old.items entry }
 {
-    match log.binary_search(&at) {
-        Ok(place) => {
-            log.remove(place);
-            true
-        }
-        Err(_) => false,
-    }
+    moment_logs::remove(log, at)
 }
 
 /// Puts a log in order, and leaves each timestamp once. `AllocError` if there is no memory to sort
@@ -71,9 +56,7 @@ pub fn put_in_order(log: &mut Vec<Timestamp>) -> Result<(), AllocError>
     ensures no_other { (entry : ℤ) → Contains log.new.items entry → Contains log.old.items entry }
     ensures unchanged { OnErr result (log.new.items ≡ log.old.items) }
 {
-    log.sort()?;
-    log.dedup();
-    Ok(())
+    moment_logs::put_in_order(log)
 }
 
 /// Adds the entries of another list, puts all in order, and leaves each timestamp once.
@@ -87,13 +70,7 @@ pub fn merge(log: &mut Vec<Timestamp>, other: &[Timestamp]) -> Result<(), AllocE
         Contains log.old.items entry ⊎ Contains other.now entry }
     ensures unchanged { OnErr result (log.new.items ≡ log.old.items) }
 {
-    let before = log.len();
-    log.extend_from_slice(other)?;
-    let in_order = put_in_order(log);
-    if in_order.is_err() {
-        log.truncate(before);
-    }
-    in_order
+    moment_logs::merge(log, other)
 }
 
 /// The last entry of a log that is in order: none of the others is later. None if it is empty.
@@ -103,7 +80,7 @@ pub fn last(log: &[Timestamp]) -> Option<Timestamp>
     ensures present { IfSome result (Contains log.now) }
     ensures none_later { IfSome result (λ last. All (λ entry. entry ≤ℤ last) log.now) }
 {
-    log.last().copied()
+    moment_logs::last(log)
 }
 
 /// The latest of timestamps in any order. None if there are none.
@@ -113,13 +90,12 @@ pub fn last(log: &[Timestamp]) -> Option<Timestamp>
 /// assert_eq!(rt; stamp_times::logs::latest(&stamps), Some(Timestamp::UNIX_EPOCH));
 /// assert_eq!(rt; stamp_times::logs::latest(&[]), None);
 /// ```
-#[tactic(auto, using(std::proofs::lemmas::Int::ints))]
 pub fn latest(stamps: &[Timestamp]) -> Option<Timestamp>
     ensures none { IsNone result ↔ (stamps.now ≡ []) }
     ensures present { IfSome result (Contains stamps.now) }
     ensures none_later { IfSome result (λ latest. All (λ at. at ≤ℤ latest) stamps.now) }
 {
-    stamps.iter().copied().max()
+    moment_logs::latest(stamps)
 }
 
 /// The earliest of timestamps in any order. None if there are none.
@@ -129,13 +105,12 @@ pub fn latest(stamps: &[Timestamp]) -> Option<Timestamp>
 /// assert_eq!(rt; stamp_times::logs::earliest(&stamps), Some(Timestamp::MIN));
 /// assert_eq!(rt; stamp_times::logs::earliest(&[]), None);
 /// ```
-#[tactic(auto, using(std::proofs::lemmas::Int::ints))]
 pub fn earliest(stamps: &[Timestamp]) -> Option<Timestamp>
     ensures none { IsNone result ↔ (stamps.now ≡ []) }
     ensures present { IfSome result (Contains stamps.now) }
     ensures none_earlier { IfSome result (λ earliest. All (λ at. earliest ≤ℤ at) stamps.now) }
 {
-    stamps.iter().copied().min()
+    moment_logs::earliest(stamps)
 }
 
 /// A record that has a timestamp.

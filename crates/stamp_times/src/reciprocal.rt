@@ -1,9 +1,9 @@
 //! The calendar by two multiplications: a year, its kind and the day of the year with no division.
 //!
-//! A day is counted from 1 January of a year that 400 divides, so that it is not negative. The first
-//! product gives its century, and with it how many leap days the rule on centuries has left out. The second
-//! gives the year and the day of the year, as in a calendar without that rule. Each product stands in two
-//! words: the quotient, and the fraction of the quotient.
+//! A day is counted from 1 January of a year that 400 divides, so that it is not negative. The
+//! first product gives its century, and with it how many leap days the rule on centuries has left
+//! out. The second gives the year and the day of the year, as in a calendar without that rule. Each
+//! product has two words: the quotient, and the fraction of the quotient.
 ghost use Rattle.std.specs.Prelude.{◌≡◌, ◌<◌, ◌≤◌, ◌^◌, ◌+◌, ◌*◌, ◌/◌, ◌%◌, pos, ◌-ℤ◌};
 ghost use Rattle.std.specs.Int.{IsInRange};
 ghost use Rattle.calendar_values.specs.Calendar.{is_leap_year, year_of, ordinal_of, day_of_ordinal_date};

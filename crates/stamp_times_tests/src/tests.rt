@@ -5,6 +5,7 @@ use std::process::Abort;
 mod batches;
 mod chains;
 mod logs;
+mod moment_logs;
 mod reciprocal;
 mod runs;
 mod timestamp;

@@ -1,4 +1,5 @@
-//! Date-times with a part replaced, or truncated to a unit of time: the wall clock is, and the offset stays.
+//! Date-times with a part replaced, or truncated to a unit of time: the wall clock is, and the
+//! offset stays.
 ghost use Rattle.std.specs.Prelude.{IfOk, ◌≡◌, ◌*◌, pos, ◌+ℤ◌, ◌-ℤ◌, ◌<ℤ◌, ◌≤ℤ◌};
 ghost use Rattle.calendar_values.specs.Clock.{nanos_per_day, nanos_per_hour, nanos_per_minute, nanos_per_second, nanos_per_millisecond, nanos_per_microsecond};
 ghost use Rattle.calendar_values.specs.Month.{month_number};

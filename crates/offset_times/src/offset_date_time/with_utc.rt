@@ -1,4 +1,4 @@
-//! Date-times with an offset beside those in UTC.
+//! Date-times with an offset together with those in UTC.
 ghost use Rattle.std.specs.Prelude.{◌≡◌, pos, ◌-ℤ◌};
 ghost use Rattle.std.specs.Ordering.{int_eq, int_cmp};
 ghost use Rattle.offset_times.specs.Local.{instant_of, local_in_utc};

@@ -1,4 +1,4 @@
-//! What instants of every type have in common.
+//! The calls that instants of every type have in common.
 ghost use Rattle.std.specs.Prelude.{◌≡◌, ◌↔◌, ℤ, option_map, IfSome, IfOk, IfErr, IsOk};
 ghost use Rattle.std.specs.Ordering.{int_eq, int_cmp};
 ghost use Rattle.std.specs.Result.{result_map_both};

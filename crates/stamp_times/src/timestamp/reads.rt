@@ -205,7 +205,7 @@ impl Timestamp {
     pub fn weekday(self) -> Weekday
         ensures { weekday_number result ≡ weekday_of (wall_day self) }
     {
-        Weekday::numbered(self.days_from_monday())
+        Weekday::of_number(self.days_from_monday())
     }
 
     // How many days the date comes after a Monday.

@@ -26,7 +26,7 @@ impl Timestamp {
         ensures { SomeInRange result (self +ℤ duration) }
     {
         match self.as_seconds().checked_add(duration.whole_seconds()) {
-            Some(seconds) => carried(seconds, self.nanosecond(), duration.subsec_nanoseconds()),
+            Some(seconds) => carry(seconds, self.nanosecond(), duration.subsec_nanoseconds()),
             None => None,
         }
     }
@@ -44,7 +44,7 @@ impl Timestamp {
         ensures { SomeInRange result (self -ℤ duration) }
     {
         match self.as_seconds().checked_sub(duration.whole_seconds()) {
-            Some(seconds) => carried(seconds, self.nanosecond(), -duration.subsec_nanoseconds()),
+            Some(seconds) => carry(seconds, self.nanosecond(), -duration.subsec_nanoseconds()),
             None => None,
         }
     }
@@ -63,7 +63,7 @@ impl Timestamp {
         ensures { SomeInRange result (self +ℤ pos (as_nanos duration)) }
     {
         match self.as_seconds().checked_add_unsigned(duration.as_secs()) {
-            Some(seconds) => carried(seconds, self.nanosecond(), duration.subsec_nanos() as i32),
+            Some(seconds) => carry(seconds, self.nanosecond(), duration.subsec_nanos() as i32),
             None => None,
         }
     }
@@ -82,7 +82,7 @@ impl Timestamp {
         ensures { SomeInRange result (self -ℤ pos (as_nanos duration)) }
     {
         match self.as_seconds().checked_sub_unsigned(duration.as_secs()) {
-            Some(seconds) => carried(
+            Some(seconds) => carry(
                 seconds,
                 self.nanosecond(),
                 -(duration.subsec_nanos() as i32),
@@ -138,7 +138,7 @@ impl Timestamp {
 
 // The instant of a second and a nanosecond of that second, less than a second later or earlier, if the
 // range has it.
-fn carried(seconds: i64, nanosecond: u32, change: i32) -> Option<Timestamp>
+fn carry(seconds: i64, nanosecond: u32, change: i32) -> Option<Timestamp>
     requires nanosecond { nanosecond < nanos_per_second }
     requires change { unsigned_abs change < nanos_per_second }
     ensures { SomeInRange result (instant_of_parts seconds nanosecond +ℤ change) }

@@ -17,4 +17,4 @@ returns-in-Some c =
     let here = instant_of_parts-of c.args.self in
     let sum = duration_of_parts-of c.args.duration in
     let seconds = c.in-Some.ensures in
-    IsWallClock-same _ _ _ c.carried.ensures (omega (arith, signed_casts))
+    IsWallClock-same _ _ _ c.carry.ensures (omega (arith, signed_casts))

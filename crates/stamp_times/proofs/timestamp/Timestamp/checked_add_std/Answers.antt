@@ -7,8 +7,8 @@ use Rattle.stamp_times.proofs.timestamp.Timestamp.checked_add_std.Goals as goal
 pub overflow_cast-subsec_nanos : goal.overflow_cast-subsec_nanos
 overflow_cast-subsec_nanos c = omega (arith, signed_casts)
 
-pub carried-requires-clause-change : goal.carried-requires-clause-change
-carried-requires-clause-change c = omega (arith, signed_casts)
+pub carry-requires-clause-change : goal.carry-requires-clause-change
+carry-requires-clause-change c = omega (arith, signed_casts)
 
 pub returns-in-None : goal.returns-in-None
 returns-in-None c =
@@ -19,4 +19,4 @@ pub returns-in-Some : goal.returns-in-Some
 returns-in-Some c =
     let here = instant_of_parts-of c.args.self in
     let seconds = c.in-Some.ensures in
-    IsWallClock-same _ _ _ c.carried.ensures (omega (arith, signed_casts))
+    IsWallClock-same _ _ _ c.carry.ensures (omega (arith, signed_casts))

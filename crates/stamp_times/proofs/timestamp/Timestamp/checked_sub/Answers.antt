@@ -18,10 +18,10 @@ returns-in-Some c =
     let here = instant_of_parts-of c.args.self in
     let sum = duration_of_parts-of c.args.duration in
     let seconds = c.in-Some.ensures in
-    IsWallClock-same _ _ _ c.carried.ensures (omega (arith, signed_casts))
+    IsWallClock-same _ _ _ c.carry.ensures (omega (arith, signed_casts))
 
-pub carried-requires-clause-change : goal.carried-requires-clause-change
-carried-requires-clause-change c =
+pub carry-requires-clause-change : goal.carry-requires-clause-change
+carry-requires-clause-change c =
     let parts = IsDurationParts-of c.args.duration in
     let rest : to_z w32 (of_z w32 (pos 0 -ℤ to_z w32 (of_z w32 c.subsec_nanoseconds.result))) ≡ neg_ℤ (subsec_nanoseconds_of c.args.duration) =
     omega (arith, signed_casts) in

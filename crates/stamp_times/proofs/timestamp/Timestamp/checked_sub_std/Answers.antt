@@ -8,4 +8,4 @@ pub returns-in-Some : goal.returns-in-Some
 returns-in-Some c =
     let here = instant_of_parts-of c.args.self in
     let seconds = c.in-Some.ensures in
-    IsWallClock-same _ _ _ c.carried.ensures (omega (arith, signed_casts))
+    IsWallClock-same _ _ _ c.carry.ensures (omega (arith, signed_casts))
