@@ -1,10 +1,11 @@
 -- The bytes that lead through all places to the end are those of the form.
 use Rattle.std.proofs.Common.{◌≡◌, ◌≢◌, inl, inr, ℕ, ◌+◌, ◌-◌, ◌*◌, ◌/◌, ◌%◌, ◌≤◌, ◌<◌, Bool, true, false, nat_eq, List, [], ◌∷◌, ◌++◌, length, take}
 use Rattle.std.proofs.Common.{append_assoc}
-use Rattle.std.proofs.Common.{Option, Some, refl, sym, ap, ◌∙◌, arith}
+use Rattle.std.proofs.Common.{Option, Some, refl, sym, ap, subst, ◌∙◌, arith}
 use Rattle.std.specs.Prelude.{◌==◌, ◌||◌, IsTrue, codes, if◌then◌else◌}
 use Rattle.std.specs.Char.{is_ascii_digit}
 use Rattle.std.specs.List.{list_all}
+use Rattle.std.proofs.Math.Seq.{take-append-add}
 use Rattle.std.proofs.lemmas.Bool.Decides.{nat_tests}
 use Rattle.std.proofs.lemmas.Bool.{cases_Bool, and_parts}
 use Rattle.calendar_values.specs.Digits.{last_digits}
@@ -428,3 +429,28 @@ longest_of_form text n rest p low h =
     let stands : place_after 0 (take n text) ≢ 28 =
     λ lost. omega (arith, sym (ap (λ (z : ℕ). place_after z rest) lost) ∙ whole, place_after-nowhere rest) in
     standing-longest 0 text n low stands
+
+-- ---- the same of a time of day with an offset
+
+abbrev some_date : List ℕ
+some_date = codes "1970-01-01T"
+
+standing_after_date : (text : List ℕ) → standing 0 (some_date ++ text) ≡ 11 + standing 11 text
+unfolding standing next_place may_stand
+standing_after_date text = omega arith
+
+after_some_date : (text rest : List ℕ) (n : ℕ) → take (11 + n) (some_date ++ text) ++ rest ≡ some_date ++ take n text ++ rest
+after_some_date text rest n = ap (λ (t : List ℕ). t ++ rest) (take-append-add some_date text n)
+
+pub full_time_begins : (text : List ℕ) → (rest : List ℕ) × (p : Parts) × IsDateTime (some_date ++ take (standing 11 text) text ++ rest) p
+full_time_begins text =
+    let some = begins_some (some_date ++ text) in
+    let whole = ap (λ (k : ℕ). take k (some_date ++ text) ++ some.0) (standing_after_date text) ∙ after_some_date text some.0 (standing 11 text) in
+    (some.0, some.1, subst (λ (t : List ℕ). IsDateTime t some.1) whole some.2)
+
+pub full_time_longest : (text : List ℕ) (n : ℕ) (rest : List ℕ) (p : Parts) → n ≤ length text → IsDateTime (some_date ++ take n text ++ rest) p
+    → n ≤ standing 11 text
+full_time_longest text n rest p low h =
+    let whole = subst (λ (t : List ℕ). IsDateTime t p) (sym (after_some_date text rest n)) h in
+    let most = longest_of_form (some_date ++ text) (11 + n) rest p (omega (arith, low)) whole in
+    omega (arith, most, standing_after_date text)

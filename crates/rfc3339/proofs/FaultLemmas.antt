@@ -62,27 +62,27 @@ standing-longest place (byte ∷ text) (suc n) low h =
 -- ---- byte by byte
 
 -- a byte that may not stand there
-pub standing-stops : (place k : ℕ) (text : List ℕ) (d next : ℕ) → k < length text → next ≡ next_place place (get_or text k d) → next ≡ 28
-    → k + standing place (drop k text) ≡ standing 0 text → k ≡ standing 0 text
+pub standing-stops : (first place k : ℕ) (text : List ℕ) (d next : ℕ) → k < length text → next ≡ next_place place (get_or text k d) → next ≡ 28
+    → k + standing place (drop k text) ≡ standing first text → k ≡ standing first text
 unfolding standing
-standing-stops place k text d next low e stops before =
+standing-stops first place k text d next low e stops before =
     let here : standing place (drop k text) ≡ 0 = rw (drop_more text k d low, ← e, stops) refl in
     omega (arith, here, before)
 
 -- a byte that may
-pub standing-goes_on : (place k : ℕ) (text : List ℕ) (d next : ℕ) → k < length text → next ≡ next_place place (get_or text k d) → next ≢ 28
-    → k + standing place (drop k text) ≡ standing 0 text → k + 1 + standing next (drop (k + 1) text) ≡ standing 0 text
+pub standing-goes_on : (first place k : ℕ) (text : List ℕ) (d next : ℕ) → k < length text → next ≡ next_place place (get_or text k d) → next ≢ 28
+    → k + standing place (drop k text) ≡ standing first text → k + 1 + standing next (drop (k + 1) text) ≡ standing first text
 unfolding standing
-standing-goes_on place k text d next low e goes_on before =
+standing-goes_on first place k text d next low e goes_on before =
     let other : nat_eq next 28 ≡ false = grind (arith, nat_tests) in
     let here : standing place (drop k text) ≡ suc (standing next (drop (k + 1) text)) = rw (drop_more text k d low, ← e, other) refl in
     omega (arith, here, before)
 
 -- the end of the text
-pub standing-all : (place k : ℕ) (text : List ℕ) → length text ≤ k → k ≤ length text → k + standing place (drop k text) ≡ standing 0 text
-    → length text ≡ standing 0 text
+pub standing-all : (first place k : ℕ) (text : List ℕ) → length text ≤ k → k ≤ length text → k + standing place (drop k text) ≡ standing first text
+    → length text ≡ standing first text
 unfolding standing
-standing-all place k text end low before =
+standing-all first place k text end low before =
     let here : standing place (drop k text) ≡ 0 = rw (drop_all k text end) refl in
     omega (arith, here, before)
 

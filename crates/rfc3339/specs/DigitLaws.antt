@@ -1,4 +1,4 @@
--- Laws of texts of so many digits, proved by functions of `src/laws.rt`.
+-- Laws of texts with a number of digits of the fraction, proved by functions of `src/laws.rt`.
 use Rattle.std.specs.Prelude.{◌≡◌, ℕ, ◌-◌, ◌^◌, ◌≤◌, List, Ok}
 use Rattle.std.specs.Cmp.Lexicographic.{slice_cmp}
 use Rattle.std.specs.Ordering.{nat_cmp, int_cmp}
@@ -7,13 +7,13 @@ use Rattle.plain_times.specs.Truncations.{wall_multiple_below}
 use Rattle.rfc3339.specs.Reading.{reading_of}
 use Rattle.rfc3339.specs.Texts.{HasText, digits_text}
 
--- a text of so many digits is read as the date-time truncated to the last of them
+-- the reading of a text with a number of digits is the date-time truncated to the last of them
 abbrev pub TextsOfDigitsTruncate : Type 0
 TextsOfDigitsTruncate =
     (digits : ℕ) (at : Local) → digits ≤ 9 → HasText at
     → reading_of (digits_text digits at) ≡ Ok (local_multiple_below (10 ^ (9 - digits)) at)
 
--- of one width and at one offset, such texts compare, byte by byte, as those do
+-- texts with the same number of digits, at one offset, compare byte by byte as the truncated date-times do
 abbrev pub TextsOfDigitsKeepTheOrder : Type 0
 TextsOfDigitsKeepTheOrder =
     (digits : ℕ) (a b : Local) (first second : List ℕ) → digits ≤ 9 → HasText a → HasText b → a.offset ≡ b.offset

@@ -1,9 +1,9 @@
--- How far a text goes as a date-time of RFC 3339 does: byte by byte, through the places of the form.
+-- The number of bytes of a text that are valid in a date-time of RFC 3339: byte by byte, through the places of the form.
 use Rattle.std.specs.Prelude.{ℕ, suc, ◌+◌, ◌==◌, ◌||◌, Bool, nat_lt, List, [], ◌∷◌, if◌then◌else◌}
 use Rattle.std.specs.Char.{is_ascii_digit}
 use Rattle.rfc3339.specs.Form.{is_separator}
 
--- whether a byte may stand at one of the 19 places of the date and of the time of day
+-- whether a byte is valid at one of the 19 places of the date and of the time of day
 unfoldable pub may_stand : ℕ → ℕ → Bool
 may_stand place byte =
     if (place == 4) || (place == 7) then byte == 45
@@ -15,8 +15,8 @@ may_stand place byte =
 unfoldable pub place_in_offset : ℕ → ℕ
 place_in_offset byte = if (byte == 90) || (byte == 122) then 27 else (if (byte == 43) || (byte == 45) then 22 else 28)
 
--- the place after a byte, 28 after one that may not stand there. 19 comes before a point or an offset, 20 behind the point,
--- 21 behind a digit of the fraction, 22 to 26 in an offset of numbers; 27 is the end
+-- the place after a byte, or 28 after one that is invalid there. Place 19 is before a point or an offset, 20 after the point,
+-- 21 after a digit of the fraction, 22 to 26 in an offset of numbers; 27 is the end
 unfoldable pub next_place : ℕ → ℕ → ℕ
 next_place place byte =
     if nat_lt place 19 then (if may_stand place byte then place + 1 else 28)
@@ -27,7 +27,7 @@ next_place place byte =
     else (if nat_lt place 27 then (if is_ascii_digit byte then place + 1 else 28)
     else 28)))))
 
--- how many bytes may stand where they do, from this place on
+-- the number of bytes that are valid at their places, from this place on
 unfoldable pub standing : ℕ → List ℕ → ℕ
 standing place [] = 0
 standing place (byte ∷ text) = if next_place place byte == 28 then 0 else suc (standing (next_place place byte) text)

@@ -1,4 +1,4 @@
--- Fractions and offsets: what is read has the form, and what has the form is read.
+-- Fractions and offsets: a text that is read has the form, and a text that has the form is read.
 use Rattle.std.proofs.Common.{◌≡◌, ◌≢◌, ◌⊎◌, inl, inr, ℕ, ◌-◌, ◌*◌, ◌/◌, ◌<◌, ◌≤◌, Bool, true, false, nat_eq, List, [], ◌∷◌, ◌++◌, length}
 use Rattle.std.proofs.Common.{length-append, Option, Some, None, refl, ap, arith}
 use Rattle.std.specs.Prelude.{codes, ◌||◌}
@@ -30,7 +30,7 @@ digits_take unit (first ∷ text) =
       | inr t ↦ rw t ([], record { parts = refl; are = refl; counts = refl })
     ]
 
--- what ends a fraction, or stands where there is none
+-- the bytes that follow a fraction, or that take its place where there is none
 pub record EndsFraction (bytes : List ℕ) : Type 0 where
   pub no_digit : (unit : ℕ) → digits_at unit bytes ≡ (0, bytes)
   pub no_point : mark_at 46 bytes ≡ None

@@ -1,24 +1,24 @@
--- What the front of a text is read as, and what an offset alone.
+-- The reading of the front of a text, and of an offset alone.
 use Rattle.std.specs.Prelude.{ℕ, ◌-◌, ℤ, Bool, nat_lt, List, length, if◌then◌else◌, Option, Some, None, Result, Ok, Err}
 use Rattle.std.specs.Result.{result_map_both}
 use Rattle.offset_times.specs.Local.{Local}
 use Rattle.rfc3339.specs.Meaning.{meaning, offset_of}
-use Rattle.rfc3339.specs.Reading.{◌>>=◌, front_at, zone_at, ended}
+use Rattle.rfc3339.specs.Reading.{◌>>=◌, front_at, zone_at, with_no_rest}
 use Rattle.rfc3339.specs.declared.parts.Parts.{Parts}
 use Rattle.rfc3339.specs.declared.refusal.Component.TheVariants.{OffsetHour, OffsetMinute}
 use Rattle.rfc3339.specs.declared.refusal.TextRefusal.{TextRefusal}
 use Rattle.rfc3339.specs.declared.refusal.TextRefusal.TheVariants.{Syntax, OutOfRange}
 
--- what the numbers in front mean, and how many bytes spell them
+-- the meaning of the numbers in front, and the number of bytes that spell them
 abbrev pub front_meaning : List ℕ → Option (Parts × List ℕ) → Result (Local × ℕ) TextRefusal
 front_meaning text None = Err Syntax
 front_meaning text (Some (p, rest)) = result_map_both (λ at. (at, length text - length rest)) (λ refusal. refusal) (meaning p)
 
--- what the front of a text is read as: a wall clock at an offset, and the number of its bytes
+-- the reading of the front of a text: a wall clock at an offset, and the number of its bytes
 unfoldable pub front_reading_of : List ℕ → Result (Local × ℕ) TextRefusal
 front_reading_of text = front_meaning text (front_at text)
 
--- the seconds of an offset, or the first of its numbers that is out of its range
+-- the seconds of an offset, or the first of its numbers that is out of range
 abbrev pub offset_meaning : Option (Bool × ℕ × ℕ) → Result ℤ TextRefusal
 offset_meaning None = Err Syntax
 offset_meaning (Some (is_west, hour, minute)) =
@@ -28,8 +28,8 @@ offset_meaning (Some (is_west, hour, minute)) =
 
 -- the sign, the hours and the minutes of a text that has no more
 abbrev pub offset_numbers : List ℕ → Option (Bool × ℕ × ℕ)
-offset_numbers text = zone_at text >>= λ read. ended read.0 read.1
+offset_numbers text = zone_at text >>= λ read. with_no_rest read.0 read.1
 
--- what a text of an offset is read as
+-- the reading of a text of an offset: its seconds, or an error
 unfoldable pub offset_reading_of : List ℕ → Result ℤ TextRefusal
 offset_reading_of text = offset_meaning (offset_numbers text)

@@ -1,4 +1,4 @@
--- Days as texts: what is read has the form, what has the form is read, and what was written means what was written.
+-- Days as texts: a text that is read has the form, a text with the form is read, and a written text means its day.
 use Rattle.std.proofs.Common.{◌≡◌, ℕ, ◌≤◌, List, [], ◌∷◌, append_assoc, append-nil, Option, Some, None, refl, ap, ◌∙◌, subst, inl, inr, arith}
 use Rattle.std.proofs.Common.{ℤ, unsigned_abs, ◌==◌, ◌||◌, nat_lt, Ok, Err}
 use Rattle.std.specs.Prelude.{false, ◌⊎◌}
@@ -10,7 +10,7 @@ use Rattle.calendar_values.specs.Digits.{last_digits}
 use Rattle.calendar_values.specs.SignedArith.{signed_arith, one_part}
 use Rattle.rfc3339.specs.FullDates.{IsFullDate, HasFullDate, full_date_at, full_date_text, full_date_meaning}
 use Rattle.rfc3339.specs.FullDates.{full_date_meaning_if_any, full_date_reading_of}
-use Rattle.rfc3339.specs.Reading.{ended}
+use Rattle.rfc3339.specs.Reading.{with_no_rest}
 use Rattle.rfc3339.specs.FormLemmas.{Takes, bind_some, part_takes, part_again, year_takes, year_again}
 use Rattle.rfc3339.specs.ValueLemmas.{year_is}
 use Rattle.rfc3339.specs.declared.refusal.TextRefusal.TheVariants.{Syntax}
@@ -25,7 +25,7 @@ full_date_of year month day y m d = record {
   day_fits = d.fits;
 }
 
-ended_there : {A : Type 0} (x y : A) (bytes : List ℕ) → ended x bytes ≡ Some y → (bytes ≡ []) × (x ≡ y)
+ended_there : {A : Type 0} (x y : A) (bytes : List ℕ) → with_no_rest x bytes ≡ Some y → (bytes ≡ []) × (x ≡ y)
 ended_there x y [] e = (refl, same_Some x y e)
 ended_there x y (first ∷ bytes) e = absurd cc
 
@@ -46,7 +46,7 @@ full_date_again text year month day h =
     rw (h.spelled, ← append-nil (last_digits 2 day)) (simp append_assoc
     (rw (year_again year _ h.year_fits, part_again 45 month _ h.month_fits, part_again 45 day [] h.day_fits) refl))
 
--- what was written has the form
+-- a written text has the form
 pub IsFullDate-text : (n : ℤ) → HasFullDate n → IsFullDate (full_date_text n) (unsigned_abs (year_of n)) (month_of n) (day_of_month_of n)
 unfolding full_date_text
 IsFullDate-text n h =
@@ -63,20 +63,20 @@ in_range : (month day last : ℕ) → 1 ≤ month → month ≤ 12 → 1 ≤ day
     ((month == 0 || nat_lt 12 month) ≡ false) × ((day == 0 || nat_lt last day) ≡ false)
 in_range month day last m n d e = (grind (arith, nat_tests), grind (arith, nat_tests))
 
--- and means the day
+-- and means its day
 pub full_date_meaning-text : (n : ℤ) → HasFullDate n → full_date_meaning (unsigned_abs (year_of n)) (month_of n) (day_of_month_of n) ≡ Ok n
 full_date_meaning-text n h =
     let date = IsCalendarDate-of n in
     let tests = in_range (month_of n) (day_of_month_of n) _ date.month_first date.month_last date.day_first date.day_last in
     rw (year_is (year_of n) h.year_first, tests.0, tests.1, day_of_calendar_date-of n) refl
 
--- a text that spells numbers is read as what they mean
+-- the reading of a text that spells numbers is their meaning
 pub full_date_reading_of-spelled : (text : List ℕ) (year month day : ℕ) → IsFullDate text year month day
     → full_date_reading_of text ≡ full_date_meaning year month day
 unfolding full_date_reading_of
 full_date_reading_of-spelled text year month day h = ap full_date_meaning_if_any (full_date_again text year month day h)
 
--- any other is refused for its form
+-- the reading of any other text is a syntax error
 syntax_of : (text : List ℕ) (o : Option (ℕ × ℕ × ℕ)) → full_date_at text ≡ o
     → (full_date_reading_of text ≡ Err Syntax) ⊎ ((year : ℕ) × (month : ℕ) × (day : ℕ) × IsFullDate text year month day)
 unfolding full_date_reading_of
@@ -87,7 +87,7 @@ pub full_date_reading_of-syntax : (text : List ℕ)
     → (full_date_reading_of text ≡ Err Syntax) ⊎ ((year : ℕ) × (month : ℕ) × (day : ℕ) × IsFullDate text year month day)
 full_date_reading_of-syntax text = syntax_of text (full_date_at text) refl
 
--- what was written is read back
+-- a written text is read back
 pub full_date_reading_of-written : (n : ℤ) → HasFullDate n → full_date_reading_of (full_date_text n) ≡ Ok n
 full_date_reading_of-written n h =
     full_date_reading_of-spelled (full_date_text n) (unsigned_abs (year_of n)) (month_of n) (day_of_month_of n) (IsFullDate-text n h)

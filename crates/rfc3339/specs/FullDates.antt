@@ -3,7 +3,7 @@ use Rattle.std.specs.Prelude.{◌≡◌, ℕ, ◌<◌, ◌==◌, ◌||◌, nat_l
 use Rattle.std.specs.Prelude.{Option, Some, None, Result, Ok, Err}
 use Rattle.calendar_values.specs.Calendar.{is_leap_year, days_in_month, day_of_calendar_date, year_of, month_of, day_of_month_of}
 use Rattle.calendar_values.specs.Digits.{last_digits}
-use Rattle.rfc3339.specs.Reading.{◌>>=◌, year_at, part_at, ended}
+use Rattle.rfc3339.specs.Reading.{◌>>=◌, year_at, part_at, with_no_rest}
 use Rattle.rfc3339.specs.declared.refusal.Component.TheVariants.{Month, Day}
 use Rattle.rfc3339.specs.declared.refusal.TextRefusal.{TextRefusal}
 use Rattle.rfc3339.specs.declared.refusal.TextRefusal.TheVariants.{Syntax, OutOfRange}
@@ -19,7 +19,7 @@ pub record IsFullDate (text : List ℕ) (year month day : ℕ) : Type 0 where
   pub month_fits : month < 100
   pub day_fits : day < 100
 
--- the day that they mean, or the first of them that is out of its range
+-- the day of these numbers, or the first of them that is out of range
 abbrev pub full_date_meaning : ℕ → ℕ → ℕ → Result ℤ TextRefusal
 full_date_meaning year month day =
     if month == 0 || nat_lt 12 month then Err (OutOfRange Month)
@@ -41,13 +41,13 @@ full_date_at text = do
   year ← year_at text
   month ← part_at 45 year.1
   day ← part_at 45 month.1
-  ended (year.0, month.0, day.0) day.1
+  with_no_rest (year.0, month.0, day.0) day.1
 
--- what these numbers mean, if there are any
+-- the meaning of these numbers, or a syntax error if there are none
 abbrev pub full_date_meaning_if_any : Option (ℕ × ℕ × ℕ) → Result ℤ TextRefusal
 full_date_meaning_if_any None = Err Syntax
 full_date_meaning_if_any (Some (year, month, day)) = full_date_meaning year month day
 
--- what a text is read as: a day, or a refusal
+-- the reading of a text: a day, or an error
 unfoldable pub full_date_reading_of : List ℕ → Result ℤ TextRefusal
 full_date_reading_of text = full_date_meaning_if_any (full_date_at text)

@@ -1,4 +1,4 @@
--- The grammar of RFC 3339, section 5.6, and what it says of the forms of the library.
+-- The grammar of RFC 3339, section 5.6, and its laws for the forms of the library.
 use Rattle.std.specs.Prelude.{◌≡◌, ◌≤◌, ◌++◌, take, length, ℕ, ℤ, List, [], ◌∷◌, None, Err, codes, ◌↔◌}
 use Rattle.rfc3339.specs.Abnf.{Element, quoted, range, rule, ◌then◌, ◌or◌, times, repeat, optional, Grammar, Derives}
 use Rattle.rfc3339.specs.Faults.{standing}
@@ -54,7 +54,7 @@ pub record FormsAreOfTheGrammar : Type 0 where
   pub full_date : (text : List ℕ)
       → ((year : ℕ) × (month : ℕ) × (day : ℕ) × IsFullDate text year month day) ↔ Derives rfc3339 (rule (codes "full-date")) text
 
--- so a text is refused for its form exactly where the grammar does not derive it
+-- so the reading of a text is a syntax error exactly where the grammar does not derive it
 pub record RefusalsAreOfTheGrammar : Type 0 where
   pub leap : (text : List ℕ) → (leap_reading_of text ≡ Err Syntax) ↔ ¬ Derives rfc3339 date_time text
   pub date_time : (text : List ℕ) → (reading_of text ≡ Err Syntax) ↔ ¬ Derives rfc3339 date_time text
@@ -68,8 +68,8 @@ pub record WrittenTextsAreOfTheGrammar : Type 0 where
   pub fixed_at : (at : Local) → HasText at → Derives rfc3339 (rule (codes "date-time")) (fixed_text_at at)
   pub full_date : (n : ℤ) → HasFullDate n → Derives rfc3339 (rule (codes "full-date")) (full_date_text n)
 
--- no derived text begins another; a front is refused for its form exactly where the grammar derives none; the fault of a text follows
--- its longest beginning that also begins a derived text
+-- no derived text begins another; the reading of a front is a syntax error exactly where the grammar derives none
+-- the fault of a text follows its longest beginning that also begins a derived text
 pub record BeginningsAreOfTheGrammar : Type 0 where
   pub one : (s t s' t' : List ℕ) → s ++ t ≡ s' ++ t' → Derives rfc3339 date_time s → Derives rfc3339 date_time s' → s ≡ s'
   pub front : (text : List ℕ)

@@ -14,13 +14,13 @@ use Rattle.rfc3339.specs.declared.refusal.TextRefusal.TheVariants.{Syntax}
 abbrev pub TextsHaveOneReading : Type 0
 TextsHaveOneReading = (text : List ℕ) (p q : Parts) → IsDateTime text p → IsDateTime text q → p ≡ q
 
--- what a text is read as: what the numbers that it spells mean, or else a refusal of its form
+-- the reading of a text is the meaning of the numbers that it spells, or else a syntax error
 abbrev pub ReadingsAreOfTheForm : Type 0
 ReadingsAreOfTheForm =
     (text : List ℕ) → ((p : Parts) → IsDateTime text p → reading_of text ≡ meaning p)
     × ((reading_of text ≡ Err Syntax) ⊎ ((p : Parts) × IsDateTime text p))
 
--- what is written has the form, and means the value that was written
+-- a written text has the form, and means the value that was written
 abbrev pub WrittenTextsReadBack : Type 0
 WrittenTextsReadBack =
     (at : Local) → HasText at → (p : Parts) × IsDateTime (rfc3339_text at) p × (meaning p ≡ Ok at)

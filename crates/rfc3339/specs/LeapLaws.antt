@@ -1,4 +1,4 @@
--- The order of what texts write, with seconds of 60, and of the instants that they are read as.
+-- The order of the moments that texts write, with seconds of 60, and of the instants of their readings.
 use Rattle.std.specs.Prelude.{◌≡◌, ◌⊎◌, ℕ, ◌+◌, ◌*◌, ◌<◌, Bool, true, List, ℤ, pos, ◌+ℤ◌, ◌-ℤ◌, ◌*ℤ◌, ◌<ℤ◌, ◌≤ℤ◌, Ok}
 use Rattle.calendar_values.specs.Calendar.{day_of_calendar_date}
 use Rattle.offset_times.specs.Local.{Local, instant_of}
@@ -13,7 +13,8 @@ minute_begin p =
     (day_of_calendar_date (pos p.year) p.month p.day *ℤ pos 86_400) +ℤ pos (p.hour * 3_600 + p.minute * 60)
     -ℤ offset_of p.is_west p.offset_hour p.offset_minute
 
--- the first numbers write an earlier moment: an earlier minute in UTC, or an earlier second of it, 0 to 60, or an earlier nanosecond of that
+-- the first numbers write an earlier moment: an earlier minute in UTC, or an earlier second of it, 0 to 60,
+-- or an earlier nanosecond of that second
 abbrev pub IsWrittenBefore : Parts → Parts → Type 0
 IsWrittenBefore p q =
     (minute_begin p <ℤ minute_begin q)
@@ -24,7 +25,8 @@ IsWrittenBefore p q =
 abbrev pub IsWrittenWith : Parts → Parts → Type 0
 IsWrittenWith p q = (minute_begin p ≡ minute_begin q) × (p.second ≡ q.second) × (p.nanosecond ≡ q.nanosecond)
 
--- what is written earlier is read as an earlier instant, or as the same where the later is a leap second; one moment as one instant
+-- the text of an earlier moment reads as an earlier instant, or as the same where the later is a leap second
+-- two texts of one moment read as one instant
 abbrev pub LeapReadingsKeepTheOrder : Type 0
 LeapReadingsKeepTheOrder =
     (first second : List ℕ) (p q : Parts) (a b : Local) (is_leap is_later_leap : Bool)

@@ -1,4 +1,4 @@
--- What a text is read as whose second may be 60, as that of a leap second: the last nanosecond of a month in UTC, with a mark.
+-- The reading of a text whose second may be 60, for a leap second: the last nanosecond of a month in UTC, with a mark.
 use Rattle.std.specs.Prelude.{◌≡◌, ℕ, ◌≤◌, ◌==◌, ◌&&◌, Bool, not, List, if◌then◌else◌, ℤ, pos, ◌+ℤ◌, Option, Some, None, Result, Ok, Err}
 use Rattle.calendar_values.specs.Calendar.{day_of_calendar_date, day_of_month_of}
 use Rattle.calendar_values.specs.WallClock.{wall_clock, wall_day, wall_time}
@@ -42,26 +42,26 @@ stand_in p = record {
   offset_minute = p.offset_minute;
 }
 
--- each of those numbers is in its range, and a second of 60 is the last of a month in UTC
+-- each of these numbers is in its range, and a second of 60 is the last of a month in UTC
 pub record AreInLeapRange (p : Parts) : Type 0 where
   pub in_range : AreInRange (stand_in p)
   pub last_of_month : p.second ≡ 60 → IsLastOfMonth (instant_of (value_of (stand_in p)))
 
--- a value with the mark of a leap second, refused where no month ends with that second
+-- a value with the mark of a leap second, or an error where no month ends with that second
 abbrev pub leap_outcome : Bool → Result Local TextRefusal → Result (Local × Bool) TextRefusal
 leap_outcome is_leap (Err refusal) = Err refusal
 leap_outcome is_leap (Ok at) =
     if is_leap && not (is_last_of_month (instant_of at)) then Err (OutOfRange Second) else Ok (at, is_leap)
 
--- what the numbers mean where the second may be 60
+-- the meaning of numbers whose second may be 60
 unfoldable pub leap_meaning : Parts → Result (Local × Bool) TextRefusal
 leap_meaning p = leap_outcome (p.second == 60) (meaning (stand_in p))
 
--- the same, if there are any numbers
+-- the same, or a syntax error if there are no numbers
 abbrev pub leap_meaning_if_any : Option Parts → Result (Local × Bool) TextRefusal
 leap_meaning_if_any None = Err Syntax
 leap_meaning_if_any (Some p) = leap_meaning p
 
--- what a text is read as: a wall clock at an offset and the mark, or a refusal
+-- the reading of a text: a wall clock at an offset and the mark, or an error
 unfoldable pub leap_reading_of : List ℕ → Result (Local × Bool) TextRefusal
 leap_reading_of text = leap_meaning_if_any (parts_at text)

@@ -1,4 +1,4 @@
--- How long texts are, proved by a function of `src/length_laws.rt`.
+-- The lengths of texts, proved by a function of `src/length_laws.rt`.
 use Rattle.std.specs.Prelude.{◌≡◌, ℕ, ℤ, ◌≤◌, List, length, Ok}
 use Rattle.offset_times.specs.Local.{Local, local_in_utc}
 use Rattle.rfc3339.specs.Reading.{reading_of}

@@ -11,6 +11,7 @@ pub mod Suffixes
 pub mod FullDates
 pub mod Meaning
 pub mod LeapSeconds
+pub mod LeapSecondLemmas
 pub mod LeapLaws
 pub mod Texts
 pub mod UnixTexts

@@ -51,7 +51,7 @@ pub read_of : (text : List ℕ) (p : Parts) (r : Result Local TextRefusal) → r
 read_of text p (Ok at) e h = let ok = meaning-ok p at (sym e) in (p, h, ok.0, ok.1)
 read_of text p (Err d) e h = tt
 
--- ---- what is read can be written
+-- ---- a value that is read has a text
 
 abs_offset : (is_west : Bool) (hour minute : ℕ) → unsigned_abs (offset_of is_west hour minute) ≡ hour * 3_600 + minute * 60
 abs_offset true hour minute = omega (arith, signed_arith)

@@ -12,12 +12,12 @@ use Rattle.offset_times.specs.Local.{Local, local_in_utc, instant_of}
 use Rattle.rfc3339.specs.Texts.{HasText}
 use Rattle.rfc3339.specs.declared.refusal.TextRefusal.{TextRefusal}
 
--- what was read in UTC has the instant that clocks there show
+-- a date-time that was read in UTC has the instant that clocks there show
 pub instant_of-read : (at : Local) (i : ℤ) → ◌≡◌ {A = Result Local TextRefusal} (Ok at) (Ok (local_in_utc i)) → instant_of at ≡ i
 instant_of-read at i e =
     let same : at ≡ local_in_utc i = cc in ap instant_of same ∙ instant_of-utc i
 
--- a year of four digits lies a year or more from the ends of the range
+-- a year of four digits is a year or more from the ends of the range
 instants_in_range : (at : Local) → HasText at → IsInstant (instant_of at) × IsInstant (instant_of at +ℤ pos 1)
 unfolding instant_of
 instants_in_range at h =
@@ -32,7 +32,7 @@ instants_in_range at h =
 pub instant_of-in_range : (at : Local) → HasText at → IsInstant (instant_of at)
 instant_of-in_range at h = (instants_in_range at h).0
 
--- and so does the next nanosecond
+-- and so is the next nanosecond
 pub instant_of-next_in_range : (at : Local) → HasText at → IsInstant (instant_of at +ℤ pos 1)
 instant_of-next_in_range at h = (instants_in_range at h).1
 

@@ -1,4 +1,4 @@
--- What a text is read as: where it spells numbers, where it was written, and where it has not the form.
+-- The reading of a text: one that spells numbers, one that was written, and one that does not have the form.
 use Rattle.std.proofs.Common.{◌≡◌, ℕ, ℤ, List, Option, Some, None, Ok, Err, IfOk, refl, ap, inl, inr, ◌∙◌, arith}
 use Rattle.std.specs.Prelude.{◌⊎◌}
 use Rattle.calendar_values.specs.WallClock.{IsInstant}
@@ -16,16 +16,16 @@ use Rattle.rfc3339.specs.ReadInstantLemmas.{instant_of_read}
 use Rattle.rfc3339.specs.TextLemmas.{parts_takes, parts_again}
 use Rattle.rfc3339.specs.ValueLemmas.{IsDateTime-text, meaning-text, IsDateTime-fixed, meaning-fixed}
 
--- by the numbers that are read
+-- the reading of a text is the meaning of its numbers, if there are any
 pub reading_of-parts : (text : List ℕ) (o : Option Parts) → parts_at text ≡ o → reading_of text ≡ meaning_if_any o
 unfolding reading_of
 reading_of-parts text o e = ap meaning_if_any e
 
--- a text that spells numbers is read as what they mean
+-- the reading of a text that spells numbers is their meaning
 pub reading_of-spelled : (text : List ℕ) (p : Parts) → IsDateTime text p → reading_of text ≡ meaning p
 reading_of-spelled text p h = reading_of-parts text (Some p) (parts_again text p h)
 
--- any other is refused for its form
+-- the reading of any other text is a syntax error
 syntax_of : (text : List ℕ) (o : Option Parts) → parts_at text ≡ o → (reading_of text ≡ Err Syntax) ⊎ ((p : Parts) × IsDateTime text p)
 syntax_of text None e = inl (reading_of-parts text None e)
 syntax_of text (Some p) e = inr (p, parts_takes text p e)
@@ -33,7 +33,7 @@ syntax_of text (Some p) e = inr (p, parts_takes text p e)
 pub reading_of-syntax : (text : List ℕ) → (reading_of text ≡ Err Syntax) ⊎ ((p : Parts) × IsDateTime text p)
 reading_of-syntax text = syntax_of text (parts_at text) refl
 
--- what is read is spelled by numbers in their ranges
+-- a text that is read spells numbers in their ranges
 accepted_of_parts : (text : List ℕ) (o : Option Parts) → parts_at text ≡ o
     → IfOk (reading_of text) (λ at. (p : Parts) × IsDateTime text p × AreInRange p × (at ≡ value_of p))
 accepted_of_parts text None e = rw (reading_of-parts text None e) tt
@@ -43,7 +43,7 @@ pub reading_of-accepted : (text : List ℕ)
     → IfOk (reading_of text) (λ at. (p : Parts) × IsDateTime text p × AreInRange p × (at ≡ value_of p))
 reading_of-accepted text = accepted_of_parts text (parts_at text) refl
 
--- and can be written
+-- and its value has a text
 has_text_of_parts : (text : List ℕ) (o : Option Parts) → parts_at text ≡ o → IfOk (reading_of text) HasText
 has_text_of_parts text None e = rw (reading_of-parts text None e) tt
 has_text_of_parts text (Some p) e =
@@ -54,11 +54,11 @@ has_text_of_parts text (Some p) e =
 pub reading_of-has_text : (text : List ℕ) → IfOk (reading_of text) HasText
 reading_of-has_text text = has_text_of_parts text (parts_at text) refl
 
--- its instant lies in the range
+-- its instant is in the range
 pub reading_of-instant : (text : List ℕ) → IfOk (reading_of text) (λ at. IsInstant (instant_of at))
 reading_of-instant text = instant_of_read (reading_of text) (reading_of-has_text text)
 
--- what was written is read back, offset included
+-- a written text is read back, offset included
 pub reading_of-written : (at : Local) → HasText at → reading_of (rfc3339_text at) ≡ Ok at
 reading_of-written at h = reading_of-spelled (rfc3339_text at) (parts_of at) (IsDateTime-text at h) ∙ meaning-text at h
 
@@ -66,7 +66,7 @@ pub reading_of-written_fixed : (i : ℤ) → HasFixedText i → reading_of (fixe
 reading_of-written_fixed i h =
     reading_of-spelled (fixed_text i) (parts_of (local_in_utc i)) (IsDateTime-fixed i h) ∙ meaning-fixed i h
 
--- what callers name who read texts, days alone too
+-- the rules for callers that read texts, days alone too
 pub ruleset readings = (
   reading_of-spelled,
   reading_of-syntax,

@@ -1,4 +1,4 @@
--- Whether a grammar derives a text, by computing, where no rule leads back to itself.
+-- The test whether a grammar derives a text, by computing, where no rule names itself, also through others.
 use Rattle.std.specs.Prelude.{◌≡◌, ◌↔◌, ℕ, zero, suc, ◌-◌, nat_le, Bool, true, false, ◌&&◌, IsTrue, List, [], ◌∷◌, length, codes}
 use Rattle.std.specs.Prelude.{Option, Some, None, Err}
 use Rattle.std.specs.Char.{eq_ignore_ascii_case}
@@ -24,7 +24,7 @@ abbrev pub ends_within : Grammar → ℕ → List ℕ → Bool
 ends_within g zero name = false
 ends_within g (suc n) name = option_map_or (each_name (ends_within g n)) (rule_of g name) true
 
--- no rule leads back to itself: no chain has more rules than the grammar
+-- no rule names itself, also through others: no chain has more rules than the grammar
 abbrev pub is_ranked : Grammar → Bool
 is_ranked g = list_all (λ r. each_name (ends_within g (length g)) r.1) g
 
@@ -32,7 +32,7 @@ is_ranked g = list_all (λ r. each_name (ends_within g (length g)) r.1) g
 abbrev pub Reader : Type 0
 Reader = List ℕ → (List ℕ → Bool) → Bool
 
--- the bytes of a quoted text, letters in either case
+-- the reader of a quoted text, letters in either case
 abbrev pub read_quoted : List ℕ → Reader
 read_quoted [] text passes = passes text
 read_quoted (w ∷ wanted) [] passes = false
@@ -41,7 +41,7 @@ read_quoted (w ∷ wanted) (c ∷ text) passes = elim (eq_ignore_ascii_case w c)
   | false ↦ false
 ]
 
--- one byte of a range
+-- the reader of one byte of a range
 abbrev pub read_range : ℕ → ℕ → Reader
 read_range first last [] passes = false
 read_range first last (c ∷ text) passes = elim (nat_le first c && nat_le c last) [
@@ -49,12 +49,12 @@ read_range first last (c ∷ text) passes = elim (nat_le first c && nat_le c las
   | false ↦ false
 ]
 
--- a number of times
+-- the same reader, a number of times
 abbrev pub read_times : Reader → ℕ → Reader
 read_times read zero text passes = passes text
 read_times read (suc k) text passes = read text (λ rest. read_times read k rest passes)
 
--- no more than a number of times
+-- the same reader, no more than a number of times
 abbrev pub read_up_to : Reader → ℕ → Reader
 read_up_to read zero text passes = passes text
 read_up_to read (suc k) text passes = elim (passes text) [
@@ -62,7 +62,7 @@ read_up_to read (suc k) text passes = elim (passes text) [
   | false ↦ read text (λ rest. read_up_to read k rest passes)
 ]
 
--- at least a number of times; where there is no most, as often as the text has bytes is enough
+-- the same reader, at least a number of times; where there is no most, the number of bytes of the text is enough
 abbrev pub read_repeat : Reader → ℕ → Option ℕ → Reader
 read_repeat read least None text passes = read_times read least text (λ rest. read_up_to read (length rest) rest passes)
 read_repeat read least (Some most) text passes = elim (nat_le least most) [
@@ -70,7 +70,7 @@ read_repeat read least (Some most) text passes = elim (nat_le least most) [
   | false ↦ false
 ]
 
--- an element, where the reader of each rule is given
+-- the reader of an element, by the reader of each rule
 abbrev pub read_element : (List ℕ → Reader) → Element → Reader
 read_element named (quoted wanted) text passes = read_quoted wanted text passes
 read_element named (range first last) text passes = read_range first last text passes
@@ -83,12 +83,12 @@ read_element named (a or b) text passes = elim (read_element named a text passes
 read_element named (times k e) text passes = read_times (read_element named e) k text passes
 read_element named (repeat least most e) text passes = read_repeat (read_element named e) least most text passes
 
--- a rule, through a chain of no more than this number of rules
+-- the reader of a rule, through a chain of no more than this number of rules
 abbrev pub read_rule : Grammar → ℕ → List ℕ → Reader
 read_rule g zero name text passes = false
 read_rule g (suc n) name text passes = option_map_or (λ e. read_element (read_rule g n) e text passes) (rule_of g name) false
 
--- no bytes
+-- the text has no bytes
 abbrev pub is_empty : List ℕ → Bool
 is_empty [] = true
 is_empty (c ∷ text) = false
@@ -97,8 +97,9 @@ is_empty (c ∷ text) = false
 abbrev pub derives : Grammar → Element → List ℕ → Bool
 derives g e text = read_element (read_rule g (suc (length g))) e text is_empty
 
--- of each grammar in which no rule leads back to itself, the recogniser says what it derives; RFC 3339's is one, so a text is
--- refused for its form exactly where the recogniser says no; a rule that names itself is no such grammar
+-- the recogniser decides the texts that a grammar derives, if no rule names itself, also through others
+-- RFC 3339's grammar is one, so a reading is a syntax error exactly where the recogniser returns false
+-- a grammar with a rule that names itself is not one
 pub record GrammarsAreDecided : Type 0 where
   pub decided : (g : Grammar) (e : Element) (text : List ℕ) → IsTrue (is_ranked g) → IsTrue (derives g e text) ↔ Derives g e text
   pub ranked : IsTrue (is_ranked rfc3339)

@@ -1,4 +1,4 @@
--- What a refusal of a text is called.
+-- The texts of the errors of readings.
 use Rattle.std.specs.Prelude.{ℕ, List, ◌++◌, codes}
 use Rattle.rfc3339.specs.declared.refusal.Component.{Component}
 use Rattle.rfc3339.specs.declared.refusal.Component.TheVariants.{Month, Day, Hour, Minute, Second, OffsetHour, OffsetMinute}
@@ -15,7 +15,7 @@ component_name Second = codes "second"
 component_name OffsetHour = codes "offset hour"
 component_name OffsetMinute = codes "offset minute"
 
--- the text of a refusal
+-- the text of an error
 abbrev pub refusal_text : TextRefusal → List ℕ
 refusal_text Syntax = codes "no date-time of RFC 3339"
 refusal_text (OutOfRange component) = component_name component ++ codes " is out of range"

@@ -50,7 +50,7 @@ suffix_rules =
     ∷ (codes "ALPHA", range 0x41 0x5A or range 0x61 0x7A)
     ∷ []
 
--- these rules in front of RFC 3339's, which has `date-time`, `time-numoffset` and DIGIT
+-- these rules, before those of RFC 3339 with `date-time`, `time-numoffset` and DIGIT
 unfoldable pub rfc9557 : Grammar
 rfc9557 = suffix_rules ++ rfc3339
 
@@ -80,7 +80,8 @@ pub record SuffixesArePrinted : Type 0 where
       ∷ codes "ALPHA = %x41-5A / %x61-7A"
       ∷ []
 
--- no rule leads back to itself, so the recogniser says what they derive; it computes on texts like the RFC's examples
+-- no rule names itself, also through others, so the recogniser decides the texts that they derive
+-- it computes on texts like the RFC's examples
 pub record SuffixesAreDecided : Type 0 where
   pub ranked : IsTrue (is_ranked rfc9557)
   pub decided : (text : List ℕ) → IsTrue (derives rfc9557 date_time_ext text) ↔ Derives rfc9557 date_time_ext text
@@ -111,8 +112,9 @@ pub record SuffixesAreInBrackets : Type 0 where
   pub suffix : (text : List ℕ) → IsSuffixText text → (text ≡ []) ⊎ ((inside : List ℕ) × (text ≡ codes "[" ++ inside ++ codes "]"))
   pub date_time : (text : List ℕ) → IsDateTimeText text → before_first is_bracket text ≡ text
 
--- a text of `date-time-ext` is a date-time of RFC 3339 and a suffix; the date-time is all before the first `[`, so there is
--- one such pair; the front of the text is read as the date-time is alone, with the number of its bytes
+-- a text of `date-time-ext` is a date-time of RFC 3339 and a suffix
+-- the date-time is all before the first `[`, so there is one pair of them
+-- the reading of the front of the text is that of the date-time alone, with the number of its bytes
 pub record SuffixesAreCutOff : Type 0 where
   pub parts : (text : List ℕ)
       → Derives rfc9557 date_time_ext text ↔ ((s : List ℕ) × (t : List ℕ) × (text ≡ s ++ t) × IsDateTimeText s × IsSuffixText t)

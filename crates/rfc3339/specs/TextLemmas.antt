@@ -1,4 +1,4 @@
--- Whole texts: what is read has the form, and what has the form is read.
+-- Whole texts: a text that is read has the form, and a text that has the form is read.
 use Rattle.std.proofs.Common.{◌≡◌, ℕ, List, [], ◌∷◌, ◌++◌, append_assoc, append-nil, Option, Some, None, refl, sym, ap, subst, ◌∙◌, ◌+◌, ◌<◌, ◌≤◌, length}
 use Rattle.std.proofs.Common.{length-append}
 use Rattle.std.proofs.Common.{arith}
@@ -7,7 +7,7 @@ use Rattle.calendar_values.specs.Digits.{last_digits}
 use Rattle.calendar_values.specs.DigitCountLemmas.{length-last_digits}
 use Rattle.rfc3339.specs.declared.parts.Parts.{Parts}
 use Rattle.rfc3339.specs.Form.{spelling, IsDateTime}
-use Rattle.rfc3339.specs.Reading.{front_at, ended, parts_at}
+use Rattle.rfc3339.specs.Reading.{front_at, with_no_rest, parts_at}
 use Rattle.rfc3339.specs.FormLemmas.{Takes, TakesSeparator, bind_some, two_takes, two_again, part_takes, part_again, year_takes, year_again, separator_takes}
 use Rattle.rfc3339.specs.FormLemmas.{separator_again}
 use Rattle.rfc3339.specs.FractionLemmas.{TakesFraction, TakesOffset, fraction_takes, fraction_again, zone_takes, zone_again, offset_ends}
@@ -69,8 +69,8 @@ front_again stamp p rest h =
     (rw (two_again p.hour _ f.hour, part_again 58 p.minute _ f.minute, part_again 58 p.second _ f.second)
     (rw (fraction_again h.fraction p.nanosecond (h.offset ++ rest) h.is_fraction ends, zone) refl))))
 
--- what ends a whole text
-ended_some : {A : Type 0} (x y : A) (bytes : List ℕ) → ended x bytes ≡ Some y → (bytes ≡ []) × (x ≡ y)
+-- the end of a whole text
+ended_some : {A : Type 0} (x y : A) (bytes : List ℕ) → with_no_rest x bytes ≡ Some y → (bytes ≡ []) × (x ≡ y)
 ended_some x y [] e = (refl, same_Some x y e)
 ended_some x y (first ∷ bytes) e = absurd cc
 

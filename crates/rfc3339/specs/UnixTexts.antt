@@ -3,7 +3,7 @@ use Rattle.std.specs.Prelude.{ℕ, ◌/◌, ◌%◌, List, [], ◌++◌, codes, 
 use Rattle.calendar_values.specs.Clock.{nanos_per_second}
 use Rattle.calendar_values.specs.Digits.{last_digits}
 
--- the signed decimal of the instant in seconds, with nine digits behind the point: `-` before a negative one
+-- the signed decimal of the instant in seconds, with nine digits after the point: `-` before a negative one
 unfoldable pub unix_text : ℤ → List ℕ
 unix_text i =
     (if int_lt i (pos 0) then codes "-" else [])

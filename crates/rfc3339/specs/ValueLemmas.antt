@@ -1,4 +1,4 @@
--- What was written has the form, and means what was written.
+-- A written text has the form, and means its value.
 use Rattle.std.proofs.Common.{◌≡◌, inl, inr, ℕ, ◌/◌, ◌%◌, ◌≤◌, ◌<◌, Bool, true, false, nat_eq, ◌++◌, length}
 use Rattle.std.proofs.Common.{length-append, refl, sym, ap, subst, ◌∙◌, arith, ℤ, pos, unsigned_abs, ◌≤ℤ◌, Ok}
 use Rattle.std.specs.Prelude.{codes, int_lt}
@@ -75,7 +75,7 @@ parts-year at h = omega (arith, signed_arith, h.year_first, h.year_last)
 pub parts-nanosecond : (at : Local) → (parts_of at).nanosecond ≤ 999_999_999
 parts-nanosecond at = omega arith
 
--- what was written means what was written
+-- a written text means its value
 pub meaning-text : (at : Local) → HasText at → meaning (parts_of at) ≡ Ok at
 meaning-text at h = meaning-in_range (parts_of at) (parts-in_range at h) ∙ ap Ok (value_of-parts at h)
 

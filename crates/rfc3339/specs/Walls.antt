@@ -1,7 +1,7 @@
 -- The first 19 bytes of a text: a date, a separator, and a time of day to the second.
 use Rattle.std.specs.Prelude.{ℕ, List, [], ◌∷◌, ◌++◌, Option, Some}
 use Rattle.rfc3339.specs.Form.{date_digits, clock_digits}
-use Rattle.rfc3339.specs.Reading.{◌>>=◌, fraction_at, zone_at, parts_read, ended}
+use Rattle.rfc3339.specs.Reading.{◌>>=◌, fraction_at, zone_at, parts_read, with_no_rest}
 use Rattle.rfc3339.specs.declared.parts.Parts.{Parts}
 
 -- these bytes, with `T` between the date and the time of day
@@ -17,4 +17,4 @@ fraction_on p text = do
 
 -- the same, with nothing after them
 abbrev pub parts_on : Parts → List ℕ → Option Parts
-parts_on p text = fraction_on p text >>= λ read. ended read.0 read.1
+parts_on p text = fraction_on p text >>= λ read. with_no_rest read.0 read.1

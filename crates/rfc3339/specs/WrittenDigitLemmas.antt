@@ -1,4 +1,4 @@
--- Digits that are written: that they are digits, and what they count as a fraction.
+-- Digits that are written: each is a digit, and together they have a value as a fraction.
 use Rattle.std.proofs.Common.{◌≡◌, ℕ, zero, suc, ◌+◌, ◌-◌, ◌/◌, ◌%◌, ◌<◌, true, List, [], ◌∷◌, ◌++◌, length, refl, ◌∙◌}
 use Rattle.std.proofs.Common.{arith}
 use Rattle.std.specs.Char.{is_ascii_digit}
@@ -9,7 +9,7 @@ use Rattle.calendar_values.specs.Digits.{last_digits, fraction_digits}
 use Rattle.calendar_values.specs.DigitCountLemmas.{length-last_digits}
 use Rattle.rfc3339.specs.Form.{fraction_value}
 
--- the number has at most so many digits
+-- the number has at most this number of digits
 abbrev pub HasDigits : ℕ → ℕ → Type 0
 HasDigits zero n = n ≡ 0
 HasDigits (suc k) n = HasDigits k (n / 10)
@@ -34,12 +34,12 @@ fraction_digits-some (suc k) n = grind (arith, fraction_digits-some k (n / 10), 
 digit_value-written : (d : ℕ) → 48 + d - 48 ≡ d
 digit_value-written d = omega arith
 
--- nine digits count their number
+-- nine digits have the value of their number
 pub fraction_value-nine : (n : ℕ) → n < 1_000_000_000 → fraction_value 100_000_000 (last_digits 9 n) ≡ n
 unfolding last_digits fraction_value
 fraction_value-nine n low = simp digit_value-written (omega arith)
 
--- a zero at the end counts nothing
+-- a zero at the end adds nothing
 fraction_value-zero : (digits : List ℕ) (unit : ℕ) → fraction_value unit (digits ++ 48 ∷ []) ≡ fraction_value unit digits
 unfolding fraction_value
 fraction_value-zero [] unit = omega arith

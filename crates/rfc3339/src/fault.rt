@@ -1,8 +1,11 @@
 //! Where a text has not the form.
-ghost use Rattle.std.specs.Prelude.{◌≡◌, ◌≤◌, ◌<◌, ◌+◌, ◌++◌, List, ℕ, length, take, if◌then◌else◌};
+ghost use Rattle.std.specs.Prelude.{◌≡◌, ◌≤◌, ◌<◌, ◌+◌, ◌++◌, List, ℕ, codes, length, take, if◌then◌else◌};
 ghost use Rattle.rfc3339.specs.Faults.{may_stand, next_place, place_in_offset, standing};
 ghost use Rattle.rfc3339.specs.Form.{IsDateTime};
 ghost use Rattle.rfc3339.specs.declared.parts.Parts.{Parts};
+
+// The place after the separator of the date and the time of day.
+const AFTER_SEPARATOR: u8 = 11;
 
 // The places of the form after the 19 bytes of the date and of the time of day: before a point or an offset,
 const AFTER_SECOND: u8 = 19;
@@ -40,15 +43,34 @@ pub fn syntax_fault(text: &[u8]) -> usize
     ensures longest { (n : ℕ) (rest : List ℕ) (p : Parts) → n ≤ length text.now
         → IsDateTime (take n text.now ++ rest) p → n ≤ result }
 {
-    standing(text)
+    standing(0, text)
 }
 
-// How many bytes may stand where they do.
-fn standing(text: &[u8]) -> usize
-    ensures place { result ≡ standing 0 text.now }
+/// The index of the fault in a text that has not the form of a time of day with an offset: 8 for
+/// `12:34:56`. No text of the form continues with the byte at that index; or the text ends there,
+/// too early. For a text of the form it is the length of the text.
+///
+/// ```
+/// assert_eq!(rt; rfc3339::full_time_fault(b"23:20:50+1:00"), 10);
+/// ```
+pub fn full_time_fault(text: &[u8]) -> usize
+    ensures at_most { result ≤ length text.now }
+    // After a date, some date-time continues with the bytes before that place,
+    ensures begins { (rest : List ℕ) × (p : Parts) ×
+        IsDateTime (codes "1970-01-01T" ++ take result text.now ++ rest) p }
+    // and none with more of them.
+    ensures longest { (n : ℕ) (rest : List ℕ) (p : Parts) → n ≤ length text.now
+        → IsDateTime (codes "1970-01-01T" ++ take n text.now ++ rest) p → n ≤ result }
+{
+    standing(AFTER_SEPARATOR, text)
+}
+
+// How many bytes may stand where they do, from a place on.
+fn standing(first: u8, text: &[u8]) -> usize
+    ensures place { result ≡ standing first text.now }
     ensures at_most { result ≤ length text.now }
 {
-    let mut place = 0;
+    let mut place = first;
     for (k, byte) in text.iter().enumerate() {
         place = next_place(place, *byte);
         if place == NOWHERE {

@@ -1,4 +1,4 @@
-//! Texts read that stand in front of others, and offsets alone.
+//! Texts read at the front of others, and offsets alone.
 ghost use Rattle.std.specs.Prelude.{◌≡◌, ◌≤◌, ◌<◌, ◌++◌, List, ℕ, Bool, IfOk, OkIff, length, drop};
 ghost use Rattle.calendar_values.specs.WallClock.{IsInstant};
 ghost use Rattle.offset_times.specs.Local.{instant_of};

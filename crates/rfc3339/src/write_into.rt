@@ -26,7 +26,7 @@ pub fn write_rfc3339_parts(parts: Parts, bytes: &mut [u8]) -> usize
     ensures length { result ≡ length (rfc3339_text (value_of parts)) }
     ensures at_most { result ≤ 35 }
 {
-    put(bytes, 0, &wall_bytes(parts));
+    write_at(bytes, 0, &wall_bytes(parts));
     let end = put_fraction(bytes, 19, parts.nanosecond);
     put_offset(
         bytes,
@@ -108,15 +108,15 @@ fn put_some_fraction(bytes: &mut [u8], place: usize, nanosecond: u32) -> usize
     ensures at_most { result ≤ place + 10 }
 {
     if nanosecond % 10 != 0 {
-        return put(bytes, place, &nine_digits(nanosecond));
+        return write_at(bytes, place, &nine_digits(nanosecond));
     }
     let microsecond = nanosecond / 1_000;
     if nanosecond % 1_000 == 0 && microsecond % 10 != 0 {
-        return put(bytes, place, &six_digits(microsecond));
+        return write_at(bytes, place, &six_digits(microsecond));
     }
     let millisecond = nanosecond / 1_000_000;
     if nanosecond % 1_000_000 == 0 && millisecond % 10 != 0 {
-        return put(bytes, place, &three_digits(millisecond));
+        return write_at(bytes, place, &three_digits(millisecond));
     }
     put_any_fraction(bytes, place, nanosecond)
 }
@@ -133,7 +133,7 @@ fn put_any_fraction(bytes: &mut [u8], place: usize, nanosecond: u32) -> usize
 {
     let digits = nine_digits(nanosecond);
     let end = 1 + count_before_zeros(nanosecond);
-    put(bytes, place, &digits[..end])
+    write_at(bytes, place, &digits[..end])
 }
 
 // How many of the nine digits of a fraction come before the zeros at its end, and 1 where all are zeros.
@@ -215,9 +215,9 @@ fn put_offset(bytes: &mut [u8], place: usize, is_west: bool, hour: u8, minute: u
     ensures at_most { result ≤ place + 6 }
 {
     if (hour == 0) & (minute == 0) {
-        return put(bytes, place, b"Z");
+        return write_at(bytes, place, b"Z");
     }
-    put(bytes, place, &offset_bytes(is_west, hour, minute))
+    write_at(bytes, place, &offset_bytes(is_west, hour, minute))
 }
 
 // A sign, two digits of the hours, `:` and two digits of the minutes.
@@ -240,7 +240,7 @@ fn offset_bytes(is_west: bool, hour: u8, minute: u8) -> [u8; 6]
 
 // Puts bytes at a place, and gives the place behind them.
 #[inline(always)]
-fn put(bytes: &mut [u8], place: usize, text: &[u8]) -> usize
+fn write_at(bytes: &mut [u8], place: usize, text: &[u8]) -> usize
     requires { place + length text.now ≤ length bytes.old }
     ensures value { bytes.new ≡ take place bytes.old ++ text.now ++ drop result bytes.old }
     ensures place { result ≡ place + length text.now }

@@ -1,4 +1,4 @@
-//! Texts of so many digits: what is expected was written by hand, from the nine digits.
+//! Texts of a number of digits: we wrote the expected ones by hand, from the nine digits.
 use super::is;
 use calendar_values::UtcOffset;
 use offset_times::ToOffset;

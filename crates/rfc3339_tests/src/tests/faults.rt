@@ -1,6 +1,6 @@
-//! Where texts have not the form: what is expected is the place of the byte that is wrong, counted by hand.
+//! Texts of another form: we counted the place of the wrong byte by hand.
 use super::is;
-use rfc3339::{parse_rfc3339, syntax_fault};
+use rfc3339::{full_time_fault, parse_rfc3339, syntax_fault};
 use std::test::Fail;
 
 #[test]
@@ -35,4 +35,21 @@ fn texts_of_the_form(rt: HostRuntime) -> Result<(), Fail> {
         is(&rt, syntax_fault(text.as_bytes()), text.len());
     }
     Ok(())
+}
+
+#[test]
+fn faults_of_times_with_an_offset(rt: HostRuntime) {
+    for (text, place) in [
+        ("", 0),
+        ("23:20Z", 5),
+        ("23:20:50", 8),
+        ("23:20:50.Z", 9),
+        ("23:20:50ZZ", 9),
+        ("23:20:50+1:00", 10),
+        ("23:20:50+0800", 11),
+        ("23:20:50.5+08:0x", 15),
+        ("24:00:00-99:99", 14),
+    ] {
+        is(&rt, full_time_fault(text.as_bytes()), place);
+    }
 }

@@ -1,5 +1,5 @@
-//! Texts that stand in front of others, offsets alone, and instants at fixed width: what is expected is of
-//! `gate/shared/stamp_lines.py`.
+//! Texts at the front of others, offsets alone, and instants at fixed width:
+//! `gate/shared/stamp_lines.py` gives the expected ones.
 use super::is;
 use calendar_values::UtcOffset;
 use offset_times::ToOffset;

@@ -1,5 +1,5 @@
-//! Texts whose second is 60: what is expected are the leap seconds that there were, by the list of the IERS, in Unix seconds
-//! of Python's `calendar`, and for texts that are refused the answers of `time` 0.3.9.
+//! Texts whose second is 60. The list of the IERS has the leap seconds, Python's `calendar` their
+//! Unix seconds, and `time` 0.3.9 the answers to invalid texts.
 use super::is;
 use rfc3339::{Component, TextRefusal, parse_rfc3339, parse_rfc3339_leap};
 use std::test::Fail;

@@ -1,5 +1,5 @@
-//! Texts written from their numbers, and numbers read. What is expected is an example of RFC 3339, section 5.8, with other fractions and
-//! offsets.
+//! Texts written from their numbers, and numbers read. The expected ones are an example of RFC
+//! 3339, section 5.8, with other fractions and offsets.
 ghost use Rattle.std.specs.Prelude.{◌≡◌, ◌≤◌};
 ghost use Rattle.rfc3339.specs.Meaning.{AreInRange};
 

@@ -1,4 +1,4 @@
-//! Texts that are written of what was read: none is longer. What is expected was written by hand.
+//! Texts written of values that a text has: none is longer. We wrote the expected ones by hand.
 use super::is;
 use rfc3339::laws::{texts_of_digits_keep_the_order, texts_of_digits_truncate};
 use rfc3339::length_laws::written_texts_are_the_shortest;

@@ -1,5 +1,5 @@
-//! Texts with what they say: the examples of RFC 3339, both ends, each refusal, and every byte at every place. What is
-//! expected is of Python's `re` and `datetime` (`gate/shared/rfc3339.py`).
+//! Texts and their values: the examples of RFC 3339, both ends, each error, and every byte at every
+//! place. Python's `re` and `datetime` give the expected ones (`gate/shared/rfc3339.py`).
 use super::is;
 use calendar_values::{Date, Month, Text, Time, UtcOffset};
 use offset_times::OffsetDateTime;

@@ -1,0 +1,8 @@
+use Rattle.local_texts.proofs.FaultFormLemmas.{date_time_begins, date_time_longest}
+use Rattle.local_texts.proofs.faults.date_time_fault.Goals as goal
+
+pub returns-clause-begins : goal.returns-clause-begins
+returns-clause-begins c = date_time_begins c.args.text.now c.valid_bytes.result c.valid_bytes.ensures.count
+
+pub returns-clause-longest : goal.returns-clause-longest
+returns-clause-longest c = λ n. λ rest. λ p. λ low. λ h. date_time_longest c.args.text.now c.valid_bytes.result n rest p c.valid_bytes.ensures.count low h

@@ -1,0 +1,13 @@
+//! The tests, and how they compare.
+use std::fmt::Debug;
+use std::process::Abort;
+
+mod faults;
+mod full_times;
+mod in_utc;
+mod readings;
+
+// Ends the test unless what is shown is what is wanted.
+fn is<T: Copy + PartialEq + Debug>(rt: &impl Abort, shown: T, wanted: T) {
+    assert_eq!(rt; shown, wanted);
+}
