@@ -1,21 +1,25 @@
 -- What is read in the case that is written is read in any case.
-use Rattle.std.proofs.Common.{◌≡◌, ap, sym, ℕ, zero, suc, ◌<◌, ◌≤◌, ◌==◌, List, [], ◌∷◌, ◌++◌, refl, arith, Bool, true, false, Option, Some, None}
-use Rattle.std.proofs.Common.{Result, Ok, Err, inl, inr, length}
+use Rattle.std.proofs.Common.{◌≡◌, ap, sym, ℕ, zero, suc, ◌≤◌, ◌==◌, List, [], ◌∷◌, ◌++◌, refl, arith, Bool, true, false, Option, Some, None}
+use Rattle.std.proofs.Common.{Ok, Err, inl, inr, length}
 use Rattle.std.specs.Prelude.{IsTrue}
+use Rattle.std.specs.Char.{to_ascii_lowercase}
 use Rattle.std.proofs.lemmas.Bool.{cases_Bool}
 use Rattle.std.proofs.lemmas.Bool.Decides.{nat_tests}
 use Rattle.rfc3339.specs.Reading.{◌>>=◌}
 use Rattle.format_descriptions.specs.Groups.{has_no_group}
+use Rattle.format_descriptions.specs.Modifiers.{utc_word}
 use Rattle.format_descriptions.specs.Names.{name_of_month, name_of_weekday}
 use Rattle.format_descriptions.specs.Read.{component_at, agrees, with_part, part_given, part_at, item_at, going_on, Front, read_from, at_end, items_at}
-use Rattle.format_descriptions.specs.Reading.{letter_at, word_at, named, half_of, month_at, weekday_at, period_at, unsigned}
+use Rattle.format_descriptions.specs.Reading.{letter_at, word_at, named, half_of, month_at, weekday_at, period_at, unsigned, nothing}
 use Rattle.format_descriptions.specs.CaseLaws.{in_any_case, items_in_any_case}
-use Rattle.format_descriptions.specs.Written.{shortened, period_text}
+use Rattle.format_descriptions.specs.Written.{name_in_form, period_text}
 use Rattle.format_descriptions.specs.declared.component.Component.{Component}
 use Rattle.format_descriptions.specs.declared.component.Component.TheVariants.{Year, YearCentury, YearLastTwo, Month, MonthName, Day, Ordinal}
 use Rattle.format_descriptions.specs.declared.component.Component.TheVariants.{WeekdayName, WeekdayNumber, WeekNumber, Hour, Hour12, Period, Minute}
 use Rattle.format_descriptions.specs.declared.component.Component.TheVariants.{Second, Subsecond}
 use Rattle.format_descriptions.specs.declared.component.Component.TheVariants.{OffsetHour, OffsetMinute, OffsetSecond, UnixTimestamp, Ignore, End}
+use Rattle.format_descriptions.specs.declared.component.Component.TheVariants.{IgnoreWeekday, IgnoreDigits, OffsetWord, YearSince, YearSix}
+use Rattle.format_descriptions.specs.declared.component.Component.TheVariants.{HourFraction, MinuteFraction}
 use Rattle.format_descriptions.specs.declared.item.Item.{Item}
 use Rattle.format_descriptions.specs.declared.item.Item.TheVariants.{Byte, Part, Optional, First, Or}
 use Rattle.format_descriptions.specs.declared.modifiers.Case.{Case}
@@ -40,20 +44,20 @@ word-on : (letter : ℕ) (word text rest : List ℕ) (o : Option (List ℕ)) →
 word-on letter word text rest None e others h = absurd cc
 word-on letter word text rest (Some more) e others h = rw (letter-spelled letter text more e, others more rest h) refl
 
-word-spelled : (word text rest : List ℕ) → word_at Same word text ≡ Some rest → text ≡ word ++ rest
+pub word-spelled : (word text rest : List ℕ) → word_at Same word text ≡ Some rest → text ≡ word ++ rest
 unfolding word_at
 word-spelled [] text rest h = cc
 word-spelled (letter ∷ word) text rest h = word-on letter word text rest (letter_at Same letter text) refl (λ t r e. word-spelled word t r e) h
 
 -- a name that is read is at the front of the text
-record IsNamed (first last n : ℕ) (name text rest : List ℕ) : Type 0 where
+pub record IsNamed (first last n : ℕ) (name text rest : List ℕ) : Type 0 where
   pub low : first ≤ n
   pub high : n ≤ last
   pub spelled : text ≡ name ++ rest
 
-month-on : (form : NameForm) (k n : ℕ) (text rest : List ℕ) (o : Option (List ℕ)) → word_at Same (shortened form (name_of_month (suc k))) text ≡ o
-    → (month_at form Same k text ≡ Some (n, rest) → IsNamed 1 k n (shortened form (name_of_month n)) text rest)
-    → named (suc k) (month_at form Same k text) o ≡ Some (n, rest) → IsNamed 1 (suc k) n (shortened form (name_of_month n)) text rest
+month-on : (form : NameForm) (k n : ℕ) (text rest : List ℕ) (o : Option (List ℕ)) → word_at Same (name_in_form form (name_of_month (suc k))) text ≡ o
+    → (month_at form Same k text ≡ Some (n, rest) → IsNamed 1 k n (name_in_form form (name_of_month n)) text rest)
+    → named (suc k) (month_at form Same k text) o ≡ Some (n, rest) → IsNamed 1 (suc k) n (name_in_form form (name_of_month n)) text rest
 month-on form k n text rest None e others h =
     let got = others h in record { low = got.low; high = omega (arith, got.high); spelled = got.spelled }
 month-on form k n text rest (Some more) e others h =
@@ -62,8 +66,8 @@ month-on form k n text rest (Some more) e others h =
     let behind : rest ≡ more = sym (ap (λ (z : ℕ × List ℕ). z.1) pair) in
     rw (number, behind) (record { low = omega arith; high = omega arith; spelled = word-spelled _ text more e })
 
-month-named : (form : NameForm) (k n : ℕ) (text rest : List ℕ) → month_at form Same k text ≡ Some (n, rest)
-    → IsNamed 1 k n (shortened form (name_of_month n)) text rest
+pub month-named : (form : NameForm) (k n : ℕ) (text rest : List ℕ) → month_at form Same k text ≡ Some (n, rest)
+    → IsNamed 1 k n (name_in_form form (name_of_month n)) text rest
 unfolding month_at
 month-named form zero n text rest h = absurd cc
 month-named form (suc k) n text rest h = month-on form k n text rest _ refl (month-named form k n text rest) h
@@ -72,9 +76,9 @@ month-any : (form : NameForm) (text : List ℕ) (q : ℕ × List ℕ) → month_
 month-any form text q h =
     let got = month-named form 12 q.0 text q.1 h in rw got.spelled (month-again form Any q.0 q.1 got.low got.high)
 
-weekday-on : (form : NameForm) (k n : ℕ) (text rest : List ℕ) (o : Option (List ℕ)) → word_at Same (shortened form (name_of_weekday k)) text ≡ o
-    → (weekday_at form Same k text ≡ Some (n, rest) → IsNamed 1 k (suc n) (shortened form (name_of_weekday n)) text rest)
-    → named k (weekday_at form Same k text) o ≡ Some (n, rest) → IsNamed 1 (suc k) (suc n) (shortened form (name_of_weekday n)) text rest
+weekday-on : (form : NameForm) (k n : ℕ) (text rest : List ℕ) (o : Option (List ℕ)) → word_at Same (name_in_form form (name_of_weekday k)) text ≡ o
+    → (weekday_at form Same k text ≡ Some (n, rest) → IsNamed 1 k (suc n) (name_in_form form (name_of_weekday n)) text rest)
+    → named k (weekday_at form Same k text) o ≡ Some (n, rest) → IsNamed 1 (suc k) (suc n) (name_in_form form (name_of_weekday n)) text rest
 weekday-on form k n text rest None e others h =
     let got = others h in record { low = got.low; high = omega (arith, got.high); spelled = got.spelled }
 weekday-on form k n text rest (Some more) e others h =
@@ -83,8 +87,8 @@ weekday-on form k n text rest (Some more) e others h =
     let behind : rest ≡ more = sym (ap (λ (z : ℕ × List ℕ). z.1) pair) in
     rw (number, behind) (record { low = omega arith; high = omega arith; spelled = word-spelled _ text more e })
 
-weekday-named : (form : NameForm) (k n : ℕ) (text rest : List ℕ) → weekday_at form Same k text ≡ Some (n, rest)
-    → IsNamed 1 k (suc n) (shortened form (name_of_weekday n)) text rest
+pub weekday-named : (form : NameForm) (k n : ℕ) (text rest : List ℕ) → weekday_at form Same k text ≡ Some (n, rest)
+    → IsNamed 1 k (suc n) (name_in_form form (name_of_weekday n)) text rest
 unfolding weekday_at
 weekday-named form zero n text rest h = absurd cc
 weekday-named form (suc k) n text rest h = weekday-on form k n text rest _ refl (weekday-named form k n text rest) h
@@ -113,6 +117,23 @@ unsigned-any : (a b : Option (ℕ × List ℕ)) (q : (Bool × ℕ) × List ℕ) 
 unsigned-any None b q f h = absurd cc
 unsigned-any (Some r) b q f h = rw (f r refl) h
 
+nothing-any : (a b : Option (List ℕ)) (q : (Bool × ℕ) × List ℕ) → ((r : List ℕ) → a ≡ Some r → b ≡ Some r) → nothing a ≡ Some q → nothing b ≡ Some q
+nothing-any None b q f h = absurd cc
+nothing-any (Some r) b q f h = rw (f r refl) h
+
+-- a word in its case is read in any case
+letter-again : (letter : ℕ) (rest : List ℕ) → letter_at Any letter (letter ∷ rest) ≡ Some rest
+unfolding letter_at
+letter-again letter rest = let same : (to_ascii_lowercase letter == to_ascii_lowercase letter) ≡ true = grind (arith, nat_tests) in rw same refl
+
+word-again : (word rest : List ℕ) → word_at Any word (word ++ rest) ≡ Some rest
+unfolding word_at
+word-again [] rest = refl
+word-again (letter ∷ word) rest = rw (letter-again letter (word ++ rest)) (word-again word rest)
+
+word-any : (word text rest : List ℕ) → word_at Same word text ≡ Some rest → word_at Any word text ≡ Some rest
+word-any word text rest h = rw (word-spelled word text rest h) (word-again word rest)
+
 component-any : (c : Component) (text : List ℕ) (q : (Bool × ℕ) × List ℕ) → component_at c text ≡ Some q → component_at (in_any_case c) text ≡ Some q
 unfolding component_at
 component-any (Year base sign padding range) text q h = h
@@ -140,6 +161,15 @@ component-any (OffsetSecond padding) text q h = h
 component-any (UnixTimestamp precision sign) text q h = h
 component-any (Ignore count) text q h = h
 component-any End text q h = h
+component-any (IgnoreWeekday form Same) text q h = unsigned-any _ _ q (weekday-any form text) h
+component-any (IgnoreWeekday form Any) text q h = h
+component-any IgnoreDigits text q h = h
+component-any (OffsetWord word Same) text q h = nothing-any _ _ q (word-any (utc_word word) text) h
+component-any (OffsetWord word Any) text q h = h
+component-any (YearSince first) text q h = h
+component-any (YearSix base) text q h = h
+component-any (HourFraction digits) text q h = h
+component-any (MinuteFraction digits) text q h = h
 
 given-any : (c : Component) (p : Parts) (read : (Bool × ℕ) × List ℕ) → part_given (in_any_case c) p read ≡ part_given c p read
 unfolding agrees with_part
@@ -165,6 +195,13 @@ given-any (OffsetSecond padding) p given = refl
 given-any (UnixTimestamp precision sign) p given = refl
 given-any (Ignore count) p given = refl
 given-any End p given = refl
+given-any (IgnoreWeekday form case) p given = refl
+given-any IgnoreDigits p given = refl
+given-any (OffsetWord word case) p given = refl
+given-any (YearSince first) p given = refl
+given-any (YearSix base) p given = refl
+given-any (HourFraction digits) p given = refl
+given-any (MinuteFraction digits) p given = refl
 
 part-on : (c : Component) (text : List ℕ) (p : Parts) (o : Option ((Bool × ℕ) × List ℕ)) (q : Parts × List ℕ) → component_at c text ≡ o
     → (o >>= λ read. part_given c p read) ≡ Some q → part_at (in_any_case c) text p ≡ Some q

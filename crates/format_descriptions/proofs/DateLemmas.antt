@@ -1,9 +1,9 @@
 -- The date of parts is the only one that has them all.
-use Rattle.std.proofs.Common.{◌≡◌, ℕ, ◌+◌, ◌*◌, ◌/◌, ◌%◌, ◌<◌, ◌≤◌, ◌==◌, ◌||◌, ◌&&◌, Bool, true, false, refl, sym, arith, ℤ, pos, unsigned_abs}
+use Rattle.std.proofs.Common.{◌≡◌, ℕ, ◌+◌, ◌*◌, ◌<◌, ◌≤◌, ◌==◌, ◌||◌, ◌&&◌, Bool, true, false, refl, sym, arith, ℤ, unsigned_abs}
 use Rattle.std.proofs.Common.{Option, Some, None, Result, Ok, Err, inl, inr}
-use Rattle.std.specs.Prelude.{IfSome, IfOk, IsTrue, nat_lt, int_lt, is_some, if◌then◌else◌}
+use Rattle.std.specs.Prelude.{IfSome, IfOk, IsTrue, nat_lt, is_some}
 use Rattle.std.specs.Cmp.{signed_Decides}
-use Rattle.std.proofs.lemmas.Bool.{cases_Bool, and_parts, or_cases}
+use Rattle.std.proofs.lemmas.Bool.{cases_Bool, and_parts}
 use Rattle.std.proofs.lemmas.Bool.Decides.{nat_tests}
 use Rattle.calendar_values.specs.Calendar.{year_of, month_of, day_of_month_of, ordinal_of, is_leap_year, days_in_month, days_in_year, year_start}
 use Rattle.calendar_values.specs.Calendar.{day_of_calendar_date, day_of_ordinal_date}
@@ -18,15 +18,15 @@ use Rattle.calendar_values.specs.WeekLemmas.{weekday_of-bound, weekday_of-ordina
 use Rattle.calendar_values.specs.Weeks.{weekday_of, iso_year_of, iso_week_of, sunday_week_of, monday_week_of, count_weekday_of_year}
 use Rattle.calendar_values.specs.YearLemmas.{days_in_year_bounds}
 use Rattle.format_descriptions.specs.ClockValues.{or_zero}
-use Rattle.format_descriptions.specs.PartTests.{signed, fits, fits_signed, fits_choice}
-use Rattle.format_descriptions.specs.Values.{HasYearParts, HasDateParts, year_of_digits, year_known, calendar_year, iso_year, tells_day}
+use Rattle.format_descriptions.specs.PartTests.{fits, fits_signed, fits_choice}
+use Rattle.format_descriptions.specs.Values.{HasYearParts, HasDateParts, year_known, calendar_year, iso_year, tells_day}
 use Rattle.format_descriptions.specs.Values.{tells_iso_day, tells_date}
-use Rattle.format_descriptions.specs.Values.{or_wrong, first_of, wrong_year, wrong_day, wrong_week, wrong_date, kept, day_with, month_day, year_day}
+use Rattle.format_descriptions.specs.Values.{or_wrong, first_of, wrong_year, wrong_day, wrong_week, wrong_date, day_unless, day_with, month_day, year_day}
 use Rattle.format_descriptions.specs.Values.{week_ordinal}
 use Rattle.format_descriptions.specs.Values.{week_day, iso_day_with, iso_day, day_in_iso_year, day_in_year, day_by_year, date_of_parts}
 use Rattle.format_descriptions.specs.declared.parts.Parts.{Parts}
 use Rattle.format_descriptions.specs.declared.value_refusal.Field.{Field}
-use Rattle.format_descriptions.specs.declared.value_refusal.Field.TheVariants.{Year, Month, Day, Ordinal, SundayWeek, MondayWeek}
+use Rattle.format_descriptions.specs.declared.value_refusal.Field.TheVariants.{Year, Ordinal, SundayWeek, MondayWeek}
 use Rattle.format_descriptions.specs.declared.value_refusal.ValueRefusal.{ValueRefusal}
 use Rattle.format_descriptions.proofs.PartLemmas.{fits-same, fits_signed-same, fits_choice-same, signed-of}
 
@@ -210,9 +210,9 @@ first_of-none : (a b : Option Field) → first_of a b ≡ None → (a ≡ None) 
 first_of-none None b h = (refl, h)
 first_of-none (Some field) b h = absurd cc
 
-pub kept-none : (day other : ℤ) (o : Option Field) → kept other o ≡ Ok day → (o ≡ None) × (other ≡ day)
-kept-none day other None h = (refl, cc)
-kept-none day other (Some field) h = absurd cc
+pub day_unless-none : (day other : ℤ) (o : Option Field) → day_unless other o ≡ Ok day → (o ≡ None) × (other ≡ day)
+day_unless-none day other None h = (refl, cc)
+day_unless-none day other (Some field) h = absurd cc
 
 HasYearParts-of : (year : Option ℤ) (century : Option ℕ) (sign : Option Bool) (last_two : Option ℕ) (y : ℤ) (a b c : Field)
     → wrong_year year century sign last_two y a b c ≡ None → HasYearParts year century sign last_two y
@@ -256,7 +256,7 @@ HasDateParts-of p day none =
 
 day_with-has : (p : Parts) (day other : ℤ) → day_with p other ≡ Ok day → HasDateParts p day
 day_with-has p day other is =
-    let both = kept-none day other (wrong_date p other) is in rw (← both.1) (HasDateParts-of p other both.0)
+    let both = day_unless-none day other (wrong_date p other) is in rw (← both.1) (HasDateParts-of p other both.0)
 
 month_day-has : (p : Parts) (day y : ℤ) (m d : ℕ) → month_day p y m d ≡ Ok day → HasDateParts p day
 unfolding month_day

@@ -2,7 +2,7 @@
 use Rattle.std.proofs.Common.{◌≡◌, ℕ, zero, suc, ◌+◌, ◌-◌, ◌*◌, ◌/◌, ◌%◌, ◌<◌, ◌≤◌, ◌^◌, List, [], ◌∷◌, ◌++◌, decimal, refl, arith, append_assoc}
 use Rattle.std.proofs.Common.{Some, None, inl, inr, pow-suc}
 use Rattle.std.proofs.Common.{ℤ, pos, ◌≤ℤ◌, unsigned_abs, nat_lt}
-use Rattle.std.specs.Prelude.{int_lt, IsTrue}
+use Rattle.std.specs.Prelude.{int_lt}
 use Rattle.std.proofs.lemmas.Bool.{cases_Bool}
 use Rattle.std.proofs.lemmas.Bool.Decides.{nat_tests}
 use Rattle.std.proofs.lemmas.Fmt.{decimal_digit, decimal_step_wide}

@@ -1,7 +1,7 @@
 -- Groups of items: a number of items that is passed over, and what a description reads of what it writes.
-use Rattle.std.proofs.Common.{◌≡◌, ℕ, zero, suc, ◌-◌, List, [], ◌∷◌, ◌++◌, length, drop, min, refl, sym, Option, Some, None, Result, Ok, Err}
-use Rattle.format_descriptions.specs.Groups.{size_of, is_other, fault_after, written_from, written_by, own_items, written_items}
-use Rattle.format_descriptions.specs.Read.{Front, item_at, going_on, after_group, read_from, read_end, at_end, whole, front_of, items_at}
+use Rattle.std.proofs.Common.{◌≡◌, ℕ, zero, suc, ◌-◌, List, [], ◌∷◌, ◌++◌, length, drop, min, refl, Option, Some, None, Ok, Err}
+use Rattle.format_descriptions.specs.Groups.{written_from, written_items}
+use Rattle.format_descriptions.specs.Read.{Front, item_at, going_on, after_group, read_from, items_at}
 use Rattle.format_descriptions.specs.declared.item.Item.{Item}
 use Rattle.format_descriptions.specs.declared.item.Item.TheVariants.{Byte, Part, Optional, First, Or}
 use Rattle.format_descriptions.specs.declared.parts.Parts.{Parts}

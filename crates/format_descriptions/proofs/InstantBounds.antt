@@ -1,6 +1,5 @@
 -- How large instants are.
-use Rattle.std.proofs.Common.{◌≡◌, ℕ, ◌<◌, ◌^◌, arith, ℤ, pos, ◌-ℤ◌, ◌*ℤ◌, unsigned_abs}
-use Rattle.calendar_values.specs.Clock.{nanos_per_second}
+use Rattle.std.proofs.Common.{◌≡◌, ◌<◌, ◌^◌, arith, ℤ, unsigned_abs}
 use Rattle.calendar_values.specs.SignedArith.{signed_arith, one_part}
 use Rattle.offset_times.specs.Local.{Local, IsLocal, instant_of}
 

@@ -1,17 +1,17 @@
 -- The instant of counts has them all.
-use Rattle.std.proofs.Common.{◌≡◌, ℕ, Bool, true, false, List, refl, ℤ, pos, negsuc, ◌+ℤ◌, Option, Some, None, Result, Ok, Err, inl, inr}
-use Rattle.std.specs.Prelude.{IfOk, is_some, codes, if◌then◌else◌}
+use Rattle.std.proofs.Common.{◌≡◌, ℕ, refl, ℤ, pos, negsuc, ◌+ℤ◌, None, Result, Ok, Err, inl, inr}
+use Rattle.std.specs.Prelude.{IfOk, is_some, codes}
 use Rattle.std.proofs.lemmas.Bool.{cases_Bool}
 use Rattle.calendar_values.specs.Range.{is_outside}
 use Rattle.calendar_values.specs.Refusals.{Refusal}
 use Rattle.utc_times.specs.UnixTime.{instant_or_refusal}
-use Rattle.format_descriptions.specs.InstantValues.{HasInstantParts, unix_nanoseconds, wrong_instant, instant_with, instant_at, counted_instant}
+use Rattle.format_descriptions.specs.InstantValues.{HasInstantParts, unix_nanoseconds, wrong_instant, instant_with, counted_instant}
 use Rattle.format_descriptions.specs.InstantValues.{instant_of_counts}
 use Rattle.format_descriptions.specs.declared.modifiers.UnixPrecision.{UnixPrecision}
 use Rattle.format_descriptions.specs.declared.parts.Parts.{Parts}
 use Rattle.format_descriptions.specs.declared.value_refusal.Field.{Field}
 use Rattle.format_descriptions.specs.declared.value_refusal.ValueRefusal.{ValueRefusal}
-use Rattle.format_descriptions.proofs.DateLemmas.{fits-is, fits_signed-is, or_wrong-none, kept-none}
+use Rattle.format_descriptions.proofs.DateLemmas.{fits-is, fits_signed-is, or_wrong-none, day_unless-none}
 
 HasInstantParts-of : (p : Parts) (i : ℤ) → wrong_instant p i ≡ None → HasInstantParts p i
 unfolding wrong_instant
@@ -31,7 +31,7 @@ HasInstantParts-of p i none =
 
 instant_with-has : (p : Parts) (i : ℤ) (wrong : Field) (r : Result ℤ Refusal) → instant_with p wrong r ≡ Ok i → HasInstantParts p i
 instant_with-has p i wrong (Ok other) is =
-    let both = kept-none i other (wrong_instant p other) is in rw (← both.1) (HasInstantParts-of p other both.0)
+    let both = day_unless-none i other (wrong_instant p other) is in rw (← both.1) (HasInstantParts-of p other both.0)
 instant_with-has p i wrong (Err refusal) is = absurd cc
 
 counted-has : (p : Parts) (i : ℤ) (wrong : Field) (precision : UnixPrecision) (more : ℕ) (n : ℤ)

@@ -1,17 +1,16 @@
 -- Items written one after another, and their groups.
-use Rattle.std.proofs.Common.{◌≡◌, ℕ, zero, suc, ◌+◌, ◌-◌, ◌<◌, ◌≤◌, ℤ, Bool, true, false, List, [], ◌∷◌, ◌++◌, length, drop, min, get_or}
+use Rattle.std.proofs.Common.{◌≡◌, ℕ, zero, suc, ◌+◌, ◌-◌, ◌==◌, ◌<◌, ℤ, unsigned_abs, true, false, List, [], ◌∷◌, ◌++◌, length}
+use Rattle.std.proofs.Common.{drop, min}
 use Rattle.std.proofs.Common.{append_assoc, append-nil}
-use Rattle.std.proofs.Common.{length-append, sym, ap, refl, ◌∙◌, arith, inl, inr, Option, Some, None}
+use Rattle.std.proofs.Common.{length-append, sym, ap, refl, ◌∙◌, arith, inl, inr, Some, None}
 use Rattle.std.proofs.lemmas.Bool.{cases_order}
 use Rattle.std.specs.Prelude.{IsAscii}
 use Rattle.std.proofs.lemmas.List.{get_or-append-add, get_or_append_left, get_or_past}
 use Rattle.calendar_values.specs.Digits.{text_capacity}
 use Rattle.format_descriptions.specs.Groups.{size_of, is_other, written_from}
-use Rattle.format_descriptions.specs.Kinds.{flat_lacking, by_kind}
-use Rattle.format_descriptions.specs.Written.{flat_text, item_text, Fits}
-use Rattle.format_descriptions.specs.declared.component.Component.{Component}
+use Rattle.format_descriptions.specs.Written.{flat_text, item_text, Fits, no_text, offset_word_text, is_year_since, year_since_text}
+use Rattle.format_descriptions.specs.declared.modifiers.UtcWord.{UtcWord}
 use Rattle.format_descriptions.specs.declared.item.Item.{Item}
-use Rattle.format_descriptions.specs.declared.item.Item.TheVariants.{Byte, Part, Optional, First, Or}
 use Rattle.format_descriptions.proofs.GroupLemmas.{written_from-drop}
 
 -- what two lists of items write
@@ -89,3 +88,15 @@ pub group_unfit : (old own others all : List ℕ) → ¬ Fits (old ++ own) → (
 group_unfit old own others all other so fits =
     other
     (omega (arith, ap (length {A = ℕ}) so, length-append (old ++ own) others, fits.0), IsAscii-left (old ++ own) others (rw so fits.1))
+
+-- what a component cannot write
+no_text-not_ascii : ¬ IsAscii no_text
+no_text-not_ascii h = omega (arith, h 0)
+
+pub no_word : (word : UtcWord) (o : ℤ) → false ≡ (unsigned_abs o == 0) → ¬ IsAscii (offset_word_text word o)
+unfolding offset_word_text
+no_word word o other = rw (← other) no_text-not_ascii
+
+pub no_year : (first : ℕ) (y : ℤ) → false ≡ is_year_since first y → ¬ IsAscii (year_since_text first y)
+unfolding year_since_text
+no_year first y other = rw (← other) no_text-not_ascii

@@ -1,8 +1,6 @@
 -- What items lack, one after another, and their groups.
 use Rattle.std.proofs.Common.{◌≡◌, ℕ, zero, suc, ◌-◌, Bool, true, false, List, [], ◌∷◌, ◌++◌, length, drop, min, refl, sym, Option, Some, None, arith}
 use Rattle.std.specs.Prelude.{if◌then◌else◌}
-use Rattle.std.proofs.lemmas.Bool.{cases_Bool}
-use Rattle.std.proofs.Common.{inl, inr}
 use Rattle.format_descriptions.specs.Groups.{size_of, is_other, written_from}
 use Rattle.format_descriptions.specs.Kinds.{flat_lacking, by_kind}
 use Rattle.format_descriptions.specs.declared.component.Component.{Component}

@@ -14,6 +14,15 @@ mod OffsetLemmas
 mod ValueLawLemmas
 pub mod InstantBounds
 mod InstantLemmas
+mod DateTimeLemmas
 mod CaseLemmas
+mod DirectLemmas
+mod DirectValueLemmas
+mod SpelledLemmas
 mod DecimalLemmas
 mod DescriptionLemmas
+mod ComponentSourceLemmas
+mod DescriptionAgainLemmas
+mod SourceLemmas
+pub mod SplitLemmas
+mod PutLemmas

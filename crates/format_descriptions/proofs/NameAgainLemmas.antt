@@ -12,7 +12,7 @@ use Rattle.calendar_values.specs.declared.weekday.Weekday.TheVariants.{Monday, T
 use Rattle.rfc3339.specs.Reading.{digit_at}
 use Rattle.format_descriptions.specs.Names.{month_of_number, weekday_of_number, name_of_month, name_of_weekday}
 use Rattle.format_descriptions.specs.Reading.{word_at, letter_at, month_at, weekday_at, period_at}
-use Rattle.format_descriptions.specs.Written.{shortened, period_text}
+use Rattle.format_descriptions.specs.Written.{name_in_form, period_text}
 use Rattle.format_descriptions.specs.declared.modifiers.Case.{Case}
 use Rattle.format_descriptions.specs.declared.modifiers.Case.TheVariants.{Upper, Lower}
 use Rattle.format_descriptions.specs.declared.modifiers.NameForm.{NameForm}
@@ -22,7 +22,7 @@ use Rattle.format_descriptions.specs.declared.modifiers.ReadCase.TheVariants.{Sa
 
 -- the name of a month
 pub month-again : (form : NameForm) (case : ReadCase) (n : ℕ) (rest : List ℕ) → 1 ≤ n → n ≤ 12
-    → month_at form case 12 (shortened form (name_of_month n) ++ rest) ≡ Some (n, rest)
+    → month_at form case 12 (name_in_form form (name_of_month n) ++ rest) ≡ Some (n, rest)
 unfolding month_at month_of_number word_at letter_at
 month-again Long case zero rest first last = absurd (omega (arith, first))
 month-again Long Same (suc zero) rest first last = refl
@@ -79,7 +79,7 @@ month-again Short case (suc (suc (suc (suc (suc (suc (suc (suc (suc (suc (suc (s
 
 -- the name of a day of the week
 pub weekday-again : (form : NameForm) (case : ReadCase) (n : ℕ) (rest : List ℕ) → n < 7
-    → weekday_at form case 7 (shortened form (name_of_weekday n) ++ rest) ≡ Some (n, rest)
+    → weekday_at form case 7 (name_in_form form (name_of_weekday n) ++ rest) ≡ Some (n, rest)
 unfolding weekday_at weekday_of_number word_at letter_at
 weekday-again Long Same zero rest last = refl
 weekday-again Long Any zero rest last = refl
@@ -134,7 +134,7 @@ period-again Lower Any hour rest = elim (cases_Bool (nat_lt hour 12)) [
 ]
 
 -- a name does not begin with a digit
-no_digit-of_month : (form : NameForm) (month : Month) (rest : List ℕ) → digit_at (shortened form (month_name month) ++ rest) ≡ None
+no_digit-of_month : (form : NameForm) (month : Month) (rest : List ℕ) → digit_at (name_in_form form (month_name month) ++ rest) ≡ None
 unfolding digit_at
 no_digit-of_month Long January rest = refl
 no_digit-of_month Long February rest = refl
@@ -161,7 +161,7 @@ no_digit-of_month Short October rest = refl
 no_digit-of_month Short November rest = refl
 no_digit-of_month Short December rest = refl
 
-no_digit-of_weekday : (form : NameForm) (weekday : Weekday) (rest : List ℕ) → digit_at (shortened form (weekday_name weekday) ++ rest) ≡ None
+no_digit-of_weekday : (form : NameForm) (weekday : Weekday) (rest : List ℕ) → digit_at (name_in_form form (weekday_name weekday) ++ rest) ≡ None
 unfolding digit_at
 no_digit-of_weekday Long Monday rest = refl
 no_digit-of_weekday Long Tuesday rest = refl
@@ -178,10 +178,10 @@ no_digit-of_weekday Short Friday rest = refl
 no_digit-of_weekday Short Saturday rest = refl
 no_digit-of_weekday Short Sunday rest = refl
 
-pub no_digit-month : (form : NameForm) (n : ℕ) (rest : List ℕ) → digit_at (shortened form (name_of_month n) ++ rest) ≡ None
+pub no_digit-month : (form : NameForm) (n : ℕ) (rest : List ℕ) → digit_at (name_in_form form (name_of_month n) ++ rest) ≡ None
 no_digit-month form n rest = no_digit-of_month form (month_of_number n) rest
 
-pub no_digit-weekday : (form : NameForm) (n : ℕ) (rest : List ℕ) → digit_at (shortened form (name_of_weekday n) ++ rest) ≡ None
+pub no_digit-weekday : (form : NameForm) (n : ℕ) (rest : List ℕ) → digit_at (name_in_form form (name_of_weekday n) ++ rest) ≡ None
 no_digit-weekday form n rest = no_digit-of_weekday form (weekday_of_number n) rest
 
 pub no_digit-period : (case : Case) (hour : ℕ) (rest : List ℕ) → digit_at (period_text case hour ++ rest) ≡ None

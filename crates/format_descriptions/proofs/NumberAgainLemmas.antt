@@ -73,7 +73,7 @@ two-again Space n rest low apart =
     ]
 two-again Bare n rest low apart = bare_two-again n rest low (apart refl)
 
-three_digits-again : (n : ℕ) (rest : List ℕ) → n < 1_000 → three_digits_at (last_digits 3 n ++ rest) ≡ Some (n, rest)
+pub three_digits-again : (n : ℕ) (rest : List ℕ) → n < 1_000 → three_digits_at (last_digits 3 n ++ rest) ≡ Some (n, rest)
 unfolding three_digits_at two_digits_at last_digits
 three_digits-again n rest low = grind (arith, nat_tests, digit_again)
 
@@ -122,6 +122,11 @@ three-again Bare n rest low apart = elim (cases_Bool (nat_lt n 100)) [
 pub nine-again : (n : ℕ) (rest : List ℕ) → n < 1_000_000_000 → counted_at 9 100_000_000 (last_digits 9 n ++ rest) ≡ Some (n, rest)
 unfolding counted_at last_digits
 nine-again n rest low = grind (arith, nat_tests, digit_again)
+
+-- six digits
+pub six_digits-again : (n : ℕ) (rest : List ℕ) → n < 1_000_000 → counted_at 6 100_000 (last_digits 6 n ++ rest) ≡ Some (n, rest)
+unfolding counted_at last_digits
+six_digits-again n rest low = grind (arith, nat_tests, digit_again)
 
 -- digits, and no other digit behind them
 digits_apart : (unit : ℕ) (digits rest : List ℕ) → list_all is_ascii_digit digits ≡ true → digit_at rest ≡ None

@@ -1,10 +1,11 @@
 -- The parts so far are those of one value, and stay so.
-use Rattle.std.proofs.Common.{◌≡◌, ℕ, Bool, true, false, refl, sym, arith, ℤ, pos, unsigned_abs, Option, Some, None, inl, inr}
+use Rattle.std.proofs.Common.{◌≡◌, ℕ, ◌%◌, Bool, true, false, refl, sym, arith, ℤ, pos, unsigned_abs, Option, Some, None, inl, inr}
 use Rattle.std.specs.Prelude.{IfSome, int_lt}
 use Rattle.std.specs.Cmp.{signed_Decides}
 use Rattle.std.proofs.lemmas.Bool.{cases_Bool}
 use Rattle.std.proofs.lemmas.Bool.Decides.{nat_tests}
 use Rattle.calendar_values.specs.Calendar.{year_of}
+use Rattle.calendar_values.specs.Clock.{minute_of, second_of, nanosecond_of, nanos_per_hour, nanos_per_minute}
 use Rattle.calendar_values.specs.SignedArith.{signed_arith}
 use Rattle.calendar_values.specs.Weeks.{iso_year_of}
 use Rattle.format_descriptions.specs.PartTests.{signed, fits, fits_signed, fits_choice}
@@ -16,6 +17,8 @@ use Rattle.format_descriptions.specs.declared.component.Component.TheVariants.{Y
 use Rattle.format_descriptions.specs.declared.component.Component.TheVariants.{WeekdayName, WeekdayNumber, WeekNumber, Hour, Hour12, Period, Minute}
 use Rattle.format_descriptions.specs.declared.component.Component.TheVariants.{Second, Subsecond}
 use Rattle.format_descriptions.specs.declared.component.Component.TheVariants.{OffsetHour, OffsetMinute, OffsetSecond, UnixTimestamp, Ignore, End}
+use Rattle.format_descriptions.specs.declared.component.Component.TheVariants.{IgnoreWeekday, IgnoreDigits, OffsetWord, YearSince, YearSix}
+use Rattle.format_descriptions.specs.declared.component.Component.TheVariants.{HourFraction, MinuteFraction}
 use Rattle.format_descriptions.specs.declared.modifiers.UnixPrecision.TheVariants.{Seconds, Milliseconds, Microseconds, Nanoseconds}
 use Rattle.format_descriptions.specs.declared.modifiers.WeekRule.TheVariants.{Iso, Sunday, Monday}
 use Rattle.format_descriptions.specs.declared.modifiers.YearBase.TheVariants.{Calendar, IsoWeek}
@@ -40,6 +43,15 @@ signed-of n = elim (cases_Bool (int_lt n (pos 0))) [
   | inl t ↦ rw t (grind (arith, signed_arith))
   | inr f ↦ rw f (grind (arith, signed_arith))
 ]
+
+-- the nanoseconds of an hour have its minute, its second and its nanosecond
+in_hour : (clock : ℕ) → (minute_of (clock % nanos_per_hour) ≡ minute_of clock) × (second_of (clock % nanos_per_hour) ≡ second_of clock) ×
+    (nanosecond_of (clock % nanos_per_hour) ≡ nanosecond_of clock)
+in_hour clock = (omega arith, omega arith, omega arith)
+
+-- the nanoseconds of a minute have its second and its nanosecond
+in_minute : (clock : ℕ) → (second_of (clock % nanos_per_minute) ≡ second_of clock) × (nanosecond_of (clock % nanos_per_minute) ≡ nanosecond_of clock)
+in_minute clock = (omega arith, omega arith)
 
 -- what a component gives of the value contradicts none of its parts
 pub agrees-same : (c : Component) (day : ℤ) (clock : ℕ) (o : ℤ) (p : Parts) → AreParts p day clock o → agrees c (number_of c day clock o) p ≡ true
@@ -80,6 +92,22 @@ agrees-same (UnixTimestamp Nanoseconds sign) day clock o p h =
     rw (signed-of (unix_count Nanoseconds day clock o)) (fits_signed-same p.unix_nanosecond _ h.unix_nanosecond)
 agrees-same (Ignore count) day clock o p h = refl
 agrees-same End day clock o p h = refl
+agrees-same (IgnoreWeekday form case) day clock o p h = refl
+agrees-same IgnoreDigits day clock o p h = refl
+agrees-same (OffsetWord word case) day clock o p h =
+    rw (
+      fits_choice-same p.is_west _ h.is_west,
+      fits-same p.offset_hour _ h.offset_hour,
+      fits-same p.offset_minute _ h.offset_minute,
+    ) (fits-same p.offset_second _ h.offset_second)
+agrees-same (YearSince first) day clock o p h = rw (signed-of (year_of day)) (fits_signed-same p.year (year_of day) h.year)
+agrees-same (YearSix Calendar) day clock o p h = rw (signed-of (year_of day)) (fits_signed-same p.year (year_of day) h.year)
+agrees-same (YearSix IsoWeek) day clock o p h = rw (signed-of (iso_year_of day)) (fits_signed-same p.iso_year (iso_year_of day) h.iso_year)
+agrees-same (HourFraction digits) day clock o p h =
+    let same = in_hour clock in
+    rw (same.0, same.1, same.2, fits-same p.minute _ h.minute, fits-same p.second _ h.second) (fits-same p.nanosecond _ h.nanosecond)
+agrees-same (MinuteFraction digits) day clock o p h =
+    let same = in_minute clock in rw (same.0, same.1, fits-same p.second _ h.second) (fits-same p.nanosecond _ h.nanosecond)
 
 -- the parts with what a component gives of the value are those of the value
 pub AreParts-next : (c : Component) (day : ℤ) (clock : ℕ) (o : ℤ) (p : Parts) → AreParts p day clock o
@@ -115,6 +143,14 @@ AreParts-next (UnixTimestamp Microseconds sign) day clock o p h = assumption (h,
 AreParts-next (UnixTimestamp Nanoseconds sign) day clock o p h = assumption (h, signed-of (unix_count Nanoseconds day clock o))
 AreParts-next (Ignore count) day clock o p h = h
 AreParts-next End day clock o p h = h
+AreParts-next (IgnoreWeekday form case) day clock o p h = h
+AreParts-next IgnoreDigits day clock o p h = h
+AreParts-next (OffsetWord word case) day clock o p h = assumption (h, refl)
+AreParts-next (YearSince first) day clock o p h = assumption (h, signed-of (year_of day))
+AreParts-next (YearSix Calendar) day clock o p h = assumption (h, signed-of (year_of day))
+AreParts-next (YearSix IsoWeek) day clock o p h = assumption (h, signed-of (iso_year_of day))
+AreParts-next (HourFraction digits) day clock o p h = let same = in_hour clock in assumption (h, same.0, same.1, same.2)
+AreParts-next (MinuteFraction digits) day clock o p h = let same = in_minute clock in assumption (h, same.0, same.1)
 
 -- nothing is known
 pub AreParts-none : (day : ℤ) (clock : ℕ) (o : ℤ) → AreParts no_parts day clock o

@@ -1,9 +1,9 @@
 -- Items read one after another, and their groups.
-use Rattle.std.proofs.Common.{◌≡◌, ℕ, zero, suc, ◌-◌, Bool, true, false, List, [], ◌∷◌, length, drop, min, refl, sym, Option, Some, None, Result, Ok, Err}
+use Rattle.std.proofs.Common.{◌≡◌, ℕ, zero, suc, ◌-◌, true, false, List, [], ◌∷◌, length, drop, min, refl, sym, Option, Some, None, Ok, Err}
 use Rattle.std.proofs.Common.{◌≤◌, arith}
 use Rattle.std.specs.Prelude.{IfSome}
 use Rattle.format_descriptions.specs.Groups.{size_of, is_other, fault_after}
-use Rattle.format_descriptions.specs.Read.{Front, Reader, item_at, read_from, read_end, read_instead, tried}
+use Rattle.format_descriptions.specs.Read.{Front, Reader, item_at, read_from, read_end, read_instead, try_group}
 use Rattle.format_descriptions.specs.declared.item.Item.{Item}
 use Rattle.format_descriptions.specs.declared.item.Item.TheVariants.{Byte, Part, Optional, First, Or}
 use Rattle.format_descriptions.specs.declared.parts.Parts.{Parts}
@@ -64,24 +64,24 @@ read_passed item items others size count n fault text p all front place none hea
 -- a group that is tried: nothing is read behind a fault but another group
 pub tried_first : (item : Item) (items others : List Item) (size count n : ℕ) (fault : Option ℕ) (text : List ℕ) (p : Parts) (all : Front)
     → items ≡ item ∷ others → count ≡ suc n → fault ≡ None → Some size ≡ size_of item → is_other item ≡ false
-    → read_from items 0 count fault text p ≡ all → tried item size (λ s n f t q. read_from others s n f t q) n fault text p ≡ all
+    → read_from items 0 count fault text p ≡ all → try_group item size (λ s n f t q. read_from others s n f t q) n fault text p ≡ all
 unfolding read_from
 tried_first item items others size count n fault text p all front place none head own so = rw none (rw (front, place, none, ← head, own) at so)
 
 pub tried_instead : (item : Item) (items others : List Item) (size count n left : ℕ) (fault : Option ℕ) (text : List ℕ) (p : Parts) (all : Front)
     → items ≡ item ∷ others → count ≡ suc n → fault ≡ Some left → Some size ≡ size_of item → is_other item ≡ true
-    → read_from items 0 count fault text p ≡ all → tried item size (λ s n f t q. read_from others s n f t q) n (Some left) text p ≡ all
+    → read_from items 0 count fault text p ≡ all → try_group item size (λ s n f t q. read_from others s n f t q) n (Some left) text p ≡ all
 unfolding read_from
 tried_instead item items others size count n left fault text p all front place some head other so =
     rw (front, place, some, ← head, other) at so
 
 pub group_read : (item : Item) (others : List Item) (size n : ℕ) (fault : Option ℕ) (text rest : List ℕ) (p q : Parts) (all : Front)
-    → Ok (q, rest) ≡ read_from others 0 (min size n) None text p → tried item size (λ s n f t q. read_from others s n f t q) n fault text p ≡ all
+    → Ok (q, rest) ≡ read_from others 0 (min size n) None text p → try_group item size (λ s n f t q. read_from others s n f t q) n fault text p ≡ all
     → read_from (drop size others) 0 (n - size) None rest q ≡ all
 group_read item others size n fault text rest p q all is so = rw (← read_from-drop others size (n - size) None rest q) (rw (← is) at so)
 
 pub group_fault : (item : Item) (others : List Item) (size n left : ℕ) (fault : Option ℕ) (text : List ℕ) (p : Parts) (all : Front)
-    → Err left ≡ read_from others 0 (min size n) None text p → tried item size (λ s n f t q. read_from others s n f t q) n fault text p ≡ all
+    → Err left ≡ read_from others 0 (min size n) None text p → try_group item size (λ s n f t q. read_from others s n f t q) n fault text p ≡ all
     → read_from (drop size others) 0 (n - size) (fault_after item fault left) text p ≡ all
 group_fault item others size n left fault text p all is so =
     rw (← read_from-drop others size (n - size) (fault_after item fault left) text p) (rw (← is) at so)

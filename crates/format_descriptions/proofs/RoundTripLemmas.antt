@@ -22,16 +22,16 @@ use Rattle.rfc3339.specs.Reading.{digit_at}
 use Rattle.format_descriptions.specs.Modifiers.{is_padded, is_mandatory, is_extended, digit_count}
 use Rattle.format_descriptions.specs.Groups.{written_items}
 use Rattle.format_descriptions.specs.Read.{items_at, item_at, component_at, with_part, no_parts}
-use Rattle.format_descriptions.specs.Reading.{fraction_at, sign_at, signed_year_at, signed_century_at, signed_hours_at}
+use Rattle.format_descriptions.specs.Reading.{fraction_at, sign_at, six_at, signed_year_at, signed_century_at, signed_hours_at}
 use Rattle.format_descriptions.specs.RoundTrips.{takes_digits, is_whole, begins_apart, starts_apart, are_clear, is_clear, number_of, flat_parts}
 use Rattle.format_descriptions.specs.RoundTrips.{parts_of, AreParts, AreWritten}
 use Rattle.format_descriptions.specs.Written.{items_text, flat_text, item_text, component_text, year_by, year_sign, year_text, four_text}
-use Rattle.format_descriptions.specs.Written.{century_text, century_digits}
+use Rattle.format_descriptions.specs.Written.{century_text, century_digits, six_text}
 use Rattle.format_descriptions.specs.Written.{week_by, subsecond_text, offset_hour_text, hour_12, unix_count, unix_text}
 use Rattle.format_descriptions.proofs.DecimalLemmas.{unix-again}
 use Rattle.format_descriptions.proofs.GroupLemmas.{flat_at, items_at-written}
 use Rattle.format_descriptions.proofs.NameAgainLemmas.{month-again, weekday-again, period-again, no_digit-month, no_digit-weekday, no_digit-period}
-use Rattle.format_descriptions.proofs.NumberAgainLemmas.{two-again, three-again, four-again, more-again, nine-again, all-again}
+use Rattle.format_descriptions.proofs.NumberAgainLemmas.{two-again, three-again, four-again, more-again, nine-again, all-again, six_digits-again}
 use Rattle.format_descriptions.proofs.NumberAgainLemmas.{weekday_number-again, no_sign-two, no_sign-four_text}
 use Rattle.format_descriptions.proofs.PartLemmas.{agrees-same, AreParts-next, AreParts-none}
 use Rattle.format_descriptions.specs.declared.component.Component.{Component}
@@ -39,6 +39,8 @@ use Rattle.format_descriptions.specs.declared.component.Component.TheVariants.{Y
 use Rattle.format_descriptions.specs.declared.component.Component.TheVariants.{WeekdayName, WeekdayNumber, WeekNumber, Hour, Hour12, Period, Minute}
 use Rattle.format_descriptions.specs.declared.component.Component.TheVariants.{Second, Subsecond}
 use Rattle.format_descriptions.specs.declared.component.Component.TheVariants.{OffsetHour, OffsetMinute, OffsetSecond, UnixTimestamp, Ignore, End}
+use Rattle.format_descriptions.specs.declared.component.Component.TheVariants.{IgnoreWeekday, IgnoreDigits, OffsetWord, YearSince, YearSix}
+use Rattle.format_descriptions.specs.declared.component.Component.TheVariants.{HourFraction, MinuteFraction}
 use Rattle.format_descriptions.specs.declared.item.Item.{Item}
 use Rattle.format_descriptions.specs.declared.item.Item.TheVariants.{Byte, Part, Optional, First, Or}
 use Rattle.format_descriptions.specs.declared.modifiers.Padding.{Padding}
@@ -147,6 +149,15 @@ hours-again Mandatory padding o rest low apart =
       | inr east ↦ rw (east, hours) refl
     ]
 
+-- a sign and six digits
+six-again : (y : ℤ) (rest : List ℕ) → pos 0 ≤ℤ y → y ≤ℤ pos 9_999
+    → six_at (six_text y ++ rest) ≡ Some ((int_lt y (pos 0), unsigned_abs y), rest)
+unfolding six_at six_text sign_at
+six-again y rest low high =
+    let first : int_lt y (pos 0) ≡ false = grind (arith, signed_arith) in
+    let below : unsigned_abs y < 1_000_000 = omega (arith, signed_arith, low, high) in
+    rw (first, six_digits-again (unsigned_abs y) rest below) refl
+
 -- a fraction that is not cut
 fraction-again : (digits : SubsecondDigits) (n : ℕ) (rest : List ℕ) → n < 1_000_000_000
     → IsTrue ((digit_count digits == 0) || (digit_count digits == 9)) → (IsTrue (digit_count digits == 0) → digit_at rest ≡ None)
@@ -217,6 +228,15 @@ component-again (UnixTimestamp precision sign) day clock o rest whole apart w =
     unix-again precision sign day clock o rest w.year_first w.year_last w.is_clock w.is_offset (apart refl)
 component-again (Ignore count) day clock o rest whole apart w = absurd cc
 component-again End day clock o rest whole apart w = absurd cc
+component-again (IgnoreWeekday form case) day clock o rest whole apart w =
+    rw (weekday-again form case (weekday_of day) rest (weekday_of-bound day)) refl
+component-again IgnoreDigits day clock o rest whole apart w = absurd cc
+component-again (OffsetWord word case) day clock o rest whole apart w = absurd cc
+component-again (YearSince first) day clock o rest whole apart w = absurd cc
+component-again (YearSix Calendar) day clock o rest whole apart w = six-again (year_of day) rest w.year_first w.year_last
+component-again (YearSix IsoWeek) day clock o rest whole apart w = absurd cc
+component-again (HourFraction digits) day clock o rest whole apart w = absurd cc
+component-again (MinuteFraction digits) day clock o rest whole apart w = absurd cc
 
 -- a sign is no digit
 no_digit-sign : (sign : Sign) (y : ℤ) (rest : List ℕ) → IsTrue (is_mandatory sign) → digit_at (year_sign sign y ++ rest) ≡ None
@@ -231,6 +251,12 @@ no_digit-year : (sign : Sign) (padding : Padding) (y : ℤ) (rest : List ℕ) �
 unfolding year_text
 no_digit-year sign padding y rest h =
     rw (append_assoc (year_sign sign y) (four_text padding (unsigned_abs y)) rest) (no_digit-sign sign y (four_text padding (unsigned_abs y) ++ rest) h)
+
+no_digit-six : (y : ℤ) (rest : List ℕ) → digit_at (six_text y ++ rest) ≡ None
+unfolding six_text
+no_digit-six y rest =
+    let digits = last_digits 6 (unsigned_abs y) in
+    rw (append_assoc (year_sign Mandatory y) digits rest) (no_digit-sign Mandatory y (digits ++ rest) refl)
 
 no_digit-century : (sign : Sign) (padding : Padding) (y : ℤ) (rest : List ℕ) → IsTrue (is_mandatory sign)
     → digit_at (century_text sign padding y ++ rest) ≡ None
@@ -282,6 +308,13 @@ component-apart (OffsetSecond padding) day clock o rest h = absurd cc
 component-apart (UnixTimestamp precision sign) day clock o rest h = no_digit-unix sign (unix_count precision day clock o) rest h
 component-apart (Ignore count) day clock o rest h = absurd cc
 component-apart End day clock o rest h = absurd cc
+component-apart (IgnoreWeekday form case) day clock o rest h = no_digit-weekday form (weekday_of day) rest
+component-apart IgnoreDigits day clock o rest h = absurd cc
+component-apart (OffsetWord word case) day clock o rest h = absurd cc
+component-apart (YearSince first) day clock o rest h = absurd cc
+component-apart (YearSix base) day clock o rest h = no_digit-six (year_by base day) rest
+component-apart (HourFraction digits) day clock o rest h = absurd cc
+component-apart (MinuteFraction digits) day clock o rest h = absurd cc
 
 byte-apart : (byte : ℕ) (rest : List ℕ) → IsTrue (not (is_ascii_digit byte)) → digit_at (byte ∷ rest) ≡ None
 unfolding digit_at

@@ -1,4 +1,4 @@
--- What is read in the case that is written is read in any case, and gives the same parts.
+-- Items without groups that read a text also read it in any case, and return the same parts.
 use Rattle.std.specs.Prelude.{◌≡◌, ℕ, List, [], ◌∷◌, IsTrue, Ok}
 use Rattle.format_descriptions.specs.Groups.{has_no_group}
 use Rattle.format_descriptions.specs.Read.{items_at}
@@ -7,12 +7,14 @@ use Rattle.format_descriptions.specs.declared.component.Component.TheVariants.{Y
 use Rattle.format_descriptions.specs.declared.component.Component.TheVariants.{WeekdayName, WeekdayNumber, WeekNumber, Hour, Hour12, Period, Minute}
 use Rattle.format_descriptions.specs.declared.component.Component.TheVariants.{Second, Subsecond}
 use Rattle.format_descriptions.specs.declared.component.Component.TheVariants.{OffsetHour, OffsetMinute, OffsetSecond, UnixTimestamp, Ignore, End}
+use Rattle.format_descriptions.specs.declared.component.Component.TheVariants.{IgnoreWeekday, IgnoreDigits, OffsetWord, YearSince, YearSix}
+use Rattle.format_descriptions.specs.declared.component.Component.TheVariants.{HourFraction, MinuteFraction}
 use Rattle.format_descriptions.specs.declared.item.Item.{Item}
 use Rattle.format_descriptions.specs.declared.item.Item.TheVariants.{Byte, Part, Optional, First, Or}
 use Rattle.format_descriptions.specs.declared.modifiers.ReadCase.TheVariants.{Any}
 use Rattle.format_descriptions.specs.declared.parts.Parts.{Parts}
 
--- a component whose letters are read in any case
+-- the component that reads its letters in any case
 abbrev pub in_any_case : Component → Component
 in_any_case (Year base sign padding range) = Year base sign padding range
 in_any_case (YearCentury base sign padding range) = YearCentury base sign padding range
@@ -36,8 +38,15 @@ in_any_case (OffsetSecond padding) = OffsetSecond padding
 in_any_case (UnixTimestamp precision sign) = UnixTimestamp precision sign
 in_any_case (Ignore count) = Ignore count
 in_any_case End = End
+in_any_case (IgnoreWeekday form case) = IgnoreWeekday form Any
+in_any_case IgnoreDigits = IgnoreDigits
+in_any_case (OffsetWord word case) = OffsetWord word Any
+in_any_case (YearSince first) = YearSince first
+in_any_case (YearSix base) = YearSix base
+in_any_case (HourFraction digits) = HourFraction digits
+in_any_case (MinuteFraction digits) = MinuteFraction digits
 
--- items whose letters are read in any case
+-- the items that read their letters in any case
 abbrev pub items_in_any_case : List Item → List Item
 items_in_any_case [] = []
 items_in_any_case (Byte byte ∷ items) = Byte byte ∷ items_in_any_case items
@@ -46,7 +55,7 @@ items_in_any_case (First size ∷ items) = First size ∷ items_in_any_case item
 items_in_any_case (Or size ∷ items) = Or size ∷ items_in_any_case items
 items_in_any_case (Part component ∷ items) = Part (in_any_case component) ∷ items_in_any_case items
 
--- a text that items without groups read is read by them in any case, and has the same parts
+-- items without groups that read a text also read it in any case, and return the same parts
 abbrev pub AnyCaseReadsTheSame : Type 0
 AnyCaseReadsTheSame =
     (items : List Item) (text : List ℕ) (p parts : Parts) → IsTrue (has_no_group items) → items_at items text p ≡ Ok parts

@@ -26,7 +26,7 @@ pub record HasTimeParts (p : Parts) (clock : ℕ) : Type 0 where
 abbrev pub tells_time : Parts → Bool
 tells_time p = is_some p.hour || (is_some p.hour_12 && is_some p.is_afternoon)
 
--- the time of day of an hour, or the first part that is out of its range or not that of the hour
+-- the time of day of an hour, or the first part that is out of range or not that of the hour
 unfoldable pub clock_at : Parts → ℕ → Result ℕ ValueRefusal
 clock_at p h =
     if nat_lt 23 h then Err (Wrong Hour)
@@ -50,11 +50,11 @@ clock_by_half p None half = Err (Missing Hour)
 clock_by_half p (Some h) None = Err (Missing Period)
 clock_by_half p (Some h) (Some is_afternoon) = clock_of_half p h is_afternoon
 
--- by the hour of the day, or else by that of a clock of 12 hours
+-- the time of day by the hour of the day, or else by that of a clock of 12 hours
 abbrev pub clock_by : Parts → Option ℕ → Result ℕ ValueRefusal
 clock_by p None = clock_by_half p p.hour_12 p.is_afternoon
 clock_by p (Some h) = clock_at p h
 
--- the time of day that the parts name, or why there is none
+-- the time of day that the parts name, or the error
 unfoldable pub time_of_parts : Parts → Result ℕ ValueRefusal
 time_of_parts p = clock_by p p.hour

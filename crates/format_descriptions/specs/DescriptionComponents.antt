@@ -1,5 +1,5 @@
 -- The components that descriptions name.
-use Rattle.std.specs.Prelude.{ℕ, Option, Some, None, option_map}
+use Rattle.std.specs.Prelude.{Option, Some, option_map}
 use Rattle.format_descriptions.specs.declared.component.Component.{Component}
 use Rattle.format_descriptions.specs.declared.component.Component.TheVariants as of
 use Rattle.format_descriptions.specs.declared.description_modifiers.Modifiers.{Modifiers}
@@ -13,32 +13,32 @@ use Rattle.format_descriptions.specs.declared.modifiers.NameForm.TheVariants.{Lo
 use Rattle.format_descriptions.specs.declared.modifiers.WeekRule.TheVariants.{Iso as IsoWeeks, Sunday as SundayWeeks, Monday as MondayWeeks}
 use Rattle.format_descriptions.specs.declared.modifiers.WeekStart.TheVariants.{Sunday as FromSunday, Monday as FromMonday}
 
--- a year, in its form
+-- the component of a year, by its form
 abbrev pub year_of : Modifiers → Option Repr → Component
 year_of m (Some Century) = of.YearCentury m.base m.sign m.padding m.range
 year_of m (Some LastTwo) = of.YearLastTwo m.base m.padding
 year_of m form = of.Year m.base m.sign m.padding m.range
 
--- a month, in its form
+-- the component of a month, by its form
 abbrev pub month_of : Modifiers → Option Repr → Component
 month_of m (Some Long) = of.MonthName LongName m.read_case
 month_of m (Some Short) = of.MonthName ShortName m.read_case
 month_of m form = of.Month m.padding
 
--- a day of the week, in its form
+-- the component of a day of the week, by its form
 abbrev pub weekday_of : Modifiers → Option Repr → Component
 weekday_of m (Some Short) = of.WeekdayName ShortName m.read_case
 weekday_of m (Some Sunday) = of.WeekdayNumber FromSunday m.first_number
 weekday_of m (Some Monday) = of.WeekdayNumber FromMonday m.first_number
 weekday_of m form = of.WeekdayName LongName m.read_case
 
--- a week of the year, by its rule
+-- the component of a week of the year, by its rule
 abbrev pub week_of : Modifiers → Option Repr → Component
 week_of m (Some Sunday) = of.WeekNumber SundayWeeks m.padding
 week_of m (Some Monday) = of.WeekNumber MondayWeeks m.padding
 week_of m form = of.WeekNumber IsoWeeks m.padding
 
--- an hour, by its clock
+-- the component of an hour, by its clock
 abbrev pub hour_of : Modifiers → Option Repr → Component
 hour_of m (Some Twelve) = of.Hour12 m.padding
 hour_of m form = of.Hour m.padding

@@ -1,5 +1,5 @@
 -- The modifiers of a component.
-use Rattle.std.specs.Prelude.{ℕ, List, [], ◌∷◌, length, codes, Bool, true, false, if◌then◌else◌, Option, Some, None, Result, Ok, Err}
+use Rattle.std.specs.Prelude.{ℕ, List, length, codes, Bool, true, false, if◌then◌else◌, Option, Some, None, Result, Ok, Err}
 use Rattle.rfc3339.specs.Reading.{◌>>=◌}
 use Rattle.format_descriptions.specs.DescriptionWords.{name_rest}
 use Rattle.format_descriptions.specs.DescriptionValues.{padding_at, sign_rule_at, case_at, read_case_at, first_number_at, base_at, range_at}
@@ -26,7 +26,7 @@ use Rattle.format_descriptions.specs.declared.modifiers.YearRange.TheVariants.{E
 use Rattle.format_descriptions.specs.declared.modifiers.SubsecondDigits.TheVariants.{OneOrMore}
 use Rattle.format_descriptions.specs.declared.modifiers.UnixPrecision.TheVariants.{Seconds}
 
--- a modifier whose word was found, with what follows, or else what the others give
+-- a modifier whose word was found, with the rest of the text, or else the result of the others
 abbrev pub key_or : Key → Option (List ℕ) → Option (Key × List ℕ) → Option (Key × List ℕ)
 key_or key None others = others
 key_or key (Some value) others = Some (key, value)
@@ -317,7 +317,7 @@ repr_at UnixTimestamp text = None
 repr_at Ignore text = None
 repr_at End text = None
 
--- no modifier is given
+-- the modifiers of a component that names none
 abbrev pub no_modifiers : Modifiers
 no_modifiers = record {
   padding = Zero;
@@ -347,17 +347,17 @@ with_value name Digits value m = subsecond_digits_at value >>= λ v. Some (recor
 with_value name Precision value m = precision_at value >>= λ v. Some (record m { precision = v })
 with_value name Count value m = count_from 0 value >>= λ v. Some (record m { count = Some v })
 
--- the modifiers with a value, or that it is none of its modifier
+-- the modifiers with a value, or the fault if the value is invalid
 abbrev pub value_or : List ℕ → Option Modifiers → Result Modifiers (DescriptionFault × ℕ)
 value_or value None = Err (WrongValue, length value)
 value_or value (Some m) = Ok m
 
--- the modifiers with that of a name, if the component takes it
+-- the modifiers with a named one, or the fault: the component does not take it, or its value is invalid
 abbrev pub key_given : Name → List ℕ → Modifiers → Option (Key × List ℕ) → Result Modifiers (DescriptionFault × ℕ)
 key_given name text m None = Err (UnknownModifier, length text)
 key_given name text m (Some found) =
     if takes name found.0 then value_or found.1 (with_value name found.0 found.1 m) else Err (UnknownModifier, length text)
 
--- the modifiers with that at the front of a text, or what is wrong with it and how many bytes are left there
+-- the modifiers with that at the front of a text, or its fault and the number of bytes left there
 unfoldable pub modifier_at : Name → List ℕ → Modifiers → Result Modifiers (DescriptionFault × ℕ)
 modifier_at name text m = key_given name text m (key_at text)

@@ -1,5 +1,5 @@
 -- The instant that the Unix timestamps of parts name: each count that is known is that of it.
-use Rattle.std.specs.Prelude.{◌≡◌, ℕ, ◌||◌, ◌&&◌, Bool, true, false, if◌then◌else◌, codes, int_lt, ℤ, pos, negsuc, ◌+ℤ◌, ◌*ℤ◌}
+use Rattle.std.specs.Prelude.{◌≡◌, ℕ, if◌then◌else◌, codes, ℤ, pos, negsuc, ◌+ℤ◌, ◌*ℤ◌}
 use Rattle.std.specs.Prelude.{IfSome, Option, Some, None, Result, Ok, Err, is_some}
 use Rattle.calendar_values.specs.Clock.{nanos_per_second, nanos_per_millisecond, nanos_per_microsecond}
 use Rattle.calendar_values.specs.Range.{is_outside}
@@ -9,7 +9,7 @@ use Rattle.stamp_times.specs.Instants.{unix_milliseconds_of, unix_microseconds_o
 use Rattle.utc_times.specs.UnixTime.{instant_or_refusal}
 use Rattle.format_descriptions.specs.ClockValues.{or_zero}
 use Rattle.format_descriptions.specs.PartTests.{fits, fits_signed}
-use Rattle.format_descriptions.specs.Values.{or_wrong, kept}
+use Rattle.format_descriptions.specs.Values.{or_wrong, day_unless}
 use Rattle.format_descriptions.specs.declared.modifiers.UnixPrecision.{UnixPrecision}
 use Rattle.format_descriptions.specs.declared.modifiers.UnixPrecision.TheVariants.{Seconds, Milliseconds, Microseconds, Nanoseconds}
 use Rattle.format_descriptions.specs.declared.parts.Parts.{Parts}
@@ -41,10 +41,10 @@ wrong_instant p i =
 
 -- an instant of the range, if each count is that of it
 abbrev pub instant_with : Parts → Field → Result ℤ Refusal → Result ℤ ValueRefusal
-instant_with p wrong (Ok i) = kept i (wrong_instant p i)
+instant_with p wrong (Ok i) = day_unless i (wrong_instant p i)
 instant_with p wrong (Err refusal) = Err (Wrong wrong)
 
--- the instant of so many nanoseconds
+-- the instant of a number of nanoseconds
 abbrev pub instant_at : Parts → Field → ℤ → Result ℤ ValueRefusal
 instant_at p wrong i = instant_with p wrong (instant_or_refusal (codes "nanoseconds") i)
 
@@ -55,13 +55,13 @@ unix_nanoseconds Milliseconds n = n *ℤ pos nanos_per_millisecond
 unix_nanoseconds Microseconds n = n *ℤ pos nanos_per_microsecond
 unix_nanoseconds Nanoseconds n = n
 
--- the instant of a count, and of nanoseconds behind it: no count has more than 23 digits
+-- the instant of a count, and of the nanoseconds after it: no count has more than 23 digits
 unfoldable pub counted_instant : Parts → Field → UnixPrecision → ℕ → ℤ → Result ℤ ValueRefusal
 counted_instant p wrong precision more n =
     if is_outside (negsuc 99_999_999_999_999_999_999_998) (pos 99_999_999_999_999_999_999_999) n then Err (Wrong wrong)
     else instant_at p wrong (unix_nanoseconds precision n +ℤ pos more)
 
--- the instant that the parts name, by the finest count that is known, or why there is none
+-- the instant that the parts name, by the finest count that is known, or the error
 unfoldable pub instant_of_counts : Parts → Result ℤ ValueRefusal
 instant_of_counts p =
     if is_some p.unix_nanosecond then counted_instant p UnixNanosecond Nanoseconds 0 (or_no_count p.unix_nanosecond)

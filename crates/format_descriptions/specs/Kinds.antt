@@ -1,4 +1,4 @@
--- The first component of which a value has no part.
+-- The first component for which a value has no part.
 use Rattle.std.specs.Prelude.{Bool, true, ◌&&◌, List, [], ◌∷◌, if◌then◌else◌, Option, Some, None}
 use Rattle.format_descriptions.specs.Groups.{written_items}
 use Rattle.format_descriptions.specs.declared.component.Component.{Component}
@@ -6,10 +6,13 @@ use Rattle.format_descriptions.specs.declared.component.Component.TheVariants.{Y
 use Rattle.format_descriptions.specs.declared.component.Component.TheVariants.{WeekdayName, WeekdayNumber, WeekNumber, Hour, Hour12, Period, Minute}
 use Rattle.format_descriptions.specs.declared.component.Component.TheVariants.{Second, Subsecond}
 use Rattle.format_descriptions.specs.declared.component.Component.TheVariants.{OffsetHour, OffsetMinute, OffsetSecond, UnixTimestamp, Ignore, End}
+use Rattle.format_descriptions.specs.declared.component.Component.TheVariants.{IgnoreWeekday, IgnoreDigits, OffsetWord, YearSince, YearSix}
+use Rattle.format_descriptions.specs.declared.component.Component.TheVariants.{HourFraction, MinuteFraction}
 use Rattle.format_descriptions.specs.declared.item.Item.{Item}
 use Rattle.format_descriptions.specs.declared.item.Item.TheVariants.{Byte, Part, Optional, First, Or}
 
--- one of three, by what a component is of: a date, a time of day or an offset; an instant is of all three, and some of none
+-- one of three booleans, by the kind of a component: a date, a time of day or an offset
+-- a Unix timestamp needs all three, and a component without a kind needs none
 abbrev pub by_kind : Component → Bool → Bool → Bool → Bool
 by_kind (Year base sign padding range) date time offset = date
 by_kind (YearCentury base sign padding range) date time offset = date
@@ -33,8 +36,15 @@ by_kind (OffsetSecond padding) date time offset = offset
 by_kind (UnixTimestamp precision sign) date time offset = date && (time && offset)
 by_kind (Ignore count) date time offset = true
 by_kind End date time offset = true
+by_kind (IgnoreWeekday form case) date time offset = date
+by_kind IgnoreDigits date time offset = true
+by_kind (OffsetWord word case) date time offset = offset
+by_kind (YearSince first) date time offset = date
+by_kind (YearSix base) date time offset = date
+by_kind (HourFraction digits) date time offset = time
+by_kind (MinuteFraction digits) date time offset = time
 
--- the first component of these items that is of another kind than those that a value has
+-- the first component of these items whose kind the value lacks
 unfoldable pub flat_lacking : Bool → Bool → Bool → List Item → Option Component
 flat_lacking date time offset [] = None
 flat_lacking date time offset (Byte byte ∷ items) = flat_lacking date time offset items
@@ -44,6 +54,6 @@ flat_lacking date time offset (Or size ∷ items) = flat_lacking date time offse
 flat_lacking date time offset (Part component ∷ items) =
     if by_kind component date time offset then flat_lacking date time offset items else Some component
 
--- the first component that a description writes of another kind than those that a value has
+-- the first component that a description writes and whose kind the value lacks
 abbrev pub lacking : Bool → Bool → Bool → List Item → Option Component
 lacking date time offset items = flat_lacking date time offset (written_items items)

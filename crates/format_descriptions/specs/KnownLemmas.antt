@@ -1,4 +1,4 @@
--- What the known descriptions write.
+-- The texts that the known descriptions write.
 use Rattle.std.proofs.Common.{◌≡◌, ◌∙◌, ap, List, ℕ, ℤ, pos, ◌≤ℤ◌, false, true, refl, arith, append_assoc, append-nil, unsigned_abs, nat_eq}
 use Rattle.std.specs.Prelude.{int_lt, nat_lt}
 use Rattle.std.proofs.lemmas.Bool.Decides.{nat_tests}

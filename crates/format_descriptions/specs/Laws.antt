@@ -1,4 +1,4 @@
--- What the known descriptions write, in the words of the texts that were proved before.
+-- The texts that the known descriptions write, in the words of the texts that were proved before.
 use Rattle.std.specs.Prelude.{◌≡◌, ◌==◌, ℕ, ℤ, false, unsigned_abs}
 use Rattle.calendar_values.specs.Texts.{date_text, time_text, offset_text}
 use Rattle.offset_times.specs.Local.{Local, local_in_utc}
@@ -7,7 +7,7 @@ use Rattle.format_descriptions.specs.Written.{items_text, described_text}
 use Rattle.format_descriptions.specs.Known.{date_items, time_items, offset_items, fixed_items, fixed_items_at}
 
 -- `[year]-[month]-[day]`, `[hour padding:none]:[minute]:[second].[subsecond]` and
--- `[offset_hour sign:mandatory]:[offset_minute]:[offset_second]` write what `Display` does
+-- `[offset_hour sign:mandatory]:[offset_minute]:[offset_second]` write the texts of `Display`
 pub record DisplaysAreDescriptions : Type 0 where
   pub date : (day : ℤ) (clock : ℕ) (o : ℤ) → items_text date_items day clock o ≡ date_text day
   pub time : (day : ℤ) (clock : ℕ) (o : ℤ) → items_text time_items day clock o ≡ time_text clock

@@ -1,5 +1,5 @@
--- What modifiers say in numbers.
-use Rattle.std.specs.Prelude.{ℕ, Bool, true, false}
+-- The numbers, the words and the tests of modifiers.
+use Rattle.std.specs.Prelude.{ℕ, Bool, true, false, List, codes}
 use Rattle.format_descriptions.specs.declared.modifiers.Padding.{Padding}
 use Rattle.format_descriptions.specs.declared.modifiers.Padding.TheVariants.{Zero, Space, Bare}
 use Rattle.format_descriptions.specs.declared.modifiers.Sign.{Sign}
@@ -10,6 +10,8 @@ use Rattle.format_descriptions.specs.declared.modifiers.ReadCase.{ReadCase}
 use Rattle.format_descriptions.specs.declared.modifiers.ReadCase.TheVariants.{Same, Any}
 use Rattle.format_descriptions.specs.declared.modifiers.UnixPrecision.{UnixPrecision}
 use Rattle.format_descriptions.specs.declared.modifiers.UnixPrecision.TheVariants.{Seconds, Milliseconds, Microseconds, Nanoseconds}
+use Rattle.format_descriptions.specs.declared.modifiers.UtcWord.{UtcWord}
+use Rattle.format_descriptions.specs.declared.modifiers.UtcWord.TheVariants.{Utc, Gmt, Zulu}
 use Rattle.format_descriptions.specs.declared.modifiers.WeekStart.{WeekStart}
 use Rattle.format_descriptions.specs.declared.modifiers.WeekStart.TheVariants.{Sunday, Monday}
 use Rattle.format_descriptions.specs.declared.modifiers.WeekdayCount.{WeekdayCount}
@@ -19,20 +21,20 @@ use Rattle.format_descriptions.specs.declared.modifiers.YearRange.TheVariants.{S
 use Rattle.format_descriptions.specs.declared.modifiers.YearBase.{YearBase}
 use Rattle.format_descriptions.specs.declared.modifiers.YearBase.TheVariants.{Calendar, IsoWeek}
 use Rattle.format_descriptions.specs.declared.component.Component.{Component}
-use Rattle.format_descriptions.specs.declared.component.Component.TheVariants.{UnixTimestamp}
+use Rattle.format_descriptions.specs.declared.component.Component.TheVariants.{UnixTimestamp, OffsetWord, YearSince, HourFraction, MinuteFraction}
 
 -- a number has a sign also where it needs none
 abbrev pub is_mandatory : Sign → Bool
 is_mandatory Automatic = false
 is_mandatory Mandatory = true
 
--- a number is brought to its width
+-- the padding brings a number to its width
 abbrev pub is_padded : Padding → Bool
 is_padded Zero = true
 is_padded Space = true
 is_padded Bare = false
 
--- how many digits of a fraction, and 0 for as many as it takes
+-- the number of digits of a fraction, or 0 for as many as it needs
 abbrev pub digit_count : SubsecondDigits → ℕ
 digit_count OneOrMore = 0
 digit_count One = 1
@@ -77,7 +79,21 @@ abbrev pub is_calendar : YearBase → Bool
 is_calendar Calendar = true
 is_calendar IsoWeek = false
 
--- the component is a Unix timestamp, whose number can be large
-abbrev pub is_timestamp : Component → Bool
-is_timestamp (UnixTimestamp precision sign) = true
-is_timestamp component = false
+-- a word for UTC
+abbrev pub utc_word : UtcWord → List ℕ
+utc_word Utc = codes "UTC"
+utc_word Gmt = codes "GMT"
+utc_word Zulu = codes "Z"
+
+-- the component has a text for some values alone
+abbrev pub is_partial : Component → Bool
+is_partial (OffsetWord word case) = true
+is_partial (YearSince first) = true
+is_partial component = false
+
+-- the number of the component can be large: it is a Unix timestamp, or nanoseconds of an hour or of a minute
+abbrev pub has_large_number : Component → Bool
+has_large_number (UnixTimestamp precision sign) = true
+has_large_number (HourFraction digits) = true
+has_large_number (MinuteFraction digits) = true
+has_large_number component = false

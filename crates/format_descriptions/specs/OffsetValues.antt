@@ -13,7 +13,7 @@ abbrev pub or_false : Option Bool → Bool
 or_false None = false
 or_false (Some b) = b
 
--- each part of an offset that is known is that of this one; the sign of 0 says nothing
+-- each part of an offset that is known is that of this one; the offset 0 has either sign
 pub record HasOffsetParts (p : Parts) (o : ℤ) : Type 0 where
   pub hour : IfSome p.offset_hour (λ known. known ≡ unsigned_abs o / 3_600)
   pub minute : or_zero p.offset_minute ≡ unsigned_abs o / 60 % 60
@@ -24,7 +24,7 @@ pub record HasOffsetParts (p : Parts) (o : ℤ) : Type 0 where
 abbrev pub tells_offset : Parts → Bool
 tells_offset p = is_some p.offset_hour
 
--- the offset of so many hours, or the first part that is out of its range
+-- the offset of a number of hours, or the first part that is out of range
 unfoldable pub offset_at : Parts → ℕ → Result ℤ ValueRefusal
 offset_at p h =
     if nat_lt 25 h then Err (Wrong OffsetHour)
@@ -37,6 +37,6 @@ abbrev pub offset_by : Parts → Option ℕ → Result ℤ ValueRefusal
 offset_by p None = Err (Missing OffsetHour)
 offset_by p (Some h) = offset_at p h
 
--- the offset that the parts name, or why there is none
+-- the offset that the parts name, or the error
 unfoldable pub offset_of_parts : Parts → Result ℤ ValueRefusal
 offset_of_parts p = offset_by p p.offset_hour

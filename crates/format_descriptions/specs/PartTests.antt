@@ -1,4 +1,4 @@
--- What a number says beside the parts that are known.
+-- Numbers with signs, and the tests of a number against a part that is known.
 use Rattle.std.specs.Prelude.{ℕ, ◌==◌, Bool, true, false, not, if◌then◌else◌, Option, Some, None, ℤ, pos, neg_ℤ}
 use Rattle.std.specs.Ordering.{int_eq}
 

@@ -1,9 +1,9 @@
--- Clear descriptions, whose texts are read back, and the parts that such a text has.
+-- Clear descriptions, which read their own texts back, and the parts that these texts have.
 use Rattle.std.specs.Prelude.{◌≡◌, ℕ, ◌/◌, ◌%◌, ◌==◌, ◌&&◌, ◌||◌, not, Bool, true, false, List, [], ◌∷◌, int_lt}
 use Rattle.std.specs.Prelude.{nat_lt, ℤ, pos, ◌≤ℤ◌, unsigned_abs, IsTrue, IfSome, Ok}
 use Rattle.std.specs.Char.{is_ascii_digit}
 use Rattle.calendar_values.specs.Calendar.{year_of, month_of, day_of_month_of, ordinal_of}
-use Rattle.calendar_values.specs.Clock.{IsClock, hour_of, minute_of, second_of, nanosecond_of}
+use Rattle.calendar_values.specs.Clock.{IsClock, hour_of, minute_of, second_of, nanosecond_of, nanos_per_hour, nanos_per_minute}
 use Rattle.calendar_values.specs.Offsets.{IsOffset}
 use Rattle.calendar_values.specs.Weeks.{weekday_of, iso_year_of, iso_week_of, sunday_week_of, monday_week_of}
 use Rattle.format_descriptions.specs.Groups.{written_items}
@@ -15,6 +15,8 @@ use Rattle.format_descriptions.specs.declared.component.Component.TheVariants.{Y
 use Rattle.format_descriptions.specs.declared.component.Component.TheVariants.{WeekdayName, WeekdayNumber, WeekNumber, Hour, Hour12, Period, Minute}
 use Rattle.format_descriptions.specs.declared.component.Component.TheVariants.{Second, Subsecond}
 use Rattle.format_descriptions.specs.declared.component.Component.TheVariants.{OffsetHour, OffsetMinute, OffsetSecond, UnixTimestamp, Ignore, End}
+use Rattle.format_descriptions.specs.declared.component.Component.TheVariants.{IgnoreWeekday, IgnoreDigits, OffsetWord, YearSince, YearSix}
+use Rattle.format_descriptions.specs.declared.component.Component.TheVariants.{HourFraction, MinuteFraction}
 use Rattle.format_descriptions.specs.declared.item.Item.{Item}
 use Rattle.format_descriptions.specs.declared.item.Item.TheVariants.{Byte, Part, Optional, First, Or}
 use Rattle.format_descriptions.specs.declared.modifiers.UnixPrecision.TheVariants.{Seconds, Milliseconds, Microseconds, Nanoseconds}
@@ -44,8 +46,15 @@ takes_digits (OffsetSecond padding) = not (is_padded padding)
 takes_digits (UnixTimestamp precision sign) = true
 takes_digits (Ignore count) = false
 takes_digits End = false
+takes_digits (IgnoreWeekday form case) = false
+takes_digits IgnoreDigits = true
+takes_digits (OffsetWord word case) = false
+takes_digits (YearSince first) = false
+takes_digits (YearSix base) = false
+takes_digits (HourFraction digits) = digit_count digits == 0
+takes_digits (MinuteFraction digits) = digit_count digits == 0
 
--- the text of a component gives it in full: a fraction is not cut
+-- the text of a component has its whole value: a fraction is not cut
 abbrev pub is_whole : Component → Bool
 is_whole (Year base sign padding range) = is_calendar base
 is_whole (YearCentury base sign padding range) = is_calendar base
@@ -69,6 +78,13 @@ is_whole (OffsetSecond padding) = true
 is_whole (UnixTimestamp precision sign) = true
 is_whole (Ignore count) = false
 is_whole End = false
+is_whole (IgnoreWeekday form case) = true
+is_whole IgnoreDigits = false
+is_whole (OffsetWord word case) = false
+is_whole (YearSince first) = false
+is_whole (YearSix base) = is_calendar base
+is_whole (HourFraction digits) = false
+is_whole (MinuteFraction digits) = false
 
 -- the text of a component never begins with a digit
 abbrev pub begins_apart : Component → Bool
@@ -94,8 +110,15 @@ begins_apart (OffsetSecond padding) = false
 begins_apart (UnixTimestamp precision sign) = is_mandatory sign
 begins_apart (Ignore count) = false
 begins_apart End = false
+begins_apart (IgnoreWeekday form case) = true
+begins_apart IgnoreDigits = false
+begins_apart (OffsetWord word case) = false
+begins_apart (YearSince first) = false
+begins_apart (YearSix base) = true
+begins_apart (HourFraction digits) = false
+begins_apart (MinuteFraction digits) = false
 
--- what the items write does not begin with a digit
+-- the text of the items does not begin with a digit
 abbrev pub starts_apart : List Item → Bool
 starts_apart [] = true
 starts_apart (Byte byte ∷ items) = not (is_ascii_digit byte)
@@ -138,6 +161,13 @@ number_of (UnixTimestamp precision sign) day clock o =
     (int_lt (unix_count precision day clock o) (pos 0), unsigned_abs (unix_count precision day clock o))
 number_of (Ignore count) day clock o = (false, 0)
 number_of End day clock o = (false, 0)
+number_of (IgnoreWeekday form case) day clock o = (false, weekday_of day)
+number_of IgnoreDigits day clock o = (false, 0)
+number_of (OffsetWord word case) day clock o = (int_lt o (pos 0), unsigned_abs o)
+number_of (YearSince first) day clock o = (int_lt (year_of day) (pos 0), unsigned_abs (year_of day))
+number_of (YearSix base) day clock o = (int_lt (year_by base day) (pos 0), unsigned_abs (year_by base day))
+number_of (HourFraction digits) day clock o = (false, clock % nanos_per_hour)
+number_of (MinuteFraction digits) day clock o = (false, clock % nanos_per_minute)
 
 -- the parts with those of the components of a description
 abbrev pub flat_parts : List Item → ℤ → ℕ → ℤ → Parts → Parts
@@ -152,7 +182,7 @@ flat_parts (Part component ∷ items) day clock o p = flat_parts items day clock
 abbrev pub parts_of : List Item → ℤ → ℕ → ℤ → Parts → Parts
 parts_of items day clock o p = flat_parts (written_items items) day clock o p
 
--- what a description writes is clear
+-- the items that a description writes are clear
 abbrev pub is_clear : List Item → Bool
 is_clear items = are_clear (written_items items)
 
@@ -195,12 +225,12 @@ pub record AreWritten (day : ℤ) (clock : ℕ) (o : ℤ) : Type 0 where
   pub is_clock : IsClock clock
   pub is_offset : IsOffset o
 
--- what the items write is read to its end, and each part that is read is that of what was written
+-- the items read their own text to its end, and each part that they read is that of the written value
 pub record ReadsBack (items : List Item) (day : ℤ) (clock : ℕ) (o : ℤ) : Type 0 where
   pub reading : items_at items (items_text items day clock o) no_parts ≡ Ok (parts_of items day clock o no_parts)
   pub parts : AreParts (parts_of items day clock o no_parts) day clock o
 
--- what a clear description writes is read back
+-- a clear description reads its own texts back
 abbrev pub WrittenTextsReadBack : Type 0
 WrittenTextsReadBack =
     (items : List Item) (day : ℤ) (clock : ℕ) (o : ℤ) → IsTrue (is_clear items) → AreWritten day clock o → ReadsBack items day clock o

@@ -1,4 +1,4 @@
--- What a clear description writes of a value names that value again.
+-- The parts that a description writes of a value name that value again.
 use Rattle.std.specs.Prelude.{◌≡◌, ℕ, Bool, List, ℤ, IsTrue, Ok, is_some, ◌&&◌}
 use Rattle.calendar_values.specs.Range.{IsDay}
 use Rattle.format_descriptions.specs.ClockValues.{tells_time, time_of_parts}
@@ -17,13 +17,13 @@ tells_clock p = tells_time p && (is_some p.minute && (is_some p.second && is_som
 abbrev pub tells_whole_offset : Parts → Bool
 tells_whole_offset p = tells_offset p && (is_some p.is_west && (is_some p.offset_minute && is_some p.offset_second))
 
--- what the items write of this value names its date, its time of day and its offset again, where they have such parts
+-- these parts name this date, this time of day and this offset again, wherever they suffice for one
 pub record NamesAgain (p : Parts) (day : ℤ) (clock : ℕ) (o : ℤ) : Type 0 where
   pub date : IsTrue (tells_date p) → date_of_parts p ≡ Ok day
   pub time : IsTrue (tells_clock p) → time_of_parts p ≡ Ok clock
   pub offset : IsTrue (tells_whole_offset p) → offset_of_parts p ≡ Ok o
 
--- the parts of what a description writes, which are read where it is clear, name the value
+-- the parts that a description writes of a value name that value, and a clear description reads these parts
 abbrev pub WrittenValuesAreNamed : Type 0
 WrittenValuesAreNamed =
     (items : List Item) (day : ℤ) (clock : ℕ) (o : ℤ) → IsDay day → AreWritten day clock o

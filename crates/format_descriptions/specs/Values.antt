@@ -73,7 +73,7 @@ abbrev pub or_wrong : Bool → Field → Option Field → Option Field
 or_wrong true field others = others
 or_wrong false field others = Some field
 
--- the first that there is
+-- the first part that there is
 abbrev pub first_of : Option Field → Option Field → Option Field
 first_of None others = others
 first_of (Some field) others = Some field
@@ -102,14 +102,14 @@ wrong_date p day =
     (first_of (wrong_year p.year p.year_century p.is_before_zero p.year_last_two (year_of day) Year YearCentury YearLastTwo)
     (wrong_year p.iso_year p.iso_year_century p.is_iso_before_zero p.iso_year_last_two (iso_year_of day) IsoYear IsoYearCentury IsoYearLastTwo)))
 
--- this day, or the part that is not that of it
-abbrev pub kept : ℤ → Option Field → Result ℤ ValueRefusal
-kept day None = Ok day
-kept day (Some field) = Err (Wrong field)
+-- this day, or the error of the part that is not that of it
+abbrev pub day_unless : ℤ → Option Field → Result ℤ ValueRefusal
+day_unless day None = Ok day
+day_unless day (Some field) = Err (Wrong field)
 
 -- this day, if each part is that of it, or else the first that is not
 abbrev pub day_with : Parts → ℤ → Result ℤ ValueRefusal
-day_with p day = kept day (wrong_date p day)
+day_with p day = day_unless day (wrong_date p day)
 
 -- the day of a month and a day of it
 unfoldable pub month_day : Parts → ℤ → ℕ → ℕ → Result ℤ ValueRefusal
@@ -126,7 +126,7 @@ year_day p y n wrong = if n == 0 || nat_lt (days_in_year y) n then Err (Wrong wr
 unfoldable pub week_ordinal : ℕ → ℤ → ℕ → ℕ → ℕ
 week_ordinal first y week weekday = (7 + first - weekday_of (year_start y)) % 7 + 1 + 7 * week + (weekday + 7 - first) % 7 - 7
 
--- the day of such a week
+-- the day of a year by a week that begins on a day of the week, and by a day of that week
 unfoldable pub week_day : ℕ → Parts → ℤ → ℕ → ℕ → Field → Result ℤ ValueRefusal
 week_day first p y week weekday wrong =
     if nat_lt 53 week then Err (Wrong wrong)
@@ -143,7 +143,7 @@ iso_day p y week weekday =
     if nat_lt 53 week then Err (Wrong IsoWeek)
     else (if nat_lt 6 weekday then Err (Wrong Weekday) else iso_day_with p (iso_week_date y week weekday))
 
--- the day by an ISO year, if that is known, or else what is missing
+-- the day by an ISO year, if that is known, or else the missing part
 abbrev pub day_in_iso_year : Parts → Field → Option ℤ → Result ℤ ValueRefusal
 day_in_iso_year p missing None = Err (Missing missing)
 day_in_iso_year p missing (Some y) = if tells_iso_day p then iso_day p y (or_zero p.iso_week) (or_zero p.weekday) else Err (Missing missing)
@@ -162,6 +162,6 @@ abbrev pub day_by_year : Parts → Option ℤ → Result ℤ ValueRefusal
 day_by_year p None = day_in_iso_year p Year (iso_year p)
 day_by_year p (Some y) = if is_outside first_year last_year y then Err (Wrong Year) else day_in_year p y
 
--- the day that the parts name, or why there is none
+-- the day that the parts name, or the error
 unfoldable pub date_of_parts : Parts → Result ℤ ValueRefusal
 date_of_parts p = day_by_year p (calendar_year p)

@@ -84,6 +84,7 @@ pub use Rattle.stamp_times.specs.Counter.{reply_of_instant}
 pub use Rattle.stamp_times.specs.Instants.{instant_of_microseconds, instant_of_milliseconds, instant_of_parts, unix_microseconds_of}
 pub use Rattle.stamp_times.specs.Instants.{unix_milliseconds_of, unix_nanosecond_of}
 unfoldable pub use Rattle.stamp_times.specs.Instants.{hashed_instant}
+pub use Rattle.stamp_times.specs.Logs.{ContainsByKey}
 unfoldable pub use Rattle.stamp_times.specs.Numbered.{month_numbered, weekday_numbered}
 pub use Rattle.stamp_times.specs.Refusals.{timestamp_outcome}
 unfoldable pub use Rattle.stamp_times.specs.Refusals.{timestamp_of_parts}
@@ -118,30 +119,48 @@ pub use Rattle.rfc3339.specs.declared.refusal.Component.TheVariants.{Day, Hour, 
 pub use Rattle.rfc3339.specs.declared.refusal.TextRefusal.TheVariants.{OutOfRange, Syntax}
 pub use Rattle.format_descriptions.specs.ClockValues.{or_zero, tells_time}
 unfoldable pub use Rattle.format_descriptions.specs.ClockValues.{clock_at, clock_of_half, time_of_parts}
+pub use Rattle.format_descriptions.specs.DateTimeValues.{HasLocalParts, HasPlainParts, IsLeapStandIn, is_leap_stand_in, is_sixty, leap_outcome}
+pub use Rattle.format_descriptions.specs.DateTimeValues.{leap_parts, with_last_nanosecond}
+unfoldable pub use Rattle.format_descriptions.specs.DateTimeValues.{leap_of_parts, local_of_parts, plain_of_parts}
 pub use Rattle.format_descriptions.specs.DescriptionComponents.{week_of}
 unfoldable pub use Rattle.format_descriptions.specs.DescriptionComponents.{component_of}
+pub use Rattle.format_descriptions.specs.DescriptionGroups.{at_front, at_spot, ends_group, head_of, in_groups, is_in_first, is_in_group, item_count}
+pub use Rattle.format_descriptions.specs.DescriptionGroups.{item_of_size}
+unfoldable pub use Rattle.format_descriptions.specs.DescriptionGroups.{began, between_groups, group_at, group_fault_at_end, group_size, group_step}
+unfoldable pub use Rattle.format_descriptions.specs.DescriptionGroups.{in_group_word, inside, unsized_step}
 pub use Rattle.format_descriptions.specs.DescriptionModifiers.{no_modifiers}
 unfoldable pub use Rattle.format_descriptions.specs.DescriptionModifiers.{common_key_at, key_at, modifier_at, own_key_at, repr_at, takes, with_value}
 unfoldable pub use Rattle.format_descriptions.specs.DescriptionModifiers.{word_key_at}
 unfoldable pub use Rattle.format_descriptions.specs.DescriptionNames.{date_name_at, name_at, other_name_at, time_name_at}
+unfoldable pub use Rattle.format_descriptions.specs.DescriptionSteps.{begin_name, between_words, escaped, fault_at_end, finish_component, in_word}
+unfoldable pub use Rattle.format_descriptions.specs.DescriptionSteps.{is_closed, open_bracket, outside, step}
+pub use Rattle.format_descriptions.specs.DescriptionTexts.{and_then, description_source, end_of_several, group_end, group_fault, group_opening}
+pub use Rattle.format_descriptions.specs.DescriptionTexts.{in_brackets, is_ignore, is_several, last_end, plain_source, refusal_of_items, unless_fault}
+pub use Rattle.format_descriptions.specs.DescriptionTexts.{with_piece, with_source}
+unfoldable pub use Rattle.format_descriptions.specs.DescriptionTexts.{byte_source, component_source, source_from}
 unfoldable pub use Rattle.format_descriptions.specs.DescriptionValues.{base_at, case_at, count_from, few_digits_at, first_number_at, hour_repr_at}
 unfoldable pub use Rattle.format_descriptions.specs.DescriptionValues.{many_digits_at, month_repr_at, padding_at, precision_at, range_at}
 unfoldable pub use Rattle.format_descriptions.specs.DescriptionValues.{read_case_at, sign_rule_at, subsecond_digits_at, week_repr_at, weekday_repr_at}
 unfoldable pub use Rattle.format_descriptions.specs.DescriptionValues.{year_repr_at}
 pub use Rattle.format_descriptions.specs.DescriptionWords.{is_white_space}
 unfoldable pub use Rattle.format_descriptions.specs.DescriptionWords.{ends_word, is_word_at, name_rest}
-pub use Rattle.format_descriptions.specs.Descriptions.{described, refusal_of}
-unfoldable pub use Rattle.format_descriptions.specs.Descriptions.{between_words, escaped, fault_at_end, finished, in_word, is_closed, opened, outside}
-unfoldable pub use Rattle.format_descriptions.specs.Descriptions.{step, unnamed}
+pub use Rattle.format_descriptions.specs.Descriptions.{items_of_description, refusal_of}
 pub use Rattle.format_descriptions.specs.Groups.{fault_after, is_other, size_of}
 unfoldable pub use Rattle.format_descriptions.specs.Groups.{written_from}
 pub use Rattle.format_descriptions.specs.InstantValues.{HasInstantParts, instant_at, or_no_count, unix_nanoseconds}
 unfoldable pub use Rattle.format_descriptions.specs.InstantValues.{counted_instant, instant_of_counts, wrong_instant}
+pub use Rattle.format_descriptions.specs.Iso8601.{clock_form, date_form, date_part, fraction_form, has_iso8601_text, has_short_year, has_time}
+pub use Rattle.format_descriptions.specs.Iso8601.{has_whole_offset, is_short_year, iso8601_date_items, iso8601_items, iso8601_time_items, mark_part}
+pub use Rattle.format_descriptions.specs.Iso8601.{offset_form, offset_part, time_part, year_form}
+unfoldable pub use Rattle.format_descriptions.specs.Iso8601.{iso8601_form}
 pub use Rattle.format_descriptions.specs.Kinds.{by_kind, lacking}
 unfoldable pub use Rattle.format_descriptions.specs.Kinds.{flat_lacking}
 pub use Rattle.format_descriptions.specs.Known.{date_items}
-pub use Rattle.format_descriptions.specs.Modifiers.{digit_count, first_number, first_weekday, is_extended, is_mandatory, is_timestamp, reads_any_case}
-pub use Rattle.format_descriptions.specs.Modifiers.{unix_digits}
+pub use Rattle.format_descriptions.specs.ModifierTexts.{base_modifier, case_modifier, count_modifier, digits_modifier, month_modifier}
+pub use Rattle.format_descriptions.specs.ModifierTexts.{padding_modifier, precision_modifier, range_modifier, read_case_modifier, rule_modifier}
+pub use Rattle.format_descriptions.specs.ModifierTexts.{sign_modifier, start_modifier, weekday_modifier}
+pub use Rattle.format_descriptions.specs.Modifiers.{digit_count, first_number, first_weekday, has_large_number, is_extended, is_mandatory, is_partial}
+pub use Rattle.format_descriptions.specs.Modifiers.{reads_any_case, unix_digits, utc_word}
 pub use Rattle.format_descriptions.specs.Names.{name_of_month, name_of_weekday}
 pub use Rattle.format_descriptions.specs.OffsetValues.{HasOffsetParts, or_false, tells_offset}
 unfoldable pub use Rattle.format_descriptions.specs.OffsetValues.{offset_at, offset_of_parts}
@@ -149,13 +168,15 @@ pub use Rattle.format_descriptions.specs.PartTests.{fits, fits_choice, fits_sign
 pub use Rattle.format_descriptions.specs.Read.{front_of, items_at, no_parts, read_end}
 unfoldable pub use Rattle.format_descriptions.specs.Read.{agrees, component_at, item_at, read_from, with_part}
 pub use Rattle.format_descriptions.specs.Reading.{digit_more, end_at, ignored_at, is_letter, nothing, unsigned, with_sign}
-unfoldable pub use Rattle.format_descriptions.specs.Reading.{counted_at, decimal_at, digits_on, four_at, letter_at, month_at, more_at, period_at}
-unfoldable pub use Rattle.format_descriptions.specs.Reading.{sign_at, signed_century_at, signed_hours_at, signed_year_at, three_at, three_digits_at}
-unfoldable pub use Rattle.format_descriptions.specs.Reading.{two_at, unix_at, weekday_at, weekday_number_at, word_at}
+unfoldable pub use Rattle.format_descriptions.specs.Reading.{counted_at, decimal_at, digits_on, four_at, letter_at, month_at, more_at, past_digits}
+unfoldable pub use Rattle.format_descriptions.specs.Reading.{period_at, sign_at, signed_century_at, signed_hours_at, signed_year_at, six_at, three_at}
+unfoldable pub use Rattle.format_descriptions.specs.Reading.{three_digits_at, two_at, unix_at, weekday_at, weekday_number_at, word_at, year_since_at}
 pub use Rattle.format_descriptions.specs.Values.{HasDateParts, calendar_year, day_in_iso_year, day_with, iso_year, tells_date, year_known}
 unfoldable pub use Rattle.format_descriptions.specs.Values.{date_of_parts, day_in_year, iso_day, month_day, week_day, week_ordinal, wrong_date}
 unfoldable pub use Rattle.format_descriptions.specs.Values.{wrong_day, wrong_week, wrong_year, year_day}
-pub use Rattle.format_descriptions.specs.Written.{Fits, described_text, items_text, shortened, unix_rounded, week_by, year_by, year_sign}
+pub use Rattle.format_descriptions.specs.WellKnown.{has_rfc2822_text, is_mail_year, rfc2822_items, rfc3339_items}
+pub use Rattle.format_descriptions.specs.Written.{Fits, described_text, is_year_since, items_text, name_in_form, unix_rounded, week_by, year_by}
+pub use Rattle.format_descriptions.specs.Written.{year_sign}
 unfoldable pub use Rattle.format_descriptions.specs.Written.{century_digits, century_text, component_text, flat_text, four_text, hour_12, item_text}
-unfoldable pub use Rattle.format_descriptions.specs.Written.{offset_hour_text, period_text, subsecond_text, three_text, two_text, unix_count}
-unfoldable pub use Rattle.format_descriptions.specs.Written.{weekday_number_by}
+unfoldable pub use Rattle.format_descriptions.specs.Written.{offset_hour_text, offset_word_text, period_text, six_text, subsecond_text, three_text}
+unfoldable pub use Rattle.format_descriptions.specs.Written.{two_text, unix_count, weekday_number_by, year_since_text}

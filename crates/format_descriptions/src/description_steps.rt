@@ -1,8 +1,8 @@
 //! Descriptions, read byte by byte.
 ghost use Rattle.std.specs.Prelude.{◌≡◌, ◌≤◌, length};
-ghost use Rattle.format_descriptions.specs.Descriptions.{is_closed, step, outside, escaped, opened};
-ghost use Rattle.format_descriptions.specs.Descriptions.{unnamed, in_word, between_words, finished};
-ghost use Rattle.format_descriptions.specs.Descriptions.{fault_at_end};
+ghost use Rattle.format_descriptions.specs.DescriptionSteps.{is_closed, step, outside, escaped, open_bracket};
+ghost use Rattle.format_descriptions.specs.DescriptionSteps.{begin_name, in_word, between_words, finish_component};
+ghost use Rattle.format_descriptions.specs.DescriptionSteps.{fault_at_end};
 
 use crate::description_components::component_of;
 use crate::description_modifiers::{Modifiers, modifier_at};
@@ -40,15 +40,15 @@ pub(crate) enum Place {
 pub(crate) type Step = Result<(Place, Option<Item>), (DescriptionFault, usize)>;
 
 // The step of a byte, the first of a text.
-#[tactic(auto, unfolding(crate::specs::Descriptions::step))]
+#[tactic(auto, unfolding(crate::specs::DescriptionSteps::step))]
 pub(crate) fn step(version: DescriptionVersion, place: Place, first: u8, text: &[u8]) -> Step
     ensures { result ≡ step version place first text.now }
 {
     match place {
         Place::Outside => outside(version, first, text),
         Place::Escaped => escaped(first, text),
-        Place::Opened(bracket) => opened(version, bracket, first, text),
-        Place::Unnamed(bracket) => unnamed(bracket, first, text),
+        Place::Opened(bracket) => open_bracket(version, bracket, first, text),
+        Place::Unnamed(bracket) => begin_name(bracket, first, text),
         Place::InWord(bracket, name, modifiers) => in_word(bracket, name, modifiers, first, text),
         Place::BetweenWords(bracket, name, modifiers) => between_words(
             bracket, name, modifiers, first, text,
@@ -57,7 +57,7 @@ pub(crate) fn step(version: DescriptionVersion, place: Place, first: u8, text: &
 }
 
 // A byte outside of brackets.
-#[tactic(auto, unfolding(crate::specs::Descriptions::outside))]
+#[tactic(auto, unfolding(crate::specs::DescriptionSteps::outside))]
 fn outside(version: DescriptionVersion, first: u8, text: &[u8]) -> Step
     ensures { result ≡ outside version first text.now }
 {
@@ -71,7 +71,7 @@ fn outside(version: DescriptionVersion, first: u8, text: &[u8]) -> Step
 }
 
 // A byte behind a backslash.
-#[tactic(auto, unfolding(crate::specs::Descriptions::escaped))]
+#[tactic(auto, unfolding(crate::specs::DescriptionSteps::escaped))]
 fn escaped(first: u8, text: &[u8]) -> Step
     ensures { result ≡ escaped first text.now }
 {
@@ -83,15 +83,15 @@ fn escaped(first: u8, text: &[u8]) -> Step
 }
 
 // A byte behind a `[`.
-#[tactic(auto, unfolding(crate::specs::Descriptions::opened))]
-fn opened(version: DescriptionVersion, bracket: usize, first: u8, text: &[u8]) -> Step
-    ensures { result ≡ opened version bracket first text.now }
+#[tactic(auto, unfolding(crate::specs::DescriptionSteps::open_bracket))]
+fn open_bracket(version: DescriptionVersion, bracket: usize, first: u8, text: &[u8]) -> Step
+    ensures { result ≡ open_bracket version bracket first text.now }
 {
     match version {
         DescriptionVersion::One if first == b'[' => Ok((Place::Outside, Some(Item::Byte(b'[')))),
         _ => {
             if is_closed(text) {
-                unnamed(bracket, first, text)
+                begin_name(bracket, first, text)
             } else {
                 Err((DescriptionFault::NoEnd, bracket))
             }
@@ -100,9 +100,9 @@ fn opened(version: DescriptionVersion, bracket: usize, first: u8, text: &[u8]) -
 }
 
 // A byte of brackets that have no name yet.
-#[tactic(auto, unfolding(crate::specs::Descriptions::unnamed))]
-fn unnamed(bracket: usize, first: u8, text: &[u8]) -> Step
-    ensures { result ≡ unnamed bracket first text.now }
+#[tactic(auto, unfolding(crate::specs::DescriptionSteps::begin_name))]
+fn begin_name(bracket: usize, first: u8, text: &[u8]) -> Step
+    ensures { result ≡ begin_name bracket first text.now }
 {
     if is_white_space(first) {
         return Ok((Place::Unnamed(bracket), None));
@@ -117,12 +117,12 @@ fn unnamed(bracket: usize, first: u8, text: &[u8]) -> Step
 }
 
 // A byte of a word, or the one behind it.
-#[tactic(auto, unfolding(crate::specs::Descriptions::in_word))]
+#[tactic(auto, unfolding(crate::specs::DescriptionSteps::in_word))]
 fn in_word(bracket: usize, name: Name, modifiers: Modifiers, first: u8, text: &[u8]) -> Step
     ensures { result ≡ in_word bracket name modifiers first text.now }
 {
     if first == b']' {
-        return finished(bracket, name, modifiers);
+        return finish_component(bracket, name, modifiers);
     }
     if first == b'[' {
         return Err((DescriptionFault::NestedBracket, text.len()));
@@ -135,12 +135,12 @@ fn in_word(bracket: usize, name: Name, modifiers: Modifiers, first: u8, text: &[
 }
 
 // A byte behind white space that follows a word.
-#[tactic(auto, unfolding(crate::specs::Descriptions::between_words))]
+#[tactic(auto, unfolding(crate::specs::DescriptionSteps::between_words))]
 fn between_words(bracket: usize, name: Name, modifiers: Modifiers, first: u8, text: &[u8]) -> Step
     ensures { result ≡ between_words bracket name modifiers first text.now }
 {
     if first == b']' {
-        return finished(bracket, name, modifiers);
+        return finish_component(bracket, name, modifiers);
     }
     if first == b'[' {
         return Err((DescriptionFault::NestedBracket, text.len()));
@@ -155,9 +155,9 @@ fn between_words(bracket: usize, name: Name, modifiers: Modifiers, first: u8, te
 }
 
 // The `]` of a component.
-#[tactic(auto, unfolding(crate::specs::Descriptions::finished))]
-fn finished(bracket: usize, name: Name, modifiers: Modifiers) -> Step
-    ensures { result ≡ finished bracket name modifiers }
+#[tactic(auto, unfolding(crate::specs::DescriptionSteps::finish_component))]
+fn finish_component(bracket: usize, name: Name, modifiers: Modifiers) -> Step
+    ensures { result ≡ finish_component bracket name modifiers }
 {
     match component_of(name, modifiers) {
         Some(component) => Ok((Place::Outside, Some(Item::Part(component)))),
@@ -166,7 +166,7 @@ fn finished(bracket: usize, name: Name, modifiers: Modifiers) -> Step
 }
 
 // The fault of a description that ends here, and how many bytes are left from it on.
-#[tactic(auto, unfolding(crate::specs::Descriptions::fault_at_end))]
+#[tactic(auto, unfolding(crate::specs::DescriptionSteps::fault_at_end))]
 pub(crate) fn fault_at_end(place: Place) -> Option<(DescriptionFault, usize)>
     ensures { result ≡ fault_at_end place }
 {
@@ -181,7 +181,7 @@ pub(crate) fn fault_at_end(place: Place) -> Option<(DescriptionFault, usize)>
 }
 
 // Whether a `]` stands in a text.
-#[tactic(auto, unfolding(crate::specs::Descriptions::is_closed))]
+#[tactic(auto, unfolding(crate::specs::DescriptionSteps::is_closed))]
 fn is_closed(text: &[u8]) -> bool
     ensures { result ≡ is_closed text.now }
 {

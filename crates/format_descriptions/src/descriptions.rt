@@ -1,21 +1,24 @@
 //! Descriptions that texts give.
 ghost use Rattle.std.specs.Prelude.{◌≡◌, ◌++◌, ◌-◌, ℕ, List, Ok, Err, length, drop, IfOk, IfErr};
 ghost use Rattle.std.specs.Result.{result_map_both};
-ghost use Rattle.format_descriptions.specs.Descriptions.{described, refusal_of};
+ghost use Rattle.format_descriptions.specs.Descriptions.{items_of_description, refusal_of};
 ghost use Rattle.format_descriptions.specs.declared.item.Item.{Item};
 
-use crate::description_steps::{DescriptionVersion, Place, fault_at_end, step};
+use crate::description_groups::{at_front, group_fault_at_end, group_step};
+use crate::description_steps::DescriptionVersion;
 use crate::{DescriptionFault, DescriptionRefusal, Item};
 
-/// How many items a text has as a description. They are put at the front of `room`, whose others do not change.
-/// Else why the text is no description, and where: its first fault, which `NoRoom` is too.
+/// How many items a text has as a description. They are put at the front of `room`, whose others do
+/// not change. Else why the text is no description, and where: its first fault, which `NoRoom` is
+/// too.
 ///
 /// ```
 /// use format_descriptions::{DescriptionVersion, Item, parse_description};
 /// let mut room = [Item::Byte(0); 4];
 /// assert_eq!(rt; parse_description(DescriptionVersion::Two, b"[hour]h", &mut room), Ok(2));
 /// assert_eq!(rt; room[1], Item::Byte(b'h'));
-/// assert_eq!(rt; parse_description(DescriptionVersion::Two, b"[hours]", &mut room).is_err(), true);
+/// let wrong = parse_description(DescriptionVersion::Two, b"[hours]", &mut room);
+/// assert_eq!(rt; wrong.is_err(), true);
 /// ```
 pub fn parse_description(
     version: DescriptionVersion,
@@ -23,22 +26,22 @@ pub fn parse_description(
     room: &mut [Item],
 ) -> Result<usize, DescriptionRefusal>
     ensures count { result ≡ result_map_both (λ items. length items) (refusal_of text.now)
-        (described version (length room.old) text.now) }
-    ensures items { IfOk (described version (length room.old) text.now)
+        (items_of_description version (length room.old) text.now) }
+    ensures items { IfOk (items_of_description version (length room.old) text.now)
         (λ items. room.new ≡ items ++ drop (length items) room.old) }
     // What the text says, by the result.
     ensures read { IfOk result (λ count. (items : List Item) ×
-        (described version (length room.old) text.now ≡ Ok items) ×
+        (items_of_description version (length room.old) text.now ≡ Ok items) ×
         (length items ≡ count) × (room.new ≡ items ++ drop count room.old)) }
     ensures refused { IfErr result (λ refusal. (left : ℕ) ×
-        (described version (length room.old) text.now ≡ Err (refusal.fault, left)) ×
+        (items_of_description version (length room.old) text.now ≡ Err (refusal.fault, left)) ×
         (refusal.place ≡ length text.now - left)) }
 {
-    let mut place = Place::Outside;
+    let mut state = at_front();
     let mut rest = text;
     let mut count = 0;
     while let Some((first, more)) = rest.split_first() {
-        let (next, item) = match step(version, place, *first, rest) {
+        let (next, item) = match group_step(version, state, *first, rest, more) {
             Ok(read) => read,
             Err(fault) => return Err(refusal(text, fault)),
         };
@@ -49,10 +52,10 @@ pub fn parse_description(
             room[count] = item;
             count += 1;
         }
-        place = next;
+        state = next;
         rest = more;
     }
-    match fault_at_end(place) {
+    match group_fault_at_end(state) {
         Some(fault) => Err(refusal(text, fault)),
         None => Ok(count),
     }

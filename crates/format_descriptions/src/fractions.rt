@@ -20,12 +20,12 @@ pub(crate) fn fraction(digits: SubsecondDigits, text: &[u8]) -> Option<(u32, &[u
         digit(text)?;
         return Some(all_digits(text));
     }
-    counted(count, 100_000_000, text)
+    read_digits(count, 100_000_000, text)
 }
 
 // So many digits: the first counts so many units, each other a tenth of the one before.
 #[tactic(auto, using(crate::proofs::DigitLemmas::counted_next))]
-fn counted(count: u8, unit: u32, text: &[u8]) -> Option<(u32, &[u8])>
+pub(crate) fn read_digits(count: u8, unit: u32, text: &[u8]) -> Option<(u32, &[u8])>
     requires { unit ≤ 100_000_000 }
     ensures value { option_map (λ read. (read.0, read.1.now)) result
         ≡ counted_at count unit text.now }
@@ -38,7 +38,7 @@ fn counted(count: u8, unit: u32, text: &[u8]) -> Option<(u32, &[u8])>
     let Some((digit, rest)) = digit(text) else {
         return None;
     };
-    let Some((more, rest)) = counted(count - 1, unit / 10, rest) else {
+    let Some((more, rest)) = read_digits(count - 1, unit / 10, rest) else {
         return None;
     };
     Some((digit * unit + more, rest))
@@ -65,7 +65,7 @@ fn all_digits(text: &[u8]) -> (u32, &[u8])
 }
 
 // What follows digits.
-fn after_digits(text: &[u8]) -> &[u8]
+pub(crate) fn after_digits(text: &[u8]) -> &[u8]
     ensures value { (0, result.now) ≡ digits_at 0 text.now }
     ensures shorter { length result.now ≤ length text.now }
 {

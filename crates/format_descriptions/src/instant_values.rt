@@ -1,19 +1,24 @@
 //! The instant that the Unix timestamps of a text name.
-ghost use Rattle.std.specs.Prelude.{◌≡◌, ◌+ℤ◌, ◌≤ℤ◌, pos, negsuc, IfOk};
+ghost use Rattle.std.specs.Prelude.{◌≡◌, ◌+ℤ◌, ◌≤ℤ◌, pos, negsuc, IfOk, codes};
+ghost use Rattle.calendar_values.specs.Outcomes.{Gives};
+ghost use Rattle.utc_times.specs.UnixTime.{instant_outcome};
 ghost use Rattle.format_descriptions.specs.InstantValues.{or_no_count, unix_nanoseconds, wrong_instant, instant_at};
 ghost use Rattle.format_descriptions.specs.InstantValues.{counted_instant, instant_of_counts};
 ghost use Rattle.format_descriptions.specs.InstantValues.{HasInstantParts};
 
 use crate::clock_values::or_zero;
 use crate::parts::{fits, fits_count};
+use crate::unix::split_seconds;
 use crate::{Field, Parts, UnixPrecision, ValueRefusal};
+use calendar_values::{ComponentRange, Part};
 use stamp_times::Timestamp;
 use utc_times::UtcDateTime;
 
 impl Parts {
-    /// The instant of these parts, by the finest count of a Unix timestamp: the fraction of the second counts with
-    /// seconds. Each other count and the fraction have to be those of the instant. Fails with `Missing` if there is no
-    /// count. Fails with `Wrong` for the first out of range, or other than that of the instant.
+    /// The instant of these parts, by the finest count of a Unix timestamp: the fraction of the
+    /// second counts with seconds. Each other count and the fraction have to be those of the
+    /// instant. Fails with `Missing` if there is no count. Fails with `Wrong` for the first out of
+    /// range, or other than that of the instant.
     ///
     /// ```
     /// use format_descriptions::{Component, Item, Sign, UnixPrecision};
@@ -154,12 +159,29 @@ fn later(nanoseconds: i128, more: u32) -> i128
 fn instant_at(parts: Parts, wrong: Field, nanoseconds: i128) -> Result<Timestamp, ValueRefusal>
     ensures { result ≡ instant_at parts wrong nanoseconds }
 {
-    match Timestamp::from_nanoseconds(nanoseconds) {
+    match timestamp_of(nanoseconds) {
         Ok(at) => match wrong_instant(parts, at) {
             None => Ok(at),
             Some(field) => Err(ValueRefusal::Wrong(field)),
         },
         Err(_) => Err(ValueRefusal::Wrong(wrong)),
+    }
+}
+
+// The instant of so many nanoseconds.
+#[tactic(auto, unfolding(utc_times::specs::UnixTime::instant_or_refusal))]
+fn timestamp_of(nanoseconds: i128) -> Result<Timestamp, ComponentRange>
+    ensures { Gives result (instant_outcome (codes "nanoseconds") nanoseconds) }
+{
+    if nanoseconds < -31_619_087_596_800_000_000_000
+        || nanoseconds > 31_494_784_780_799_999_999_999
+    {
+        return Err(ComponentRange::of_part(Part::Nanoseconds, false));
+    }
+    let (second, nanosecond) = split_seconds(nanoseconds);
+    match Timestamp::new(second as i64, nanosecond) {
+        Ok(at) => Ok(at),
+        Err(_) => Err(ComponentRange::of_part(Part::Nanoseconds, false)),
     }
 }
 

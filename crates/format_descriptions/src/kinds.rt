@@ -1,11 +1,11 @@
 //! Texts of dates, of times of day, of offsets and of wall clocks, which have not every component.
-ghost use Rattle.std.specs.Prelude.{◌≡◌, Some, None, true, false, Err, OkIff, pos};
+ghost use Rattle.std.specs.Prelude.{◌≡◌, Some, None, true, false, Err, OkIff, IfErr, pos};
 ghost use Rattle.calendar_values.specs.WallClock.{wall_day, wall_time};
 ghost use Rattle.format_descriptions.specs.Groups.{written_from};
 ghost use Rattle.format_descriptions.specs.Kinds.{lacking, flat_lacking, by_kind};
 ghost use Rattle.format_descriptions.specs.Written.{items_text, Fits};
 ghost use Rattle.format_descriptions.specs.declared.component.Component.{Component};
-ghost use Rattle.format_descriptions.specs.declared.format_refusal.FormatRefusal.TheVariants.{Lacks};
+ghost use Rattle.format_descriptions.specs.declared.format_refusal.FormatRefusal.TheVariants.{Lacks, NoText};
 
 use crate::item::{behind, is_other, size_of};
 use crate::write::format;
@@ -13,8 +13,8 @@ use crate::{Component, FormatRefusal, Item};
 use calendar_values::{Date, Text, Time, UtcOffset};
 use plain_times::PlainDateTime;
 
-/// The text of a date as the items write it. Fails with `Lacks` for the first component that is none of a date, else
-/// with `NoText` if the text has more than 64 bytes, or one that is not ASCII.
+/// The text of a date as the items write it. Fails with `Lacks` for the first component that is
+/// none of a date, else with `NoText` if the text has more than 64 bytes, or one that is not ASCII.
 ///
 /// ```
 /// use format_descriptions::{Component, Item, Padding};
@@ -30,6 +30,8 @@ pub fn format_date(items: &[Item], date: Date) -> Result<Text, FormatRefusal>
         (items_text items.now date 0 (pos 0)) }
     ensures lacks { (c : Component) → lacking true false false items.now ≡ Some c →
         result ≡ Err (Lacks c) }
+    ensures no_text { lacking true false false items.now ≡ None →
+        IfErr result (λ refusal. refusal ≡ NoText) }
 {
     match lacking(items, true, false, false) {
         Some(component) => Err(FormatRefusal::Lacks(component)),
@@ -37,8 +39,9 @@ pub fn format_date(items: &[Item], date: Date) -> Result<Text, FormatRefusal>
     }
 }
 
-/// The text of a time of day as the items write it. Fails with `Lacks` for the first component that is none of a time of
-/// day, else with `NoText` if the text has more than 64 bytes, or one that is not ASCII.
+/// The text of a time of day as the items write it. Fails with `Lacks` for the first component that
+/// is none of a time of day, else with `NoText` if the text has more than 64 bytes, or one that is
+/// not ASCII.
 ///
 /// ```
 /// use format_descriptions::{Component, Item, Padding};
@@ -52,6 +55,8 @@ pub fn format_time(items: &[Item], time: Time) -> Result<Text, FormatRefusal>
         (items_text items.now (pos 0) time (pos 0)) }
     ensures lacks { (c : Component) → lacking false true false items.now ≡ Some c →
         result ≡ Err (Lacks c) }
+    ensures no_text { lacking false true false items.now ≡ None →
+        IfErr result (λ refusal. refusal ≡ NoText) }
 {
     match lacking(items, false, true, false) {
         Some(component) => Err(FormatRefusal::Lacks(component)),
@@ -59,8 +64,9 @@ pub fn format_time(items: &[Item], time: Time) -> Result<Text, FormatRefusal>
     }
 }
 
-/// The text of an offset as the items write it. Fails with `Lacks` for the first component that is none of an offset,
-/// else with `NoText` if the text has more than 64 bytes, or one that is not ASCII.
+/// The text of an offset as the items write it. Fails with `Lacks` for the first component that is
+/// none of an offset, else with `NoText` if the text has more than 64 bytes, or one that is not
+/// ASCII.
 ///
 /// ```
 /// use format_descriptions::{Component, Item, Padding, Sign};
@@ -74,6 +80,8 @@ pub fn format_offset(items: &[Item], offset: UtcOffset) -> Result<Text, FormatRe
         (items_text items.now (pos 0) 0 offset) }
     ensures lacks { (c : Component) → lacking false false true items.now ≡ Some c →
         result ≡ Err (Lacks c) }
+    ensures no_text { lacking false false true items.now ≡ None →
+        IfErr result (λ refusal. refusal ≡ NoText) }
 {
     match lacking(items, false, false, true) {
         Some(component) => Err(FormatRefusal::Lacks(component)),
@@ -83,8 +91,9 @@ pub fn format_offset(items: &[Item], offset: UtcOffset) -> Result<Text, FormatRe
     }
 }
 
-/// The text of a wall clock as the items write it. Fails with `Lacks` for the first component that is of an offset, else
-/// with `NoText` if the text has more than 64 bytes, or one that is not ASCII.
+/// The text of a wall clock as the items write it. Fails with `Lacks` for the first component that
+/// is of an offset, else with `NoText` if the text has more than 64 bytes, or one that is not
+/// ASCII.
 ///
 /// ```
 /// use format_descriptions::{Component, Item, Padding};
@@ -98,6 +107,8 @@ pub fn format_plain(items: &[Item], at: PlainDateTime) -> Result<Text, FormatRef
         (items_text items.now (wall_day at) (wall_time at) (pos 0)) }
     ensures lacks { (c : Component) → lacking true true false items.now ≡ Some c →
         result ≡ Err (Lacks c) }
+    ensures no_text { lacking true true false items.now ≡ None →
+        IfErr result (λ refusal. refusal ≡ NoText) }
 {
     match lacking(items, true, true, false) {
         Some(component) => Err(FormatRefusal::Lacks(component)),
@@ -163,16 +174,23 @@ fn by_kind(component: Component, date: bool, time: bool, offset: bool) -> bool
         | Component::Ordinal(_)
         | Component::WeekdayName(_, _)
         | Component::WeekdayNumber(_, _)
-        | Component::WeekNumber(_, _) => date,
+        | Component::WeekNumber(_, _)
+        | Component::IgnoreWeekday(_, _)
+        | Component::YearSince(_)
+        | Component::YearSix(_) => date,
         Component::Hour(_)
         | Component::Hour12(_)
         | Component::Period(_, _)
         | Component::Minute(_)
         | Component::Second(_)
-        | Component::Subsecond(_) => time,
-        Component::OffsetHour(_, _) | Component::OffsetMinute(_) | Component::OffsetSecond(_) =>
-            offset,
+        | Component::Subsecond(_)
+        | Component::HourFraction(_)
+        | Component::MinuteFraction(_) => time,
+        Component::OffsetHour(_, _)
+        | Component::OffsetMinute(_)
+        | Component::OffsetSecond(_)
+        | Component::OffsetWord(_, _) => offset,
         Component::UnixTimestamp(_, _) => date & (time & offset),
-        Component::Ignore(_) | Component::End => true,
+        Component::Ignore(_) | Component::End | Component::IgnoreDigits => true,
     }
 }

@@ -1,7 +1,7 @@
 //! How a component is written.
-ghost use Rattle.std.specs.Prelude.{◌≡◌, ◌≤◌, ◌<◌};
+ghost use Rattle.std.specs.Prelude.{◌≡◌, ◌≤◌, ◌<◌, length, IsAscii};
 ghost use Rattle.format_descriptions.specs.Modifiers.{is_mandatory, digit_count, is_extended, reads_any_case};
-ghost use Rattle.format_descriptions.specs.Modifiers.{unix_digits, first_weekday, first_number};
+ghost use Rattle.format_descriptions.specs.Modifiers.{unix_digits, first_weekday, first_number, utc_word};
 
 /// The filler before a number that has fewer digits than its width.
 #[derive(Clone, Copy, Debug, PartialEq, Eq)]
@@ -184,6 +184,32 @@ impl UnixPrecision {
             UnixPrecision::Milliseconds => 17,
             UnixPrecision::Microseconds => 20,
             UnixPrecision::Nanoseconds => 23,
+        }
+    }
+}
+
+/// A word for UTC.
+#[derive(Clone, Copy, Debug, PartialEq, Eq)]
+pub enum UtcWord {
+    /// `UTC`.
+    Utc,
+    /// `GMT`.
+    Gmt,
+    /// `Z`.
+    Zulu,
+}
+
+impl UtcWord {
+    // The letters of the word.
+    pub(crate) fn letters(self) -> &'static [u8]
+        ensures text { result.now ≡ utc_word self }
+        ensures ascii { IsAscii result.now }
+        ensures length { length result.now ≤ 3 }
+    {
+        match self {
+            UtcWord::Utc => b"UTC",
+            UtcWord::Gmt => b"GMT",
+            UtcWord::Zulu => b"Z",
         }
     }
 }

@@ -3,28 +3,28 @@ ghost use Rattle.std.specs.Prelude.{◌≡◌, ◌≤◌, length, IsAscii};
 ghost use Rattle.calendar_values.specs.Month.{month_number};
 ghost use Rattle.calendar_values.specs.Weekday.{weekday_number};
 ghost use Rattle.format_descriptions.specs.Names.{name_of_month, name_of_weekday};
-ghost use Rattle.format_descriptions.specs.Written.{shortened, period_text};
+ghost use Rattle.format_descriptions.specs.Written.{name_in_form, period_text};
 
 use crate::{Case, NameForm};
 use calendar_values::{Month, Text, Weekday};
 
 // The name of a month.
 pub(crate) fn month_name(form: NameForm, month: Month) -> Text
-    ensures text { result ≡ shortened form (name_of_month (month_number month)) }
+    ensures text { result ≡ name_in_form form (name_of_month (month_number month)) }
 {
-    shortened(form, month.text())
+    name_in_form(form, month.text())
 }
 
 // The name of a day of the week.
 pub(crate) fn weekday_name(form: NameForm, weekday: Weekday) -> Text
-    ensures text { result ≡ shortened form (name_of_weekday (weekday_number weekday)) }
+    ensures text { result ≡ name_in_form form (name_of_weekday (weekday_number weekday)) }
 {
-    shortened(form, weekday.text())
+    name_in_form(form, weekday.text())
 }
 
 // A name, or its first three letters.
-fn shortened(form: NameForm, name: Text) -> Text
-    ensures text { result ≡ shortened form name }
+fn name_in_form(form: NameForm, name: Text) -> Text
+    ensures text { result ≡ name_in_form form name }
 {
     match form {
         NameForm::Long => name,

@@ -107,6 +107,18 @@ fn year_digits(year: u32) -> Text
     text
 }
 
+// The last six digits of a number.
+#[tactic(auto, unfolding(calendar_values::specs::Digits::last_digits))]
+pub(crate) fn six_digits(number: u32) -> Text
+    ensures text { result ≡ last_digits 6 number }
+    ensures length { length result ≡ 6 }
+{
+    let mut text = Text::new();
+    text.push_four_digits(number / 100);
+    text.push_two_digits((number % 100) as u8);
+    text
+}
+
 // A number without padding.
 pub(crate) fn decimal(number: u32) -> Text
     ensures text { result ≡ decimal number }

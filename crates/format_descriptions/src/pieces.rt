@@ -1,16 +1,22 @@
 //! The text of each component.
-ghost use Rattle.std.specs.Prelude.{◌≡◌, ◌≤◌, ◌<◌, ◌/◌, ◌%◌, ◌++◌, length, unsigned_abs};
+ghost use Rattle.std.specs.Prelude.{◌≡◌, ◌==◌, ◌≤◌, ◌<◌, ◌/◌, ◌%◌, ◌++◌, length, unsigned_abs, SomeIff, IsAscii, false};
 ghost use Rattle.calendar_values.specs.Range.{IsYear};
-ghost use Rattle.format_descriptions.specs.Written.{year_by, year_sign, year_text, century_text, week_by, weekday_number_by};
+ghost use Rattle.format_descriptions.specs.declared.modifiers.YearBase.TheVariants.{Calendar};
+ghost use Rattle.format_descriptions.specs.Written.{year_by, year_sign, year_text, century_text, six_text, week_by, weekday_number_by};
+ghost use Rattle.format_descriptions.specs.Modifiers.{is_partial};
 ghost use Rattle.format_descriptions.specs.Written.{hour_12, offset_hour_text, component_text};
+ghost use Rattle.format_descriptions.specs.Written.{offset_word_text, is_year_since, year_since_text};
 
+use crate::clock_fractions::{hour_fraction, minute_fraction};
 use crate::names::{month_name, period_text, weekday_name};
-use crate::numbers::{century_digits, decimal, four_text, subsecond_text, three_text, two_text};
+use crate::numbers::{
+    century_digits, decimal, four_text, six_digits, subsecond_text, three_text, two_text,
+};
 use crate::unix::{unix_count, unix_text};
-use crate::{Component, Padding, Sign, WeekRule, WeekStart, WeekdayCount, YearBase};
+use crate::{Component, Padding, Sign, UtcWord, WeekRule, WeekStart, WeekdayCount, YearBase};
 use calendar_values::{Date, Text, Time, UtcOffset};
 
-// The text of a component of a date, a time of day and an offset.
+// The text of a component of a date, a time of day and an offset, if each value has one.
 #[tactic(auto, unfolding(crate::specs::Written::component_text))]
 pub(crate) fn component_text(
     component: Component,
@@ -18,6 +24,7 @@ pub(crate) fn component_text(
     time: Time,
     offset: UtcOffset,
 ) -> Text
+    requires { is_partial component ≡ false }
     ensures text { result ≡ component_text component date time offset }
 {
     match component {
@@ -50,8 +57,67 @@ pub(crate) fn component_text(
         Component::UnixTimestamp(precision, sign) => {
             unix_text(sign, unix_count(precision, date, time, offset))
         }
-        Component::Ignore(_) | Component::End => Text::new(),
+        Component::IgnoreWeekday(form, _) => weekday_name(form, date.weekday()),
+        Component::YearSix(base) => six_text(year_by(base, date)),
+        Component::HourFraction(digits) => subsecond_text(digits, hour_fraction(time)),
+        Component::MinuteFraction(digits) => subsecond_text(digits, minute_fraction(time)),
+        Component::Ignore(_)
+        | Component::End
+        | Component::IgnoreDigits
+        | Component::OffsetWord(_, _)
+        | Component::YearSince(_) => Text::new(),
     }
+}
+
+// A word for UTC. None of another offset.
+#[tactic(auto, unfolding(crate::specs::Written::offset_word_text))]
+pub(crate) fn offset_word_text(word: UtcWord, offset: UtcOffset) -> Option<Text>
+    ensures text { let text = offset_word_text word offset in
+        SomeIff result (IsAscii text) text }
+{
+    if !is_zero(offset) {
+        return None;
+    }
+    let mut text = Text::new();
+    text.push_bytes(word.letters());
+    Some(seen(text))
+}
+
+// Whether the offset is 0.
+fn is_zero(offset: UtcOffset) -> bool
+    ensures { result ≡ (unsigned_abs offset == 0) }
+{
+    offset.whole_seconds().unsigned_abs() == 0
+}
+
+// The last two digits of a year of the hundred years from this one on. None of another year.
+#[tactic(auto, unfolding(crate::specs::Written::year_since_text))]
+pub(crate) fn year_since_text(first: u16, date: Date) -> Option<Text>
+    ensures text { let text = year_since_text first (year_by Calendar date) in
+        SomeIff result (IsAscii text) text }
+{
+    let year = date.year();
+    if !is_year_since(first, year) {
+        return None;
+    }
+    Some(seen(two_text(Padding::Zero, (year.unsigned_abs() % 100) as u8)))
+}
+
+// Whether the year is one of the hundred years from this one on.
+fn is_year_since(first: u16, year: i32) -> bool
+    ensures { result ≡ is_year_since first year }
+{
+    let first = first as i32;
+    (year >= first) & (year < first + 100)
+}
+
+// The same text, of which a caller then knows that it is ASCII.
+pub(crate) fn seen(text: Text) -> Text
+    ensures text { result ≡ text }
+    ensures ascii { IsAscii text }
+{
+    let _bytes = text.as_bytes();
+    text
 }
 
 // The year of the calendar, or that of the ISO week.
@@ -87,6 +153,18 @@ fn year_text(sign: Sign, padding: Padding, year: i32) -> Text
 {
     let digits = four_text(padding, year.unsigned_abs());
     let mut text = year_sign(sign, year);
+    text.push_bytes(digits.as_bytes());
+    text
+}
+
+// The sign of the year, and its six digits.
+#[tactic(auto, unfolding(crate::specs::Written::six_text))]
+fn six_text(year: i32) -> Text
+    requires year { IsYear year }
+    ensures text { result ≡ six_text year }
+{
+    let digits = six_digits(year.unsigned_abs());
+    let mut text = year_sign(Sign::Mandatory, year);
     text.push_bytes(digits.as_bytes());
     text
 }

@@ -1,17 +1,19 @@
 //! Texts read by descriptions.
-ghost use Rattle.std.specs.Prelude.{◌≡◌, ◌-◌, ◌≤◌, ℕ, None, Ok, Err, length, option_map, IfOk, IfErr, IfSome};
+ghost use Rattle.std.specs.Prelude.{◌≡◌, ◌-◌, ◌≤◌, ℕ, None, Ok, Err, length, option_map, IfOk, IfErr, IfSome, IfNone};
 ghost use Rattle.std.specs.Result.{result_map_both};
 ghost use Rattle.format_descriptions.specs.Read.{part_at, item_at, items_at, no_parts, front_of, read_from, read_end};
 ghost use Rattle.format_descriptions.specs.declared.component.Component.TheVariants.{UnixTimestamp};
 
+use crate::clock_fractions::{hour_fraction_at, minute_fraction_at};
 use crate::fields::component_at;
 use crate::item::{behind, fault_after, is_other, size_of};
 use crate::reading::after_mark;
 use crate::unix::unix_at;
 use crate::{Component, Item, Parts, Sign, UnixPrecision};
 
-/// The parts of a text that is written as the items say, to its end. Else the place, counted from 0, where the item
-/// begins that cannot be read or contradicts a part before it, or where more follows the last item.
+/// The parts of a text that is written as the items say, to its end. Else the place, counted from
+/// 0, where the item begins that cannot be read or contradicts a part before it, or where more
+/// follows the last item.
 ///
 /// ```
 /// use format_descriptions::{Component, Item, Padding};
@@ -39,8 +41,9 @@ pub fn parse(items: &[Item], text: &[u8]) -> Result<Parts, usize>
     }
 }
 
-/// The parts at the front of a text that is written as the items say, and how many bytes they take. Else the place,
-/// counted from 0, where the item begins that cannot be read or contradicts a part before it.
+/// The parts at the front of a text that is written as the items say, and how many bytes they take.
+/// Else the place, counted from 0, where the item begins that cannot be read or contradicts a part
+/// before it.
 ///
 /// ```
 /// use format_descriptions::{Component, Item, Padding, parse_front};
@@ -146,43 +149,83 @@ fn item_at(item: Item, text: &[u8], parts: Parts) -> Option<(Parts, &[u8])>
             Some((parts, rest))
         }
         Item::Optional(_) | Item::First(_) | Item::Or(_) => Some((parts, text)),
-        Item::Part(component) => part_at(component, text, parts),
+        Item::Part(component) => parse_component(component, text, parts),
     }
 }
 
-// A component, with the parts so far, and what follows it.
-fn part_at(component: Component, text: &[u8], parts: Parts) -> Option<(Parts, &[u8])>
+/// The parts with what a component reads at the front of a text, and the bytes after it. None where
+/// the text does not begin so, or contradicts one of the parts.
+///
+/// ```
+/// use format_descriptions::{Component, Padding, Parts, parse_component};
+/// let day = Component::Day(Padding::Zero);
+/// let read = parse_component(day, b"05!", Parts::none());
+/// assert_eq!(rt; read.map(|(parts, rest)| (parts.day, rest.len())), Some((Some(5), 1)));
+/// ```
+pub fn parse_component(component: Component, text: &[u8], parts: Parts) -> Option<(Parts, &[u8])>
     ensures value { option_map (λ read. (read.0, read.1.now)) result
         ≡ part_at component text.now parts }
     ensures shorter { IfSome result (λ read. length read.1.now ≤ length text.now) }
 {
+    let mut parts = parts;
+    match parse_component_into(component, text, &mut parts) {
+        Some(rest) => Some((parts, rest)),
+        None => None,
+    }
+}
+
+/// Reads a component at the front of a text into the parts, and returns the bytes after it. None
+/// where the text does not begin so, or contradicts one of the parts: then no part changes.
+///
+/// ```
+/// use format_descriptions::{Component, Padding, Parts, parse_component_into};
+/// let day = Component::Day(Padding::Zero);
+/// let mut parts = Parts::none();
+/// let rest = parse_component_into(day, b"05!", &mut parts);
+/// assert_eq!(rt; (parts.day, rest.map(|rest| rest.len())), (Some(5), Some(1)));
+/// ```
+pub fn parse_component_into<'a>(
+    component: Component,
+    text: &'a [u8],
+    parts: &mut Parts,
+) -> Option<&'a [u8]>
+    ensures value { option_map (λ rest. (parts.new, rest.now)) result
+        ≡ part_at component text.now parts.old }
+    ensures unchanged { IfNone result (parts.new ≡ parts.old) }
+    ensures shorter { IfSome result (λ rest. length rest.now ≤ length text.now) }
+{
     match component {
         Component::UnixTimestamp(precision, sign) => unix_part_at(precision, sign, text, parts),
+        Component::HourFraction(digits) => hour_fraction_at(digits, text, parts),
+        Component::MinuteFraction(digits) => minute_fraction_at(digits, text, parts),
         _ => {
             let (number, rest) = component_at(component, text)?;
             if !parts.agrees(component, number) {
                 return None;
             }
-            Some((parts.with(component, number), rest))
+            parts.set(component, number);
+            Some(rest)
         }
     }
 }
 
-// A Unix timestamp, with the parts so far, and what follows it.
+// The same of a Unix timestamp.
 #[tactic(auto, unfolding(crate::specs::Read::component_at))]
-fn unix_part_at(
+fn unix_part_at<'a>(
     precision: UnixPrecision,
     sign: Sign,
-    text: &[u8],
-    parts: Parts,
-) -> Option<(Parts, &[u8])>
-    ensures value { option_map (λ read. (read.0, read.1.now)) result
-        ≡ part_at (UnixTimestamp precision sign) text.now parts }
-    ensures shorter { IfSome result (λ read. length read.1.now ≤ length text.now) }
+    text: &'a [u8],
+    parts: &mut Parts,
+) -> Option<&'a [u8]>
+    ensures value { option_map (λ rest. (parts.new, rest.now)) result
+        ≡ part_at (UnixTimestamp precision sign) text.now parts.old }
+    ensures unchanged { IfNone result (parts.new ≡ parts.old) }
+    ensures shorter { IfSome result (λ rest. length rest.now ≤ length text.now) }
 {
     let (given, rest) = unix_at(sign, precision.digits(), text)?;
     if !parts.agrees_unix(precision, given) {
         return None;
     }
-    Some((parts.with_unix(precision, given), rest))
+    parts.set_unix(precision, given);
+    Some(rest)
 }

@@ -122,7 +122,7 @@ fn three_digits(text: &[u8]) -> Option<(u32, &[u8])>
 
 // Two digits.
 #[tactic(auto, unfolding(rfc3339::specs::Reading::two_digits_at))]
-fn two_digits(text: &[u8]) -> Option<(u32, &[u8])>
+pub(crate) fn two_digits(text: &[u8]) -> Option<(u32, &[u8])>
     ensures value { option_map (λ read. (read.0, read.1.now)) result ≡ two_digits_at text.now }
     ensures below { IfSome result (λ read. read.0 < 100) }
     ensures shorter { IfSome result (λ read. length read.1.now ≤ length text.now) }

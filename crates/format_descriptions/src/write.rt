@@ -1,16 +1,16 @@
 //! Texts written by descriptions.
 ghost use Rattle.std.specs.Prelude.{◌≡◌, ◌≤◌, ◌∷◌, ◌++◌, [], length, SomeIff, IsAscii};
 ghost use Rattle.format_descriptions.specs.Groups.{written_from};
-ghost use Rattle.format_descriptions.specs.Written.{item_text, items_text, flat_text, described_text, Fits};
+ghost use Rattle.format_descriptions.specs.Written.{component_text, item_text, items_text, flat_text, described_text, Fits};
 
-use crate::Item;
 use crate::item::{behind, is_other, size_of};
-use crate::pieces::component_text;
+use crate::pieces::{component_text, offset_word_text, seen, year_since_text};
+use crate::{Component, Item};
 use calendar_values::{Date, Text, Time, UtcOffset};
 use offset_times::OffsetDateTime;
 
-/// The text of a date-time as the items write it, by its own wall clock and offset. None where the text has more than
-/// 64 bytes, or one that is not ASCII.
+/// The text of a date-time as the items write it, by its own wall clock and offset. None where the
+/// text has more than 64 bytes, or one that is not ASCII.
 ///
 /// ```
 /// use format_descriptions::{Component, Item, Padding};
@@ -27,8 +27,8 @@ pub fn format_date_time(items: &[Item], at: OffsetDateTime) -> Option<Text>
     format(items, date, time, offset)
 }
 
-/// The text of a date, a time of day and an offset as the items write them. None where the text has more than 64 bytes,
-/// or one that is not ASCII.
+/// The text of a date, a time of day and an offset as the items write them. None where the text has
+/// more than 64 bytes, or one that is not ASCII.
 ///
 /// ```
 /// use format_descriptions::{Component, Item, Padding};
@@ -88,7 +88,7 @@ fn write_items(
     Some(text)
 }
 
-// The text of an item. None of a byte that is not ASCII.
+// The text of an item. None of a byte that is not ASCII, and of a value that the component cannot write.
 #[tactic(auto, unfolding(crate::specs::Written::item_text))]
 fn item_text(item: Item, date: Date, time: Time, offset: UtcOffset) -> Option<Text>
     ensures text { let text = item_text item date time offset in
@@ -96,18 +96,36 @@ fn item_text(item: Item, date: Date, time: Time, offset: UtcOffset) -> Option<Te
 {
     match item {
         Item::Byte(byte) => byte_text(byte),
-        Item::Part(component) => Some(seen(component_text(component, date, time, offset))),
+        Item::Part(component) => format_component(component, date, time, offset),
         Item::Optional(_) | Item::First(_) | Item::Or(_) => Some(seen(Text::new())),
     }
 }
 
-// The same text, of which a caller then knows that it is ASCII.
-fn seen(text: Text) -> Text
-    ensures text { result ≡ text }
-    ensures ascii { IsAscii text }
+/// The text of a component of a date, a time of day and an offset. None of a value that it cannot
+/// write.
+///
+/// ```
+/// use format_descriptions::{Component, Padding, format_component};
+/// let date = Date::from_calendar_date(2024, Month::March, 5)?;
+/// let day = Component::Day(Padding::Zero);
+/// let text = format_component(day, date, Time::MIDNIGHT, UtcOffset::UTC);
+/// assert_eq!(rt; text.map(|text| text.as_bytes() == b"05".as_slice()), Some(true));
+/// ```
+#[tactic(auto, unfolding(crate::specs::Written::component_text))]
+pub fn format_component(
+    component: Component,
+    date: Date,
+    time: Time,
+    offset: UtcOffset,
+) -> Option<Text>
+    ensures text { let text = component_text component date time offset in
+        SomeIff result (IsAscii text) text }
 {
-    let _bytes = text.as_bytes();
-    text
+    match component {
+        Component::OffsetWord(word, _) => offset_word_text(word, offset),
+        Component::YearSince(first) => year_since_text(first, date),
+        _ => Some(seen(component_text(component, date, time, offset))),
+    }
 }
 
 // A byte by itself.

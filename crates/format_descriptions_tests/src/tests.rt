@@ -3,15 +3,22 @@ use std::fmt::Debug;
 use std::process::Abort;
 
 mod clocks;
+mod components;
 mod dates;
 mod descriptions;
+mod group_texts;
 mod groups;
+mod iso8601;
 mod kinds;
+mod leap_seconds;
+mod logs;
 mod offsets;
 mod parts;
 mod texts;
 mod unix;
 mod weeks;
+mod well_known;
+mod written_descriptions;
 
 // Ends the test unless what is shown is what is wanted.
 fn is<T: Copy + PartialEq + Debug>(rt: &impl Abort, shown: T, wanted: T) {

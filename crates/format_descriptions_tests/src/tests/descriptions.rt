@@ -1,5 +1,5 @@
-//! Descriptions from their texts: the rows are those of the documentation of `time`, whose version 0.3.9 reads those of
-//! version 1 alike.
+//! Descriptions from their texts: the rows are those of the documentation of `time`, whose version
+//! 0.3.9 reads those of version 1 alike.
 use super::is;
 use format_descriptions::{
     Case, Component, DescriptionFault, DescriptionVersion, Item, NameForm, Padding, ReadCase, Sign,

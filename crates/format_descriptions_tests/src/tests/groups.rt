@@ -1,5 +1,5 @@
-//! Groups of items: the rows follow what the documentation of `time` says of its optional items and of the first of
-//! several, which its version 0.3.9 reads and writes so too.
+//! Groups of items: the rows follow what the documentation of `time` says of its optional items and
+//! of the first of several, which its version 0.3.9 reads and writes so too.
 use super::is;
 use calendar_values::{Date, Time, UtcOffset};
 use format_descriptions::{

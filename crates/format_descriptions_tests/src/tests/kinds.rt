@@ -1,4 +1,5 @@
-//! Dates, times of day, offsets and wall clocks: each is written where it has what the items ask for.
+//! Dates, times of day, offsets and wall clocks: each is written where it has what the items ask
+//! for.
 use super::is;
 use calendar_values::{Date, Month, Text, Time, UtcOffset};
 use format_descriptions::{

@@ -1,4 +1,5 @@
-//! Texts that descriptions write, as `time` 0.3.9 writes them, and Python's `strftime` where it has the component.
+//! Texts that descriptions write, as `time` 0.3.9 writes them, and Python's `strftime` where it has
+//! the component.
 use super::is;
 use calendar_values::{Date, Month, Text, Time, UtcOffset};
 use format_descriptions::{

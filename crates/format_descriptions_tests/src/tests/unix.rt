@@ -1,4 +1,5 @@
-//! Unix timestamps, written and read, and what is passed over: the counts are those of Python's integers.
+//! Unix timestamps, written and read, and what is passed over: the counts are those of Python's
+//! integers.
 use super::is;
 use calendar_values::{Date, Month, Time, UtcOffset};
 use format_descriptions::{

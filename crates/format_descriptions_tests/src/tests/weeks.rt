@@ -1,5 +1,5 @@
-//! Weeks, the numbers of the days of the week, and years by their digits: the rows are those of Python's `isocalendar` and
-//! `strftime`.
+//! Weeks, the numbers of the days of the week, and years by their digits: the rows are those of
+//! Python's `isocalendar` and `strftime`.
 use super::is;
 use calendar_values::{Date, Month, Time, UtcOffset};
 use format_descriptions::{

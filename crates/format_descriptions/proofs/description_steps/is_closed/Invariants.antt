@@ -1,5 +1,5 @@
 use Rattle.std.proofs.Common.{◌≡◌, length}
-use Rattle.format_descriptions.specs.Descriptions.{is_closed}
+use Rattle.format_descriptions.specs.DescriptionSteps.{is_closed}
 use Rattle.format_descriptions.proofs.description_steps.is_closed.Given as goal
 
 -- a `]` stands in what is left where one stands in the whole

@@ -1,6 +1,6 @@
-use Rattle.std.proofs.Common.{rules, ◌≡◌, ◌-◌, ◌∷◌, None, Some, suc, true, false, length, drop, min, arith, sym, Bool}
+use Rattle.std.proofs.Common.{rules, ◌≡◌, ◌-◌, ◌∷◌, None, Some, suc, true, false, length, min, arith, sym}
 use Rattle.format_descriptions.specs.Groups.{size_of, is_other, written_from}
-use Rattle.format_descriptions.specs.Kinds.{flat_lacking, by_kind}
+use Rattle.format_descriptions.specs.Kinds.{flat_lacking}
 use Rattle.format_descriptions.proofs.KindLemmas.{lacking_ends, lacking_none, lacking_part, part_on, byte_on, lacking_group, group_on, other_on}
 use Rattle.format_descriptions.proofs.kinds.+lacking_of.Goals.{then-not-is_other+in_default-lacking_of, else-not-is_other}
 use Rattle.format_descriptions.proofs.kinds.+lacking_of.Goals as goal

@@ -1,6 +1,6 @@
-use Rattle.std.proofs.Common.{rules, ◌≡◌, ◌-◌, ◌∷◌, None, Some, Ok, Err, suc, true, false, length, drop, min, arith, refl, sym, ◌∙◌, ◌≤◌, IfSome}
-use Rattle.format_descriptions.specs.Groups.{size_of, is_other, fault_after}
-use Rattle.format_descriptions.specs.Read.{read_from, tried, item_at}
+use Rattle.std.proofs.Common.{rules, ◌≡◌, ◌-◌, ◌∷◌, None, Some, Ok, Err, suc, true, false, length, min, arith, sym, ◌∙◌, ◌≤◌, IfSome}
+use Rattle.format_descriptions.specs.Groups.{size_of, is_other}
+use Rattle.format_descriptions.specs.Read.{read_from, try_group, item_at}
 use Rattle.format_descriptions.proofs.ReadLemmas.{read_ends, read_none, read_on, read_stops, read_fault, read_fault_plain, read_passed}
 use Rattle.format_descriptions.proofs.ReadLemmas.{tried_first, tried_instead, group_read, group_fault, fault_after-within}
 use Rattle.format_descriptions.proofs.read.+front.Goals.{in-None+else-is_other, in-Some-fault-2+else-not-is_other, in-Ok, in-Err}
@@ -70,7 +70,7 @@ loop-item-preserved t c =
     let place : c.loop-item.count ≡ suc (c.loop-item.count - 1) = omega (arith, c.if-count-eq0.false) in
     let head : Some c.in-Some-size_of.size ≡ size_of c.in-Some.item.now = search rules in
     let group :
-    tried c.in-Some.item.now c.in-Some-size_of.size (λ s n f t q. read_from c.in-Some.others.now s n f t q) (c.loop-item.count - 1) c.match-fault-2.fault
+    try_group c.in-Some.item.now c.in-Some-size_of.size (λ s n f t q. read_from c.in-Some.others.now s n f t q) (c.loop-item.count - 1) c.match-fault-2.fault
     c.loop-item.rest.now c.loop-item.parts ≡ read_from c.args.items.now 0 c.args.count None c.args.text.now c.args.parts =
     elim c.match-fault-2.branch [
       | in-None+else-is_other w ↦

@@ -1,7 +1,6 @@
-use Rattle.std.proofs.Common.{rules, ◌≡◌, ◌-◌, ◌∷◌, None, Some, suc, true, false, length, drop, min, arith, refl, ap, ℕ}
+use Rattle.std.proofs.Common.{rules, ◌≡◌, ◌-◌, ◌∷◌, None, Some, suc, true, false, length, arith, refl, ap, ℕ}
 use Rattle.std.proofs.lemmas.Str.{IsAscii-append}
-use Rattle.format_descriptions.specs.Groups.{size_of, is_other, written_from}
-use Rattle.format_descriptions.specs.Written.{flat_text}
+use Rattle.format_descriptions.specs.Groups.{size_of, is_other}
 use Rattle.format_descriptions.proofs.ItemLemmas.{goes_on, group_goes_on, other_goes_on, not_ascii, no_room, group_unfit, all_written, count_written}
 use Rattle.format_descriptions.proofs.write.+write_items.Goals.{then-not-is_other+in-Some-write_items, else-not-is_other}
 use Rattle.format_descriptions.proofs.write.+write_items.Goals as goal

@@ -1,0 +1,58 @@
+//! Components by themselves: the rows are those of the documentation of `time`.
+use super::is;
+use calendar_values::{Date, Month, Time, UtcOffset};
+use format_descriptions::{
+    Component, NameForm, Padding, Parts, ReadCase, format_component, parse_component,
+    parse_component_into,
+};
+use std::test::Fail;
+
+#[test]
+fn components_are_written_alone(rt: HostRuntime) -> Result<(), Fail> {
+    let date = Date::from_calendar_date(2020, Month::January, 2)?;
+    let time = Time::from_hms(3, 4, 5)?;
+    for (component, wanted) in [
+        (Component::Day(Padding::Zero), "02"),
+        (Component::Month(Padding::Space), " 1"),
+        (Component::Hour(Padding::Bare), "3"),
+        (Component::YearSince(1970), "20"),
+    ] {
+        match format_component(component, date, time, UtcOffset::UTC) {
+            Some(text) => is(&rt, text.as_str(), wanted),
+            None => is(&rt, "no text", wanted),
+        }
+    }
+    let since = Component::YearSince(2021);
+    let none = format_component(since, date, time, UtcOffset::UTC);
+    is(&rt, none.is_none(), true);
+    Ok(())
+}
+
+#[test]
+fn components_are_read_one_after_another(rt: HostRuntime) {
+    let day = Component::Day(Padding::Zero);
+    let month = Component::MonthName(NameForm::Short, ReadCase::Same);
+    let Some((parts, rest)) = parse_component(day, b"02Jan02 03", Parts::none()) else {
+        is(&rt, "no day", "02");
+        return;
+    };
+    let Some((parts, rest)) = parse_component(month, rest, parts) else {
+        is(&rt, "no month", "Jan");
+        return;
+    };
+    is(&rt, (parts.day, parts.month), (Some(2), Some(1)));
+    is(&rt, rest, b"02 03".as_slice());
+    is(&rt, parse_component(day, rest, parts).is_some(), true);
+    is(&rt, parse_component(day, b"03", parts).is_none(), true);
+    is(&rt, parse_component(day, b"3", parts).is_none(), true);
+}
+
+#[test]
+fn components_are_read_in_place(rt: HostRuntime) {
+    let day = Component::Day(Padding::Zero);
+    let mut parts = Parts::none();
+    let left = parse_component_into(day, b"02!", &mut parts).map(|rest| rest.len());
+    is(&rt, (parts.day, left), (Some(2), Some(1)));
+    let left = parse_component_into(day, b"03", &mut parts).map(|rest| rest.len());
+    is(&rt, (parts.day, left), (Some(2), None));
+}
