@@ -1,5 +1,5 @@
--- What a device holds, and what a reader and a writer come to together.
-use Rattle.std.specs.Prelude.{ℕ, Bool, List, Option}
+-- The parts of a device, and the state of a reader and a writer together.
+use Rattle.std.specs.Prelude.{ℕ, ◌==◌, Bool, true, List, Option, Some, None}
 use Rattle.line_devices.specs.declared.devices.Device.{Device}
 
 -- the reader or the writer
@@ -10,18 +10,28 @@ inner_of device = device.inner
 abbrev pub has_failed : {T : Type 0} → Device T → Bool
 has_failed device = device.has_failed
 
--- the last byte that was written, or a line feed before any was
-abbrev pub last_of : {T : Type 0} → Device T → ℕ
+-- whether a write failed because nothing reads the pipe
+abbrev pub is_pipe_closed : {T : Type 0} → Device T → Bool
+is_pipe_closed device = device.is_pipe_closed
+
+-- the last byte that was written, if any was
+abbrev pub last_of : {T : Type 0} → Device T → Option ℕ
 last_of device = device.last
 
--- of a reader and a writer: what is left to read and what was written, where they are known, and whether a read or a write failed
+-- whether a line starts after the last byte
+abbrev pub is_at_start : Option ℕ → Bool
+is_at_start None = true
+is_at_start (Some byte) = byte == 10
+
+-- the state of a reader and a writer: the bytes left to read and the bytes written, if known;
+-- whether a read failed, and whether a write failed
 pub record Devices : Type 0 where
   pub left : Option (List ℕ)
   pub written : Option (List ℕ)
   pub read_failed : Bool
   pub write_failed : Bool
 
--- these four together
+-- the state with these four parts
 abbrev pub devices : Option (List ℕ) → Option (List ℕ) → Bool → Bool → Devices
 devices left written read_failed write_failed =
     record { left = left; written = written; read_failed = read_failed; write_failed = write_failed }

@@ -1,4 +1,4 @@
--- Where an input is cut into lines.
+-- The lines of an input, cut at its line feeds.
 use Rattle.std.proofs.Common.{◌≡◌, ◌≢◌, ℕ, ◌+◌, ◌-◌, ◌<◌, ◌≤◌, suc, get_or, take, List, [], ◌∷◌, ◌++◌, length, refl, sym, ◌∙◌, ap, arith}
 use Rattle.std.proofs.Common.{add-one, append_assoc, append-nil, true, false, cond, nat_eq, ◌==◌}
 use Rattle.std.proofs.lemmas.Bool.Decides.{nat_tests}
@@ -62,7 +62,7 @@ ended_until piece block from end low high h =
 pub take-line_feed : (block : List ℕ) (end : ℕ) → end < length block → get_or block end 0 ≡ 10 → take (end + 1) block ≡ take end block ++ 10 ∷ []
 take-line_feed block end low is = rw (add-one, take-suc block end 0 low, is) refl
 
--- a line feed more
+-- one more line feed
 pub ended_from-line_feed : (piece xs : List ℕ) → ended_from piece (xs ++ 10 ∷ []) ≡ ended_from piece xs ++ rest_from piece xs ∷ []
 unfolding ended_from rest_from
 ended_from-line_feed piece xs = ended_from-append piece xs (10 ∷ [])
@@ -71,7 +71,7 @@ pub rest_from-line_feed : (piece xs : List ℕ) → rest_from piece (xs ++ 10 �
 unfolding ended_from rest_from
 rest_from-line_feed piece xs = rest_from-append piece xs (10 ∷ [])
 
--- the first of some pieces comes behind a piece
+-- some pieces, with another piece in front of the first of them
 abbrev behind : List ℕ → List (List ℕ) → List (List ℕ)
 behind piece [] = piece ∷ []
 behind piece (x ∷ xs) = (piece ++ x) ∷ xs

@@ -23,7 +23,7 @@ without_empty_last [] = []
 without_empty_last (piece ∷ []) = unless_empty piece
 without_empty_last (piece ∷ next ∷ pieces) = piece ∷ without_empty_last (next ∷ pieces)
 
--- the lines of an input: what stands before each line feed, and what stands after the last one if it is not empty
+-- the lines of an input: the bytes before each line feed, and the bytes after the last line feed if there are any
 abbrev pub lines_of : List ℕ → List (List ℕ)
 lines_of input = without_empty_last (pieces_of input)
 

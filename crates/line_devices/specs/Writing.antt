@@ -1,4 +1,4 @@
--- What was written of a text, where the written bytes are known.
+-- The bytes of a text that were written, if the written bytes are known.
 use Rattle.std.specs.Prelude.{◌≡◌, ℕ, ◌<◌, Bool, true, List, ◌++◌, length, Option, Result, MatchResult}
 use Rattle.std.specs.Io.KnownBytes.{Appends}
 

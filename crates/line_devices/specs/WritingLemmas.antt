@@ -21,7 +21,7 @@ pub Appends-take : (a b c : Option (List ℕ)) (at n : ℕ) (text : List ℕ) �
     → Appends a c (take (at + n) text)
 Appends-take a b c at n text h k = rw (take-add at n text) (Appends-append a b c (take at text) (take n (drop at text)) h k)
 
--- with more bytes behind, a beginning is a beginning still
+-- a beginning of some bytes is a beginning of them with more bytes at the end
 pub AppendsBeginning-longer : (a b : Option (List ℕ)) (xs ys : List ℕ) → AppendsBeginning a b xs → AppendsBeginning a b (xs ++ ys)
 AppendsBeginning-longer a b xs ys h = record {
   beginning = h.beginning;
@@ -45,7 +45,7 @@ AppendsBeginning-append a b c xs ys h k = record {
 pub Sends-nothing : (a : Option (List ℕ)) (xs : List ℕ) → Sends a a xs xs
 Sends-nothing a xs = record { sent = []; appended = Appends-nil a; whole = refl }
 
--- what is pending is sent before what comes behind it
+-- the pending bytes are sent before the bytes after them
 pub Sends-append : (a b c : Option (List ℕ)) (p xs q ys : List ℕ) → Sends a b p xs → Sends b c q (p ++ ys) → Sends a c q (xs ++ ys)
 Sends-append a b c p xs q ys h k = record {
   sent = h.sent ++ k.sent;
@@ -56,14 +56,14 @@ Sends-append a b c p xs q ys h k = record {
 pub AppendsBeginning-pending : (a b c : Option (List ℕ)) (p xs ys : List ℕ) → Sends a b p xs → AppendsBeginning b c (p ++ ys) → AppendsBeginning a c (xs ++ ys)
 AppendsBeginning-pending a b c p xs ys h k = rw (h.whole, append_assoc h.sent p ys) (AppendsBeginning-append a b c h.sent (p ++ ys) h.appended k)
 
--- what is pending is written behind the bytes that were sent
+-- the pending bytes are written after the bytes that were sent
 pub Appends-flushed : (a b c : Option (List ℕ)) (p bytes : List ℕ) → Sends a b p bytes → Appends b c p → Appends a c bytes
 Appends-flushed a b c p bytes h k = rw h.whole (Appends-append a b c h.sent p h.appended k)
 
 pub AppendsBeginning-flushed : (a b c : Option (List ℕ)) (p bytes : List ℕ) → Sends a b p bytes → AppendsBeginning b c p → AppendsBeginning a c bytes
 AppendsBeginning-flushed a b c p bytes h k = rw h.whole (AppendsBeginning-append a b c h.sent p h.appended k)
 
--- what was pending and a text behind it were written
+-- the pending bytes and a text after them were written
 pub Sends-written : (a b c : Option (List ℕ)) (xs ys : List ℕ) → Appends a b xs → Appends b c ys → Sends a c [] (xs ++ ys)
 Sends-written a b c xs ys h k = record {
   sent = xs ++ ys;
@@ -71,7 +71,7 @@ Sends-written a b c xs ys h k = record {
   whole = sym (append-nil (xs ++ ys));
 }
 
--- and so nothing is pending any more
+-- after all pending bytes are written, nothing is pending
 pub Sends-flushed : (a b c : Option (List ℕ)) (p bytes : List ℕ) → Sends a b p bytes → Appends b c p → Sends a c [] bytes
 Sends-flushed a b c p bytes h k = record {
   sent = bytes;

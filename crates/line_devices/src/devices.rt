@@ -1,10 +1,10 @@
-//! What bytes come from and go to.
-ghost use Rattle.std.specs.Prelude.{◌≡◌, ℕ, ◌-◌, ◌<◌, ◌==◌, Bool, false, List, length, Option, Some, IfOk, slice_get};
+//! The devices that bytes come from and go to.
+ghost use Rattle.std.specs.Prelude.{◌≡◌, ℕ, ◌-◌, ◌<◌, Bool, false, List, length, Option, Some, None, IfOk, slice_get};
 ghost use Rattle.std.specs.Io.{ReadsAtMost, WritesAtMost};
 ghost use Rattle.std.specs.Io.KnownBytes.{ReadConsumes, WriteAppends};
 ghost use Rattle.line_devices.specs.Writing.{MarksFailure, WritesAll};
 
-use std::io::{Read, Write};
+use std::io::{ErrorKind, Read, Write};
 
 /// A read or a write failed.
 #[derive(Clone, Copy, Debug, PartialEq, Eq)]
@@ -58,30 +58,51 @@ pub trait Sink {
 pub struct Device<T> {
     inner: T,
     has_failed: bool,
-    last: u8,
+    is_pipe_closed: bool,
+    last: Option<u8>,
 }
 
 impl<T> Device<T> {
-    ghost use Rattle.line_devices.specs.Device.{inner_of, has_failed, last_of};
+    ghost use Rattle.line_devices.specs.Device.{inner_of, has_failed, is_at_start, is_pipe_closed, last_of};
+    ghost use Rattle.std.specs.Prelude.{is_some};
 
     /// The device over a reader or a writer. Its mark is not set.
     pub fn new(inner: T) -> Device<T>
         ensures inner { inner_of result ≡ inner }
         ensures unmarked { has_failed result ≡ false }
-        ensures nothing_written { last_of result ≡ 10 }
+        ensures open { is_pipe_closed result ≡ false }
+        ensures nothing_written { last_of result ≡ None }
     {
         Device {
             inner,
             has_failed: false,
-            last: b'\n',
+            is_pipe_closed: false,
+            last: None,
         }
     }
 
     /// Whether a line feed is the last byte that was written to it, or no byte was.
     pub fn is_at_line_start(&self) -> bool
-        ensures { result ≡ (last_of self.now == 10) }
+        ensures { result ≡ is_at_start (last_of self.now) }
     {
-        self.last == b'\n'
+        match self.last {
+            Some(byte) => byte == b'\n',
+            None => true,
+        }
+    }
+
+    /// Whether a byte was written to it.
+    pub fn has_written(&self) -> bool
+        ensures { result ≡ is_some (last_of self.now) }
+    {
+        self.last.is_some()
+    }
+
+    /// Whether a write failed because nothing reads the pipe that it writes to.
+    pub fn is_pipe_closed(&self) -> bool
+        ensures { result ≡ is_pipe_closed self.now }
+    {
+        self.is_pipe_closed
     }
 }
 
@@ -121,16 +142,21 @@ impl<T: Write> Sink for Device<T> {
             (T.contents (inner_of self.new)) result text.now }
         ensures mark { MarksFailure result (has_failed self.old) (has_failed self.new) }
         ensures last { IfOk result (λ count. 0 < count
-            → slice_get text.now (count - 1) ≡ Some (last_of self.new)) }
+            → slice_get text.now (count - 1) ≡ last_of self.new) }
     {
         match self.inner.write(text) {
             Ok(count) if count > 0 => {
-                self.last = text[count - 1];
+                self.last = Some(text[count - 1]);
                 Ok(count)
             }
             Ok(count) if text.is_empty() => Ok(count),
-            _ => {
+            Ok(_) => {
                 self.has_failed = true;
+                Err(DeviceFault)
+            }
+            Err(error) => {
+                self.has_failed = true;
+                self.is_pipe_closed = error.kind() == ErrorKind::BrokenPipe;
                 Err(DeviceFault)
             }
         }

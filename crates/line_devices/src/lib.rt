@@ -1,4 +1,4 @@
-//! Bytes in and out: what they come from and go to, the lines that they make, and those that wait to be written.
+//! Bytes in and out: their devices, the lines that they make, and those that are pending.
 #![tactic(auto)]
 
 pub mod devices;

@@ -1,0 +1,7 @@
+pub mod BlockLemmas
+pub mod CountLemmas
+pub mod RowLemmas
+pub mod StandLemmas
+pub mod SumLemmas
+pub mod TakeLemmas
+pub mod TurnLemmas

@@ -1,0 +1,138 @@
+-- The rows of an input: a run of lines of one bucket has a row, and each bucket without lines before the next one.
+use Rattle.std.specs.Prelude.{ℕ, suc, zero, ◌+◌, ◌-◌, ◌^◌, ◌==◌, Bool, true, false, min, List, [], ◌∷◌, ◌++◌, if◌then◌else◌, ℤ, int_lt, Option}
+use Rattle.std.specs.Prelude.{Some, None, Result, Ok, Err}
+use Rattle.std.specs.Option.{option_or}
+use Rattle.std.specs.Ordering.{int_eq}
+use Rattle.line_devices.specs.LineParts.{ended_from, rest_from}
+use Rattle.line_devices.specs.Lines.{lines_of, whole_lines_of}
+use Rattle.line_counts.specs.Counting.{Counting}
+use Rattle.line_counts.specs.declared.tallies.CountFault.{CountFault}
+use Rattle.line_counts.specs.declared.tallies.CountFault.TheVariants.{Missing, Back}
+use Rattle.line_counts.specs.declared.tallies.Row.{Row}
+use Rattle.line_counts.specs.declared.tallies.Tally.{Tally}
+
+-- the greatest count
+abbrev pub most : ℕ
+most = 2 ^ 64 - 1
+
+-- one more, up to the greatest count
+abbrev pub one_more : ℕ → ℕ
+one_more count = min (count + 1) most
+
+-- the tally before the first line
+abbrev pub first_tally : Tally
+first_tally = record { lines = 0; row = None; back = None }
+
+-- so many rows without lines at most, from a bucket on and before another
+unfoldable pub empty_rows : Counting → ℕ → ℤ → ℤ → List ℕ
+empty_rows counting zero from to = []
+empty_rows counting (suc more) from to =
+    if int_lt from to then counting.row from 0 ++ empty_rows counting more (counting.next from) to else []
+
+-- a row, and the buckets without lines between it and a line of another bucket
+abbrev pub rows_to : Counting → Row → ℤ → List ℕ
+rows_to counting row to = counting.row row.start row.count ++ empty_rows counting most (counting.next row.start) to
+
+-- the rows that a line of a bucket ends: those before its own, unless the row has that bucket
+abbrev pub ended_rows : Counting → Option Row → ℤ → List ℕ
+ended_rows counting None start = []
+ended_rows counting (Some row) start = if int_eq row.start start then [] else rows_to counting row start
+
+-- the last row
+abbrev pub last_row : Counting → Option Row → List ℕ
+last_row counting None = []
+last_row counting (Some row) = counting.row row.start row.count
+
+-- the row after a line of a bucket
+abbrev pub row_after : Option Row → ℤ → Row
+row_after None start = record { start = start; count = 1 }
+row_after (Some row) start =
+    if int_eq row.start start then record { start = start; count = one_more row.count } else record { start = start; count = 1 }
+
+-- whether a bucket is before that of the row
+abbrev pub goes_back : Option Row → ℤ → Bool
+goes_back None start = false
+goes_back (Some row) start = int_lt start row.start
+
+-- the text for a line, and the tally after it or the fault that ends the run
+pub record Counted : Type 0 where
+  pub text : List ℕ
+  pub end : Result Tally CountFault
+
+abbrev pub outcome : List ℕ → Result Tally CountFault → Counted
+outcome text end = record { text = text; end = end }
+
+-- the number of the line after a tally
+abbrev pub next_line : Tally → ℕ
+next_line tally = one_more tally.lines
+
+-- the number of a line that goes back
+abbrev pub back_of : Bool → ℕ → Option ℕ
+back_of true line = Some line
+back_of false line = None
+
+-- the tally after a line of a bucket
+abbrev pub tally_after : Tally → ℤ → Tally
+tally_after tally start = record {
+  lines = next_line tally;
+  row = Some (row_after tally.row start);
+  back = option_or tally.back (back_of (goes_back tally.row start) (next_line tally));
+}
+
+-- the tally after a line without a bucket
+abbrev pub tally_passed : Tally → Tally
+tally_passed tally = record { lines = next_line tally; row = tally.row; back = tally.back }
+
+-- the fault of a line if the run is strict: it has no bucket, or goes back
+abbrev pub fault_of : Bool → Tally → Option ℤ → Option CountFault
+fault_of false tally bucket = None
+fault_of true tally None = Some (Missing (next_line tally))
+fault_of true tally (Some start) = if goes_back tally.row start then Some (Back (next_line tally)) else None
+
+-- the rows that a line ends, by its bucket
+abbrev pub rows_by : Counting → Option Row → Option ℤ → List ℕ
+rows_by counting row None = []
+rows_by counting row (Some start) = ended_rows counting row start
+
+-- the tally after a line, by its bucket
+abbrev pub tally_by : Tally → Option ℤ → Tally
+tally_by tally None = tally_passed tally
+tally_by tally (Some start) = tally_after tally start
+
+-- a line, by its fault: that comes after the last row
+abbrev pub count_by : Counting → Option CountFault → Tally → Option ℤ → Counted
+count_by counting (Some fault) tally bucket = outcome (last_row counting tally.row) (Err fault)
+count_by counting None tally bucket = outcome (rows_by counting tally.row bucket) (Ok (tally_by tally bucket))
+
+-- the bucket of the next line
+abbrev pub bucket_at : Counting → Tally → List ℕ → Option ℤ
+bucket_at counting tally line = counting.bucket (tally.lines == 0) line
+
+-- a line
+unfoldable pub count_line : Counting → Bool → Tally → List ℕ → Counted
+count_line counting is_strict tally line =
+    let bucket = bucket_at counting tally line in count_by counting (fault_of is_strict tally bucket) tally bucket
+
+-- what follows a text
+abbrev pub then_on : List ℕ → Result Tally CountFault → (Tally → Counted) → Counted
+then_on text (Ok tally) next = outcome (text ++ (next tally).text) (next tally).end
+then_on text (Err fault) next = outcome text (Err fault)
+
+-- lines, one after another
+unfoldable pub count_lines : Counting → Bool → Tally → List (List ℕ) → Counted
+count_lines counting is_strict tally [] = outcome [] (Ok tally)
+count_lines counting is_strict tally (line ∷ lines) =
+    let first = count_line counting is_strict tally line in then_on first.text first.end (λ next. count_lines counting is_strict next lines)
+
+-- the end of the input, after its last row
+abbrev pub count_end : Counting → Tally → Counted
+count_end counting tally = outcome (last_row counting tally.row) (Ok tally)
+
+-- an input: its lines, and its end
+unfoldable pub count_input : Counting → Bool → List ℕ → Counted
+count_input counting is_strict input =
+    let lines = count_lines counting is_strict first_tally (lines_of input) in then_on lines.text lines.end (count_end counting)
+
+-- the bytes that were read, while more may follow: the lines that ended
+unfoldable pub count_open : Counting → Bool → List ℕ → Counted
+count_open counting is_strict taken = count_lines counting is_strict first_tally (whole_lines_of taken)

@@ -1,0 +1,5 @@
+pub mod Counting
+pub mod Counts
+pub mod Laws
+pub mod Progress
+pub mod Turns

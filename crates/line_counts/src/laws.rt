@@ -1,0 +1,7 @@
+//! Laws of counts: each function here proves one, and does nothing when it is called.
+ghost use Rattle.line_counts.specs.Laws.{CountsAddUp};
+
+/// The rows of a bucket have together as many lines as the input has in that bucket, in any order.
+pub fn counts_add_up()
+    ensures { CountsAddUp }
+{}

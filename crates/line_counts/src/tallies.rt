@@ -1,0 +1,280 @@
+//! The rows that lines make.
+ghost use Rattle.std.specs.Ordering.{int_eq};
+ghost use Rattle.std.specs.Prelude.{◌≡◌, ◌++◌, int_lt, Some};
+ghost use Rattle.line_devices.specs.Writing.{MarksFailure, SendsAll};
+ghost use Rattle.line_counts.specs.Counts.{back_of, bucket_at, count_line, empty_rows, ended_rows, fault_of, first_tally, goes_back, last_row, most};
+ghost use Rattle.line_counts.specs.Counts.{row_after, rows_by, tally_after, tally_by, tally_passed};
+ghost use Rattle.line_counts.specs.Progress.{Takes, mark_after};
+
+use crate::buckets::Buckets;
+use line_devices::devices::{DeviceFault, Sink};
+use line_devices::sending::{Pending, flush, send};
+use utc_times::UtcDateTime;
+
+/// The row of lines of one bucket.
+#[derive(Clone, Copy, Debug)]
+pub struct Row {
+    /// The instant at which the bucket starts.
+    pub start: UtcDateTime,
+    /// The number of its lines, at most 2^64 - 1.
+    pub count: u64,
+}
+
+/// The state after lines.
+#[derive(Clone, Copy, Debug)]
+pub struct Tally {
+    /// Their number, at most 2^64 - 1.
+    pub lines: u64,
+    /// The last row, which may grow.
+    pub row: Option<Row>,
+    /// The number of the first line whose bucket is before that of the row then.
+    pub back: Option<u64>,
+}
+
+/// The reason why a count ended before the end of the input.
+#[derive(Clone, Copy, Debug, PartialEq, Eq)]
+pub enum CountFault {
+    /// A read failed.
+    Read,
+    /// A write failed.
+    Write,
+    /// The line with this number has no bucket.
+    Missing(u64),
+    /// The bucket of the line with this number is before that of the row.
+    Back(u64),
+}
+
+impl From<DeviceFault> for CountFault {
+    ghost use Rattle.line_counts.specs.declared.tallies.CountFault.TheVariants.{Write};
+
+    ghost from_gives = { λ fault result. result ≡ Write };
+
+    fn from(_fault: DeviceFault) -> CountFault {
+        CountFault::Write
+    }
+}
+
+impl Tally {
+    /// Returns the tally before the first line.
+    pub(crate) fn first() -> Tally
+        ensures { result ≡ first_tally }
+    {
+        Tally {
+            lines: 0,
+            row: None,
+            back: None,
+        }
+    }
+}
+
+/// Counts a line, and sends the rows that it ends. A line that ends the run comes after the last
+/// row, and after a write of all that is pending.
+pub(crate) fn take_line<B: Buckets, W: Sink>(
+    buckets: &B,
+    is_strict: bool,
+    writer: &mut W,
+    pending: &mut Pending,
+    tally: &mut Tally,
+    line: &[u8],
+) -> Result<(), CountFault>
+    ensures takes { Takes result (count_line (B.counting buckets.now) is_strict tally.old line.now)
+        tally.new (W.written writer.old) (W.written writer.new) pending.old pending.new }
+    ensures mark { W.is_marked writer.new ≡ mark_after result (W.is_marked writer.old) }
+{
+    let bucket = buckets.bucket_of(tally.lines == 0, line);
+    if let Some(fault) = fault_of(is_strict, tally, &bucket) {
+        send_last(buckets, writer, pending, tally)?;
+        flush(writer, pending)?;
+        return Err(fault);
+    }
+    send_by(buckets, writer, pending, tally, &bucket)?;
+    let after = tally_by(tally, &bucket);
+    *tally = after;
+    Ok(())
+}
+
+// The fault of a line if the run is strict.
+fn fault_of(is_strict: bool, tally: &Tally, bucket: &Option<UtcDateTime>) -> Option<CountFault>
+    ensures { result ≡ fault_of is_strict tally.now bucket.now }
+{
+    if !is_strict {
+        return None;
+    }
+    let number = tally.lines.saturating_add(1);
+    match bucket {
+        None => Some(CountFault::Missing(number)),
+        Some(start) if goes_back(&tally.row, *start) => Some(CountFault::Back(number)),
+        Some(_) => None,
+    }
+}
+
+// Whether a bucket is before that of the row.
+fn goes_back(row: &Option<Row>, start: UtcDateTime) -> bool
+    ensures { result ≡ goes_back row.now start }
+{
+    match row {
+        Some(row) => is_before(start, row.start),
+        None => false,
+    }
+}
+
+// Whether a bucket is before another.
+fn is_before(first: UtcDateTime, second: UtcDateTime) -> bool
+    ensures { result ≡ int_lt first second }
+{
+    first < second
+}
+
+// Whether two buckets are one.
+fn is_same(first: UtcDateTime, second: UtcDateTime) -> bool
+    ensures { result ≡ int_eq first second }
+{
+    first == second
+}
+
+// The tally after a line of a bucket.
+fn tally_after(tally: &Tally, start: UtcDateTime) -> Tally
+    ensures { result ≡ tally_after tally.now start }
+{
+    let number = tally.lines.saturating_add(1);
+    Tally {
+        lines: number,
+        row: Some(row_after(&tally.row, start)),
+        back: tally.back.or(back_of(goes_back(&tally.row, start), number)),
+    }
+}
+
+// The number of a line that goes back.
+fn back_of(goes_back: bool, number: u64) -> Option<u64>
+    ensures { result ≡ back_of goes_back number }
+{
+    if goes_back { Some(number) } else { None }
+}
+
+// The tally after a line without a bucket.
+fn tally_passed(tally: &Tally) -> Tally
+    ensures { result ≡ tally_passed tally.now }
+{
+    Tally {
+        lines: tally.lines.saturating_add(1),
+        row: tally.row,
+        back: tally.back,
+    }
+}
+
+// The tally after a line, by its bucket.
+fn tally_by(tally: &Tally, bucket: &Option<UtcDateTime>) -> Tally
+    ensures { result ≡ tally_by tally.now bucket.now }
+{
+    match bucket {
+        Some(start) => tally_after(tally, *start),
+        None => tally_passed(tally),
+    }
+}
+
+// The row after a line of a bucket.
+fn row_after(row: &Option<Row>, start: UtcDateTime) -> Row
+    ensures { result ≡ row_after row.now start }
+{
+    match row {
+        Some(row) if is_same(row.start, start) => Row {
+            start,
+            count: row.count.saturating_add(1),
+        },
+        _ => Row { start, count: 1 },
+    }
+}
+
+/// Sends the last row.
+pub(crate) fn send_last<B: Buckets, W: Sink>(
+    buckets: &B,
+    writer: &mut W,
+    pending: &mut Pending,
+    tally: &Tally,
+) -> Result<(), DeviceFault>
+    ensures sent { SendsAll result (W.written writer.old) (W.written writer.new)
+        pending.new (pending.old ++ last_row (B.counting buckets.now) tally.now.row) }
+    ensures mark { MarksFailure result (W.is_marked writer.old) (W.is_marked writer.new) }
+{
+    match &tally.row {
+        Some(row) => send_row(buckets, writer, pending, row.start, row.count),
+        None => Ok(()),
+    }
+}
+
+// Sends a row.
+fn send_row<B: Buckets, W: Sink>(
+    buckets: &B,
+    writer: &mut W,
+    pending: &mut Pending,
+    start: UtcDateTime,
+    count: u64,
+) -> Result<(), DeviceFault>
+    ensures sent { SendsAll result (W.written writer.old) (W.written writer.new)
+        pending.new (pending.old ++ (B.counting buckets.now).row start count) }
+    ensures mark { MarksFailure result (W.is_marked writer.old) (W.is_marked writer.new) }
+{
+    let text = buckets.row_of(start, count);
+    send(writer, pending, text.as_bytes())
+}
+
+// Sends the rows that a line ends, by its bucket.
+fn send_by<B: Buckets, W: Sink>(
+    buckets: &B,
+    writer: &mut W,
+    pending: &mut Pending,
+    tally: &Tally,
+    bucket: &Option<UtcDateTime>,
+) -> Result<(), DeviceFault>
+    ensures sent { SendsAll result (W.written writer.old) (W.written writer.new)
+        pending.new (pending.old ++ rows_by (B.counting buckets.now) tally.now.row bucket.now) }
+    ensures mark { MarksFailure result (W.is_marked writer.old) (W.is_marked writer.new) }
+{
+    match (&tally.row, bucket) {
+        (Some(row), Some(start)) => send_ended(buckets, writer, pending, row, *start),
+        (None, _) => Ok(()),
+        (_, None) => Ok(()),
+    }
+}
+
+// Sends the rows that a line of a bucket ends: none, if the row has that bucket.
+fn send_ended<B: Buckets, W: Sink>(
+    buckets: &B,
+    writer: &mut W,
+    pending: &mut Pending,
+    row: &Row,
+    start: UtcDateTime,
+) -> Result<(), DeviceFault>
+    ensures sent { SendsAll result (W.written writer.old) (W.written writer.new)
+        pending.new (pending.old ++ ended_rows (B.counting buckets.now) (Some row.now) start) }
+    ensures mark { MarksFailure result (W.is_marked writer.old) (W.is_marked writer.new) }
+{
+    if is_same(row.start, start) {
+        return Ok(());
+    }
+    send_row(buckets, writer, pending, row.start, row.count)?;
+    send_empty(buckets, writer, pending, buckets.next(row.start), start)
+}
+
+// Sends the rows of buckets without lines, from one on and before another.
+fn send_empty<B: Buckets, W: Sink>(
+    buckets: &B,
+    writer: &mut W,
+    pending: &mut Pending,
+    from: UtcDateTime,
+    to: UtcDateTime,
+) -> Result<(), DeviceFault>
+    ensures sent { SendsAll result (W.written writer.old) (W.written writer.new)
+        pending.new (pending.old ++ empty_rows (B.counting buckets.now) most from to) }
+    ensures mark { MarksFailure result (W.is_marked writer.old) (W.is_marked writer.new) }
+{
+    let mut start = from;
+    'rows: for _row in 0..u64::MAX {
+        if !is_before(start, to) {
+            return Ok(());
+        }
+        send_row(buckets, writer, pending, start, 0)?;
+        start = buckets.next(start);
+    }
+    Ok(())
+}

@@ -1,0 +1,14 @@
+pub mod BufferLemmas
+pub mod ByteLemmas
+pub mod ChoiceLemmas
+pub mod LineLemmas
+pub mod MergeLemmas
+pub mod OrderLemmas
+pub mod PassLemmas
+pub mod ReadLemmas
+pub mod ExistLemmas
+pub mod StateLemmas
+pub mod NextLemmas
+pub mod TextLemmas
+pub mod StepLemmas
+pub mod RunLemmas

@@ -1,0 +1,10 @@
+pub mod Buffers
+pub mod Choices
+pub mod Instants
+pub mod Laws
+pub mod LineFronts
+pub mod Lines
+pub mod Logs
+pub mod Merges
+pub mod Runs
+pub mod Steps

@@ -1,0 +1,72 @@
+-- The lines of a log, with their instants.
+use Rattle.std.specs.Prelude.{ℕ, ◌+◌, ◌-◌, ◌^◌, ◌==◌, Bool, true, false, min, List, [], ◌∷◌, ◌++◌, ℤ, Option, Some, None, if◌then◌else◌}
+use Rattle.std.specs.Option.{option_or}
+use Rattle.line_devices.specs.Lines.{pieces_of, whole_lines_of}
+use Rattle.line_merges.specs.Instants.{is_before, up_to}
+use Rattle.line_merges.specs.LineFronts.{feed_if}
+use Rattle.line_merges.specs.declared.logs.Place.{Place}
+
+-- a line: its number from 1 on, at most 2^64 - 1, the instant up to it, whether that is before the one of the line before, its bytes,
+-- and whether a line feed ends it
+pub record Line : Type 0 where
+  pub number : ℕ
+  pub instant : Option ℤ
+  pub is_back : Bool
+  pub bytes : List ℕ
+  pub is_ended : Bool
+
+-- the text of a line, with its line feed
+abbrev pub line_text : Line → List ℕ
+line_text line = line.bytes ++ feed_if line.is_ended
+
+-- the place before the first line
+abbrev pub first_place : Place
+first_place = record { lines = 0; last = None; back = None }
+
+-- the instant up to a line at a place
+abbrev pub instant_at : (Bool → List ℕ → Option ℤ) → Place → List ℕ → Option ℤ
+instant_at instant place bytes = up_to place.last (instant (place.lines == 0) bytes)
+
+-- the line of these bytes at a place
+abbrev pub line_at : (Bool → List ℕ → Option ℤ) → Place → List ℕ → Bool → Line
+line_at instant place bytes is_ended = record {
+  number = min (place.lines + 1) (2 ^ 64 - 1);
+  instant = instant_at instant place bytes;
+  is_back = is_before (instant_at instant place bytes) place.last;
+  bytes = bytes;
+  is_ended = is_ended;
+}
+
+-- the number of a line that is before the one before it
+abbrev pub back_of : Line → Option ℕ
+back_of line = if line.is_back then Some line.number else None
+
+-- the number of the first such line
+unfoldable pub first_back : List Line → Option ℕ
+first_back [] = None
+first_back (line ∷ lines) = option_or (back_of line) (first_back lines)
+
+-- the place after a line
+abbrev pub place_after : Place → Line → Place
+place_after place line = record { lines = line.number; last = line.instant; back = option_or place.back (back_of line) }
+
+-- lines from a place on, that a line feed ends, and the bytes after the last line feed
+unfoldable pub lines_at : (Bool → List ℕ → Option ℤ) → Place → List (List ℕ) → List ℕ → List Line
+lines_at instant place [] [] = []
+lines_at instant place [] (byte ∷ rest) = line_at instant place (byte ∷ rest) false ∷ []
+lines_at instant place (bytes ∷ lines) rest =
+    line_at instant place bytes true ∷ lines_at instant (place_after place (line_at instant place bytes true)) lines rest
+
+-- the last piece
+abbrev pub last_piece : List (List ℕ) → List ℕ
+last_piece [] = []
+last_piece (piece ∷ []) = piece
+last_piece (piece ∷ next ∷ pieces) = last_piece (next ∷ pieces)
+
+-- the lines of bytes from a place on
+unfoldable pub lines_from : (Bool → List ℕ → Option ℤ) → Place → List ℕ → List Line
+lines_from instant place bytes = lines_at instant place (whole_lines_of bytes) (last_piece (pieces_of bytes))
+
+-- the lines of a log
+unfoldable pub log_lines : (Bool → List ℕ → Option ℤ) → List ℕ → List Line
+log_lines instant log = lines_from instant first_place log

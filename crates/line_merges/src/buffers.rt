@@ -1,0 +1,79 @@
+//! A block of bytes between a reader and its lines.
+ghost use Rattle.std.specs.Prelude.{◌≡◌, ◌≤◌, ◌<◌, ◌+◌, [], ◌++◌, drop, length};
+ghost use Rattle.line_merges.specs.Buffers.{ReadsMore};
+
+use line_devices::devices::{DeviceFault, Source};
+use std::marker::Model;
+
+/// The most bytes of a buffer.
+pub const ROOM: usize = 65_536;
+
+/// Bytes that were read and not used yet. A contract sees the list of them.
+#[derive(Drop)]
+pub struct Buffer {
+    block: [u8; ROOM],
+    start: usize,
+    end: usize,
+}
+
+impl Model for Buffer {
+    ghost use Rattle.std.specs.Prelude.{◌≤◌, ℕ, List, drop, take};
+
+    ghost Value = { List ℕ };
+
+    ghost view = { λ buffer. drop buffer.start (take buffer.end buffer.block) };
+
+    ghost invariant = { λ buffer. (buffer.start ≤ buffer.end) × (buffer.end ≤ 65536) };
+}
+
+impl Buffer {
+    /// Returns a buffer without bytes.
+    pub(crate) fn new() -> Buffer
+        ensures { result ≡ [] }
+    {
+        Buffer {
+            block: [0; ROOM],
+            start: 0,
+            end: 0,
+        }
+    }
+
+    /// Returns the bytes.
+    pub(crate) fn bytes(&self) -> &[u8]
+        ensures value { result.now ≡ self.now }
+        ensures length { length result.now ≤ 65536 }
+    {
+        &self.block[self.start..self.end]
+    }
+
+    /// Returns the number of bytes.
+    pub(crate) fn len(&self) -> usize
+        ensures { result ≡ length self.now }
+    {
+        self.end - self.start
+    }
+
+    /// Removes the first bytes, as many as the count.
+    pub(crate) fn skip(&mut self, count: usize)
+        requires { count ≤ length self.old }
+        ensures { self.new ≡ drop count self.old }
+    {
+        self.start += count;
+    }
+
+    /// Reads more bytes after those that are there, and returns their number. 0 is the end of the
+    /// bytes.
+    pub(crate) fn read_more<R: Source>(&mut self, reader: &mut R) -> Result<usize, DeviceFault>
+        requires { length self.old < 65536 }
+        ensures { ReadsMore result self.old self.new (R.left reader.old) (R.left reader.new)
+            (R.is_marked reader.old) (R.is_marked reader.new) }
+    {
+        let count = self.end - self.start;
+        self.block.copy_within(self.start..self.end, 0);
+        self.start = 0;
+        self.end = count;
+        let more = reader.read_some(&mut self.block[count..])?;
+        self.end = count + more;
+        Ok(more)
+    }
+}

@@ -1,0 +1,28 @@
+//! Laws of merges: each function here proves one, and does nothing when it is called.
+ghost use Rattle.line_merges.specs.Laws.{LinesKeepBytes, MergesAreInOrder, MergesAreOne, MergesKeepLogs, MergesKeepTogether};
+
+/// A merge has the lines of each log, in their order, and no others.
+pub fn merges_keep_logs()
+    ensures { MergesKeepLogs }
+{}
+
+/// Where each log is in order, so is the merge, and lines of one instant are in the order of their
+/// logs.
+pub fn merges_are_in_order()
+    ensures { MergesAreInOrder }
+{}
+
+/// Logs have one merge.
+pub fn merges_are_one()
+    ensures { MergesAreOne }
+{}
+
+/// A line without an instant follows the line before it in its log.
+pub fn merges_keep_together()
+    ensures { MergesKeepTogether }
+{}
+
+/// The lines of a log have all its bytes.
+pub fn lines_keep_bytes()
+    ensures { LinesKeepBytes }
+{}

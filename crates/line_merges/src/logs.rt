@@ -1,0 +1,269 @@
+//! A log, read line by line.
+ghost use Rattle.std.specs.Prelude.{◌≡◌, ◌<◌, ◌≤◌, ◌++◌, true, false, [], drop, length, take, Some, None, IfOk, OnOk, if◌then◌else◌};
+ghost use Rattle.line_devices.specs.Device.{devices};
+ghost use Rattle.line_devices.specs.Writing.{MarksFailure, SendsAll};
+ghost use Rattle.line_merges.specs.Instants.{is_before};
+ghost use Rattle.line_merges.specs.LineFronts.{behind_line, front_line, has_line_feed};
+ghost use Rattle.line_merges.specs.Lines.{first_place};
+ghost use Rattle.line_merges.specs.Logs.{FindsNext, IsEnough, IsReady, PassesLine, ReadsOn, place_behind};
+
+use crate::buffers::Buffer;
+use crate::instants::{Instants, LONGEST_HEAD, is_before, up_to};
+use line_devices::devices::{DeviceFault, Sink, Source};
+use line_devices::places::place_of;
+use line_devices::sending::{Pending, flush, send};
+
+/// The reason why a log was not read on.
+#[derive(Clone, Copy, Debug, PartialEq, Eq)]
+pub enum LogFault {
+    /// A read failed.
+    Read,
+    /// A write failed.
+    Write,
+    /// A line had no end after 2^64 - 1 reads.
+    Endless,
+}
+
+impl From<DeviceFault> for LogFault {
+    ghost use Rattle.line_merges.specs.declared.logs.LogFault.TheVariants.{Write};
+
+    ghost from_gives = { λ fault result. result ≡ Write };
+
+    fn from(_fault: DeviceFault) -> LogFault {
+        LogFault::Write
+    }
+}
+
+/// The place between two lines of a log.
+#[derive(Clone, Copy, Debug)]
+pub struct Place {
+    /// The number of lines before it, at most 2^64 - 1.
+    pub lines: u64,
+    /// The last instant of these lines.
+    pub last: Option<i128>,
+    /// The number of the first of these lines that is earlier than the one before it.
+    pub back: Option<u64>,
+}
+
+/// The front of a log: the bytes that were read and not used yet, and the next line.
+#[derive(Drop)]
+pub struct Front {
+    /// The bytes.
+    pub buffer: Buffer,
+    /// Whether no more bytes follow.
+    pub is_ended: bool,
+    /// The place before the next line.
+    pub place: Place,
+    /// Whether there is a next line.
+    pub has_line: bool,
+    /// The instant up to the next line.
+    pub next: Option<i128>,
+}
+
+/// A log: its reader, and its front.
+#[derive(Drop)]
+pub struct Log<R> {
+    /// The reader.
+    pub reader: R,
+    /// The front.
+    pub front: Front,
+}
+
+impl Place {
+    /// Returns the place before the first line.
+    pub(crate) fn first() -> Place
+        ensures { result ≡ first_place }
+    {
+        Place {
+            lines: 0,
+            last: None,
+            back: None,
+        }
+    }
+}
+
+impl<R: Source> Log<R> {
+    /// Returns the log of a reader, before its first line.
+    pub(crate) fn new(reader: R) -> Log<R>
+        ensures reader { result.reader ≡ reader }
+        ensures empty { result.front.buffer ≡ [] }
+        ensures unended { result.front.is_ended ≡ false }
+        ensures place { result.front.place ≡ first_place }
+    {
+        Log {
+            reader,
+            front: Front {
+                buffer: Buffer::new(),
+                is_ended: false,
+                place: Place::first(),
+                has_line: false,
+                next: None,
+            },
+        }
+    }
+}
+
+// Reads more bytes, unless the log is at its end. Before that it writes the pending ones, since a
+// reader may wait.
+fn read_on<R: Source, W: Sink>(
+    reader: &mut R,
+    front: &mut Front,
+    writer: &mut W,
+    pending: &mut Pending,
+) -> Result<(), LogFault>
+    requires { length front.old.buffer < 65536 }
+    ensures { ReadsOn result front.old front.new
+        (devices (R.left reader.old) (W.written writer.old)
+        (R.is_marked reader.old) (W.is_marked writer.old))
+        (devices (R.left reader.new) (W.written writer.new)
+        (R.is_marked reader.new) (W.is_marked writer.new)) pending.old pending.new }
+{
+    if front.is_ended {
+        return Ok(());
+    }
+    flush(writer, pending)?;
+    match front.buffer.read_more(reader) {
+        Ok(count) => {
+            front.is_ended = count == 0;
+            Ok(())
+        }
+        Err(_) => Err(LogFault::Read),
+    }
+}
+
+// Sends the first line of the bytes, or all of them if it does not end there. Returns whether it
+// ends there.
+fn send_part<W: Sink>(
+    writer: &mut W,
+    pending: &mut Pending,
+    buffer: &mut Buffer,
+) -> Result<bool, DeviceFault>
+    ensures sent { SendsAll result (W.written writer.old) (W.written writer.new)
+        pending.new (pending.old ++ front_line buffer.old) }
+    ensures mark { MarksFailure result (W.is_marked writer.old) (W.is_marked writer.new) }
+    ensures feed { IfOk result (λ is_ended. is_ended ≡ has_line_feed buffer.old) }
+    ensures left { OnOk result (buffer.new ≡ behind_line buffer.old) }
+{
+    let bytes = buffer.bytes();
+    let (count, is_ended) = front_of(bytes);
+    send(writer, pending, &bytes[..count])?;
+    buffer.skip(count);
+    Ok(is_ended)
+}
+
+// The number of bytes of the first line, with its line feed, and whether it has one.
+fn front_of(bytes: &[u8]) -> (usize, bool)
+    ensures bound { result.0 ≤ length bytes.now }
+    ensures line { take result.0 bytes.now ≡ front_line bytes.now }
+    ensures rest { drop result.0 bytes.now ≡ behind_line bytes.now }
+    ensures feed { result.1 ≡ has_line_feed bytes.now }
+{
+    let end = place_of(b'\n', bytes, 0);
+    if end < bytes.len() {
+        (end + 1, true)
+    } else {
+        (end, false)
+    }
+}
+
+/// Reads until the next line of a log is known, and its instant.
+pub(crate) fn find_next<I: Instants, R: Source, W: Sink>(
+    instants: &I,
+    reader: &mut R,
+    front: &mut Front,
+    writer: &mut W,
+    pending: &mut Pending,
+) -> Result<(), LogFault>
+    ensures { FindsNext result (I.instant instants.now) front.old front.new
+        (devices (R.left reader.old) (W.written writer.old)
+        (R.is_marked reader.old) (W.is_marked writer.old))
+        (devices (R.left reader.new) (W.written writer.new)
+        (R.is_marked reader.new) (W.is_marked writer.new)) pending.old pending.new }
+{
+    'reads: while needs_more(front) {
+        read_on(reader, front, writer, pending)?;
+    }
+    look(instants, front);
+    Ok(())
+}
+
+// Whether the next line of a log needs more bytes to be known.
+fn needs_more(front: &Front) -> bool
+    ensures more { result ≡ true → (front.now.is_ended ≡ false)
+        × (length front.now.buffer < 1027) × (has_line_feed front.now.buffer ≡ false) }
+    ensures enough { result ≡ false → IsEnough front.now }
+{
+    if front.is_ended || front.buffer.len() >= LONGEST_HEAD {
+        return false;
+    }
+    let (_, is_ended) = front_of(front.buffer.bytes());
+    !is_ended
+}
+
+// Finds the next line in the bytes that were read, and its instant.
+fn look<I: Instants>(instants: &I, front: &mut Front)
+    requires { IsEnough front.old }
+    ensures ready { IsReady (I.instant instants.now) front.new }
+    ensures buffer { front.new.buffer ≡ front.old.buffer }
+    ensures ended { front.new.is_ended ≡ front.old.is_ended }
+    ensures place { front.new.place ≡ front.old.place }
+{
+    let bytes = front.buffer.bytes();
+    let end = place_of(b'\n', bytes, 0);
+    let own = instants.instant_of(front.place.lines == 0, &bytes[..end]);
+    let is_empty = bytes.is_empty();
+    front.has_line = !is_empty;
+    front.next = up_to(front.place.last, own);
+}
+
+/// Sends the next line of a log, with its line feed if it has one, and returns whether it has. A
+/// read that is needed comes after a write of all that is pending.
+pub(crate) fn pass_line<R: Source, W: Sink>(
+    reader: &mut R,
+    front: &mut Front,
+    writer: &mut W,
+    pending: &mut Pending,
+) -> Result<bool, LogFault>
+    ensures { PassesLine result front.old front.new
+        (devices (R.left reader.old) (W.written writer.old)
+        (R.is_marked reader.old) (W.is_marked writer.old))
+        (devices (R.left reader.new) (W.written writer.new)
+        (R.is_marked reader.new) (W.is_marked writer.new)) pending.old pending.new }
+{
+    'parts: for _read in 0..u64::MAX {
+        if send_part(writer, pending, &mut front.buffer)? {
+            front.place = place_behind(front);
+            return Ok(true);
+        }
+        read_on(reader, front, writer, pending)?;
+        if front.is_ended {
+            front.place = place_behind(front);
+            return Ok(false);
+        }
+    }
+    flush(writer, pending)?;
+    Err(LogFault::Endless)
+}
+
+// The place after the next line.
+fn place_behind(front: &Front) -> Place
+    ensures { result ≡ place_behind front.now }
+{
+    let number = front.place.lines.saturating_add(1);
+    Place {
+        lines: number,
+        last: front.next,
+        back: front.place.back.or(back_of(front, number)),
+    }
+}
+
+// The number of the next line, if it is earlier than the one before it.
+fn back_of(front: &Front, number: u64) -> Option<u64>
+    ensures { result ≡ if is_before front.now.next front.now.place.last then Some number else None }
+{
+    if is_before(front.next, front.place.last) {
+        Some(number)
+    } else {
+        None
+    }
+}

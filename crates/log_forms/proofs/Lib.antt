@@ -1,0 +1,5 @@
+mod ApartLemmas
+mod ChoiceLemmas
+mod FrontLemmas
+mod RangeLemmas
+mod ReadBackLemmas

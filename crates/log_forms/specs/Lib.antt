@@ -1,0 +1,15 @@
+pub mod Marks
+pub mod Json
+pub mod Places
+pub mod Ends
+pub mod Forms
+pub mod Instants
+pub mod Stamps
+pub mod Choices
+pub mod Laws
+pub mod Lacking
+pub mod Years
+pub mod FieldNames
+pub mod PlaceWords
+pub mod EndLemmas
+pub mod WithinLemmas

@@ -1,0 +1,370 @@
+//! Forms by their names.
+ghost use Rattle.std.specs.Prelude.{◌≡◌, ◌≤◌, length};
+ghost use Rattle.log_forms.specs.Forms.{ahead_of, digits_of, form_name, items_of, lead_of, name_in, sample_of};
+
+use crate::tables;
+use format_descriptions::Item;
+
+/// A form by its name.
+#[derive(Clone, Copy, Debug, PartialEq, Eq)]
+pub enum FormName {
+    /// `rfc3339`, as `2024-02-29T12:00:00.5+05:30`.
+    Rfc3339,
+    /// `rfc3339-comma`, as `2024-02-29T12:00:00,5+05:30`.
+    Rfc3339Comma,
+    /// `journald`, as `2024-02-29T12:00:00+0530`.
+    Journald,
+    /// `rfc5424`, as `<34>1 2024-02-29T12:00:00.003Z`.
+    Rfc5424,
+    /// `rfc3164`, as `<34>Feb 29 12:00:00`.
+    Rfc3164,
+    /// `git`, as `2024-02-29 12:00:00 +0530`.
+    Git,
+    /// `postgres`, as `2024-02-29 12:00:00.123 UTC`.
+    Postgres,
+    /// `clf`, as `29/Feb/2024:12:00:00 +0530`.
+    Clf,
+    /// `git-default`, as `Thu Feb 29 12:00:00 2024 +0530`.
+    GitDefault,
+    /// `date`, as `Thu Feb 29 12:00:00 UTC 2024`.
+    Date,
+    /// `rfc2822`, as `Thu, 29 Feb 2024 12:00:00 +0530`.
+    Rfc2822,
+    /// `haproxy`, as `29/Feb/2024:12:00:00.123`.
+    Haproxy,
+    /// `nginx-error`, as `2024/02/29 12:00:00`.
+    NginxError,
+    /// `local-comma`, as `2024-02-29 12:00:00,123`.
+    LocalComma,
+    /// `local`, as `2024-02-29 12:00:00.123`.
+    Local,
+    /// `two-spaces`, as `2024-02-29  12:00:00`.
+    TwoSpaces,
+    /// `apache-error`, as `Thu Feb 29 12:00:00.123456 2024`.
+    ApacheError,
+    /// `redis`, as `29 Feb 2024 12:00:00.123`.
+    Redis,
+    /// `tomcat`, as `29-Feb-2024 12:00:00.123`.
+    Tomcat,
+    /// `erlang`, as `29-Feb-2024::12:00:00`.
+    Erlang,
+    /// `bgl`, as `2024-02-29-12.00.00.123456`.
+    Bgl,
+    /// `syslog`, as `Feb 29 12:00:00`.
+    Syslog,
+    /// `klog`, as `I0229 12:00:00.123456`.
+    Klog,
+    /// `android`, as `02-29 12:00:00.123`.
+    Android,
+    /// `unix`, as `1709188200.123`.
+    Unix,
+    /// `unix-ms`, as `1709188200123`.
+    UnixMs,
+    /// `unix-us`, as `1709188200123456`.
+    UnixUs,
+    /// `unix-ns`, as `1709188200123456789`.
+    UnixNs,
+    /// `mysql-5.6`, as `240229 12:00:00`.
+    Mysql56,
+    /// `hdfs`, as `240229 120000`.
+    Hdfs,
+    /// `spark`, as `24/02/29 12:00:00`.
+    Spark,
+}
+
+/// All forms, in the order in which one is chosen. `CHOSEN` has the number of those that are.
+pub const FORMS: [FormName; 31] = [
+    FormName::Rfc3339,
+    FormName::Rfc3339Comma,
+    FormName::Journald,
+    FormName::Rfc5424,
+    FormName::Rfc3164,
+    FormName::Git,
+    FormName::Postgres,
+    FormName::Clf,
+    FormName::GitDefault,
+    FormName::Date,
+    FormName::Rfc2822,
+    FormName::Haproxy,
+    FormName::NginxError,
+    FormName::LocalComma,
+    FormName::Local,
+    FormName::TwoSpaces,
+    FormName::ApacheError,
+    FormName::Redis,
+    FormName::Tomcat,
+    FormName::Erlang,
+    FormName::Bgl,
+    FormName::Syslog,
+    FormName::Klog,
+    FormName::Android,
+    FormName::Unix,
+    FormName::UnixMs,
+    FormName::UnixUs,
+    FormName::UnixNs,
+    FormName::Mysql56,
+    FormName::Hdfs,
+    FormName::Spark,
+];
+
+/// The number of the forms of [`FORMS`] that are chosen without a name. Those after them have years
+/// of two digits, from 1970 to 2069, and are read by their names alone.
+pub const CHOSEN: usize = 28;
+
+/// The name of a form, as the command line has it.
+pub fn form_name(name: FormName) -> &'static str
+    ensures { result.now ≡ form_name name }
+{
+    match name {
+        FormName::Rfc3339 => "rfc3339",
+        FormName::Rfc3339Comma => "rfc3339-comma",
+        FormName::Journald => "journald",
+        FormName::Rfc5424 => "rfc5424",
+        FormName::Rfc3164 => "rfc3164",
+        FormName::Git => "git",
+        FormName::Postgres => "postgres",
+        FormName::Clf => "clf",
+        FormName::GitDefault => "git-default",
+        FormName::Date => "date",
+        FormName::Rfc2822 => "rfc2822",
+        FormName::Haproxy => "haproxy",
+        FormName::NginxError => "nginx-error",
+        FormName::LocalComma => "local-comma",
+        FormName::Local => "local",
+        FormName::TwoSpaces => "two-spaces",
+        FormName::ApacheError => "apache-error",
+        FormName::Redis => "redis",
+        FormName::Tomcat => "tomcat",
+        FormName::Erlang => "erlang",
+        FormName::Bgl => "bgl",
+        FormName::Syslog => "syslog",
+        FormName::Klog => "klog",
+        FormName::Android => "android",
+        FormName::Unix => "unix",
+        FormName::UnixMs => "unix-ms",
+        FormName::UnixUs => "unix-us",
+        FormName::UnixNs => "unix-ns",
+        FormName::Mysql56 => "mysql-5.6",
+        FormName::Hdfs => "hdfs",
+        FormName::Spark => "spark",
+    }
+}
+
+/// A sample of a form.
+pub fn sample_of(name: FormName) -> &'static str
+    ensures { result.now ≡ sample_of name }
+{
+    match name {
+        FormName::Rfc3339 => "2024-02-29T12:00:00.5+05:30",
+        FormName::Rfc3339Comma => "2024-02-29T12:00:00,5+05:30",
+        FormName::Journald => "2024-02-29T12:00:00+0530",
+        FormName::Rfc5424 => "<34>1 2024-02-29T12:00:00.003Z",
+        FormName::Rfc3164 => "<34>Feb 29 12:00:00",
+        FormName::Git => "2024-02-29 12:00:00 +0530",
+        FormName::Postgres => "2024-02-29 12:00:00.123 UTC",
+        FormName::Clf => "29/Feb/2024:12:00:00 +0530",
+        FormName::GitDefault => "Thu Feb 29 12:00:00 2024 +0530",
+        FormName::Date => "Thu Feb 29 12:00:00 UTC 2024",
+        FormName::Rfc2822 => "Thu, 29 Feb 2024 12:00:00 +0530",
+        FormName::Haproxy => "29/Feb/2024:12:00:00.123",
+        FormName::NginxError => "2024/02/29 12:00:00",
+        FormName::LocalComma => "2024-02-29 12:00:00,123",
+        FormName::Local => "2024-02-29 12:00:00.123",
+        FormName::TwoSpaces => "2024-02-29  12:00:00",
+        FormName::ApacheError => "Thu Feb 29 12:00:00.123456 2024",
+        FormName::Redis => "29 Feb 2024 12:00:00.123",
+        FormName::Tomcat => "29-Feb-2024 12:00:00.123",
+        FormName::Erlang => "29-Feb-2024::12:00:00",
+        FormName::Bgl => "2024-02-29-12.00.00.123456",
+        FormName::Syslog => "Feb 29 12:00:00",
+        FormName::Klog => "I0229 12:00:00.123456",
+        FormName::Android => "02-29 12:00:00.123",
+        FormName::Unix => "1709188200.123",
+        FormName::UnixMs => "1709188200123",
+        FormName::UnixUs => "1709188200123456",
+        FormName::UnixNs => "1709188200123456789",
+        FormName::Mysql56 => "240229 12:00:00",
+        FormName::Hdfs => "240229 120000",
+        FormName::Spark => "24/02/29 12:00:00",
+    }
+}
+
+// The items of a form.
+pub(crate) fn items_of(name: FormName) -> &'static [Item]
+    ensures value { result.now ≡ items_of name }
+    ensures length { length result.now ≤ 64 }
+{
+    match name {
+        FormName::Rfc3339 => &tables::RFC3339,
+        FormName::Rfc3339Comma => &tables::RFC3339_COMMA,
+        FormName::Journald => &tables::JOURNALD,
+        FormName::Rfc5424 => &tables::RFC5424,
+        FormName::Rfc3164 => &tables::RFC3164,
+        FormName::Git => &tables::GIT,
+        FormName::Postgres => &tables::POSTGRES,
+        FormName::Clf => &tables::CLF,
+        FormName::GitDefault => &tables::GIT_DEFAULT,
+        FormName::Date => &tables::DATE,
+        FormName::Rfc2822 => &tables::RFC2822,
+        FormName::Haproxy => &tables::HAPROXY,
+        FormName::NginxError => &tables::NGINX_ERROR,
+        FormName::LocalComma => &tables::LOCAL_COMMA,
+        FormName::Local => &tables::LOCAL,
+        FormName::TwoSpaces => &tables::TWO_SPACES,
+        FormName::ApacheError => &tables::APACHE_ERROR,
+        FormName::Redis => &tables::REDIS,
+        FormName::Tomcat => &tables::TOMCAT,
+        FormName::Erlang => &tables::ERLANG,
+        FormName::Bgl => &tables::BGL,
+        FormName::Syslog => &tables::SYSLOG,
+        FormName::Klog => &tables::KLOG,
+        FormName::Android => &tables::ANDROID,
+        FormName::Unix => &tables::UNIX,
+        FormName::UnixMs => &tables::UNIX_MS,
+        FormName::UnixUs => &tables::UNIX_US,
+        FormName::UnixNs => &tables::UNIX_NS,
+        FormName::Mysql56 => &tables::MYSQL_5_6,
+        FormName::Hdfs => &tables::HDFS,
+        FormName::Spark => &tables::SPARK,
+    }
+}
+
+// The items before a stamp of a form, which are no part of it.
+pub(crate) fn lead_of(name: FormName) -> &'static [Item]
+    ensures value { result.now ≡ lead_of name }
+    ensures length { length result.now ≤ 8 }
+{
+    match name {
+        FormName::Rfc3339 => &[],
+        FormName::Rfc3339Comma => &[],
+        FormName::Journald => &[],
+        FormName::Rfc5424 => &tables::RFC5424_LEAD,
+        FormName::Rfc3164 => &tables::RFC3164_LEAD,
+        FormName::Git => &[],
+        FormName::Postgres => &[],
+        FormName::Clf => &[],
+        FormName::GitDefault => &[],
+        FormName::Date => &[],
+        FormName::Rfc2822 => &[],
+        FormName::Haproxy => &[],
+        FormName::NginxError => &[],
+        FormName::LocalComma => &[],
+        FormName::Local => &[],
+        FormName::TwoSpaces => &[],
+        FormName::ApacheError => &[],
+        FormName::Redis => &[],
+        FormName::Tomcat => &[],
+        FormName::Erlang => &[],
+        FormName::Bgl => &[],
+        FormName::Syslog => &[],
+        FormName::Klog => &tables::KLOG_LEAD,
+        FormName::Android => &[],
+        FormName::Unix => &[],
+        FormName::UnixMs => &[],
+        FormName::UnixUs => &[],
+        FormName::UnixNs => &[],
+        FormName::Mysql56 => &[],
+        FormName::Hdfs => &[],
+        FormName::Spark => &[],
+    }
+}
+
+// The number of the items before the digits that are counted.
+pub(crate) fn ahead_of(name: FormName) -> usize
+    ensures { result ≡ ahead_of name }
+{
+    match name {
+        FormName::Rfc3339 => 0,
+        FormName::Rfc3339Comma => 0,
+        FormName::Journald => 0,
+        FormName::Rfc5424 => 0,
+        FormName::Rfc3164 => 0,
+        FormName::Git => 0,
+        FormName::Postgres => 0,
+        FormName::Clf => 4,
+        FormName::GitDefault => 15,
+        FormName::Date => 20,
+        FormName::Rfc2822 => 11,
+        FormName::Haproxy => 4,
+        FormName::NginxError => 0,
+        FormName::LocalComma => 0,
+        FormName::Local => 0,
+        FormName::TwoSpaces => 0,
+        FormName::ApacheError => 18,
+        FormName::Redis => 4,
+        FormName::Tomcat => 4,
+        FormName::Erlang => 4,
+        FormName::Bgl => 0,
+        FormName::Syslog => 0,
+        FormName::Klog => 0,
+        FormName::Android => 0,
+        FormName::Unix => 0,
+        FormName::UnixMs => 0,
+        FormName::UnixUs => 0,
+        FormName::UnixNs => 0,
+        FormName::Mysql56 => 0,
+        FormName::Hdfs => 0,
+        FormName::Spark => 0,
+    }
+}
+
+// How many digits a text has behind these items, if they are counted.
+pub(crate) fn digits_of(name: FormName) -> Option<usize>
+    ensures { result ≡ digits_of name }
+{
+    match name {
+        FormName::Rfc3339 => Some(4),
+        FormName::Rfc3339Comma => Some(4),
+        FormName::Journald => Some(4),
+        FormName::Rfc5424 => Some(4),
+        FormName::Rfc3164 => None,
+        FormName::Git => Some(4),
+        FormName::Postgres => Some(4),
+        FormName::Clf => Some(4),
+        FormName::GitDefault => Some(4),
+        FormName::Date => Some(4),
+        FormName::Rfc2822 => Some(4),
+        FormName::Haproxy => Some(4),
+        FormName::NginxError => Some(4),
+        FormName::LocalComma => Some(4),
+        FormName::Local => Some(4),
+        FormName::TwoSpaces => Some(4),
+        FormName::ApacheError => Some(4),
+        FormName::Redis => Some(4),
+        FormName::Tomcat => Some(4),
+        FormName::Erlang => Some(4),
+        FormName::Bgl => Some(4),
+        FormName::Syslog => None,
+        FormName::Klog => Some(4),
+        FormName::Android => Some(2),
+        FormName::Unix => Some(10),
+        FormName::UnixMs => Some(13),
+        FormName::UnixUs => Some(16),
+        FormName::UnixNs => Some(19),
+        FormName::Mysql56 => Some(6),
+        FormName::Hdfs => Some(6),
+        FormName::Spark => Some(2),
+    }
+}
+
+/// The form of a name, if it is one.
+pub fn name_of(text: &[u8]) -> Option<FormName>
+    ensures { result ≡ name_in FORMS text.now }
+{
+    name_in(&FORMS, text)
+}
+
+// The first of these forms that has the name.
+#[tactic(auto, unfolding(crate::specs::Forms::name_in))]
+fn name_in(names: &[FormName], text: &[u8]) -> Option<FormName>
+    ensures { result ≡ name_in names.now text.now }
+{
+    let Some((name, names)) = names.split_first() else {
+        return None;
+    };
+    if form_name(*name).as_bytes() == text {
+        Some(*name)
+    } else {
+        name_in(names, text)
+    }
+}

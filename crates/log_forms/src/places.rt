@@ -1,0 +1,118 @@
+//! Where in a line a stamp is.
+ghost use Rattle.std.specs.Prelude.{◌≡◌, ◌≤◌, length, option_map, IfSome, true};
+ghost use Rattle.rfc3339.specs.Reading.{mark_at};
+ghost use Rattle.log_forms.specs.Places.{behind_text, field_at, text_at};
+ghost use Rattle.log_forms.specs.Marks.{bytes_at, is_blank, past_blanks};
+
+use crate::json::{JsonState, value_of};
+
+/// Where in a line a stamp begins.
+#[derive(Clone, Copy, Debug, PartialEq, Eq)]
+pub enum Place {
+    /// At the front.
+    Front,
+    /// At the front of the field with this number, counted from 1. Spaces and tabs separate fields.
+    Field(usize),
+    /// After the first place of a text.
+    After,
+    /// At the value of the first member of a name, in the outermost object of JSON.
+    Json,
+}
+
+// The line from a place on. The text is the one of `After`, and the name of `Json`.
+#[tactic(auto, unfolding(crate::specs::Places::text_at))]
+pub(crate) fn text_at<'a>(place: Place, text: &[u8], line: &'a [u8]) -> Option<&'a [u8]>
+    requires { length line.now ≤ 1_024 }
+    ensures value { option_map (λ rest. rest.now) result ≡ text_at place text.now line.now }
+    ensures shorter { IfSome result (λ rest. length rest.now ≤ length line.now) }
+{
+    match place {
+        Place::Front => Some(line),
+        Place::Field(number) => field_at(true, number, line),
+        Place::After => behind_text(text, line),
+        Place::Json => value_of(text, JsonState::Outside, 0, line),
+    }
+}
+
+// The line from the field with this number on, by whether a blank or the front of the line is before it.
+#[tactic(auto, unfolding(crate::specs::Places::field_at))]
+fn field_at(is_behind_blank: bool, number: usize, line: &[u8]) -> Option<&[u8]>
+    ensures value { option_map (λ rest. rest.now) result
+        ≡ field_at is_behind_blank number line.now }
+    ensures shorter { IfSome result (λ rest. length rest.now ≤ length line.now) }
+{
+    let Some((first, rest)) = line.split_first() else {
+        return None;
+    };
+    if is_blank(*first) {
+        return field_at(true, number, rest);
+    }
+    if !is_behind_blank {
+        return field_at(false, number, rest);
+    }
+    if number == 1 {
+        return Some(line);
+    }
+    field_at(false, number.saturating_sub(1), rest)
+}
+
+// Whether a byte is a space or a tab.
+pub(crate) fn is_blank(byte: u8) -> bool
+    ensures { result ≡ is_blank byte }
+{
+    byte == b' ' || byte == b'\t'
+}
+
+// What follows the first place of a text.
+#[tactic(auto, unfolding(crate::specs::Places::behind_text))]
+fn behind_text<'a>(text: &[u8], line: &'a [u8]) -> Option<&'a [u8]>
+    ensures value { option_map (λ rest. rest.now) result ≡ behind_text text.now line.now }
+    ensures shorter { IfSome result (λ rest. length rest.now ≤ length line.now) }
+{
+    let Some((_, more)) = line.split_first() else {
+        return None;
+    };
+    match after_bytes(text, line) {
+        Some(rest) => Some(rest),
+        None => behind_text(text, more),
+    }
+}
+
+// What follows these bytes at the front of a text.
+#[tactic(auto, unfolding(crate::specs::Marks::bytes_at))]
+pub(crate) fn after_bytes<'a>(bytes: &[u8], text: &'a [u8]) -> Option<&'a [u8]>
+    ensures value { option_map (λ rest. rest.now) result ≡ bytes_at bytes.now text.now }
+    ensures shorter { IfSome result (λ rest. length rest.now ≤ length text.now) }
+{
+    let Some((first, bytes)) = bytes.split_first() else {
+        return Some(text);
+    };
+    let Some(rest) = after_mark(*first, text) else {
+        return None;
+    };
+    after_bytes(bytes, rest)
+}
+
+// What follows a byte at the front of a text.
+#[tactic(auto, unfolding(rfc3339::specs::Reading::mark_at))]
+pub(crate) fn after_mark(mark: u8, text: &[u8]) -> Option<&[u8]>
+    ensures value { option_map (λ rest. rest.now) result ≡ mark_at mark text.now }
+    ensures shorter { IfSome result (λ rest. length rest.now ≤ length text.now) }
+{
+    match text.split_first() {
+        Some((first, text)) if *first == mark => Some(text),
+        _ => None,
+    }
+}
+
+// What follows the blanks at the front of a text.
+#[tactic(auto, unfolding(crate::specs::Marks::past_blanks))]
+pub(crate) fn past_blanks(text: &[u8]) -> &[u8]
+    ensures value { result.now ≡ past_blanks text.now }
+    ensures shorter { length result.now ≤ length text.now }
+{
+    match text.split_first() {
+        Some((first, rest)) if is_blank(*first) => past_blanks(rest),
+        _ => text,
+    }
+}

@@ -1,0 +1,83 @@
+//! Places in a line.
+use crate::tests::stamp;
+use log_forms::{FormName, Place, StampRefusal};
+use std::process::Abort;
+
+// 2024-02-29T12:00:00 in UTC.
+const NOON: i128 = 1_709_208_000_000_000_000;
+
+// Ends the test unless a stamp of RFC 3339 is in the line from this byte on.
+fn is_found(rt: &impl Abort, place: Place, text: &[u8], line: &[u8], start: usize) {
+    assert_eq!(rt;
+        stamp(FormName::Rfc3339, place, text, line),
+        Ok((NOON, start, 20))
+    );
+}
+
+// Ends the test unless there is none.
+fn is_nowhere(rt: &impl Abort, place: Place, text: &[u8], line: &[u8]) {
+    assert_eq!(rt;
+        stamp(FormName::Rfc3339, place, text, line),
+        Err(StampRefusal::Absent)
+    );
+}
+
+#[test]
+fn fields(rt: HostRuntime) {
+    is_found(&rt, Place::Field(1), b"", b"2024-02-29T12:00:00Z a", 0);
+    is_found(&rt, Place::Field(1), b"", b"  2024-02-29T12:00:00Z a", 2);
+    is_found(&rt, Place::Field(3), b"", b"a \tb  2024-02-29T12:00:00Z", 6);
+    is_nowhere(&rt, Place::Field(2), b"", b"2024-02-29T12:00:00Z");
+    is_nowhere(&rt, Place::Field(0), b"", b"2024-02-29T12:00:00Z");
+}
+
+#[test]
+fn behind_texts(rt: HostRuntime) {
+    is_found(&rt, Place::After, b"[", b"a [2024-02-29T12:00:00Z] [b]", 3);
+    is_found(
+        &rt,
+        Place::After,
+        b"at=",
+        b"a=at at=2024-02-29T12:00:00Z",
+        8,
+    );
+    is_found(&rt, Place::After, b"aab", b"aaab2024-02-29T12:00:00Z", 4);
+    is_nowhere(&rt, Place::After, b"[", b"[a] [2024-02-29T12:00:00Z]");
+}
+
+#[test]
+fn members(rt: HostRuntime) {
+    is_found(
+        &rt,
+        Place::Json,
+        b"time",
+        b"{\"time\":\"2024-02-29T12:00:00Z\"}",
+        9,
+    );
+    is_found(
+        &rt,
+        Place::Json,
+        b"t",
+        b"{\"a\":{\"t\":1},\"t\" : \"2024-02-29T12:00:00Z\"}",
+        20,
+    );
+    is_found(
+        &rt,
+        Place::Json,
+        b"t",
+        b"{\"a\":\"\\\"t\\\":5}\",\"t\":\"2024-02-29T12:00:00Z\"}",
+        21,
+    );
+    is_nowhere(
+        &rt,
+        Place::Json,
+        b"t",
+        b"{\"a\":{\"t\":\"2024-02-29T12:00:00Z\"}}",
+    );
+    is_nowhere(
+        &rt,
+        Place::Json,
+        b"time",
+        b"\"time\":\"2024-02-29T12:00:00Z\"",
+    );
+}
