@@ -1,5 +1,6 @@
 pub mod BlockLemmas
 pub mod BoundLawLemmas
+pub mod BucketProofLemmas
 pub mod CheckLawLemmas
 pub mod CutLawLemmas
 pub mod FrontLemmas
@@ -7,6 +8,7 @@ pub mod LineLawLemmas
 pub mod LongLineLemmas
 pub mod PartLemmas
 pub mod ReadLemmas
+mod ReadingLemmas
 pub mod RunLemmas
 pub mod StampLawLemmas
 pub mod StepLemmas

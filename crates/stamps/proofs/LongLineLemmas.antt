@@ -1,8 +1,8 @@
 -- A line is decided by its first bytes, and what follows them goes on or is left out.
-use Rattle.std.proofs.Common.{◌≡◌, ℕ, ◌-◌, ◌≤◌, ◌<◌, Bool, true, false, cond, nat_eq, List, [], ◌∷◌, ◌++◌, length, length-append, take, drop, Option}
+use Rattle.std.proofs.Common.{◌≡◌, ℕ, ◌+◌, ◌-◌, ◌≤◌, ◌<◌, Bool, true, false, cond, nat_eq, List, [], ◌∷◌, ◌++◌, length, length-append, take, drop, Option}
 use Rattle.std.proofs.Common.{Some, None, Result, Ok, Err, ℤ}
-use Rattle.std.proofs.Common.{inl, inr, refl, sym, ap, ap₂, subst, ◌∙◌, arith, append_assoc, append-nil}
-use Rattle.std.specs.Prelude.{⊤, ◌&&◌, slice_get}
+use Rattle.std.proofs.Common.{inl, inr, refl, sym, ap, subst, ◌∙◌, arith, append_assoc, append-nil}
+use Rattle.std.specs.Prelude.{⊤, ◌&&◌, ◌-ℤ◌, int_lt, slice_get}
 use Rattle.std.specs.Result.{result_map_both}
 use Rattle.std.proofs.lemmas.Bool.{cases_Bool}
 use Rattle.std.proofs.lemmas.Bool.Decides.{Decides-eqb, nat_tests}
@@ -16,23 +16,40 @@ use Rattle.rfc3339.specs.Meaning.{meaning}
 use Rattle.rfc3339.specs.Reading.{front_at}
 use Rattle.rfc3339.specs.declared.parts.Parts.{Parts}
 use Rattle.rfc3339.specs.declared.refusal.TextRefusal.{TextRefusal}
-use Rattle.rfc3339.specs.declared.refusal.TextRefusal.TheVariants.{Syntax, OutOfRange}
-use Rattle.stamps.specs.Decisions.{one_more, as_it_is, with_text, rewritten, is_earlier, stop_if, checked, going_on, goes_on, cause_of, is_first}
+use Rattle.rfc3339.specs.declared.refusal.TextRefusal.TheVariants.{Syntax}
+use Rattle.rfc3339.specs.declared.refusal.TextRefusal.TheVariants as text
+use Rattle.stamps.specs.Decisions.{as_it_is, with_text, rewritten, is_earlier, stop_if, check_line, gap_after, gap_line, going_on, cause_of, is_first, as_note}
 use Rattle.stamps.specs.Decisions.{decision_by, decision_of, state_by, state_after}
-use Rattle.stamps.specs.LineStamps.{behind_mark, byte_order_mark, ends, front_stamp, has_mark, line_stamp, longest_head, mark_text, stamp, stamp_of}
-use Rattle.stamps.specs.Progress.{passed, progress_of}
-use Rattle.stamps.specs.Runs.{Run, run, then_on, shown, line_feed, known_after, known_at_end, line_run, last_run}
+use Rattle.stamps.specs.LineStamps.{byte_order_mark, ends, front_stamp, has_mark, longest_head, mark_length, stamp, stamp_of}
+use Rattle.log_forms.specs.WithinLemmas.{stamp_at-longer, stamp_at-within}
+use Rattle.log_forms.specs.WithinLemmas as forms
+use Rattle.log_forms.specs.Years.{assumed_after}
+use Rattle.log_forms.specs.declared.stamps.Stamp as formed
+use Rattle.log_forms.specs.declared.stamps.StampRefusal.{StampRefusal}
+use Rattle.log_forms.specs.declared.stamps.StampRefusal.TheVariants as form
+use Rattle.stamps.specs.Notes.{note_text}
+use Rattle.stamps.specs.Progress.{to_send, progress_of}
+use Rattle.stamps.specs.Runs.{Run, run, then_on, output_of, line_feed, known_after, known_at_end, line_run, last_run}
 use Rattle.stamps.specs.Styles.{text_in}
 use Rattle.stamps.specs.declared.decide.Decision.{Decision}
-use Rattle.stamps.specs.declared.decide.Decision.TheVariants.{Keep, Skip, Stop}
+use Rattle.stamps.specs.declared.decide.Decision.TheVariants.{Keep, Skip, Stop, Tell}
 use Rattle.stamps.specs.declared.decide.Stamp.{Stamp}
 use Rattle.stamps.specs.declared.decide.State.{State}
 use Rattle.stamps.specs.declared.finding.Cause.{Cause}
 use Rattle.stamps.specs.declared.finding.Cause.TheVariants.{Missing, NoText, Earlier}
 use Rattle.stamps.specs.declared.finding.Finding.{Finding}
+use Rattle.stamps.specs.declared.finding.Finding.TheVariants.{Line}
+use Rattle.stamps.specs.declared.notes.Note.TheVariants.{Gap}
+use Rattle.stamps.specs.Readers.{form_stamp, formed_at, line_stamp, plain_at, stamp_behind}
+use Rattle.stamps.specs.declared.readers.LineRefusal.{LineRefusal}
+use Rattle.stamps.specs.declared.readers.LineRefusal.TheVariants.{Absent, OutOfRange, Part}
+use Rattle.stamps.specs.declared.readers.LineStamp.{LineStamp}
+use Rattle.stamps.specs.declared.readers.Reader.{Reader}
+use Rattle.stamps.specs.declared.readers.Reader.TheVariants.{Plain, Formed}
+use Rattle.stamps.specs.declared.task.Action.{Action}
+use Rattle.stamps.specs.declared.task.Action.TheVariants.{Write, Check, CheckAll, Gaps, Since, Until}
 use Rattle.stamps.specs.declared.task.Style.{Style}
 use Rattle.stamps.specs.declared.task.Task.{Task}
-use Rattle.stamps.specs.declared.task.Task.TheVariants.{Write, Check, Since, Until}
 use Rattle.stamps.proofs.RunLemmas.{run_from, then_on-text}
 
 -- a text of no more bytes than are looked at for a stamp
@@ -58,13 +75,16 @@ unfolding has_mark
 has_mark-longer is_first line part long =
     ap (λ (z : List ℕ). is_first && pointwise nat_eq byte_order_mark z) (take-append-le 3 line part long)
 
-behind_mark-longer : (marked : Bool) (line part : List ℕ) → 3 ≤ length line → behind_mark marked (line ++ part) ≡ behind_mark marked line ++ part
-behind_mark-longer true line part long = drop-append-le 3 line part long
-behind_mark-longer false line part long = refl
+mark_length-within : (marked : Bool) (line : List ℕ) → (marked ≡ true → 3 ≤ length line) → mark_length marked ≤ length line
+mark_length-within true line h = h refl
+mark_length-within false line h = omega arith
 
-behind_mark-long : (marked : Bool) (line : List ℕ) → longest_head ≤ length line → 1024 ≤ length (behind_mark marked line)
-behind_mark-long true line long = omega (arith, long, length-drop 3 line)
-behind_mark-long false line long = omega (arith, long)
+pub mark-within : (is_first : Bool) (line : List ℕ) → mark_length (has_mark is_first line) ≤ length line
+mark-within is_first line = mark_length-within (has_mark is_first line) line (mark_long is_first line)
+
+mark_length-short : (marked : Bool) → mark_length marked ≤ 3
+mark_length-short true = omega arith
+mark_length-short false = omega arith
 
 -- ---- the bytes of a stamp stand in the line
 
@@ -72,10 +92,16 @@ abbrev StampWithin : Result Stamp TextRefusal → ℕ → Type 0
 StampWithin (Ok stamp) most = stamp.length ≤ most
 StampWithin (Err refusal) most = ⊤
 
--- the bytes that go stand in the line, and so does its byte order mark
+-- a stamp ends within so many bytes of its line
+abbrev LineStampWithin : Result LineStamp LineRefusal → ℕ → Type 0
+LineStampWithin (Ok stamp) most = stamp.start + stamp.length ≤ most
+LineStampWithin (Err refusal) most = ⊤
+
+-- the bytes that are kept in front and those that go stand in the line
 abbrev pub Within : Decision → List ℕ → Type 0
-Within (Keep marked text count) line = (marked ≡ true → 3 ≤ length line) × (count ≤ length (behind_mark marked line))
+Within (Keep start text count) line = start + count ≤ length line
 Within Skip line = ⊤
+Within (Tell note) line = ⊤
 Within (Stop found) line = ⊤
 
 ended_within : (it_ends : Bool) (m : Result Local TextRefusal) (count most : ℕ) (next : Option ℕ) → count ≤ most
@@ -96,74 +122,120 @@ unfolding stamp_of
 stamp_within text =
     let front = take 1024 text in front_within front (front_at front) (length text) (omega (arith, length-take 1024 text))
 
+plain-within : (before : ℕ) (line : List ℕ) (r : Result Stamp TextRefusal) → before ≤ length line → StampWithin r (length (drop before line))
+    → LineStampWithin (plain_at before r) (length line)
+plain-within before line (Ok stamp) low h = omega (arith, low, h, length-drop before line)
+plain-within before line (Err Syntax) low h = tt
+plain-within before line (Err (text.OutOfRange component)) low h = tt
+
+formed-within : (before : ℕ) (line : List ℕ) (r : Result formed.Stamp StampRefusal) → before ≤ length line
+    → forms.StampWithin r (length (drop before line)) → LineStampWithin (formed_at before r) (length line)
+formed-within before line (Ok stamp) low h = omega (arith, low, h, length-drop before line)
+formed-within before line (Err form.Absent) low h = tt
+formed-within before line (Err (form.Part refusal)) low h = tt
+
+behind-within : (reader : Reader) (last : Option ℤ) (before : ℕ) (line : List ℕ) → before ≤ length line
+    → LineStampWithin (stamp_behind reader last before (drop before line)) (length line)
+behind-within Plain last before line low =
+    plain-within before line (stamp_of (drop before line)) low (stamp_within (drop before line))
+behind-within (Formed by) last before line low =
+    formed-within before line (form_stamp by last (drop before line)) low
+    (stamp_at-within by.form by.place by.text (assumed_after by.assumed last) (drop before line))
+
+line_stamp-within : (reader : Reader) (last : Option ℤ) (is_first : Bool) (line : List ℕ)
+    → LineStampWithin (line_stamp reader last is_first line) (length line)
+line_stamp-within reader last is_first line =
+    behind-within reader last (mark_length (has_mark is_first line)) line (mark-within is_first line)
+
 as_it_is-within : (is_strict : Bool) (number : ℕ) (cause : Cause) (line : List ℕ) → Within (as_it_is is_strict number cause) line
 as_it_is-within true number cause line = tt
-as_it_is-within false number cause line = (λ e. absurd cc, omega arith)
+as_it_is-within false number cause line = omega arith
 
--- a line whose byte order mark and whose stamp stand in it
-abbrev Holds : Bool → ℕ → List ℕ → Type 0
-Holds marked count line = (marked ≡ true → 3 ≤ length line) × (count ≤ length (behind_mark marked line))
-
-with_text-within : (is_strict : Bool) (number : ℕ) (marked : Bool) (stamp : Stamp) (text : Option (List ℕ)) (line : List ℕ)
-    → Holds marked stamp.length line → Within (with_text is_strict number marked stamp text) line
-with_text-within is_strict number marked stamp (Some text) line h = h
-with_text-within is_strict number marked stamp None line h = as_it_is-within is_strict number NoText line
+with_text-within : (is_strict : Bool) (number : ℕ) (stamp : LineStamp) (text : Option (List ℕ)) (line : List ℕ)
+    → stamp.start + stamp.length ≤ length line → Within (with_text is_strict number stamp text) line
+with_text-within is_strict number stamp (Some text) line h = h
+with_text-within is_strict number stamp None line h = as_it_is-within is_strict number NoText line
 
 stop_or-within : (fails : Bool) (found : Finding) (decision : Decision) (line : List ℕ) → Within decision line → Within (cond fails (Stop found) decision) line
 stop_or-within true found decision line h = tt
 stop_or-within false found decision line h = h
 
-rewritten-within : (style : Style) (is_strict : Bool) (number : ℕ) (marked : Bool) (stamp : Result Stamp TextRefusal) (line : List ℕ)
-    → (marked ≡ true → 3 ≤ length line) → StampWithin stamp (length (behind_mark marked line))
-    → Within (rewritten style is_strict number marked stamp) line
-rewritten-within style is_strict number marked (Ok stamp) line m h =
-    stop_or-within (is_strict && stamp.is_zoned) _ (with_text is_strict number marked stamp (text_in style stamp.instant)) line
-    (with_text-within is_strict number marked stamp (text_in style stamp.instant) line (m, h))
-rewritten-within style is_strict number marked (Err refusal) line m h = as_it_is-within is_strict number (cause_of refusal) line
+rewritten-within : (style : Style) (is_strict : Bool) (number : ℕ) (stamp : Result LineStamp LineRefusal) (line : List ℕ)
+    → LineStampWithin stamp (length line) → Within (rewritten style is_strict number stamp) line
+rewritten-within style is_strict number (Ok stamp) line h =
+    stop_or-within (is_strict && stamp.is_zoned) _ (with_text is_strict number stamp (text_in style stamp.instant)) line
+    (with_text-within is_strict number stamp (text_in style stamp.instant) line h)
+rewritten-within style is_strict number (Err refusal) line h = as_it_is-within is_strict number (cause_of refusal) line
 
 stop_if-within : (fails : Bool) (number : ℕ) (cause : Cause) (line : List ℕ) → Within (stop_if fails number cause) line
 stop_if-within true number cause line = tt
 stop_if-within false number cause line = tt
 
-checked-within : (is_strict : Bool) (number : ℕ) (last : Option ℤ) (stamp : Result Stamp TextRefusal) (line : List ℕ)
-    → Within (checked is_strict number last stamp) line
-checked-within is_strict number last (Ok stamp) line = stop_if-within (is_earlier stamp.instant last) number Earlier line
-checked-within is_strict number last (Err Syntax) line = stop_if-within is_strict number Missing line
-checked-within is_strict number last (Err (OutOfRange component)) line = tt
+check_line-within : (is_strict : Bool) (number : ℕ) (last : Option ℤ) (stamp : Result LineStamp LineRefusal) (line : List ℕ)
+    → Within (check_line is_strict number last stamp) line
+check_line-within is_strict number last (Ok stamp) line = stop_if-within (is_earlier stamp.instant last) number Earlier line
+check_line-within is_strict number last (Err Absent) line = stop_if-within is_strict number Missing line
+check_line-within is_strict number last (Err (OutOfRange component)) line = tt
+check_line-within is_strict number last (Err (Part refusal)) line = tt
+
+as_note-within : (decision : Decision) (line : List ℕ) → Within decision line → Within (as_note decision) line
+as_note-within (Keep start text count) line h = h
+as_note-within Skip line h = h
+as_note-within (Tell note) line h = h
+as_note-within (Stop found) line h = h
+
+gap_after-within : (limit : ℤ) (is_strict : Bool) (number : ℕ) (before i : ℤ) (line : List ℕ)
+    → Within (gap_after limit is_strict number before i) line
+gap_after-within limit is_strict number before i line =
+    elim (is_strict && int_lt i before) as (λ s. Within (cond s (Stop (Line number Earlier)) (cond (int_lt limit (i -ℤ before)) (Tell (Gap number before i))
+    Skip)) line) [
+      | true ↦ tt
+      | false ↦ elim (int_lt limit (i -ℤ before)) as (λ t. Within (cond t (Tell (Gap number before i)) Skip) line) [ true ↦ tt | false ↦ tt ]
+    ]
+
+gap_line-within : (limit : ℤ) (is_strict : Bool) (number : ℕ) (last : Option ℤ) (stamp : Result LineStamp LineRefusal) (line : List ℕ)
+    → Within (gap_line limit is_strict number last stamp) line
+gap_line-within limit is_strict number (Some before) (Ok stamp) line = gap_after-within limit is_strict number before stamp.instant line
+gap_line-within limit is_strict number None (Ok stamp) line = tt
+gap_line-within limit is_strict number (Some before) (Err refusal) line = stop_if-within is_strict number (cause_of refusal) line
+gap_line-within limit is_strict number None (Err refusal) line = stop_if-within is_strict number (cause_of refusal) line
 
 going_on-within : (b : Bool) (line : List ℕ) → Within (going_on b) line
-going_on-within true line = (λ e. absurd cc, omega arith)
+going_on-within true line = omega arith
 going_on-within false line = tt
 
-decision_by-within : (task : Task) (state : State) (marked : Bool) (stamp : Result Stamp TextRefusal) (line : List ℕ)
-    → (marked ≡ true → 3 ≤ length line) → StampWithin stamp (length (behind_mark marked line)) → Within (decision_by task state marked stamp) line
-decision_by-within (Write style is_strict) state marked stamp line m h =
-    rewritten-within style is_strict (one_more state.lines) marked stamp line m h
-decision_by-within (Check is_strict) state marked stamp line m h = checked-within is_strict (one_more state.lines) state.last stamp line
-decision_by-within (Since bound) state marked stamp line m h = going_on-within (goes_on (Since bound) state.goes_on stamp) line
-decision_by-within (Until bound) state marked stamp line m h = going_on-within (goes_on (Until bound) state.goes_on stamp) line
+decision_by-within : (action : Action) (last : Option ℤ) (after : State) (stamp : Result LineStamp LineRefusal) (line : List ℕ)
+    → LineStampWithin stamp (length line) → Within (decision_by action last after stamp) line
+decision_by-within (Write style is_strict) last after stamp line h = rewritten-within style is_strict after.lines stamp line h
+decision_by-within (Check is_strict) last after stamp line h = check_line-within is_strict after.lines last stamp line
+decision_by-within (CheckAll is_strict) last after stamp line h =
+    as_note-within (check_line is_strict after.lines last stamp) line (check_line-within is_strict after.lines last stamp line)
+decision_by-within (Gaps limit is_strict) last after stamp line h = gap_line-within limit is_strict after.lines last stamp line
+decision_by-within (Since bound) last after stamp line h = going_on-within after.goes_on line
+decision_by-within (Until bound) last after stamp line h = going_on-within after.goes_on line
 
 pub decision_of-within : (task : Task) (state : State) (line : List ℕ) → Within (decision_of task state line) line
 unfolding decision_of
 decision_of-within task state line =
-    let marked = has_mark (is_first state) line in
-    decision_by-within task state marked (line_stamp (is_first state) line) line (mark_long (is_first state) line)
-    (stamp_within (behind_mark marked line))
+    let stamp = line_stamp task.reader state.last (is_first state) line in
+    decision_by-within task.action state.last (state_by task.action state stamp) stamp line
+    (line_stamp-within task.reader state.last (is_first state) line)
 
-within_is : (decision : Decision) (marked : Bool) (text : List ℕ) (count : ℕ) (line : List ℕ) → Keep marked text count ≡ decision
-    → Within decision line → Holds marked count line
-within_is (Keep m shown n) marked text count line e h =
-    let same : m ≡ marked = cc in
-    let number : n ≡ count = cc in
+within_is : (decision : Decision) (start : ℕ) (text : List ℕ) (count : ℕ) (line : List ℕ) → Keep start text count ≡ decision
+    → Within decision line → start + count ≤ length line
+within_is (Keep n shown m) start text count line e h =
+    let same : n ≡ start = cc in
+    let number : m ≡ count = cc in
     rw (same, number) at h
-within_is Skip marked text count line e h = absurd cc
-within_is (Stop found) marked text count line e h = absurd cc
+within_is Skip start text count line e h = absurd cc
+within_is (Tell note) start text count line e h = absurd cc
+within_is (Stop found) start text count line e h = absurd cc
 
--- as a line is decided, its byte order mark and its stamp stand in it
-pub kept_within : (task : Task) (state : State) (line text : List ℕ) (marked : Bool) (count : ℕ)
-    → Keep marked text count ≡ decision_of task state line → (marked ≡ true → 3 ≤ length line) × (count ≤ length (behind_mark marked line))
-kept_within task state line text marked count e =
-    within_is (decision_of task state line) marked text count line e (decision_of-within task state line)
+-- as a line is decided, its stamp stands in it
+pub kept_within : (task : Task) (state : State) (line text : List ℕ) (start count : ℕ)
+    → Keep start text count ≡ decision_of task state line → start + count ≤ length line
+kept_within task state line text start count e =
+    within_is (decision_of task state line) start text count line e (decision_of-within task state line)
 
 -- ---- more bytes behind those that decide change nothing
 
@@ -172,73 +244,77 @@ unfolding stamp_of
 stamp_of-longer text part long =
     ap (λ (z : List ℕ). front_stamp z (front_at z)) (take-append-le 1024 text part long)
 
--- the byte order mark and the stamp are the same
-line_stamp-longer : (is_first : Bool) (line part : List ℕ) → longest_head ≤ length line
-    → (has_mark is_first (line ++ part) ≡ has_mark is_first line) × (line_stamp is_first (line ++ part) ≡ line_stamp is_first line)
-line_stamp-longer is_first line part long =
-    let three : 3 ≤ length line = omega (arith, long) in
-    let marked = has_mark is_first line in
-    let same = has_mark-longer is_first line part three in (
-      same,
-      ap (λ (z : Bool). stamp_of (behind_mark z (line ++ part))) same ∙ ap stamp_of (behind_mark-longer marked line part three)
-          ∙ stamp_of-longer (behind_mark marked line) part (behind_mark-long marked line long),
-    )
+behind-longer : (reader : Reader) (last : Option ℤ) (before : ℕ) (text part : List ℕ) → 1024 ≤ length text
+    → stamp_behind reader last before (text ++ part) ≡ stamp_behind reader last before text
+behind-longer Plain last before text part long = ap (plain_at before) (stamp_of-longer text part long)
+behind-longer (Formed by) last before text part long =
+    ap (formed_at before) (stamp_at-longer by.form by.place by.text (assumed_after by.assumed last) text part long)
+
+-- the stamp is the same
+line_stamp-longer : (reader : Reader) (last : Option ℤ) (is_first : Bool) (line part : List ℕ) → longest_head ≤ length line
+    → line_stamp reader last is_first (line ++ part) ≡ line_stamp reader last is_first line
+line_stamp-longer reader last is_first line part long =
+    let before = mark_length (has_mark is_first line) in
+    let short = mark_length-short (has_mark is_first line) in
+    let text = drop before line in
+    let most : 1024 ≤ length text = omega (arith, long, short, length-drop before line) in
+    ap (λ (z : Bool). stamp_behind reader last (mark_length z) (drop (mark_length z) (line ++ part)))
+    (has_mark-longer is_first line part (omega (arith, long)))
+    ∙ ap (stamp_behind reader last before) (drop-append-le before line part (omega (arith, long, short)))
+    ∙ behind-longer reader last before text part most
 
 pub decision_of-longer : (task : Task) (state : State) (line part : List ℕ) → longest_head ≤ length line
     → decision_of task state (line ++ part) ≡ decision_of task state line
 unfolding decision_of
 decision_of-longer task state line part long =
-    let same = line_stamp-longer (is_first state) line part long in ap₂ (decision_by task state) same.0 same.1
+    ap (λ (s : Result LineStamp LineRefusal). decision_by task.action state.last (state_by task.action state s) s)
+    (line_stamp-longer task.reader state.last (is_first state) line part long)
 
 pub state_after-longer : (task : Task) (state : State) (line part : List ℕ) → longest_head ≤ length line
     → state_after task state (line ++ part) ≡ state_after task state line
 unfolding state_after
-state_after-longer task state line part long = ap (state_by task state) (line_stamp-longer (is_first state) line part long).1
+state_after-longer task state line part long =
+    ap (state_by task.action state) (line_stamp-longer task.reader state.last (is_first state) line part long)
 
--- what stands behind the stamp goes on
-rest-more : (marked : Bool) (count : ℕ) (line part : List ℕ) → Holds marked count line
-    → drop count (behind_mark marked (line ++ part)) ≡ drop count (behind_mark marked line) ++ part
-rest-more true count line part h =
-    ap (drop count) (drop-append-le 3 line part (h.0 refl)) ∙ drop-append-le count (drop 3 line) part h.1
-rest-more false count line part h = drop-append-le count line part h.1
-
-shown-more : (decision : Decision) (line part : List ℕ) → Within decision line
-    → shown decision (line ++ part) ≡ shown decision line ++ passed (progress_of decision) part
-shown-more (Keep marked text count) line part h =
-    let rest = drop count (behind_mark marked line) in
-    ap (λ (z : List ℕ). mark_text marked ++ (text ++ z)) (rest-more marked count line part h)
-    ∙ ap (λ (z : List ℕ). mark_text marked ++ z) (sym (append_assoc text rest part)) ∙ sym (append_assoc (mark_text marked) (text ++ rest) part)
-shown-more Skip line part h = refl
-shown-more (Stop found) line part h = refl
+output_of-more : (decision : Decision) (line part : List ℕ) → Within decision line
+    → output_of decision (line ++ part) ≡ output_of decision line ++ to_send (progress_of decision) part
+output_of-more (Keep start text count) line part h =
+    let rest = drop (start + count) line in
+    ap (λ (z : List ℕ). z ++ (text ++ drop (start + count) (line ++ part))) (take-append-le start line part (omega (arith, h)))
+    ∙ ap (λ (z : List ℕ). take start line ++ (text ++ z)) (drop-append-le (start + count) line part h)
+    ∙ ap (λ (z : List ℕ). take start line ++ z) (sym (append_assoc text rest part)) ∙ sym (append_assoc (take start line) (text ++ rest) part)
+output_of-more Skip line part h = refl
+output_of-more (Tell note) line part h = sym (append-nil (note_text note))
+output_of-more (Stop found) line part h = refl
 
 -- what is sent of a longer line
-pub shown-longer : (task : Task) (state : State) (line part : List ℕ) → longest_head ≤ length line
-    → shown (decision_of task state (line ++ part)) (line ++ part)
-    ≡ shown (decision_of task state line) line ++ passed (progress_of (decision_of task state line)) part
-shown-longer task state line part long =
-    ap (λ (z : Decision). shown z (line ++ part)) (decision_of-longer task state line part long)
-    ∙ shown-more (decision_of task state line) line part (decision_of-within task state line)
+pub output_of-longer : (task : Task) (state : State) (line part : List ℕ) → longest_head ≤ length line
+    → output_of (decision_of task state (line ++ part)) (line ++ part)
+    ≡ output_of (decision_of task state line) line ++ to_send (progress_of (decision_of task state line)) part
+output_of-longer task state line part long =
+    ap (λ (z : Decision). output_of z (line ++ part)) (decision_of-longer task state line part long)
+    ∙ output_of-more (decision_of task state line) line part (decision_of-within task state line)
 
 -- ---- what begins with a line that is decided
 
 -- the run begins with what is shown of the line, or ends at it
 pub record Continues (task : Task) (state : State) (line more : List ℕ) : Type 0 where
   pub rest : List ℕ
-  pub begins : (run_from task state line more).text ≡ shown (decision_of task state line) line ++ rest
+  pub begins : (run_from task state line more).text ≡ output_of (decision_of task state line) line ++ rest
   pub stops : (found : Finding) → decision_of task state line ≡ Stop found → run_from task state line more ≡ run [] (Err found)
 
 -- a line as it ends the run
 stops_at : (task : Task) (decision : Decision) (found : Finding) (line : List ℕ) (state : State) → decision ≡ Stop found
-    → run (shown decision line) (known_at_end task (known_after decision state)) ≡ run [] (Err found)
-stops_at task decision found line state e = ap (λ (z : Decision). run (shown z line) (known_at_end task (known_after z state))) e
+    → run (output_of decision line) (known_at_end task (known_after decision state)) ≡ run [] (Err found)
+stops_at task decision found line state e = ap (λ (z : Decision). run (output_of z line) (known_at_end task (known_after z state))) e
 
 stops_before : (decision : Decision) (found : Finding) (line : List ℕ) (state : State) (next : State → Run) → decision ≡ Stop found
-    → then_on (shown decision line ++ line_feed decision) (known_after decision state) next ≡ run [] (Err found)
+    → then_on (output_of decision line ++ line_feed decision) (known_after decision state) next ≡ run [] (Err found)
 stops_before decision found line state next e =
-    ap (λ (z : Decision). then_on (shown z line ++ line_feed z) (known_after z state) next) e
+    ap (λ (z : Decision). then_on (output_of z line ++ line_feed z) (known_after z state) next) e
 
 pub last_run-some : (task : Task) (state : State) (line : List ℕ) → 0 < length line → last_run task state line
-    ≡ run (shown (decision_of task state line) line) (known_at_end task (known_after (decision_of task state line) (state_after task state line)))
+    ≡ run (output_of (decision_of task state line) line) (known_at_end task (known_after (decision_of task state line) (state_after task state line)))
 unfolding last_run
 last_run-some task state [] some = absurd (omega (arith, some))
 last_run-some task state (byte ∷ line) some = refl
@@ -249,7 +325,7 @@ continues_end task state line some =
     let last = last_run-some task state line some in
     record {
       rest = [];
-      begins = ap (λ (z : Run). z.text) last ∙ sym (append-nil (shown (decision_of task state line) line));
+      begins = ap (λ (z : Run). z.text) last ∙ sym (append-nil (output_of (decision_of task state line) line));
       stops = λ found e. last ∙ stops_at task (decision_of task state line) found line (state_after task state line) e;
     }
 
@@ -260,10 +336,10 @@ continues_line task state line more =
     let decision = decision_of task state line in
     let known = known_after decision (state_after task state line) in
     let next = λ (after : State). run_from task after [] more in
-    let front = then_on-text (shown decision line ++ line_feed decision) known next in
+    let front = then_on-text (output_of decision line ++ line_feed decision) known next in
     record {
       rest = line_feed decision ++ front.0;
-      begins = front.1 ∙ append_assoc (shown decision line) (line_feed decision) front.0;
+      begins = front.1 ∙ append_assoc (output_of decision line) (line_feed decision) front.0;
       stops = λ found e. stops_before decision found line (state_after task state line) next e;
     }
 
@@ -272,9 +348,9 @@ continues_byte : (task : Task) (state : State) (line more : List ℕ) (byte : �
     → Continues task state (line ++ byte ∷ []) more → run_from task state line (byte ∷ more) ≡ run_from task state (line ++ byte ∷ []) more
     → Continues task state line (byte ∷ more)
 continues_byte task state line more byte long h same = record {
-  rest = passed (progress_of (decision_of task state line)) (byte ∷ []) ++ h.rest;
-  begins = ap (λ (z : Run). z.text) same ∙ h.begins ∙ ap (λ (z : List ℕ). z ++ h.rest) (shown-longer task state line (byte ∷ []) long)
-      ∙ append_assoc (shown (decision_of task state line) line) (passed (progress_of (decision_of task state line)) (byte ∷ [])) h.rest;
+  rest = to_send (progress_of (decision_of task state line)) (byte ∷ []) ++ h.rest;
+  begins = ap (λ (z : Run). z.text) same ∙ h.begins ∙ ap (λ (z : List ℕ). z ++ h.rest) (output_of-longer task state line (byte ∷ []) long)
+      ∙ append_assoc (output_of (decision_of task state line) line) (to_send (progress_of (decision_of task state line)) (byte ∷ [])) h.rest;
   stops = λ found e. same ∙ h.stops found (decision_of-longer task state line (byte ∷ []) long ∙ e);
 }
 

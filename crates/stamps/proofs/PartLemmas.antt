@@ -1,5 +1,5 @@
 -- What was sent of an input, as more of it is taken in.
-use Rattle.std.proofs.Common.{◌≡◌, ◌≢◌, inl, inr, ℕ, ◌+◌, ◌≤◌, ◌<◌, Bool, List, []}
+use Rattle.std.proofs.Common.{◌≡◌, ◌≢◌, inl, inr, ℕ, ◌+◌, ◌≤◌, ◌<◌, List, []}
 use Rattle.std.proofs.Common.{◌∷◌, ◌++◌, length, length-append, take, drop, Option, Some, None, Result, Ok}
 use Rattle.std.proofs.Common.{Err}
 use Rattle.std.proofs.Common.{refl, sym, ap, subst, ◌∙◌, arith, append_assoc, append-nil}
@@ -12,21 +12,23 @@ use Rattle.line_devices.specs.Writing.{AppendsBeginning, Sends}
 use Rattle.line_devices.specs.WritingLemmas.{Appends-flushed, AppendsBeginning-longer, AppendsBeginning-pending, AppendsBeginning-flushed, Sends-append}
 use Rattle.line_devices.specs.WritingLemmas.{Sends-flushed, Sends-nothing}
 use Rattle.stamps.specs.Decisions.{decision_of, finding_at_end, first_state, state_after}
-use Rattle.stamps.specs.LineStamps.{behind_mark, longest_head, mark_text}
-use Rattle.stamps.specs.Progress.{Begins, Completes, Decided, Ends, Keeps, KeepsLine, Passes, Settled, Stands, passed, progress_of}
-use Rattle.stamps.specs.Runs.{Run, run, behind, shown, line_feed, known_after, known_at_end, known_unless, line_run, last_run, lines_run, input_run}
+use Rattle.stamps.specs.LineStamps.{longest_head}
+use Rattle.stamps.specs.Notes.{note_text}
+use Rattle.stamps.specs.Progress.{Begins, Completes, Decided, Ends, Keeps, KeepsLine, Passes, Settled, Stands, TellsNote, to_send, progress_of}
+use Rattle.stamps.specs.Runs.{Run, run, behind, output_of, line_feed, known_after, known_at_end, known_unless, line_run, last_run, lines_run, input_run}
 use Rattle.stamps.specs.declared.decide.Decision.{Decision}
-use Rattle.stamps.specs.declared.decide.Decision.TheVariants.{Keep, Skip, Stop}
+use Rattle.stamps.specs.declared.decide.Decision.TheVariants.{Keep, Skip, Stop, Tell}
 use Rattle.stamps.specs.declared.decide.State.{State}
 use Rattle.stamps.specs.declared.finding.Finding.{Finding}
 use Rattle.stamps.specs.declared.lines.LineFault.{LineFault}
+use Rattle.stamps.specs.declared.notes.Note.{Note}
 use Rattle.stamps.specs.declared.lines.LineFault.TheVariants.{Write, Found}
 use Rattle.stamps.specs.declared.lines.Progress.{Progress}
 use Rattle.stamps.specs.declared.lines.Progress.TheVariants.{Kept, Skipped}
 use Rattle.stamps.specs.declared.lines.Work.{Work}
 use Rattle.stamps.specs.declared.lines.Progress.TheVariants.{Skipped}
 use Rattle.stamps.specs.declared.task.Task.{Task}
-use Rattle.stamps.proofs.LongLineLemmas.{Continues, continues_long, last_run-some, decision_of-longer, state_after-longer, shown-longer}
+use Rattle.stamps.proofs.LongLineLemmas.{Continues, continues_long, last_run-some, decision_of-longer, state_after-longer, output_of-longer}
 use Rattle.stamps.proofs.RunLemmas.{run_from, then_on-text, input_run-known, lines_run-line_feed}
 
 -- ---- bytes of which none is a line feed
@@ -87,9 +89,9 @@ begin_fault task base b c pending pending' work taken part more line known Write
     let grown = part_taken taken part none in
     let rest = grown.1 ∙ sym e in
     let cont = continues work.state in
-    cut_short task base c (taken ++ part) more keeps.text work.state (shown (decision_of task work.state line) line) cont.rest
+    cut_short task base c (taken ++ part) more keeps.text work.state (output_of (decision_of task work.state line) line) cont.rest
     (ap (lines_run task (first_state task)) grown.0 ∙ keeps.lines) (ap (λ (z : List ℕ). (run_from task work.state z more).text) rest ∙ cont.begins)
-    (AppendsBeginning-pending base b c pending keeps.text (shown (decision_of task work.state line) line) keeps.sent begins)
+    (AppendsBeginning-pending base b c pending keeps.text (output_of (decision_of task work.state line) line) keeps.sent begins)
 begin_fault task base b c pending pending' work taken part more line known (Found found) keeps none e continues begins =
     let grown = part_taken taken part none in
     let rest = grown.1 ∙ sym e in
@@ -132,8 +134,8 @@ begun task base b c pending pending' work work' taken part line progress keeps n
       state = s ∙ ap (state_after task work.state) (sym rest);
       known = ap (λ (z : List ℕ). known_after (decision_of task work.state z) work'.state) rest ∙ begins.2;
       progress = p ∙ begins.1 ∙ ap (λ (z : List ℕ). progress_of (decision_of task work.state z)) (sym rest);
-      sent = subst (λ (z : List ℕ). Sends base c pending' (keeps.text ++ shown (decision_of task work.state z) z)) (sym rest)
-          (Sends-append base b c pending keeps.text pending' (shown decision line) keeps.sent begins.0);
+      sent = subst (λ (z : List ℕ). Sends base c pending' (keeps.text ++ output_of (decision_of task work.state z) z)) (sym rest)
+          (Sends-append base b c pending keeps.text pending' (output_of decision line) keeps.sent begins.0);
     }
 
 -- of a decided line that is as long as a stamp may be
@@ -146,18 +148,18 @@ long_more taken part none long =
 
 -- more of it was sent
 pub decided_more : (task : Task) (base b c : Option (List ℕ)) (pending pending' : List ℕ) (work : Work) (taken part : List ℕ)
-    → Decided task base b pending work taken → IsLong taken → HasNoFeed part → Sends b c pending' (pending ++ passed work.progress part)
+    → Decided task base b pending work taken → IsLong taken → HasNoFeed part → Sends b c pending' (pending ++ to_send work.progress part)
     → Decided task base c pending' work (taken ++ part)
 decided_more task base b c pending pending' work taken part decided long none sent =
     let grown = part_taken taken part none in
     let before = decided.before in
     let line = rest_from [] taken in
     let same = ap (decision_of task before) grown.1 ∙ decision_of-longer task before line part long in
-    let more : Sends b c pending' (pending ++ passed (progress_of (decision_of task before line)) part) = subst
-    (λ (z : Progress). Sends b c pending' (pending ++ passed z part)) decided.progress sent in
-    let all : shown (decision_of task before (rest_from [] (taken ++ part))) (rest_from [] (taken ++ part))
-    ≡ shown (decision_of task before line) line ++ passed (progress_of (decision_of task before line)) part = ap
-    (λ (z : List ℕ). shown (decision_of task before z) z) grown.1 ∙ shown-longer task before line part long in
+    let more : Sends b c pending' (pending ++ to_send (progress_of (decision_of task before line)) part) = subst
+    (λ (z : Progress). Sends b c pending' (pending ++ to_send z part)) decided.progress sent in
+    let all : output_of (decision_of task before (rest_from [] (taken ++ part))) (rest_from [] (taken ++ part))
+    ≡ output_of (decision_of task before line) line ++ to_send (progress_of (decision_of task before line)) part = ap
+    (λ (z : List ℕ). output_of (decision_of task before z) z) grown.1 ∙ output_of-longer task before line part long in
     record {
       text = decided.text;
       before = before;
@@ -166,88 +168,92 @@ decided_more task base b c pending pending' work taken part decided long none se
       known = ap (λ (z : Decision). known_after z work.state) same ∙ decided.known;
       progress = decided.progress ∙ ap progress_of (sym same);
       sent = subst (λ (z : List ℕ). Sends base c pending' z)
-          (append_assoc decided.text (shown (decision_of task before line) line) (passed (progress_of (decision_of task before line)) part)
+          (append_assoc decided.text (output_of (decision_of task before line) line) (to_send (progress_of (decision_of task before line)) part)
           ∙ ap (λ (z : List ℕ). decided.text ++ z) (sym all)) (Sends-append base b c pending _ pending' _ decided.sent more);
     }
 
 -- more of it could not be sent
 pub pass_fault : (task : Task) (base b c : Option (List ℕ)) (pending pending' : List ℕ) (work : Work) (taken part more : List ℕ) (fault : LineFault)
     → Decided task base b pending work taken → IsLong taken → HasNoFeed part
-    → Passes {T = Unit} (Err fault) b c pending' (pending ++ passed work.progress part) → Ends task base c fault ((taken ++ part) ++ more)
+    → Passes {T = Unit} (Err fault) b c pending' (pending ++ to_send work.progress part) → Ends task base c fault ((taken ++ part) ++ more)
 pass_fault task base b c pending pending' work taken part more Write decided long none cut =
     let grown = part_taken taken part none in
     let before = decided.before in
     let line = rest_from [] taken in
     let decision = decision_of task before line in
-    let bytes = passed (progress_of decision) part in
-    let short : AppendsBeginning b c (pending ++ bytes) = subst (λ (z : Progress). AppendsBeginning b c (pending ++ passed z part)) decided.progress cut in
-    let written = AppendsBeginning-pending base b c pending (decided.text ++ shown decision line) bytes decided.sent short in
+    let bytes = to_send (progress_of decision) part in
+    let short : AppendsBeginning b c (pending ++ bytes) = subst (λ (z : Progress). AppendsBeginning b c (pending ++ to_send z part)) decided.progress cut in
+    let written = AppendsBeginning-pending base b c pending (decided.text ++ output_of decision line) bytes decided.sent short in
     let cont = continues_long task before (rest_from [] (taken ++ part)) more (long_more taken part none long) in
-    let all = ap (λ (z : List ℕ). shown (decision_of task before z) z) grown.1 ∙ shown-longer task before line part long in
-    cut_short task base c (taken ++ part) more decided.text before (shown decision line ++ bytes) cont.rest
+    let all = ap (λ (z : List ℕ). output_of (decision_of task before z) z) grown.1 ∙ output_of-longer task before line part long in
+    cut_short task base c (taken ++ part) more decided.text before (output_of decision line ++ bytes) cont.rest
     (ap (lines_run task (first_state task)) grown.0 ∙ decided.lines) (cont.begins ∙ ap (λ (z : List ℕ). z ++ cont.rest) all)
-    (subst (λ (z : List ℕ). AppendsBeginning base c z) (append_assoc decided.text (shown decision line) bytes) written)
+    (subst (λ (z : List ℕ). AppendsBeginning base c z) (append_assoc decided.text (output_of decision line) bytes) written)
 pass_fault task base b c pending pending' work taken part more (Found found) decided long none cut = absurd cut
 
 -- ---- the end of a line
 
 -- a line and its line feed come first
 line_begins : (task : Task) (state : State) (line more : List ℕ)
-    → (z : List ℕ) × ((run_from task state line (10 ∷ more)).text ≡ (shown (decision_of task state line) line ++ line_feed (decision_of task state line)) ++ z)
+    → (z : List ℕ) × ((run_from task state line (10 ∷ more)).text ≡ (output_of (decision_of task state line) line ++ line_feed
+    (decision_of task state line)) ++ z)
 unfolding line_run
 line_begins task state line more =
-    then_on-text (shown (decision_of task state line) line ++ line_feed (decision_of task state line))
+    then_on-text (output_of (decision_of task state line) line ++ line_feed (decision_of task state line))
     (known_after (decision_of task state line) (state_after task state line)) (λ next. run_from task next [] more)
 
-line_feed-passed : (decision : Decision) → passed (progress_of decision) (10 ∷ []) ≡ line_feed decision
-line_feed-passed (Keep marked text count) = refl
-line_feed-passed Skip = refl
-line_feed-passed (Stop found) = refl
+line_feed-to_send : (decision : Decision) → to_send (progress_of decision) (10 ∷ []) ≡ line_feed decision
+line_feed-to_send (Keep start text count) = refl
+line_feed-to_send Skip = refl
+line_feed-to_send (Tell note) = refl
+line_feed-to_send (Stop found) = refl
 
 line_run-known : (task : Task) (before state : State) (line : List ℕ) → state ≡ state_after task before line
     → known_after (decision_of task before line) state ≡ Ok state
-    → line_run task before line ≡ run (shown (decision_of task before line) line ++ line_feed (decision_of task before line)) (Ok state)
+    → line_run task before line ≡ run (output_of (decision_of task before line) line ++ line_feed (decision_of task before line)) (Ok state)
 unfolding line_run
 line_run-known task before state line s known =
-    ap (run (shown (decision_of task before line) line ++ line_feed (decision_of task before line)))
+    ap (run (output_of (decision_of task before line) line ++ line_feed (decision_of task before line)))
     (subst (λ (z : State). known_after (decision_of task before line) z ≡ Ok state) s known)
 
 pub line_ended : (task : Task) (base b c : Option (List ℕ)) (pending pending' : List ℕ) (work work' : Work) (taken : List ℕ)
     → Decided task base b pending work taken → work'.state ≡ work.state → work'.progress ≡ Kept → work'.head ≡ []
-    → Sends b c pending' (pending ++ passed work.progress (10 ∷ [])) → Keeps task base c pending' work' (taken ++ 10 ∷ [])
+    → Sends b c pending' (pending ++ to_send work.progress (10 ∷ [])) → Keeps task base c pending' work' (taken ++ 10 ∷ [])
 line_ended task base b c pending pending' work work' taken decided s p h sent =
     let before = decided.before in
     let line = rest_from [] taken in
     let decision = decision_of task before line in
-    let feed : passed work.progress (10 ∷ []) ≡ line_feed decision = ap (λ (z : Progress). passed z (10 ∷ [])) decided.progress ∙ line_feed-passed decision in
+    let feed : to_send work.progress (10 ∷ []) ≡ line_feed decision = ap (λ (z : Progress). to_send z (10 ∷ [])) decided.progress
+    ∙ line_feed-to_send decision in
     let rest = rest_from-line_feed [] taken in
     record {
-      text = decided.text ++ (shown decision line ++ line_feed decision);
+      text = decided.text ++ (output_of decision line ++ line_feed decision);
       lines = lines_run-line_feed task taken decided.text before decided.lines
           ∙ ap (behind decided.text) (line_run-known task before work.state line decided.state decided.known)
-          ∙ ap (λ (z : State). run (decided.text ++ (shown decision line ++ line_feed decision)) (Ok z)) (sym s);
+          ∙ ap (λ (z : State). run (decided.text ++ (output_of decision line ++ line_feed decision)) (Ok z)) (sym s);
       progress = p;
       head = h ∙ sym rest;
       short = omega (arith, ap (length {A = ℕ}) rest);
-      sent = subst (λ (z : List ℕ). Sends base c pending' z) (append_assoc decided.text (shown decision line) (line_feed decision))
-          (Sends-append base b c pending (decided.text ++ shown decision line) pending' (line_feed decision) decided.sent
+      sent = subst (λ (z : List ℕ). Sends base c pending' z) (append_assoc decided.text (output_of decision line) (line_feed decision))
+          (Sends-append base b c pending (decided.text ++ output_of decision line) pending' (line_feed decision) decided.sent
           (subst (λ (z : List ℕ). Sends b c pending' (pending ++ z)) feed sent));
     }
 
 pub line_end_fault : (task : Task) (base b c : Option (List ℕ)) (pending pending' : List ℕ) (work : Work) (taken more : List ℕ) (fault : LineFault)
-    → Decided task base b pending work taken → Passes {T = Unit} (Err fault) b c pending' (pending ++ passed work.progress (10 ∷ []))
+    → Decided task base b pending work taken → Passes {T = Unit} (Err fault) b c pending' (pending ++ to_send work.progress (10 ∷ []))
     → Ends task base c fault ((taken ++ 10 ∷ []) ++ more)
 line_end_fault task base b c pending pending' work taken more Write decided cut =
     let before = decided.before in
     let line = rest_from [] taken in
     let decision = decision_of task before line in
-    let feed : passed work.progress (10 ∷ []) ≡ line_feed decision = ap (λ (z : Progress). passed z (10 ∷ [])) decided.progress ∙ line_feed-passed decision in
+    let feed : to_send work.progress (10 ∷ []) ≡ line_feed decision = ap (λ (z : Progress). to_send z (10 ∷ [])) decided.progress
+    ∙ line_feed-to_send decision in
     let short = subst (λ (z : List ℕ). AppendsBeginning b c (pending ++ z)) feed cut in
-    let written = AppendsBeginning-pending base b c pending (decided.text ++ shown decision line) (line_feed decision) decided.sent short in
+    let written = AppendsBeginning-pending base b c pending (decided.text ++ output_of decision line) (line_feed decision) decided.sent short in
     let front = line_begins task before line more in
     subst (λ (z : List ℕ). Ends task base c Write z) (sym (append_assoc taken (10 ∷ []) more))
-    (cut_short task base c taken (10 ∷ more) decided.text before (shown decision line ++ line_feed decision) front.0 decided.lines front.1
-    (subst (λ (z : List ℕ). AppendsBeginning base c z) (append_assoc decided.text (shown decision line) (line_feed decision)) written))
+    (cut_short task base c taken (10 ∷ more) decided.text before (output_of decision line ++ line_feed decision) front.0 decided.lines front.1
+    (subst (λ (z : List ℕ). AppendsBeginning base c z) (append_assoc decided.text (output_of decision line) (line_feed decision)) written))
 line_end_fault task base b c pending pending' work taken more (Found found) decided cut = absurd cut
 
 -- ---- the end of the input
@@ -258,7 +264,7 @@ open_text task taken text before e = ap (input_run task) (sym (append-nil taken)
 
 -- what the input comes to where it ends here
 last_line : (task : Task) (state : State) (line : List ℕ) → 0 < length line → run_from task state line []
-    ≡ run (shown (decision_of task state line) line) (known_at_end task (known_after (decision_of task state line) (state_after task state line)))
+    ≡ run (output_of (decision_of task state line) line) (known_at_end task (known_after (decision_of task state line) (state_after task state line)))
 last_line task state line some = last_run-some task state line some
 
 -- all is known where it is settled
@@ -275,10 +281,10 @@ whole_text task base now pending work taken (inr (decided, some)) =
     let decision = decision_of task before line in
     let known : known_after decision (state_after task before line) ≡ Ok work.state = subst
     (λ (z : State). known_after decision z ≡ Ok work.state) decided.state decided.known in (
-      decided.text ++ shown decision line,
+      decided.text ++ output_of decision line,
       decided.sent,
       open_text task taken decided.text before decided.lines ∙ ap (behind decided.text) (last_line task before line some)
-          ∙ ap (λ (z : Result State Finding). run (decided.text ++ shown decision line) (known_at_end task z)) known,
+          ∙ ap (λ (z : Result State Finding). run (decided.text ++ output_of decision line) (known_at_end task z)) known,
     )
 
 -- all was written, and this is known then
@@ -324,8 +330,8 @@ stands_fault task base b c pending work taken more (inr (decided, long)) cut =
     let before = decided.before in
     let line = rest_from [] taken in
     let cont = continues_long task before line more long in
-    cut_short task base c taken more decided.text before (shown (decision_of task before line) line) cont.rest decided.lines cont.begins
-    (AppendsBeginning-flushed base b c pending (decided.text ++ shown (decision_of task before line) line) decided.sent cut)
+    cut_short task base c taken more decided.text before (output_of (decision_of task before line) line) cont.rest decided.lines cont.begins
+    (AppendsBeginning-flushed base b c pending (decided.text ++ output_of (decision_of task before line) line) decided.sent cut)
 
 -- what is pending was written
 pub stands_flushed : (task : Task) (base b c : Option (List ℕ)) (pending pending' : List ℕ) (work : Work) (taken : List ℕ)
@@ -340,7 +346,7 @@ stands_flushed task base b c pending pending' work taken (inl keeps) written non
       sent = subst (λ (z : List ℕ). Sends base c z keeps.text) (sym none) (Sends-flushed base b c pending keeps.text keeps.sent written);
     }
 stands_flushed task base b c pending pending' work taken (inr (decided, long)) written none =
-    let all = decided.text ++ shown (decision_of task decided.before (rest_from [] taken)) (rest_from [] taken) in
+    let all = decided.text ++ output_of (decision_of task decided.before (rest_from [] taken)) (rest_from [] taken) in
     inr (
       record {
         text = decided.text;
@@ -357,17 +363,30 @@ stands_flushed task base b c pending pending' work taken (inr (decided, long)) w
 -- ---- a line that goes on
 
 pub begins_kept : (r : Result Progress LineFault) (decision : Decision) (known : State) (old new : Option (List ℕ)) (pending pending' line text : List ℕ)
-    (marked : Bool) (count : ℕ) → Keep marked text count ≡ decision
-    → KeepsLine r old new pending' (pending ++ (mark_text marked ++ (text ++ drop count (behind_mark marked line))))
+    (start count : ℕ) → Keep start text count ≡ decision
+    → KeepsLine r old new pending' (pending ++ (take start line ++ (text ++ drop (start + count) line)))
     → Begins r decision known old new pending pending' line
-begins_kept (Ok progress) decision known old new pending pending' line text marked count e h = (
-  subst (λ (z : Decision). Sends old new pending' (pending ++ shown z line)) e h.0,
+begins_kept (Ok progress) decision known old new pending pending' line text start count e h = (
+  subst (λ (z : Decision). Sends old new pending' (pending ++ output_of z line)) e h.0,
   h.1 ∙ ap progress_of e,
   ap (λ (z : Decision). known_after z known) (sym e),
 )
-begins_kept (Err Write) decision known old new pending pending' line text marked count e h =
-    subst (λ (z : Decision). AppendsBeginning old new (pending ++ shown z line)) e h
-begins_kept (Err (Found found)) decision known old new pending pending' line text marked count e h = absurd h
+begins_kept (Err Write) decision known old new pending pending' line text start count e h =
+    subst (λ (z : Decision). AppendsBeginning old new (pending ++ output_of z line)) e h
+begins_kept (Err (Found found)) decision known old new pending pending' line text start count e h = absurd h
+
+-- a note in place of a line
+pub begins_told : (r : Result Progress LineFault) (decision : Decision) (known : State) (old new : Option (List ℕ)) (pending pending' line : List ℕ)
+    (note : Note) → Tell note ≡ decision → TellsNote r old new pending' (pending ++ note_text note)
+    → Begins r decision known old new pending pending' line
+begins_told (Ok progress) decision known old new pending pending' line note e h = (
+  subst (λ (z : Decision). Sends old new pending' (pending ++ output_of z line)) e h.0,
+  h.1 ∙ ap progress_of e,
+  ap (λ (z : Decision). known_after z known) (sym e),
+)
+begins_told (Err Write) decision known old new pending pending' line note e h =
+    subst (λ (z : Decision). AppendsBeginning old new (pending ++ output_of z line)) e h
+begins_told (Err (Found found)) decision known old new pending pending' line note e h = absurd h
 
 -- a line that does not go on
 pub begins_skipped : (decision : Decision) (known : State) (now : Option (List ℕ)) (pending line : List ℕ) → Skip ≡ decision

@@ -10,7 +10,7 @@ use Rattle.line_devices.specs.WritingLemmas.{Appends-nil, Appends-flushed, Sends
 use Rattle.stamps.specs.Decisions.{decision_of, state_after, first_state}
 use Rattle.stamps.specs.LineStamps.{longest_head}
 use Rattle.stamps.specs.Progress.{Stands}
-use Rattle.stamps.specs.Runs.{Run, run, behind, shown, known_after, lines_run, begun_run, open_run}
+use Rattle.stamps.specs.Runs.{Run, run, behind, output_of, known_after, lines_run, begun_run, open_run}
 use Rattle.stamps.specs.declared.decide.State.{State}
 use Rattle.stamps.specs.declared.lines.Progress.TheVariants.{Kept}
 use Rattle.stamps.specs.declared.lines.Work.{Work}
@@ -37,7 +37,7 @@ begun_run-short task state line short =
     let t : nat_lt (length line) longest_head ≡ true = grind (arith, nat_tests) in rw t refl
 
 begun_run-long : (task : Task) (state : State) (line : List ℕ) → longest_head ≤ length line
-    → begun_run task state line ≡ run (shown (decision_of task state line) line) (known_after (decision_of task state line) (state_after task state line))
+    → begun_run task state line ≡ run (output_of (decision_of task state line) line) (known_after (decision_of task state line) (state_after task state line))
 begun_run-long task state line long =
     let t : nat_lt (length line) longest_head ≡ false = grind (arith, nat_tests) in
     rw t refl

@@ -9,9 +9,9 @@ use Rattle.line_devices.specs.LineParts.{rest_from}
 use Rattle.line_devices.specs.Writing.{Sends}
 use Rattle.stamps.specs.Decisions.{decision_of, state_after}
 use Rattle.stamps.specs.LineStamps.{longest_head}
-use Rattle.stamps.specs.Progress.{Begins, Decided, Ends, Keeps, Passes, Settled, Stands, WritesPending, is_kept, mark_after, passed, progress_of}
+use Rattle.stamps.specs.Progress.{Begins, Decided, Ends, Keeps, Passes, Settled, Stands, WritesPending, is_kept, mark_after, to_send, progress_of}
 use Rattle.stamps.specs.declared.decide.Decision.{Decision}
-use Rattle.stamps.specs.declared.decide.Decision.TheVariants.{Keep, Skip, Stop}
+use Rattle.stamps.specs.declared.decide.Decision.TheVariants.{Keep, Skip, Stop, Tell}
 use Rattle.stamps.specs.declared.decide.State.{State}
 use Rattle.stamps.specs.declared.lines.LineFault.{LineFault}
 use Rattle.stamps.specs.declared.lines.LineFault.TheVariants.{Write, Found}
@@ -24,8 +24,9 @@ use Rattle.stamps.proofs.PartLemmas.{HasNoFeed, HasNoFeed-take, HasNoFeed-drop, 
 use Rattle.stamps.proofs.PartLemmas.{pass_fault, stands_fault, stands_flushed, completion_fault}
 
 progress_of-decided : (decision : Decision) → progress_of decision ≢ Kept
-progress_of-decided (Keep marked text count) is = absurd cc
+progress_of-decided (Keep start text count) is = absurd cc
 progress_of-decided Skip is = absurd cc
+progress_of-decided (Tell note) is = absurd cc
 progress_of-decided (Stop found) is = absurd cc
 
 pub kept_is : (p : Progress) (r : Bool) → r ≡ is_kept p → r ≡ true → p ≡ Kept
@@ -61,13 +62,13 @@ sent_of (Ok done) old new pending bytes ok h = h
 sent_of (Err fault) old new pending bytes ok h = absurd cc
 
 pub pass_stands : (task : Task) (base b c : Option (List ℕ)) (pending pending' : List ℕ) (work : Work) (taken part : List ℕ) (r : Result Unit LineFault)
-    → HasNoFeed part → IsOk r → Passes r b c pending' (pending ++ passed work.progress part)
+    → HasNoFeed part → IsOk r → Passes r b c pending' (pending ++ to_send work.progress part)
     → Decided task base b pending work taken × IsLong taken → Stands task base c pending' work (taken ++ part)
 pass_stands task base b c pending pending' work taken part r none ok h both =
     inr (decided_more task base b c pending pending' work taken part both.0 both.1 none (sent_of r b c pending' _ ok h), long_more taken part none both.1)
 
 pub pass_ends : (task : Task) (b c : Option (List ℕ)) (pending pending' : List ℕ) (work : Work) (part : List ℕ) (r : Result Unit LineFault)
-    → HasNoFeed part → Passes r b c pending' (pending ++ passed work.progress part)
+    → HasNoFeed part → Passes r b c pending' (pending ++ to_send work.progress part)
     → IfErr r (λ fault. (base : Option (List ℕ)) (taken more : List ℕ) → Decided task base b pending work taken × IsLong taken
     → Ends task base c fault ((taken ++ part) ++ more))
 pass_ends task b c pending pending' work part (Ok done) none h = tt
@@ -115,14 +116,14 @@ fill_fault task base b c pending pending' work taken part more line n known faul
 
 -- and the rest of the part behind it
 pub fill_stands : (task : Task) (base b c : Option (List ℕ)) (pending pending' : List ℕ) (work : Work) (taken part : List ℕ) (n : ℕ)
-    (r : Result Unit LineFault) → HasNoFeed part → IsOk r → Passes r b c pending' (pending ++ passed work.progress (drop n part))
+    (r : Result Unit LineFault) → HasNoFeed part → IsOk r → Passes r b c pending' (pending ++ to_send work.progress (drop n part))
     → Decided task base b pending work (taken ++ take n part) × IsLong (taken ++ take n part) → Stands task base c pending' work (taken ++ part)
 fill_stands task base b c pending pending' work taken part n r none ok h both =
     subst (λ (z : List ℕ). Stands task base c pending' work z) (part_split taken part n)
     (pass_stands task base b c pending pending' work (taken ++ take n part) (drop n part) r (HasNoFeed-drop part n none) ok h both)
 
 pub fill_ends : (task : Task) (b c : Option (List ℕ)) (pending pending' : List ℕ) (work : Work) (part : List ℕ) (n : ℕ) (r : Result Unit LineFault)
-    → HasNoFeed part → Passes r b c pending' (pending ++ passed work.progress (drop n part))
+    → HasNoFeed part → Passes r b c pending' (pending ++ to_send work.progress (drop n part))
     → IfErr r (λ fault. (base : Option (List ℕ)) (taken more : List ℕ)
     → Decided task base b pending work (taken ++ take n part) × IsLong (taken ++ take n part) → Ends task base c fault ((taken ++ part) ++ more))
 fill_ends task b c pending pending' work part n (Ok done) none h = tt

@@ -1,5 +1,5 @@
 -- Words make a request, or are a misuse, exactly where the usage has it so.
-use Rattle.std.proofs.Common.{◌≡◌, refl, ap, subst, ◌∙◌, ℕ, ℤ, Bool, true, false, ◌||◌, List, [], ◌∷◌, Result, Ok, Err}
+use Rattle.std.proofs.Common.{◌≡◌, refl, ap, subst, ◌∙◌, ℕ, ℤ, pos, Bool, true, false, ◌||◌, List, [], ◌∷◌, drop, Option, Some, None, Result, Ok, Err}
 use Rattle.std.specs.List.{list_any}
 use Rattle.std.specs.Prelude.{codes, if◌then◌else◌}
 use Rattle.std.specs.Result.{result_map_both}
@@ -9,22 +9,28 @@ use Rattle.offset_times.specs.Local.{instant_of}
 use Rattle.rfc3339.specs.Front.{offset_reading_of}
 use Rattle.rfc3339.specs.Reading.{reading_as}
 use Rattle.rfc3339.specs.declared.refusal.TextRefusal.{TextRefusal}
-use Rattle.stamps.specs.Arguments.{alone, asked_alone, at_offset, at_offset_read, bound_of, bound_read, bounded as bounded_words}
-use Rattle.stamps.specs.Arguments.{is_finer, request_of, strictness, task_asked}
-use Rattle.stamps.specs.Usage.{BoundWord, FrontWords, IsBound, MisuseWords, RequestWords, StrictWords, first_words}
+use Rattle.stamps.specs.Arguments.{only_instant, asked_alone, at_offset as offset_words, at_offset_read, bound_of, bound_read, bound_task as bounded_words}
+use Rattle.stamps.specs.Arguments.{check_task, clock, count_at, count_at_read, count_by, count_read, count_request, gaps_read, gaps_task, is_finer, limit_of}
+use Rattle.stamps.specs.Arguments.{request_of, starts_all, starts_at, strictness, task_asked, unit_of}
+use Rattle.stamps.specs.Durations.{duration_of}
+use Rattle.stamps.specs.Usage.{BoundWord, CountWords, FrontWords, IsBound, MisuseWords, RequestWords, StrictWords, first_words}
 use Rattle.stamps.specs.Usage.BoundWord.{since, until}
-use Rattle.stamps.specs.Usage.FrontWords.{utc, unix, at, check}
-use Rattle.stamps.specs.Usage.MisuseWords.{no_word, unknown_word, no_offset, offset, no_instant, instant, too_fine, after_help, after_version}
-use Rattle.stamps.specs.Usage.MisuseWords.{after_task, after_bound}
-use Rattle.stamps.specs.Usage.RequestWords.{help, version, task, bounded}
+use Rattle.stamps.specs.Usage.CountWords.{in_utc, at_offset}
+use Rattle.stamps.specs.Usage.FrontWords.{utc, unix, at, check, check_all, gaps}
+use Rattle.stamps.specs.Usage.MisuseWords.{no_word, unknown_word, no_offset, offset, no_unit, unit, no_count_offset, count_offset}
+use Rattle.stamps.specs.Usage.MisuseWords.{no_duration, duration, no_instant, instant, too_fine, after_help, after_version, after_count}
+use Rattle.stamps.specs.Usage.MisuseWords.{after_merge, after_task, after_bound}
+use Rattle.stamps.specs.Usage.RequestWords.{help, version, merge, count, task, bound_task}
 use Rattle.stamps.specs.Usage.StrictWords.{lenient, strict}
 use Rattle.stamps.specs.declared.arguments.Misuse.{Misuse}
 use Rattle.stamps.specs.declared.arguments.Misuse.TheVariants.{UnknownWord, Extra}
 use Rattle.stamps.specs.declared.arguments.Request.{Request}
-use Rattle.stamps.specs.declared.arguments.Request.TheVariants.{Help, Version, Work}
+use Rattle.stamps.specs.declared.arguments.Request.TheVariants.{Help, Version, Work, Merge, Count}
+use Rattle.stamps.specs.declared.counts.Clock.{Clock}
+use Rattle.stamps.specs.declared.counts.Unit as units
 use Rattle.stamps.specs.declared.task.Style.TheVariants.{Utc, At, Unix}
-use Rattle.stamps.specs.declared.task.Task.{Task}
-use Rattle.stamps.specs.declared.task.Task.TheVariants.{Write, Check, Since, Until}
+use Rattle.stamps.specs.declared.task.Action.{Action}
+use Rattle.stamps.specs.declared.task.Action.TheVariants.{Write, Check, CheckAll, Gaps, Since, Until}
 
 -- ---- what words ask for
 
@@ -47,14 +53,14 @@ same_first word known more e = ap (λ (z : List ℕ). z ∷ more) (same_word wor
 
 -- ---- a task that `--strict` may follow
 
-by_flag : (words : List (List ℕ)) (work : Bool → Task) (flag : List ℕ) (b : Bool) → FrontWords words (flag ∷ []) work
+by_flag : (words : List (List ℕ)) (work : Bool → Action) (flag : List ℕ) (b : Bool) → FrontWords words (flag ∷ []) work
     → bytes_eq flag (codes "--strict") ≡ b
     → Outcome words (result_map_both Work (λ misuse. misuse) (result_map_both work (λ misuse. misuse) (if b then Ok true else Err Extra)))
 by_flag words work flag true h e = asked (task h (strict (same_first flag (codes "--strict") [] e)))
 by_flag words work flag false h e =
     misused (after_task h (λ (same : flag ∷ [] ≡ codes "--strict" ∷ []). other_word flag (codes "--strict") e (same_only flag (codes "--strict") same)))
 
-by_strictness : (words more : List (List ℕ)) (work : Bool → Task) → FrontWords words more work
+by_strictness : (words more : List (List ℕ)) (work : Bool → Action) → FrontWords words more work
     → Outcome words (result_map_both Work (λ misuse. misuse) (result_map_both work (λ misuse. misuse) (strictness more)))
 by_strictness words [] work h = asked (task h (lenient refl))
 by_strictness words (flag ∷ []) work h = by_flag words work flag (bytes_eq flag (codes "--strict")) h refl
@@ -65,31 +71,31 @@ by_offset : (words : List (List ℕ)) (text : List ℕ) (more : List (List ℕ))
 by_offset words text more (Ok local) front e = by_strictness words more (λ (b : Bool). Write (At local) b) (at front e)
 by_offset words text more (Err refusal) front e = misused (offset front e)
 
-by_at : (words more : List (List ℕ)) → words ≡ codes "at" ∷ more → Outcome words (result_map_both Work (λ misuse. misuse) (at_offset more))
+by_at : (words more : List (List ℕ)) → words ≡ codes "at" ∷ more → Outcome words (result_map_both Work (λ misuse. misuse) (offset_words more))
 by_at words [] front = misused (no_offset front)
 by_at words (text ∷ more) front = by_offset words text more (offset_reading_of text) front refl
 
 -- ---- a task with a bound
 
-by_rest : (words : List (List ℕ)) (word text : List ℕ) (more : List (List ℕ)) (work : ℤ → Task) (bound : ℤ) → BoundWord word work
+by_rest : (words : List (List ℕ)) (word text : List ℕ) (more : List (List ℕ)) (work : ℤ → Action) (bound : ℤ) → BoundWord word work
     → words ≡ word ∷ text ∷ more → IsBound text bound
-    → Outcome words (result_map_both Work (λ misuse. misuse) (result_map_both work (λ misuse. misuse) (alone bound more)))
-by_rest words word text [] work bound h front read = asked (bounded h front read)
+    → Outcome words (result_map_both Work (λ misuse. misuse) (result_map_both work (λ misuse. misuse) (only_instant bound more)))
+by_rest words word text [] work bound h front read = asked (bound_task h front read)
 by_rest words word text (other ∷ more) work bound h front read = misused (after_bound h front read)
 
-by_fraction : (words : List (List ℕ)) (word text : List ℕ) (more : List (List ℕ)) (work : ℤ → Task) (bound : ℤ) (finer : Bool) → BoundWord word work
+by_fraction : (words : List (List ℕ)) (word text : List ℕ) (more : List (List ℕ)) (work : ℤ → Action) (bound : ℤ) (finer : Bool) → BoundWord word work
     → words ≡ word ∷ text ∷ more → reading_as instant_of text ≡ Ok bound → is_finer text ≡ finer
     → Outcome words (result_map_both Work (λ misuse. misuse) (result_map_both work (λ misuse. misuse) (bound_read finer (Ok bound) more)))
 by_fraction words word text more work bound true h front read e = misused (too_fine h front read e)
 by_fraction words word text more work bound false h front read e = by_rest words word text more work bound h front (record { instant = read; not_finer = e })
 
-by_reading : (words : List (List ℕ)) (word text : List ℕ) (more : List (List ℕ)) (work : ℤ → Task) (read : Result ℤ TextRefusal) → BoundWord word work
+by_reading : (words : List (List ℕ)) (word text : List ℕ) (more : List (List ℕ)) (work : ℤ → Action) (read : Result ℤ TextRefusal) → BoundWord word work
     → words ≡ word ∷ text ∷ more → reading_as instant_of text ≡ read
     → Outcome words (result_map_both Work (λ misuse. misuse) (result_map_both work (λ misuse. misuse) (bound_read (is_finer text) read more)))
 by_reading words word text more work (Ok bound) h front e = by_fraction words word text more work bound (is_finer text) h front e refl
 by_reading words word text more work (Err refusal) h front e = misused (instant h front e)
 
-by_bound : (word : List ℕ) (more : List (List ℕ)) (work : ℤ → Task) → BoundWord word work
+by_bound : (word : List ℕ) (more : List (List ℕ)) (work : ℤ → Action) → BoundWord word work
     → Outcome (word ∷ more) (result_map_both Work (λ misuse. misuse) (result_map_both work (λ misuse. misuse) (bound_of more)))
 by_bound word [] work h = misused (no_instant h refl)
 by_bound word (text ∷ more) work h = by_reading (word ∷ text ∷ more) word text more work (reading_as instant_of text) h refl refl
@@ -108,14 +114,17 @@ by_version words (word ∷ more) front = misused (after_version front)
 record IsOther (word : List ℕ) : Type 0 where
   help : bytes_eq word (codes "--help") ≡ false
   version : bytes_eq word (codes "--version") ≡ false
+  merge : bytes_eq word (codes "merge") ≡ false
+  count : bytes_eq word (codes "count") ≡ false
   utc : bytes_eq word (codes "utc") ≡ false
   unix : bytes_eq word (codes "unix") ≡ false
   at : bytes_eq word (codes "at") ≡ false
   check : bytes_eq word (codes "check") ≡ false
+  gaps : bytes_eq word (codes "gaps") ≡ false
 
 unknown : (word : List ℕ) → IsOther word → bytes_eq word (codes "since") ≡ false → bytes_eq word (codes "until") ≡ false
     → list_any (bytes_eq word) first_words ≡ false
-unknown word h s u = rw (h.help, h.version, h.utc, h.unix, h.at, h.check, s, u) refl
+unknown word h s u = rw (h.help, h.version, h.merge, h.count, h.utc, h.unix, h.at, h.check, h.gaps, s, u) refl
 
 after_since : (word : List ℕ) (more : List (List ℕ)) (b : Bool) → IsOther word → bytes_eq word (codes "since") ≡ false → bytes_eq word (codes "until") ≡ b
     → Outcome (word ∷ more) (result_map_both Work (λ misuse. misuse)
@@ -135,57 +144,175 @@ by_words : (word : List ℕ) (more : List (List ℕ)) → IsOther word
 unfolding bounded_words
 by_words word more h = by_bounded word more (bytes_eq word (codes "since")) h refl
 
+by_check_all : (words more : List (List ℕ)) (all : Bool) → words ≡ codes "check" ∷ more → starts_all more ≡ all
+    → Outcome words (result_map_both Work (λ misuse. misuse)
+    (if all then result_map_both CheckAll (λ misuse. misuse) (strictness (drop 1 more)) else result_map_both Check (λ misuse. misuse) (strictness more)))
+by_check_all words [] true front e = absurd cc
+by_check_all words (flag ∷ more) true front e =
+    by_strictness words more CheckAll (check_all (front ∙ ap (λ (z : List ℕ). codes "check" ∷ z ∷ more) (same_word flag (codes "--all") e)))
+by_check_all words more false front e = by_strictness words more Check (check front e)
+
+by_duration : (words : List (List ℕ)) (text : List ℕ) (more : List (List ℕ)) (read : Option ℕ) → words ≡ codes "gaps" ∷ text ∷ more
+    → duration_of text ≡ read → Outcome words (result_map_both Work (λ misuse. misuse) (gaps_read read more))
+by_duration words text more (Some seconds) front e = by_strictness words more (Gaps (limit_of seconds)) (gaps front e)
+by_duration words text more None front e = misused (duration front e)
+
+by_gaps : (words more : List (List ℕ)) → words ≡ codes "gaps" ∷ more → Outcome words (result_map_both Work (λ misuse. misuse) (gaps_task more))
+by_gaps words [] front = misused (no_duration front)
+by_gaps words (text ∷ more) front = by_duration words text more (duration_of text) front refl
+
+by_gaps_word : (word : List ℕ) (more : List (List ℕ)) (b : Bool) → bytes_eq word (codes "--help") ≡ false
+    → bytes_eq word (codes "--version") ≡ false → bytes_eq word (codes "merge") ≡ false → bytes_eq word (codes "count") ≡ false
+    → bytes_eq word (codes "utc") ≡ false → bytes_eq word (codes "unix") ≡ false → bytes_eq word (codes "at") ≡ false
+    → bytes_eq word (codes "check") ≡ false → bytes_eq word (codes "gaps") ≡ b
+    → Outcome (word ∷ more) (result_map_both Work (λ misuse. misuse) (if b then gaps_task more else bounded_words word more))
+by_gaps_word word more true no_help no_version no_merge no_count no_utc no_unix no_at no_check e =
+    by_gaps (word ∷ more) more (same_first word (codes "gaps") more e)
+by_gaps_word word more false no_help no_version no_merge no_count no_utc no_unix no_at no_check e = by_words word more (record {
+  help = no_help;
+  version = no_version;
+  merge = no_merge;
+  count = no_count;
+  utc = no_utc;
+  unix = no_unix;
+  at = no_at;
+  check = no_check;
+  gaps = e;
+})
+
 by_check : (word : List ℕ) (more : List (List ℕ)) (b : Bool) → bytes_eq word (codes "--help") ≡ false
-    → bytes_eq word (codes "--version") ≡ false → bytes_eq word (codes "utc") ≡ false
-    → bytes_eq word (codes "unix") ≡ false → bytes_eq word (codes "at") ≡ false → bytes_eq word (codes "check") ≡ b
+    → bytes_eq word (codes "--version") ≡ false → bytes_eq word (codes "merge") ≡ false → bytes_eq word (codes "count") ≡ false
+    → bytes_eq word (codes "utc") ≡ false → bytes_eq word (codes "unix") ≡ false → bytes_eq word (codes "at") ≡ false
+    → bytes_eq word (codes "check") ≡ b
     → Outcome (word ∷ more) (result_map_both Work (λ misuse. misuse)
-    (if b then result_map_both Check (λ misuse. misuse) (strictness more) else bounded_words word more))
-by_check word more true no_help no_version no_utc no_unix no_at e = by_strictness (word ∷ more) more Check (check (same_first word (codes "check") more e))
-by_check word more false no_help no_version no_utc no_unix no_at e =
-    by_words word more (record { help = no_help; version = no_version; utc = no_utc; unix = no_unix; at = no_at; check = e })
+    (if b then check_task more else (if bytes_eq word (codes "gaps") then gaps_task more else bounded_words word more)))
+by_check word more true no_help no_version no_merge no_count no_utc no_unix no_at e =
+    by_check_all (word ∷ more) more (starts_all more) (same_first word (codes "check") more e) refl
+by_check word more false no_help no_version no_merge no_count no_utc no_unix no_at e = by_gaps_word word more (bytes_eq word
+    (codes "gaps")) no_help no_version no_merge no_count no_utc no_unix no_at e refl
 
 by_at_word : (word : List ℕ) (more : List (List ℕ)) (b : Bool) → bytes_eq word (codes "--help") ≡ false
-    → bytes_eq word (codes "--version") ≡ false → bytes_eq word (codes "utc") ≡ false
+    → bytes_eq word (codes "--version") ≡ false → bytes_eq word (codes "merge") ≡ false → bytes_eq word (codes "count") ≡ false
+    → bytes_eq word (codes "utc") ≡ false
     → bytes_eq word (codes "unix") ≡ false → bytes_eq word (codes "at") ≡ b
     → Outcome (word ∷ more) (result_map_both Work (λ misuse. misuse)
-    (if b then at_offset more
-    else (if bytes_eq word (codes "check") then result_map_both Check (λ misuse. misuse) (strictness more) else bounded_words word more)))
-by_at_word word more true no_help no_version no_utc no_unix e = by_at (word ∷ more) more (same_first word (codes "at") more e)
-by_at_word word more false no_help no_version no_utc no_unix e = by_check word more (bytes_eq word (codes "check")) no_help no_version no_utc no_unix e refl
+    (if b then offset_words more
+    else (if bytes_eq word (codes "check") then check_task more
+    else (if bytes_eq word (codes "gaps") then gaps_task more else bounded_words word more))))
+by_at_word word more true no_help no_version no_merge no_count no_utc no_unix e = by_at (word ∷ more) more (same_first word (codes "at") more e)
+by_at_word word more false no_help no_version no_merge no_count no_utc no_unix e = by_check word more (bytes_eq word
+    (codes "check")) no_help no_version no_merge no_count no_utc no_unix e refl
 
 by_unix : (word : List ℕ) (more : List (List ℕ)) (b : Bool) → bytes_eq word (codes "--help") ≡ false
-    → bytes_eq word (codes "--version") ≡ false → bytes_eq word (codes "utc") ≡ false
+    → bytes_eq word (codes "--version") ≡ false → bytes_eq word (codes "merge") ≡ false → bytes_eq word (codes "count") ≡ false
+    → bytes_eq word (codes "utc") ≡ false
     → bytes_eq word (codes "unix") ≡ b
     → Outcome (word ∷ more) (result_map_both Work (λ misuse. misuse)
     (if b then result_map_both (Write Unix) (λ misuse. misuse) (strictness more)
-    else (if bytes_eq word (codes "at") then at_offset more
-    else (if bytes_eq word (codes "check") then result_map_both Check (λ misuse. misuse) (strictness more) else bounded_words word more))))
-by_unix word more true no_help no_version no_utc e = by_strictness (word ∷ more) more (Write Unix) (unix (same_first word (codes "unix") more e))
-by_unix word more false no_help no_version no_utc e = by_at_word word more (bytes_eq word (codes "at")) no_help no_version no_utc e refl
+    else (if bytes_eq word (codes "at") then offset_words more
+    else (if bytes_eq word (codes "check") then check_task more
+    else (if bytes_eq word (codes "gaps") then gaps_task more else bounded_words word more)))))
+by_unix word more true no_help no_version no_merge no_count no_utc e = by_strictness (word ∷ more) more (Write Unix) (unix (same_first word (codes "unix")
+    more e))
+by_unix word more false no_help no_version no_merge no_count no_utc e = by_at_word word more (bytes_eq word (codes "at")) no_help no_version no_merge
+    no_count no_utc e refl
 
 by_utc : (word : List ℕ) (more : List (List ℕ)) (b : Bool) → bytes_eq word (codes "--help") ≡ false
-    → bytes_eq word (codes "--version") ≡ false → bytes_eq word (codes "utc") ≡ b
+    → bytes_eq word (codes "--version") ≡ false → bytes_eq word (codes "merge") ≡ false → bytes_eq word (codes "count") ≡ false
+    → bytes_eq word (codes "utc") ≡ b
     → Outcome (word ∷ more) (result_map_both Work (λ misuse. misuse)
     (if b then result_map_both (Write Utc) (λ misuse. misuse) (strictness more)
     else (if bytes_eq word (codes "unix") then result_map_both (Write Unix) (λ misuse. misuse) (strictness more)
-    else (if bytes_eq word (codes "at") then at_offset more
-    else (if bytes_eq word (codes "check") then result_map_both Check (λ misuse. misuse) (strictness more) else bounded_words word more)))))
-by_utc word more true no_help no_version e = by_strictness (word ∷ more) more (Write Utc) (utc (same_first word (codes "utc") more e))
-by_utc word more false no_help no_version e = by_unix word more (bytes_eq word (codes "unix")) no_help no_version e refl
+    else (if bytes_eq word (codes "at") then offset_words more
+    else (if bytes_eq word (codes "check") then check_task more
+    else (if bytes_eq word (codes "gaps") then gaps_task more else bounded_words word more))))))
+by_utc word more true no_help no_version no_merge no_count e = by_strictness (word ∷ more) more (Write Utc) (utc (same_first word (codes "utc") more e))
+by_utc word more false no_help no_version no_merge no_count e = by_unix word more (bytes_eq word (codes "unix")) no_help no_version no_merge no_count e refl
 
 by_task : (word : List ℕ) (more : List (List ℕ)) → bytes_eq word (codes "--help") ≡ false → bytes_eq word (codes "--version") ≡ false
+    → bytes_eq word (codes "merge") ≡ false → bytes_eq word (codes "count") ≡ false
     → Outcome (word ∷ more) (result_map_both Work (λ misuse. misuse) (task_asked word more))
 unfolding task_asked
-by_task word more no_help no_version = by_utc word more (bytes_eq word (codes "utc")) no_help no_version refl
+by_task word more no_help no_version no_merge no_count = by_utc word more (bytes_eq word (codes "utc")) no_help no_version no_merge no_count refl
+
+by_merge_flag : (words : List (List ℕ)) (flag : List ℕ) (b : Bool) → words ≡ codes "merge" ∷ flag ∷ [] → bytes_eq flag (codes "--strict") ≡ b
+    → Outcome words (result_map_both Merge (λ misuse. misuse) (if b then Ok true else Err Extra))
+by_merge_flag words flag true h e = asked (merge h (strict (same_first flag (codes "--strict") [] e)))
+by_merge_flag words flag false h e =
+    misused (after_merge h (λ (same : flag ∷ [] ≡ codes "--strict" ∷ []). other_word flag (codes "--strict") e (same_only flag (codes "--strict") same)))
+
+by_merge : (words more : List (List ℕ)) → words ≡ codes "merge" ∷ more → Outcome words (result_map_both Merge (λ misuse. misuse) (strictness more))
+by_merge words [] h = asked (merge h (lenient refl))
+by_merge words (flag ∷ []) h = by_merge_flag words flag (bytes_eq flag (codes "--strict")) h refl
+by_merge words (flag ∷ word ∷ more) h = misused (after_merge h (λ (same : flag ∷ word ∷ more ≡ codes "--strict" ∷ []). absurd cc))
+
+by_count_flag : (words : List (List ℕ)) (by : Clock) (flag : List ℕ) (b : Bool) → CountWords words (flag ∷ []) by → bytes_eq flag (codes "--strict") ≡ b
+    → Outcome words (result_map_both (Count by) (λ misuse. misuse) (if b then Ok true else Err Extra))
+by_count_flag words by flag true h e = asked (count h (strict (same_first flag (codes "--strict") [] e)))
+by_count_flag words by flag false h e =
+    misused (after_count h (λ (same : flag ∷ [] ≡ codes "--strict" ∷ []). other_word flag (codes "--strict") e (same_only flag (codes "--strict") same)))
+
+by_count_strictness : (words more : List (List ℕ)) (by : Clock) → CountWords words more by
+    → Outcome words (result_map_both (Count by) (λ misuse. misuse) (strictness more))
+by_count_strictness words [] by h = asked (count h (lenient refl))
+by_count_strictness words (flag ∷ []) by h = by_count_flag words by flag (bytes_eq flag (codes "--strict")) h refl
+by_count_strictness words (flag ∷ word ∷ more) by h = misused (after_count h (λ (same : flag ∷ word ∷ more ≡ codes "--strict" ∷ []). absurd cc))
+
+by_count_offset : (words : List (List ℕ)) (text written : List ℕ) (more : List (List ℕ)) (named : units.Unit) (read : Result ℤ TextRefusal)
+    → words ≡ codes "count" ∷ text ∷ codes "at" ∷ written ∷ more → unit_of text ≡ Some named → offset_reading_of written ≡ read
+    → Outcome words (count_at_read named read more)
+by_count_offset words text written more named (Ok o) front u e = by_count_strictness words more (clock named o) (at_offset front u e)
+by_count_offset words text written more named (Err refusal) front u e = misused (count_offset front u e)
+
+by_count_at : (words : List (List ℕ)) (text : List ℕ) (more : List (List ℕ)) (named : units.Unit) → words ≡ codes "count" ∷ text ∷ codes "at" ∷ more
+    → unit_of text ≡ Some named → Outcome words (count_at named more)
+by_count_at words text [] named front u = misused (no_count_offset front u)
+by_count_at words text (written ∷ more) named front u = by_count_offset words text written more named (offset_reading_of written) front u refl
+
+by_count_in : (words : List (List ℕ)) (text : List ℕ) (more : List (List ℕ)) (named : units.Unit) (b : Bool) → words ≡ codes "count" ∷ text ∷ more
+    → unit_of text ≡ Some named → starts_at more ≡ b
+    → Outcome words (if b then count_at named (drop 1 more) else count_by named (pos 0) more)
+by_count_in words text [] named true front u e = absurd cc
+by_count_in words text (word ∷ more) named true front u e =
+    by_count_at words text more named (front ∙ ap (λ (z : List ℕ). codes "count" ∷ text ∷ z ∷ more) (same_word word (codes "at") e)) u
+by_count_in words text more named false front u e = by_count_strictness words more (clock named (pos 0)) (in_utc front u e)
+
+by_unit : (words : List (List ℕ)) (text : List ℕ) (more : List (List ℕ)) (read : Option units.Unit) → words ≡ codes "count" ∷ text ∷ more
+    → unit_of text ≡ read → Outcome words (count_read read more)
+by_unit words text more (Some named) front e = by_count_in words text more named (starts_at more) front e refl
+by_unit words text more None front e = misused (unit front e)
+
+by_count : (words more : List (List ℕ)) → words ≡ codes "count" ∷ more → Outcome words (count_request more)
+by_count words [] front = misused (no_unit front)
+by_count words (text ∷ more) front = by_unit words text more (unit_of text) front refl
+
+by_fourth : (word : List ℕ) (more : List (List ℕ)) (b : Bool) → bytes_eq word (codes "--help") ≡ false → bytes_eq word (codes "--version") ≡ false
+    → bytes_eq word (codes "merge") ≡ false → bytes_eq word (codes "count") ≡ b
+    → Outcome (word ∷ more) (if b then count_request more else result_map_both Work (λ misuse. misuse) (task_asked word more))
+by_fourth word more true no_help no_version no_merge e = by_count (word ∷ more) more (same_first word (codes "count") more e)
+by_fourth word more false no_help no_version no_merge e = by_task word more no_help no_version no_merge e
+
+by_third : (word : List ℕ) (more : List (List ℕ)) (b : Bool) → bytes_eq word (codes "--help") ≡ false → bytes_eq word (codes "--version") ≡ false
+    → bytes_eq word (codes "merge") ≡ b
+    → Outcome (word ∷ more) (if b then result_map_both Merge (λ misuse. misuse) (strictness more)
+    else (if bytes_eq word (codes "count") then count_request more else result_map_both Work (λ misuse. misuse) (task_asked word more)))
+by_third word more true no_help no_version e = by_merge (word ∷ more) more (same_first word (codes "merge") more e)
+by_third word more false no_help no_version e = by_fourth word more (bytes_eq word (codes "count")) no_help no_version e refl
 
 by_second : (word : List ℕ) (more : List (List ℕ)) (b : Bool) → bytes_eq word (codes "--help") ≡ false → bytes_eq word (codes "--version") ≡ b
-    → Outcome (word ∷ more) (if b then asked_alone Version more else result_map_both Work (λ misuse. misuse) (task_asked word more))
+    → Outcome (word ∷ more) (if b then asked_alone Version more
+    else (if bytes_eq word (codes "merge") then result_map_both Merge (λ misuse. misuse) (strictness more)
+    else (if bytes_eq word (codes "count") then count_request more
+    else result_map_both Work (λ misuse. misuse) (task_asked word more))))
 by_second word more true no_help e = by_version (word ∷ more) more (same_first word (codes "--version") more e)
-by_second word more false no_help e = by_task word more no_help e
+by_second word more false no_help e = by_third word more (bytes_eq word (codes "merge")) no_help e refl
 
 by_first : (word : List ℕ) (more : List (List ℕ)) (b : Bool) → bytes_eq word (codes "--help") ≡ b
     → Outcome (word ∷ more) (if b then asked_alone Help more
-    else (if bytes_eq word (codes "--version") then asked_alone Version more else result_map_both Work (λ misuse. misuse) (task_asked word more)))
+    else (if bytes_eq word (codes "--version") then asked_alone Version more
+    else (if bytes_eq word (codes "merge") then result_map_both Merge (λ misuse. misuse) (strictness more)
+    else (if bytes_eq word (codes "count") then count_request more
+    else result_map_both Work (λ misuse. misuse) (task_asked word more)))))
 by_first word more true e = by_help (word ∷ more) more (same_first word (codes "--help") more e)
 by_first word more false e = by_second word more (bytes_eq word (codes "--version")) e refl
 
@@ -206,13 +333,21 @@ neither : (a b : Bool) → (a || b) ≡ false → (a ≡ false) × (b ≡ false)
 neither true b e = absurd cc
 neither false b e = (refl, e)
 
-strict_task : (words more : List (List ℕ)) (work : Bool → Task) (found : Result Bool Misuse) → FrontWords words more work → strictness more ≡ found
+strict_task : (words more : List (List ℕ)) (work : Bool → Action) (found : Result Bool Misuse) → FrontWords words more work → strictness more ≡ found
     → request_of words ≡ result_map_both Work (λ misuse. misuse) (result_map_both work (λ misuse. misuse) found)
 unfolding request_of task_asked
 strict_task words more work found (utc e) s = rw (e, s) refl
 strict_task words more work found (unix e) s = rw (e, s) refl
 strict_task words more work found (at e read) s = rw (e, read, s) refl
-strict_task words more work found (check e) s = rw (e, s) refl
+strict_task words more work found (check e none) s = rw (e, none, s) refl
+strict_task words more work found (check_all e) s = rw (e, s) refl
+strict_task words more work found (gaps e read) s = rw (e, read, s) refl
+
+strict_count : (words more : List (List ℕ)) (by : Clock) (found : Result Bool Misuse) → CountWords words more by → strictness more ≡ found
+    → request_of words ≡ result_map_both (Count by) (λ misuse. misuse) found
+unfolding request_of
+strict_count words more by found (in_utc e u none) s = rw (e, u, none, s) refl
+strict_count words more by found (at_offset e u read) s = rw (e, u, read, s) refl
 
 strict_is : (more : List (List ℕ)) (is_strict : Bool) → StrictWords more is_strict → strictness more ≡ Ok is_strict
 strict_is more is_strict (lenient e) = rw e refl
@@ -231,7 +366,7 @@ extra_is : (word : List ℕ) (more : List (List ℕ)) → ¬ (word ∷ more ≡ 
 extra_is word [] none = flag_is_extra word (bytes_eq word (codes "--strict")) refl none
 extra_is word (other ∷ more) none = refl
 
-bound_is : (words : List (List ℕ)) (word : List ℕ) (more : List (List ℕ)) (work : ℤ → Task) → BoundWord word work → words ≡ word ∷ more
+bound_is : (words : List (List ℕ)) (word : List ℕ) (more : List (List ℕ)) (work : ℤ → Action) → BoundWord word work → words ≡ word ∷ more
     → request_of words ≡ result_map_both Work (λ misuse. misuse) (result_map_both work (λ misuse. misuse) (bound_of more))
 unfolding request_of task_asked bounded_words
 bound_is words word more work (since w) e = rw (e, w) refl
@@ -241,9 +376,11 @@ pub request_is : (words : List (List ℕ)) (request : Request) → RequestWords 
 unfolding request_of
 request_is words request (help e) = rw e refl
 request_is words request (version e) = rw e refl
+request_is words request (merge {more = more} {is_strict = b} e h) = rw (e, strict_is more b h) refl
+request_is words request (count {by = by} {more = more} {is_strict = b} front h) = strict_count words more by (Ok b) front (strict_is more b h)
 request_is words request (task {work = work} {more = more} {is_strict = b} front h) =
     strict_task words more work (Ok b) front (strict_is more b h)
-request_is words request (bounded {work = work} {word = word} {text = text} {bound = bound} h e read) =
+request_is words request (bound_task {work = work} {word = word} {text = text} {bound = bound} h e read) =
     bound_is words word (text ∷ []) work h e ∙ rw (read.instant, read.not_finer) refl
 
 not_first : (word known : List ℕ) (others : List (List ℕ)) → list_any (bytes_eq word) (known ∷ others) ≡ false
@@ -251,21 +388,24 @@ not_first : (word known : List ℕ) (others : List (List ℕ)) → list_any (byt
 not_first word known others e = neither (bytes_eq word known) (list_any (bytes_eq word) others) e
 
 after_at : List (List ℕ)
-after_at = codes "check" ∷ codes "since" ∷ codes "until" ∷ []
+after_at = codes "check" ∷ codes "gaps" ∷ codes "since" ∷ codes "until" ∷ []
 
 unknown_is : (words : List (List ℕ)) (word : List ℕ) (more : List (List ℕ)) → words ≡ word ∷ more → list_any (bytes_eq word) first_words ≡ false
     → request_of words ≡ Err UnknownWord
 unfolding request_of task_asked bounded_words after_at
 unknown_is words word more e none =
-    let one = not_first word (codes "--help") (codes "--version" ∷ codes "utc" ∷ codes "unix" ∷ codes "at" ∷ after_at) none in
-    let other = not_first word (codes "--version") (codes "utc" ∷ codes "unix" ∷ codes "at" ∷ after_at) one.1 in
-    let two = not_first word (codes "utc") (codes "unix" ∷ codes "at" ∷ after_at) other.1 in
+    let one = not_first word (codes "--help") (codes "--version" ∷ codes "merge" ∷ codes "count" ∷ codes "utc" ∷ codes "unix" ∷ codes "at" ∷ after_at) none in
+    let other = not_first word (codes "--version") (codes "merge" ∷ codes "count" ∷ codes "utc" ∷ codes "unix" ∷ codes "at" ∷ after_at) one.1 in
+    let third = not_first word (codes "merge") (codes "count" ∷ codes "utc" ∷ codes "unix" ∷ codes "at" ∷ after_at) other.1 in
+    let fourth = not_first word (codes "count") (codes "utc" ∷ codes "unix" ∷ codes "at" ∷ after_at) third.1 in
+    let two = not_first word (codes "utc") (codes "unix" ∷ codes "at" ∷ after_at) fourth.1 in
     let three = not_first word (codes "unix") (codes "at" ∷ after_at) two.1 in
     let four = not_first word (codes "at") after_at three.1 in
-    let five = not_first word (codes "check") (codes "since" ∷ codes "until" ∷ []) four.1 in
-    let six = not_first word (codes "since") (codes "until" ∷ []) five.1 in
+    let five = not_first word (codes "check") (codes "gaps" ∷ codes "since" ∷ codes "until" ∷ []) four.1 in
+    let gap = not_first word (codes "gaps") (codes "since" ∷ codes "until" ∷ []) five.1 in
+    let six = not_first word (codes "since") (codes "until" ∷ []) gap.1 in
     let seven = not_first word (codes "until") [] six.1 in
-    rw (e, one.0, other.0, two.0, three.0, four.0, five.0, six.0, seven.0) refl
+    rw (e, one.0, other.0, third.0, fourth.0, two.0, three.0, four.0, five.0, gap.0, six.0, seven.0) refl
 
 pub misuse_is : (words : List (List ℕ)) (misuse : Misuse) → MisuseWords words misuse → request_of words ≡ Err misuse
 unfolding request_of task_asked
@@ -278,8 +418,17 @@ misuse_is words misuse (instant {work = work} {word = word} {text = text} {more 
     bound_is words word (text ∷ more) work h e ∙ rw read refl
 misuse_is words misuse (too_fine {work = work} {word = word} {text = text} {more = more} h e read finer) =
     bound_is words word (text ∷ more) work h e ∙ rw (read, finer) refl
+misuse_is words misuse (no_unit e) = rw e refl
+misuse_is words misuse (unit e none) = rw (e, none) refl
+misuse_is words misuse (no_count_offset e u) = rw (e, u) refl
+misuse_is words misuse (count_offset e u read) = rw (e, u, read) refl
+misuse_is words misuse (no_duration e) = rw e refl
+misuse_is words misuse (duration e none) = rw (e, none) refl
+misuse_is words misuse (after_count {by = by} {word = word} {more = more} front none) =
+    strict_count words (word ∷ more) by (Err Extra) front (extra_is word more none)
 misuse_is words misuse (after_help e) = rw e refl
 misuse_is words misuse (after_version e) = rw e refl
+misuse_is words misuse (after_merge {word = word} {more = more} e none) = rw (e, extra_is word more none) refl
 misuse_is words misuse (after_task {work = work} {word = word} {more = more} front none) =
     strict_task words (word ∷ more) work (Err Extra) front (extra_is word more none)
 misuse_is words misuse (after_bound {work = work} {word = word} {text = text} {other = other} {more = more} h e read) =

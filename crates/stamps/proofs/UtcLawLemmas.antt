@@ -1,5 +1,5 @@
 -- Lines written in UTC: their instants, and written twice.
-use Rattle.std.proofs.Common.{◌≡◌, refl, ap, sym, ◌∙◌, ℕ, Bool, true, false, cond, List, ◌++◌, drop, length, ℤ, Option, Some, None, Result, Ok, Err, arith}
+use Rattle.std.proofs.Common.{◌≡◌, refl, ap, sym, ◌∙◌, ℕ, ◌+◌, Bool, true, false, cond, List, ◌++◌, drop, length, ℤ, Option, Some, None, Result, Ok, Err, arith}
 use Rattle.std.proofs.Common.{[], ◌∷◌, Ordering, Less, Equal, Greater, nat_cmp, int_cmp}
 use Rattle.std.specs.Cmp.Lexicographic.{slice_cmp}
 use Rattle.std.specs.Ordering.{ordering_then}
@@ -13,10 +13,12 @@ use Rattle.rfc3339.specs.Laws.{FixedTextsKeepTheOrder}
 use Rattle.rfc3339.specs.Texts.{HasFixedText, fixed_text, parts_of}
 use Rattle.rfc3339.specs.ValueLemmas.{IsDateTime-fixed, meaning-fixed, length-fixed_text}
 use Rattle.rfc3339.specs.declared.refusal.TextRefusal.{TextRefusal}
+use Rattle.rfc3339.specs.declared.refusal.TextRefusal.TheVariants.{Syntax, OutOfRange}
 use Rattle.stamps.specs.Laws.{HasStamp, in_utc, line_written}
 use Rattle.stamps.specs.LineStamps.{opens_bracket, stamp, stamp_of}
 use Rattle.stamps.specs.Styles.{text_in, has_four_digits}
 use Rattle.stamps.specs.declared.decide.Stamp.{Stamp}
+use Rattle.stamps.specs.declared.readers.Reader.TheVariants.{Plain}
 use Rattle.stamps.specs.declared.task.Style.TheVariants.{Utc}
 use Rattle.stamps.proofs.StampLawLemmas.{sound, stamp_again}
 use Rattle.stamps.proofs.StyleLemmas.{four_digits-true}
@@ -54,15 +56,17 @@ stamp-fixed line s e fixed =
 
 -- what a line with a stamp is written as
 written_as : (line : List ℕ) (s : Stamp) (text : List ℕ) → stamp_of line ≡ Ok s → text_in Utc s.instant ≡ Some text
-    → line_written Utc false line ≡ text ++ drop s.length line
-written_as line s text e f = rw (no_mark-later line, e, f) refl
+    → line_written Plain Utc false line ≡ text ++ drop s.length line
+written_as line s text e f =
+    let count : 0 + s.length ≡ s.length = omega arith in
+    rw (no_mark-later line, e, f) (ap (λ (n : ℕ). text ++ drop n line) count)
 
 pub rest_stays : (line : List ℕ) (s : Stamp) (text : List ℕ) → stamp_of line ≡ Ok s → text_in Utc s.instant ≡ Some text
-    → line_written Utc false line ≡ fixed_text s.instant ++ drop s.length line
+    → line_written Plain Utc false line ≡ fixed_text s.instant ++ drop s.length line
 rest_stays line s text e f = written_as line s text e f ∙ ap (λ (z : List ℕ). z ++ drop s.length line) (fixed_of s.instant text f).1
 
 pub same_instant : (line : List ℕ) (s : Stamp) (text : List ℕ) → stamp_of line ≡ Ok s → text_in Utc s.instant ≡ Some text
-    → stamp_of (line_written Utc false line) ≡ Ok (in_utc s)
+    → stamp_of (line_written Plain Utc false line) ≡ Ok (in_utc s)
 same_instant line s text e f = ap stamp_of (rest_stays line s text e f) ∙ stamp-fixed line s e (fixed_of s.instant text f).0
 
 drop-fixed : (i : ℤ) (rest : List ℕ) → HasFixedText i → drop 30 (fixed_text i ++ rest) ≡ rest
@@ -71,35 +75,37 @@ drop-fixed i rest h =
     rw count (drop-append_seam (fixed_text i) rest)
 
 twice-fixed : (line : List ℕ) (s : Stamp) (text : List ℕ) → stamp_of line ≡ Ok s → text_in Utc s.instant ≡ Some text
-    → line_written Utc false (line_written Utc false line) ≡ line_written Utc false line
+    → line_written Plain Utc false (line_written Plain Utc false line) ≡ line_written Plain Utc false line
 twice-fixed line s text e f =
     let i = s.instant in
     let rest = drop s.length line in
     let fixed = (fixed_of i text f).0 in
     let once = rest_stays line s text e f in
-    ap (line_written Utc false) once ∙ rest_stays (fixed_text i ++ rest) (in_utc s) text (stamp-fixed line s e fixed) f
+    ap (line_written Plain Utc false) once ∙ rest_stays (fixed_text i ++ rest) (in_utc s) text (stamp-fixed line s e fixed) f
     ∙ ap (λ (z : List ℕ). fixed_text i ++ z) (drop-fixed i rest fixed) ∙ sym once
 
-as_it_stood : (line : List ℕ) → line_written Utc false line ≡ line → line_written Utc false (line_written Utc false line) ≡ line_written Utc false line
-as_it_stood line e = ap (line_written Utc false) e
+as_it_stood : (line : List ℕ) → line_written Plain Utc false line ≡ line
+    → line_written Plain Utc false (line_written Plain Utc false line) ≡ line_written Plain Utc false line
+as_it_stood line e = ap (line_written Plain Utc false) e
 
-no_text : (line : List ℕ) (s : Stamp) → stamp_of line ≡ Ok s → text_in Utc s.instant ≡ None → line_written Utc false line ≡ line
+no_text : (line : List ℕ) (s : Stamp) → stamp_of line ≡ Ok s → text_in Utc s.instant ≡ None → line_written Plain Utc false line ≡ line
 no_text line s e f = rw (no_mark-later line, e, f) refl
 
-no_stamp : (line : List ℕ) (r : TextRefusal) → stamp_of line ≡ Err r → line_written Utc false line ≡ line
-no_stamp line r e = rw (no_mark-later line, e) refl
+no_stamp : (line : List ℕ) (r : TextRefusal) → stamp_of line ≡ Err r → line_written Plain Utc false line ≡ line
+no_stamp line Syntax e = rw (no_mark-later line, e) refl
+no_stamp line (OutOfRange component) e = rw (no_mark-later line, e) refl
 
 twice-text : (line : List ℕ) (s : Stamp) (o : Option (List ℕ)) → stamp_of line ≡ Ok s → text_in Utc s.instant ≡ o
-    → line_written Utc false (line_written Utc false line) ≡ line_written Utc false line
+    → line_written Plain Utc false (line_written Plain Utc false line) ≡ line_written Plain Utc false line
 twice-text line s None e f = as_it_stood line (no_text line s e f)
 twice-text line s (Some text) e f = twice-fixed line s text e f
 
 twice-stamp : (line : List ℕ) (r : Result Stamp TextRefusal) → stamp_of line ≡ r
-    → line_written Utc false (line_written Utc false line) ≡ line_written Utc false line
+    → line_written Plain Utc false (line_written Plain Utc false line) ≡ line_written Plain Utc false line
 twice-stamp line (Ok s) e = twice-text line s (text_in Utc s.instant) e refl
 twice-stamp line (Err r) e = as_it_stood line (no_stamp line r e)
 
-pub twice : (line : List ℕ) → line_written Utc false (line_written Utc false line) ≡ line_written Utc false line
+pub twice : (line : List ℕ) → line_written Plain Utc false (line_written Plain Utc false line) ≡ line_written Plain Utc false line
 twice line = twice-stamp line (stamp_of line) refl
 
 -- ---- in the order of bytes
@@ -118,7 +124,7 @@ behind_less (a ∷ x) (b ∷ y) r q e h =
 
 pub written_less : FixedTextsKeepTheOrder → (a b : List ℕ) (u v : Stamp) (s t : List ℕ) → stamp_of a ≡ Ok u → stamp_of b ≡ Ok v
     → text_in Utc u.instant ≡ Some s → text_in Utc v.instant ≡ Some t → int_cmp u.instant v.instant ≡ Less
-    → slice_cmp nat_cmp (line_written Utc false a) (line_written Utc false b) ≡ Less
+    → slice_cmp nat_cmp (line_written Plain Utc false a) (line_written Plain Utc false b) ≡ Less
 written_less law a b u v s t e f g h less =
     let i = u.instant in
     let j = v.instant in

@@ -3,16 +3,25 @@ _stamps() {
     local typed="${COMP_WORDS[COMP_CWORD]}" options=
     COMPREPLY=()
     if [ "$COMP_CWORD" -eq 1 ]; then
-        mapfile -t COMPREPLY < <(compgen -W 'utc at unix check since until --help --version' -- "$typed")
+        mapfile -t COMPREPLY < <(compgen -W 'utc at unix check gaps count since until merge --list-forms --help --version' -- "$typed")
+        return
+    fi
+    if [ "${COMP_WORDS[COMP_CWORD - 1]}" = --form ]; then
+        mapfile -t COMPREPLY < <(compgen -W 'rfc3339 rfc3339-comma journald rfc5424 rfc3164 git postgres clf git-default date rfc2822 haproxy nginx-error local-comma local two-spaces apache-error redis tomcat erlang bgl syslog klog android unix unix-ms unix-us unix-ns mysql-5.6 hdfs spark' -- "$typed")
         return
     fi
     # With no answer here, bash completes the name of a file.
     [[ "$typed" == -* ]] || return 0
     case "${COMP_WORDS[1]}" in
-        utc) options='--strict' ;;
-        at) options='--strict' ;;
-        unix) options='--strict' ;;
-        check) options='--strict' ;;
+        utc) options='--strict --form --at --offset --year' ;;
+        at) options='--strict --form --at --offset --year' ;;
+        unix) options='--strict --form --at --offset --year' ;;
+        check) options='--all --strict --form --at --offset --year' ;;
+        gaps) options='--strict --form --at --offset --year' ;;
+        count) options='--strict --form --at --offset --year' ;;
+        since) options='--form --at --offset --year' ;;
+        until) options='--form --at --offset --year' ;;
+        merge) options='--strict --form --at --offset --year' ;;
     esac
     mapfile -t COMPREPLY < <(compgen -W "$options" -- "$typed")
 }

@@ -1,127 +1,172 @@
--- What becomes of a line, by its stamp.
+-- The decision on a line, by its stamp.
 use Rattle.std.specs.Prelude.{ℕ, ◌+◌, ◌-◌, ◌^◌, ◌==◌, ◌&&◌, Bool, true, false, not}
-use Rattle.std.specs.Prelude.{nat_lt, min, List, [], if◌then◌else◌, ℤ, int_lt, Option, Some, None, is_none}
+use Rattle.std.specs.Prelude.{nat_lt, min, List, [], if◌then◌else◌, ℤ, ◌-ℤ◌, int_lt, Option, Some, None, is_none}
 use Rattle.std.specs.Prelude.{Result, Ok, Err}
-use Rattle.rfc3339.specs.declared.refusal.TextRefusal.{TextRefusal}
-use Rattle.rfc3339.specs.declared.refusal.TextRefusal.TheVariants.{Syntax, OutOfRange}
-use Rattle.stamps.specs.LineStamps.{has_mark, line_stamp}
+use Rattle.stamps.specs.Readers.{line_stamp}
 use Rattle.stamps.specs.Styles.{text_in}
 use Rattle.stamps.specs.declared.decide.Decision.{Decision}
-use Rattle.stamps.specs.declared.decide.Decision.TheVariants.{Keep, Skip, Stop}
-use Rattle.stamps.specs.declared.decide.Stamp.{Stamp}
+use Rattle.stamps.specs.declared.decide.Decision.TheVariants.{Keep, Skip, Stop, Tell}
 use Rattle.stamps.specs.declared.decide.State.{State}
 use Rattle.stamps.specs.declared.finding.Cause.{Cause}
-use Rattle.stamps.specs.declared.finding.Cause.TheVariants.{Missing, Refused, NoText, Zone, Earlier}
+use Rattle.stamps.specs.declared.finding.Cause.TheVariants.{Missing, Refused, Unread, NoText, Zone, Earlier}
 use Rattle.stamps.specs.declared.finding.Finding.{Finding}
 use Rattle.stamps.specs.declared.finding.Finding.TheVariants.{Line, NoStamp}
+use Rattle.stamps.specs.declared.notes.Note.TheVariants.{Fault, Gap}
+use Rattle.stamps.specs.declared.readers.LineRefusal.{LineRefusal}
+use Rattle.stamps.specs.declared.readers.LineRefusal.TheVariants.{Absent, OutOfRange, Part}
+use Rattle.stamps.specs.declared.readers.LineStamp.{LineStamp}
+use Rattle.stamps.specs.declared.readers.Reader.{Reader}
+use Rattle.stamps.specs.declared.task.Action.{Action}
+use Rattle.stamps.specs.declared.task.Action.TheVariants.{Write, Check, CheckAll, Gaps, Since, Until}
 use Rattle.stamps.specs.declared.task.Style.{Style}
 use Rattle.stamps.specs.declared.task.Task.{Task}
-use Rattle.stamps.specs.declared.task.Task.TheVariants.{Write, Check, Since, Until}
 
--- a line more, up to the most that is counted
+-- the number of lines with one more, up to the greatest count
 abbrev pub one_more : ℕ → ℕ
 one_more lines = min (lines + 1) (2 ^ 64 - 1)
 
--- what is the matter with a line whose stamp is refused
-abbrev pub cause_of : TextRefusal → Cause
-cause_of Syntax = Missing
+-- the cause for the error of a stamp
+abbrev pub cause_of : LineRefusal → Cause
+cause_of Absent = Missing
 cause_of (OutOfRange component) = Refused component
+cause_of (Part refusal) = Unread refusal
 
--- a line that is not written anew goes on as it is, unless the task is strict
+-- the decision on a line that is not rewritten: keep it as it is, unless the task is strict
 abbrev pub as_it_is : Bool → ℕ → Cause → Decision
 as_it_is true line cause = Stop (Line line cause)
-as_it_is false line cause = Keep false [] 0
+as_it_is false line cause = Keep 0 [] 0
 
--- the line with this text in the place of its stamp, if there is one
-abbrev pub with_text : Bool → ℕ → Bool → Stamp → Option (List ℕ) → Decision
-with_text is_strict line marked stamp (Some text) = Keep marked text stamp.length
-with_text is_strict line marked stamp None = as_it_is is_strict line NoText
+-- the line with this text in place of its stamp, or not rewritten if there is no text
+abbrev pub with_text : Bool → ℕ → LineStamp → Option (List ℕ) → Decision
+with_text is_strict line stamp (Some text) = Keep stamp.start text stamp.length
+with_text is_strict line stamp None = as_it_is is_strict line NoText
 
 -- the line with its stamp written in a style, unless the task is strict and a zone in brackets follows the stamp
-abbrev pub in_place : Style → Bool → ℕ → Bool → Stamp → Decision
-in_place style is_strict line marked stamp =
-    if is_strict && stamp.is_zoned then Stop (Line line Zone) else with_text is_strict line marked stamp (text_in style stamp.instant)
+abbrev pub in_place : Style → Bool → ℕ → LineStamp → Decision
+in_place style is_strict line stamp =
+    if is_strict && stamp.is_zoned then Stop (Line line Zone) else with_text is_strict line stamp (text_in style stamp.instant)
 
 -- the line with its stamp written in a style
-abbrev pub rewritten : Style → Bool → ℕ → Bool → Result Stamp TextRefusal → Decision
-rewritten style is_strict line marked (Ok stamp) = in_place style is_strict line marked stamp
-rewritten style is_strict line marked (Err refusal) = as_it_is is_strict line (cause_of refusal)
+abbrev pub rewritten : Style → Bool → ℕ → Result LineStamp LineRefusal → Decision
+rewritten style is_strict line (Ok stamp) = in_place style is_strict line stamp
+rewritten style is_strict line (Err refusal) = as_it_is is_strict line (cause_of refusal)
 
--- earlier than the instant before, if there was one
+-- whether an instant is earlier than the last one, if there was one
 abbrev pub is_earlier : ℤ → Option ℤ → Bool
 is_earlier i (Some last) = int_lt i last
 is_earlier i None = false
 
--- the end of the run at a line that the test fails
+-- stop the run at a line that fails the test, and skip any other
 abbrev pub stop_if : Bool → ℕ → Cause → Decision
 stop_if fails line cause = if fails then Stop (Line line cause) else Skip
 
--- whether the line has a stamp, which is not refused and not earlier than the one before
-abbrev pub checked : Bool → ℕ → Option ℤ → Result Stamp TextRefusal → Decision
-checked is_strict line last (Ok stamp) = stop_if (is_earlier stamp.instant last) line Earlier
-checked is_strict line last (Err Syntax) = stop_if is_strict line Missing
-checked is_strict line last (Err (OutOfRange component)) = stop_if true line (Refused component)
+-- the decision of `check`: stop at a stamp that is out of range or earlier, and at a missing one if the task is strict
+abbrev pub check_line : Bool → ℕ → Option ℤ → Result LineStamp LineRefusal → Decision
+check_line is_strict line last (Ok stamp) = stop_if (is_earlier stamp.instant last) line Earlier
+check_line is_strict line last (Err Absent) = stop_if is_strict line Missing
+check_line is_strict line last (Err (OutOfRange component)) = stop_if true line (Refused component)
+check_line is_strict line last (Err (Part refusal)) = stop_if true line (Unread refusal)
 
--- a line goes on whole, or not at all
+-- a note on what would end the run
+abbrev pub as_note : Decision → Decision
+as_note (Keep start text count) = Keep start text count
+as_note Skip = Skip
+as_note (Tell note) = Tell note
+as_note (Stop found) = Tell (Fault found)
+
+-- a note on the time between two instants if that is more than the limit. If the task is strict, stop at an instant that is earlier
+abbrev pub gap_after : ℤ → Bool → ℕ → ℤ → ℤ → Decision
+gap_after limit is_strict line before i =
+    if is_strict && int_lt i before then Stop (Line line Earlier)
+    else (if int_lt limit (i -ℤ before) then Tell (Gap line before i) else Skip)
+
+-- the decision of `gaps`: a note on the time since the last instant if that is more than the limit. If the task is strict, stop at
+-- a line without a stamp
+abbrev pub gap_line : ℤ → Bool → ℕ → Option ℤ → Result LineStamp LineRefusal → Decision
+gap_line limit is_strict line (Some before) (Ok stamp) = gap_after limit is_strict line before stamp.instant
+gap_line limit is_strict line None (Ok stamp) = Skip
+gap_line limit is_strict line last (Err refusal) = stop_if is_strict line (cause_of refusal)
+
+-- keep the whole line, or skip it
 abbrev pub going_on : Bool → Decision
-going_on true = Keep false [] 0
+going_on true = Keep 0 [] 0
 going_on false = Skip
 
--- whether a line goes on: by its instant, or without one as the line before
-abbrev pub goes_on : Task → Bool → Result Stamp TextRefusal → Bool
+-- whether to keep a line: by its instant, or without one as the line before
+abbrev pub goes_on : Action → Bool → Result LineStamp LineRefusal → Bool
 goes_on (Since bound) was (Ok stamp) = not (int_lt stamp.instant bound)
 goes_on (Until bound) was (Ok stamp) = int_lt stamp.instant bound
 goes_on (Write style is_strict) was (Ok stamp) = was
 goes_on (Check is_strict) was (Ok stamp) = was
-goes_on task was (Err refusal) = was
-
--- what becomes of the line with this stamp, and perhaps a byte order mark
-abbrev pub decision_by : Task → State → Bool → Result Stamp TextRefusal → Decision
-decision_by (Write style is_strict) state marked stamp = rewritten style is_strict (one_more state.lines) marked stamp
-decision_by (Check is_strict) state marked stamp = checked is_strict (one_more state.lines) state.last stamp
-decision_by (Since bound) state marked stamp = going_on (goes_on (Since bound) state.goes_on stamp)
-decision_by (Until bound) state marked stamp = going_on (goes_on (Until bound) state.goes_on stamp)
+goes_on (CheckAll is_strict) was (Ok stamp) = was
+goes_on (Gaps limit is_strict) was (Ok stamp) = was
+goes_on action was (Err refusal) = was
 
 -- the last instant
-abbrev pub last_of : Option ℤ → Result Stamp TextRefusal → Option ℤ
+abbrev pub last_of : Option ℤ → Result LineStamp LineRefusal → Option ℤ
 last_of last (Ok stamp) = Some stamp.instant
 last_of last (Err refusal) = last
 
--- what is known with a line more
-abbrev pub state_by : Task → State → Result Stamp TextRefusal → State
-state_by task state stamp = record {
+-- the state after one more line with this stamp
+abbrev pub state_by : Action → State → Result LineStamp LineRefusal → State
+state_by action state stamp = record {
   lines = one_more state.lines;
   last = last_of state.last stamp;
-  goes_on = goes_on task state.goes_on stamp;
+  goes_on = goes_on action state.goes_on stamp;
 }
 
--- whether no line is known
+-- the decision on the line with this stamp, by the last instant before it and the state after it
+abbrev pub decision_by : Action → Option ℤ → State → Result LineStamp LineRefusal → Decision
+decision_by (Write style is_strict) last after stamp = rewritten style is_strict after.lines stamp
+decision_by (Check is_strict) last after stamp = check_line is_strict after.lines last stamp
+decision_by (CheckAll is_strict) last after stamp = as_note (check_line is_strict after.lines last stamp)
+decision_by (Gaps limit is_strict) last after stamp = gap_line limit is_strict after.lines last stamp
+decision_by (Since bound) last after stamp = going_on after.goes_on
+decision_by (Until bound) last after stamp = going_on after.goes_on
+
+-- whether the next line is the first
 abbrev pub is_first : State → Bool
 is_first state = state.lines == 0
 
--- what becomes of a line
+-- the decision on a line
 unfoldable pub decision_of : Task → State → List ℕ → Decision
 decision_of task state line =
-    decision_by task state (has_mark (is_first state) line) (line_stamp (is_first state) line)
+    let stamp = line_stamp task.reader state.last (is_first state) line in
+    decision_by task.action state.last (state_by task.action state stamp) stamp
 
--- what is known with this line more
+-- the state after this line
 unfoldable pub state_after : Task → State → List ℕ → State
-state_after task state line = state_by task state (line_stamp (is_first state) line)
+state_after task state line = state_by task.action state (line_stamp task.reader state.last (is_first state) line)
 
--- before the first line; those without a stamp stand before every instant
-abbrev pub goes_on_first : Task → Bool
+-- whether to keep the lines before the first stamp: they count as earlier than every instant
+abbrev pub goes_on_first : Action → Bool
 goes_on_first (Until bound) = true
 goes_on_first (Since bound) = false
 goes_on_first (Write style is_strict) = false
 goes_on_first (Check is_strict) = false
+goes_on_first (CheckAll is_strict) = false
+goes_on_first (Gaps limit is_strict) = false
 
--- what is known before the first line
+-- the state before the first line
 abbrev pub first_state : Task → State
-first_state task = record { lines = 0; last = None; goes_on = goes_on_first task }
+first_state task = record { lines = 0; last = None; goes_on = goes_on_first task.action }
 
--- what ends the run at the end of the input: `check` found lines, and no stamp
+-- the finding of lines without any stamp
+abbrev pub no_stamp : State → Option Finding
+no_stamp state = if nat_lt 0 state.lines && is_none state.last then Some NoStamp else None
+
+-- the finding at the end of the input: `check` found lines, and no stamp
+abbrev pub finding_by : Action → State → Option Finding
+finding_by (Check is_strict) state = no_stamp state
+finding_by (CheckAll is_strict) state = no_stamp state
+finding_by (Gaps limit is_strict) state = None
+finding_by (Write style is_strict) state = None
+finding_by (Since bound) state = None
+finding_by (Until bound) state = None
+
 abbrev pub finding_at_end : Task → State → Option Finding
-finding_at_end (Check is_strict) state = if nat_lt 0 state.lines && is_none state.last then Some NoStamp else None
-finding_at_end (Write style is_strict) state = None
-finding_at_end (Since bound) state = None
-finding_at_end (Until bound) state = None
+finding_at_end task state = finding_by task.action state
+
+-- the task of an action, by how stamps are read
+abbrev pub reading : Reader → Action → Task
+reading reader action = record { action = action; reader = reader }

@@ -1,5 +1,5 @@
--- What ends the work.
-use Rattle.std.specs.Prelude.{◌≡◌, ℕ, List, Option, Result, Ok, Err}
+-- The faults that end the work, and the exit status.
+use Rattle.std.specs.Prelude.{◌≡◌, ℕ, Bool, List, Option, Result, Ok, Err, if◌then◌else◌}
 use Rattle.std.specs.Io.KnownBytes.{Appends}
 use Rattle.stamps.specs.Runs.{Run}
 use Rattle.stamps.specs.declared.finding.Finding.{Finding}
@@ -8,19 +8,19 @@ use Rattle.stamps.specs.declared.lines.LineFault.TheVariants as line
 use Rattle.stamps.specs.declared.stamps.StampFault.{StampFault}
 use Rattle.stamps.specs.declared.stamps.StampFault.TheVariants.{Read, Write, Found}
 
--- what ends the work where a fault ends that on the lines of a block
+-- the fault of the work for a fault on the lines of a block
 abbrev pub stamp_fault : LineFault → StampFault
 stamp_fault line.Write = Write
 stamp_fault (line.Found found) = Found found
 
--- the exit status: as that of `grep`, 1 for a finding and 2 for an error
-abbrev pub status_of : Result Unit StampFault → ℕ
-status_of (Ok done) = 0
-status_of (Err (Found found)) = 1
-status_of (Err Read) = 2
-status_of (Err Write) = 2
+-- the exit status: as that of `grep`, 1 for a finding or a note, and 2 for an error
+abbrev pub status_of : Result Unit StampFault → Bool → ℕ
+status_of (Ok done) has_told = if has_told then 1 else 0
+status_of (Err (Found found)) has_told = 1
+status_of (Err Read) has_told = 2
+status_of (Err Write) has_told = 2
 
--- what stands before the finding was written, and it ended the run
+-- the output before the finding was written, and the finding ended the run
 pub record FoundIn (old new : Option (List ℕ)) (result : Run) (found : Finding) : Type 0 where
   pub written : Appends old new result.text
   pub named : result.end ≡ Err found

@@ -17,64 +17,55 @@ use Rattle.stamps.specs.declared.decide.Stamp.{Stamp}
 abbrev pub byte_order_mark : List ℕ
 byte_order_mark = 239 ∷ 187 ∷ 191 ∷ []
 
--- whether a line begins with a byte order mark that is passed over, as the first line alone may
+-- whether a line begins with a byte order mark to skip, as only the first line may
 unfoldable pub has_mark : Bool → List ℕ → Bool
 has_mark is_first line = is_first && starts_with nat_eq line byte_order_mark
 
--- a byte order mark, or nothing
-abbrev pub mark_text : Bool → List ℕ
-mark_text true = byte_order_mark
-mark_text false = []
-
--- a line without its byte order mark
-abbrev pub behind_mark : Bool → List ℕ → List ℕ
-behind_mark true line = drop 3 line
-behind_mark false line = line
+-- the number of bytes of a byte order mark
+abbrev pub mark_length : Bool → ℕ
+mark_length true = 3
+mark_length false = 0
 
 -- the most bytes of a stamp
 abbrev pub longest_stamp : ℕ
 longest_stamp = 1023
 
--- the most bytes of a line that decide what becomes of it: a byte order mark, the longest stamp, and the byte behind it
+-- the most bytes of a line that decide on it: a byte order mark, the longest stamp, and the byte after it
 abbrev pub longest_head : ℕ
 longest_head = 1027
 
--- a byte with which a date-time could go on: a digit, a letter, or one of `+`, `-`, `.`, `:`
+-- whether a byte could continue a date-time: a digit, a letter, or one of `+`, `-`, `.`, `:`
 abbrev pub continues : ℕ → Bool
 continues byte = is_ascii_alphanumeric byte || (byte == 43) || (byte == 45) || (byte == 46) || (byte == 58)
 
--- whether the byte behind a date-time, if there is one, continues it
+-- whether the byte after a date-time, if there is one, continues it
 abbrev pub is_continued : Option ℕ → Bool
 is_continued (Some byte) = continues byte
 is_continued None = false
 
--- whether the byte behind a date-time opens a bracket
+-- whether the byte after a date-time opens a bracket
 abbrev pub opens_bracket : Option ℕ → Bool
 opens_bracket (Some byte) = byte == 91
 opens_bracket None = false
 
--- a stamp, and the byte behind it
+-- the stamp of an instant, a length and the byte after it
 abbrev pub stamp : ℤ → ℕ → Option ℕ → Stamp
 stamp instant count next = record { instant = instant; length = count; is_zoned = opens_bracket next }
 
--- whether a date-time of so many bytes ends before the next byte, and has at most 1,023
+-- whether a date-time of this length ends before the next byte, and has at most 1,023 bytes
 abbrev pub ends : ℕ → Option ℕ → Bool
 ends count next = not (nat_lt longest_stamp count || is_continued next)
 
--- what a date-time of so many bytes means as a stamp: where it does not end there, it is none
+-- the stamp of a date-time of this length, or the error: a date-time that does not end there is no stamp
 abbrev pub ended_stamp : Result Local TextRefusal → ℕ → Option ℕ → Result Stamp TextRefusal
 ended_stamp meaning count next =
     if ends count next then result_map_both (λ at. stamp (instant_of at) count next) (λ refusal. refusal) meaning else Err Syntax
 
--- the stamp of a front, by the date-time in it and what follows that
+-- the stamp of a front, by the date-time in it and the rest after that, or the error
 abbrev pub front_stamp : List ℕ → Option (Parts × List ℕ) → Result Stamp TextRefusal
 front_stamp front None = Err Syntax
 front_stamp front (Some (p, rest)) = let count = length front - length rest in ended_stamp (meaning p) count (slice_get front count)
 
--- the stamp in front of a text: a date-time of at most 1,023 bytes that ends there; or a refusal
+-- the stamp at the start of a text, which is a date-time of at most 1,023 bytes that ends there, or the error
 unfoldable pub stamp_of : List ℕ → Result Stamp TextRefusal
 stamp_of text = let front = take 1024 text in front_stamp front (front_at front)
-
--- the stamp of a line, behind its byte order mark
-abbrev pub line_stamp : Bool → List ℕ → Result Stamp TextRefusal
-line_stamp is_first line = stamp_of (behind_mark (has_mark is_first line) line)

@@ -1,4 +1,4 @@
--- How instants are written.
+-- The texts of instants.
 use Rattle.std.specs.Prelude.{ℕ, ◌%◌, ◌==◌, ◌&&◌, Bool, false, nat_lt, List, if◌then◌else◌, ℤ, pos, negsuc, unsigned_abs, Option, Some, None}
 use Rattle.calendar_values.specs.Calendar.{year_of}
 use Rattle.calendar_values.specs.WallClock.{wall_day}

@@ -1,4 +1,4 @@
--- What holds of the reader and the writer while an input is taken in, block by block.
+-- The reader and the writer while the program reads an input, block by block.
 use Rattle.std.specs.Prelude.{◌≡◌, ℕ, zero, suc, ◌-◌, ◌^◌, ◌<◌, ◌≤◌, ◌⊎◌, true, false, List, [], length, Some, Result, Ok, Err}
 use Rattle.std.specs.Prelude.{IfSome, IsOk}
 use Rattle.std.specs.Io.KnownBytes.{Appends, Consumes}
@@ -13,7 +13,7 @@ use Rattle.stamps.specs.declared.stamps.StampFault.{StampFault}
 use Rattle.stamps.specs.declared.stamps.StampFault.TheVariants.{Read, Write, Found}
 use Rattle.stamps.specs.declared.task.Task.{Task}
 
--- between two reads: of the bytes that were read, all was written that can be told, and no call failed
+-- between two reads: the output was written as far as the bytes that were read decide it, and no call failed
 pub record GoesOn (task : Task) (first now : Devices) (pending : List ℕ) (work : Work) (taken : List ℕ) : Type 0 where
   pub consumed : Consumes first.left now.left taken
   pub stands : Stands task first.written now.written pending work taken
@@ -21,7 +21,7 @@ pub record GoesOn (task : Task) (first now : Devices) (pending : List ℕ) (work
   pub no_read_failed : now.read_failed ≡ false
   pub no_write_failed : now.write_failed ≡ false
 
--- the input is at its end, what it comes to was written, and it has no finding
+-- the input is at its end, its output was written, and it has no finding
 pub record EndsWell (task : Task) (first now : Devices) : Type 0 where
   pub none_left : IfSome first.left (λ _. now.left ≡ Some [])
   pub written : IfSome first.left (λ input. Appends first.written now.written (input_run task input).text)
@@ -29,31 +29,31 @@ pub record EndsWell (task : Task) (first now : Devices) : Type 0 where
   pub no_read_failed : now.read_failed ≡ false
   pub no_write_failed : now.write_failed ≡ false
 
--- a read failed, and what can be told of the bytes that were read was written
+-- a read failed, and the output was written as far as the bytes that were read decide it
 pub record StopsAtRead (task : Task) (first now : Devices) : Type 0 where
   pub read_failed : (now.read_failed ≡ true) ⊎ IfSome first.left (λ input. 2 ^ 64 - 1 ≤ length input)
   pub written : (taken : List ℕ) × Consumes first.left now.left taken × Appends first.written now.written (open_run task taken).text
   pub no_write_failed : now.write_failed ≡ false
 
--- a write failed, and a beginning of what the input comes to was written
+-- a write failed, and a beginning of the output for the input was written
 pub record StopsAtWrite (task : Task) (first now : Devices) : Type 0 where
   pub write_failed : now.write_failed ≡ true
   pub written : IfSome first.left (λ input. AppendsBeginning first.written now.written (input_run task input).text)
   pub no_read_failed : now.read_failed ≡ false
 
--- a line ends the run, and what stands before it was written
+-- a line ends the run, and the output before it was written
 pub record StopsAtLine (task : Task) (first now : Devices) (found : Finding) : Type 0 where
   pub found_in : IfSome first.left (λ input. FoundIn first.written now.written (input_run task input) found)
   pub no_read_failed : now.read_failed ≡ false
   pub no_write_failed : now.write_failed ≡ false
 
--- what ends the work
+-- the reader and the writer after the fault that ended the work
 abbrev pub Stops : Task → StampFault → Devices → Devices → Type 0
 Stops task Read first now = StopsAtRead task first now
 Stops task Write first now = StopsAtWrite task first now
 Stops task (Found found) first now = StopsAtLine task first now found
 
--- behind so many bytes, more of them were taken in, none is left, or a fault ended the work
+-- after the bytes that were read, more were read, none is left, or a fault ended the work
 abbrev pub Turns : Result ℕ StampFault → Task → Devices → Devices → List ℕ → Work → List ℕ → Type 0
 Turns (Ok zero) task first now pending work taken = EndsWell task first now
 Turns (Ok (suc more)) task first now pending work taken =

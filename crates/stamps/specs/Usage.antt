@@ -1,39 +1,53 @@
--- The usage of the program as a relation: which words make which request, and which are which misuse.
-use Rattle.std.specs.Prelude.{◌≡◌, ◌↔◌, ℕ, ℤ, Bool, true, false, List, [], ◌∷◌, codes, Ok, Err}
+-- The usage of the program as a relation: the request or the misuse of words.
+use Rattle.std.specs.Prelude.{◌≡◌, ◌↔◌, ℕ, ℤ, pos, Bool, true, false, List, [], ◌∷◌, codes, Some, None, Ok, Err}
 use Rattle.std.specs.List.{list_any}
 use Rattle.std.specs.Str.{bytes_eq}
 use Rattle.offset_times.specs.Local.{instant_of}
 use Rattle.rfc3339.specs.Front.{offset_reading_of}
 use Rattle.rfc3339.specs.Reading.{reading_as}
 use Rattle.rfc3339.specs.declared.refusal.TextRefusal.{TextRefusal}
-use Rattle.stamps.specs.Arguments.{is_finer, request_of}
+use Rattle.stamps.specs.Arguments.{clock, is_finer, limit_of, request_of, starts_all, starts_at, unit_of}
+use Rattle.stamps.specs.Durations.{duration_of}
 use Rattle.stamps.specs.declared.arguments.Misuse.{Misuse}
-use Rattle.stamps.specs.declared.arguments.Misuse.TheVariants.{NoWord, UnknownWord, NoOffset, Offset, NoInstant, Instant, TooFine, Extra}
+use Rattle.stamps.specs.declared.arguments.Misuse.TheVariants.{NoWord, UnknownWord, NoOffset, Offset, NoInstant, Instant}
+use Rattle.stamps.specs.declared.arguments.Misuse.TheVariants.{TooFine, NoUnit, Unit, NoDuration, Duration, Extra}
 use Rattle.stamps.specs.declared.arguments.Request.{Request}
-use Rattle.stamps.specs.declared.arguments.Request.TheVariants.{Help, Version, Work}
+use Rattle.stamps.specs.declared.arguments.Request.TheVariants.{Help, Version, Work, Merge, Count}
+use Rattle.stamps.specs.declared.counts.Clock.{Clock}
+use Rattle.stamps.specs.declared.counts.Unit as units
 use Rattle.stamps.specs.declared.task.Style.TheVariants.{Utc, At, Unix}
-use Rattle.stamps.specs.declared.task.Task.{Task}
-use Rattle.stamps.specs.declared.task.Task.TheVariants.{Write, Check, Since, Until}
+use Rattle.stamps.specs.declared.task.Action.{Action}
+use Rattle.stamps.specs.declared.task.Action.TheVariants.{Write, Check, CheckAll, Gaps, Since, Until}
 
 -- [--strict]
 pub data StrictWords (words : List (List ℕ)) : Bool → Type 0 where
   lenient : words ≡ [] → StrictWords words false
   strict : words ≡ codes "--strict" ∷ [] → StrictWords words true
 
--- utc, unix, at OFFSET, check: a task, and the words that follow it
-pub data FrontWords (words more : List (List ℕ)) : (Bool → Task) → Type 0 where
+-- utc, unix, at OFFSET, check, check --all, gaps DURATION: a task, and the words that follow it
+pub data FrontWords (words more : List (List ℕ)) : (Bool → Action) → Type 0 where
   utc : words ≡ codes "utc" ∷ more → FrontWords words more (Write Utc)
   unix : words ≡ codes "unix" ∷ more → FrontWords words more (Write Unix)
   at : {text : List ℕ} {offset : ℤ} → words ≡ codes "at" ∷ text ∷ more → offset_reading_of text ≡ Ok offset
       → FrontWords words more (Write (At offset))
-  check : words ≡ codes "check" ∷ more → FrontWords words more Check
+  check : words ≡ codes "check" ∷ more → starts_all more ≡ false → FrontWords words more Check
+  check_all : words ≡ codes "check" ∷ codes "--all" ∷ more → FrontWords words more CheckAll
+  gaps : {text : List ℕ} {seconds : ℕ} → words ≡ codes "gaps" ∷ text ∷ more → duration_of text ≡ Some seconds
+      → FrontWords words more (Gaps (limit_of seconds))
+
+-- count UNIT, count UNIT at OFFSET: a clock, and the words that follow it
+pub data CountWords (words more : List (List ℕ)) : Clock → Type 0 where
+  in_utc : {text : List ℕ} {unit : units.Unit} → words ≡ codes "count" ∷ text ∷ more → unit_of text ≡ Some unit → starts_at more ≡ false
+      → CountWords words more (clock unit (pos 0))
+  at_offset : {text written : List ℕ} {unit : units.Unit} {offset : ℤ} → words ≡ codes "count" ∷ text ∷ codes "at" ∷ written ∷ more
+      → unit_of text ≡ Some unit → offset_reading_of written ≡ Ok offset → CountWords words more (clock unit offset)
 
 -- since, until
-pub data BoundWord (word : List ℕ) : (ℤ → Task) → Type 0 where
+pub data BoundWord (word : List ℕ) : (ℤ → Action) → Type 0 where
   since : word ≡ codes "since" → BoundWord word Since
   until : word ≡ codes "until" → BoundWord word Until
 
--- a date-time, which is not finer than instants are
+-- a date-time that is not finer than a nanosecond
 pub record IsBound (text : List ℕ) (bound : ℤ) : Type 0 where
   pub instant : reading_as instant_of text ≡ Ok bound
   pub not_finer : is_finer text ≡ false
@@ -44,44 +58,65 @@ pub data RequestWords (words : List (List ℕ)) : Request → Type 0 where
   help : words ≡ codes "--help" ∷ [] → RequestWords words Help
   -- --version
   version : words ≡ codes "--version" ∷ [] → RequestWords words Version
-  -- utc [--strict], unix [--strict], at OFFSET [--strict], check [--strict]
-  task : {work : Bool → Task} {more : List (List ℕ)} {is_strict : Bool} → FrontWords words more work → StrictWords more is_strict
+  -- merge [--strict]
+  merge : {more : List (List ℕ)} {is_strict : Bool} → words ≡ codes "merge" ∷ more → StrictWords more is_strict → RequestWords words (Merge is_strict)
+  -- count UNIT [at OFFSET] [--strict]
+  count : {by : Clock} {more : List (List ℕ)} {is_strict : Bool} → CountWords words more by → StrictWords more is_strict
+      → RequestWords words (Count by is_strict)
+  -- utc [--strict], unix [--strict], at OFFSET [--strict], check [--all] [--strict], gaps DURATION [--strict]
+  task : {work : Bool → Action} {more : List (List ℕ)} {is_strict : Bool} → FrontWords words more work → StrictWords more is_strict
       → RequestWords words (Work (work is_strict))
   -- since INSTANT, until INSTANT
-  bounded : {work : ℤ → Task} {word text : List ℕ} {bound : ℤ} → BoundWord word work → words ≡ word ∷ text ∷ [] → IsBound text bound
+  bound_task : {work : ℤ → Action} {word text : List ℕ} {bound : ℤ} → BoundWord word work → words ≡ word ∷ text ∷ [] → IsBound text bound
       → RequestWords words (Work (work bound))
 
 -- the words with which a request begins
 abbrev pub first_words : List (List ℕ)
 first_words =
-    codes "--help" ∷ codes "--version" ∷ codes "utc" ∷ codes "unix" ∷ codes "at" ∷ codes "check" ∷ codes "since" ∷ codes "until" ∷ []
+    codes "--help" ∷ codes "--version" ∷ codes "merge" ∷ codes "count" ∷ codes "utc" ∷ codes "unix" ∷ codes "at" ∷ codes "check" ∷ codes "gaps"
+    ∷ codes "since" ∷ codes "until" ∷ []
 
 -- the words that are a misuse
 pub data MisuseWords (words : List (List ℕ)) : Misuse → Type 0 where
-  -- there is none
+  -- there is no word
   no_word : words ≡ [] → MisuseWords words NoWord
-  -- no request begins with the first
+  -- no request begins with the first word
   unknown_word : {word : List ℕ} {more : List (List ℕ)} → words ≡ word ∷ more → list_any (bytes_eq word) first_words ≡ false
       → MisuseWords words UnknownWord
-  -- the offset is missing, or refused
+  -- the offset is missing, or invalid
   no_offset : words ≡ codes "at" ∷ [] → MisuseWords words NoOffset
   offset : {text : List ℕ} {more : List (List ℕ)} {refusal : TextRefusal} → words ≡ codes "at" ∷ text ∷ more
       → offset_reading_of text ≡ Err refusal → MisuseWords words (Offset refusal)
-  -- the bound is missing, refused, or finer than instants are
-  no_instant : {work : ℤ → Task} {word : List ℕ} → BoundWord word work → words ≡ word ∷ [] → MisuseWords words NoInstant
-  instant : {work : ℤ → Task} {word text : List ℕ} {more : List (List ℕ)} {refusal : TextRefusal} → BoundWord word work
+  -- the unit of a count is missing or unknown, or its offset is missing or invalid
+  no_unit : words ≡ codes "count" ∷ [] → MisuseWords words NoUnit
+  unit : {text : List ℕ} {more : List (List ℕ)} → words ≡ codes "count" ∷ text ∷ more → unit_of text ≡ None → MisuseWords words Unit
+  no_count_offset : {text : List ℕ} {unit : units.Unit} → words ≡ codes "count" ∷ text ∷ codes "at" ∷ [] → unit_of text ≡ Some unit
+      → MisuseWords words NoOffset
+  count_offset : {text written : List ℕ} {more : List (List ℕ)} {unit : units.Unit} {refusal : TextRefusal}
+      → words ≡ codes "count" ∷ text ∷ codes "at" ∷ written ∷ more → unit_of text ≡ Some unit → offset_reading_of written ≡ Err refusal
+      → MisuseWords words (Offset refusal)
+  -- the duration is missing or invalid
+  no_duration : words ≡ codes "gaps" ∷ [] → MisuseWords words NoDuration
+  duration : {text : List ℕ} {more : List (List ℕ)} → words ≡ codes "gaps" ∷ text ∷ more → duration_of text ≡ None → MisuseWords words Duration
+  -- the bound is missing, invalid, or finer than a nanosecond
+  no_instant : {work : ℤ → Action} {word : List ℕ} → BoundWord word work → words ≡ word ∷ [] → MisuseWords words NoInstant
+  instant : {work : ℤ → Action} {word text : List ℕ} {more : List (List ℕ)} {refusal : TextRefusal} → BoundWord word work
       → words ≡ word ∷ text ∷ more → reading_as instant_of text ≡ Err refusal → MisuseWords words (Instant refusal)
-  too_fine : {work : ℤ → Task} {word text : List ℕ} {more : List (List ℕ)} {bound : ℤ} → BoundWord word work
+  too_fine : {work : ℤ → Action} {word text : List ℕ} {more : List (List ℕ)} {bound : ℤ} → BoundWord word work
       → words ≡ word ∷ text ∷ more → reading_as instant_of text ≡ Ok bound → is_finer text ≡ true → MisuseWords words TooFine
   -- a word follows a request, and is not `--strict` alone where that may follow
   after_help : {word : List ℕ} {more : List (List ℕ)} → words ≡ codes "--help" ∷ word ∷ more → MisuseWords words Extra
   after_version : {word : List ℕ} {more : List (List ℕ)} → words ≡ codes "--version" ∷ word ∷ more → MisuseWords words Extra
-  after_task : {work : Bool → Task} {word : List ℕ} {more : List (List ℕ)} → FrontWords words (word ∷ more) work
+  after_merge : {word : List ℕ} {more : List (List ℕ)} → words ≡ codes "merge" ∷ word ∷ more → ¬ (word ∷ more ≡ codes "--strict" ∷ [])
+      → MisuseWords words Extra
+  after_count : {by : Clock} {word : List ℕ} {more : List (List ℕ)} → CountWords words (word ∷ more) by → ¬ (word ∷ more ≡ codes "--strict" ∷ [])
+      → MisuseWords words Extra
+  after_task : {work : Bool → Action} {word : List ℕ} {more : List (List ℕ)} → FrontWords words (word ∷ more) work
       → ¬ (word ∷ more ≡ codes "--strict" ∷ []) → MisuseWords words Extra
-  after_bound : {work : ℤ → Task} {word text other : List ℕ} {more : List (List ℕ)} {bound : ℤ} → BoundWord word work
+  after_bound : {work : ℤ → Action} {word text other : List ℕ} {more : List (List ℕ)} {bound : ℤ} → BoundWord word work
       → words ≡ word ∷ text ∷ other ∷ more → IsBound text bound → MisuseWords words Extra
 
--- words make a request, or are a misuse, exactly where the usage has it so
+-- words make a request, or are a misuse, exactly as the usage says
 pub record WordsAskAsTheUsageSays : Type 0 where
   pub request : (words : List (List ℕ)) (request : Request) → (request_of words ≡ Ok request) ↔ RequestWords words request
   pub misuse : (words : List (List ℕ)) (misuse : Misuse) → (request_of words ≡ Err misuse) ↔ MisuseWords words misuse

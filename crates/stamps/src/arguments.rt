@@ -1,12 +1,15 @@
-//! What the words of the command line ask for.
+//! The request that the words of the command line make.
 ghost use Rattle.std.specs.Prelude.{◌≡◌, map};
 ghost use Rattle.std.specs.Str.{bytes_eq};
 ghost use Rattle.offset_times.specs.Local.{instant_of};
 ghost use Rattle.rfc3339.specs.Reading.{reading_as};
-ghost use Rattle.stamps.specs.Arguments.{alone, asked_alone, at_offset, bound_of, bounded, is_finer, misuse_text, request_of};
-ghost use Rattle.stamps.specs.Arguments.{strictness, task_asked, written};
+ghost use Rattle.stamps.specs.Arguments.{only_instant, asked_alone, at_offset, bound_of, bound_task, check_task, gaps_task, is_finer, misuse_text};
+ghost use Rattle.stamps.specs.Arguments.{count_at, count_by, count_in, count_request, request_of, strictness, task_asked, unit_of, write_task};
 
-use crate::task::{Style, Task};
+use crate::counts::{Clock, Unit};
+use crate::durations::duration_of;
+use crate::task::{Action, Style};
+use calendar_values::{SignedDuration, UtcOffset};
 use rfc3339::{Rfc3339, TextRefusal, parse_rfc3339_offset};
 use utc_times::UtcDateTime;
 
@@ -18,7 +21,13 @@ pub enum Request {
     /// The version.
     Version,
     /// Work on lines.
-    Work(Task),
+    Work(Action),
+    /// Merge files. If it is strict, a line that is earlier than the one before it in its file ends
+    /// the run.
+    Merge(bool),
+    /// Count lines. If it is strict, the first line without a stamp, or that goes back, ends the
+    /// run.
+    Count(Clock, bool),
 }
 
 /// The misuse of the words of the command line.
@@ -38,6 +47,14 @@ pub enum Misuse {
     Instant(TextRefusal),
     /// The fraction after `since` or `until` has a digit past the ninth that is not 0.
     TooFine,
+    /// No unit follows `count`.
+    NoUnit,
+    /// An unknown unit follows `count`.
+    Unit,
+    /// No duration follows `gaps`.
+    NoDuration,
+    /// An invalid duration follows `gaps`.
+    Duration,
     /// A word follows that nothing asks for.
     Extra,
 }
@@ -56,7 +73,72 @@ pub fn request_of(words: &[&[u8]]) -> Result<Request, Misuse>
     if is(word, "--version") {
         return asked_alone(Request::Version, rest);
     }
+    if is(word, "merge") {
+        return Ok(Request::Merge(strictness(rest)?));
+    }
+    if is(word, "count") {
+        return count_request(rest);
+    }
     Ok(Request::Work(task_asked(word, rest)?))
+}
+
+// A count: its unit, and perhaps an offset.
+fn count_request(words: &[&[u8]]) -> Result<Request, Misuse>
+    ensures { result ≡ count_request (map (λ word. word.now) words.now) }
+{
+    let Some((text, rest)) = words.split_first() else {
+        return Err(Misuse::NoUnit);
+    };
+    match unit_of(text) {
+        Some(unit) => count_in(unit, rest),
+        None => Err(Misuse::Unit),
+    }
+}
+
+// The unit that a word names.
+fn unit_of(word: &[u8]) -> Option<Unit>
+    ensures { result ≡ unit_of word.now }
+{
+    if is(word, "minute") {
+        Some(Unit::Minute)
+    } else if is(word, "hour") {
+        Some(Unit::Hour)
+    } else if is(word, "day") {
+        Some(Unit::Day)
+    } else {
+        None
+    }
+}
+
+// A count in a unit, at the offset that follows `at`, or in UTC.
+fn count_in(unit: Unit, words: &[&[u8]]) -> Result<Request, Misuse>
+    ensures { result ≡ count_in unit (map (λ word. word.now) words.now) }
+{
+    match words.split_first() {
+        Some((word, rest)) if is(word, "at") => count_at(unit, rest),
+        _ => count_by(unit, UtcOffset::UTC, words),
+    }
+}
+
+// A count at an offset.
+fn count_at(unit: Unit, words: &[&[u8]]) -> Result<Request, Misuse>
+    ensures { result ≡ count_at unit (map (λ word. word.now) words.now) }
+{
+    let Some((text, rest)) = words.split_first() else {
+        return Err(Misuse::NoOffset);
+    };
+    match parse_rfc3339_offset(text) {
+        Ok(offset) => count_by(unit, offset, rest),
+        Err(refusal) => Err(Misuse::Offset(refusal)),
+    }
+}
+
+// A count by a clock.
+fn count_by(unit: Unit, offset: UtcOffset, words: &[&[u8]]) -> Result<Request, Misuse>
+    ensures { result ≡ count_by unit offset (map (λ word. word.now) words.now) }
+{
+    let is_strict = strictness(words)?;
+    Ok(Request::Count(Clock { unit, offset }, is_strict))
 }
 
 // A request that no word follows.
@@ -72,19 +154,21 @@ fn asked_alone(request: Request, words: &[&[u8]]) -> Result<Request, Misuse>
 
 // The task that words ask for, the first of them apart.
 #[tactic(auto, unfolding(crate::specs::Arguments::task_asked))]
-fn task_asked(word: &[u8], words: &[&[u8]]) -> Result<Task, Misuse>
+fn task_asked(word: &[u8], words: &[&[u8]]) -> Result<Action, Misuse>
     ensures { result ≡ task_asked word.now (map (λ word. word.now) words.now) }
 {
     if is(word, "utc") {
-        written(Style::Utc, words)
+        write_task(Style::Utc, words)
     } else if is(word, "unix") {
-        written(Style::Unix, words)
+        write_task(Style::Unix, words)
     } else if is(word, "at") {
         at_offset(words)
     } else if is(word, "check") {
-        Ok(Task::Check(strictness(words)?))
+        check_task(words)
+    } else if is(word, "gaps") {
+        gaps_task(words)
     } else {
-        bounded(word, words)
+        bound_task(word, words)
     }
 }
 
@@ -95,25 +179,49 @@ pub(crate) fn is(word: &[u8], text: &str) -> bool
     word == text.as_bytes()
 }
 
+// The task of `check`: with `--all` it writes each finding.
+fn check_task(words: &[&[u8]]) -> Result<Action, Misuse>
+    ensures { result ≡ check_task (map (λ word. word.now) words.now) }
+{
+    match words.split_first() {
+        Some((flag, rest)) if is(flag, "--all") => Ok(Action::CheckAll(strictness(rest)?)),
+        _ => Ok(Action::Check(strictness(words)?)),
+    }
+}
+
+// The task of `gaps`.
+fn gaps_task(words: &[&[u8]]) -> Result<Action, Misuse>
+    ensures { result ≡ gaps_task (map (λ word. word.now) words.now) }
+{
+    let Some((text, rest)) = words.split_first() else {
+        return Err(Misuse::NoDuration);
+    };
+    let Some(seconds) = duration_of(text) else {
+        return Err(Misuse::Duration);
+    };
+    let limit = SignedDuration::seconds(seconds as i64);
+    Ok(Action::Gaps(limit, strictness(rest)?))
+}
+
 // A task that an instant bounds.
-#[tactic(auto, unfolding(crate::specs::Arguments::bounded))]
-fn bounded(word: &[u8], words: &[&[u8]]) -> Result<Task, Misuse>
-    ensures { result ≡ bounded word.now (map (λ word. word.now) words.now) }
+#[tactic(auto, unfolding(crate::specs::Arguments::bound_task))]
+fn bound_task(word: &[u8], words: &[&[u8]]) -> Result<Action, Misuse>
+    ensures { result ≡ bound_task word.now (map (λ word. word.now) words.now) }
 {
     if is(word, "since") {
-        Ok(Task::Since(bound_of(words)?))
+        Ok(Action::Since(bound_of(words)?))
     } else if is(word, "until") {
-        Ok(Task::Until(bound_of(words)?))
+        Ok(Action::Until(bound_of(words)?))
     } else {
         Err(Misuse::UnknownWord)
     }
 }
 
 // Stamps in a style.
-fn written(style: Style, words: &[&[u8]]) -> Result<Task, Misuse>
-    ensures { result ≡ written style (map (λ word. word.now) words.now) }
+fn write_task(style: Style, words: &[&[u8]]) -> Result<Action, Misuse>
+    ensures { result ≡ write_task style (map (λ word. word.now) words.now) }
 {
-    Ok(Task::Write(style, strictness(words)?))
+    Ok(Action::Write(style, strictness(words)?))
 }
 
 // Whether `--strict` follows, and no other word.
@@ -131,14 +239,14 @@ fn strictness(words: &[&[u8]]) -> Result<bool, Misuse>
 }
 
 // Stamps at an offset.
-fn at_offset(words: &[&[u8]]) -> Result<Task, Misuse>
+fn at_offset(words: &[&[u8]]) -> Result<Action, Misuse>
     ensures { result ≡ at_offset (map (λ word. word.now) words.now) }
 {
     let Some((text, rest)) = words.split_first() else {
         return Err(Misuse::NoOffset);
     };
     match parse_rfc3339_offset(text) {
-        Ok(offset) => written(Style::At(offset), rest),
+        Ok(offset) => write_task(Style::At(offset), rest),
         Err(refusal) => Err(Misuse::Offset(refusal)),
     }
 }
@@ -152,7 +260,7 @@ fn bound_of(words: &[&[u8]]) -> Result<UtcDateTime, Misuse>
     };
     match instant_of_text(text) {
         Ok(_) if is_finer(text) => Err(Misuse::TooFine),
-        Ok(instant) => alone(instant, rest),
+        Ok(instant) => only_instant(instant, rest),
         Err(refusal) => Err(Misuse::Instant(refusal)),
     }
 }
@@ -177,8 +285,8 @@ fn is_finer(text: &[u8]) -> bool
 }
 
 // An instant that no word follows.
-fn alone(instant: UtcDateTime, words: &[&[u8]]) -> Result<UtcDateTime, Misuse>
-    ensures { result ≡ alone instant (map (λ word. word.now) words.now) }
+fn only_instant(instant: UtcDateTime, words: &[&[u8]]) -> Result<UtcDateTime, Misuse>
+    ensures { result ≡ only_instant instant (map (λ word. word.now) words.now) }
 {
     if words.is_empty() {
         Ok(instant)
@@ -206,6 +314,11 @@ pub fn misuse_line(misuse: Misuse) -> &'static str
             "the bound has a part that is out of range: write a date-time of the calendar",
         Misuse::TooFine =>
             "the bound has more than nine digits of a fraction: write nine at most, or 0 for each digit past the ninth",
+        Misuse::NoUnit => "count has no unit: add minute, hour or day",
+        Misuse::Unit => "the unit is unknown: write minute, hour or day",
+        Misuse::NoDuration => "gaps has no duration: add one, as 90s, 5m or 1h30m",
+        Misuse::Duration =>
+            "the duration has another form: write whole numbers with d, h, m and s, as 1h30m",
         Misuse::Extra => "a word is unknown or too many: leave it out",
     }
 }

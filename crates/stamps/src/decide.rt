@@ -1,17 +1,20 @@
-//! What becomes of a line.
+//! The decision about a line.
 ghost use Rattle.std.specs.Prelude.{◌≡◌, ◌≢◌, ◌≤◌, true, if◌then◌else◌, length, slice_get, take, Ok, Err};
 ghost use Rattle.rfc3339.specs.Front.{front_meaning};
 ghost use Rattle.rfc3339.specs.Reading.{front_at};
 ghost use Rattle.rfc3339.specs.declared.refusal.TextRefusal.TheVariants.{Syntax};
-ghost use Rattle.stamps.specs.Decisions.{as_it_is, cause_of, checked, decision_by, decision_of, finding_at_end, first_state, going_on};
+ghost use Rattle.stamps.specs.Decisions.{as_it_is, cause_of, check_line, decision_by, decision_of, finding_at_end, first_state, gap_after, gap_line};
+ghost use Rattle.stamps.specs.Decisions.{as_note, going_on, stop_if};
 ghost use Rattle.stamps.specs.Decisions.{goes_on, is_earlier, last_of, rewritten, state_after, state_by};
-ghost use Rattle.stamps.specs.LineStamps.{behind_mark, continues, ends, front_stamp, has_mark, is_continued};
-ghost use Rattle.stamps.specs.LineStamps.{mark_text, opens_bracket, stamp, stamp_of};
+ghost use Rattle.stamps.specs.LineStamps.{continues, ends, front_stamp, has_mark, is_continued};
+ghost use Rattle.stamps.specs.LineStamps.{opens_bracket, stamp, stamp_of};
 
 use crate::finding::{Cause, Finding};
+use crate::notes::Note;
+use crate::readers::{LineRefusal, LineStamp, line_stamp};
 use crate::style::text_in;
-use crate::task::{Style, Task};
-use calendar_values::Text;
+use crate::task::{Action, Style, Task};
+use calendar_values::{SignedDuration, Text};
 use rfc3339::{TextRefusal, parse_rfc3339_front, syntax_fault};
 use utc_times::UtcDateTime;
 
@@ -28,7 +31,7 @@ const LONGEST_FRONT: usize = 1_024;
 // The byte order mark of UTF-8.
 const BYTE_ORDER_MARK: [u8; 3] = [0xEF, 0xBB, 0xBF];
 
-/// A stamp.
+/// A date-time of RFC 3339.
 #[derive(Clone, Copy, Debug)]
 pub struct Stamp {
     /// Its instant.
@@ -53,11 +56,13 @@ pub struct State {
 /// The decision on a line.
 #[derive(Drop)]
 pub enum Decision {
-    /// It is written: with or without a byte order mark in front, and with the text in place of
-    /// this number of bytes.
-    Keep(bool, Text, usize),
+    /// It is written: the first number of its bytes, the text in place of the second number of
+    /// bytes, and the rest.
+    Keep(usize, Text, usize),
     /// It is not written.
     Skip,
+    /// A note is written in place of it.
+    Tell(Note),
     /// It ends the run.
     Stop(Finding),
 }
@@ -69,7 +74,7 @@ pub fn first_state(task: &Task) -> State
     State {
         lines: 0,
         last: None,
-        goes_on: matches!(task, Task::Until(_)),
+        goes_on: matches!(task.action, Action::Until(_)),
     }
 }
 
@@ -79,10 +84,10 @@ pub fn decide(task: &Task, state: &mut State, line: &[u8]) -> Decision
     ensures decision { result ≡ decision_of task.now state.old line.now }
     ensures state { state.new ≡ state_after task.now state.old line.now }
 {
-    let marked = has_mark(state.lines == 0, line);
-    let stamp = stamp_of(behind_mark(marked, line));
-    let decision = decision_by(task, state, marked, &stamp);
-    *state = state_by(task, state, &stamp);
+    let stamp = line_stamp(&task.reader, state.last, state.lines == 0, line);
+    let after = state_by(&task.action, state, &stamp);
+    let decision = decision_by(&task.action, state.last, &after, &stamp);
+    *state = after;
     decision
 }
 
@@ -90,71 +95,57 @@ pub fn decide(task: &Task, state: &mut State, line: &[u8]) -> Decision
 pub fn finding_at_end(task: &Task, state: &State) -> Option<Finding>
     ensures { result ≡ finding_at_end task.now state.now }
 {
-    match task {
-        Task::Check(_) if state.lines > 0 && state.last.is_none() => Some(Finding::NoStamp),
+    match task.action {
+        Action::Check(_) | Action::CheckAll(_) if state.lines > 0 && state.last.is_none() => Some(
+            Finding::NoStamp,
+        ),
         _ => None,
     }
-}
-
-/// A byte order mark, or nothing.
-#[inline(always)]
-pub fn mark_text(marked: bool) -> &'static [u8]
-    ensures { result.now ≡ mark_text marked }
-{
-    if marked { &BYTE_ORDER_MARK } else { b"" }
 }
 
 // Whether a line begins with a byte order mark that is passed over, as the first line alone may.
 #[tactic(auto, unfolding(crate::specs::LineStamps::has_mark))]
 #[inline(always)]
-fn has_mark(is_first: bool, line: &[u8]) -> bool
+pub(crate) fn has_mark(is_first: bool, line: &[u8]) -> bool
     ensures { result ≡ has_mark is_first line.now }
 {
     is_first && line.starts_with(&BYTE_ORDER_MARK)
 }
 
-/// A line without its byte order mark.
-#[inline(always)]
-pub fn behind_mark(marked: bool, line: &[u8]) -> &[u8]
-    requires { marked ≡ true → 3 ≤ length line.now }
-    ensures { result.now ≡ behind_mark marked line.now }
-{
-    if marked { &line[3..] } else { line }
-}
-
-// What becomes of a line with this stamp.
+// What becomes of a line with this stamp, by the last instant before it and the state after it.
 #[inline(always)]
 fn decision_by(
-    task: &Task,
-    state: &State,
-    marked: bool,
-    stamp: &Result<Stamp, TextRefusal>,
+    action: &Action,
+    last: Option<UtcDateTime>,
+    after: &State,
+    stamp: &Result<LineStamp, LineRefusal>,
 ) -> Decision
-    ensures { result ≡ decision_by task.now state.now marked stamp.now }
+    ensures { result ≡ decision_by action.now last after.now stamp.now }
 {
-    let number = state.lines.saturating_add(1);
-    match task {
-        Task::Write(style, is_strict) => rewritten(style, *is_strict, number, marked, stamp),
-        Task::Check(is_strict) => checked(*is_strict, number, state.last, stamp),
-        Task::Since(_) | Task::Until(_) => going_on(goes_on(task, state.goes_on, stamp)),
+    match action {
+        Action::Write(style, is_strict) => rewritten(style, *is_strict, after.lines, stamp),
+        Action::Check(is_strict) => check_line(*is_strict, after.lines, last, stamp),
+        Action::CheckAll(is_strict) => as_note(check_line(*is_strict, after.lines, last, stamp)),
+        Action::Gaps(limit, is_strict) => gap_line(*limit, *is_strict, after.lines, last, stamp),
+        Action::Since(_) | Action::Until(_) => going_on(after.goes_on),
     }
 }
 
 // What is known behind a line with this stamp.
 #[inline(always)]
-fn state_by(task: &Task, state: &State, stamp: &Result<Stamp, TextRefusal>) -> State
-    ensures { result ≡ state_by task.now state.now stamp.now }
+fn state_by(action: &Action, state: &State, stamp: &Result<LineStamp, LineRefusal>) -> State
+    ensures { result ≡ state_by action.now state.now stamp.now }
 {
     State {
         lines: state.lines.saturating_add(1),
         last: last_of(state.last, stamp),
-        goes_on: goes_on(task, state.goes_on, stamp),
+        goes_on: goes_on(action, state.goes_on, stamp),
     }
 }
 
 // The last instant.
 #[inline(always)]
-fn last_of(last: Option<UtcDateTime>, stamp: &Result<Stamp, TextRefusal>) -> Option<UtcDateTime>
+fn last_of(last: Option<UtcDateTime>, stamp: &Result<LineStamp, LineRefusal>) -> Option<UtcDateTime>
     ensures { result ≡ last_of last stamp.now }
 {
     match stamp {
@@ -166,7 +157,7 @@ fn last_of(last: Option<UtcDateTime>, stamp: &Result<Stamp, TextRefusal>) -> Opt
 // The stamp in front of a text.
 #[tactic(auto, unfolding(crate::specs::LineStamps::stamp_of))]
 #[inline(always)]
-fn stamp_of(text: &[u8]) -> Result<Stamp, TextRefusal>
+pub(crate) fn stamp_of(text: &[u8]) -> Result<Stamp, TextRefusal>
     ensures { result ≡ stamp_of text.now }
 {
     stamp_in(front_of(text))
@@ -274,12 +265,12 @@ fn opens_bracket(next: Option<u8>) -> bool
 
 // Whether a line goes on.
 #[inline(always)]
-fn goes_on(task: &Task, was: bool, stamp: &Result<Stamp, TextRefusal>) -> bool
-    ensures { result ≡ goes_on task.now was stamp.now }
+fn goes_on(action: &Action, was: bool, stamp: &Result<LineStamp, LineRefusal>) -> bool
+    ensures { result ≡ goes_on action.now was stamp.now }
 {
-    match (task, stamp) {
-        (Task::Since(bound), Ok(stamp)) => !(stamp.instant < *bound),
-        (Task::Until(bound), Ok(stamp)) => stamp.instant < *bound,
+    match (action, stamp) {
+        (Action::Since(bound), Ok(stamp)) => !(stamp.instant < *bound),
+        (Action::Until(bound), Ok(stamp)) => stamp.instant < *bound,
         _ => was,
     }
 }
@@ -290,10 +281,9 @@ fn rewritten(
     style: &Style,
     is_strict: bool,
     line: u64,
-    marked: bool,
-    stamp: &Result<Stamp, TextRefusal>,
+    stamp: &Result<LineStamp, LineRefusal>,
 ) -> Decision
-    ensures { result ≡ rewritten style.now is_strict line marked stamp.now }
+    ensures { result ≡ rewritten style.now is_strict line stamp.now }
 {
     match stamp {
         Ok(stamp) if is_strict && stamp.is_zoned => Decision::Stop(Finding::Line(
@@ -301,7 +291,7 @@ fn rewritten(
             Cause::Zone,
         )),
         Ok(stamp) => match text_in(style, stamp.instant) {
-            Some(text) => Decision::Keep(marked, text, stamp.length),
+            Some(text) => Decision::Keep(stamp.start, text, stamp.length),
             None => as_it_is(is_strict, line, Cause::NoText),
         },
         Err(refusal) => as_it_is(is_strict, line, cause_of(*refusal)),
@@ -315,42 +305,105 @@ fn as_it_is(is_strict: bool, line: u64, cause: Cause) -> Decision
     if is_strict {
         return Decision::Stop(Finding::Line(line, cause));
     }
-    Decision::Keep(false, Text::new(), 0)
+    Decision::Keep(0, Text::new(), 0)
 }
 
 // What is the matter with a line whose stamp is refused.
-fn cause_of(refusal: TextRefusal) -> Cause
+fn cause_of(refusal: LineRefusal) -> Cause
     ensures { result ≡ cause_of refusal }
 {
     match refusal {
-        TextRefusal::Syntax => Cause::Missing,
-        TextRefusal::OutOfRange(component) => Cause::Refused(component),
+        LineRefusal::Absent => Cause::Missing,
+        LineRefusal::OutOfRange(component) => Cause::Refused(component),
+        LineRefusal::Part(refusal) => Cause::Unread(refusal),
     }
 }
 
 // Whether the line has a stamp that is in order.
-fn checked(
+fn check_line(
     is_strict: bool,
     line: u64,
     last: Option<UtcDateTime>,
-    stamp: &Result<Stamp, TextRefusal>,
+    stamp: &Result<LineStamp, LineRefusal>,
 ) -> Decision
-    ensures { result ≡ checked is_strict line last stamp.now }
+    ensures { result ≡ check_line is_strict line last stamp.now }
 {
     match stamp {
         Ok(stamp) if is_earlier(stamp.instant, last) => Decision::Stop(Finding::Line(
             line,
             Cause::Earlier,
         )),
-        Err(TextRefusal::Syntax) if is_strict => Decision::Stop(Finding::Line(
+        Err(LineRefusal::Absent) if is_strict => Decision::Stop(Finding::Line(
             line,
             Cause::Missing,
         )),
-        Err(TextRefusal::OutOfRange(component)) => Decision::Stop(Finding::Line(
+        Err(LineRefusal::OutOfRange(component)) => Decision::Stop(Finding::Line(
             line,
             Cause::Refused(*component),
         )),
-        Ok(_) | Err(TextRefusal::Syntax) => Decision::Skip,
+        Err(LineRefusal::Part(refusal)) => Decision::Stop(Finding::Line(
+            line,
+            Cause::Unread(*refusal),
+        )),
+        Ok(_) | Err(LineRefusal::Absent) => Decision::Skip,
+    }
+}
+
+// A note on what would end the run.
+fn as_note(decision: Decision) -> Decision
+    ensures { result ≡ as_note decision }
+{
+    match decision {
+        Decision::Stop(found) => Decision::Tell(Note::Fault(found)),
+        other => other,
+    }
+}
+
+// A note where too much time passed before the line.
+fn gap_line(
+    limit: SignedDuration,
+    is_strict: bool,
+    line: u64,
+    last: Option<UtcDateTime>,
+    stamp: &Result<LineStamp, LineRefusal>,
+) -> Decision
+    ensures { result ≡ gap_line limit is_strict line last stamp.now }
+{
+    match (stamp, last) {
+        (Ok(stamp), Some(before)) => gap_after(limit, is_strict, line, before, stamp.instant),
+        (Ok(_), None) => Decision::Skip,
+        (Err(refusal), _) => stop_if(is_strict, line, cause_of(*refusal)),
+    }
+}
+
+// A note where the time between two instants is more than the limit.
+fn gap_after(
+    limit: SignedDuration,
+    is_strict: bool,
+    line: u64,
+    before: UtcDateTime,
+    at: UtcDateTime,
+) -> Decision
+    ensures { result ≡ gap_after limit is_strict line before at }
+{
+    if is_strict && at < before {
+        return stop_if(true, line, Cause::Earlier);
+    }
+    if limit < at - before {
+        Decision::Tell(Note::Gap(line, before, at))
+    } else {
+        Decision::Skip
+    }
+}
+
+// The end of the run, or nothing of the line.
+fn stop_if(fails: bool, line: u64, cause: Cause) -> Decision
+    ensures { result ≡ stop_if fails line cause }
+{
+    if fails {
+        Decision::Stop(Finding::Line(line, cause))
+    } else {
+        Decision::Skip
     }
 }
 
@@ -370,7 +423,7 @@ fn going_on(goes_on: bool) -> Decision
     ensures { result ≡ going_on goes_on }
 {
     if goes_on {
-        Decision::Keep(false, Text::new(), 0)
+        Decision::Keep(0, Text::new(), 0)
     } else {
         Decision::Skip
     }

@@ -1,6 +1,6 @@
 //! Which words of the command line are files.
 ghost use Rattle.std.specs.Prelude.{◌≡◌, ◌≤◌, drop, length, map};
-ghost use Rattle.stamps.specs.Files.{behind_options, files_of, is_compressed, is_dashes, is_option, takes_files, takes_value};
+ghost use Rattle.stamps.specs.Files.{behind_offset, behind_options, files_of, is_compressed, is_dashes, is_option, takes_files, takes_value};
 
 use crate::arguments::is;
 
@@ -21,7 +21,37 @@ pub fn files_of<'a>(words: &'a [&'a [u8]]) -> &'a [&'a [u8]]
     if takes_files(word) {
         return behind_options(rest);
     }
+    if is(word, "count") {
+        return behind_options(behind_offset(behind_one(rest)));
+    }
     &rest[rest.len()..]
+}
+
+// The words after the first.
+fn behind_one<'a>(words: &'a [&'a [u8]]) -> &'a [&'a [u8]]
+    ensures value { map (λ word. word.now) result.now
+        ≡ drop 1 (map (λ word. word.now) words.now) }
+    ensures length { length result.now ≤ length words.now }
+{
+    let Some((_, rest)) = words.split_first() else {
+        return words;
+    };
+    rest
+}
+
+// The words after `at` and its offset, if they begin with it.
+fn behind_offset<'a>(words: &'a [&'a [u8]]) -> &'a [&'a [u8]]
+    ensures value { map (λ word. word.now) result.now
+        ≡ behind_offset (map (λ word. word.now) words.now) }
+    ensures length { length result.now ≤ length words.now }
+{
+    let Some((word, rest)) = words.split_first() else {
+        return words;
+    };
+    if is(word, "at") {
+        return behind_one(rest);
+    }
+    words
 }
 
 // The words after a value, from the first on that is no option.
@@ -68,7 +98,7 @@ pub fn is_dashes(word: &[u8]) -> bool
 fn takes_value(word: &[u8]) -> bool
     ensures { result ≡ takes_value word.now }
 {
-    is(word, "at") || is(word, "since") || is(word, "until")
+    is(word, "at") || is(word, "since") || is(word, "until") || is(word, "gaps")
 }
 
 // Whether files may follow the word.
@@ -76,7 +106,7 @@ fn takes_value(word: &[u8]) -> bool
 fn takes_files(word: &[u8]) -> bool
     ensures { result ≡ takes_files word.now }
 {
-    is(word, "utc") || is(word, "unix") || is(word, "check")
+    is(word, "utc") || is(word, "unix") || is(word, "check") || is(word, "merge")
 }
 
 /// Whether the name of a file is that of a compressed one.

@@ -1,9 +1,11 @@
 //! Why a line ends the run.
 ghost use Rattle.std.specs.Prelude.{◌≡◌, ◌≤◌, ◌+◌, ◌++◌, IsAscii, [], length};
 ghost use Rattle.stamps.specs.declared.finding.Finding.TheVariants.{Line};
-ghost use Rattle.stamps.specs.Findings.{cause_name, cause_end, cause_text, finding_text};
+ghost use Rattle.stamps.specs.Findings.{cause_name, cause_end, cause_text, field_end, field_of, finding_text};
 
 use calendar_values::Text;
+use format_descriptions::{Field, ValueRefusal};
+use log_forms::field_name;
 use rfc3339::Component;
 
 /// The reason why a line is at fault.
@@ -13,6 +15,10 @@ pub enum Cause {
     Missing,
     /// The stamp has a part that is out of its range.
     Refused(Component),
+    /// The stamp lacks a part, or has one that is out of its range.
+    Unread(ValueRefusal),
+    /// It has no stamp that is in range.
+    NoInstant,
     /// The instant of the stamp has no text in the style that is asked for.
     NoText,
     /// A zone in brackets follows the stamp, and would disagree with another offset.
@@ -75,7 +81,9 @@ fn cause_name(cause: Cause) -> &'static str
 {
     match cause {
         Cause::Missing => "no stamp",
+        Cause::NoInstant => "no valid stamp",
         Cause::Refused(component) => component.name(),
+        Cause::Unread(refusal) => field_name(field_of(refusal)),
         Cause::NoText => "its instant has no text",
         Cause::Zone => "a zone in brackets",
         Cause::Earlier => "earlier",
@@ -90,9 +98,32 @@ fn cause_end(cause: Cause) -> &'static str
 {
     match cause {
         Cause::Refused(_) => " is out of range",
+        Cause::Unread(refusal) => field_end(refusal),
         Cause::Earlier => " than the one before",
         Cause::Missing => "",
+        Cause::NoInstant => "",
         Cause::NoText => "",
         Cause::Zone => " follows the stamp",
+    }
+}
+
+// The part that a refusal names.
+fn field_of(refusal: ValueRefusal) -> Field
+    ensures { result ≡ field_of refusal }
+{
+    match refusal {
+        ValueRefusal::Missing(field) | ValueRefusal::Wrong(field) => field,
+    }
+}
+
+// What is the matter with the part that a refusal names.
+fn field_end(refusal: ValueRefusal) -> &'static str
+    ensures value { result.now ≡ field_end refusal }
+    ensures ascii { IsAscii result.now }
+    ensures length { length result.now ≤ 16 }
+{
+    match refusal {
+        ValueRefusal::Missing(_) => " is missing",
+        ValueRefusal::Wrong(_) => " is out of range",
     }
 }

@@ -1,110 +1,210 @@
 //! The task on standard input, or on files one after another.
 ghost use Rattle.std.specs.Prelude.{◌≡◌, false};
+ghost use Rattle.line_devices.specs.Device.{has_failed};
 
+use crate::choosing::{chosen, chosen_reader};
 use crate::files::{is_compressed, is_dashes};
+use crate::readers::{Reader, mark_length};
+use crate::reading::reading_line;
+use crate::sources::{
+    FAILED, Input, clear_progress, print_line, say, say_compressed, say_unwritten,
+};
 use crate::stamps::{StampFault, stamps, status_of};
-use crate::task::Task;
+use crate::task::{Action, Task};
 use line_devices::devices::{Device, Sink, Source};
-use std::fs::File;
+use line_devices::places::place_of;
+use log_forms::{Place, form_name, reader_form, reader_key, reader_place};
+use std::alloc::AllocError;
 use std::io::Write;
 
-/// The status after an error, as after a failed read or write.
-pub const FAILED: u8 = 2;
+// The most of the first lines by which a form is chosen.
+const MOST_LINES: usize = 16;
+
+/// How stamps are read, as far as words say it, where the first lines of a log choose their form.
+#[derive(Clone, Copy)]
+pub struct Given<'a> {
+    /// Whether they do.
+    pub chooses: bool,
+    /// The value of `--offset`.
+    pub offset: Option<&'a [u8]>,
+    /// The value of `--year`.
+    pub year: Option<&'a [u8]>,
+}
 
 /// Does the task on the files, or on standard input where there are none, and returns the exit
 /// status. The words are those before the files.
-pub fn run(rt: &HostRuntime, task: &Task, words: &[String], files: &[String]) -> u8 {
-    let mut writer = Device::new(rt.stdout());
+pub fn run(
+    rt: &HostRuntime,
+    task: &Task,
+    given: Given<'_>,
+    words: &[String],
+    files: &[String],
+) -> u8 {
     let names = match files.split_first() {
         Some((dashes, rest)) if is_dashes(dashes.as_bytes()) => rest,
         _ => files,
     };
-    if names.is_empty() {
-        return run_on(rt, task, "", &mut Device::new(rt.stdin()), &mut writer);
-    }
     for name in names {
         if is_compressed(name.as_bytes()) {
             say_compressed(rt, words, name);
             return FAILED;
         }
     }
-    run_files(rt, task, names, &mut writer)
+    if names.is_empty() {
+        return run_input(rt, task, given, "-", "", &mut Device::new(rt.stdout()));
+    }
+    run_files(rt, task, given, names)
 }
 
-// Does the task on one file after another. `check` continues with the next file after a line at fault.
-fn run_files<T: Write>(
-    rt: &HostRuntime,
-    task: &Task,
-    names: &[String],
-    writer: &mut Device<T>,
-) -> u8 {
+// Does the task on one file after another. A task that reports lines continues with the next file
+// after a report. If it writes its reports, a heading names each of several files.
+fn run_files(rt: &HostRuntime, task: &Task, given: Given<'_>, names: &[String]) -> u8 {
+    let mut writer = Device::new(rt.stdout());
     let mut status = 0;
     for name in names {
-        let ended = run_file(rt, task, name, writer);
+        if tells(task) {
+            writer = Device::new(rt.stdout());
+        }
+        if tells(task) && names.len() > 1 {
+            let printed = print_heading(rt, name);
+            if printed != 0 {
+                return printed;
+            }
+        }
+        let ended = run_file(rt, task, given, name, &mut writer);
         if ended != 0 {
             status = ended;
         }
-        if ended == FAILED || ended != 0 && !matches!(task, Task::Check(_)) {
+        if ended > 1 || ended == 1 && !reports(task) {
             return ended;
         }
     }
     status
 }
 
-// Does the task on a file, or on standard input if its name is `-`. If the output ends within a line, it first ends that.
-fn run_file<T: Write>(rt: &HostRuntime, task: &Task, name: &str, writer: &mut Device<T>) -> u8 {
-    if !writer.is_at_line_start() && writer.write_some(b"\n").is_err() || writer.failed() {
-        say(rt, name, "write failed");
-        return FAILED;
-    }
-    if name == "-" {
-        return run_on(rt, task, name, &mut Device::new(rt.stdin()), writer);
-    }
-    match File::open(rt, name) {
-        Ok(file) => run_on(rt, task, name, &mut Device::new(file), writer),
-        Err(error) => {
-            let _ = eprintln!(rt; "stamps: {name}: {error}");
+/// Prints the heading of a file among others, and returns the exit status.
+pub fn print_heading(rt: &HostRuntime, name: &str) -> u8 {
+    match format!(in rt.alloc(); "==> {name} <==") {
+        Ok(heading) => print_line(rt, heading.as_str()),
+        Err(_) => {
+            say(rt, "", "no memory is left");
             FAILED
         }
     }
 }
 
-// Does the task from a reader to a writer, tells what ended it, and returns the exit status.
-fn run_on<R: Source, W: Sink>(
+// Whether the task writes notes on lines.
+fn tells(task: &Task) -> bool {
+    matches!(task.action, Action::CheckAll(_) | Action::Gaps(_, _))
+}
+
+// Whether the task reports lines.
+fn reports(task: &Task) -> bool {
+    tells(task) || matches!(task.action, Action::Check(_))
+}
+
+// Does the task on a file. If the output ends within a line, it first ends that.
+fn run_file<T: Write>(
     rt: &HostRuntime,
     task: &Task,
+    given: Given<'_>,
     name: &str,
-    reader: &mut R,
-    writer: &mut W,
+    writer: &mut Device<T>,
+) -> u8 {
+    if !writer.is_at_line_start() && writer.write_some(b"\n").is_err() || writer.failed() {
+        return say_unwritten(rt, name, writer);
+    }
+    run_input(rt, task, given, name, name, writer)
+}
+
+// Does the task on an input, and names it as said in what it reports.
+fn run_input<T: Write>(
+    rt: &HostRuntime,
+    task: &Task,
+    given: Given<'_>,
+    name: &str,
+    said: &str,
+    writer: &mut Device<T>,
 ) -> u8
-    requires reader { R.is_marked reader.old ≡ false }
-    requires writer { W.is_marked writer.old ≡ false }
+    requires { has_failed writer.old ≡ false }
 {
-    let ended = stamps(task, reader, writer);
+    let Some(mut input) = Input::open(rt, name, true) else {
+        return FAILED;
+    };
+    let mut other = None;
+    if given.chooses {
+        let Ok(number) = number_of(rt, &mut input) else {
+            say(rt, said, "no memory is left");
+            return FAILED;
+        };
+        if let Some(number) = number {
+            say_choice(rt, said, number);
+            other = match chosen_reader(number, given.offset, given.year) {
+                Ok(reader) => Some(Task {
+                    action: task.action,
+                    reader,
+                }),
+                Err(misuse) => {
+                    say(rt, said, reading_line(misuse));
+                    return FAILED;
+                }
+            };
+        }
+    }
+    let task = match &other {
+        Some(other) => other,
+        None => task,
+    };
+    let shows_progress = input.shows_progress();
+    let ended = stamps(task, &mut Device::new(input), writer);
+    if shows_progress {
+        clear_progress(rt);
+    }
     match &ended {
         Ok(()) => {}
-        Err(StampFault::Read) => say(rt, name, "read failed"),
-        Err(StampFault::Write) => say(rt, name, "write failed"),
-        Err(StampFault::Found(found)) => say(rt, name, found.text().as_str()),
+        Err(StampFault::Read) => say(rt, said, "read failed"),
+        Err(StampFault::Write) => return say_unwritten(rt, said, writer),
+        Err(StampFault::Found(found)) => say(rt, said, found.text().as_str()),
     }
-    status_of(&ended)
+    status_of(&ended, tells(task) && writer.has_written())
 }
 
-/// Prints a line on standard error: the name of the program, that of a file if there is one, and a
-/// text.
-pub fn say(rt: &HostRuntime, name: &str, text: &str) {
-    if name.is_empty() {
-        let _ = eprintln!(rt; "stamps: {text}");
-    } else {
-        let _ = eprintln!(rt; "stamps: {name}: {text}");
+// The number of the form and the place that the first lines of an input choose, if they choose another than RFC 3339 at the front.
+fn number_of(rt: &HostRuntime, input: &mut Input<'_>) -> Result<Option<usize>, AllocError> {
+    let head = input.first_bytes()?;
+    let head = &head[mark_length(true, head)..];
+    let mut lines = Vec::new(rt.alloc());
+    let mut place = 0;
+    for _ in 0..MOST_LINES {
+        if place >= head.len() {
+            break;
+        }
+        let end = place_of(b'\n', head, place);
+        if end >= head.len() {
+            if lines.is_empty() {
+                lines.push(&head[place..])?;
+            }
+            break;
+        }
+        if end > place {
+            lines.push(&head[place..end])?;
+        }
+        place = end + 1;
     }
+    Ok(chosen(lines.as_slice()))
 }
 
-// Says what reads a file that is compressed. The words are those before the files.
-fn say_compressed(rt: &HostRuntime, words: &[String], name: &str) {
-    let _ = eprint!(rt; "stamps: {name}: the file is compressed: use zcat {name} | stamps");
-    for word in words {
-        let _ = eprint!(rt; " {word}");
+// Says which form and place were chosen.
+fn say_choice(rt: &HostRuntime, said: &str, number: usize) {
+    let form = form_name(reader_form(number));
+    let key = reader_key(number);
+    let line = match reader_place(number) {
+        Place::Front => format!(in rt.alloc(); "{form} at front"),
+        Place::Field(field) => format!(in rt.alloc(); "{form} at field:{field}"),
+        Place::After => format!(in rt.alloc(); "{form} at after:{key}"),
+        Place::Json => format!(in rt.alloc(); "{form} at json:{key}"),
+    };
+    if let Ok(line) = line {
+        say(rt, said, line.as_str());
     }
-    let _ = eprintln!(rt; " -");
 }

@@ -1,5 +1,5 @@
-//! Laws of the definitions that the contract of `stamps` cites: each function here proves one, for all inputs, and does
-//! nothing when it is called.
+//! Laws of the definitions that the contract of `stamps` cites: each function here proves one, for
+//! all inputs, and does nothing when it is called.
 ghost use Rattle.stamps.specs.BoundLaws.{BoundsAreExact};
 ghost use Rattle.stamps.specs.Laws.{CheckTellsTheOrder, LinesAreWrittenAlone, SinceAndUntilCutInTwo, StampsAreDateTimes};
 ghost use Rattle.stamps.specs.Laws.{UtcTwiceIsOnce, WrittenLinesKeepTheOrder};

@@ -4,14 +4,14 @@ ghost use Rattle.line_devices.specs.LineParts.{HasNone};
 ghost use Rattle.line_devices.specs.Writing.{MarksFailure, SendsAll};
 ghost use Rattle.stamps.specs.Decisions.{decision_of, first_state, state_after};
 ghost use Rattle.stamps.specs.Progress.{Begins, Completes, Decided, Ends, Keeps, KeepsLine, Passes};
-ghost use Rattle.stamps.specs.Progress.{Settled, Stands, WritesPending, is_kept, mark_after, passed};
+ghost use Rattle.stamps.specs.Notes.{note_text};
+ghost use Rattle.stamps.specs.Progress.{Settled, Stands, TellsNote, WritesPending, is_kept, mark_after, to_send};
 ghost use Rattle.stamps.specs.declared.lines.LineFault.TheVariants.{Write};
 ghost use Rattle.stamps.specs.declared.lines.Progress.TheVariants.{Kept};
 
-use crate::decide::{
-    Decision, LONGEST_HEAD, State, behind_mark, decide, finding_at_end, first_state, mark_text,
-};
+use crate::decide::{Decision, LONGEST_HEAD, State, decide, finding_at_end, first_state};
 use crate::finding::Finding;
+use crate::notes::{Note, end_of, front_of, middle_of};
 use crate::task::Task;
 use line_devices::devices::{DeviceFault, Sink};
 use line_devices::places::place_of;
@@ -328,11 +328,13 @@ fn begin<W: Sink>(
     ensures mark { W.is_marked writer.new ≡ mark_after result (W.is_marked writer.old) }
 {
     match decide(task, state, line) {
-        Decision::Keep(marked, text, count) => {
-            let rest = rest_of(behind_mark(marked, line), count);
-            keep_line(writer, pending, mark_text(marked), text.as_bytes(), rest)
+        Decision::Keep(start, text, count) => {
+            let behind = rest_of(line, start);
+            let rest = rest_of(behind, count);
+            keep_line(writer, pending, &line[..start], text.as_bytes(), rest)
         }
         Decision::Skip => Ok(Progress::Skipped),
+        Decision::Tell(note) => tell(writer, pending, &note),
         Decision::Stop(found) => {
             flush(writer, pending)?;
             Err(LineFault::Found(found))
@@ -349,38 +351,55 @@ fn rest_of(line: &[u8], count: usize) -> &[u8]
     &line[count..]
 }
 
-// Sends a line that goes on: a byte order mark or nothing, a text, and the rest of the line.
+// Sends a line that goes on: its first bytes, a text, and the rest of the line.
 fn keep_line<W: Sink>(
     writer: &mut W,
     pending: &mut Pending,
-    mark: &[u8],
+    front: &[u8],
     text: &[u8],
     rest: &[u8],
 ) -> Result<Progress, LineFault>
     ensures kept { KeepsLine result (W.written writer.old) (W.written writer.new)
-        pending.new (pending.old ++ (mark.now ++ (text.now ++ rest.now))) }
+        pending.new (pending.old ++ (front.now ++ (text.now ++ rest.now))) }
     ensures mark { W.is_marked writer.new ≡ mark_after result (W.is_marked writer.old) }
 {
-    send_all(writer, pending, mark, text, rest)?;
+    send_all(writer, pending, front, text, rest)?;
     Ok(Progress::Sent)
 }
 
-// Sends a byte order mark or nothing, a text, and another behind it.
+// Sends a note in place of a line.
+fn tell<W: Sink>(writer: &mut W, pending: &mut Pending, note: &Note) -> Result<Progress, LineFault>
+    ensures told { TellsNote result (W.written writer.old) (W.written writer.new)
+        pending.new (pending.old ++ note_text note.now) }
+    ensures mark { W.is_marked writer.new ≡ mark_after result (W.is_marked writer.old) }
+{
+    let (front, middle, end) = (front_of(note), middle_of(note), end_of(note));
+    send_all(
+        writer,
+        pending,
+        front.as_bytes(),
+        middle.as_bytes(),
+        end.as_bytes(),
+    )?;
+    Ok(Progress::Skipped)
+}
+
+// Sends the first bytes, a text, and another behind it.
 fn send_all<W: Sink>(
     writer: &mut W,
     pending: &mut Pending,
-    mark: &[u8],
+    front: &[u8],
     first: &[u8],
     second: &[u8],
 ) -> Result<(), DeviceFault>
     ensures sent { SendsAll result (W.written writer.old) (W.written writer.new)
-        pending.new (pending.old ++ (mark.now ++ (first.now ++ second.now))) }
+        pending.new (pending.old ++ (front.now ++ (first.now ++ second.now))) }
     ensures mark { MarksFailure result (W.is_marked writer.old) (W.is_marked writer.new) }
 {
-    if mark.is_empty() {
+    if front.is_empty() {
         return send_both(writer, pending, first, second);
     }
-    send(writer, pending, mark)?;
+    send(writer, pending, front)?;
     send_both(writer, pending, first, second)
 }
 
@@ -407,7 +426,7 @@ fn pass<W: Sink>(
     part: &[u8],
 ) -> Result<(), LineFault>
     ensures passed { Passes result (W.written writer.old) (W.written writer.new)
-        pending.new (pending.old ++ passed progress part.now) }
+        pending.new (pending.old ++ to_send progress part.now) }
     ensures mark { W.is_marked writer.new ≡ mark_after result (W.is_marked writer.old) }
 {
     if progress == Progress::Sent {

@@ -2,20 +2,35 @@
 #![tactic(auto)]
 
 mod arguments;
+mod choosing;
+mod counts;
 mod decide;
+mod durations;
 mod files;
 mod finding;
 mod inputs;
+mod instants;
 mod laws;
 mod lines;
+mod merges;
+mod notes;
+mod readers;
+mod reading;
+mod sources;
 mod stamps;
 mod style;
 mod task;
 mod usage;
 
-use arguments::{Request, misuse_line, request_of};
+use arguments::{Misuse, Request, misuse_line, request_of};
+use counts::ClockBuckets;
 use files::{files_of, is_dashes, is_option};
-use inputs::{FAILED, say};
+use inputs::Given;
+use instants::StampInstants;
+use log_forms::{FORMS, form_name, sample_of};
+use readers::Reader;
+use reading::{ReadingMisuse, Step, needs_lines_before, reader_of, reading_line, step_after};
+use sources::{FAILED, print_line, say};
 use std::alloc::AllocError;
 use std::process::ExitCode;
 use std::{env, io};
@@ -27,17 +42,128 @@ const VERSION_LINE: &str = "stamps 0.1.0";
 
 fn main(rt: HostRuntime) -> ExitCode {
     let Ok(given) = words_given(&rt) else {
-        return misused(&rt, "a word is no text of UTF-8: use the words below");
+        return report_misuse(&rt, "a word is no text of UTF-8: use the words below");
     };
-    let words = given.as_slice();
-    match words.split_first() {
-        Some((_, words)) => obey(&rt, words),
-        None => obey(&rt, words),
+    match sort(&rt, given) {
+        Ok(Sorted::Words(words, asked)) => obey(&rt, words.as_slice(), &asked),
+        Ok(Sorted::Misuse(text)) => report_misuse(&rt, text),
+        Ok(Sorted::Forms) => ExitCode::from(list_forms(&rt)),
+        Err(_) => {
+            say(&rt, "", "no memory is left");
+            ExitCode::from(FAILED)
+        }
     }
 }
 
-// Does what the words ask for, without the name of the program.
-fn obey(rt: &HostRuntime, given: &[String]) -> ExitCode {
+// What the words say of how stamps are read.
+#[derive(Drop)]
+struct Asked {
+    form: Option<String>,
+    at: Option<String>,
+    offset: Option<String>,
+    year: Option<String>,
+}
+
+impl Asked {
+    // Whether they say anything.
+    fn is_any(&self) -> bool {
+        self.form.is_some() || self.at.is_some() || self.offset.is_some() || self.year.is_some()
+    }
+}
+
+// The words, sorted.
+#[derive(Drop)]
+enum Sorted {
+    // Those that say nothing of how stamps are read, and what the others say.
+    Words(Vec<String>, Asked),
+    // A misuse, by its text.
+    Misuse(&'static str),
+    // The list of the forms is asked for.
+    Forms,
+}
+
+// Sorts the words, of which the first is the name of the program.
+fn sort(rt: &HostRuntime, given: Vec<String>) -> Result<Sorted, AllocError> {
+    let mut words = Vec::new(rt.alloc());
+    let mut asked = Asked {
+        form: None,
+        at: None,
+        offset: None,
+        year: None,
+    };
+    let mut step = Step::Word;
+    let mut lists = false;
+    for word in given.into_iter().skip(1) {
+        let before = step;
+        step = step_after(before, word.as_bytes());
+        match (step, before) {
+            (Step::Value, Step::Form) => asked.form = Some(word),
+            (Step::Value, Step::At) => asked.at = Some(word),
+            (Step::Value, Step::Offset) => asked.offset = Some(word),
+            (Step::Value, _) => asked.year = Some(word),
+            (Step::List, _) => lists = true,
+            (Step::Word | Step::File, _) => words.push(word)?,
+            _ => {}
+        }
+    }
+    Ok(match step {
+        Step::Form => Sorted::Misuse("--form has no value: add a form, as rfc5424"),
+        Step::At => Sorted::Misuse("--at has no value: add front, field:N, after:TEXT or json:KEY"),
+        Step::Offset => Sorted::Misuse("--offset has no value: add one, as +05:30 or Z"),
+        Step::Year => Sorted::Misuse("--year has no value: add its four digits, as 2024"),
+        _ if lists && (!words.is_empty() || asked.is_any()) => {
+            Sorted::Misuse(misuse_line(Misuse::Extra))
+        }
+        _ if lists => Sorted::Forms,
+        _ => Sorted::Words(words, asked),
+    })
+}
+
+// Prints each form with a sample, and returns the exit status.
+fn list_forms(rt: &HostRuntime) -> u8 {
+    for name in FORMS {
+        let Ok(line) = format!(in rt.alloc(); "{:<14}{}", form_name(name), sample_of(name)) else {
+            say(rt, "", "no memory is left");
+            return FAILED;
+        };
+        let printed = print_line(rt, line.as_str());
+        if printed != 0 {
+            return printed;
+        }
+    }
+    0
+}
+
+// The reader of the words for how stamps are read.
+fn reader_asked(asked: &Asked) -> Result<Reader, ReadingMisuse> {
+    reader_of(
+        bytes_if(&asked.form),
+        bytes_if(&asked.at),
+        bytes_if(&asked.offset),
+        bytes_if(&asked.year),
+    )
+}
+
+// How stamps are read, as far as words say it. The first lines of a log choose the form unless a
+// word gives a form or a place.
+fn choice_of(asked: &Asked) -> Given<'_> {
+    Given {
+        chooses: asked.form.is_none() && asked.at.is_none(),
+        offset: bytes_if(&asked.offset),
+        year: bytes_if(&asked.year),
+    }
+}
+
+// The bytes of a word, if it is given.
+fn bytes_if(word: &Option<String>) -> Option<&[u8]> {
+    match word {
+        Some(word) => Some(word.as_bytes()),
+        None => None,
+    }
+}
+
+// Does what the words ask for, without those for how stamps are read.
+fn obey(rt: &HostRuntime, given: &[String], asked: &Asked) -> ExitCode {
     let Ok(words) = bytes_of(rt, given) else {
         say(rt, "", "no memory is left");
         return ExitCode::from(FAILED);
@@ -49,10 +175,19 @@ fn obey(rt: &HostRuntime, given: &[String]) -> ExitCode {
     }
     let count = words.len() - files;
     match request_of(&words[..count]) {
-        Ok(Request::Help) => answer(rt, USAGE),
-        Ok(Request::Version) => answer(rt, VERSION_LINE),
-        Ok(Request::Work(task)) => run(rt, &task, &given[..count], &given[count..]),
-        Err(misuse) => misused(rt, misuse_line(misuse)),
+        Ok(Request::Help) => ExitCode::from(print_line(rt, USAGE)),
+        Ok(Request::Version) => ExitCode::from(print_line(rt, VERSION_LINE)),
+        Ok(request) => match reader_asked(asked) {
+            Ok(reader) => run(
+                rt,
+                &job_of(request, reader),
+                choice_of(asked),
+                &given[..count],
+                &given[count..],
+            ),
+            Err(misuse) => report_misuse(rt, reading_line(misuse)),
+        },
+        Err(misuse) => report_misuse(rt, misuse_line(misuse)),
     }
 }
 
@@ -70,36 +205,66 @@ fn words_given(rt: &HostRuntime) -> io::Result<Vec<String>> {
     Ok(env::args(rt)?.collect(rt.alloc())?)
 }
 
-// Prints a text to standard output.
-fn answer(rt: &HostRuntime, text: &str) -> ExitCode {
-    match println!(rt; "{text}") {
-        Ok(()) => ExitCode::SUCCESS,
-        Err(_) => {
-            say(rt, "", "write failed");
-            ExitCode::from(FAILED)
-        }
-    }
-}
-
 // Prints a misuse and the usage to standard error.
-fn misused(rt: &HostRuntime, text: &str) -> ExitCode {
+fn report_misuse(rt: &HostRuntime, text: &str) -> ExitCode {
     say(rt, "", text);
     let _ = eprintln!(rt; "{USAGE}");
     ExitCode::from(FAILED)
 }
 
-// Does the task on the files. The words are those before them.
-fn run(rt: &HostRuntime, task: &Task, words: &[String], files: &[String]) -> ExitCode {
+// The work on files.
+#[derive(Drop)]
+enum Job {
+    Work(Task),
+    Count(ClockBuckets, bool),
+    Merge(StampInstants, bool),
+    Nothing,
+}
+
+// The job of a request, by how stamps are read.
+fn job_of(request: Request, reader: Reader) -> Job {
+    match request {
+        Request::Help | Request::Version => Job::Nothing,
+        Request::Work(action) => Job::Work(Task { action, reader }),
+        Request::Count(clock, is_strict) => Job::Count(ClockBuckets { clock, reader }, is_strict),
+        Request::Merge(is_strict) => Job::Merge(StampInstants { reader }, is_strict),
+    }
+}
+
+// Does the job on the files. The words are those before them.
+fn run(
+    rt: &HostRuntime,
+    job: &Job,
+    given: Given<'_>,
+    words: &[String],
+    files: &[String],
+) -> ExitCode {
     for file in files {
         if is_dashes(file.as_bytes()) {
             break;
         }
         if is_option(file.as_bytes()) {
-            return misused(
+            return report_misuse(
                 rt,
                 "an option follows a file: put options before the files, or -- before a file of that name",
             );
         }
     }
-    ExitCode::from(inputs::run(rt, task, words, files))
+    let needs_lines = match job {
+        Job::Count(buckets, _) => needs_lines_before(&buckets.reader),
+        Job::Merge(instants, _) => needs_lines_before(&instants.reader),
+        Job::Nothing | Job::Work(_) => false,
+    };
+    if needs_lines {
+        return report_misuse(
+            rt,
+            "the form has no year: count and merge take forms with a year alone",
+        );
+    }
+    ExitCode::from(match job {
+        Job::Nothing => 0,
+        Job::Work(task) => inputs::run(rt, task, given, words, files),
+        Job::Count(buckets, is_strict) => counts::run(rt, buckets, *is_strict, words, files),
+        Job::Merge(instants, is_strict) => merges::run(rt, instants, *is_strict, words, files),
+    })
 }

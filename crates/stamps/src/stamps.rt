@@ -35,12 +35,13 @@ impl From<LineFault> for StampFault {
     }
 }
 
-/// The exit status of the program: 0 at the end of the input, 1 for a finding, and 2 after a failed
-/// read or write.
-pub fn status_of(ended: &Result<(), StampFault>) -> u8
-    ensures { result ≡ status_of ended.now }
+/// The exit status of the program: 0 at the end of the input, 1 for a finding or a note, and 2
+/// after a failed read or write.
+pub fn status_of(ended: &Result<(), StampFault>, has_told: bool) -> u8
+    ensures { result ≡ status_of ended.now has_told }
 {
     match ended {
+        Ok(()) if has_told => 1,
         Ok(()) => 0,
         Err(StampFault::Found(_)) => 1,
         Err(StampFault::Read | StampFault::Write) => 2,

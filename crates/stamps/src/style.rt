@@ -1,5 +1,5 @@
 //! Instants written.
-ghost use Rattle.std.specs.Prelude.{◌≡◌};
+ghost use Rattle.std.specs.Prelude.{◌≡◌, ◌≤◌, length, IfSome};
 ghost use Rattle.stamps.specs.Styles.{text_in};
 ghost use Rattle.stamps.specs.declared.task.Style.TheVariants.{Utc, At};
 
@@ -13,7 +13,8 @@ use utc_times::UtcDateTime;
 /// 9999.
 #[tactic(auto, unfolding(crate::specs::Styles::text_in))]
 pub fn text_in(style: &Style, at: UtcDateTime) -> Option<Text>
-    ensures { result ≡ text_in style.now at }
+    ensures text { result ≡ text_in style.now at }
+    ensures length { IfSome result (λ text. length text ≤ 35) }
 {
     match *style {
         Style::Utc => text_in_utc(at),
@@ -24,14 +25,16 @@ pub fn text_in(style: &Style, at: UtcDateTime) -> Option<Text>
 
 // In UTC.
 fn text_in_utc(at: UtcDateTime) -> Option<Text>
-    ensures { result ≡ text_in Utc at }
+    ensures text { result ≡ text_in Utc at }
+    ensures length { IfSome result (λ text. length text ≤ 35) }
 {
     to_rfc3339_nanos(at)
 }
 
 // At an offset.
 fn text_at(at: UtcDateTime, offset: UtcOffset) -> Option<Text>
-    ensures { result ≡ text_in (At offset) at }
+    ensures text { result ≡ text_in (At offset) at }
+    ensures length { IfSome result (λ text. length text ≤ 35) }
 {
     match at.checked_to_offset(offset) {
         Some(shown) => to_rfc3339_nanos_at(shown),

@@ -1,6 +1,7 @@
-//! What is asked for.
+//! The tasks of the program.
 
-use calendar_values::UtcOffset;
+use crate::readers::Reader;
+use calendar_values::{SignedDuration, UtcOffset};
 use utc_times::UtcDateTime;
 
 /// The style of a written instant.
@@ -14,9 +15,9 @@ pub enum Style {
     Unix,
 }
 
-/// The task: how lines are written, or checked.
+/// The work on lines.
 #[derive(Clone, Copy, Debug)]
-pub enum Task {
+pub enum Action {
     /// Write the stamp of each in a style. A line that has no text there is written as it is, or,
     /// where the task is strict, ends the run.
     Write(Style, bool),
@@ -24,8 +25,23 @@ pub enum Task {
     /// ends the run, as does, where the task is strict, the first line without a stamp. The end of
     /// an input without any stamp ends it too.
     Check(bool),
+    /// Write its fault in place of each line that would end `Check`, and read to the end.
+    CheckAll(bool),
+    /// Write, in place of each line whose instant is later than the last one by more than this
+    /// duration, how much later it is. Where the task is strict, the first line without a stamp or
+    /// with an earlier one ends the run.
+    Gaps(SignedDuration, bool),
     /// Write those whose instant is not before this one.
     Since(UtcDateTime),
     /// Write those whose instant is before this one.
     Until(UtcDateTime),
+}
+
+/// The task: the work on lines, and how their stamps are read.
+#[derive(Drop)]
+pub struct Task {
+    /// The work.
+    pub action: Action,
+    /// How stamps are read.
+    pub reader: Reader,
 }

@@ -2,14 +2,24 @@
 
 /// The text that `--help` prints, as does each misuse.
 pub const USAGE: &str = "usage: stamps WORD [FILE..]
-  utc [--strict]        write each stamp in UTC
-  at OFFSET [--strict]  write each stamp at an offset, as +05:30 or Z
-  unix [--strict]       write each stamp as Unix seconds
-  check [--strict]      write nothing, and fail where the instants decrease
-  since DATE-TIME       write the lines from this instant on
-  until DATE-TIME       write the lines before this instant
-  --help                print this usage
-  --version             print the version
-With --strict the first line without a stamp ends the run.
+  utc [--strict]                     write each stamp in UTC
+  at OFFSET [--strict]               write each stamp at an offset, as +05:30 or Z
+  unix [--strict]                    write each stamp as Unix seconds
+  check [--all] [--strict]           write nothing, and fail where the instants decrease
+  gaps DURATION [--strict]           write each gap that is longer, as 90s, 5m or 1h30m
+  count UNIT [at OFFSET] [--strict]  write the number of lines in each minute, hour or day
+  since DATE-TIME                    write the lines from this instant on
+  until DATE-TIME                    write the lines before this instant
+  merge [--strict]                   write the lines of all files in the order of their instants
+  --list-forms                       print each form and a sample of it
+  --help                             print this usage
+  --version                          print the version
+With --strict the first line without a stamp ends the run; for merge, gaps and count, one that goes back.
+With --all check prints every line at fault.
+With --form FORM stamps have a form by its name, or by a description, as [day]/[month]/[year].
+With --at PLACE they are at front, field:N, after:TEXT or json:NAME.
+With --offset OFFSET those without an offset have this one, as +05:30 or Z.
+With --year YEAR the first of those without a year has this one.
+The words count and merge take no form without a year.
 Without a FILE, or for the FILE -, stamps reads standard input.
-The status is 0, or 1 for a line at fault, or 2 for an error.";
+The status is 0, or 1 for a gap or a line at fault, or 2 for an error.";

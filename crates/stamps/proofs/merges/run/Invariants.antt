@@ -1,0 +1,10 @@
+use Rattle.std.proofs.Common.{None}
+use Rattle.line_devices.specs.Device.{has_failed}
+use Rattle.line_devices.specs.declared.devices.Device.{Device}
+use Rattle.line_merges.specs.Runs.{AreNew}
+use Rattle.stamps.specs.declared.sources.Input.{Input}
+use Rattle.stamps.proofs.merges.run.Given as goal
+
+-- nothing was read of the files that were opened
+abbrev pub invariant-opens : goal.invariant-opens
+invariant-opens l = AreNew (λ (device : Device Input). None) (λ (device : Device Input). has_failed device) l.logs.items

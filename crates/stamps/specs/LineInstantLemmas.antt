@@ -1,0 +1,58 @@
+-- The first bytes of a line decide on its instant.
+use Rattle.std.proofs.Common.{◌≡◌, ℕ, ◌≤◌, Bool, true, false, nat_eq, List, ◌++◌, length, take, drop, refl, sym, ap, ◌∙◌, inl, inr, arith, length-take}
+use Rattle.std.proofs.Common.{take-append-drop}
+use Rattle.std.proofs.lemmas.Bool.{cases_lt}
+use Rattle.std.proofs.lemmas.List.{length-drop, take_all, take-append-le, drop-append-le}
+use Rattle.std.specs.Cmp.Lexicographic.{pointwise}
+use Rattle.std.specs.Prelude.{◌&&◌, ℤ, Option, None}
+use Rattle.log_forms.specs.WithinLemmas.{stamp_at-longer}
+use Rattle.log_forms.specs.Years.{assumed_after}
+use Rattle.rfc3339.specs.Reading.{front_at}
+use Rattle.stamps.specs.LineInstants.{line_instant, stamp_instant}
+use Rattle.stamps.specs.LineStamps.{byte_order_mark, front_stamp, has_mark, mark_length, stamp_of}
+use Rattle.stamps.specs.Readers.{formed_at, line_stamp, plain_at, stamp_behind}
+use Rattle.stamps.specs.declared.readers.Reader.{Reader}
+use Rattle.stamps.specs.declared.readers.Reader.TheVariants.{Plain, Formed}
+
+mark-longer : (is_first : Bool) (line part : List ℕ) → 3 ≤ length line → has_mark is_first (line ++ part) ≡ has_mark is_first line
+unfolding has_mark
+mark-longer is_first line part long =
+    ap (λ (z : List ℕ). is_first && pointwise nat_eq byte_order_mark z) (take-append-le 3 line part long)
+
+mark-short : (marked : Bool) → mark_length marked ≤ 3
+mark-short true = omega arith
+mark-short false = omega arith
+
+stamp-longer : (line part : List ℕ) → 1024 ≤ length line → stamp_of (line ++ part) ≡ stamp_of line
+unfolding stamp_of
+stamp-longer line part long = ap (λ (z : List ℕ). front_stamp z (front_at z)) (take-append-le 1024 line part long)
+
+behind-longer : (reader : Reader) (last : Option ℤ) (before : ℕ) (text part : List ℕ) → 1024 ≤ length text
+    → stamp_behind reader last before (text ++ part) ≡ stamp_behind reader last before text
+behind-longer Plain last before text part long = ap (plain_at before) (stamp-longer text part long)
+behind-longer (Formed by) last before text part long =
+    ap (formed_at before) (stamp_at-longer by.form by.place by.text (assumed_after by.assumed last) text part long)
+
+line_stamp-longer : (reader : Reader) (last : Option ℤ) (is_first : Bool) (line part : List ℕ) → 1027 ≤ length line
+    → line_stamp reader last is_first (line ++ part) ≡ line_stamp reader last is_first line
+line_stamp-longer reader last is_first line part long =
+    let before = mark_length (has_mark is_first line) in
+    let short = mark-short (has_mark is_first line) in
+    let text = drop before line in
+    let most : 1024 ≤ length text = omega (arith, long, short, length-drop before line) in
+    ap (λ (z : Bool). stamp_behind reader last (mark_length z) (drop (mark_length z) (line ++ part)))
+    (mark-longer is_first line part (omega (arith, long)))
+    ∙ ap (stamp_behind reader last before) (drop-append-le before line part (omega (arith, long, short)))
+    ∙ behind-longer reader last before text part most
+
+pub line_instant-by_head : (reader : Reader) (is_first : Bool) (line : List ℕ)
+    → line_instant reader is_first (take 1027 line) ≡ line_instant reader is_first line
+unfolding line_instant
+line_instant-by_head reader is_first line =
+    elim (cases_lt 1027 (length line)) [
+      | inl more ↦
+          let long : 1027 ≤ length (take 1027 line) = omega (arith, more, length-take 1027 line) in
+          let whole = ap stamp_instant (sym (line_stamp-longer reader None is_first (take 1027 line) (drop 1027 line) long)) in
+          rw (take-append-drop 1027 line) at whole
+      | inr all ↦ ap (line_instant reader is_first) (take_all 1027 line all)
+    ]

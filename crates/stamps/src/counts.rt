@@ -1,0 +1,243 @@
+//! The count of lines by the local clock.
+ghost use Rattle.std.specs.Prelude.{◌≡◌, ◌≤◌, pos, length};
+ghost use Rattle.stamps.specs.Buckets.{bucket_of, line_bucket, next_bucket, row_text, unit_nanos};
+ghost use Rattle.stamps.specs.CountFaults.{count_status};
+ghost use Rattle.stamps.specs.LineInstants.{line_instant};
+ghost use Rattle.stamps.specs.Notes.{text_or_unix};
+ghost use Rattle.stamps.specs.Styles.{text_in};
+ghost use Rattle.stamps.specs.declared.task.Style.TheVariants.{At};
+ghost use Rattle.offset_times.specs.Local.{local_multiple_below};
+
+use crate::files::{is_compressed, is_dashes};
+use crate::finding::{Cause, Finding};
+use crate::inputs::print_heading;
+use crate::readers::{Reader, line_stamp};
+use crate::sources::{FAILED, Input, clear_progress, say, say_compressed, say_unwritten};
+use crate::style::text_in;
+use crate::task::Style;
+use calendar_values::{SignedDuration, Text, UtcOffset};
+use line_counts::buckets::Buckets;
+use line_counts::counts::count;
+use line_counts::tallies::CountFault;
+use line_devices::devices::Device;
+use offset_times::{OffsetDateTime, ToOffset};
+use rfc3339::to_unix_nanos;
+use utc_times::UtcDateTime;
+
+/// The unit of buckets.
+#[derive(Clone, Copy, Debug, PartialEq, Eq)]
+pub enum Unit {
+    /// A minute.
+    Minute,
+    /// An hour.
+    Hour,
+    /// A day.
+    Day,
+}
+
+/// The buckets of lines: units of the local clock at an offset.
+#[derive(Clone, Copy, Debug)]
+pub struct Clock {
+    /// The unit.
+    pub unit: Unit,
+    /// The offset.
+    pub offset: UtcOffset,
+}
+
+/// The buckets of lines by a clock, and how their stamps are read.
+#[derive(Drop)]
+pub struct ClockBuckets {
+    /// The clock.
+    pub clock: Clock,
+    /// How stamps are read.
+    pub reader: Reader,
+}
+
+impl Buckets for ClockBuckets {
+    ghost use Rattle.stamps.specs.Buckets.{counting};
+    ghost use Rattle.stamps.specs.BucketLemmas.{line_bucket-by_head};
+
+    ghost counting = { counting };
+
+    fn bucket_of(&self, is_first: bool, line: &[u8]) -> Option<UtcDateTime> {
+        crate::counts::line_bucket(self, is_first, line)
+    }
+
+    fn next(&self, start: UtcDateTime) -> UtcDateTime {
+        crate::counts::next_bucket(&self.clock, start)
+    }
+
+    fn row_of(&self, start: UtcDateTime, count: u64) -> Text {
+        crate::counts::row_text(&self.clock, start, count)
+    }
+
+    ghost by_head = { line_bucket-by_head };
+}
+
+// The bucket of a line, if it has a stamp.
+fn line_bucket(buckets: &ClockBuckets, is_first: bool, line: &[u8]) -> Option<UtcDateTime>
+    ensures { result ≡ line_bucket buckets.now is_first line.now }
+{
+    match line_instant(&buckets.reader, is_first, line) {
+        Some(at) => bucket_of(&buckets.clock, at),
+        None => None,
+    }
+}
+
+// The instant of a line, if it has a stamp.
+#[tactic(auto, unfolding(crate::specs::LineInstants::line_instant))]
+fn line_instant(reader: &Reader, is_first: bool, line: &[u8]) -> Option<UtcDateTime>
+    ensures { result ≡ line_instant reader.now is_first line.now }
+{
+    match line_stamp(reader, None, is_first, line) {
+        Ok(stamp) => Some(stamp.instant),
+        Err(_) => None,
+    }
+}
+
+// The instant at which the unit starts that the local clock shows.
+fn bucket_of(clock: &Clock, at: UtcDateTime) -> Option<UtcDateTime>
+    ensures { result ≡ bucket_of clock.now at }
+{
+    match at.checked_to_offset(clock.offset) {
+        Some(shown) => truncate(clock.unit, shown).checked_to_utc(),
+        None => None,
+    }
+}
+
+// A date-time truncated to a unit.
+fn truncate(unit: Unit, at: OffsetDateTime) -> OffsetDateTime
+    ensures { result ≡ local_multiple_below (unit_nanos unit) at }
+{
+    match unit {
+        Unit::Minute => at.truncate_to_minute(),
+        Unit::Hour => at.truncate_to_hour(),
+        Unit::Day => at.truncate_to_day(),
+    }
+}
+
+// The bucket after a bucket.
+fn next_bucket(clock: &Clock, start: UtcDateTime) -> UtcDateTime
+    ensures { result ≡ next_bucket clock.now start }
+{
+    start.saturating_add(length_of(clock.unit))
+}
+
+// The length of a unit.
+fn length_of(unit: Unit) -> SignedDuration
+    ensures { result ≡ pos (unit_nanos unit) }
+{
+    match unit {
+        Unit::Minute => SignedDuration::minutes(1),
+        Unit::Hour => SignedDuration::hours(1),
+        Unit::Day => SignedDuration::days(1),
+    }
+}
+
+// The text of a row.
+fn row_text(clock: &Clock, start: UtcDateTime, count: u64) -> Text
+    ensures { result ≡ row_text clock.now start count }
+{
+    let mut text = start_text(clock, start);
+    text.push_bytes(b" ");
+    text.push_decimal(count);
+    text.push_bytes(b"\n");
+    text
+}
+
+// The start of a bucket at the offset, or as Unix seconds where it has no text there.
+fn start_text(clock: &Clock, start: UtcDateTime) -> Text
+    ensures value { result ≡ text_or_unix (text_in (At clock.now.offset) start) start }
+    ensures length { length result ≤ 35 }
+{
+    match text_in(&Style::At(clock.offset), start) {
+        Some(text) => text,
+        None => to_unix_nanos(start),
+    }
+}
+
+/// Counts the lines of each file, or of standard input where there are none, and returns the exit
+/// status. The words are those before the files. A heading names each of several files.
+pub fn run(
+    rt: &HostRuntime,
+    buckets: &ClockBuckets,
+    is_strict: bool,
+    words: &[String],
+    files: &[String],
+) -> u8 {
+    let names = match files.split_first() {
+        Some((dashes, rest)) if is_dashes(dashes.as_bytes()) => rest,
+        _ => files,
+    };
+    for name in names {
+        if is_compressed(name.as_bytes()) {
+            say_compressed(rt, words, name);
+            return FAILED;
+        }
+    }
+    if names.is_empty() {
+        return run_input(rt, buckets, is_strict, "-", "");
+    }
+    let mut status = 0;
+    for name in names {
+        if names.len() > 1 {
+            let printed = print_heading(rt, name);
+            if printed != 0 {
+                return printed;
+            }
+        }
+        let ended = run_input(rt, buckets, is_strict, name, name);
+        if ended != 0 {
+            status = ended;
+        }
+        if ended > 1 {
+            return ended;
+        }
+    }
+    status
+}
+
+// Counts the lines of an input, and names it as said in what it reports.
+fn run_input(
+    rt: &HostRuntime,
+    buckets: &ClockBuckets,
+    is_strict: bool,
+    name: &str,
+    said: &str,
+) -> u8 {
+    let Some(input) = Input::open(rt, name, true) else {
+        return FAILED;
+    };
+    let shows_progress = input.shows_progress();
+    let mut writer = Device::new(rt.stdout());
+    let ended = count(buckets, is_strict, &mut Device::new(input), &mut writer);
+    if shows_progress {
+        clear_progress(rt);
+    }
+    match ended {
+        Ok(None) => {}
+        Ok(Some(line)) | Err(CountFault::Back(line)) => say_line(rt, said, line, Cause::Earlier),
+        Err(CountFault::Missing(line)) => say_line(rt, said, line, Cause::NoInstant),
+        Err(CountFault::Read) => say(rt, said, "read failed"),
+        Err(CountFault::Write) => return say_unwritten(rt, said, &writer),
+    }
+    count_status(&ended)
+}
+
+// Says what is at fault with a line.
+fn say_line(rt: &HostRuntime, name: &str, line: u64, cause: Cause) {
+    say(rt, name, Finding::Line(line, cause).text().as_str());
+}
+
+/// The exit status of a count: 0 at the end of the input, 1 for a line that goes back or has no
+/// bucket, and 2 after a failed read or write.
+fn count_status(ended: &Result<Option<u64>, CountFault>) -> u8
+    ensures { result ≡ count_status ended.now }
+{
+    match ended {
+        Ok(None) => 0,
+        Ok(Some(_)) => 1,
+        Err(CountFault::Missing(_) | CountFault::Back(_)) => 1,
+        Err(CountFault::Read | CountFault::Write) => 2,
+    }
+}

@@ -1,0 +1,117 @@
+//! The merge of files by the instants of their lines.
+ghost use Rattle.std.specs.Prelude.{◌≡◌};
+ghost use Rattle.stamps.specs.MergeFaults.{merge_status};
+
+use crate::files::{is_compressed, is_dashes};
+use crate::finding::{Cause, Finding};
+use crate::instants::StampInstants;
+use crate::sources::{FAILED, Input, clear_progress, say, say_compressed, say_unwritten};
+use line_devices::devices::Device;
+use line_merges::merges::{MergeFault, add, merge};
+use std::alloc::AllocError;
+
+/// Merges the files, or writes standard input where there are none, and returns the exit status.
+/// The words are those before the files.
+pub fn run(
+    rt: &HostRuntime,
+    instants: &StampInstants,
+    is_strict: bool,
+    words: &[String],
+    files: &[String],
+) -> u8 {
+    let names = match files.split_first() {
+        Some((dashes, rest)) if is_dashes(dashes.as_bytes()) => rest,
+        _ => files,
+    };
+    for name in names {
+        if is_compressed(name.as_bytes()) {
+            say_compressed(rt, words, name);
+            return FAILED;
+        }
+    }
+    let Ok(standard) = standard_name(rt) else {
+        say(rt, "", "no memory is left");
+        return FAILED;
+    };
+    let opened = if names.is_empty() {
+        standard.as_slice()
+    } else {
+        names
+    };
+    let mut logs = Vec::new(rt.alloc());
+    let mut shows_progress = false;
+    'opens: for name in opened {
+        let Some(input) = Input::open(rt, name, !shows_progress) else {
+            return FAILED;
+        };
+        shows_progress |= input.shows_progress();
+        if add(&mut logs, Device::new(input)).is_err() {
+            say(rt, "", "no memory is left");
+            return FAILED;
+        }
+    }
+    let mut writer = Device::new(rt.stdout());
+    let ended = merge(instants, is_strict, logs.as_mut_slice(), &mut writer);
+    if shows_progress {
+        clear_progress(rt);
+    }
+    if matches!(ended, Err(MergeFault::Write)) {
+        return say_unwritten(rt, "", &writer);
+    }
+    report(rt, names, &ended);
+    let mut goes_back = false;
+    for (k, log) in logs.iter().enumerate() {
+        if let Some(line) = log.front.place.back {
+            goes_back = true;
+            say_back(rt, name_of(names, k), line);
+        }
+    }
+    merge_status(&ended, goes_back)
+}
+
+// The name of standard input, as of a file.
+fn standard_name(rt: &HostRuntime) -> Result<Vec<String>, AllocError> {
+    let mut names = Vec::new(rt.alloc());
+    names.push(format!(in rt.alloc(); "-")?)?;
+    Ok(names)
+}
+
+// Says what ended a merge.
+fn report(rt: &HostRuntime, names: &[String], ended: &Result<(), MergeFault>) {
+    match ended {
+        Ok(()) | Err(MergeFault::Write) => {}
+        Err(MergeFault::Read(log)) => say(rt, name_of(names, *log), "read failed"),
+        Err(MergeFault::Back(log, line)) => say_back(rt, name_of(names, *log), *line),
+        Err(MergeFault::Endless) => say(rt, "", "the merge has more than 2^64 - 2 lines"),
+    }
+}
+
+// The name of a file by its number.
+fn name_of(names: &[String], log: usize) -> &str {
+    match names.get(log) {
+        Some(name) => name.as_str(),
+        None => "",
+    }
+}
+
+// Says that a line of a file is earlier than the one before it.
+fn say_back(rt: &HostRuntime, name: &str, line: u64) {
+    say(
+        rt,
+        name,
+        Finding::Line(line, Cause::Earlier).text().as_str(),
+    );
+}
+
+/// The exit status of a merge: 0 at the end of all files, 1 for a line that is earlier than the one
+/// before it, whether it ends the merge or not, and 2 after a failed read or write.
+fn merge_status(ended: &Result<(), MergeFault>, goes_back: bool) -> u8
+    ensures { result ≡ merge_status ended.now goes_back }
+{
+    match ended {
+        Ok(()) if goes_back => 1,
+        Ok(()) => 0,
+        Err(MergeFault::Back(_, _)) => 1,
+        Err(MergeFault::Read(_) | MergeFault::Write | MergeFault::Endless) => 2,
+    }
+}

@@ -1,0 +1,240 @@
+//! Where lines come from: standard input or files. A large file shows its progress.
+ghost use Rattle.std.specs.Io.{ReadsAtMost};
+
+use line_devices::devices::Device;
+use std::alloc::AllocError;
+use std::fs::{File, metadata};
+use std::io;
+use std::io::{ErrorKind, IsTerminal, Read, Stdin};
+use std::time::Instant;
+
+/// The status after an error, as after a failed read or write.
+pub const FAILED: u8 = 2;
+
+/// The status after a write to a pipe that nothing reads: that of a program which the signal for it
+/// ends.
+pub const PIPE_CLOSED: u8 = 141;
+
+// A file with more bytes than these shows its progress.
+const LARGE: u64 = 100_000_000;
+
+// The most bytes of a read of the first bytes, and the most such reads.
+const BLOCK: usize = 65_536;
+
+const MOST_READS: usize = 16;
+
+// Where bytes come from.
+#[derive(Drop)]
+enum Origin {
+    Standard(Stdin),
+    Regular(File),
+}
+
+// The progress of a large file: its bytes, those that were read, and when it began and was shown.
+#[derive(Drop)]
+struct Progress {
+    size: u64,
+    done: u64,
+    start: Instant,
+    shown: Instant,
+}
+
+/// Standard input or a file.
+#[derive(Drop)]
+pub struct Input<'a> {
+    rt: &'a HostRuntime,
+    origin: Origin,
+    progress: Option<Progress>,
+    head: Vec<u8>,
+    served: usize,
+    fault: Option<io::Error>,
+}
+
+impl<'a> Input<'a> {
+    /// Opens a file, or standard input if its name is `-`. Says why where it cannot. If the input
+    /// is large and standard error is a terminal, it shows its progress there, unless it may not.
+    pub fn open(rt: &'a HostRuntime, name: &str, may_show: bool) -> Option<Input<'a>> {
+        if name == "-" {
+            return Some(Input {
+                rt,
+                origin: Origin::Standard(rt.stdin()),
+                progress: progress_of(rt, "/dev/stdin", may_show),
+                head: Vec::new(rt.alloc()),
+                served: 0,
+                fault: None,
+            });
+        }
+        match File::open(rt, name) {
+            Ok(file) => Some(Input {
+                rt,
+                origin: Origin::Regular(file),
+                progress: progress_of(rt, name, may_show),
+                head: Vec::new(rt.alloc()),
+                served: 0,
+                fault: None,
+            }),
+            Err(error) => {
+                let _ = eprintln!(rt; "stamps: {name}: {error}");
+                None
+            }
+        }
+    }
+
+    /// Reads on until a line ends, and returns the bytes that were read. Later reads return them
+    /// once more, and then the fault of a read that failed. Fails if no memory is left.
+    pub fn first_bytes(&mut self) -> Result<&[u8], AllocError> {
+        for _ in 0..MOST_READS {
+            let mut block = [0u8; BLOCK];
+            let count = match self.fetch(&mut block) {
+                Ok(count) => count,
+                Err(error) => {
+                    self.fault = Some(error);
+                    break;
+                }
+            };
+            if count == 0 || count > block.len() {
+                break;
+            }
+            let bytes = &block[..count];
+            self.head.extend_from_slice(bytes)?;
+            if bytes.contains(&b'\n') {
+                break;
+            }
+        }
+        Ok(self.head.as_slice())
+    }
+
+    // Reads from where the bytes come from.
+    fn fetch(&mut self, buffer: &mut [u8]) -> io::Result<usize>
+        ensures { ReadsAtMost result buffer.new }
+    {
+        let count = match &mut self.origin {
+            Origin::Standard(input) => input.read(buffer)?,
+            Origin::Regular(file) => file.read(buffer)?,
+        };
+        if let Some(progress) = &mut self.progress {
+            show(self.rt, progress, count);
+        }
+        Ok(count)
+    }
+
+    /// Whether it shows its progress.
+    pub fn shows_progress(&self) -> bool {
+        self.progress.is_some()
+    }
+}
+
+impl Read for Input<'_> {
+    ghost use Rattle.std.specs.Prelude.{None};
+
+    ghost remaining = { λ _. None };
+
+    fn read(&mut self, buffer: &mut [u8]) -> io::Result<usize> {
+        if self.served >= self.head.len() {
+            if let Some(error) = self.fault.take() {
+                return Err(error);
+            }
+            return self.fetch(buffer);
+        }
+        let rest = &self.head[self.served..];
+        let count = if rest.len() < buffer.len() {
+            rest.len()
+        } else {
+            buffer.len()
+        };
+        buffer[..count].copy_from_slice(&rest[..count]);
+        self.served += count;
+        Ok(count)
+    }
+}
+
+// The progress of a file, if it is to be shown.
+fn progress_of(rt: &HostRuntime, path: &str, may_show: bool) -> Option<Progress> {
+    if !may_show || !rt.stderr().is_terminal() {
+        return None;
+    }
+    let size = match metadata(rt, path) {
+        Ok(found) if found.is_file() && found.len() > LARGE => found.len(),
+        _ => return None,
+    };
+    match Instant::now(rt) {
+        Ok(start) => Some(Progress {
+            size,
+            done: 0,
+            start,
+            shown: start,
+        }),
+        Err(_) => None,
+    }
+}
+
+// Shows the progress after a read of so many bytes, once a second.
+fn show(rt: &HostRuntime, progress: &mut Progress, count: usize) {
+    progress.done = progress.done.saturating_add(count as u64);
+    let Ok(now) = Instant::now(rt) else {
+        return;
+    };
+    if now.duration_since(progress.shown).as_secs() == 0 {
+        return;
+    }
+    progress.shown = now;
+    let seconds = now.duration_since(progress.start).as_secs();
+    let (percent, rate, left) = figures(progress.size, progress.done, seconds);
+    let _ = eprint!(rt; "\rstamps: {percent} %, {rate} MB a second, {left} s left        ");
+}
+
+// The percent that are done, the megabytes a second, and the seconds that are left.
+fn figures(size: u64, done: u64, seconds: u64) -> (u64, u64, u64) {
+    let rate = done / seconds.max(1);
+    let left = size.saturating_sub(done) / rate.max(1);
+    (
+        (done / (size / 100).max(1)).min(100),
+        rate / 1_000_000,
+        left,
+    )
+}
+
+/// Removes the line that shows the progress.
+pub fn clear_progress(rt: &HostRuntime) {
+    let _ = eprint!(rt; "\r                                                                \r");
+}
+
+/// Prints a line on standard error: the name of the program, that of a file if there is one, and a
+/// text.
+pub fn say(rt: &HostRuntime, name: &str, text: &str) {
+    if name.is_empty() {
+        let _ = eprintln!(rt; "stamps: {text}");
+    } else {
+        let _ = eprintln!(rt; "stamps: {name}: {text}");
+    }
+}
+
+/// Says what reads a file that is compressed. The words are those before the files.
+pub fn say_compressed(rt: &HostRuntime, words: &[String], name: &str) {
+    let _ = eprint!(rt; "stamps: {name}: the file is compressed: use zcat {name} | stamps");
+    for word in words {
+        let _ = eprint!(rt; " {word}");
+    }
+    let _ = eprintln!(rt; " -");
+}
+
+/// Says that a write failed, unless nothing reads the output any more, and returns the exit status.
+pub fn say_unwritten<T>(rt: &HostRuntime, name: &str, writer: &Device<T>) -> u8 {
+    if writer.is_pipe_closed() {
+        return PIPE_CLOSED;
+    }
+    say(rt, name, "write failed");
+    FAILED
+}
+
+/// Prints a text and a line feed to standard output, and returns the exit status.
+pub fn print_line(rt: &HostRuntime, text: &str) -> u8 {
+    match println!(rt; "{text}") {
+        Ok(()) => 0,
+        Err(error) if error.kind() == ErrorKind::BrokenPipe => PIPE_CLOSED,
+        Err(_) => {
+            say(rt, "", "write failed");
+            FAILED
+        }
+    }
+}
