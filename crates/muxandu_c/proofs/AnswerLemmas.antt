@@ -10,7 +10,8 @@ use Rattle.calendar_values.specs.WallClock.{wall_clock}
 use Rattle.calendar_values.specs.WallClockLemmas.{wall_day-wall_clock, wall_time-wall_clock}
 use Rattle.offset_times.specs.Local.{Local, instant_of, shown_at, wall_at}
 use Rattle.muxandu_c.specs.Answers.{and_then, as_refused}
-use Rattle.muxandu_c.specs.Values.{date_value, date_time_value, date_time_parts, as_date_time, instant_if_any, local_if_any, shown, date_time_to_offset}
+use Rattle.muxandu_c.specs.Values.{date_value, date_time_value, date_time_parts, as_date_time, date_time_to_offset}
+use Rattle.muxandu_c.specs.Values.{instant_if_any, local_if_any, shown_at_offset}
 use Rattle.muxandu_c.specs.Values.{duration_value}
 use Rattle.muxandu_c.specs.declared.refused.Refused.{Refused}
 use Rattle.muxandu_c.specs.declared.values.MuxanduDateTime.{MuxanduDateTime}
@@ -52,7 +53,7 @@ date_time_to_offset-of v seconds seconds' at o o' answer made same date_time off
     let offset' = rw s at offset in
     made ∙ ap (λ (z : ℤ). as_date_time (local_if_any (shown_at (instant_of at) z) z)) same
     ∙ ap as_date_time (after (as_refused (offset_of_seconds seconds)) (λ (z : ℤ). local_if_any (shown_at (instant_of at) z) z) o offset')
-    ∙ ap as_date_time (after (date_time_value v) (λ (l : Local). shown (instant_of l) seconds) at date_time)
+    ∙ ap as_date_time (after (date_time_value v) (λ (l : Local). shown_at_offset (instant_of l) seconds) at date_time)
 
 -- a date-time moved by a duration, forward or back
 pub date_time_moved-of : (move : ℤ → ℤ → ℤ) (v parts : MuxanduDateTime) (w : MuxanduDuration) (at : Local) (d from wall seconds : ℤ)

@@ -1,5 +1,5 @@
 -- Which part of a time of day is refused, of numbers of any size.
-use Rattle.std.proofs.Common.{◌≡◌, ◌<◌, ◌≤◌, ℕ, Bool, true, false, nat_lt, Err, refl, arith}
+use Rattle.std.proofs.Common.{◌≡◌, ◌<◌, ◌≤◌, ℕ, true, false, nat_lt, Err, refl, arith}
 use Rattle.std.proofs.lemmas.Bool.Decides.{nat_tests}
 use Rattle.calendar_values.specs.Constructors.{clock_with}
 use Rattle.muxandu_c.specs.Clocks.{time_value}

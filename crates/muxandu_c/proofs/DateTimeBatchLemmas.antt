@@ -1,21 +1,20 @@
 -- The second of a date-time whose parts are in their ranges, as the single call has it.
-use Rattle.std.proofs.Common.{◌≡◌, ℕ, ◌+◌, ◌*◌, ◌<◌, ◌≤◌, ◌∙◌, ◌||◌, ◌==◌, nat_lt, Result, Ok, refl, sym, ap, arith, false, ℤ, pos, ◌+ℤ◌, ◌-ℤ◌, ◌*ℤ◌}
+use Rattle.std.proofs.Common.{◌≡◌, ℕ, ◌<◌, ◌≤◌, ◌||◌, ◌==◌, nat_lt, Result, Ok, refl, sym, ap, arith, false, ℤ, pos, ◌+ℤ◌, ◌-ℤ◌, ◌*ℤ◌}
 use Rattle.std.proofs.Common.{◌≤ℤ◌, ◌<ℤ◌, neg_ℤ, w64, to_z, of_z}
-use Rattle.std.specs.Prelude.{codes}
 use Rattle.std.proofs.lemmas.Bool.Decides.{nat_tests}
 use Rattle.calendar_values.specs.SignedArith.{signed_arith}
-use Rattle.calendar_values.specs.Calendar.{is_leap_year, days_in_month, days_before_month, year_start, day_of_calendar_date, IsCalendarDate}
+use Rattle.calendar_values.specs.Calendar.{is_leap_year, days_in_month, day_of_calendar_date, IsCalendarDate}
 use Rattle.calendar_values.specs.CalendarDateLemmas.{IsOrdinalDate-date}
 use Rattle.calendar_values.specs.Clock.{clock_of_parts}
 use Rattle.calendar_values.specs.Constructors.{calendar_date, clock_with, clock_time_nano}
 use Rattle.calendar_values.specs.Offsets.{IsOffset}
-use Rattle.calendar_values.specs.Range.{first_year, last_year, first_day, last_day, is_outside}
+use Rattle.calendar_values.specs.Range.{first_year, last_year, first_day, last_day}
 use Rattle.calendar_values.specs.WallClock.{wall_clock, first_wall_clock, last_wall_clock, unix_seconds_of}
 use Rattle.calendar_values.specs.YearLemmas.{year_start-next, year_start-later, year_start-first, year_start-after_last}
 use Rattle.offset_times.specs.Local.{instant_of, wall_at}
 use Rattle.lanes.specs.Seconds.{IsInside, second_of, clock_second}
 use Rattle.muxandu_c.specs.DateTimeBatches.{lane_of_date_time}
-use Rattle.muxandu_c.specs.Values.{second_of_date_time, date_value, month_value, instant_if_any}
+use Rattle.muxandu_c.specs.Values.{second_of_date_time, date_value, instant_if_any}
 use Rattle.muxandu_c.specs.declared.refused.Refused.{Refused}
 use Rattle.muxandu_c.specs.declared.values.MuxanduDateTime.{MuxanduDateTime}
 use Rattle.muxandu_c.proofs.SecondBatchLemmas.{inside, offset-inside}

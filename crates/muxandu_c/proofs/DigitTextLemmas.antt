@@ -1,5 +1,5 @@
 -- A fraction has nine digits where more are asked for.
-use Rattle.std.proofs.Common.{◌≡◌, ◌≤◌, ◌∙◌, ◌==◌, ◌||◌, ◌++◌, ℕ, Bool, true, false, List, [], Result, Ok, Err, codes, take, length, refl, sym, ap, arith}
+use Rattle.std.proofs.Common.{◌≡◌, ◌≤◌, ◌==◌, ◌||◌, ℕ, false, List, Ok, Err, take, refl, ap, arith}
 use Rattle.std.specs.Prelude.{if◌then◌else◌}
 use Rattle.std.proofs.lemmas.Bool.Decides.{nat_tests}
 use Rattle.std.proofs.lemmas.List.{take_all}
@@ -12,7 +12,6 @@ use Rattle.rfc3339.specs.Form.{spelling}
 use Rattle.rfc3339.specs.Texts.{fraction_of_digits, digits_text, parts_of, time_offset_text}
 use Rattle.muxandu_c.specs.DigitTexts.{rfc3339_of_digits}
 use Rattle.muxandu_c.specs.Exchange.{year_has_no_text, offset_has_no_text}
-use Rattle.muxandu_c.specs.declared.refused.Refused.{Refused}
 use Rattle.muxandu_c.specs.declared.refused.Refused.TheVariants as refused
 
 -- nine digits are all that there are

@@ -1,14 +1,14 @@
 -- The values and the statuses of each item: one more item, and the end of the items.
 use Rattle.std.proofs.Common.{◌≡◌, ℕ, ◌+◌, ◌<◌, ◌≤◌, List, [], ◌∷◌, ◌++◌, length, take, drop, get_or, set, Result, refl, sym, ap, ◌∙◌, arith}
 use Rattle.std.proofs.lemmas.List.{drop_more, drop_all, take_more_set, append-nil, append_assoc, take-append-drop, drop-set-lt}
-use Rattle.muxandu_c.specs.Answers.{status_of, written}
-use Rattle.muxandu_c.specs.EachBatches.{written_each, status_of_each, counted, count_of_values}
+use Rattle.muxandu_c.specs.Answers.{status_of, value_or}
+use Rattle.muxandu_c.specs.EachBatches.{written_each, status_of_each, count_of, count_of_values}
 use Rattle.muxandu_c.specs.declared.refused.Refused.{Refused}
 
 -- one more item: what it leaves in its place, its status, and whether it is counted
 pub written_each-more : {A B : Type 0} (f : A → Result B Refused) (items : List A) (k : ℕ) (d x : A) (out : List B) (e place value : B)
     (answer : Result B Refused) (all : List B) → k < length items → k < length out → x ≡ get_or items k d → answer ≡ f x → place ≡ get_or out k e
-    → value ≡ written answer place → take k out ++ written_each f (drop k items) (drop k out) ≡ all
+    → value ≡ value_or answer place → take k out ++ written_each f (drop k items) (drop k out) ≡ all
     → take (k + 1) (set out k value) ++ written_each f (drop (k + 1) items) (drop (k + 1) (set out k value)) ≡ all
 written_each-more f items k d x out e place value answer all low room item converted there made before =
     let moved : take (k + 1) (set out k value) ++ written_each f (drop (k + 1) items) (drop (k + 1) (set out k value))
@@ -34,7 +34,7 @@ status_of_each-more f items k d x statuses status answer all low room item conve
     moved ∙ before
 
 pub count_of_values-more : {A B : Type 0} (f : A → Result B Refused) (items : List A) (k : ℕ) (d x : A) (count one all : ℕ) (answer : Result B Refused)
-    → k < length items → x ≡ get_or items k d → answer ≡ f x → one ≡ counted answer → count + count_of_values f (drop k items) ≡ all
+    → k < length items → x ≡ get_or items k d → answer ≡ f x → one ≡ count_of answer → count + count_of_values f (drop k items) ≡ all
     → (count + one) + count_of_values f (drop (k + 1) items) ≡ all
 count_of_values-more f items k d x count one all answer low item converted made before =
     let here : count_of_values f (drop k items) ≡ one + count_of_values f (drop (k + 1) items) =

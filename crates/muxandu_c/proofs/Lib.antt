@@ -5,13 +5,20 @@ mod CarriedDurationLemmas
 mod ClockLemmas
 pub mod DateTimeBatchLemmas
 mod DayDigitLemmas
+pub mod DescriptionLemmas
 mod DigitTextLemmas
 mod EachBatchLemmas
+mod EachTextLemmas
+mod FieldSpanLemmas
 mod FrontTextLemmas
+mod FullTimeLemmas
+mod LocalTextLemmas
 mod MonthReplacedLemmas
 mod OrderLemmas
+mod PairBatchLemmas
 mod SecondBatchLemmas
 mod StatusTextLemmas
+mod StorageLemmas
 mod TextBatchLemmas
 mod TextBlockLemmas
 mod UnitLemmas

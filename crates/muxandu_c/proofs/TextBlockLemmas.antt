@@ -100,7 +100,7 @@ with_text start text block = take start block ++ (text ++ drop (length text) (dr
 length-before : (start : ℕ) (text block : List ℕ) → start ≤ length block → length (take start block ++ text) ≡ start + length text
 length-before start text block low = omega (arith, length-append (take start block) text, length-take-le start block low)
 
-take-with_text : (start : ℕ) (text block : List ℕ) → start ≤ length block
+pub take-with_text : (start : ℕ) (text block : List ℕ) → start ≤ length block
     → take (start + length text) (with_text start text block) ≡ take start block ++ text
 take-with_text start text block low =
     ap (take (start + length text)) (sym (append_assoc (take start block) text (drop (length text) (drop start block))))

@@ -1,4 +1,4 @@
--- Dates so many days or months later.
+-- Dates that are a number of days or months later.
 use Rattle.std.specs.Prelude.{ℕ, ◌+◌, ℤ, pos, ◌+ℤ◌, ◌-ℤ◌, ◌*ℤ◌, unsigned_abs, min, Result, Ok, Err, if◌then◌else◌}
 use Rattle.std.specs.Int.{int_div_euclid, int_rem_euclid}
 use Rattle.calendar_values.specs.Range.{is_outside, first_year, last_year}
@@ -8,7 +8,7 @@ use Rattle.muxandu_c.specs.declared.refused.Refused.{Refused}
 use Rattle.muxandu_c.specs.declared.refused.Refused.TheVariants as refused
 use Rattle.muxandu_c.specs.declared.values.MuxanduDate.{MuxanduDate}
 
--- the date so many days later
+-- the date that is a number of days later
 abbrev pub date_add_days : MuxanduDate → ℤ → Result MuxanduDate Refused
 date_add_days v days = and_then (day_from_date v) (λ n. and_then (day_if_any (n +ℤ days)) (λ m. Ok (date_parts m)))
 
@@ -16,7 +16,7 @@ date_add_days v days = and_then (day_from_date v) (λ n. and_then (day_if_any (n
 abbrev pub month_index : ℤ → ℕ → ℤ
 month_index y m = y *ℤ pos 12 +ℤ pos m -ℤ pos 1
 
--- the year of a month that is so many months from January of the year 0, and its number
+-- the year of a month, and its number, by the number of months from January of the year 0 to it
 abbrev pub year_of_index : ℤ → ℤ
 year_of_index index = int_div_euclid index (pos 12)
 
@@ -31,11 +31,11 @@ year_if_any y = if is_outside first_year last_year y then Err refused.Result els
 abbrev pub day_or_last : ℤ → ℕ → ℕ → Result MuxanduDate Refused
 day_or_last y m d = and_then (length_of_month y m) (λ length. Ok (record { year = y; month = m; day = min d length }))
 
--- the same of the month that is so many months from January of the year 0, if the range has its year
+-- the same of the month after a number of months from January of the year 0, if the range has its year
 abbrev pub in_month : ℤ → ℕ → Result MuxanduDate Refused
 in_month index d = and_then (year_if_any (year_of_index index)) (λ y. day_or_last y (month_of_index index) d)
 
--- the same day of the month so many months later
+-- the same day of the month, a number of months later
 abbrev pub months_later : MuxanduDate → ℤ → Result MuxanduDate Refused
 months_later v months = in_month (month_index v.year v.month +ℤ months) v.day
 

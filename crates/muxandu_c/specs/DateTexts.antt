@@ -17,6 +17,6 @@ full_date_of n = if is_outside (pos 0) (pos 9_999) (year_of n) then Err refused.
 abbrev pub date_to_rfc3339 : MuxanduDate → Result (List ℕ) Refused
 date_to_rfc3339 v = and_then (day_from_date v) full_date_of
 
--- what the numbers of a text mean
+-- the date of the numbers of a text, or the error
 abbrev pub date_spelled : ℕ → ℕ → ℕ → Result MuxanduDate Refused
 date_spelled year month day = and_then (text_as_refused day (full_date_meaning year month day)) (λ n. Ok (date_parts n))

@@ -1,4 +1,4 @@
--- Texts of RFC 3339 of so many digits.
+-- Texts of RFC 3339 with a number of digits of the fraction.
 use Rattle.std.specs.Prelude.{ℕ, ◌||◌, List, Result, Ok, Err, if◌then◌else◌}
 use Rattle.offset_times.specs.Local.{Local}
 use Rattle.rfc3339.specs.Texts.{digits_text}
@@ -9,7 +9,7 @@ use Rattle.muxandu_c.specs.declared.refused.Refused.{Refused}
 use Rattle.muxandu_c.specs.declared.refused.Refused.TheVariants as refused
 use Rattle.muxandu_c.specs.declared.values.MuxanduDateTime.{MuxanduDateTime}
 
--- the text of so many digits, if there is one
+-- the text with this number of digits, if there is one
 abbrev pub rfc3339_of_digits : ℕ → Local → Result (List ℕ) Refused
 rfc3339_of_digits digits at = if year_has_no_text at.wall || offset_has_no_text at.offset then Err refused.NoText else Ok (digits_text digits at)
 

@@ -17,7 +17,7 @@ use Rattle.muxandu_c.specs.declared.values.MuxanduDateTime.{MuxanduDateTime}
 use Rattle.muxandu_c.specs.declared.values.MuxanduSpan.{MuxanduSpan}
 use Rattle.muxandu_c.specs.declared.values.MuxanduTimestamp.{MuxanduTimestamp}
 
--- the year that is shown has not four digits
+-- the year of a wall clock does not have four digits
 abbrev pub year_has_no_text : ℤ → Bool
 year_has_no_text wall = is_outside (pos 0) (pos 9_999) (year_of (wall_day wall))
 
@@ -43,23 +43,23 @@ timestamp_to_rfc3339 v = and_then (timestamp_value v) (λ i. rfc3339_of (local_i
 abbrev pub timestamp_to_rfc3339_nanos : MuxanduTimestamp → Result (List ℕ) Refused
 timestamp_to_rfc3339_nanos v = and_then (timestamp_value v) fixed_rfc3339_of
 
--- what the numbers of a text mean
+-- the meaning of the numbers of a text, or the error
 abbrev pub read_parts : Parts → Result Local Refused
 read_parts p = text_as_refused p.day (meaning p)
 
--- as a date-time, and as an instant
+-- the same as a date-time, and as an instant
 abbrev pub date_time_spelled : Parts → Result MuxanduDateTime Refused
 date_time_spelled p = as_date_time (read_parts p)
 
 abbrev pub timestamp_spelled : Parts → Result MuxanduTimestamp Refused
 timestamp_spelled p = and_then (read_parts p) (λ at. Ok (timestamp_parts (instant_of at)))
 
--- the answer to a text: what its numbers mean, or that it has not the form
+-- the result for a text: the meaning of its numbers, or a syntax error if it does not have the form
 pub record IsRead (text : List ℕ) (answer : Result MuxanduTimestamp Refused) : Type 0 where
   pub spelled : (p : Parts) → IsDateTime text p → answer ≡ timestamp_spelled p
   pub syntax : ((p : Parts) × IsDateTime text p) ⊎ (answer ≡ Err refused.Syntax)
 
--- the answer to a span of a block: to its text, or that it does not lie there
+-- the result for a span of a block: that for its text, or an error if the span ends after the block
 abbrev pub IsReadAt : List ℕ → MuxanduSpan → Result MuxanduTimestamp Refused → Type 0
 IsReadAt block span answer =
     ((length block < span.start + span.length) × (answer ≡ Err refused.Span))

@@ -10,7 +10,7 @@ use Rattle.muxandu_c.specs.declared.refused.Refused.{Refused}
 use Rattle.muxandu_c.specs.declared.refused.Refused.TheVariants as refused
 use Rattle.muxandu_c.specs.declared.values.MuxanduDateTime.{MuxanduDateTime}
 
--- what the numbers in front mean, and how many bytes spell them
+-- the meaning of the numbers in front, and the number of bytes that spell them
 abbrev pub front_spelled : List ℕ → Option (Parts × List ℕ) → Result (MuxanduDateTime × ℕ) Refused
 front_spelled text None = Err refused.Syntax
 front_spelled text (Some (p, rest)) = and_then (date_time_spelled p) (λ v. Ok (v, length text - length rest))
@@ -19,11 +19,11 @@ front_spelled text (Some (p, rest)) = and_then (date_time_spelled p) (λ v. Ok (
 unfoldable pub date_time_front : List ℕ → Result (MuxanduDateTime × ℕ) Refused
 date_time_front text = front_spelled text (front_at text)
 
--- what the numbers of a text mean whose second may be 60, and whether it is
+-- the meaning of the numbers of a text whose second may be 60, and whether it is 60
 abbrev pub leap_spelled : Parts → Result (MuxanduDateTime × Bool) Refused
 leap_spelled p = and_then (text_as_refused p.day (leap_meaning p)) (λ read. Ok (date_time_parts read.0, read.1))
 
--- the first and the second of a pair, if an answer has one
+-- the first and the second of a pair, if a result has one
 abbrev pub first_of : {A B : Type 0} → Result (A × B) Refused → Result A Refused
 first_of answer = and_then answer (λ pair. Ok pair.0)
 

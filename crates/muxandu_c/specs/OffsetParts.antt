@@ -7,14 +7,14 @@ use Rattle.muxandu_c.specs.declared.offsets.MuxanduOffset.{MuxanduOffset}
 use Rattle.muxandu_c.specs.declared.refused.Refused.{Refused}
 use Rattle.muxandu_c.specs.declared.refused.Refused.TheVariants as refused
 
--- a refused part of an offset, as a caller sees it
+-- the error of a part of an offset, as a caller sees it
 abbrev pub refused_offset_part : Refusal → Refused
 refused_offset_part r =
     if is_named r (codes "hours") then refused.OffsetHour
     else (if is_named r (codes "minutes") then refused.OffsetMinute
     else refused.OffsetSeconds)
 
--- an answer of the library to parts of an offset, with its refusal as a caller sees it
+-- the result of the library for parts of an offset, with its error as a caller sees it
 abbrev pub offset_as_refused : Result ℤ Refusal → Result ℤ Refused
 offset_as_refused (Ok o) = Ok o
 offset_as_refused (Err refusal) = Err (refused_offset_part refusal)

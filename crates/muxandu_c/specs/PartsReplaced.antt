@@ -31,26 +31,26 @@ abbrev pub unsigned_part : ℤ → ℕ → Refused → Result ℕ Refused
 unsigned_part value limit refusal = if is_outside (pos 0) (pos limit) value then Err refusal else Ok (unsigned_abs value)
 
 -- a wall clock with a part replaced
-abbrev pub replaced : ℤ → Part → ℤ → Result ℤ Refused
-replaced w part.Year value = as_refused (wall_year_outcome w value).answer
-replaced w part.Month value =
+abbrev pub with_part : ℤ → Part → ℤ → Result ℤ Refused
+with_part w part.Year value = as_refused (wall_year_outcome w value).answer
+with_part w part.Month value =
     and_then (unsigned_part value 12 refused.Month) (λ n. and_then (month_value n) (λ m. as_refused (wall_month_outcome w m).answer))
-replaced w part.Day value = and_then (unsigned_part value 31 refused.Day) (λ d. as_refused (wall_day_outcome w d).answer)
-replaced w part.Ordinal value = and_then (unsigned_part value 366 refused.Ordinal) (λ o. as_refused (wall_ordinal_outcome w o).answer)
-replaced w part.Hour value = and_then (unsigned_part value 23 refused.Hour) (λ h. as_refused (wall_hour_outcome w h).answer)
-replaced w part.Minute value = and_then (unsigned_part value 59 refused.Minute) (λ m. as_refused (wall_minute_outcome w m).answer)
-replaced w part.Second value = and_then (unsigned_part value 59 refused.Second) (λ s. as_refused (wall_second_outcome w s).answer)
-replaced w part.Nanosecond value =
+with_part w part.Day value = and_then (unsigned_part value 31 refused.Day) (λ d. as_refused (wall_day_outcome w d).answer)
+with_part w part.Ordinal value = and_then (unsigned_part value 366 refused.Ordinal) (λ o. as_refused (wall_ordinal_outcome w o).answer)
+with_part w part.Hour value = and_then (unsigned_part value 23 refused.Hour) (λ h. as_refused (wall_hour_outcome w h).answer)
+with_part w part.Minute value = and_then (unsigned_part value 59 refused.Minute) (λ m. as_refused (wall_minute_outcome w m).answer)
+with_part w part.Second value = and_then (unsigned_part value 59 refused.Second) (λ s. as_refused (wall_second_outcome w s).answer)
+with_part w part.Nanosecond value =
     and_then (unsigned_part value 999_999_999 refused.Nanosecond) (λ n. as_refused (wall_nanosecond_outcome w n).answer)
 
--- a date-time with a part of what its clocks show replaced
+-- a date-time with a part of its wall clock replaced
 abbrev pub date_time_replace : MuxanduDateTime → ℕ → ℤ → Result MuxanduDateTime Refused
 date_time_replace v number value =
     as_date_time (and_then (date_time_value v) (λ at.
     and_then (part_numbered number) (λ p.
-    and_then (replaced at.wall p value) (λ w. Ok (at_offset_of at w)))))
+    and_then (with_part at.wall p value) (λ w. Ok (at_offset_of at w)))))
 
--- an instant with a part of what clocks in UTC show replaced
+-- an instant with a part of its wall clock in UTC replaced
 abbrev pub timestamp_replace : MuxanduTimestamp → ℕ → ℤ → Result MuxanduTimestamp Refused
 timestamp_replace v number value =
-    as_timestamp (and_then (timestamp_value v) (λ i. and_then (part_numbered number) (λ p. replaced i p value)))
+    as_timestamp (and_then (timestamp_value v) (λ i. and_then (part_numbered number) (λ p. with_part i p value)))

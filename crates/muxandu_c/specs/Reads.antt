@@ -1,4 +1,4 @@
--- All that a date shows, and the date of a Julian day.
+-- All reads of a date, and the date of a Julian day.
 use Rattle.std.specs.Prelude.{ℤ, Result, Ok}
 use Rattle.calendar_values.specs.Calendar.{ordinal_of, julian_day_of}
 use Rattle.calendar_values.specs.Constructors.{julian_date}
@@ -9,7 +9,7 @@ use Rattle.muxandu_c.specs.declared.refused.Refused.{Refused}
 use Rattle.muxandu_c.specs.declared.reads.MuxanduDateReads.{MuxanduDateReads}
 use Rattle.muxandu_c.specs.declared.values.MuxanduDate.{MuxanduDate}
 
--- what a day shows
+-- the reads of a day
 abbrev pub reads_of : ℤ → MuxanduDateReads
 reads_of n = record {
   day = n;
@@ -22,7 +22,7 @@ reads_of n = record {
   monday_based_week = monday_week_of n;
 }
 
--- what a date shows
+-- the reads of a date
 abbrev pub date_reads : MuxanduDate → Result MuxanduDateReads Refused
 date_reads v = and_then (day_from_date v) (λ n. Ok (reads_of n))
 

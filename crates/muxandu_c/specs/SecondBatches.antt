@@ -17,10 +17,10 @@ date_time_of_lane at = record {
   offset_seconds = at.offset_seconds;
 }
 
--- what clocks at an offset show at a second that they count from 1970
+-- the date-time that clocks at an offset show at a second that they count from 1970
 abbrev pub date_time_at_offset : ℤ → ℤ → MuxanduDateTime
 date_time_at_offset offset_seconds w = date_time_of_lane (date_time_of offset_seconds w)
 
--- four values, put from a place on
+-- the list with four values from a place on
 abbrev pub with_four : {B : Type 0} → List B → ℕ → B → B → B → B → List B
 with_four out place a b c d = slice_set (slice_set (slice_set (slice_set out place a) (place + 1) b) (place + 2) c) (place + 3) d

@@ -1,4 +1,4 @@
--- What the statuses are called, and what they say.
+-- The names and the texts of the statuses.
 use Rattle.std.specs.Prelude.{ℕ, ◌==◌, ◌&&◌, Bool, nat_lt, List, Option, Some, None, codes, if◌then◌else◌}
 use Rattle.std.specs.List.{list_all}
 use Rattle.muxandu_c.specs.declared.refused.Refused.{Refused}
@@ -8,7 +8,7 @@ use Rattle.muxandu_c.specs.declared.refused.Refused.TheVariants as refused
 abbrev pub is_plain : List ℕ → Bool
 is_plain text = list_all (λ c. nat_lt 31 c && nat_lt c 127) text
 
--- the refusal of a status
+-- the error of a status
 abbrev pub refused_numbered : ℕ → Option Refused
 refused_numbered number =
     if number == 1 then Some refused.Year
@@ -38,7 +38,7 @@ refused_numbered number =
     else (if number == 25 then Some refused.NoText
     else None))))))))))))))))))))))))
 
--- the name of a refusal
+-- the name of an error
 abbrev pub refused_name : Refused → List ℕ
 refused_name refused.Year = codes "YEAR"
 refused_name refused.Month = codes "MONTH"
@@ -66,7 +66,7 @@ refused_name refused.OffsetHour = codes "OFFSET_HOUR"
 refused_name refused.OffsetMinute = codes "OFFSET_MINUTE"
 refused_name refused.NoText = codes "NO_TEXT"
 
--- what is refused, in words
+-- the text of an error
 abbrev pub refused_words : Refused → List ℕ
 refused_words refused.Year = codes "A year before -999999 or after 999999."
 refused_words refused.Month = codes "A month that is not 1 to 12."
@@ -85,16 +85,16 @@ refused_words refused.OffsetSeconds = codes "An offset that is not -93599 to 935
 refused_words refused.Timestamp = codes "A Unix second, or a count of another unit from 1970-01-01, outside the range of timestamps."
 refused_words refused.DayNumber = codes "A day number that is not -365961662 to 364522971, or a Julian day outside the range of dates."
 refused_words refused.Duration = codes "A duration whose whole seconds do not fit in 64 bits."
-refused_words refused.Unit = codes "A number that is not a unit, or not a part of a date-time."
+refused_words refused.Unit = codes "A number that is not a unit, not a part of a date-time, or not a kind, a version or an item of a format description."
 refused_words refused.Result = codes "A result that is outside the range, or that its type cannot hold."
 refused_words refused.Buffer = codes "A buffer that is too short for what the call writes."
 refused_words refused.Span = codes "A span that does not lie in the block of texts."
 refused_words refused.Syntax = codes "A text that does not have the form that the call reads, such as a date-time of RFC 3339."
 refused_words refused.OffsetHour = codes "Hours of an offset that are out of range: above 23 in a text of RFC 3339, not -25 to 25 elsewhere."
 refused_words refused.OffsetMinute = codes "Minutes of an offset that are not -59 to 59."
-refused_words refused.NoText = codes "A value that has no text in RFC 3339: a year outside 0 to 9999, or an offset with seconds or beyond 23:59."
+refused_words refused.NoText = codes "A value that has no such text, as in RFC 3339 a year outside 0 to 9999, or an offset with seconds or beyond 23:59."
 
--- of an answer that may be none
+-- the name and the text of an error, if there is one
 abbrev pub name_of_numbered : Option Refused → List ℕ
 name_of_numbered (Some it) = refused_name it
 name_of_numbered None = codes "UNKNOWN"
@@ -107,6 +107,6 @@ words_of_numbered None = codes "A number that is no status of this version."
 abbrev pub status_name : ℕ → List ℕ
 status_name number = if number == 0 then codes "OK" else name_of_numbered (refused_numbered number)
 
--- what a status says
+-- the text of a status
 abbrev pub status_words : ℕ → List ℕ
 status_words number = if number == 0 then codes "Nothing is refused." else words_of_numbered (refused_numbered number)

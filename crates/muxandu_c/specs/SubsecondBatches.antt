@@ -7,7 +7,7 @@ use Rattle.muxandu_c.specs.Values.{timestamp_to_milliseconds, timestamp_to_micro
 use Rattle.muxandu_c.specs.declared.refused.Refused.{Refused}
 use Rattle.muxandu_c.specs.declared.values.MuxanduDateTime.{MuxanduDateTime}
 
--- what clocks at an offset show at so many milliseconds, microseconds and nanoseconds
+-- the date-time that clocks at an offset show at a number of milliseconds, of microseconds or of nanoseconds
 abbrev pub date_time_of_milliseconds : ℤ → ℤ → Result MuxanduDateTime Refused
 date_time_of_milliseconds offset_seconds count =
     and_then (timestamp_from_milliseconds count) (λ at. date_time_from_timestamp at offset_seconds)

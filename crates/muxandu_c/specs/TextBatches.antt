@@ -8,7 +8,7 @@ use Rattle.muxandu_c.specs.declared.refused.Refused.TheVariants as refused
 use Rattle.muxandu_c.specs.declared.values.MuxanduDateTime.{MuxanduDateTime}
 use Rattle.muxandu_c.specs.declared.values.MuxanduSpan.{MuxanduSpan}
 
--- what the numbers of a text mean, if there are any
+-- the meaning of the numbers of a text, or a syntax error if there are none
 abbrev pub date_time_if_any : Option Parts → Result MuxanduDateTime Refused
 date_time_if_any None = Err refused.Syntax
 date_time_if_any (Some p) = date_time_spelled p
@@ -17,7 +17,7 @@ date_time_if_any (Some p) = date_time_spelled p
 abbrev pub date_time_read : List ℕ → Result MuxanduDateTime Refused
 date_time_read text = date_time_if_any (parts_at text)
 
--- the date-time of the text that lies at a span of a block
+-- the date-time of the text at a span of a block
 abbrev pub date_time_at : List ℕ → MuxanduSpan → Result MuxanduDateTime Refused
 date_time_at block span =
     if nat_lt (length block) (span.start + span.length) then Err refused.Span

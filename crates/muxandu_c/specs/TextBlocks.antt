@@ -1,4 +1,4 @@
--- Many texts written into one block, one behind the other, and where each lies.
+-- Many texts written into one block, one after the other, and the span of each.
 use Rattle.std.specs.Prelude.{ℕ, ◌+◌, List, [], ◌∷◌, length, drop, nat_lt, Result, Ok, Err, if◌then◌else◌}
 use Rattle.muxandu_c.specs.Answers.{status_number, text_if_room}
 use Rattle.muxandu_c.specs.Batches.{value_before, status_before, with_room}
@@ -8,24 +8,25 @@ use Rattle.muxandu_c.specs.declared.refused.Refused.TheVariants as refused
 use Rattle.muxandu_c.specs.declared.values.MuxanduDateTime.{MuxanduDateTime}
 use Rattle.muxandu_c.specs.declared.values.MuxanduSpan.{MuxanduSpan}
 
--- how many bytes an answer takes
+-- the number of bytes that a result takes
 abbrev pub bytes_taken : Result (List ℕ) Refused → ℕ
 bytes_taken (Ok text) = length text
 bytes_taken (Err refusal) = 0
 
--- the texts of items, each into what those before it leave of a block, up to the first that is refused or too long for that
+-- the texts of items, each written into the rest of a block after those before it
+-- they end before the first that fails, or that is too long for the rest
 abbrev pub texts_of : {A : Type 0} → (A → Result (List ℕ) Refused) → List ℕ → List A → List (List ℕ)
 texts_of f block [] = []
 texts_of f block (x ∷ xs) =
     let text = text_if_room (f x) block in value_before text (texts_of f (drop (bytes_taken text) block) xs)
 
--- what the first is refused by, or 0
+-- the status of the first error, or 0
 abbrev pub status_of_texts : {A : Type 0} → (A → Result (List ℕ) Refused) → List ℕ → List A → ℕ
 status_of_texts f block [] = 0
 status_of_texts f block (x ∷ xs) =
     let text = text_if_room (f x) block in status_before text (status_of_texts f (drop (bytes_taken text) block) xs)
 
--- where texts lie that stand one behind the other, from a place on
+-- the spans of texts that follow one another, from a place on
 abbrev pub spans_of : ℕ → List (List ℕ) → List MuxanduSpan
 spans_of start [] = []
 spans_of start (text ∷ texts) = (record { start = start; length = length text }) ∷ spans_of (start + length text) texts

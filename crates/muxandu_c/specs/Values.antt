@@ -30,7 +30,7 @@ use Rattle.muxandu_c.specs.declared.values.MuxanduDuration.{MuxanduDuration}
 use Rattle.muxandu_c.specs.declared.values.MuxanduDate.{MuxanduDate}
 use Rattle.muxandu_c.specs.declared.values.MuxanduOrdinalDate.{MuxanduOrdinalDate}
 
--- the number of a month, or its refusal
+-- the number of a month, or the error
 abbrev pub month_value : ℕ → Result ℕ Refused
 month_value m = if m == 0 || nat_lt 12 m then Err refused.Month else Ok m
 
@@ -38,7 +38,7 @@ month_value m = if m == 0 || nat_lt 12 m then Err refused.Month else Ok m
 abbrev pub date_value : ℤ → ℕ → ℕ → Result ℤ Refused
 date_value y m d = and_then (month_value m) (λ month. as_refused (calendar_date y month d))
 
--- the date-time of its parts, or the first part that is out of its range
+-- the date-time of its parts, or the first part that is out of range
 abbrev pub date_time_value : MuxanduDateTime → Result Local Refused
 date_time_value v =
     and_then (date_value v.year v.month v.day) (λ n.
@@ -84,13 +84,13 @@ instant_if_any i = if is_outside first_wall_clock last_wall_clock i then Err ref
 abbrev pub local_if_any : ℤ → ℤ → Result Local Refused
 local_if_any wall o = and_then (instant_if_any wall) (λ shown. Ok (wall_at shown o))
 
--- what clocks at an offset show at an instant, if the range has it
-abbrev pub shown : ℤ → ℤ → Result Local Refused
-shown i offset_seconds =
+-- the date-time that clocks at an offset show at an instant, if the range has it
+abbrev pub shown_at_offset : ℤ → ℤ → Result Local Refused
+shown_at_offset i offset_seconds =
     and_then (as_refused (offset_of_seconds offset_seconds)) (λ o.
     local_if_any (shown_at i o) o)
 
--- the parts of an instant, of a duration and of a date-time, if an answer has one
+-- the parts of an instant, of a duration and of a date-time, if a result has one
 abbrev pub as_timestamp : Result ℤ Refused → Result MuxanduTimestamp Refused
 as_timestamp answer = and_then answer (λ i. Ok (timestamp_parts i))
 
@@ -100,10 +100,10 @@ as_duration answer = and_then answer (λ d. Ok (duration_parts d))
 abbrev pub as_date_time : Result Local Refused → Result MuxanduDateTime Refused
 as_date_time answer = and_then answer (λ at. Ok (date_time_parts at))
 
--- the parts of what clocks at an offset show at an instant
+-- the parts of the date-time that clocks at an offset show at an instant
 abbrev pub date_time_from_timestamp : MuxanduTimestamp → ℤ → Result MuxanduDateTime Refused
 date_time_from_timestamp v offset_seconds =
-    as_date_time (and_then (timestamp_value v) (λ i. shown i offset_seconds))
+    as_date_time (and_then (timestamp_value v) (λ i. shown_at_offset i offset_seconds))
 
 -- the instant of a date-time, if the range has it
 abbrev pub date_time_instant : MuxanduDateTime → Result ℤ Refused
@@ -115,9 +115,9 @@ timestamp_from_date_time v = as_timestamp (date_time_instant v)
 -- the same instant at another offset
 abbrev pub date_time_to_offset : MuxanduDateTime → ℤ → Result MuxanduDateTime Refused
 date_time_to_offset v offset_seconds =
-    as_date_time (and_then (date_time_value v) (λ at. shown (instant_of at) offset_seconds))
+    as_date_time (and_then (date_time_value v) (λ at. shown_at_offset (instant_of at) offset_seconds))
 
--- a timestamp and a duration added, if the range has the sum, or brought into the range
+-- the sum of a timestamp and a duration, if the range has it, and the sum clamped to the range
 abbrev pub timestamp_add : MuxanduTimestamp → MuxanduDuration → Result MuxanduTimestamp Refused
 timestamp_add v w =
     as_timestamp (and_then (timestamp_value v) (λ i. and_then (duration_value w) (λ d. instant_if_any (i +ℤ d))))
@@ -126,7 +126,7 @@ abbrev pub timestamp_saturating_add : MuxanduTimestamp → MuxanduDuration → R
 timestamp_saturating_add v w =
     as_timestamp (and_then (timestamp_value v) (λ i. and_then (duration_value w) (λ d. Ok (nearest_wall_clock (i +ℤ d)))))
 
--- a timestamp less a duration, if the range has it, or brought into the range
+-- the difference of a timestamp and a duration, if the range has it, and the difference clamped to the range
 abbrev pub timestamp_subtract : MuxanduTimestamp → MuxanduDuration → Result MuxanduTimestamp Refused
 timestamp_subtract v w =
     as_timestamp (and_then (timestamp_value v) (λ i. and_then (duration_value w) (λ d. instant_if_any (i -ℤ d))))
@@ -135,7 +135,7 @@ abbrev pub timestamp_saturating_subtract : MuxanduTimestamp → MuxanduDuration 
 timestamp_saturating_subtract v w =
     as_timestamp (and_then (timestamp_value v) (λ i. and_then (duration_value w) (λ d. Ok (nearest_wall_clock (i -ℤ d)))))
 
--- from the second timestamp to the first
+-- the duration from the second timestamp to the first
 abbrev pub timestamp_difference : MuxanduTimestamp → MuxanduTimestamp → Result MuxanduDuration Refused
 timestamp_difference v w =
     as_duration (and_then (timestamp_value v) (λ i. and_then (timestamp_value w) (λ j. Ok (i -ℤ j))))
@@ -171,13 +171,13 @@ abbrev pub timestamp_truncate : MuxanduTimestamp → ℕ → Result MuxanduTimes
 timestamp_truncate v number =
     as_timestamp (and_then (timestamp_value v) (λ i. and_then (unit_numbered number) (λ unit. Ok (wall_multiple_below (unit_nanos unit) i))))
 
--- -1, 0 or 1
+-- the sign of an order: -1, 0 or 1
 abbrev pub sign_of : Ordering → ℤ
 sign_of Less = neg_ℤ (pos 1)
 sign_of Equal = pos 0
 sign_of Greater = pos 1
 
--- the order of two timestamps, also of those that a call refuses: seconds and nanoseconds are added
+-- the order of two timestamps, also of those that are invalid: seconds and nanoseconds are added
 abbrev pub timestamp_compare : MuxanduTimestamp → MuxanduTimestamp → ℤ
 timestamp_compare v w = sign_of (int_cmp (instant_of_parts v.seconds v.nanoseconds) (instant_of_parts w.seconds w.nanoseconds))
 
@@ -186,11 +186,11 @@ abbrev pub date_time_compare : MuxanduDateTime → MuxanduDateTime → Result �
 date_time_compare v w =
     and_then (date_time_value v) (λ a. and_then (date_time_value w) (λ b. Ok (sign_of (int_cmp (instant_of a) (instant_of b)))))
 
--- a day number of the range
+-- a day number, if it is in the range
 abbrev pub day_value : ℤ → Result ℤ Refused
 day_value n = if is_outside first_day last_day n then Err refused.DayNumber else Ok n
 
--- a day that a count leads to, if the range has it
+-- the day of a sum of days, if the range has it
 abbrev pub day_if_any : ℤ → Result ℤ Refused
 day_if_any n = if is_outside first_day last_day n then Err refused.Result else Ok n
 
@@ -215,16 +215,16 @@ day_from_date v = date_value v.year v.month v.day
 abbrev pub day_from_ordinal_date : MuxanduOrdinalDate → Result ℤ Refused
 day_from_ordinal_date v = as_refused (ordinal_date v.year v.ordinal)
 
--- the days of a month, if the range has its first
+-- the number of days of a month, if the range has its first day
 abbrev pub length_of_month : ℤ → ℕ → Result ℕ Refused
 length_of_month y m =
     and_then (month_value m) (λ month. and_then (as_refused (calendar_date y month 1)) (λ first. Ok (days_in_month (is_leap_year y) month)))
 
--- the day that clocks show
+-- the day that the clocks of a date-time show
 abbrev pub date_time_day : MuxanduDateTime → Result ℤ Refused
 date_time_day v = and_then (date_time_value v) (λ at. Ok (wall_day at.wall))
 
--- what clocks at an offset show at a Unix second
+-- the date-time that clocks at an offset show at a Unix second
 abbrev pub date_time_of_second : ℤ → ℤ → Result MuxanduDateTime Refused
 date_time_of_second offset_seconds second = date_time_from_timestamp (record { seconds = second; nanoseconds = 0 }) offset_seconds
 
@@ -232,7 +232,7 @@ date_time_of_second offset_seconds second = date_time_from_timestamp (record { s
 abbrev pub date_time_text : MuxanduDateTime → Result (List ℕ) Refused
 date_time_text v = and_then (date_time_value v) (λ at. Ok (offset_date_time_text at))
 
--- and of a timestamp
+-- the text of a timestamp
 abbrev pub timestamp_text_of : MuxanduTimestamp → Result (List ℕ) Refused
 timestamp_text_of v = and_then (timestamp_value v) (λ i. Ok (timestamp_text i))
 
@@ -240,11 +240,11 @@ timestamp_text_of v = and_then (timestamp_value v) (λ i. Ok (timestamp_text i))
 abbrev pub second_of_date_time : MuxanduDateTime → Result ℤ Refused
 second_of_date_time v = and_then (date_time_instant v) (λ i. Ok (unix_seconds_of i))
 
--- an instant, if the range has it, or the refusal of its count
+-- an instant, if the range has it, or the error of its count
 abbrev pub count_if_any : ℤ → Result ℤ Refused
 count_if_any i = if is_outside first_wall_clock last_wall_clock i then Err refused.Timestamp else Ok i
 
--- the instant of so many milliseconds
+-- the instant of a number of milliseconds
 abbrev pub timestamp_from_milliseconds : ℤ → Result MuxanduTimestamp Refused
 timestamp_from_milliseconds count = as_timestamp (count_if_any (instant_of_milliseconds count))
 
@@ -252,7 +252,7 @@ timestamp_from_milliseconds count = as_timestamp (count_if_any (instant_of_milli
 abbrev pub timestamp_to_milliseconds : MuxanduTimestamp → Result ℤ Refused
 timestamp_to_milliseconds v = and_then (timestamp_value v) (λ i. Ok (unix_milliseconds_of i))
 
--- a number, if 64 bits hold it
+-- a number, if it fits in 64 bits
 abbrev pub in_64_bits : ℤ → Result ℤ Refused
 in_64_bits n =
     if is_outside (neg_ℤ (pos 9_223_372_036_854_775_808)) (pos 9_223_372_036_854_775_807) n then Err refused.Result else Ok n
@@ -264,7 +264,7 @@ timestamp_to_microseconds v = and_then (timestamp_value v) (λ i. in_64_bits (un
 abbrev pub timestamp_to_nanoseconds : MuxanduTimestamp → Result ℤ Refused
 timestamp_to_nanoseconds v = and_then (timestamp_value v) (λ i. in_64_bits i)
 
--- a date-time and a duration added at one offset, if the range has the sum, or brought into the range
+-- the sum of a date-time and a duration at one offset, if the range has it, and the sum clamped to the range
 abbrev pub date_time_add : MuxanduDateTime → MuxanduDuration → Result MuxanduDateTime Refused
 date_time_add v w =
     as_date_time (and_then (date_time_value v) (λ at. and_then (duration_value w) (λ d. local_if_any (at.wall +ℤ d) at.offset)))
@@ -273,7 +273,7 @@ abbrev pub date_time_saturating_add : MuxanduDateTime → MuxanduDuration → Re
 date_time_saturating_add v w =
     as_date_time (and_then (date_time_value v) (λ at. and_then (duration_value w) (λ d. Ok (wall_at (nearest_wall_clock (at.wall +ℤ d)) at.offset))))
 
--- a date-time less a duration at one offset, if the range has it, or brought into the range
+-- the difference of a date-time and a duration at one offset, if the range has it, and the difference clamped to the range
 abbrev pub date_time_subtract : MuxanduDateTime → MuxanduDuration → Result MuxanduDateTime Refused
 date_time_subtract v w =
     as_date_time (and_then (date_time_value v) (λ at. and_then (duration_value w) (λ d. local_if_any (at.wall -ℤ d) at.offset)))
@@ -282,7 +282,7 @@ abbrev pub date_time_saturating_subtract : MuxanduDateTime → MuxanduDuration �
 date_time_saturating_subtract v w =
     as_date_time (and_then (date_time_value v) (λ at. and_then (duration_value w) (λ d. Ok (wall_at (nearest_wall_clock (at.wall -ℤ d)) at.offset))))
 
--- from the second date-time to the first, by instant
+-- the duration from the second date-time to the first, by instant
 abbrev pub date_time_difference : MuxanduDateTime → MuxanduDateTime → Result MuxanduDuration Refused
 date_time_difference v w =
     as_duration (and_then (date_time_value v) (λ a. and_then (date_time_value w) (λ b. Ok (instant_of a -ℤ instant_of b))))

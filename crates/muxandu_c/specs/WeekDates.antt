@@ -14,7 +14,8 @@ abbrev pub week_date_from_day : ℤ → Result MuxanduWeekDate Refused
 week_date_from_day n =
     and_then (day_value n) (λ day. Ok (record { year = iso_year_of day; week = iso_week_of day; weekday = weekday_of day }))
 
--- what is refused with a day of the week above 6: an ISO year or an ISO week that is refused outright, and else that day
+-- the error of a week date whose day of the week is above 6
+-- an ISO year or an ISO week that is invalid in every week date is the error, and else the day of the week
 abbrev pub refused_with_weekday : ℤ → ℕ → Refused
 refused_with_weekday year week =
     let refusal = iso_week_date_refusal year week in

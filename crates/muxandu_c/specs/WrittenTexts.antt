@@ -1,4 +1,4 @@
--- The text of numbers, as a call answers it.
+-- The text of numbers, as a call returns it.
 use Rattle.std.specs.Prelude.{ℕ, ℤ, pos, ◌≤◌, ◌/◌, ◌%◌, ◌||◌, Bool, not, int_lt, unsigned_abs, if◌then◌else◌, List, Option, Some, None, Result, Ok, Err}
 use Rattle.calendar_values.specs.Range.{is_outside}
 use Rattle.rfc3339.specs.Meaning.{AreInRange, value_of}

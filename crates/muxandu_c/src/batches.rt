@@ -39,7 +39,7 @@ pub(crate) fn convert_all<A: Copy, B: Copy, C: Conversion<A, B>>(
         ++ drop result.count out.old }
 {
     if out.len() < items.len() {
-        return stopped(0, Refused::Buffer);
+        return stop_at(0, Refused::Buffer);
     }
     fill(conversion, items, out)
 }
@@ -59,7 +59,7 @@ pub(crate) fn fill<A: Copy, B: Copy, C: Conversion<A, B>>(
     for (k, item) in items.iter().enumerate() {
         match conversion.convert(*item) {
             Ok(value) => out[k] = value,
-            Err(refused) => return stopped(k, refused),
+            Err(refused) => return stop_at(k, refused),
         }
     }
     MuxanduBatch {
@@ -68,7 +68,7 @@ pub(crate) fn fill<A: Copy, B: Copy, C: Conversion<A, B>>(
     }
 }
 
-pub(crate) fn stopped(count: usize, refused: Refused) -> MuxanduBatch
+pub(crate) fn stop_at(count: usize, refused: Refused) -> MuxanduBatch
     ensures count { result.count ≡ count }
     ensures status { result.status ≡ status_number refused }
 {
@@ -116,7 +116,7 @@ pub extern "C" fn muxandu_date_times_from_seconds(
         ++ drop result.count out.old }
 {
     if out.len() < seconds.len() {
-        return stopped(0, Refused::Buffer);
+        return stop_at(0, Refused::Buffer);
     }
     fill_from_seconds(seconds, offset_seconds, out)
 }
@@ -149,7 +149,7 @@ pub extern "C" fn muxandu_seconds_from_date_times(
         ++ drop result.count out.old }
 {
     if out.len() < date_times.len() {
-        return stopped(0, Refused::Buffer);
+        return stop_at(0, Refused::Buffer);
     }
     fill_from_date_times(date_times, out)
 }
@@ -221,7 +221,7 @@ pub extern "C" fn muxandu_timestamps_from_rfc3339(
     ensures behind { drop result.count out.new ≡ drop result.count out.old }
 {
     if out.len() < spans.len() {
-        return stopped(0, Refused::Buffer);
+        return stop_at(0, Refused::Buffer);
     }
     fill_timestamps(texts, spans, out)
 }
@@ -240,7 +240,7 @@ fn fill_timestamps(
     for (k, span) in spans.iter().enumerate() {
         match timestamp_in(texts, *span) {
             Ok(at) => out[k] = at,
-            Err(refused) => return stopped(k, refused),
+            Err(refused) => return stop_at(k, refused),
         }
     }
     MuxanduBatch {

@@ -1,6 +1,6 @@
 //! Dates a number of days or months later.
 ghost use Rattle.std.specs.Prelude.{◌≡◌, ◌+ℤ◌};
-ghost use Rattle.muxandu_c.specs.Answers.{status_of, written};
+ghost use Rattle.muxandu_c.specs.Answers.{Answers};
 ghost use Rattle.muxandu_c.specs.Values.{day_if_any};
 ghost use Rattle.muxandu_c.specs.DateSums.{date_add_days, date_add_months};
 ghost use Rattle.muxandu_c.specs.DateSums.{month_index, year_of_index, month_of_index, day_or_last, year_if_any, in_month, months_later};
@@ -37,8 +37,7 @@ pub extern "C" fn muxandu_date_add_days(
     days: i32,
     out: &mut MuxanduDate,
 ) -> MuxanduStatus
-    ensures status { result ≡ status_of (date_add_days date days) }
-    ensures written { out.new ≡ written (date_add_days date days) out.old }
+    ensures { Answers result out.old out.new (date_add_days date days) }
 {
     answer(date_add_days(date, days), out)
 }
@@ -101,7 +100,7 @@ fn months_later(date: MuxanduDate, months: i32) -> Result<MuxanduDate, Refused>
     in_month(month_index(date.year, date.month) + months as i64, date.day)
 }
 
-fn date_add_months(date: MuxanduDate, months: i32) -> Result<MuxanduDate, Refused>
+pub(crate) fn date_add_months(date: MuxanduDate, months: i32) -> Result<MuxanduDate, Refused>
     ensures { result ≡ date_add_months date months }
 {
     match read_date(date.year, date.month, date.day) {
@@ -118,8 +117,7 @@ pub extern "C" fn muxandu_date_add_months(
     months: i32,
     out: &mut MuxanduDate,
 ) -> MuxanduStatus
-    ensures status { result ≡ status_of (date_add_months date months) }
-    ensures written { out.new ≡ written (date_add_months date months) out.old }
+    ensures { Answers result out.old out.new (date_add_months date months) }
 {
     answer(date_add_months(date, months), out)
 }

@@ -1,7 +1,7 @@
 //! Days as texts of RFC 3339, written and read.
 ghost use Rattle.std.specs.Prelude.{◌≡◌, ◌⊎◌, ℕ, length, Err, IfOk};
 ghost use Rattle.rfc3339.specs.FullDates.{IsFullDate};
-ghost use Rattle.muxandu_c.specs.Answers.{status_of, status_number, written};
+ghost use Rattle.muxandu_c.specs.Answers.{status_of, status_number, value_or};
 ghost use Rattle.muxandu_c.specs.Answers.{written_over, text_if_room, length_of_answer};
 ghost use Rattle.muxandu_c.specs.DateTexts.{full_date_of, date_to_rfc3339, date_spelled};
 ghost use Rattle.muxandu_c.specs.declared.refused.Refused.TheVariants as refused;
@@ -9,7 +9,7 @@ ghost use Rattle.muxandu_c.specs.declared.refused.Refused.TheVariants as refused
 use crate::exchange::refused_text;
 use crate::parts::{date_parts_of, read_date};
 use crate::refused::{MuxanduStatus, Refused, answer};
-use crate::texts::put;
+use crate::texts::put_text;
 use crate::values::MuxanduDate;
 use calendar_values::{Date, Text};
 
@@ -41,10 +41,10 @@ pub extern "C" fn muxandu_date_to_rfc3339(
     ensures status { result ≡ status_of (text_if_room (date_to_rfc3339 date) buffer.old) }
     ensures written { buffer.new ≡
         written_over (text_if_room (date_to_rfc3339 date) buffer.old) buffer.old }
-    ensures size { size.new ≡ written (length_of_answer (date_to_rfc3339 date)) size.old }
+    ensures size { size.new ≡ value_or (length_of_answer (date_to_rfc3339 date)) size.old }
     ensures room { IfOk (date_to_rfc3339 date) (λ text. length text ≡ 10) }
 {
-    put(date_to_rfc3339(date), buffer, size)
+    put_text(date_to_rfc3339(date), buffer, size)
 }
 
 fn date_from_rfc3339(text: &[u8]) -> Result<MuxanduDate, Refused>
@@ -67,7 +67,7 @@ pub extern "C" fn muxandu_date_from_rfc3339(text: &[u8], out: &mut MuxanduDate) 
     ensures status { (year month day : ℕ) → IsFullDate text.now year month day →
         result ≡ status_of (date_spelled year month day) }
     ensures written { (year month day : ℕ) → IsFullDate text.now year month day →
-        out.new ≡ written (date_spelled year month day) out.old }
+        out.new ≡ value_or (date_spelled year month day) out.old }
     ensures syntax { ((year : ℕ) × (month : ℕ) × (day : ℕ) × IsFullDate text.now year month day)
         ⊎ ((result ≡ status_number refused.Syntax) × (out.new ≡ out.old)) }
 {

@@ -2,16 +2,16 @@
 ghost use Rattle.std.specs.Prelude.{◌≡◌};
 ghost use Rattle.calendar_values.specs.Offsets.{IsOffset};
 ghost use Rattle.offset_times.specs.Local.{instant_of, shown_at};
-ghost use Rattle.muxandu_c.specs.Answers.{status_of, written};
+ghost use Rattle.muxandu_c.specs.Answers.{Answers, status_of};
 ghost use Rattle.muxandu_c.specs.Values.{date_time_value, date_time_from_timestamp, timestamp_from_date_time, date_time_to_offset};
 ghost use Rattle.muxandu_c.specs.Values.{as_date_time, local_if_any};
 ghost use Rattle.muxandu_c.specs.Values.{date_time_add, date_time_saturating_add, date_time_subtract, date_time_saturating_subtract};
 ghost use Rattle.muxandu_c.specs.Values.{date_time_difference, date_time_truncate, date_time_compare, date_time_day};
 
 use crate::parts::{
-    apart, checked_difference, checked_offset, checked_sum, date_time_of, day_of, duration_of,
-    in_unit, instant_of_date_time, order, read_date_time, read_duration, read_timestamp,
-    shown_as_if_utc, sign, timestamp_of, to_offset, wall_of, wall_parts,
+    checked_difference, checked_offset, checked_sum, date_time_of, day_of, duration_between,
+    duration_of, in_unit, instant_of_date_time, order, read_date_time, read_duration,
+    read_timestamp, shown_as_if_utc, sign, timestamp_of, to_offset, wall_of, wall_parts,
 };
 use crate::refused::{MuxanduStatus, Refused, answer, status_of};
 use crate::unit::{MuxanduUnit, read_unit};
@@ -48,8 +48,7 @@ pub extern "C" fn muxandu_date_time_from_timestamp(
     offset_seconds: i32,
     out: &mut MuxanduDateTime,
 ) -> MuxanduStatus
-    ensures status { result ≡ status_of (date_time_from_timestamp at offset_seconds) }
-    ensures written { out.new ≡ written (date_time_from_timestamp at offset_seconds) out.old }
+    ensures { Answers result out.old out.new (date_time_from_timestamp at offset_seconds) }
 {
     answer(date_time_from_timestamp(at, offset_seconds), out)
 }
@@ -71,8 +70,7 @@ pub extern "C" fn muxandu_timestamp_from_date_time(
     date_time: MuxanduDateTime,
     out: &mut MuxanduTimestamp,
 ) -> MuxanduStatus
-    ensures status { result ≡ status_of (timestamp_from_date_time date_time) }
-    ensures written { out.new ≡ written (timestamp_from_date_time date_time) out.old }
+    ensures { Answers result out.old out.new (timestamp_from_date_time date_time) }
 {
     answer(timestamp_from_date_time(date_time), out)
 }
@@ -111,8 +109,7 @@ pub extern "C" fn muxandu_date_time_to_offset(
     offset_seconds: i32,
     out: &mut MuxanduDateTime,
 ) -> MuxanduStatus
-    ensures status { result ≡ status_of (date_time_to_offset date_time offset_seconds) }
-    ensures written { out.new ≡ written (date_time_to_offset date_time offset_seconds) out.old }
+    ensures { Answers result out.old out.new (date_time_to_offset date_time offset_seconds) }
 {
     answer(date_time_to_offset(date_time, offset_seconds), out)
 }
@@ -136,8 +133,7 @@ pub extern "C" fn muxandu_date_time_add(
     duration: MuxanduDuration,
     out: &mut MuxanduDateTime,
 ) -> MuxanduStatus
-    ensures status { result ≡ status_of (date_time_add date_time duration) }
-    ensures written { out.new ≡ written (date_time_add date_time duration) out.old }
+    ensures { Answers result out.old out.new (date_time_add date_time duration) }
 {
     answer(date_time_add(date_time, duration), out)
 }
@@ -161,8 +157,7 @@ pub extern "C" fn muxandu_date_time_subtract(
     duration: MuxanduDuration,
     out: &mut MuxanduDateTime,
 ) -> MuxanduStatus
-    ensures status { result ≡ status_of (date_time_subtract date_time duration) }
-    ensures written { out.new ≡ written (date_time_subtract date_time duration) out.old }
+    ensures { Answers result out.old out.new (date_time_subtract date_time duration) }
 {
     answer(date_time_subtract(date_time, duration), out)
 }
@@ -185,8 +180,7 @@ pub extern "C" fn muxandu_date_time_saturating_add(
     duration: MuxanduDuration,
     out: &mut MuxanduDateTime,
 ) -> MuxanduStatus
-    ensures status { result ≡ status_of (date_time_saturating_add date_time duration) }
-    ensures written { out.new ≡ written (date_time_saturating_add date_time duration) out.old }
+    ensures { Answers result out.old out.new (date_time_saturating_add date_time duration) }
 {
     answer(date_time_saturating_add(date_time, duration), out)
 }
@@ -209,8 +203,7 @@ pub extern "C" fn muxandu_date_time_saturating_subtract(
     duration: MuxanduDuration,
     out: &mut MuxanduDateTime,
 ) -> MuxanduStatus
-    ensures status { result ≡ status_of (date_time_saturating_subtract date_time duration) }
-    ensures written { out.new ≡ written (date_time_saturating_subtract date_time duration) out.old }
+    ensures { Answers result out.old out.new (date_time_saturating_subtract date_time duration) }
 {
     answer(date_time_saturating_subtract(date_time, duration), out)
 }
@@ -223,7 +216,7 @@ fn date_time_difference(
 {
     let at = read_date_time(later)?;
     let from = read_date_time(earlier)?;
-    Ok(duration_of(apart(at, from, later.offset_seconds - earlier.offset_seconds)))
+    Ok(duration_of(duration_between(at, from, later.offset_seconds - earlier.offset_seconds)))
 }
 
 /// The duration from the instant of `earlier` to that of `later`, negative if `later` comes first.
@@ -234,8 +227,7 @@ pub extern "C" fn muxandu_date_time_difference(
     earlier: MuxanduDateTime,
     out: &mut MuxanduDuration,
 ) -> MuxanduStatus
-    ensures status { result ≡ status_of (date_time_difference later earlier) }
-    ensures written { out.new ≡ written (date_time_difference later earlier) out.old }
+    ensures { Answers result out.old out.new (date_time_difference later earlier) }
 {
     answer(date_time_difference(later, earlier), out)
 }
@@ -255,8 +247,7 @@ pub extern "C" fn muxandu_date_time_truncate(
     unit: MuxanduUnit,
     out: &mut MuxanduDateTime,
 ) -> MuxanduStatus
-    ensures status { result ≡ status_of (date_time_truncate date_time unit) }
-    ensures written { out.new ≡ written (date_time_truncate date_time unit) out.old }
+    ensures { Answers result out.old out.new (date_time_truncate date_time unit) }
 {
     answer(date_time_truncate(date_time, unit), out)
 }
@@ -280,8 +271,7 @@ pub extern "C" fn muxandu_date_time_compare(
     second: MuxanduDateTime,
     out: &mut i32,
 ) -> MuxanduStatus
-    ensures status { result ≡ status_of (date_time_compare first second) }
-    ensures written { out.new ≡ written (date_time_compare first second) out.old }
+    ensures { Answers result out.old out.new (date_time_compare first second) }
 {
     answer(date_time_compare(first, second), out)
 }
@@ -295,8 +285,7 @@ fn date_time_day(date_time: MuxanduDateTime) -> Result<i32, Refused>
 /// The day number of the local date, 0 on 1970-01-01. Errors: those of the date-time.
 #[unsafe(no_mangle)]
 pub extern "C" fn muxandu_date_time_day(date_time: MuxanduDateTime, out: &mut i32) -> MuxanduStatus
-    ensures status { result ≡ status_of (date_time_day date_time) }
-    ensures written { out.new ≡ written (date_time_day date_time) out.old }
+    ensures { Answers result out.old out.new (date_time_day date_time) }
 {
     answer(date_time_day(date_time), out)
 }

@@ -2,7 +2,7 @@
 ghost use Rattle.std.specs.Prelude.{◌≡◌, IfOk, Ok};
 ghost use Rattle.calendar_values.specs.Range.{IsDay};
 ghost use Rattle.calendar_values.specs.Weeks.{weekday_of};
-ghost use Rattle.muxandu_c.specs.Answers.{status_of, written};
+ghost use Rattle.muxandu_c.specs.Answers.{Answers};
 ghost use Rattle.muxandu_c.specs.Values.{date_from_day, day_from_date};
 ghost use Rattle.muxandu_c.specs.Values.{ordinal_date_from_day, day_from_ordinal_date};
 ghost use Rattle.muxandu_c.specs.Values.{weekday_from_day, length_of_month};
@@ -24,8 +24,7 @@ pub(crate) fn date_from_day(day: i32) -> Result<MuxanduDate, Refused>
 /// The date of a day number. Errors: DAY_NUMBER.
 #[unsafe(no_mangle)]
 pub extern "C" fn muxandu_date_from_day(day: i32, out: &mut MuxanduDate) -> MuxanduStatus
-    ensures status { result ≡ status_of (date_from_day day) }
-    ensures written { out.new ≡ written (date_from_day day) out.old }
+    ensures { Answers result out.old out.new (date_from_day day) }
 {
     answer(date_from_day(day), out)
 }
@@ -40,8 +39,7 @@ pub(crate) fn day_from_date(date: MuxanduDate) -> Result<i32, Refused>
 /// The day number of a date. Errors, in this order: MONTH, YEAR, DAY, DAY_OF_MONTH.
 #[unsafe(no_mangle)]
 pub extern "C" fn muxandu_day_from_date(date: MuxanduDate, out: &mut i32) -> MuxanduStatus
-    ensures status { result ≡ status_of (day_from_date date) }
-    ensures written { out.new ≡ written (day_from_date date) out.old }
+    ensures { Answers result out.old out.new (day_from_date date) }
 {
     answer(day_from_date(date), out)
 }
@@ -59,8 +57,7 @@ pub extern "C" fn muxandu_ordinal_date_from_day(
     day: i32,
     out: &mut MuxanduOrdinalDate,
 ) -> MuxanduStatus
-    ensures status { result ≡ status_of (ordinal_date_from_day day) }
-    ensures written { out.new ≡ written (ordinal_date_from_day day) out.old }
+    ensures { Answers result out.old out.new (ordinal_date_from_day day) }
 {
     answer(ordinal_date_from_day(day), out)
 }
@@ -77,8 +74,7 @@ pub extern "C" fn muxandu_day_from_ordinal_date(
     date: MuxanduOrdinalDate,
     out: &mut i32,
 ) -> MuxanduStatus
-    ensures status { result ≡ status_of (day_from_ordinal_date date) }
-    ensures written { out.new ≡ written (day_from_ordinal_date date) out.old }
+    ensures { Answers result out.old out.new (day_from_ordinal_date date) }
 {
     answer(day_from_ordinal_date(date), out)
 }
@@ -98,8 +94,7 @@ fn week_date_from_day(day: i32) -> Result<MuxanduWeekDate, Refused>
 /// is the inverse. Errors: DAY_NUMBER.
 #[unsafe(no_mangle)]
 pub extern "C" fn muxandu_week_date_from_day(day: i32, out: &mut MuxanduWeekDate) -> MuxanduStatus
-    ensures status { result ≡ status_of (week_date_from_day day) }
-    ensures written { out.new ≡ written (week_date_from_day day) out.old }
+    ensures answers { Answers result out.old out.new (week_date_from_day day) }
     ensures reads_back { IfOk (week_date_from_day day) (λ date. day_from_week_date date ≡ Ok day) }
 {
     answer(week_date_from_day(day), out)
@@ -130,8 +125,7 @@ fn refused_with_weekday(year: i32, week: u8) -> Refused
 /// RESULT for the two days of the last week past the range.
 #[unsafe(no_mangle)]
 pub extern "C" fn muxandu_day_from_week_date(date: MuxanduWeekDate, out: &mut i32) -> MuxanduStatus
-    ensures status { result ≡ status_of (day_from_week_date date) }
-    ensures written { out.new ≡ written (day_from_week_date date) out.old }
+    ensures answers { Answers result out.old out.new (day_from_week_date date) }
     ensures reads_back { IfOk (day_from_week_date date) (λ day. week_date_from_day day ≡ Ok date) }
 {
     answer(day_from_week_date(date), out)
@@ -156,8 +150,7 @@ fn weekday_from_day(day: i32) -> Result<u8, Refused>
 /// The day of the week of a day number, 0 for Monday to 6 for Sunday. Errors: DAY_NUMBER.
 #[unsafe(no_mangle)]
 pub extern "C" fn muxandu_weekday_from_day(day: i32, out: &mut u8) -> MuxanduStatus
-    ensures status { result ≡ status_of (weekday_from_day day) }
-    ensures written { out.new ≡ written (weekday_from_day day) out.old }
+    ensures { Answers result out.old out.new (weekday_from_day day) }
 {
     answer(weekday_from_day(day), out)
 }
@@ -182,8 +175,7 @@ fn length_of_month(year: i32, month: u32) -> Result<u8, Refused>
 /// The number of days in a month of a year, 28 to 31. Errors, in this order: MONTH, YEAR.
 #[unsafe(no_mangle)]
 pub extern "C" fn muxandu_days_in_month(year: i32, month: u32, out: &mut u8) -> MuxanduStatus
-    ensures status { result ≡ status_of (length_of_month year month) }
-    ensures written { out.new ≡ written (length_of_month year month) out.old }
+    ensures { Answers result out.old out.new (length_of_month year month) }
 {
     answer(length_of_month(year, month), out)
 }

@@ -1,12 +1,12 @@
 //! Texts of RFC 3339 with a number of digits.
 ghost use Rattle.std.specs.Prelude.{◌≡◌, ◌≤◌, length, IfOk};
-ghost use Rattle.muxandu_c.specs.Answers.{status_of, written};
+ghost use Rattle.muxandu_c.specs.Answers.{status_of, value_or};
 ghost use Rattle.muxandu_c.specs.Answers.{written_over, text_if_room, length_of_answer};
 ghost use Rattle.muxandu_c.specs.DigitTexts.{rfc3339_of_digits, date_time_to_rfc3339_digits};
 
 use crate::parts::read_date_time;
 use crate::refused::{MuxanduStatus, Refused};
-use crate::texts::put;
+use crate::texts::put_text;
 use crate::values::MuxanduDateTime;
 use calendar_values::Text;
 use offset_times::OffsetDateTime;
@@ -57,8 +57,8 @@ pub extern "C" fn muxandu_date_time_to_rfc3339_digits(
     ensures written { buffer.new ≡ written_over
         (text_if_room (date_time_to_rfc3339_digits digits date_time) buffer.old) buffer.old }
     ensures size { size.new ≡
-        written (length_of_answer (date_time_to_rfc3339_digits digits date_time)) size.old }
+        value_or (length_of_answer (date_time_to_rfc3339_digits digits date_time)) size.old }
     ensures room { IfOk (date_time_to_rfc3339_digits digits date_time) (λ text. length text ≤ 35) }
 {
-    put(date_time_to_rfc3339_digits(date_time, digits), buffer, size)
+    put_text(date_time_to_rfc3339_digits(date_time, digits), buffer, size)
 }

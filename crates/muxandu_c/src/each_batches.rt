@@ -1,11 +1,11 @@
 //! Many values in one call that continues after errors.
 ghost use Rattle.std.specs.Prelude.{◌≡◌, ◌≤◌, ◌++◌, length, drop};
-ghost use Rattle.muxandu_c.specs.Answers.{written};
-ghost use Rattle.muxandu_c.specs.EachBatches.{written_each, status_of_each, count_of_values, counted};
+ghost use Rattle.muxandu_c.specs.Answers.{value_or};
+ghost use Rattle.muxandu_c.specs.EachBatches.{written_each, status_of_each, count_of_values, count_of};
 ghost use Rattle.muxandu_c.specs.EachBatches.{with_both_rooms, room_status};
 ghost use Rattle.muxandu_c.specs.Values.{date_time_of_second, second_of_date_time};
 
-use crate::batches::{Conversion, ToDateTime, ToSecond, stopped};
+use crate::batches::{Conversion, ToDateTime, ToSecond, stop_at};
 use crate::refused::{MuxanduStatus, Refused, status_of};
 use crate::values::{MuxanduBatch, MuxanduDateTime};
 
@@ -27,7 +27,7 @@ pub(crate) fn convert_each<A: Copy, B: Copy, C: Conversion<A, B>>(
         ++ drop (length gone) statuses.old }
 {
     if out.len() < items.len() || statuses.len() < items.len() {
-        return stopped(0, Refused::Buffer);
+        return stop_at(0, Refused::Buffer);
     }
     MuxanduBatch {
         count: fill_each(conversion, items, out, statuses),
@@ -52,17 +52,17 @@ fn fill_each<A: Copy, B: Copy, C: Conversion<A, B>>(
     let mut count = 0;
     for (k, item) in items.iter().enumerate() {
         let answer = conversion.convert(*item);
-        out[k] = written(answer, out[k]);
+        out[k] = value_or(answer, out[k]);
         statuses[k] = status_of(answer);
-        count += counted(answer);
+        count += count_of(answer);
     }
     count
 }
 
 // The contents of a place after an answer.
 #[inline(always)]
-fn written<B: Copy>(answer: Result<B, Refused>, there: B) -> B
-    ensures { result ≡ written answer there }
+pub(crate) fn value_or<B: Copy>(answer: Result<B, Refused>, there: B) -> B
+    ensures { result ≡ value_or answer there }
 {
     match answer {
         Ok(value) => value,
@@ -72,8 +72,8 @@ fn written<B: Copy>(answer: Result<B, Refused>, there: B) -> B
 
 // One for an answer that has a value.
 #[inline(always)]
-fn counted<B: Copy>(answer: Result<B, Refused>) -> usize
-    ensures value { result ≡ counted answer }
+pub(crate) fn count_of<B: Copy>(answer: Result<B, Refused>) -> usize
+    ensures value { result ≡ count_of answer }
     ensures at_most { result ≤ 1 }
 {
     match answer {

@@ -6,7 +6,7 @@ ghost use Rattle.rfc3339.specs.Form.{IsDateTime};
 ghost use Rattle.rfc3339.specs.FullDates.{IsFullDate};
 ghost use Rattle.rfc3339.specs.declared.parts.Parts.{Parts};
 ghost use Rattle.rfc3339.specs.declared.refusal.TextRefusal.TheVariants.{Syntax};
-ghost use Rattle.muxandu_c.specs.Answers.{status_of, status_number, written, refused_day, refused_text};
+ghost use Rattle.muxandu_c.specs.Answers.{status_of, status_number, value_or, refused_day, refused_text};
 ghost use Rattle.muxandu_c.specs.Answers.{written_over, text_if_room, length_of_answer};
 ghost use Rattle.muxandu_c.specs.Exchange.{rfc3339_of, fixed_rfc3339_of};
 ghost use Rattle.muxandu_c.specs.Exchange.{date_time_to_rfc3339, timestamp_to_rfc3339, timestamp_to_rfc3339_nanos};
@@ -18,7 +18,7 @@ use crate::parts::{
     timestamp_of,
 };
 use crate::refused::{MuxanduStatus, Refused, answer};
-use crate::texts::put;
+use crate::texts::put_text;
 use crate::utc_texts::read_utc_text;
 use crate::values::{MuxanduDateTime, MuxanduTimestamp};
 use crate::wall_texts::read_wall_text;
@@ -69,11 +69,12 @@ pub extern "C" fn muxandu_date_time_to_rfc3339(
     ensures status { result ≡ status_of (text_if_room (date_time_to_rfc3339 date_time) buffer.old) }
     ensures written { buffer.new ≡
         written_over (text_if_room (date_time_to_rfc3339 date_time) buffer.old) buffer.old }
-    ensures size { size.new ≡ written (length_of_answer (date_time_to_rfc3339 date_time)) size.old }
+    ensures size { size.new ≡
+        value_or (length_of_answer (date_time_to_rfc3339 date_time)) size.old }
     ensures room { IfOk (date_time_to_rfc3339 date_time) (λ text. length text ≤ 35) }
 {
     if buffer.len() < TEXT_ROOM {
-        return put(date_time_to_rfc3339(date_time), buffer, size);
+        return put_text(date_time_to_rfc3339(date_time), buffer, size);
     }
     answer(write_date_time(date_time, buffer), size)
 }
@@ -107,11 +108,11 @@ pub extern "C" fn muxandu_timestamp_to_rfc3339(
     ensures status { result ≡ status_of (text_if_room (timestamp_to_rfc3339 at) buffer.old) }
     ensures written { buffer.new ≡
         written_over (text_if_room (timestamp_to_rfc3339 at) buffer.old) buffer.old }
-    ensures size { size.new ≡ written (length_of_answer (timestamp_to_rfc3339 at)) size.old }
+    ensures size { size.new ≡ value_or (length_of_answer (timestamp_to_rfc3339 at)) size.old }
     ensures room { IfOk (timestamp_to_rfc3339 at) (λ text. length text ≤ 30) }
 {
     if buffer.len() < TEXT_ROOM {
-        return put(timestamp_to_rfc3339(at), buffer, size);
+        return put_text(timestamp_to_rfc3339(at), buffer, size);
     }
     answer(write_timestamp(at, buffer), size)
 }
@@ -136,10 +137,10 @@ pub extern "C" fn muxandu_timestamp_to_rfc3339_nanos(
     ensures status { result ≡ status_of (text_if_room (timestamp_to_rfc3339_nanos at) buffer.old) }
     ensures written { buffer.new ≡
         written_over (text_if_room (timestamp_to_rfc3339_nanos at) buffer.old) buffer.old }
-    ensures size { size.new ≡ written (length_of_answer (timestamp_to_rfc3339_nanos at)) size.old }
+    ensures size { size.new ≡ value_or (length_of_answer (timestamp_to_rfc3339_nanos at)) size.old }
     ensures room { IfOk (timestamp_to_rfc3339_nanos at) (λ text. length text ≡ 30) }
 {
-    put(timestamp_to_rfc3339_nanos(at), buffer, size)
+    put_text(timestamp_to_rfc3339_nanos(at), buffer, size)
 }
 
 // The date-time of a text of any form, byte by byte. It stands apart, since vector lanes read most texts.
@@ -232,7 +233,7 @@ pub extern "C" fn muxandu_date_time_from_rfc3339(
     ensures status { (p : Parts) → IsDateTime text.now p →
         result ≡ status_of (date_time_spelled p) }
     ensures written { (p : Parts) → IsDateTime text.now p →
-        out.new ≡ written (date_time_spelled p) out.old }
+        out.new ≡ value_or (date_time_spelled p) out.old }
     ensures syntax { ((p : Parts) × IsDateTime text.now p)
         ⊎ ((result ≡ status_number refused.Syntax) × (out.new ≡ out.old)) }
 {
@@ -264,7 +265,7 @@ pub extern "C" fn muxandu_timestamp_from_rfc3339(
     ensures status { (p : Parts) → IsDateTime text.now p →
         result ≡ status_of (timestamp_spelled p) }
     ensures written { (p : Parts) → IsDateTime text.now p →
-        out.new ≡ written (timestamp_spelled p) out.old }
+        out.new ≡ value_or (timestamp_spelled p) out.old }
     ensures syntax { ((p : Parts) × IsDateTime text.now p)
         ⊎ ((result ≡ status_number refused.Syntax) × (out.new ≡ out.old)) }
 {

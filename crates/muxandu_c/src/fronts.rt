@@ -2,7 +2,7 @@
 ghost use Rattle.std.specs.Prelude.{◌≡◌, ◌≤◌, ◌++◌, ℕ, List, length, take, Ok};
 ghost use Rattle.rfc3339.specs.Form.{IsDateTime};
 ghost use Rattle.rfc3339.specs.declared.parts.Parts.{Parts};
-ghost use Rattle.muxandu_c.specs.Answers.{status_of, written, and_then};
+ghost use Rattle.muxandu_c.specs.Answers.{Answers, and_then, status_of, value_or};
 ghost use Rattle.muxandu_c.specs.Exchange.{date_time_spelled};
 ghost use Rattle.muxandu_c.specs.FrontTexts.{date_time_front, first_of, second_of};
 
@@ -31,8 +31,8 @@ pub extern "C" fn muxandu_date_time_from_rfc3339_front(
     size: &mut usize,
 ) -> MuxanduStatus
     ensures status { result ≡ status_of (date_time_front text.now) }
-    ensures written { out.new ≡ written (first_of (date_time_front text.now)) out.old }
-    ensures size { size.new ≡ written (second_of (date_time_front text.now)) size.old }
+    ensures written { out.new ≡ value_or (first_of (date_time_front text.now)) out.old }
+    ensures size { size.new ≡ value_or (second_of (date_time_front text.now)) size.old }
     // A beginning of the text that has the form is what is read, and as it is read alone.
     ensures same { (stamp rest : List ℕ) (p : Parts) → text.now ≡ stamp ++ rest
         → IsDateTime stamp p → date_time_front text.now

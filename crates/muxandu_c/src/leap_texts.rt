@@ -2,7 +2,7 @@
 ghost use Rattle.std.specs.Prelude.{◌≡◌, ◌⊎◌, Err};
 ghost use Rattle.rfc3339.specs.Form.{IsDateTime};
 ghost use Rattle.rfc3339.specs.declared.parts.Parts.{Parts};
-ghost use Rattle.muxandu_c.specs.Answers.{status_of, status_number, written};
+ghost use Rattle.muxandu_c.specs.Answers.{status_of, status_number, value_or};
 ghost use Rattle.muxandu_c.specs.FrontTexts.{leap_spelled, first_of, second_of, mark_number};
 ghost use Rattle.muxandu_c.specs.declared.refused.Refused.TheVariants as refused;
 
@@ -35,9 +35,9 @@ pub extern "C" fn muxandu_date_time_from_rfc3339_leap(
 ) -> MuxanduStatus
     ensures status { (p : Parts) → IsDateTime text.now p → result ≡ status_of (leap_spelled p) }
     ensures written { (p : Parts) → IsDateTime text.now p →
-        out.new ≡ written (first_of (leap_spelled p)) out.old }
+        out.new ≡ value_or (first_of (leap_spelled p)) out.old }
     ensures is_leap { (p : Parts) → IsDateTime text.now p →
-        is_leap.new ≡ written (mark_number (second_of (leap_spelled p))) is_leap.old }
+        is_leap.new ≡ value_or (mark_number (second_of (leap_spelled p))) is_leap.old }
     ensures syntax { ((p : Parts) × IsDateTime text.now p)
         ⊎ ((result ≡ status_number refused.Syntax) × (out.new ≡ out.old)
         × (is_leap.new ≡ is_leap.old)) }

@@ -1,6 +1,6 @@
 //! Offsets from UTC, as hours, minutes and seconds.
 ghost use Rattle.std.specs.Prelude.{◌≡◌};
-ghost use Rattle.muxandu_c.specs.Answers.{status_of, written};
+ghost use Rattle.muxandu_c.specs.Answers.{Answers};
 ghost use Rattle.muxandu_c.specs.OffsetParts.{offset_from_parts, offset_to_parts, refused_offset_part};
 
 use crate::parts::read_offset;
@@ -44,8 +44,7 @@ fn offset_from_parts(parts: MuxanduOffset) -> Result<i32, Refused>
 /// 25, OFFSET_MINUTE if not -59 to 59, OFFSET_SECONDS if the seconds are not -59 to 59.
 #[unsafe(no_mangle)]
 pub extern "C" fn muxandu_offset_from_parts(parts: MuxanduOffset, out: &mut i32) -> MuxanduStatus
-    ensures status { result ≡ status_of (offset_from_parts parts) }
-    ensures written { out.new ≡ written (offset_from_parts parts) out.old }
+    ensures { Answers result out.old out.new (offset_from_parts parts) }
 {
     answer(offset_from_parts(parts), out)
 }
@@ -68,8 +67,7 @@ pub extern "C" fn muxandu_offset_to_parts(
     offset_seconds: i32,
     out: &mut MuxanduOffset,
 ) -> MuxanduStatus
-    ensures status { result ≡ status_of (offset_to_parts offset_seconds) }
-    ensures written { out.new ≡ written (offset_to_parts offset_seconds) out.old }
+    ensures { Answers result out.old out.new (offset_to_parts offset_seconds) }
 {
     answer(offset_to_parts(offset_seconds), out)
 }

@@ -206,7 +206,7 @@ pub(crate) fn checked_offset(seconds: i32) -> Result<i32, Refused>
 
 // The seconds of an offset as a duration.
 #[inline(always)]
-fn seconds_of(offset_seconds: i32) -> SignedDuration
+pub(crate) fn seconds_of(offset_seconds: i32) -> SignedDuration
     ensures { result ≡ offset_nanos offset_seconds }
 {
     SignedDuration::seconds(offset_seconds as i64)
@@ -250,7 +250,11 @@ pub(crate) fn checked_difference(
 // offsets.
 #[tactic(auto, unfolding(offset_times::specs::Local::instant_of))]
 #[inline(always)]
-pub(crate) fn apart(later: OffsetDateTime, earlier: OffsetDateTime, offsets: i32) -> SignedDuration
+pub(crate) fn duration_between(
+    later: OffsetDateTime,
+    earlier: OffsetDateTime,
+    offsets: i32,
+) -> SignedDuration
     requires { offsets ≡ later.offset -ℤ earlier.offset }
     ensures { result ≡ instant_of later -ℤ instant_of earlier }
 {

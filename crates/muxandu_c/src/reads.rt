@@ -1,6 +1,6 @@
 //! Every reading of a date at once, and the date of a Julian day.
 ghost use Rattle.std.specs.Prelude.{◌≡◌};
-ghost use Rattle.muxandu_c.specs.Answers.{status_of, written};
+ghost use Rattle.muxandu_c.specs.Answers.{Answers};
 ghost use Rattle.muxandu_c.specs.Reads.{date_reads, date_from_julian_day};
 
 use crate::parts::{date_of, day_of, read_date};
@@ -52,8 +52,7 @@ fn date_reads(date: MuxanduDate) -> Result<MuxanduDateReads, Refused>
 /// DAY_OF_MONTH.
 #[unsafe(no_mangle)]
 pub extern "C" fn muxandu_date_reads(date: MuxanduDate, out: &mut MuxanduDateReads) -> MuxanduStatus
-    ensures status { result ≡ status_of (date_reads date) }
-    ensures written { out.new ≡ written (date_reads date) out.old }
+    ensures { Answers result out.old out.new (date_reads date) }
 {
     answer(date_reads(date), out)
 }
@@ -71,8 +70,7 @@ pub extern "C" fn muxandu_date_from_julian_day(
     julian_day: i32,
     out: &mut MuxanduDate,
 ) -> MuxanduStatus
-    ensures status { result ≡ status_of (date_from_julian_day julian_day) }
-    ensures written { out.new ≡ written (date_from_julian_day julian_day) out.old }
+    ensures { Answers result out.old out.new (date_from_julian_day julian_day) }
 {
     answer(date_from_julian_day(julian_day), out)
 }

@@ -1,6 +1,6 @@
 //! The errors of calls, and their statuses.
 ghost use Rattle.std.specs.Prelude.{◌≡◌};
-ghost use Rattle.muxandu_c.specs.Answers.{refused_part, status_number, status_of, written};
+ghost use Rattle.muxandu_c.specs.Answers.{Answers, refused_part, status_number, status_of};
 
 use calendar_values::{ComponentRange, Part};
 
@@ -46,7 +46,8 @@ pub enum Refused {
     DayNumber = 16,
     /// A duration whose whole seconds do not fit in 64 bits.
     Duration = 17,
-    /// A number that is not a unit, or not a part of a date-time.
+    /// A number that is not a unit, not a part of a date-time, or not a kind, a version or an item
+    /// of a format description.
     Unit = 18,
     /// A result that is outside the range, or that its type cannot hold.
     Result = 19,
@@ -61,8 +62,8 @@ pub enum Refused {
     OffsetHour = 23,
     /// Minutes of an offset that are not -59 to 59.
     OffsetMinute = 24,
-    /// A value that has no text in RFC 3339: a year outside 0 to 9999, or an offset with seconds or
-    /// beyond 23:59.
+    /// A value that has no such text, as in RFC 3339 a year outside 0 to 9999, or an offset with
+    /// seconds or beyond 23:59.
     NoText = 25,
 }
 
@@ -139,8 +140,7 @@ pub(crate) fn status_of<T: Copy>(answer: Result<T, Refused>) -> u32
 // Puts a value into the place of the caller, and leaves the place as it is if the call fails.
 #[inline(always)]
 pub(crate) fn answer<T: Copy>(answer: Result<T, Refused>, out: &mut T) -> u32
-    ensures status { result ≡ status_of answer }
-    ensures written { out.new ≡ written answer out.old }
+    ensures { Answers result out.old out.new answer }
 {
     match answer {
         Ok(value) => {

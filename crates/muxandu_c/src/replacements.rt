@@ -2,8 +2,8 @@
 ghost use Rattle.std.specs.Prelude.{◌≡◌, ◌≤◌, IfOk};
 ghost use Rattle.calendar_values.specs.Month.{month_number};
 ghost use Rattle.plain_times.specs.Replacements.{wall_month_outcome};
-ghost use Rattle.muxandu_c.specs.Answers.{as_refused, status_of, written};
-ghost use Rattle.muxandu_c.specs.PartsReplaced.{part_numbered, unsigned_part, replaced, date_time_replace, timestamp_replace};
+ghost use Rattle.muxandu_c.specs.Answers.{Answers, as_refused};
+ghost use Rattle.muxandu_c.specs.PartsReplaced.{part_numbered, unsigned_part, with_part, date_time_replace, timestamp_replace};
 ghost use Rattle.muxandu_c.specs.declared.replacements.Part.TheVariants as part;
 
 use crate::parts::{date_time_of, read_date_time, read_timestamp, timestamp_of};
@@ -67,8 +67,8 @@ fn unsigned_part(value: i32, limit: u32, refused: Refused) -> Result<u32, Refuse
 }
 
 // The date and the time of day with a part replaced.
-fn replaced(at: PlainDateTime, part: Part, value: i32) -> Result<PlainDateTime, Refused>
-    ensures { result ≡ replaced at part value }
+fn with_part(at: PlainDateTime, part: Part, value: i32) -> Result<PlainDateTime, Refused>
+    ensures { result ≡ with_part at part value }
 {
     match part {
         Part::Year => Ok(at.replace_year(value)?),
@@ -83,7 +83,7 @@ fn replaced(at: PlainDateTime, part: Part, value: i32) -> Result<PlainDateTime, 
 }
 
 fn with_month(at: PlainDateTime, value: i32) -> Result<PlainDateTime, Refused>
-    ensures { result ≡ replaced at part.Month value }
+    ensures { result ≡ with_part at part.Month value }
 {
     let number = unsigned_part(value, 12, Refused::Month)? as u8;
     match Month::from_number(number) {
@@ -99,42 +99,42 @@ fn in_month(at: PlainDateTime, month: Month) -> Result<PlainDateTime, Refused>
 }
 
 fn with_day(at: PlainDateTime, value: i32) -> Result<PlainDateTime, Refused>
-    ensures { result ≡ replaced at part.Day value }
+    ensures { result ≡ with_part at part.Day value }
 {
     let day = unsigned_part(value, 31, Refused::Day)? as u8;
     Ok(at.replace_day(day)?)
 }
 
 fn with_ordinal(at: PlainDateTime, value: i32) -> Result<PlainDateTime, Refused>
-    ensures { result ≡ replaced at part.Ordinal value }
+    ensures { result ≡ with_part at part.Ordinal value }
 {
     let ordinal = unsigned_part(value, 366, Refused::Ordinal)? as u16;
     Ok(at.replace_ordinal(ordinal)?)
 }
 
 fn with_hour(at: PlainDateTime, value: i32) -> Result<PlainDateTime, Refused>
-    ensures { result ≡ replaced at part.Hour value }
+    ensures { result ≡ with_part at part.Hour value }
 {
     let hour = unsigned_part(value, 23, Refused::Hour)? as u8;
     Ok(at.replace_hour(hour)?)
 }
 
 fn with_minute(at: PlainDateTime, value: i32) -> Result<PlainDateTime, Refused>
-    ensures { result ≡ replaced at part.Minute value }
+    ensures { result ≡ with_part at part.Minute value }
 {
     let minute = unsigned_part(value, 59, Refused::Minute)? as u8;
     Ok(at.replace_minute(minute)?)
 }
 
 fn with_second(at: PlainDateTime, value: i32) -> Result<PlainDateTime, Refused>
-    ensures { result ≡ replaced at part.Second value }
+    ensures { result ≡ with_part at part.Second value }
 {
     let second = unsigned_part(value, 59, Refused::Second)? as u8;
     Ok(at.replace_second(second)?)
 }
 
 fn with_nanosecond(at: PlainDateTime, value: i32) -> Result<PlainDateTime, Refused>
-    ensures { result ≡ replaced at part.Nanosecond value }
+    ensures { result ≡ with_part at part.Nanosecond value }
 {
     let nanosecond = unsigned_part(value, 999_999_999, Refused::Nanosecond)?;
     Ok(at.replace_nanosecond(nanosecond)?)
@@ -148,7 +148,7 @@ fn date_time_replace(
     ensures { result ≡ date_time_replace date_time part value }
 {
     let at = read_date_time(date_time)?;
-    let wall = replaced(at.date_time(), read_part(part)?, value)?;
+    let wall = with_part(at.date_time(), read_part(part)?, value)?;
     Ok(date_time_of(at.replace_date_time(wall)))
 }
 
@@ -163,8 +163,7 @@ pub extern "C" fn muxandu_date_time_replace(
     value: i32,
     out: &mut MuxanduDateTime,
 ) -> MuxanduStatus
-    ensures status { result ≡ status_of (date_time_replace date_time part value) }
-    ensures written { out.new ≡ written (date_time_replace date_time part value) out.old }
+    ensures { Answers result out.old out.new (date_time_replace date_time part value) }
 {
     answer(date_time_replace(date_time, part, value), out)
 }
@@ -177,7 +176,7 @@ fn timestamp_replace(
     ensures { result ≡ timestamp_replace at part value }
 {
     let at = read_timestamp(at)?.to_utc().as_plain();
-    let wall = replaced(at, read_part(part)?, value)?;
+    let wall = with_part(at, read_part(part)?, value)?;
     Ok(timestamp_of(Timestamp::from(wall.as_utc())))
 }
 
@@ -190,8 +189,7 @@ pub extern "C" fn muxandu_timestamp_replace(
     value: i32,
     out: &mut MuxanduTimestamp,
 ) -> MuxanduStatus
-    ensures status { result ≡ status_of (timestamp_replace at part value) }
-    ensures written { out.new ≡ written (timestamp_replace at part value) out.old }
+    ensures { Answers result out.old out.new (timestamp_replace at part value) }
 {
     answer(timestamp_replace(at, part, value), out)
 }

@@ -102,7 +102,8 @@ fn refused_words(refused: Refused) -> &'static str
         Refused::DayNumber =>
             "A day number that is not -365961662 to 364522971, or a Julian day outside the range of dates.",
         Refused::Duration => "A duration whose whole seconds do not fit in 64 bits.",
-        Refused::Unit => "A number that is not a unit, or not a part of a date-time.",
+        Refused::Unit =>
+            "A number that is not a unit, not a part of a date-time, or not a kind, a version or an item of a format description.",
         Refused::Result => "A result that is outside the range, or that its type cannot hold.",
         Refused::Buffer => "A buffer that is too short for what the call writes.",
         Refused::Span => "A span that does not lie in the block of texts.",
@@ -112,7 +113,7 @@ fn refused_words(refused: Refused) -> &'static str
             "Hours of an offset that are out of range: above 23 in a text of RFC 3339, not -25 to 25 elsewhere.",
         Refused::OffsetMinute => "Minutes of an offset that are not -59 to 59.",
         Refused::NoText =>
-            "A value that has no text in RFC 3339: a year outside 0 to 9999, or an offset with seconds or beyond 23:59.",
+            "A value that has no such text, as in RFC 3339 a year outside 0 to 9999, or an offset with seconds or beyond 23:59.",
     }
 }
 

@@ -52,6 +52,11 @@ fn midnight(year: i32, month: u8, day: u8, offset_seconds: i32) -> MuxanduDateTi
 mod batches;
 mod date_times;
 mod dates;
+mod descriptions;
+mod field_spans;
+mod local_date_times;
+mod moments;
 mod parts;
+mod storage;
 mod texts;
 mod timestamps;

@@ -26,7 +26,7 @@ impl Conversion<MuxanduSpan, MuxanduDateTime> for FromTexts<'_> {
 
 // The date-time of the text of a span.
 #[inline(always)]
-fn date_time_in(texts: &[u8], span: MuxanduSpan) -> Result<MuxanduDateTime, Refused>
+pub(crate) fn date_time_in(texts: &[u8], span: MuxanduSpan) -> Result<MuxanduDateTime, Refused>
     ensures { result ≡ date_time_at texts.now span }
 {
     if span.start > texts.len() || span.length > texts.len() - span.start {
@@ -35,8 +35,9 @@ fn date_time_in(texts: &[u8], span: MuxanduSpan) -> Result<MuxanduDateTime, Refu
     date_time_of_text(&texts[span.start..span.start + span.length])
 }
 
+// The date-time of a text.
 #[inline(always)]
-fn date_time_of_text(text: &[u8]) -> Result<MuxanduDateTime, Refused>
+pub(crate) fn date_time_of_text(text: &[u8]) -> Result<MuxanduDateTime, Refused>
     ensures { result ≡ date_time_read text.now }
 {
     date_time_from_rfc3339(text)

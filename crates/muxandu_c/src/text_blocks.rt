@@ -5,7 +5,7 @@ ghost use Rattle.muxandu_c.specs.Answers.{written_over, text_if_room, length_of_
 ghost use Rattle.muxandu_c.specs.Exchange.{date_time_to_rfc3339};
 ghost use Rattle.muxandu_c.specs.TextBlocks.{texts_of, status_of_texts, spans_of, texts_in_block, block_status};
 
-use crate::batches::stopped;
+use crate::batches::stop_at;
 use crate::exchange::date_time_to_rfc3339;
 use crate::refused::Refused;
 use crate::values::{MuxanduBatch, MuxanduDateTime, MuxanduSpan};
@@ -30,7 +30,7 @@ pub extern "C" fn muxandu_date_times_to_rfc3339(
         ++ drop result.count spans.old }
 {
     if spans.len() < date_times.len() {
-        return stopped(0, Refused::Buffer);
+        return stop_at(0, Refused::Buffer);
     }
     fill_texts(date_times, texts, spans)
 }
@@ -56,7 +56,7 @@ fn fill_texts(
                 spans[k] = MuxanduSpan { start, length };
                 start += length;
             }
-            Err(refused) => return stopped(k, refused),
+            Err(refused) => return stop_at(k, refused),
         }
     }
     MuxanduBatch {
@@ -66,7 +66,7 @@ fn fill_texts(
 }
 
 // Puts the text of a date-time behind so many bytes of a block, if there is room, and says how long it is.
-fn write_text_at(
+pub(crate) fn write_text_at(
     date_time: MuxanduDateTime,
     block: &mut [u8],
     start: usize,

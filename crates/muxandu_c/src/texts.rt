@@ -1,6 +1,6 @@
 //! The texts of the library, into a buffer of the caller's.
 ghost use Rattle.std.specs.Prelude.{◌≡◌, ◌≤◌, length, IfOk};
-ghost use Rattle.muxandu_c.specs.Answers.{status_of, written, written_over, bytes_if_room, text_if_room, length_of_answer};
+ghost use Rattle.muxandu_c.specs.Answers.{status_of, value_or, written_over, bytes_if_room, text_if_room, length_of_answer};
 ghost use Rattle.muxandu_c.specs.Values.{date_time_text, timestamp_text_of};
 
 use crate::parts::{read_date_time, read_timestamp};
@@ -10,10 +10,10 @@ use calendar_values::Text;
 
 // Puts a text at the front of the buffer, if it has room, and its length into `size`.
 #[inline(always)]
-pub(crate) fn put(answer: Result<Text, Refused>, buffer: &mut [u8], size: &mut usize) -> u32
+pub(crate) fn put_text(answer: Result<Text, Refused>, buffer: &mut [u8], size: &mut usize) -> u32
     ensures status { result ≡ status_of (text_if_room answer buffer.old) }
     ensures written { buffer.new ≡ written_over (text_if_room answer buffer.old) buffer.old }
-    ensures size { size.new ≡ written (length_of_answer answer) size.old }
+    ensures size { size.new ≡ value_or (length_of_answer answer) size.old }
 {
     match answer {
         Ok(text) => {
@@ -61,10 +61,10 @@ pub extern "C" fn muxandu_date_time_text(
     ensures status { result ≡ status_of (text_if_room (date_time_text date_time) buffer.old) }
     ensures written { buffer.new ≡
         written_over (text_if_room (date_time_text date_time) buffer.old) buffer.old }
-    ensures size { size.new ≡ written (length_of_answer (date_time_text date_time)) size.old }
+    ensures size { size.new ≡ value_or (length_of_answer (date_time_text date_time)) size.old }
     ensures room { IfOk (date_time_text date_time) (λ text. length text ≤ 42) }
 {
-    put(date_time_text(date_time), buffer, size)
+    put_text(date_time_text(date_time), buffer, size)
 }
 
 fn timestamp_text(at: MuxanduTimestamp) -> Result<Text, Refused>
@@ -85,8 +85,8 @@ pub extern "C" fn muxandu_timestamp_text(
     ensures status { result ≡ status_of (text_if_room (timestamp_text_of at) buffer.old) }
     ensures written { buffer.new ≡
         written_over (text_if_room (timestamp_text_of at) buffer.old) buffer.old }
-    ensures size { size.new ≡ written (length_of_answer (timestamp_text_of at)) size.old }
+    ensures size { size.new ≡ value_or (length_of_answer (timestamp_text_of at)) size.old }
     ensures room { IfOk (timestamp_text_of at) (λ text. length text ≤ 25) }
 {
-    put(timestamp_text(at), buffer, size)
+    put_text(timestamp_text(at), buffer, size)
 }

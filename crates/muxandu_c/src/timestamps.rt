@@ -1,6 +1,6 @@
 //! Timestamps: instants by their Unix seconds.
 ghost use Rattle.std.specs.Prelude.{◌≡◌};
-ghost use Rattle.muxandu_c.specs.Answers.{status_of, written};
+ghost use Rattle.muxandu_c.specs.Answers.{Answers, status_of};
 ghost use Rattle.muxandu_c.specs.Values.{timestamp_value, timestamp_parts, timestamp_compare};
 ghost use Rattle.muxandu_c.specs.Values.{timestamp_add, timestamp_saturating_add};
 ghost use Rattle.muxandu_c.specs.Values.{timestamp_subtract, timestamp_saturating_subtract};
@@ -66,8 +66,7 @@ pub extern "C" fn muxandu_timestamp_add(
     duration: MuxanduDuration,
     out: &mut MuxanduTimestamp,
 ) -> MuxanduStatus
-    ensures status { result ≡ status_of (timestamp_add at duration) }
-    ensures written { out.new ≡ written (timestamp_add at duration) out.old }
+    ensures { Answers result out.old out.new (timestamp_add at duration) }
 {
     answer(timestamp_add(at, duration), out)
 }
@@ -90,8 +89,7 @@ pub extern "C" fn muxandu_timestamp_subtract(
     duration: MuxanduDuration,
     out: &mut MuxanduTimestamp,
 ) -> MuxanduStatus
-    ensures status { result ≡ status_of (timestamp_subtract at duration) }
-    ensures written { out.new ≡ written (timestamp_subtract at duration) out.old }
+    ensures { Answers result out.old out.new (timestamp_subtract at duration) }
 {
     answer(timestamp_subtract(at, duration), out)
 }
@@ -114,8 +112,7 @@ pub extern "C" fn muxandu_timestamp_saturating_add(
     duration: MuxanduDuration,
     out: &mut MuxanduTimestamp,
 ) -> MuxanduStatus
-    ensures status { result ≡ status_of (timestamp_saturating_add at duration) }
-    ensures written { out.new ≡ written (timestamp_saturating_add at duration) out.old }
+    ensures { Answers result out.old out.new (timestamp_saturating_add at duration) }
 {
     answer(timestamp_saturating_add(at, duration), out)
 }
@@ -138,8 +135,7 @@ pub extern "C" fn muxandu_timestamp_saturating_subtract(
     duration: MuxanduDuration,
     out: &mut MuxanduTimestamp,
 ) -> MuxanduStatus
-    ensures status { result ≡ status_of (timestamp_saturating_subtract at duration) }
-    ensures written { out.new ≡ written (timestamp_saturating_subtract at duration) out.old }
+    ensures { Answers result out.old out.new (timestamp_saturating_subtract at duration) }
 {
     answer(timestamp_saturating_subtract(at, duration), out)
 }
@@ -162,8 +158,7 @@ pub extern "C" fn muxandu_timestamp_difference(
     earlier: MuxanduTimestamp,
     out: &mut MuxanduDuration,
 ) -> MuxanduStatus
-    ensures status { result ≡ status_of (timestamp_difference later earlier) }
-    ensures written { out.new ≡ written (timestamp_difference later earlier) out.old }
+    ensures { Answers result out.old out.new (timestamp_difference later earlier) }
 {
     answer(timestamp_difference(later, earlier), out)
 }
@@ -183,8 +178,7 @@ pub extern "C" fn muxandu_timestamp_truncate(
     unit: MuxanduUnit,
     out: &mut MuxanduTimestamp,
 ) -> MuxanduStatus
-    ensures status { result ≡ status_of (timestamp_truncate at unit) }
-    ensures written { out.new ≡ written (timestamp_truncate at unit) out.old }
+    ensures { Answers result out.old out.new (timestamp_truncate at unit) }
 {
     answer(timestamp_truncate(at, unit), out)
 }
@@ -211,8 +205,7 @@ pub extern "C" fn muxandu_timestamp_from_milliseconds(
     milliseconds: i64,
     out: &mut MuxanduTimestamp,
 ) -> MuxanduStatus
-    ensures status { result ≡ status_of (timestamp_from_milliseconds milliseconds) }
-    ensures written { out.new ≡ written (timestamp_from_milliseconds milliseconds) out.old }
+    ensures { Answers result out.old out.new (timestamp_from_milliseconds milliseconds) }
 {
     answer(timestamp_from_milliseconds(milliseconds), out)
 }
@@ -229,8 +222,7 @@ pub extern "C" fn muxandu_timestamp_to_milliseconds(
     at: MuxanduTimestamp,
     out: &mut i64,
 ) -> MuxanduStatus
-    ensures status { result ≡ status_of (timestamp_to_milliseconds at) }
-    ensures written { out.new ≡ written (timestamp_to_milliseconds at) out.old }
+    ensures { Answers result out.old out.new (timestamp_to_milliseconds at) }
 {
     answer(timestamp_to_milliseconds(at), out)
 }
@@ -257,8 +249,7 @@ pub extern "C" fn muxandu_timestamp_to_microseconds(
     at: MuxanduTimestamp,
     out: &mut i64,
 ) -> MuxanduStatus
-    ensures status { result ≡ status_of (timestamp_to_microseconds at) }
-    ensures written { out.new ≡ written (timestamp_to_microseconds at) out.old }
+    ensures { Answers result out.old out.new (timestamp_to_microseconds at) }
 {
     answer(timestamp_to_microseconds(at), out)
 }
@@ -284,14 +275,13 @@ pub extern "C" fn muxandu_timestamp_to_nanoseconds(
     at: MuxanduTimestamp,
     out: &mut i64,
 ) -> MuxanduStatus
-    ensures status { result ≡ status_of (timestamp_to_nanoseconds at) }
-    ensures written { out.new ≡ written (timestamp_to_nanoseconds at) out.old }
+    ensures { Answers result out.old out.new (timestamp_to_nanoseconds at) }
 {
     answer(timestamp_to_nanoseconds(at), out)
 }
 
 // The number in 64 bits, if they hold it.
-fn in_64_bits(number: i128) -> Result<i64, Refused>
+pub(crate) fn in_64_bits(number: i128) -> Result<i64, Refused>
     ensures { result ≡ in_64_bits number }
 {
     if number < i64::MIN as i128 || number > i64::MAX as i128 {

@@ -1,4 +1,5 @@
-//! Texts of RFC 3339 with a `T`, at any offset. Vector lanes read their first sixteen bytes at once.
+//! Texts of RFC 3339 with a `T`, at any offset. Vector lanes read their first sixteen bytes at
+//! once.
 ghost use Rattle.std.specs.Prelude.{◌≡◌, ◌≤◌, ◌&&◌, ◌==◌, length, drop, Ok, Some, IfSome};
 ghost use Rattle.std.specs.Char.{is_ascii_digit};
 ghost use Rattle.calendar_values.specs.WallClock.{IsInstant};

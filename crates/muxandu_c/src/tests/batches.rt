@@ -3,6 +3,7 @@ use crate::batches::{
     muxandu_date_times_from_seconds, muxandu_dates_from_days, muxandu_days_from_dates,
     muxandu_seconds_from_date_times, muxandu_timestamps_from_rfc3339,
 };
+use crate::each_text_blocks::muxandu_each_date_time_to_rfc3339;
 use crate::text_batches::{muxandu_date_times_from_each_rfc3339, muxandu_date_times_from_rfc3339};
 use crate::text_blocks::muxandu_date_times_to_rfc3339;
 use crate::values::MuxanduSpan;
@@ -177,4 +178,32 @@ fn texts_into_a_block_without_room(rt: HostRuntime) {
     is(&rt, (batch.count, batch.status), (1, 20));
     is(&rt, (spans[0].length, spans[1].length), (20, 0));
     is(&rt, (block[19], block[20]), (b'Z', b'!'));
+}
+
+#[test]
+fn each_text_into_a_block(rt: HostRuntime) {
+    let items = [
+        midnight(10_000, 1, 1, 0),
+        midnight(1970, 1, 1, 0),
+        midnight(1970, 1, 1, 3_600),
+        midnight(1970, 1, 1, 0),
+    ];
+    let none = MuxanduSpan {
+        start: 7,
+        length: 7,
+    };
+    let (mut block, mut spans) = ([b'!'; 44], [none; 4]);
+    let mut statuses = [99; 4];
+    let batch = muxandu_each_date_time_to_rfc3339(&items, &mut block, &mut spans, &mut statuses);
+    is(&rt, (batch.count, batch.status), (2, 0));
+    is(&rt, (statuses[0], statuses[1]), (25, 0));
+    is(&rt, (statuses[2], statuses[3]), (20, 0));
+    is(&rt, (spans[0].start, spans[0].length), (0, 0));
+    is(&rt, (spans[1].start, spans[1].length), (0, 20));
+    is(&rt, (spans[2].start, spans[2].length), (20, 0));
+    is(&rt, (spans[3].start, spans[3].length), (20, 20));
+    is(&rt, (block[39], block[40]), (b'Z', b'!'));
+    let batch = muxandu_each_date_time_to_rfc3339(&items, &mut block, &mut spans, &mut [99; 3]);
+    is(&rt, (batch.count, batch.status), (0, 20));
+    is(&rt, (block[0], block[40]), (b'1', b'!'));
 }

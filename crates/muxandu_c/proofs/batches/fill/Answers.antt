@@ -10,13 +10,13 @@ returns-in-Err-clause-count g c =
     let value_of = g.C.Conversion.value_of c.args.conversion in
     let refused = c.in-Err.ensures ∙ ap value_of c.index-items-k.is in
     let done = values_of-refused value_of c.args.items.now c.loop-k.k _ _ c.in-Err.refused c.loop-k-test.true refused c.loop-k.invariant.values in
-    c.stopped.ensures.count ∙ length-front c.loop-k.k c.loop-k.out _ (search rules) done
+    c.stop_at.ensures.count ∙ length-front c.loop-k.k c.loop-k.out _ (search rules) done
 
 pub returns-in-Err-clause-status : goal.returns-in-Err-clause-status
 returns-in-Err-clause-status g c =
     let value_of = g.C.Conversion.value_of c.args.conversion in
     let refused = c.in-Err.ensures ∙ ap value_of c.index-items-k.is in
-    c.stopped.ensures.status ∙ status_of_items-refused value_of c.args.items.now c.loop-k.k _ c.in-Err.refused c.loop-k-test.true refused
+    c.stop_at.ensures.status ∙ status_of_items-refused value_of c.args.items.now c.loop-k.k _ c.in-Err.refused c.loop-k-test.true refused
     c.loop-k.invariant.status
 
 pub returns-in-Err-clause-written : goal.returns-in-Err-clause-written
@@ -24,7 +24,7 @@ returns-in-Err-clause-written g c =
     let value_of = g.C.Conversion.value_of c.args.conversion in
     let refused = c.in-Err.ensures ∙ ap value_of c.index-items-k.is in
     let done = values_of-refused value_of c.args.items.now c.loop-k.k _ _ c.in-Err.refused c.loop-k-test.true refused c.loop-k.invariant.values in
-    rw c.stopped.ensures.count (front-behind c.loop-k.k c.loop-k.out c.args.out.now _ done c.loop-k.invariant.behind)
+    rw c.stop_at.ensures.count (front-behind c.loop-k.k c.loop-k.out c.args.out.now _ done c.loop-k.invariant.behind)
 
 pub loop-k-preserved : goal.loop-k-preserved
 loop-k-preserved g c =

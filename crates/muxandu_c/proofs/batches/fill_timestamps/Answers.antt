@@ -6,7 +6,7 @@ use Rattle.muxandu_c.proofs.batches.fill_timestamps.Goals as goal
 
 pub returns-in-Err-clause-values : goal.returns-in-Err-clause-values
 returns-in-Err-clause-values c =
-    rw (c.stopped.ensures.count, c.stopped.ensures.status)
+    rw (c.stop_at.ensures.count, c.stop_at.ensures.status)
     (next_refused (IsReadAt c.args.texts.now) c.args.spans.now c.loop-k.k _ _ c.in-Err.refused c.loop-k-test.true c.in-Err.ensures c.loop-k.invariant.values)
 
 pub loop-k-preserved : goal.loop-k-preserved

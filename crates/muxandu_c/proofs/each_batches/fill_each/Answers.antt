@@ -18,16 +18,16 @@ loop-k-preserved g c =
     let converted = c.convert-answer.ensures in
     record {
       written =
-          written_each-more value_of items c.loop-k.k _ x c.loop-k.out _ c.index-out-k.result c.written.result answer _ low (search rules) item converted
-          c.index-out-k.is c.written.ensures before.written;
+          written_each-more value_of items c.loop-k.k _ x c.loop-k.out _ c.index-out-k.result c.value_or.result answer _ low (search rules) item converted
+          c.index-out-k.is c.value_or.ensures before.written;
       statuses =
           status_of_each-more value_of items c.loop-k.k _ x c.loop-k.statuses c.status_of.result answer _ low (search rules) item converted
           c.status_of.ensures before.statuses;
       behind = behind_next c.loop-k.statuses c.args.statuses.now c.loop-k.k c.status_of.result before.behind;
       count =
-          count_of_values-more value_of items c.loop-k.k _ x c.loop-k.count c.counted-count.result _ answer low item converted
-          c.counted-count.ensures.value before.count;
-      at_most = omega (arith, before.at_most, c.counted-count.ensures.at_most);
+          count_of_values-more value_of items c.loop-k.k _ x c.loop-k.count c.count_of-count.result _ answer low item converted
+          c.count_of-count.ensures.value before.count;
+      at_most = omega (arith, before.at_most, c.count_of-count.ensures.at_most);
       out_room = search rules;
       statuses_room = search rules;
     }

@@ -14,13 +14,13 @@ returns-in-Err-clause-count c =
     let before = c.loop-k.invariant in
     let refused = refused_in _ _ _ c.in-Err.refused c.in-Err.ensures.length before.texts_behind in
     let none = texts_of-refused date_time_to_rfc3339 c.args.date_times.now c.loop-k.k _ _ c.in-Err.refused c.loop-k-test.true refused in
-    c.stopped.ensures.count ∙ count_end c.loop-k.k _ _ none before.count
+    c.stop_at.ensures.count ∙ count_end c.loop-k.k _ _ none before.count
 
 pub returns-in-Err-clause-status : goal.returns-in-Err-clause-status
 returns-in-Err-clause-status c =
     let before = c.loop-k.invariant in
     let refused = refused_in _ _ _ c.in-Err.refused c.in-Err.ensures.length before.texts_behind in
-    c.stopped.ensures.status
+    c.stop_at.ensures.status
     ∙ sym (status_of_texts-refused date_time_to_rfc3339 c.args.date_times.now c.loop-k.k _ _ c.in-Err.refused c.loop-k-test.true refused)
     ∙ before.status
 
@@ -40,7 +40,7 @@ returns-in-Err-clause-spans c =
     let refused = refused_in _ _ _ c.in-Err.refused c.in-Err.ensures.length before.texts_behind in
     let none = texts_of-refused date_time_to_rfc3339 c.args.date_times.now c.loop-k.k _ _ c.in-Err.refused c.loop-k-test.true refused in
     let all = texts_of date_time_to_rfc3339 c.args.texts.now c.args.date_times.now in
-    rw c.stopped.ensures.count
+    rw c.stop_at.ensures.count
     (spans_end c.loop-k.start c.loop-k.k c.loop-k.spans c.args.spans.now _ all none before.spans before.spans_behind)
 
 pub loop-k-preserved : goal.loop-k-preserved

@@ -1,4 +1,3 @@
-use Rattle.std.proofs.Common.{◌∙◌}
 use Rattle.muxandu_c.proofs.WrittenTextLemmas.{room_for_any}
 use Rattle.muxandu_c.specs.Exchange.{date_time_to_rfc3339}
 use Rattle.muxandu_c.proofs.text_blocks.write_text.Goals as goal

@@ -1,0 +1,212 @@
+//! Date-times of the parts that a text names.
+ghost use Rattle.std.specs.Prelude.{◌≡◌, ◌==◌, Ok, Err};
+ghost use Rattle.calendar_values.specs.WallClock.{wall_clock};
+ghost use Rattle.offset_times.specs.Local.{wall_at};
+ghost use Rattle.muxandu_c.specs.Parses.{value_fault, value_or_fault, value_by_kind, offset_value, plain_value, date_value, time_value};
+ghost use Rattle.muxandu_c.specs.Parses.{utc_offset_value, zoned_value, counted_value, offset_or_utc, shown_value, with_rest};
+ghost use Rattle.muxandu_c.specs.Parses.{number_or, signed_or, agreeing_value, whole_value};
+ghost use Rattle.muxandu_c.specs.Values.{date_time_parts};
+
+use crate::outcomes::{Fault, plain_fault};
+use crate::parts::{date_time_of, shown_as_if_utc, wall_of, wall_parts};
+use crate::reasons::reason_of_field;
+use crate::refused::Refused;
+use crate::values::MuxanduDateTime;
+use calendar_values::{Date, Time, UtcOffset};
+use format_descriptions::{Field, Parts, ValueRefusal};
+use offset_times::OffsetDateTime;
+use stamp_times::Timestamp;
+
+// The date-time of parts, by its kind.
+#[tactic(auto, unfolding(crate::specs::Parses::value_by_kind))]
+pub(crate) fn value_by_kind(kind: u32, parts: Parts) -> Result<MuxanduDateTime, Fault>
+    ensures { result ≡ value_by_kind kind parts }
+{
+    match kind {
+        1 => value_or_fault(zoned_value(parts)),
+        2 => value_or_fault(plain_value(parts)),
+        3 => value_or_fault(date_value(parts)),
+        4 => value_or_fault(time_value(parts)),
+        5 => value_or_fault(utc_offset_value(parts)),
+        _ => Err(plain_fault(Refused::Unit)),
+    }
+}
+
+// A date-time, or why there is none.
+fn value_or_fault(value: Result<MuxanduDateTime, ValueRefusal>) -> Result<MuxanduDateTime, Fault>
+    ensures { result ≡ value_or_fault value }
+{
+    match value {
+        Ok(date_time) => Ok(date_time),
+        Err(refusal) => Err(value_fault(refusal)),
+    }
+}
+
+fn value_fault(refusal: ValueRefusal) -> Fault
+    ensures { result ≡ value_fault refusal }
+{
+    match refusal {
+        ValueRefusal::Missing(field) => Fault {
+            place: 0,
+            refused: Refused::Syntax,
+            reason: reason_of_field(field),
+        },
+        ValueRefusal::Wrong(field) => Fault {
+            place: 0,
+            refused: Refused::Result,
+            reason: reason_of_field(field),
+        },
+    }
+}
+
+// The parts of a date and a time of day at an offset.
+fn parts_of(date: Date, time: Time, offset: UtcOffset) -> MuxanduDateTime
+    ensures { result ≡ date_time_parts (wall_at (wall_clock date time) offset) }
+{
+    date_time_of(OffsetDateTime::new_in_offset(date, time, offset))
+}
+
+fn date_value(parts: Parts) -> Result<MuxanduDateTime, ValueRefusal>
+    ensures { result ≡ date_value parts }
+{
+    let date = parts.date()?;
+    Ok(parts_of(date, Time::MIDNIGHT, UtcOffset::UTC))
+}
+
+fn time_value(parts: Parts) -> Result<MuxanduDateTime, ValueRefusal>
+    ensures { result ≡ time_value parts }
+{
+    let time = parts.time()?;
+    Ok(parts_of(Date::UNIX_EPOCH, time, UtcOffset::UTC))
+}
+
+fn utc_offset_value(parts: Parts) -> Result<MuxanduDateTime, ValueRefusal>
+    ensures { result ≡ utc_offset_value parts }
+{
+    let offset = parts.offset()?;
+    Ok(parts_of(Date::UNIX_EPOCH, Time::MIDNIGHT, offset))
+}
+
+fn plain_value(parts: Parts) -> Result<MuxanduDateTime, ValueRefusal>
+    ensures { result ≡ plain_value parts }
+{
+    let date = parts.date()?;
+    let time = parts.time()?;
+    Ok(parts_of(date, time, UtcOffset::UTC))
+}
+
+fn offset_value(parts: Parts) -> Result<MuxanduDateTime, ValueRefusal>
+    ensures { result ≡ offset_value parts }
+{
+    let date = parts.date()?;
+    let time = parts.time()?;
+    let offset = parts.offset()?;
+    Ok(parts_of(date, time, offset))
+}
+
+// The date-time of a Unix timestamp, or else of a date, a time of day and an offset.
+fn zoned_value(parts: Parts) -> Result<MuxanduDateTime, ValueRefusal>
+    ensures { result ≡ zoned_value parts }
+{
+    match parts.timestamp() {
+        Ok(at) => counted_value(parts, at),
+        Err(ValueRefusal::Missing(_)) => offset_value(parts),
+        Err(ValueRefusal::Wrong(field)) => Err(ValueRefusal::Wrong(field)),
+    }
+}
+
+// The date-time of an instant at the offset of the parts, if they agree with it.
+fn counted_value(parts: Parts, at: Timestamp) -> Result<MuxanduDateTime, ValueRefusal>
+    ensures { result ≡ counted_value parts at }
+{
+    let offset = offset_or_utc(parts)?;
+    match shown_as_if_utc(at, offset.whole_seconds()) {
+        Ok(wall) => shown_value(parts, wall, offset),
+        Err(_) => Err(ValueRefusal::Wrong(Field::OffsetHour)),
+    }
+}
+
+// The offset of the parts, or that of UTC.
+fn offset_or_utc(parts: Parts) -> Result<UtcOffset, ValueRefusal>
+    ensures { result ≡ offset_or_utc parts }
+{
+    match parts.offset() {
+        Ok(offset) => Ok(offset),
+        Err(ValueRefusal::Missing(_)) => Ok(UtcOffset::UTC),
+        Err(ValueRefusal::Wrong(field)) => Err(ValueRefusal::Wrong(field)),
+    }
+}
+
+// The date-time that clocks at an offset show, if the parts agree with it.
+fn shown_value(
+    parts: Parts,
+    wall: Timestamp,
+    offset: UtcOffset,
+) -> Result<MuxanduDateTime, ValueRefusal>
+    ensures { result ≡ shown_value parts wall offset }
+{
+    whole_value(
+        with_rest(parts, wall_parts(wall, offset.whole_seconds())),
+        wall,
+        offset,
+    )
+}
+
+// The same of parts that lack none.
+fn whole_value(
+    whole: Parts,
+    wall: Timestamp,
+    offset: UtcOffset,
+) -> Result<MuxanduDateTime, ValueRefusal>
+    ensures { result ≡ whole_value whole wall offset }
+{
+    let date = whole.date()?;
+    let time = whole.time()?;
+    agreeing_value(wall, OffsetDateTime::new_in_offset(date, time, offset))
+}
+
+// The date-time of this wall clock, if it shows that.
+fn agreeing_value(wall: Timestamp, at: OffsetDateTime) -> Result<MuxanduDateTime, ValueRefusal>
+    ensures { result ≡ agreeing_value wall at }
+{
+    if wall_of(at) == wall {
+        Ok(date_time_of(at))
+    } else {
+        Err(ValueRefusal::Wrong(Field::UnixSecond))
+    }
+}
+
+// The parts with those of a date-time where the text does not give them.
+#[tactic(auto, unfolding(crate::specs::Parses::with_rest))]
+fn with_rest(parts: Parts, at: MuxanduDateTime) -> Parts
+    ensures { result ≡ with_rest parts at }
+{
+    Parts {
+        year: signed_or(parts.year, at.year),
+        month: number_or(parts.month, at.month as u32),
+        day: number_or(parts.day, at.day as u32),
+        hour: number_or(parts.hour, at.hour as u32),
+        minute: number_or(parts.minute, at.minute as u32),
+        second: number_or(parts.second, at.second as u32),
+        nanosecond: number_or(parts.nanosecond, at.nanosecond),
+        ..parts
+    }
+}
+
+fn number_or(known: Option<u32>, number: u32) -> Option<u32>
+    ensures { result ≡ number_or known number }
+{
+    match known {
+        Some(known) => Some(known),
+        None => Some(number),
+    }
+}
+
+fn signed_or(known: Option<i32>, number: i32) -> Option<i32>
+    ensures { result ≡ signed_or known number }
+{
+    match known {
+        Some(known) => Some(known),
+        None => Some(number),
+    }
+}
