@@ -1,4 +1,4 @@
--- What lines are answered with.
+-- The answers to lines.
 use Rattle.std.specs.Prelude.{ℕ, Bool, false, List, [], ◌∷◌, ◌++◌, take, codes, decimal, flat_map, ℤ, Option, Some, None, Result, Ok, Err, is_ok}
 use Rattle.std.specs.Fmt.{signed_decimal}
 use Rattle.calendar_values.specs.Calendar.{ordinal_of, julian_day_of}
@@ -28,16 +28,16 @@ unfoldable pub day_text : ℤ → List ℕ
 day_text day =
     decimal (ordinal_of day) ++ codes " " ++ weekday_name (weekday_numbered (weekday_of day)) ++ codes " " ++ signed_decimal (julian_day_of day)
 
--- the text of an instant in UTC, and what its day shows
+-- the text of an instant in UTC, and the text of its day
 abbrev pub stamp_text : ℤ → List ℕ
 stamp_text instant = utc_text instant ++ codes " " ++ day_text (wall_day instant)
 
--- an instant with its nanosecond replaced, unless one of the two is refused
+-- an instant with its nanosecond replaced, or the error of one of the two
 abbrev pub with_instant_nanosecond : Result ℤ Refusal → ℕ → Result ℤ Refusal
 with_instant_nanosecond (Ok instant) nanosecond = (wall_nanosecond_outcome instant nanosecond).answer
 with_instant_nanosecond (Err refusal) nanosecond = Err refusal
 
--- the text of an instant, or the refusal: `refused` and the name of the part
+-- the text of an instant, or of the error: `refused` and the name of the part
 abbrev pub text_or_refusal : (ℤ → List ℕ) → Result ℤ Refusal → List ℕ
 text_or_refusal text (Ok instant) = text instant
 text_or_refusal text (Err refusal) = refused_text refusal
@@ -46,7 +46,7 @@ text_or_refusal text (Err refusal) = refused_text refusal
 unfoldable pub unix_answer : ℤ → List ℕ
 unix_answer second = text_or_refusal utc_text (unix_instant second)
 
--- the answer to `stamp S N`: the text of that second with its nanosecond replaced, and what its day shows
+-- the answer to `stamp S N`: the text of that second with its nanosecond replaced, and the text of its day
 unfoldable pub stamp_answer : ℤ → ℕ → List ℕ
 stamp_answer second nanosecond = text_or_refusal stamp_text (with_instant_nanosecond (unix_instant second) nanosecond)
 
@@ -59,19 +59,19 @@ run_text calls start =
 unfoldable pub run_answer : ℤ → ℕ → List Call → List ℕ
 run_answer second nanosecond calls = text_or_refusal (run_text calls) (timestamp_of_parts second nanosecond)
 
--- the start of a chain: an instant that is held by a timestamp or in UTC, or what clocks in UTC show then as the wall clock at an offset
+-- the start of a chain: an instant as a timestamp or in UTC, or its wall clock in UTC taken as one at an offset
 abbrev pub held_start : Step → ℤ → Held
 held_start ToStamp i = held.Stamp i
 held_start ToUtc i = held.Utc i
 held_start (ToOffset o) i = held.Offset (wall_at i o)
 
--- what is held at the end, or where the chain stopped and what is held there
+-- the text of the value at the end, or of the index at which the chain stopped and of the value there
 abbrev pub arrival_text : Held → List Step → Option ℕ → List ℕ
 arrival_text start steps None = held_text (held_after start (held_instant start) steps)
 arrival_text start steps (Some index) =
     codes "stopped " ++ decimal index ++ codes " " ++ held_text (held_after start (held_instant start) (take index steps))
 
--- the chain of conversions
+-- the text of a chain of conversions
 unfoldable pub chain_text : Step → List Step → ℤ → List ℕ
 chain_text start steps i = let from = held_start start i in arrival_text from steps (stop_index (held_instant from) steps)
 
@@ -79,7 +79,7 @@ chain_text start steps i = let from = held_start start i in arrival_text from st
 unfoldable pub chain_answer : ℤ → ℕ → Step → List Step → List ℕ
 chain_answer second nanosecond start steps = text_or_refusal (chain_text start steps) (timestamp_of_parts second nanosecond)
 
--- the answer to what a line asks for; a line that asks for nothing is a bad line
+-- the answer to the request of a line, or `bad line` if it has none
 abbrev pub answer_to : Option Request → List ℕ
 answer_to (Some (Unix second)) = unix_answer second
 answer_to (Some (Stamp second nanosecond)) = stamp_answer second nanosecond
@@ -91,7 +91,7 @@ answer_to None = codes "bad line"
 unfoldable pub answer_of : List ℕ → List ℕ
 answer_of line = answer_to (request_of line) ++ 10 ∷ []
 
--- whether the replies to what a line asks for take memory: those of a run from an instant of the range
+-- whether the replies to a request take memory: those of a run from an instant in range do
 abbrev pub request_takes_memory : Option Request → Bool
 request_takes_memory (Some (Unix second)) = false
 request_takes_memory (Some (Stamp second nanosecond)) = false

@@ -1,4 +1,4 @@
--- How a call of a run reads: a name, and after `=` the arguments with `,` between.
+-- The call of a word of a run: a name, and after `=` the arguments with `,` between.
 use Rattle.std.specs.Prelude.{ℕ, ◌&&◌, ◌||◌, List, [], ◌∷◌, ℤ, pos, neg_ℤ, int_lt, codes, if◌then◌else◌, Option, Some, None}
 use Rattle.std.specs.Option.{option_map, option_and_then, option_or}
 use Rattle.std.specs.Result.{result_ok}
@@ -23,7 +23,7 @@ use Rattle.times_bench.specs.Numbers.{i64_of, i32_of, u32_of, u16_of, u8_of}
 use Rattle.times_bench.specs.StepWords.{parse_offset}
 use Rattle.times_bench.specs.Words.{cut_at, arguments_of, exactly_one, exactly_two, exactly_three, exactly_four}
 
--- what stands beside a name
+-- the value next to a name
 abbrev pub entry_of : {A : Type 0} → List (List ℕ × A) → List ℕ → Option A
 entry_of [] name = None
 entry_of (first ∷ others) name = if bytes_eq name first.0 then Some first.1 else entry_of others name
@@ -64,7 +64,7 @@ clock_reads =
 unfoldable pub read_of : List ℕ → Option Call
 read_of name = option_or (option_map call.ReadDate (entry_of date_reads name)) (option_map call.ReadClock (entry_of clock_reads name))
 
--- the parts of a duration: seconds, and less than a second in nanoseconds of the same sign
+-- the duration of its parts: seconds, and nanoseconds of the same sign that are less than a second
 abbrev pub duration_of_numbers : ℤ → ℤ → Option ℤ
 duration_of_numbers s f =
     if is_outside (neg_ℤ (pos 999_999_999)) (pos 999_999_999) f || (int_lt s (pos 0) && int_lt (pos 0) f) || (int_lt (pos 0) s && int_lt f (pos 0)) then None
@@ -149,7 +149,7 @@ call_with name arguments =
     option_or (option_map call.Shift (shift_with name arguments))
     (option_or (option_map call.Replace (replace_with name arguments)) (option_map call.Local (local_with name arguments)))
 
--- a call, by what stands before its `=` and after it
+-- a call, by the parts before and after its `=`
 unfoldable pub call_of_parts : List (List ℕ) → Option Call
 call_of_parts [] = None
 call_of_parts (name ∷ []) = read_of name

@@ -1,11 +1,11 @@
--- What faults are called.
+-- The messages of faults.
 use Rattle.std.specs.Prelude.{ℕ, List, codes}
 use Rattle.times_bench.specs.declared.bench.BenchFault.{BenchFault}
 use Rattle.times_bench.specs.declared.bench.BenchFault.TheVariants.{Read, Write, Memory}
 use Rattle.times_bench.specs.declared.sending.AnswerFault.{AnswerFault}
 use Rattle.times_bench.specs.declared.sending.AnswerFault.TheVariants as sending
 
--- what ends the work where a fault ends the sending of an answer
+-- the fault of the work for a fault of sending an answer
 abbrev pub bench_fault : AnswerFault → BenchFault
 bench_fault sending.Write = Write
 bench_fault sending.Memory = Memory

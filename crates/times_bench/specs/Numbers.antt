@@ -6,16 +6,16 @@ use Rattle.std.specs.Option.{option_map}
 use Rattle.std.specs.Str.Parse.{starts_with_minus, digits_value}
 use Rattle.calendar_values.specs.Range.{is_outside}
 
--- what stands after the `-`, if there is one
+-- the text after the `-`, if there is one
 abbrev pub number_digits : List ℕ → List ℕ
 number_digits text = if starts_with_minus text then drop 1 text else text
 
--- at least one decimal digit, and nothing else
+-- whether a text is at least one decimal digit, and nothing else
 abbrev pub is_numeral : List ℕ → Bool
 is_numeral [] = false
 is_numeral (digit ∷ digits) = list_all is_ascii_digit (digit ∷ digits)
 
--- the value of the digits, below 0 where a `-` stands before them
+-- the value of the digits, below 0 if a `-` is before them
 abbrev pub number_value : List ℕ → ℤ
 number_value text =
     if starts_with_minus text then neg_ℤ (pos (digits_value 10 (number_digits text)))

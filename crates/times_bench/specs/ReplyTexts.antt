@@ -1,4 +1,4 @@
--- How the replies of a run and what a chain holds print.
+-- The texts of the replies of a run, and of the values of a chain.
 use Rattle.std.specs.Prelude.{ℕ, ℤ, List, ◌++◌, codes, decimal}
 use Rattle.std.specs.Fmt.{signed_decimal}
 use Rattle.calendar_values.specs.Month.{month_name}
@@ -69,7 +69,7 @@ clock_part_text (clock_part.Millisecond milli) = decimal milli
 clock_part_text (clock_part.Microsecond micro) = decimal micro
 clock_part_text (clock_part.Nanosecond nano) = decimal nano
 
--- the reply to a call
+-- the text of the reply to a call
 unfoldable pub reply_text : Reply → List ℕ
 reply_text (replied.DatePart part) = date_part_text part
 reply_text (replied.ClockPart part) = clock_part_text part
@@ -78,7 +78,7 @@ reply_text replied.Refused = codes "refused"
 reply_text (replied.RefusedPart refusal) = refused_text refusal
 reply_text (replied.Local n c o) = date_text n ++ codes " " ++ time_text c ++ codes " " ++ offset_text o
 
--- the type that holds an instant, and its text
+-- the type of a value of a chain, and its text
 unfoldable pub held_text : Held → List ℕ
 held_text (held.Stamp i) = codes "stamp " ++ timestamp_text i
 held_text (held.Utc i) = codes "utc " ++ utc_text i

@@ -1,4 +1,4 @@
--- What a line asks for: its words, and how they read.
+-- The request of a line, by its words.
 use Rattle.std.specs.Prelude.{ℕ, nat_lt, List, [], ◌∷◌, length, codes, if◌then◌else◌, ℤ, Option, None}
 use Rattle.std.specs.Option.{option_map, option_and_then}
 use Rattle.std.specs.Str.{bytes_eq}
@@ -9,7 +9,7 @@ use Rattle.times_bench.specs.Numbers.{i64_of, u32_of}
 use Rattle.times_bench.specs.StepWords.{step_of}
 use Rattle.times_bench.specs.Words.{words_of, exactly_one, exactly_two, all_of}
 
--- what lines ask for
+-- the requests of lines
 pub data Request : Type 0 where
   Unix : ℤ → Request
   Stamp : ℤ → ℕ → Request
@@ -36,7 +36,7 @@ parse_instant (second ∷ nanosecond ∷ words) =
 unfoldable pub run_request : List (List ℕ) → Option Request
 run_request words = option_and_then (λ from. option_map (Run from.0 from.1) (all_of call_of from.2)) (parse_instant words)
 
--- `START STEP..`: START says what holds the start, as a step says what holds the instant after it
+-- `START STEP..`: START names the type of the start, as a step names the type after it
 unfoldable pub chain_from : ℤ → ℕ → List (List ℕ) → Option Request
 chain_from s n [] = None
 chain_from s n (start ∷ steps) = option_and_then (λ at. option_map (Chain s n at) (all_of step_of steps)) (step_of start)
@@ -45,7 +45,7 @@ chain_from s n (start ∷ steps) = option_and_then (λ at. option_map (Chain s n
 unfoldable pub chain_request : List (List ℕ) → Option Request
 chain_request words = option_and_then (λ from. chain_from from.0 from.1 from.2) (parse_instant words)
 
--- what the words of a line ask for: the first says its kind
+-- the request of the words of a line: the first names its kind
 abbrev pub request_of_words : List (List ℕ) → Option Request
 request_of_words [] = None
 request_of_words (kind ∷ words) =
@@ -55,10 +55,10 @@ request_of_words (kind ∷ words) =
     else (if bytes_eq kind (codes "chain") then chain_request words
     else None)))
 
--- the most bytes of a line that asks for something
+-- the most bytes of a line that has a request
 abbrev pub longest_line : ℕ
 longest_line = 1024
 
--- what a line asks for; one that is too long asks for nothing
+-- the request of a line, or None if it is too long or has no request
 unfoldable pub request_of : List ℕ → Option Request
 request_of line = if nat_lt longest_line (length line) then None else request_of_words (words_of line)

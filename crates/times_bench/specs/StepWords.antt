@@ -1,4 +1,4 @@
--- How a step of a chain reads.
+-- The step of a word of a chain.
 use Rattle.std.specs.Prelude.{ℕ, ◌+◌, ◌*◌, ◌-◌, ◌==◌, ◌&&◌, nat_lt, not, List, [], ◌∷◌, ℤ, pos, neg_ℤ, codes, if◌then◌else◌, Option, Some, None}
 use Rattle.std.specs.Char.{is_ascii_digit}
 use Rattle.std.specs.Option.{option_map, option_and_then}

@@ -1,4 +1,4 @@
--- What holds of the reader and the writer while an input is answered, block by block.
+-- The reader and the writer while the program answers an input, block by block.
 use Rattle.std.specs.Prelude.{◌≡◌, ℕ, zero, suc, ◌-◌, ◌^◌, ◌<◌, ◌≤◌, ◌⊎◌, true, false, List, [], length, Some, Result, Ok, Err, IfSome}
 use Rattle.std.specs.Io.KnownBytes.{Appends, Consumes}
 use Rattle.line_devices.specs.Device.{Devices}
@@ -46,13 +46,13 @@ pub record StopsForMemory (first now : Devices) : Type 0 where
   pub no_read_failed : now.read_failed ≡ false
   pub no_write_failed : now.write_failed ≡ false
 
--- what ends the work
+-- the reader and the writer after the fault that ended the work
 abbrev pub Stops : BenchFault → Devices → Devices → Type 0
 Stops Read first now = StopsAtRead first now
 Stops Write first now = StopsAtWrite first now
 Stops Memory first now = StopsForMemory first now
 
--- behind so many bytes, more of them were answered, none is left, or a fault ended the work
+-- after the bytes that were read, more were read and answered, none is left, or a fault ended the work
 abbrev pub Turns : Result ℕ BenchFault → Devices → Devices → List ℕ → List ℕ → List ℕ → Type 0
 Turns (Ok zero) first now pending line taken = Completes first now
 Turns (Ok (suc more)) first now pending line taken =
