@@ -3,7 +3,7 @@ use Rattle.std.specs.Prelude.{ℕ, ℤ, pos, ◌+ℤ◌, ◌==◌, if◌then◌e
 use Rattle.calendar_values.specs.Calendar.{is_leap_year, days_in_month, day_of_calendar_date}
 use Rattle.calendar_values.specs.Months.{last_of_month}
 
--- the day of a month, or the month's last day where it is shorter
+-- the day of a month, or the last day of the month if it is shorter
 abbrev pub day_or_last : ℤ → ℕ → ℕ → ℤ
 day_or_last y m d = day_of_calendar_date y m (min d (days_in_month (is_leap_year y) m))
 

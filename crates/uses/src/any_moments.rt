@@ -1,9 +1,12 @@
 //! Lists of instants of any type.
-ghost use Rattle.std.specs.Prelude.{◌≡◌, ◌↔◌, ◌≤ℤ◌, [], All, Contains, IfSome, IsNone, IsPermutation, IsSortedByKey, IsSorted, OnOk};
-ghost use Rattle.std.specs.Ordering.{int_cmp};
+ghost use Rattle.std.specs.Prelude.{◌≡◌, ◌↔◌, ◌<ℤ◌, ◌≤ℤ◌, [], All, Contains, IfSome, IsNone, IsPermutation, IsSorted, IsSortedByKey, IsTrue, OnOk};
+ghost use Rattle.std.specs.List.Sorted.{IsStrictlySortedBy};
+ghost use Rattle.std.specs.Ordering.{int_cmp, on};
+ghost use Rattle.stamp_times.specs.Logs.{ContainsByKey};
 
-use stamp_times::Moment;
+use stamp_times::{Moment, moment_logs};
 use std::alloc::AllocError;
+use utc_times::UtcDateTime;
 
 /// The latest of instants in any order. None if there are none.
 pub fn latest<M: Moment>(ats: &[M]) -> Option<M>
@@ -12,7 +15,7 @@ pub fn latest<M: Moment>(ats: &[M]) -> Option<M>
     ensures none_later { IfSome result (λ latest.
         All (λ at. M.instant at ≤ℤ M.instant latest) ats.now) }
 {
-    ats.iter().copied().max()
+    moment_logs::latest(ats)
 }
 
 /// Puts instants into the order of time.
@@ -29,4 +32,57 @@ pub fn later<M: Moment>(one: M, other: M) -> M
     ensures not_before_other { M.instant other ≤ℤ M.instant result }
 {
     if one < other { other } else { one }
+}
+
+/// Whether a sorted log has an entry of that instant.
+pub fn has<M: Moment>(log: &[M], at: M) -> bool
+    requires { IsSortedByKey M.instant int_cmp log.now }
+    ensures { IsTrue result ↔ ContainsByKey M.instant log.now at }
+{
+    moment_logs::find(log, at).is_some()
+}
+
+/// Enters an instant in a log that has each instant once, whether it is new or not.
+pub fn enter<M: Moment>(log: &mut Vec<M>, at: M) -> Result<(), AllocError>
+    requires { IsStrictlySortedBy (on M.instant int_cmp) log.old.items }
+    ensures in_order { IsStrictlySortedBy (on M.instant int_cmp) log.new.items }
+    ensures entered { OnOk result (ContainsByKey M.instant log.new.items at) }
+    ensures kept { (entry : M) → ContainsByKey M.instant log.old.items entry →
+        ContainsByKey M.instant log.new.items entry }
+{
+    moment_logs::enter(log, at)?;
+    Ok(())
+}
+
+/// Removes an instant from a log that has each instant once. Whether it was there.
+pub fn withdraw<M: Moment>(log: &mut Vec<M>, at: M) -> bool
+    requires { IsStrictlySortedBy (on M.instant int_cmp) log.old.items }
+    ensures in_order { IsStrictlySortedBy (on M.instant int_cmp) log.new.items }
+    ensures gone { ¬ ContainsByKey M.instant log.new.items at }
+    ensures was_there { IsTrue result ↔ ContainsByKey M.instant log.old.items at }
+{
+    moment_logs::remove(log, at)
+}
+
+/// Whether a date-time is after every entry of a log in order.
+pub fn is_news(log: &[UtcDateTime], at: UtcDateTime) -> bool
+    requires { IsSorted int_cmp log.now }
+    ensures { IsTrue result → All (λ entry. entry <ℤ at) log.now }
+{
+    moment_logs::last(log).is_none_or(|last| last < at)
+}
+
+/// Puts date-times of two lists in order, each instant once, and removes one.
+pub fn join_without(
+    log: &mut Vec<UtcDateTime>,
+    other: &[UtcDateTime],
+    at: UtcDateTime,
+) -> Result<(), AllocError>
+    ensures in_order { OnOk result (IsStrictlySortedBy int_cmp log.new.items) }
+    ensures sorted { OnOk result (IsSorted int_cmp log.new.items) }
+    ensures gone { OnOk result (¬ Contains log.new.items at) }
+{
+    moment_logs::merge(log, other)?;
+    moment_logs::remove(log, at);
+    Ok(())
 }

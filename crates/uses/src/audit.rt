@@ -19,8 +19,8 @@ pub fn comes_before(first: &Audit, second: &Audit) -> bool
     first.at < second.at
 }
 
-/// The record for a reader at another offset: who did it and the instant stay. None where clocks there show
-/// no date of the range.
+/// The record for a reader at another offset: who did it and the instant stay. None where clocks
+/// there show no date of the range.
 pub fn shown_at(audit: Audit, offset: UtcOffset) -> Option<Audit>
     ensures user { IfSome result (λ shown. shown.user ≡ audit.user) }
     ensures instant { IfSome result (λ shown. instant_of shown.at ≡ instant_of audit.at) }

@@ -6,7 +6,7 @@ use stamp_times::Timestamp;
 use std::alloc::{AllocError, Global};
 
 /// The timestamps of Unix seconds, or the place of the first that no timestamp has.
-pub fn imported(alloc: Global, seconds: &[i64]) -> Result<Result<Vec<Timestamp>, usize>, AllocError>
+pub fn import(alloc: Global, seconds: &[i64]) -> Result<Result<Vec<Timestamp>, usize>, AllocError>
     ensures all { IfOk result (λ made. IfOk made (λ stamps.
         stamps.items ≡ map instant_of_second seconds.now)) }
     ensures place { IfOk result (λ made. IfErr made (λ place. place < length seconds.now)) }

@@ -1,14 +1,15 @@
 //! Months that are billed, by the clocks of the customer.
 
 ghost use Rattle.std.specs.Prelude.{◌≡◌, ◌<◌, ◌≤◌, ◌+◌, ◌+ℤ◌, pos, IfOk, IfSome, SomeIff};
-ghost use Rattle.calendar_values.specs.Calendar.{year_of, month_of, day_of_month_of};
+ghost use Rattle.calendar_values.specs.Calendar.{days_in_month, is_leap_year, year_of, month_of, day_of_month_of};
 ghost use Rattle.calendar_values.specs.Month.{month_number};
+ghost use Rattle.calendar_values.specs.Months.{last_of_month};
 ghost use Rattle.calendar_values.specs.Range.{IsDay};
 ghost use Rattle.calendar_values.specs.WallClock.{wall_day, wall_time};
 ghost use Rattle.uses.specs.Months as months;
 
 use crate::invoices::{day_or_last, last_day_of_month};
-use calendar_values::{ComponentRange, Date, Month, Time};
+use calendar_values::{ComponentRange, Date, Month, Time, days_in_month};
 use offset_times::OffsetDateTime;
 
 /// The midnight with which the month begins where the customer is.
@@ -33,8 +34,8 @@ pub fn first_day(year: i32, month: Month) -> Result<Date, ComponentRange>
     Date::from_calendar_date(year, month, 1)
 }
 
-/// The day of a month on which a bill is due: the month's last where it is shorter. Refused `year` outside
-/// the range.
+/// The day of a month on which a bill is due: the month's last where it is shorter. Refused `year`
+/// outside the range.
 pub fn due_day(year: i32, month: Month, day: u8) -> Result<Date, ComponentRange>
     requires { 1 ≤ day }
     ensures month { IfOk result (λ due. month_of due ≡ month_number month) }
@@ -54,4 +55,27 @@ pub fn next_period(date: Date) -> Option<Date>
         (year_of first ≡ year_of date +ℤ pos 1) × (month_of first ≡ 1)) }
 {
     last_day_of_month(date).next_day()
+}
+
+/// The last day of the month of the date, by the number of its days.
+pub fn last_day(date: Date) -> Date
+    ensures { result ≡ last_of_month date }
+{
+    date.replace_day(days_in_month(date.year(), date.month()))
+        .unwrap()
+}
+
+/// The midnight with which the last day of the month begins where the customer is.
+pub fn period_end(at: OffsetDateTime) -> Result<OffsetDateTime, ComponentRange>
+    ensures offset { IfOk result (λ end. end.offset ≡ at.offset) }
+    ensures midnight { IfOk result (λ end. wall_time end.wall ≡ 0) }
+    ensures last { IfOk result (λ end. day_of_month_of (wall_day end.wall) ≡
+        days_in_month (is_leap_year (year_of (wall_day at.wall))) (month_of (wall_day at.wall))) }
+    ensures month { IfOk result (λ end. month_of (wall_day end.wall) ≡
+        month_of (wall_day at.wall)) }
+    ensures year { IfOk result (λ end. year_of (wall_day end.wall) ≡
+        year_of (wall_day at.wall)) }
+{
+    let days = days_in_month(at.year(), at.month());
+    Ok(at.replace_day(days)?.replace_time(Time::MIDNIGHT))
 }

@@ -60,7 +60,8 @@ pub fn second_of_day_of(stored: i32) -> u32
     day_and_second(stored as i64).1
 }
 
-/// The day of the week that a column of small numbers stores, 0 for Monday. None where the number is none.
+/// The day of the week that a column of small numbers stores, 0 for Monday. None where the number
+/// is none.
 pub fn weekday_of_number(stored: u8) -> Option<Weekday>
     ensures { IfSome result (λ weekday. weekday_number weekday ≡ stored) }
 {
@@ -71,7 +72,7 @@ pub fn weekday_of_number(stored: u8) -> Option<Weekday>
 pub fn weekday_of_bit(bit: u8) -> Weekday
     ensures { weekday_number result ≡ bit % 7 }
 {
-    Weekday::numbered(bit % 7)
+    Weekday::of_number(bit % 7)
 }
 
 /// The column that a refusal is about.

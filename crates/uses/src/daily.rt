@@ -56,7 +56,8 @@ pub fn run_after_past(past: OffsetDateTime, now: OffsetDateTime) -> Option<Offse
     Some(run_after(past)?)
 }
 
-/// The next 9:00 by the same clocks: later than now, and at most a day later. None outside the range.
+/// The next 9:00 by the same clocks: later than now, and at most a day later. None outside the
+/// range.
 pub fn next_run(now: OffsetDateTime) -> Option<OffsetDateTime>
     ensures offset { IfSome result (λ next. next.offset ≡ now.offset) }
     ensures at_nine { IfSome result (λ next. wall_time next.wall ≡ 9 * nanos_per_hour) }

@@ -31,7 +31,8 @@ pub fn first_of_its_month(date: Date) -> Date
     date.replace_day(1).unwrap()
 }
 
-/// The Monday of an ISO week, or None for a week that the year has not, and for a year outside the range.
+/// The Monday of an ISO week, or None for a week that the year has not, and for a year outside the
+/// range.
 pub fn monday_of_week(year: i32, week: u8) -> Option<Date>
     ensures year { IfSome result (λ monday. iso_year_of monday ≡ year) }
     ensures week { IfSome result (λ monday. iso_week_of monday ≡ week) }

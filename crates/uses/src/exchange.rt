@@ -20,8 +20,8 @@ use std::alloc::{AllocError, Global};
 use std::cmp::Ordering;
 use utc_times::UtcDateTime;
 
-/// The stamp of a log line as clocks at another offset show it. None where it is no date-time, or where clocks there show
-/// a year that has not four digits.
+/// The stamp of a log line as clocks at another offset show it. None where it is no date-time, or
+/// where clocks there show a year that has not four digits.
 pub fn stamp_at(stamp: &[u8], offset: UtcOffset) -> Option<Text>
     ensures { IfSome result (λ text. (p : Parts) × IsDateTime stamp.now p ×
         (text ≡ rfc3339_text (local_at (instant_of (value_of p)) offset))) }
@@ -86,7 +86,7 @@ pub fn rewritten(stamp: &[u8]) -> Result<Text, TextRefusal>
 }
 
 /// The date-time that the receiver reads: the one that was sent, offset included.
-pub fn received(sent: OffsetDateTime) -> Option<OffsetDateTime>
+pub fn receive(sent: OffsetDateTime) -> Option<OffsetDateTime>
     ensures { SomeIff result (HasText sent) sent }
 {
     parse_rfc3339(sent.to_rfc3339()?.as_bytes()).ok()
@@ -101,7 +101,7 @@ pub fn sort(texts: &mut Vec<&[u8]>) -> Result<(), AllocError>
 }
 
 /// The order of the instants of two texts of fixed width: only bytes are compared.
-pub fn compared(first: &[u8], second: &[u8]) -> Ordering
+pub fn compare_texts(first: &[u8], second: &[u8]) -> Ordering
     ensures { (i j : ℤ) → HasFixedText i → HasFixedText j →
         first.now ≡ fixed_text i → second.now ≡ fixed_text j → result ≡ int_cmp i j }
 {

@@ -1,6 +1,6 @@
-//! Texts for other systems, and of them: columns of milliseconds, lines that begin with a date-time, leap seconds, and where a
-//! text is wrong.
-ghost use Rattle.std.specs.Prelude.{◌≡◌, ◌≤◌, ◌==◌, ◌++◌, ℕ, List, SomeIff, OkIff, IfOk, IfSome, Ok, Some, true, false, length};
+//! Texts for other systems, and of them: columns of milliseconds, lines that begin with a
+//! date-time, leap seconds, and where a text is wrong.
+ghost use Rattle.std.specs.Prelude.{◌≡◌, ◌≤◌, ◌==◌, ◌++◌, ℕ, List, SomeIff, OkIff, IfOk, IfSome, IsTrue, Ok, Some, true, false, length};
 ghost use Rattle.calendar_values.specs.WallClock.{IsInstant};
 ghost use Rattle.offset_times.specs.Local.{Local, instant_of};
 ghost use Rattle.rfc3339.specs.Form.{IsDateTime};
@@ -15,6 +15,7 @@ use offset_times::OffsetDateTime;
 use rfc3339::{
     TextRefusal, parse_rfc3339_front, parse_rfc3339_leap, syntax_fault, to_rfc3339_digits,
 };
+use stamp_times::{Timestamp, ToTimestamp};
 
 /// The text for a column of milliseconds.
 pub fn column_of_milliseconds(at: OffsetDateTime) -> Option<Text>
@@ -30,7 +31,8 @@ pub fn before_the_fault(text: &[u8]) -> &[u8]
     &text[..syntax_fault(text)]
 }
 
-/// The date-time that a line begins with and how long its text is, exactly where its parts are in their ranges.
+/// The date-time that a line begins with and how long its text is, exactly where its parts are in
+/// their ranges.
 pub fn stamp_of(line: &[u8]) -> Result<(OffsetDateTime, usize), TextRefusal>
     ensures value { (stamp rest : List ℕ) (p : Parts) → line.now ≡ stamp ++ rest
         → IsDateTime stamp p → OkIff result (AreInRange p) (value_of p, length stamp) }
@@ -110,4 +112,35 @@ pub fn instant_of_leap(text: &[u8]) -> Option<OffsetDateTime>
         return None;
     };
     Some(at)
+}
+
+/// The date-time that a line begins with, and the part of the line after it. None if it begins with
+/// none.
+pub fn stamp_and_words(line: &[u8]) -> Option<(OffsetDateTime, &[u8])>
+    ensures { IfSome result (λ both. (stamp : List ℕ) × (p : Parts) ×
+        (line.now ≡ stamp ++ both.1.now) × IsDateTime stamp p × (both.0 ≡ value_of p)) }
+{
+    let Ok((at, count)) = parse_rfc3339_front(line) else {
+        return None;
+    };
+    Some((at, &line[count..]))
+}
+
+/// Whether a text has a leap second.
+pub fn has_leap_second(text: &[u8]) -> bool
+    ensures { IsTrue result → (p : Parts) × IsDateTime text.now p × (p.second ≡ 60) }
+{
+    match parse_rfc3339_leap(text) {
+        Ok((_, is_leap)) => is_leap,
+        Err(_) => false,
+    }
+}
+
+/// The timestamp of a text whose second may be 60. None if it is no date-time.
+pub fn timestamp_of_leap(text: &[u8]) -> Option<Timestamp>
+    ensures { IfSome result (λ at.
+        (p : Parts) × IsDateTime text.now p × (at ≡ instant_of (value_of (stand_in p)))) }
+{
+    let (at, _) = parse_rfc3339_leap(text).ok()?;
+    at.checked_to_timestamp()
 }

@@ -17,7 +17,8 @@ pub fn last_day_of_month(date: Date) -> Date
     date.last_of_month()
 }
 
-/// The day of a month, or the month's last day where it is shorter. Refused `year` outside the range.
+/// The day of a month, or the month's last day where it is shorter. Refused `year` outside the
+/// range.
 pub fn day_or_last(year: i32, month: Month, day: u8) -> Result<Date, ComponentRange>
     requires first { 1 ≤ day }
     ensures { OkIff result (IsYear year) (months.day_or_last year (month_number month) day) }
@@ -25,7 +26,8 @@ pub fn day_or_last(year: i32, month: Month, day: u8) -> Result<Date, ComponentRa
     Date::from_calendar_date(year, month, day.min(days_in_month(year, month)))
 }
 
-/// The same day of the next month, or its last day where it is shorter. None in the last month of the range.
+/// The same day of the next month, or its last day where it is shorter. None in the last month of
+/// the range.
 pub fn due_next_month(date: Date) -> Option<Date>
     ensures { let first = months.first_of_next_month date in
         SomeIff result (IsDay first) (months.day_or_last (year_of first) (month_of first)

@@ -1,7 +1,8 @@
-//! Callers of the library, as its readers would write them: each with a contract in the words of the
-//! definitions, and none with a proof of its own.
+//! Callers of the library, as its readers would write them: each with a contract in the words of
+//! the definitions, and no proof file.
 #![tactic(auto, using(rfc3339::specs::Callers::callers))]
 
+pub mod agendas;
 pub mod any_moments;
 pub mod audit;
 pub mod batches;
@@ -15,14 +16,15 @@ pub mod exchange;
 pub mod expiry;
 pub mod fronts;
 pub mod invoices;
+pub mod leases;
 pub mod log;
 pub mod meeting;
 pub mod midnight;
 pub mod milliseconds;
 pub mod moments;
 pub mod months;
+pub mod nights;
 pub mod offsets;
-pub mod patterns;
 pub mod periods;
 pub mod programs;
 pub mod replays;
@@ -32,6 +34,7 @@ pub mod seen;
 pub mod shown;
 pub mod timeouts;
 pub mod values;
+pub mod wall_texts;
 pub mod wholes;
 pub mod windows;
 pub mod words;

@@ -1,6 +1,6 @@
 //! A log in the order of instants.
 
-ghost use Rattle.std.specs.Prelude.{◌≡◌, ◌↔◌, ◌-ℤ◌, ◌<ℤ◌, ℤ, All, IsSortedByKey, true, ◌++◌, [], ◌∷◌, Contains, IfOk, IfSome, IsPermutation};
+ghost use Rattle.std.specs.Prelude.{◌≡◌, ◌↔◌, ◌-ℤ◌, ◌<ℤ◌, ◌≤ℤ◌, ℤ, All, IsSortedByKey, true, ◌++◌, [], ◌∷◌, Contains, IfOk, IfSome, IsPermutation};
 ghost use Rattle.std.specs.Prelude.{IsSorted, IsTrue, OnOk, if◌then◌else◌};
 ghost use Rattle.std.specs.List.{HoldsAt};
 ghost use Rattle.std.specs.List.Sorted.{IsStrictlySortedBy};
@@ -164,7 +164,8 @@ impl Dated for Sale {
     }
 }
 
-/// Puts sales into the order of their instants, wherever they were made; those of one instant keep their order.
+/// Puts sales into the order of their instants, wherever they were made; those of one instant keep
+/// their order.
 pub fn sort_sales(sales: &mut Vec<Sale>) -> Result<(), AllocError>
     ensures same_sales { IsPermutation sales.old.items sales.new.items }
     ensures in_order { OnOk result
@@ -173,8 +174,8 @@ pub fn sort_sales(sales: &mut Vec<Sale>) -> Result<(), AllocError>
     logs::sort_by_date_time(sales)
 }
 
-/// Entries under one key of a hash table that compares what its hasher was fed are one instant, in whatever
-/// type they came.
+/// Entries under one key of a hash table that compares what its hasher was fed are one instant, in
+/// whatever type they came.
 pub fn one_key_is_one_instant()
     ensures stamps { (x y : _) → IsWallClock x → IsWallClock y →
         ⟦<Timestamp as Hash>⟧.hash_input x ≡ ⟦<Timestamp as Hash>⟧.hash_input y → x ≡ y }
@@ -190,4 +191,15 @@ pub fn one_key_is_one_instant()
     utc_times::laws::hashed_by_instant();
     plain_times::laws::hashed_by_wall_clock();
     offset_times::laws::compared_by_instant();
+}
+
+/// Whether a log in order has no entry after an instant.
+pub fn is_quiet_since(log: &[Timestamp], since: Timestamp) -> bool
+    requires { IsSorted int_cmp log.now }
+    ensures { IsTrue result ↔ All (λ at. at ≤ℤ since) log.now }
+{
+    match logs::last(log) {
+        Some(last) => last <= since,
+        None => true,
+    }
 }

@@ -1,4 +1,4 @@
-//! A meeting, shown to those who take part in it.
+//! A meeting, at the offset of each who takes part in it.
 ghost use Rattle.std.specs.Prelude.{◌≡◌, OkIff, IfErr, codes};
 ghost use Rattle.calendar_values.specs.Refusals.{conditional_refusal};
 ghost use Rattle.calendar_values.specs.WallClock.{IsWallClock};
@@ -7,8 +7,8 @@ ghost use Rattle.offset_times.specs.Local.{instant_of, shown_at, local_at};
 use calendar_values::{ComponentRange, UtcOffset};
 use offset_times::OffsetDateTime;
 
-/// The meeting at the offset. Refused `offset_seconds`, conditionally, if the date there is out of range:
-/// other meetings have a date there.
+/// The meeting at the offset. Refused `offset_seconds`, conditionally, if the date there is out of
+/// range: other meetings have a date there.
 pub fn shown_to(
     meeting: OffsetDateTime,
     offset: UtcOffset,

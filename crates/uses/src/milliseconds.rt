@@ -16,8 +16,8 @@ pub fn stamp_of(milliseconds: i64) -> Option<Timestamp>
     Some(Timestamp::from_milliseconds(milliseconds).ok()?)
 }
 
-/// The instant, as clocks at the offset show it. None where the range has no such instant, or they show no
-/// date of it.
+/// The instant, as clocks at the offset show it. None where the range has no such instant, or they
+/// show no date of it.
 pub fn at_offset(milliseconds: i64, offset: UtcOffset) -> Option<OffsetDateTime>
     ensures instant { IfSome result (λ at. instant_of at ≡ instant_of_milliseconds milliseconds) }
     ensures offset { IfSome result (λ at. at.offset ≡ offset) }

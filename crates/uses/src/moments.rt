@@ -95,7 +95,8 @@ pub fn an_hour_on<M: Moment>(at: M) -> M
     }
 }
 
-/// The next midnight that clocks at the offset show, or None where they show no date of the range now or then.
+/// The next midnight that clocks at the offset show, or None where they show no date of the range
+/// now or then.
 pub fn next_midnight_at(at: UtcDateTime, offset: UtcOffset) -> Option<OffsetDateTime>
     ensures at_offset { IfSome result (λ next. next.offset ≡ offset) }
     ensures a_day_after_the_last { IfSome result (λ next.

@@ -1,4 +1,5 @@
-//! Days that come each month or each year: a month that is too short has its last day in their place.
+//! Days that come each month or each year: a month that is too short has its last day in their
+//! place.
 
 ghost use Rattle.std.specs.Prelude.{◌≡◌, ◌≤◌, ◌<◌, ◌+◌, ◌+ℤ◌, ◌-ℤ◌, pos, min, IfOk, IfSome, IfNone, OkIff, SomeIff, neg_ℤ, ◌≤ℤ◌, ◌<ℤ◌};
 ghost use Rattle.calendar_values.specs.Calendar.{days_in_month, is_leap_year, year_of, month_of, day_of_month_of};
@@ -30,7 +31,8 @@ pub fn year_after(date: Date) -> i32
     date.year() + 1
 }
 
-/// The same day of the next year; for 29 February its 28th where that year has none. None past the range.
+/// The same day of the next year; for 29 February its 28th where that year has none. None past the
+/// range.
 pub fn a_year_later(date: Date) -> Option<Date>
     ensures value { let y = year_of date +ℤ pos 1 in
         SomeIff result (IsYear y) (months.day_or_last y (month_of date) (day_of_month_of date)) }
@@ -63,7 +65,8 @@ pub fn day_in_month_of(date: Date, day: u8) -> Date
         .unwrap()
 }
 
-/// The same day of the next month, or its last day where it is shorter. None in the last month of the range.
+/// The same day of the next month, or its last day where it is shorter. None in the last month of
+/// the range.
 pub fn a_month_later(date: Date) -> Option<Date>
     ensures month { IfSome result (λ later. month_index later ≡ month_index date +ℤ pos 1) }
     ensures day { IfSome result (λ later. day_of_month_of later ≡ min (day_of_month_of date)
@@ -73,7 +76,8 @@ pub fn a_month_later(date: Date) -> Option<Date>
     Some(day_in_month_of(first, date.day()))
 }
 
-/// The same day a number of months later, or the last of a month that is shorter. None outside the range.
+/// The same day a number of months later, or the last of a month that is shorter. None outside the
+/// range.
 pub fn renewal(date: Date, months: i32) -> Option<Date>
     ensures month { IfSome result (λ later. month_index later ≡ month_index date +ℤ months) }
     ensures same_day { IfSome result (λ later. day_of_month_of date ≤ 28 →
@@ -106,8 +110,8 @@ pub fn month_after(date: Date) -> Option<Month>
     Month::from_number(u8::from(date.month()) + 1).ok()
 }
 
-/// The same day of the next month, or its last day, by the number of the month: the 13th is January. Refused `year` past
-/// the range.
+/// The same day of the next month, or its last day, by the number of the month: the 13th is
+/// January. Refused `year` past the range.
 pub fn same_day_next_month(date: Date) -> Result<Date, ComponentRange>
     ensures { IfOk result (λ due. due ≡
         months.same_day_or_last (year_of date) (month_of date + 1) (day_of_month_of date)) }
@@ -129,9 +133,28 @@ pub fn month_number_from_year_0(date: Date) -> i32
 }
 
 /// How many months the second date is after the first, whatever the days are.
-#[tactic(auto, using(calendar_values::specs::SignedArith::signed_casts))]
 pub fn months_between(first: Date, second: Date) -> i32
     ensures { result ≡ month_index second -ℤ month_index first }
 {
-    month_number_from_year_0(second) - month_number_from_year_0(first)
+    (second.year() * 12 + i32::from(u8::from(second.month())))
+        - (first.year() * 12 + i32::from(u8::from(first.month())))
+}
+
+/// The same by the years between the two and the months between theirs.
+pub fn months_of_years_between(first: Date, second: Date) -> i32
+    ensures { result ≡ month_index second -ℤ month_index first }
+{
+    (second.year() - first.year()) * 12
+        + (i32::from(u8::from(second.month())) - i32::from(u8::from(first.month())))
+}
+
+/// The last day of the month of a date: in that month, with its last number, and not before the
+/// date.
+pub fn month_end(date: Date) -> Date
+    ensures month { month_of result ≡ month_of date }
+    ensures day { day_of_month_of result ≡
+        days_in_month (is_leap_year (year_of date)) (month_of date) }
+    ensures not_before { date ≤ℤ result }
+{
+    last_day_of_month(date)
 }

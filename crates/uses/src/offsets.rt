@@ -1,7 +1,8 @@
 //! Events that were noted at offsets of their own: their instants tell which came first.
 ghost use Rattle.std.specs.Prelude.{◌≡◌, ◌↔◌, ◌-ℤ◌, ◌≤ℤ◌, ◌<ℤ◌, IfSome, IsTrue, SomeIff};
 ghost use Rattle.calendar_values.specs.Offsets.{IsOffset};
-ghost use Rattle.offset_times.specs.Local.{instant_of, local_at, offset_nanos};
+ghost use Rattle.calendar_values.specs.WallClock.{IsWallClock};
+ghost use Rattle.offset_times.specs.Local.{instant_of, local_at, offset_nanos, shown_at};
 
 use calendar_values::{SignedDuration, UtcOffset};
 use offset_times::OffsetDateTime;
@@ -30,13 +31,14 @@ pub fn earlier(first: OffsetDateTime, second: OffsetDateTime) -> OffsetDateTime
 }
 
 /// How long after the first the second came.
-pub fn apart(first: OffsetDateTime, second: OffsetDateTime) -> SignedDuration
+pub fn time_between(first: OffsetDateTime, second: OffsetDateTime) -> SignedDuration
     ensures { result ≡ instant_of second -ℤ instant_of first }
 {
     second - first
 }
 
-/// The second, as clocks show it where the first was noted. None where they show no date of the range.
+/// The second, as clocks show it where the first was noted. None where they show no date of the
+/// range.
 pub fn shown_like(first: OffsetDateTime, second: OffsetDateTime) -> Option<OffsetDateTime>
     ensures offset { IfSome result (λ shown. shown.offset ≡ first.offset) }
     ensures instant { IfSome result (λ shown. instant_of shown ≡ instant_of second) }
@@ -60,8 +62,8 @@ pub fn ahead(there: UtcOffset, here: UtcOffset) -> i32
     seconds_apart(there.whole_seconds(), here.whole_seconds())
 }
 
-/// The wall clocks of two offsets at an instant: they are as far apart as the offsets. None if the date of one is
-/// out of range.
+/// The wall clocks of two offsets at an instant: they are as far apart as the offsets. None if the
+/// date of one is out of range.
 pub fn shown_in_both(
     at: Timestamp,
     here: UtcOffset,
@@ -75,12 +77,12 @@ pub fn shown_in_both(
     Some((at.at_offset(here)?, at.at_offset(there)?))
 }
 
-/// The first, put where the second is, by the time from the one to the other. None where clocks show no date of
-/// the range there.
+/// The first, put where the second is, by the time from the one to the other. None where clocks
+/// show no date of the range there.
 pub fn put_at(first: OffsetDateTime, second: OffsetDateTime) -> Option<OffsetDateTime>
     ensures instant { IfSome result (λ put. instant_of put ≡ instant_of second) }
 {
-    first.checked_add(apart(first, second))
+    first.checked_add(time_between(first, second))
 }
 
 /// The same, back by the time from the second to the first.
@@ -90,8 +92,8 @@ pub fn put_back_at(first: OffsetDateTime, second: OffsetDateTime) -> Option<Offs
     first.checked_sub(first - second)
 }
 
-/// A date-time with its offset corrected: the wall clock stays, and the instant is that of the wall clock at the
-/// new offset.
+/// A date-time with its offset corrected: the wall clock stays, and the instant is that of the wall
+/// clock at the new offset.
 pub fn noted_at(noted: OffsetDateTime, offset: UtcOffset) -> OffsetDateTime
     ensures clocks { result.wall ≡ noted.wall }
     ensures instant { instant_of result ≡ noted.wall -ℤ offset_nanos offset }
@@ -106,11 +108,27 @@ pub fn offset_of(seconds: i32) -> Option<UtcOffset>
     UtcOffset::from_whole_seconds(seconds).ok()
 }
 
-/// A timestamp at an offset that comes as a number of seconds. None where there is no such offset, or clocks there show no
-/// date of the range.
+/// A timestamp at an offset that comes as a number of seconds. None where there is no such offset,
+/// or clocks there show no date of the range.
 pub fn at_seconds(at: Timestamp, seconds: i32) -> Option<OffsetDateTime>
     ensures { IfSome result (λ shown. shown ≡ local_at at seconds) }
 {
     let offset = offset_of(seconds)?;
     Some(at.checked_to_offset(offset)?)
+}
+
+/// The date-time at another offset, and back at its own: itself, exactly if clocks at the other
+/// offset show a date of the range.
+pub fn there_and_back(at: OffsetDateTime, offset: UtcOffset) -> Option<OffsetDateTime>
+    ensures { SomeIff result (IsWallClock (shown_at (instant_of at) offset)) at }
+{
+    at.checked_to_offset(offset)?.checked_to_offset(at.offset())
+}
+
+/// The instant at one offset, and then at a second. None where clocks at one of them show no date
+/// of the range.
+pub fn across(at: Timestamp, first: UtcOffset, second: UtcOffset) -> Option<OffsetDateTime>
+    ensures { IfSome result (λ there. there ≡ local_at at second) }
+{
+    at.checked_to_offset(first)?.checked_to_offset(second)
 }

@@ -1,4 +1,4 @@
-//! What small programs do.
+//! Small programs.
 use crate::exchange::answer;
 use calendar_values::SignedDuration;
 use std::io;

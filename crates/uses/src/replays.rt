@@ -1,7 +1,7 @@
 //! Conversions and calls that come as lists.
-ghost use Rattle.std.specs.Prelude.{◌≡◌, ◌≤◌, ◌+ℤ◌, ◌∷◌, ◌++◌, [], pos, IfOk, IfSome, Some, length, vec_len};
+ghost use Rattle.std.specs.Prelude.{◌≡◌, ◌≤◌, ◌+ℤ◌, ◌<ℤ◌, ◌∷◌, ◌++◌, [], pos, IfOk, IfSome, Some, length, vec_len};
 ghost use Rattle.calendar_values.specs.Clock.{nanos_per_day};
-ghost use Rattle.calendar_values.specs.WallClock.{IsWallClock, wall_day, wall_time};
+ghost use Rattle.calendar_values.specs.WallClock.{IsWallClock, last_wall_clock, wall_day, wall_time};
 ghost use Rattle.offset_times.specs.Local.{instant_of};
 ghost use Rattle.stamp_times.specs.Counter.{last_instant, replies, reply, reply_of_instant};
 ghost use Rattle.stamp_times.specs.Travel.{held_instant, held_after, stop_index};
@@ -14,7 +14,7 @@ use std::alloc::{AllocError, Global};
 use utc_times::UtcDateTime;
 
 /// The result of the steps, or the value before the step that stopped: the same instant.
-pub fn converted(start: Held, steps: &[Step]) -> Held
+pub fn convert(start: Held, steps: &[Step]) -> Held
     ensures { held_instant result ≡ held_instant start }
 {
     match chain(start, steps) {
@@ -67,7 +67,8 @@ pub fn led_by_both(
     Ok(end)
 }
 
-/// The replies to calls, and those to others from where the first end: together those to all of them.
+/// The replies to calls, and those to others from where the first end: together those to all of
+/// them.
 pub fn replies_to_both(
     alloc: Global,
     start: Timestamp,
@@ -138,8 +139,8 @@ pub fn converted_by_both(start: Held, first: &[Step], rest: &[Step]) -> Option<H
     chain(between, rest).ok()
 }
 
-/// The place of the step at which a chain over steps and then others stops, counted over all of them. None where all
-/// can be made.
+/// The place of the step at which a chain over steps and then others stops, counted over all of
+/// them. None where all can be made.
 pub fn stop_in_both(start: Held, first: &[Step], rest: &[Step]) -> Option<usize>
     ensures { IfSome result (λ place.
         stop_index (held_instant start) (first.now ++ rest.now) ≡ Some place) }
@@ -157,4 +158,27 @@ pub fn midnight(alloc: Global, at: Timestamp) -> Result<Timestamp, AllocError>
 {
     let (_, end) = run(alloc, at, &[Call::Replace(Replace::Time(Time::MIDNIGHT))])?;
     Ok(end)
+}
+
+/// Where two calls of a day each lead, if both days are in range.
+pub fn two_days(alloc: Global, at: Timestamp) -> Result<Timestamp, AllocError>
+    requires one { IsWallClock (at +ℤ pos nanos_per_day) }
+    requires both { IsWallClock (at +ℤ pos nanos_per_day +ℤ pos nanos_per_day) }
+    ensures { IfOk result (λ end. end ≡ at +ℤ pos nanos_per_day +ℤ pos nanos_per_day) }
+{
+    let first = Call::Shift(Shift::CheckedAdd(SignedDuration::days(1)));
+    let second = Call::Shift(Shift::CheckedAdd(SignedDuration::days(1)));
+    let (_, end) = run(alloc, at, &[first, second])?;
+    Ok(end)
+}
+
+/// The reply to a step of a day past the end of the range, and where it leads: it is refused, and
+/// the timestamp stays.
+pub fn past_the_end(alloc: Global, at: Timestamp) -> Result<(Vec<Reply>, Timestamp), AllocError>
+    requires { last_wall_clock <ℤ (at +ℤ pos nanos_per_day) }
+    ensures replies { IfOk result (λ both. both.0.items ≡ Refused ∷ []) }
+    ensures stays { IfOk result (λ both. both.1 ≡ at) }
+{
+    let day = Call::Shift(Shift::CheckedAdd(SignedDuration::days(1)));
+    run(alloc, at, &[day])
 }

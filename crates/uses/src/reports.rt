@@ -28,7 +28,8 @@ pub fn next_hour(at: UtcDateTime) -> Option<UtcDateTime>
     Some(at.truncate_to_hour().checked_add(SignedDuration::hours(1))?)
 }
 
-/// The hour that a sale is reported under where it was made: on the same date, in the same hour, at its first nanosecond.
+/// The hour that a sale is reported under where it was made: on the same date, in the same hour, at
+/// its first nanosecond.
 pub fn hour_there(sale: OffsetDateTime) -> OffsetDateTime
     ensures whole { wall_multiple_below nanos_per_hour result.wall ≡ result.wall }
     ensures date { wall_day result.wall ≡ wall_day sale.wall }

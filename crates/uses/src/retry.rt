@@ -6,7 +6,8 @@ use calendar_values::SignedDuration;
 use stamp_times::Timestamp;
 use utc_times::UtcDateTime;
 
-/// When to try again: 1, 2, 4 seconds later, and so on up to some 18 hours, or at the end of the range.
+/// When to try again: 1, 2, 4 seconds later, and so on up to some 18 hours, or at the end of the
+/// range.
 pub fn retry_at(at: UtcDateTime, attempt: u32) -> UtcDateTime
     ensures never_before { at ≤ℤ result }
 {
@@ -14,7 +15,8 @@ pub fn retry_at(at: UtcDateTime, attempt: u32) -> UtcDateTime
     at.saturating_add(SignedDuration::seconds(i64::from(seconds)))
 }
 
-/// When to try again after a failure: a second later for each attempt before, and never more than a minute.
+/// When to try again after a failure: a second later for each attempt before, and never more than a
+/// minute.
 pub fn next_attempt(failed: Timestamp, attempts: u32) -> Timestamp
     ensures never_before { failed ≤ℤ result }
     ensures within_a_minute { result ≤ℤ (failed +ℤ pos (60 * nanos_per_second)) }
@@ -23,7 +25,8 @@ pub fn next_attempt(failed: Timestamp, attempts: u32) -> Timestamp
     failed.saturating_add(SignedDuration::seconds(i64::from(seconds)))
 }
 
-/// Two that failed try again after one pause, the first before the second, or both at the end of the range.
+/// Two that failed try again after one pause, the first before the second, or both at the end of
+/// the range.
 pub fn in_turn(first: Timestamp, second: Timestamp, pause: SignedDuration) -> (Timestamp, Timestamp)
     requires { first ≤ℤ second }
     ensures { result.0 ≤ℤ result.1 }

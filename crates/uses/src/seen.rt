@@ -1,4 +1,4 @@
-//! Sets in which each instant stands once, whatever offset it was noted at.
+//! Sets that have each instant once, whatever its offset.
 ghost use Rattle.std.specs.Prelude.{◌≡◌, IfOk, not};
 ghost use Rattle.std.specs.HashSet.{contains};
 ghost use Rattle.std.specs.Ordering.{int_eq, on};
@@ -16,7 +16,8 @@ pub fn note(seen: &mut HashSet<Timestamp>, at: Timestamp) -> Result<bool, AllocF
     seen.insert(at)
 }
 
-/// Notes a ticket that was sold at an offset. True where none of that instant was noted, at whatever offset.
+/// Notes a ticket that was sold at an offset. True where none of that instant was noted, at
+/// whatever offset.
 pub fn note_there(
     seen: &mut HashSet<OffsetDateTime>,
     at: OffsetDateTime,

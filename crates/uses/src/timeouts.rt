@@ -90,7 +90,7 @@ pub fn size_of_lag(lag: SignedDuration) -> SignedDuration
 }
 
 /// The deadline, later by the extension. None out of range.
-pub fn extended(deadline: OffsetDateTime, by: SignedDuration) -> Option<OffsetDateTime>
+pub fn extend_deadline(deadline: OffsetDateTime, by: SignedDuration) -> Option<OffsetDateTime>
     ensures { IfSome result (λ later. instant_of later ≡ instant_of deadline +ℤ by) }
 {
     deadline.checked_add(by)
@@ -109,8 +109,8 @@ pub fn both_extended(
     Some((first.checked_add(by)?, second.checked_add(by)?))
 }
 
-/// Two deadlines of one place, each later by the extension or at the end of the range: the first is not after
-/// the second.
+/// Two deadlines of one place, each later by the extension or at the end of the range: the first is
+/// not after the second.
 pub fn both_put_off(
     first: OffsetDateTime,
     second: OffsetDateTime,
@@ -122,4 +122,14 @@ pub fn both_put_off(
 {
     offset_times::laws::sums_keep_the_order();
     (first.saturating_add(by), second.saturating_add(by))
+}
+
+/// The same as [`remaining`], by the greater of two durations.
+pub fn left_until(now: OffsetDateTime, deadline: OffsetDateTime) -> SignedDuration
+    ensures before { instant_of now <ℤ instant_of deadline →
+        result ≡ instant_of deadline -ℤ instant_of now }
+    ensures after { instant_of deadline ≤ℤ instant_of now → result ≡ pos 0 }
+    ensures not_negative { pos 0 ≤ℤ result }
+{
+    (deadline - now).max(SignedDuration::ZERO)
 }

@@ -1,5 +1,5 @@
-//! Values of the definitions, from Python's `datetime`, ISO 8601 and RFC 3339: a wrong definition would not have them. The
-//! functions are there for their contracts.
+//! Values of the definitions, from Python's `datetime`, ISO 8601 and RFC 3339: a wrong definition
+//! would not have them. The functions are there for their contracts.
 #![tactic(auto, using(std::proofs::lemmas::Fmt::decimal_digit), unfolding(
 // the first days of years
 calendar_values::specs::Calendar::days_from_1970, calendar_values::specs::Calendar::days_until_1970, calendar_values::specs::Calendar::days_of_years, calendar_values::specs::Calendar::year_start,

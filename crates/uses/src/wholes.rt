@@ -1,5 +1,5 @@
 //! Whole counts of durations: weeks, hours and minutes that were given, and those that are left.
-ghost use Rattle.std.specs.Prelude.{◌≡◌, ◌≤◌, ◌*ℤ◌, ◌+ℤ◌, ◌-ℤ◌, ◌≤ℤ◌, pos, unsigned_abs};
+ghost use Rattle.std.specs.Prelude.{◌≡◌, ◌≤◌, ◌*ℤ◌, ◌+ℤ◌, ◌-ℤ◌, ◌≤ℤ◌, pos, unsigned_abs, IsTrue};
 ghost use Rattle.calendar_values.specs.Durations.{whole_days_of, whole_hours_of, whole_minutes_of};
 
 use calendar_values::SignedDuration;
@@ -35,4 +35,18 @@ pub fn hours_of_both(shorter: SignedDuration, longer: SignedDuration) -> (i64, i
     ensures { result.0 ≤ℤ result.1 }
 {
     (shorter.whole_hours(), longer.whole_hours())
+}
+
+/// The milliseconds of a number of seconds, which a timer takes.
+pub fn milliseconds_of_seconds(seconds: i64) -> i128
+    ensures { result ≡ seconds *ℤ pos 1_000 }
+{
+    SignedDuration::seconds(seconds).whole_milliseconds()
+}
+
+/// Whether the whole hours have the whole days: they always do.
+pub fn days_agree(work: SignedDuration) -> bool
+    ensures { IsTrue result }
+{
+    work.whole_hours() / 24 == work.whole_days()
 }

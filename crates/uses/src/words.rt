@@ -1,4 +1,5 @@
-//! A caller that imports the words of its clauses from one module, and those of std from its Prelude.
+//! A caller that imports the words of its clauses from one module, and those of std from its
+//! Prelude.
 ghost use Rattle.std.specs.Prelude.{◌≡◌, ◌+ℤ◌, pos, IfSome};
 ghost use Rattle.rfc3339.specs.Words.{instant_of, nanos_per_day};
 

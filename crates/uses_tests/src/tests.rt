@@ -3,6 +3,7 @@ use std::fmt::Debug;
 use std::process::Abort;
 
 mod callers;
+mod dates;
 mod examples;
 
 // Ends the test unless what is shown is what is wanted.

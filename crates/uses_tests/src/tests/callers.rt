@@ -1,17 +1,20 @@
 //! Each caller is called.
 use super::is;
-use calendar_values::{ComponentRange, Date, Month, SignedDuration, Time, UtcOffset, Weekday};
-use format_descriptions::{Component, DescriptionFault, Item, Sign, UnixPrecision};
+use calendar_values::{Date, Month, SignedDuration, Time, UtcOffset, Weekday};
+use format_descriptions::{
+    Component, DescriptionFault, Iso8601, Item, Padding, Sign, UnixPrecision,
+};
 use offset_times::OffsetDateTime;
+use pattern_uses::{patterns, written_patterns};
 use stamp_times::{Call, ClockRead, Held, Shift, Step, Timestamp, ToTimestamp};
 use std::cmp::Ordering;
 use std::test::Fail;
 use uses::audit::Audit;
 use uses::periods::Period;
 use uses::{
-    audit, batches, billing, constants, daily, date_texts, days, exchange, expiry, invoices, log,
-    meeting, midnight, milliseconds, moments, months, offsets, patterns, periods, replays, reports,
-    retry, timeouts,
+    agendas, any_moments, audit, batches, billing, constants, daily, date_texts, days, exchange,
+    expiry, fronts, leases, log, meeting, midnight, milliseconds, moments, nights, offsets,
+    periods, replays, reports, retry, shown, timeouts, wall_texts, wholes,
 };
 use utc_times::UtcDateTime;
 
@@ -37,23 +40,6 @@ fn midnights_and_starts_are_called(rt: HostRuntime) -> Result<(), Fail> {
     is(&rt, midnight::next_midnight(utc(-1)?), Some(utc(0)?));
     is(&rt, retry::retry_at(utc(0)?, 3), utc(8)?);
     is(&rt, constants::started_at(None), UtcDateTime::UNIX_EPOCH);
-    Ok(())
-}
-
-#[test]
-fn invoices_are_called(rt: HostRuntime) -> Result<(), Fail> {
-    is(
-        &rt,
-        invoices::date_of_form(2023, 2, 29),
-        Err(ComponentRange::new("day", true)),
-    );
-    let january = Date::from_calendar_date(2024, Month::January, 31)?;
-    is(
-        &rt,
-        invoices::due_next_month(january),
-        Some(Date::from_calendar_date(2024, Month::February, 29)?),
-    );
-    is(&rt, invoices::due_next_month(Date::MAX), None);
     Ok(())
 }
 
@@ -111,7 +97,7 @@ fn texts_are_exchanged(rt: HostRuntime) -> Result<(), Fail> {
 #[test]
 fn date_times_are_received(rt: HostRuntime) -> Result<(), Fail> {
     let sent = OffsetDateTime::from(utc(851_042_397)?);
-    is(&rt, exchange::received(sent), Some(sent));
+    is(&rt, exchange::receive(sent), Some(sent));
     Ok(())
 }
 
@@ -123,7 +109,7 @@ fn texts_of_fixed_width_are_sorted(rt: HostRuntime) -> Result<(), Fail> {
     );
     is(
         &rt,
-        exchange::compared(first.as_bytes(), second.as_bytes()),
+        exchange::compare_texts(first.as_bytes(), second.as_bytes()),
         Ordering::Less,
     );
     let mut texts = [second.as_bytes(), first.as_bytes()].to_vec(rt.alloc())?;
@@ -151,7 +137,7 @@ fn callers_at_offsets_are_called(rt: HostRuntime) -> Result<(), Fail> {
     );
     is(
         &rt,
-        offsets::apart(local(0, 1)?, local(7, -5)?),
+        offsets::time_between(local(0, 1)?, local(7, -5)?),
         SignedDuration::seconds(7),
     );
     Ok(())
@@ -208,7 +194,7 @@ fn timeouts_are_called(rt: HostRuntime) -> Result<(), Fail> {
     );
     is(
         &rt,
-        timeouts::extended(local(0, 1)?, limit),
+        timeouts::extend_deadline(local(0, 1)?, limit),
         Some(local(5, 1)?),
     );
     Ok(())
@@ -247,75 +233,6 @@ fn next_runs_are_called(rt: HostRuntime) -> Result<(), Fail> {
 }
 
 #[test]
-fn billing_is_called(rt: HostRuntime) -> Result<(), Fail> {
-    let december = Date::from_calendar_date(2023, Month::December, 15)?;
-    is(
-        &rt,
-        billing::next_period(december),
-        Some(Date::from_calendar_date(2024, Month::January, 1)?),
-    );
-    is(&rt, billing::next_period(Date::MAX), None);
-    Ok(())
-}
-
-#[test]
-fn days_of_billing_are_called(rt: HostRuntime) -> Result<(), Fail> {
-    is(
-        &rt,
-        billing::first_day(2024, Month::February),
-        Date::from_calendar_date(2024, Month::February, 1),
-    );
-    is(
-        &rt,
-        billing::due_day(2024, Month::February, 31),
-        Date::from_calendar_date(2024, Month::February, 29),
-    );
-
-    Ok(())
-}
-
-#[test]
-fn months_are_counted_on(rt: HostRuntime) -> Result<(), Fail> {
-    let january = Date::from_calendar_date(2024, Month::January, 31)?;
-    let leap_day = Date::from_calendar_date(2024, Month::February, 29)?;
-    let december = Date::from_calendar_date(2023, Month::December, 31)?;
-    is(&rt, months::a_month_later(january), Some(leap_day));
-    is(&rt, months::same_day_next_month(january), Ok(leap_day));
-    is(&rt, months::same_day_next_month(december), Ok(january));
-    Ok(())
-}
-
-#[test]
-fn months_between_and_later(rt: HostRuntime) -> Result<(), Fail> {
-    let leap_day = Date::from_calendar_date(2024, Month::February, 29)?;
-    let december = Date::from_calendar_date(2023, Month::December, 31)?;
-    is(&rt, months::months_between(leap_day, december), -2);
-    is(
-        &rt,
-        months::billing_day(2024, Month::February, 30),
-        Ok(leap_day),
-    );
-    is(
-        &rt,
-        months::a_year_later(leap_day),
-        Some(Date::from_calendar_date(2025, Month::February, 28)?),
-    );
-    Ok(())
-}
-
-#[test]
-fn weeks_are_counted_on(rt: HostRuntime) -> Result<(), Fail> {
-    let monday = Date::from_calendar_date(2024, Month::February, 26)?;
-    let friday = Date::from_calendar_date(2024, Month::March, 1)?;
-    let next_monday = Date::from_calendar_date(2024, Month::March, 4)?;
-    is(&rt, days::monday_of(friday), Some(monday));
-    is(&rt, days::next_working_day(friday), Some(next_monday));
-    is(&rt, days::next_week(monday), Some(next_monday));
-    is(&rt, days::days_left_in_its_month(monday), 3);
-    Ok(())
-}
-
-#[test]
 fn records_at_offsets_are_called(rt: HostRuntime) -> Result<(), Fail> {
     let ahead = UtcOffset::from_hms(1, 0, 0)?;
     let shown = milliseconds::at_offset(-1, ahead).ok_or("shown")?;
@@ -343,9 +260,9 @@ fn audits_are_called(rt: HostRuntime) -> Result<(), Fail> {
 fn callers_of_lists_are_called(rt: HostRuntime) -> Result<(), Fail> {
     let alloc = rt.alloc();
     let epoch = Timestamp::UNIX_EPOCH;
-    let all = batches::imported(alloc, &[0, 60])?;
+    let all = batches::import(alloc, &[0, 60])?;
     is(&rt, all.map(|stamps| stamps.len()), Ok(2));
-    let refused = batches::imported(alloc, &[0, i64::MAX])?;
+    let refused = batches::import(alloc, &[0, i64::MAX])?;
     is(&rt, refused.map(|stamps| stamps.len()), Err(1));
     Ok(())
 }
@@ -583,6 +500,21 @@ fn headings_of_days(rt: HostRuntime) -> Result<(), Fail> {
         Ok(Some(29)),
     );
     is(&rt, patterns::parts_of_heading(b"2024-02").err(), Some(7));
+    is(
+        &rt,
+        patterns::parts_of_mail_date(b"Thu, 29 Feb 2024 12:00:00 +0530").map(|parts| parts.day),
+        Some(Some(29)),
+    );
+    is(
+        &rt,
+        patterns::parts_of_short_day(b"17/06/09").map(|parts| parts.year),
+        Some(Some(2017)),
+    );
+    is(
+        &rt,
+        patterns::parts_of_short_day(b"17/6/09").is_none(),
+        true,
+    );
     Ok(())
 }
 
@@ -602,5 +534,224 @@ fn patterns_of_users(rt: HostRuntime) -> Result<(), Fail> {
         Some(last_second),
     );
     is(&rt, patterns::timestamp_by(&[second], b"one"), None);
+    let day = Item::Part(Component::Day(Padding::Zero));
+    is(&rt, patterns::first_of_pattern("[day].[month]"), Some(day));
+    is(&rt, patterns::first_of_pattern(""), None);
+    Ok(())
+}
+
+#[test]
+fn texts_of_well_known_forms(rt: HostRuntime) -> Result<(), Fail> {
+    let last = patterns::instant_of_mail(b"31 Dec 2016 23:59:60 GMT");
+    is(
+        &rt,
+        last.map(|read| (read.0.unix_timestamp(), read.1)),
+        Some((1_483_228_799, true)),
+    );
+    is(
+        &rt,
+        patterns::instant_of_mail(b"31 Dec 2016").is_none(),
+        true,
+    );
+    let form = Iso8601 {
+        time: None,
+        offset: None,
+        ..Iso8601::DEFAULT
+    };
+    match patterns::text_in_form(form, OffsetDateTime::UNIX_EPOCH) {
+        Some(text) => is(&rt, text.as_str(), "1970-01-01"),
+        None => is(&rt, "no text", "1970-01-01"),
+    }
+    is(
+        &rt,
+        patterns::parts_in_form(form, b"1970-01-01").map(|parts| parts.day),
+        Some(Some(1)),
+    );
+    let read = patterns::date_and_time(b"1970-001", b"12.5");
+    is(
+        &rt,
+        read,
+        Some((Date::UNIX_EPOCH, Time::from_hms(12, 30, 0)?)),
+    );
+    Ok(())
+}
+
+#[test]
+fn logs_of_any_instants(rt: HostRuntime) -> Result<(), Fail> {
+    let (one, two) = (utc(60)?, utc(120)?);
+    let mut log = [two, one].to_vec(rt.alloc())?;
+    any_moments::join_without(&mut log, &[utc(0)?, two], one)?;
+    is(&rt, log.len(), 2);
+    is(&rt, log.get(0).copied(), Some(utc(0)?));
+    any_moments::enter(&mut log, one)?;
+    is(&rt, log.len(), 3);
+    assert!(rt; any_moments::withdraw(&mut log, two));
+    assert!(rt; !any_moments::withdraw(&mut log, two));
+    is(&rt, any_moments::latest(&log), Some(one));
+    Ok(())
+}
+
+#[test]
+fn instants_of_any_type(rt: HostRuntime) -> Result<(), Fail> {
+    let (one, two) = (utc(60)?, utc(120)?);
+    is(&rt, any_moments::has(&[two], two), true);
+    is(&rt, any_moments::is_news(&[one], two), true);
+    is(&rt, any_moments::later(one, two), two);
+    let mut log = [two, one].to_vec(rt.alloc())?;
+    any_moments::sort(&mut log)?;
+    is(&rt, log.get(1).copied(), Some(two));
+    Ok(())
+}
+
+#[test]
+fn texts_without_an_offset_are_read(rt: HostRuntime) -> Result<(), Fail> {
+    let chosen = wall_texts::wall_clock_of_field(b"2024-02-29T12:34:56.5")?;
+    is(&rt, chosen.as_hms_nano(), (12, 34, 56, 500_000_000));
+    let refused = wall_texts::chosen_wall_clock(b"2024-02-29T12:34:56Z");
+    is(&rt, refused, None);
+    let day = Date::from_calendar_date(2024, Month::February, 29)?;
+    is(&rt, wall_texts::departure(day, b"12:34:56.5"), Some(chosen));
+    Ok(())
+}
+
+#[test]
+fn stamps_are_noted_at_a_place(rt: HostRuntime) -> Result<(), Fail> {
+    let east = UtcOffset::from_hms(1, 0, 0)?;
+    let noted = wall_texts::noted_at_place(b"1970-01-01T01:00:00", east);
+    is(&rt, noted, Some(local(0, 1)?));
+    let noted = wall_texts::noted_at_place(b"1970-01-01T01:00:00Z", east);
+    is(&rt, noted, Some(local(3_600, 0)?));
+    let valid = wall_texts::before_the_fault_of_field(b"1985-04-12T23:20:50Z");
+    is(&rt, valid.len(), 19);
+    is(
+        &rt,
+        wall_texts::before_the_fault_of_time(b"23:20Z").len(),
+        5,
+    );
+    Ok(())
+}
+
+#[test]
+fn stamps_are_valid(rt: HostRuntime) -> Result<(), Fail> {
+    let opening = wall_texts::opening(b"16:39:57-08:00");
+    is(
+        &rt,
+        opening.is_some_and(|(time, _)| time.hour() == 16),
+        true,
+    );
+    let valid = b"1990-12-31T23:59:59Z";
+    is(&rt, wall_texts::is_valid_with_offset(valid), true);
+    is(
+        &rt,
+        wall_texts::is_valid_with_offset(b"1990-12-31T23:59:59"),
+        false,
+    );
+    is(&rt, wall_texts::is_wall_clock(b"1990-12-31T23:59:59"), true);
+    is(&rt, wall_texts::is_wall_clock(valid), false);
+    Ok(())
+}
+
+#[test]
+fn nights_are_called(rt: HostRuntime) -> Result<(), Fail> {
+    let midnight = local(0, 0)?;
+    is(&rt, nights::price(midnight, 3), 30);
+    is(&rt, nights::price(local(0, 6)?, 3), 60);
+    is(
+        &rt,
+        nights::left_of_night(midnight),
+        SignedDuration::hours(6),
+    );
+    is(
+        &rt,
+        nights::left_of_night(local(0, 7)?),
+        SignedDuration::ZERO,
+    );
+    Ok(())
+}
+
+#[test]
+fn steps_of_days_are_called(rt: HostRuntime) -> Result<(), Fail> {
+    let alloc = rt.alloc();
+    let end = replays::two_days(alloc, Timestamp::UNIX_EPOCH)?;
+    is(&rt, end, Timestamp::from_seconds(172_800)?);
+    let (replies, end) = replays::past_the_end(alloc, Timestamp::MAX)?;
+    is(&rt, replies.len(), 1);
+    is(&rt, end, Timestamp::MAX);
+    Ok(())
+}
+
+#[test]
+fn lines_of_logs_are_parted(rt: HostRuntime) -> Result<(), Fail> {
+    let line = *b"1970-01-01T01:00:00+01:00 start";
+    let mut left = 0;
+    if let Some((at, words)) = fronts::stamp_and_words(&line) {
+        is(&rt, at.unix_timestamp(), 0);
+        left = words.len();
+    }
+    is(&rt, left, 6);
+    let leap = b"1990-12-31T23:59:60Z";
+    is(&rt, fronts::has_leap_second(leap), true);
+    let last = Timestamp::new(662_687_999, 999_999_999)?;
+    is(&rt, fronts::timestamp_of_leap(leap), Some(last));
+    let log = [Timestamp::UNIX_EPOCH];
+    is(&rt, log::is_quiet_since(&log, Timestamp::UNIX_EPOCH), true);
+    Ok(())
+}
+
+#[test]
+fn readers_see_what_is_left(rt: HostRuntime) -> Result<(), Fail> {
+    let left = timeouts::left_until(local(0, 1)?, local(60, 0)?);
+    is(&rt, left, SignedDuration::seconds(60));
+    let west = UtcOffset::from_hms(-1, 0, 0)?;
+    is(&rt, shown::month_at(utc(0)?, west), Some(Month::December));
+    let leap_day = Date::from_calendar_date(2024, Month::February, 29)?;
+    is(&rt, agendas::first_of_page(leap_day).day(), 1);
+    Ok(())
+}
+
+#[test]
+fn leases_are_called(rt: HostRuntime) -> Result<(), Fail> {
+    let noon = Timestamp::from_seconds(43_200)?;
+    let (begin, end) = leases::around(noon, SignedDuration::hours(1)).ok_or("around")?;
+    is(&rt, begin, Timestamp::from_seconds(39_600)?);
+    is(&rt, end, Timestamp::from_seconds(46_800)?);
+    let (begin, end) = leases::minutes_around(local(0, 1)?, 2).ok_or("around")?;
+    is(&rt, begin, local(-120, 1)?);
+    is(&rt, end, local(120, 1)?);
+    Ok(())
+}
+
+#[test]
+fn offsets_are_crossed(rt: HostRuntime) -> Result<(), Fail> {
+    let east = UtcOffset::from_hms(2, 0, 0)?;
+    let at = local(0, 1)?;
+    is(&rt, offsets::there_and_back(at, east), Some(at));
+    let there = offsets::across(Timestamp::UNIX_EPOCH, UtcOffset::UTC, east);
+    is(&rt, there, Some(local(0, 2)?));
+    Ok(())
+}
+
+#[test]
+fn calls_cost_by_the_minute(rt: HostRuntime) -> Result<(), Fail> {
+    let call = SignedDuration::seconds(190);
+    is(&rt, nights::cost(local(0, 0)?, call), 30);
+    is(&rt, nights::cost(local(0, 6)?, call), 60);
+    is(&rt, wholes::days_agree(call), true);
+    Ok(())
+}
+
+#[test]
+fn descriptions_are_stored_and_restored(rt: HostRuntime) -> Result<(), Fail> {
+    let items = [Item::Byte(b'['), Item::Byte(b'h')];
+    let mut room = [0_u8; 8];
+    is(&rt, written_patterns::store(&items, &mut room), Some(3));
+    assert_eq!(rt; &room[..3], b"\\[h".as_slice());
+    let mut places = [Item::Byte(0); 4];
+    is(
+        &rt,
+        written_patterns::restore(b"\\[h", &mut places),
+        Some(2),
+    );
+    is(&rt, written_patterns::restore(b"[h", &mut places), None);
     Ok(())
 }

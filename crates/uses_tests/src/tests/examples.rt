@@ -1,4 +1,4 @@
-//! The examples that stand at the heads of the types, and values of callers.
+//! The examples at the heads of the types, and values of callers.
 use super::is;
 use calendar_values::{
     ComponentRange, Date, Month, Part, SignedDuration, Time, UtcOffset, Weekday,

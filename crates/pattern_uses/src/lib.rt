@@ -1,0 +1,7 @@
+//! Callers of `format_descriptions`, as its readers would write them: each with a contract in the
+//! words of the definitions, and no proof file.
+#![tactic(auto, using(format_descriptions::specs::Callers::callers))]
+
+pub mod log_stamps;
+pub mod patterns;
+pub mod written_patterns;

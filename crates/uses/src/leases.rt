@@ -1,0 +1,28 @@
+//! Leases: what may be done some time before an instant, and up to some time after it.
+ghost use Rattle.std.specs.Prelude.{◌≡◌, ◌*◌, ◌+ℤ◌, ◌-ℤ◌, ◌≤ℤ◌, pos, IfSome};
+ghost use Rattle.rfc3339.specs.Words.{instant_of, nanos_per_minute};
+
+use calendar_values::SignedDuration;
+use offset_times::OffsetDateTime;
+use stamp_times::Timestamp;
+
+/// The first and the last instant within the margin. None where one is out of range.
+pub fn around(at: Timestamp, margin: SignedDuration) -> Option<(Timestamp, Timestamp)>
+    requires { pos 0 ≤ℤ margin }
+    ensures begin { IfSome result (λ both. both.0 ≤ℤ at) }
+    ensures end { IfSome result (λ both. at ≤ℤ both.1) }
+    ensures width { IfSome result (λ both. both.1 -ℤ both.0 ≡ margin +ℤ margin) }
+{
+    Some((at.checked_sub(margin)?, at.checked_add(margin)?))
+}
+
+/// The same at the offset of a date-time, by a number of minutes.
+pub fn minutes_around(at: OffsetDateTime, minutes: u32) -> Option<(OffsetDateTime, OffsetDateTime)>
+    ensures begin { IfSome result (λ both. instant_of both.0 ≤ℤ instant_of at) }
+    ensures end { IfSome result (λ both. instant_of at ≤ℤ instant_of both.1) }
+    ensures width { IfSome result (λ both. instant_of both.1 -ℤ instant_of both.0 ≡
+        pos (2 * minutes * nanos_per_minute)) }
+{
+    let margin = SignedDuration::minutes(i64::from(minutes));
+    Some((at.checked_sub(margin)?, at.checked_add(margin)?))
+}
