@@ -21,22 +21,13 @@ fn working_days_later(mut date: Date, mut count: u32) -> Option<Date> {
 fn deadline(opened: OffsetDateTime, customer: UtcOffset) -> Option<OffsetDateTime> {
     let date = working_days_later(opened.date(), 2)?;
     let noon = Time::from_hms(12, 0, 0).ok()?;
-    Some(
-        opened
-            .replace_date(date)
-            .replace_time(noon)
-            .to_offset(customer),
-    )
+    Some(opened.replace_date(date).replace_time(noon).to_offset(customer))
 }
 
 fn main() {
     let opened = datetime!(2024-02-28 16:40 +1);
     let due = deadline(opened, offset!(-5)).expect("a day of the range");
     let left: Duration = due - opened;
-    println!(
-        "{due}, week {}, in {} hours",
-        due.iso_week(),
-        left.whole_hours()
-    );
+    println!("{due}, week {}, in {} hours", due.iso_week(), left.whole_hours());
     println!("reminded {}", due - 90.minutes());
 }

@@ -1,9 +1,11 @@
-//! Compares random sums, differences, products, quotients and orders with exact numbers of nanoseconds in 128 bits.
+//! Compares random sums, differences, products, quotients and orders with exact numbers of
+//! nanoseconds in 128 bits.
 //!
 //!     cargo run --release --example exact_sums ROUNDS SEED
 //!
-//! A round has two values of each type, near the ends of the range, near 1970 and between, and two durations. It tries every
-//! operator on them, and the checked and the saturating calls. The numbers are those of the parts that the values show.
+//! A round has two values of each type, near the ends of the range, near 1970 and between, and two
+//! durations. It tries every operator on them, and the checked and the saturating calls. The
+//! numbers are those of the parts that the values show.
 
 use std::fmt::Debug;
 use std::panic::{UnwindSafe, catch_unwind, set_hook, take_hook};
@@ -157,11 +159,8 @@ impl Random {
             _ => {
                 let seconds = self.next() as i64 >> self.within(0, 63);
                 let nanoseconds = self.nanoseconds();
-                let sign = if seconds < 0 || seconds == 0 && self.within(0, 1) == 0 {
-                    -1
-                } else {
-                    1
-                };
+                let sign =
+                    if seconds < 0 || seconds == 0 && self.within(0, 1) == 0 { -1 } else { 1 };
                 SignedDuration::new(seconds, nanoseconds * sign)
             }
         }
@@ -210,7 +209,7 @@ fn number<T: Exact>(value: Option<T>) -> Option<i128> {
 }
 
 /// The number within a range, or none.
-fn held(number: i128, (least, most): (i128, i128)) -> Option<i128> {
+fn in_range(number: i128, (least, most): (i128, i128)) -> Option<i128> {
     (least..=most).contains(&number).then_some(number)
 }
 
@@ -220,30 +219,15 @@ macro_rules! see_sums {
         let (value, duration) = ($value, $duration);
         let (sum, difference): (Option<i128>, Option<i128>) = ($sum, $difference);
         let values = (value, duration);
-        $tally.see(
-            "checked_add",
-            &values,
-            number(value.$checked_add(duration)),
-            sum,
-        );
-        $tally.see(
-            "checked_sub",
-            &values,
-            number(value.$checked_sub(duration)),
-            difference,
-        );
+        $tally.see("checked_add", &values, number(value.$checked_add(duration)), sum);
+        $tally.see("checked_sub", &values, number(value.$checked_sub(duration)), difference);
         if let Some(sum) = sum {
             $tally.see("+", &values, (value + duration).number(), sum);
             let mut moved = value;
             moved += duration;
             $tally.see("+=", &values, moved.number(), sum);
         } else if $is_rare {
-            $tally.see(
-                "+ that panics",
-                &values,
-                panics(move || value + duration),
-                true,
-            );
+            $tally.see("+ that panics", &values, panics(move || value + duration), true);
         }
         if let Some(difference) = difference {
             $tally.see("-", &values, (value - duration).number(), difference);
@@ -251,12 +235,7 @@ macro_rules! see_sums {
             moved -= duration;
             $tally.see("-=", &values, moved.number(), difference);
         } else if $is_rare {
-            $tally.see(
-                "- that panics",
-                &values,
-                panics(move || value - duration),
-                true,
-            );
+            $tally.see("- that panics", &values, panics(move || value - duration), true);
         }
     }};
 }
@@ -267,12 +246,7 @@ macro_rules! see_pair {
         let (first, second) = ($first, $second);
         let (one, other) = (first.number(), second.number());
         let values = (first, second);
-        $tally.see(
-            "- of two",
-            &values,
-            (first - second).number(),
-            (one - other) * $unit,
-        );
+        $tally.see("- of two", &values, (first - second).number(), (one - other) * $unit);
         see_order!($tally, first, second);
     }};
 }
@@ -282,27 +256,11 @@ macro_rules! see_order {
         let (first, second) = ($first, $second);
         let (one, other) = (first.number(), second.number());
         let values = (first, second);
-        let orders = (
-            first == second,
-            first < second,
-            first <= second,
-            first > second,
-            first >= second,
-        );
-        let exact = (
-            one == other,
-            one < other,
-            one <= other,
-            one > other,
-            one >= other,
-        );
+        let orders =
+            (first == second, first < second, first <= second, first > second, first >= second);
+        let exact = (one == other, one < other, one <= other, one > other, one >= other);
         $tally.see("==, <, <=, >, >=", &values, orders, exact);
-        $tally.see(
-            "partial_cmp",
-            &values,
-            first.partial_cmp(&second),
-            Some(one.cmp(&other)),
-        );
+        $tally.see("partial_cmp", &values, first.partial_cmp(&second), Some(one.cmp(&other)));
     }};
 }
 
@@ -313,7 +271,7 @@ macro_rules! see_factors {
         $(
             let factor = $factor;
             let (values, exact) = ((duration, factor), i128::from(factor));
-            match held(duration.number() * exact, $range) {
+            match in_range(duration.number() * exact, $range) {
                 Some(product) => {
                     $tally.see("*", &values, (duration * factor).number(), product);
                     $tally.see("* of a number", &values, (factor * duration).number(), product);
@@ -327,7 +285,7 @@ macro_rules! see_factors {
                 None => {}
             }
             if factor != 0 {
-                if let Some(quotient) = held(duration.number() / exact, $range) {
+                if let Some(quotient) = in_range(duration.number() / exact, $range) {
                     $tally.see("/", &values, (duration / factor).number(), quotient);
                     let mut moved = duration;
                     moved /= factor;
@@ -342,74 +300,36 @@ fn see_durations(random: &mut Random, tally: &mut Tally, is_rare: bool) {
     let range = (SignedDuration::MIN.number(), SignedDuration::MAX.number());
     let (first, second, std) = (random.duration(), random.duration(), random.std_duration());
     let (one, other) = (first.number(), second.number());
-    let sums = (held(one + other, range), held(one - other, range));
-    see_sums!(
-        tally,
-        is_rare,
-        first,
-        second,
-        sums.0,
-        sums.1,
-        checked_add,
-        checked_sub
-    );
+    let sums = (in_range(one + other, range), in_range(one - other, range));
+    see_sums!(tally, is_rare, first, second, sums.0, sums.1, checked_add, checked_sub);
     see_order!(tally, first, second);
     see_order!(tally, first, std);
     see_order!(tally, std, first);
     let pair = (first, second);
     let clamped = |number: i128| number.clamp(range.0, range.1);
-    tally.see(
-        "saturating_add",
-        &pair,
-        first.saturating_add(second).number(),
-        clamped(one + other),
-    );
-    tally.see(
-        "saturating_sub",
-        &pair,
-        first.saturating_sub(second).number(),
-        clamped(one - other),
-    );
-    tally.see(
-        "checked_neg",
-        &first,
-        number(first.checked_neg()),
-        held(-one, range),
-    );
+    tally.see("saturating_add", &pair, first.saturating_add(second).number(), clamped(one + other));
+    tally.see("saturating_sub", &pair, first.saturating_sub(second).number(), clamped(one - other));
+    tally.see("checked_neg", &first, number(first.checked_neg()), in_range(-one, range));
     tally.see("abs", &first, first.abs().number(), clamped(one.abs()));
-    tally.see(
-        "unsigned_abs",
-        &first,
-        first.unsigned_abs().number(),
-        one.abs(),
-    );
-    if let Some(negated) = held(-one, range) {
+    tally.see("unsigned_abs", &first, first.unsigned_abs().number(), one.abs());
+    if let Some(negated) = in_range(-one, range) {
         tally.see("neg", &first, (-first).number(), negated);
     }
-    if let (Some(sum), Some(_)) = (held(one + other, range), held(one + other + one, range)) {
+    if let (Some(sum), Some(_)) = (in_range(one + other, range), in_range(one + other + one, range))
+    {
         let all = [first, second];
-        tally.see(
-            "sum",
-            &pair,
-            all.iter().sum::<SignedDuration>().number(),
-            sum,
-        );
-        tally.see(
-            "sum",
-            &pair,
-            all.into_iter().sum::<SignedDuration>().number(),
-            sum,
-        );
+        tally.see("sum", &pair, all.iter().sum::<SignedDuration>().number(), sum);
+        tally.see("sum", &pair, all.into_iter().sum::<SignedDuration>().number(), sum);
     }
     let beside = (first, std);
-    if let Some(sum) = held(one + std.number(), range) {
+    if let Some(sum) = in_range(one + std.number(), range) {
         tally.see("+ of std", &beside, (first + std).number(), sum);
         tally.see("+ to std", &beside, (std + first).number(), sum);
     }
-    if let Some(difference) = held(one - std.number(), range) {
+    if let Some(difference) = in_range(one - std.number(), range) {
         tally.see("- of std", &beside, (first - std).number(), difference);
     }
-    if let Some(difference) = held(std.number() - one, range) {
+    if let Some(difference) = in_range(std.number() - one, range) {
         tally.see("- from std", &beside, (std - first).number(), difference);
     }
     let factor = random.next() as i32 >> random.within(0, 31);
@@ -417,27 +337,13 @@ fn see_durations(random: &mut Random, tally: &mut Tally, is_rare: bool) {
         "checked_mul",
         &(first, factor),
         number(first.checked_mul(factor)),
-        held(one * i128::from(factor), range),
+        in_range(one * i128::from(factor), range),
     );
     let saturated = first.saturating_mul(factor).number();
-    tally.see(
-        "saturating_mul",
-        &(first, factor),
-        saturated,
-        clamped(one * i128::from(factor)),
-    );
+    tally.see("saturating_mul", &(first, factor), saturated, clamped(one * i128::from(factor)));
     let divisor = i128::from(factor);
-    let quotient = if factor == 0 {
-        None
-    } else {
-        held(one / divisor, range)
-    };
-    tally.see(
-        "checked_div",
-        &(first, factor),
-        number(first.checked_div(factor)),
-        quotient,
-    );
+    let quotient = if factor == 0 { None } else { in_range(one / divisor, range) };
+    tally.see("checked_div", &(first, factor), number(first.checked_div(factor)), quotient);
     let bits = random.next();
     see_factors!(
         tally,
@@ -457,12 +363,7 @@ fn see_durations(random: &mut Random, tally: &mut Tally, is_rare: bool) {
         first.whole_minutes(),
         first.whole_milliseconds(),
     );
-    let counts = (
-        one / DAY,
-        one / (3_600 * SECOND),
-        one / (60 * SECOND),
-        one / 1_000_000,
-    );
+    let counts = (one / DAY, one / (3_600 * SECOND), one / (60 * SECOND), one / 1_000_000);
     tally.see(
         "whole days, hours, minutes",
         &first,
@@ -470,20 +371,16 @@ fn see_durations(random: &mut Random, tally: &mut Tally, is_rare: bool) {
         counts,
     );
     let finer = (first.whole_microseconds(), first.whole_nanoseconds());
-    tally.see(
-        "whole microseconds, nanoseconds",
-        &first,
-        finer,
-        (one / 1_000, one),
-    );
+    tally.see("whole microseconds, nanoseconds", &first, finer, (one / 1_000, one));
 }
 
 fn see_dates(random: &mut Random, tally: &mut Tally, is_rare: bool) {
     let range = (Date::MIN.number(), Date::MAX.number());
     let (first, second) = (random.date(), random.date());
     let (duration, std) = (random.duration(), random.std_duration());
-    let days =
-        |sign: i128, nanoseconds: i128| held(first.number() + sign * (nanoseconds / DAY), range);
+    let days = |sign: i128, nanoseconds: i128| {
+        in_range(first.number() + sign * (nanoseconds / DAY), range)
+    };
     let (one, other) = (duration.number(), std.number());
     see_sums!(
         tally,
@@ -507,33 +404,17 @@ fn see_dates(random: &mut Random, tally: &mut Tally, is_rare: bool) {
     );
     see_pair!(tally, first, second, DAY);
     let clamped = |number: i128| number.clamp(range.0, range.1);
-    let exact = (
-        clamped(first.number() + one / DAY),
-        clamped(first.number() - one / DAY),
-    );
-    let found = (
-        first.saturating_add(duration).number(),
-        first.saturating_sub(duration).number(),
-    );
+    let exact = (clamped(first.number() + one / DAY), clamped(first.number() - one / DAY));
+    let found = (first.saturating_add(duration).number(), first.saturating_sub(duration).number());
     tally.see("saturating sums", &(first, duration), found, exact);
-    tally.see(
-        "next_day",
-        &first,
-        number(first.next_day()),
-        held(first.number() + 1, range),
-    );
+    tally.see("next_day", &first, number(first.next_day()), in_range(first.number() + 1, range));
     tally.see(
         "previous_day",
         &first,
         number(first.previous_day()),
-        held(first.number() - 1, range),
+        in_range(first.number() - 1, range),
     );
-    tally.see(
-        "days_since_epoch",
-        &first,
-        i128::from(first.days_since_epoch()),
-        first.number(),
-    );
+    tally.see("days_since_epoch", &first, i128::from(first.days_since_epoch()), first.number());
 }
 
 fn see_times(random: &mut Random, tally: &mut Tally) {
@@ -542,10 +423,7 @@ fn see_times(random: &mut Random, tally: &mut Tally) {
     see_pair!(tally, first, second, 1);
     let around = |number: i128| number.rem_euclid(DAY);
     let one = first.number();
-    let exact = (
-        around(one + duration.number()),
-        around(one - duration.number()),
-    );
+    let exact = (around(one + duration.number()), around(one - duration.number()));
     tally.see(
         "+, -",
         &(first, duration),
@@ -569,21 +447,12 @@ fn see_times(random: &mut Random, tally: &mut Tally) {
         around(one + duration.number() - std.number()),
     );
     let apart = around(second.number() - one);
-    tally.see(
-        "duration_until",
-        &(first, second),
-        first.duration_until(second).number(),
-        apart,
-    );
-    tally.see(
-        "duration_since",
-        &(first, second),
-        second.duration_since(first).number(),
-        apart,
-    );
+    tally.see("duration_until", &(first, second), first.duration_until(second).number(), apart);
+    tally.see("duration_since", &(first, second), second.duration_since(first).number(), apart);
 }
 
-/// Sums, differences and orders of a type of date-times. What clocks show is less than the instant by the offset.
+/// Sums, differences and orders of a type of date-times. What clocks show is less than the instant
+/// by the offset.
 macro_rules! see_date_times {
     ($tally:ident, $is_rare:expr, $random:ident, $first:expr, $second:expr, $offset:expr, $range:expr) => {{
         let (first, second) = ($first, $second);
@@ -592,7 +461,7 @@ macro_rules! see_date_times {
         let range: (i128, i128) = $range;
         let range = (range.0 - offset, range.1 - offset);
         let one = first.number();
-        let exact = |number: i128| held(number, range);
+        let exact = |number: i128| in_range(number, range);
         let numbers = (duration.number(), std.number());
         see_sums!(
             $tally,
@@ -617,10 +486,8 @@ macro_rules! see_date_times {
         see_pair!($tally, first, second, 1);
         let clamped = |number: i128| number.clamp(range.0, range.1);
         let wanted = (clamped(one + numbers.0), clamped(one - numbers.0));
-        let found = (
-            first.saturating_add(duration).number(),
-            first.saturating_sub(duration).number(),
-        );
+        let found =
+            (first.saturating_add(duration).number(), first.saturating_sub(duration).number());
         $tally.see("saturating sums", &(first, duration), found, wanted);
     }};
 }
@@ -638,19 +505,8 @@ fn see_all(random: &mut Random, tally: &mut Tally, is_rare: bool) {
     let stamps = (Timestamp::from(first_utc), Timestamp::from(second_utc));
     see_date_times!(tally, is_rare, random, stamps.0, stamps.1, 0, ends);
     let (offset, other_offset) = (random.offset(), random.offset());
-    let shown = (
-        first.assume_offset(offset),
-        second.assume_offset(other_offset),
-    );
-    see_date_times!(
-        tally,
-        is_rare,
-        random,
-        shown.0,
-        shown.1,
-        offset.number() * SECOND,
-        ends
-    );
+    let shown = (first.assume_offset(offset), second.assume_offset(other_offset));
+    see_date_times!(tally, is_rare, random, shown.0, shown.1, offset.number() * SECOND, ends);
     let later = shown.0.checked_add(random.duration());
     tally.see(
         "the offset of a sum",
@@ -665,21 +521,11 @@ fn see_all(random: &mut Random, tally: &mut Tally, is_rare: bool) {
     see_pair!(tally, shown.0, stamps.1, 1);
     see_pair!(tally, stamps.0, shown.1, 1);
     let seconds = shown.0.number().div_euclid(SECOND);
-    tally.see(
-        "unix_timestamp",
-        &shown.0,
-        i128::from(shown.0.unix_timestamp()),
-        seconds,
-    );
-    tally.see(
-        "unix_timestamp_nanos",
-        &shown.0,
-        shown.0.unix_timestamp_nanos(),
-        shown.0.number(),
-    );
+    tally.see("unix_timestamp", &shown.0, i128::from(shown.0.unix_timestamp()), seconds);
+    tally.see("unix_timestamp_nanos", &shown.0, shown.0.unix_timestamp_nanos(), shown.0.number());
     let moved = number(shown.0.checked_to_offset(other_offset));
     let at_other = shown.0.number() + other_offset.number() * SECOND;
-    let wanted = held(at_other, ends).map(|_| shown.0.number());
+    let wanted = in_range(at_other, ends).map(|_| shown.0.number());
     tally.see("checked_to_offset", &(shown.0, other_offset), moved, wanted);
 }
 
@@ -695,9 +541,6 @@ fn main() {
     for round in 0..rounds {
         see_all(&mut random, &mut tally, round % 64 == 0);
     }
-    println!(
-        "{rounds} rounds, {} comparisons, {} differ",
-        tally.compared, tally.wrong
-    );
+    println!("{rounds} rounds, {} comparisons, {} differ", tally.compared, tally.wrong);
     std::process::exit(i32::from(tally.wrong > 0 || tally.compared == 0));
 }

@@ -29,11 +29,7 @@ impl Date {
     #[must_use]
     #[inline]
     pub fn saturating_add(self, duration: SignedDuration) -> Date {
-        let end = if duration.is_negative() {
-            Date::MIN
-        } else {
-            Date::MAX
-        };
+        let end = if duration.is_negative() { Date::MIN } else { Date::MAX };
         self.checked_add(duration).unwrap_or(end)
     }
 
@@ -41,11 +37,7 @@ impl Date {
     #[must_use]
     #[inline]
     pub fn saturating_sub(self, duration: SignedDuration) -> Date {
-        let end = if duration.is_negative() {
-            Date::MAX
-        } else {
-            Date::MIN
-        };
+        let end = if duration.is_negative() { Date::MAX } else { Date::MIN };
         self.checked_sub(duration).unwrap_or(end)
     }
 
@@ -135,7 +127,8 @@ macro_rules! operators {
                 #[track_caller]
                 #[inline]
                 fn add(self, duration: $Duration) -> Date {
-                    self.$checked_add(duration).expect("the range has the sum")
+                    self.$checked_add(duration)
+                        .expect("the sum is out of range: use `checked_add`")
                 }
             }
 
@@ -149,7 +142,7 @@ macro_rules! operators {
                 #[inline]
                 fn sub(self, duration: $Duration) -> Date {
                     self.$checked_sub(duration)
-                        .expect("the range has the difference")
+                        .expect("the difference is out of range: use `checked_sub`")
                 }
             }
 

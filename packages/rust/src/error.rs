@@ -140,7 +140,7 @@ impl TryFrom<Format> for std::io::Error {
 #[non_exhaustive]
 #[derive(Clone, Copy, Debug, PartialEq, Eq, Hash)]
 pub enum ParseFromDescription {
-    /// Other bytes stand in the place of a literal.
+    /// The text has other bytes in the place of a literal.
     InvalidLiteral,
     /// The component of this name cannot be read, or contradicts a part before it.
     InvalidComponent(&'static str),
@@ -328,16 +328,16 @@ pub enum InvalidFormatDescription {
         /// The place of the `[`.
         index: usize,
     },
-    /// Something else must stand here.
+    /// The description needs something else here.
     Expected {
-        /// What.
+        /// The part that it needs.
         what: &'static str,
         /// The place.
         index: usize,
     },
     /// This is not taken here.
     NotSupported {
-        /// What.
+        /// The part that is not supported.
         what: &'static str,
         /// Where it is not taken.
         context: &'static str,
@@ -362,11 +362,9 @@ impl fmt::Display for InvalidFormatDescription {
                 write!(f, "the modifier `{name}` is missing (byte {index})")
             }
             Expected { what, index } => write!(f, "expected {what} (byte {index})"),
-            NotSupported {
-                what,
-                context,
-                index,
-            } => write!(f, "{what} are not taken {context} (byte {index})"),
+            NotSupported { what, context, index } => {
+                write!(f, "{what} are not taken {context} (byte {index})")
+            }
         }
     }
 }

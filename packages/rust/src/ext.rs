@@ -2,6 +2,7 @@
 
 use core::time::Duration;
 
+use crate::signed_duration::TOO_LONG;
 use crate::{SignedDuration, fractional};
 
 mod sealed {
@@ -104,9 +105,12 @@ macro_rules! fractional {
             $(
                 #[track_caller]
                 fn $std_unit(self) -> Duration {
-                    assert!(self >= 0.0, "a duration of std is not negative");
+                    assert!(
+                        self >= 0.0,
+                        "a duration of std must not be negative: make a `SignedDuration`"
+                    );
                     fractional::std_duration(self, $nanoseconds)
-                        .expect("64 bits hold the duration")
+                        .expect(TOO_LONG)
                 }
             )+
         }
@@ -130,7 +134,7 @@ macro_rules! of_std {
             $(
                 #[track_caller]
                 fn $unit(self) -> Duration {
-                    Duration::$make(self.checked_mul($factor).expect("64 bits hold the duration"))
+                    Duration::$make(self.checked_mul($factor).expect(TOO_LONG))
                 }
             )+
         }

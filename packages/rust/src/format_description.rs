@@ -1,10 +1,12 @@
-//! Descriptions of how values are written and read, by `time`'s names. The functions that write and read are proved.
+//! Descriptions of how values are written and read, by `time`'s names. The functions that write and
+//! read are proved.
 //!
 //! ```
 //! use muxandu::macros::{datetime, format_description};
 //! use muxandu::OffsetDateTime;
 //!
-//! let format = format_description!("[year]-[month]-[day] [hour]:[minute] [offset_hour sign:mandatory]");
+//! let format =
+//!     format_description!("[year]-[month]-[day] [hour]:[minute] [offset_hour sign:mandatory]");
 //! let at = datetime!(2024-02-29 12:34 +1);
 //! assert_eq!(at.format(&format)?, "2024-02-29 12:34 +01");
 //! assert_eq!(OffsetDateTime::parse("2024-02-29 12:34 +01", &format)?, at);
@@ -26,5 +28,5 @@ pub use text::{parse, parse_borrowed, parse_owned};
 /// The older name of [`BorrowedFormatItem`].
 pub type FormatItem<'a> = BorrowedFormatItem<'a>;
 
-/// What `format_description!` gives.
+/// The items that `format_description!` returns.
 pub type StaticFormatDescription = &'static [BorrowedFormatItem<'static>];

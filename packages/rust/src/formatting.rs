@@ -12,7 +12,8 @@ use crate::format_description::{BorrowedFormatItem, Component, OwnedFormatItem};
 use crate::proved::format_descriptions::{self as proved, Item};
 use crate::{Date, OffsetDateTime, PlainDateTime, Text, Time, Timestamp, UtcDateTime, UtcOffset};
 
-/// What a value can be written by: a description, or a format of [`well_known`](crate::format_description::well_known).
+/// A form that writes a value: a description, or a format of
+/// [`well_known`](crate::format_description::well_known).
 pub trait Formattable: sealed::Sealed {}
 
 impl Formattable for BorrowedFormatItem<'_> {}
@@ -23,7 +24,7 @@ impl Formattable for Rfc3339 {}
 impl Formattable for Rfc2822 {}
 impl<T: Deref<Target: Formattable>> Formattable for T {}
 
-/// What a value has of a date, a time of day and an offset.
+/// The date, the time of day and the offset that a value has.
 #[derive(Clone, Copy)]
 pub struct Value {
     date: Option<Date>,
@@ -33,10 +34,13 @@ pub struct Value {
 
 impl Value {
     fn component(self, component: Component) -> Result<Text, Format> {
-        let items = [Item::Part(component.proved())];
+        let component = component.to_proved();
+        let items = [Item::Part(component)];
         let Value { date, time, offset } = self;
         match (date, time, offset) {
-            (Some(date), Some(time), Some(offset)) => proved::format(&items, date, time, offset),
+            (Some(date), Some(time), Some(offset)) => {
+                proved::format_component(component, date, time, offset)
+            }
             (Some(date), Some(time), None) => {
                 proved::format_plain(&items, PlainDateTime::new(date, time)).ok()
             }
@@ -71,55 +75,57 @@ mod sealed {
 
     pub trait Sealed {
         /// Writes a value, and gives the count of the bytes.
-        fn put(&self, value: Value, put: &mut Put<'_>) -> Result<usize, Format>;
+        fn put_value(&self, value: Value, put: &mut Put<'_>) -> Result<usize, Format>;
     }
 
     impl Sealed for BorrowedFormatItem<'_> {
-        fn put(&self, value: Value, put: &mut Put<'_>) -> Result<usize, Format> {
+        fn put_value(&self, value: Value, put: &mut Put<'_>) -> Result<usize, Format> {
             match self {
                 Self::Literal(literal) => put_all(put, literal),
                 Self::Component(component) => put_all(put, value.component(*component)?.as_bytes()),
-                Self::Compound(items) => items.put(value, put),
-                Self::Optional(item) => item.put(value, put),
-                Self::First(items) => items.first().map_or(Ok(0), |item| item.put(value, put)),
+                Self::Compound(items) => items.put_value(value, put),
+                Self::Optional(item) => item.put_value(value, put),
+                Self::First(items) => {
+                    items.first().map_or(Ok(0), |item| item.put_value(value, put))
+                }
             }
         }
     }
 
     impl Sealed for OwnedFormatItem {
-        fn put(&self, value: Value, put: &mut Put<'_>) -> Result<usize, Format> {
+        fn put_value(&self, value: Value, put: &mut Put<'_>) -> Result<usize, Format> {
             match self {
                 Self::Literal(literal) => put_all(put, literal),
                 Self::Component(component) => put_all(put, value.component(*component)?.as_bytes()),
-                Self::Compound(items) => items.put(value, put),
-                Self::Optional(item) => item.put(value, put),
-                Self::First(items) => items.first().map_or(Ok(0), |item| item.put(value, put)),
+                Self::Compound(items) => items.put_value(value, put),
+                Self::Optional(item) => item.put_value(value, put),
+                Self::First(items) => {
+                    items.first().map_or(Ok(0), |item| item.put_value(value, put))
+                }
             }
         }
     }
 
     impl Sealed for [BorrowedFormatItem<'_>] {
-        fn put(&self, value: Value, put: &mut Put<'_>) -> Result<usize, Format> {
-            self.iter()
-                .try_fold(0, |count, item| Ok(count + item.put(value, put)?))
+        fn put_value(&self, value: Value, put: &mut Put<'_>) -> Result<usize, Format> {
+            self.iter().try_fold(0, |count, item| Ok(count + item.put_value(value, put)?))
         }
     }
 
     impl Sealed for [OwnedFormatItem] {
-        fn put(&self, value: Value, put: &mut Put<'_>) -> Result<usize, Format> {
-            self.iter()
-                .try_fold(0, |count, item| Ok(count + item.put(value, put)?))
+        fn put_value(&self, value: Value, put: &mut Put<'_>) -> Result<usize, Format> {
+            self.iter().try_fold(0, |count, item| Ok(count + item.put_value(value, put)?))
         }
     }
 
     impl<T: Deref<Target: Sealed>> Sealed for T {
-        fn put(&self, value: Value, put: &mut Put<'_>) -> Result<usize, Format> {
-            self.deref().put(value, put)
+        fn put_value(&self, value: Value, put: &mut Put<'_>) -> Result<usize, Format> {
+            self.deref().put_value(value, put)
         }
     }
 
     impl Sealed for Rfc3339 {
-        fn put(&self, value: Value, put: &mut Put<'_>) -> Result<usize, Format> {
+        fn put_value(&self, value: Value, put: &mut Put<'_>) -> Result<usize, Format> {
             let at = value.date_time()?;
             match at.to_rfc3339() {
                 Some(text) => put_all(put, text.as_bytes()),
@@ -133,7 +139,7 @@ mod sealed {
     }
 
     impl Sealed for Rfc2822 {
-        fn put(&self, value: Value, put: &mut Put<'_>) -> Result<usize, Format> {
+        fn put_value(&self, value: Value, put: &mut Put<'_>) -> Result<usize, Format> {
             let at = value.date_time()?;
             if !(1900..10_000).contains(&at.year()) {
                 return Err(Format::InvalidComponent("year"));
@@ -141,7 +147,7 @@ mod sealed {
             if at.offset().seconds_past_minute() != 0 {
                 return Err(Format::InvalidComponent("offset_second"));
             }
-            RFC_2822.put(value, put)
+            RFC_2822.put_value(value, put)
         }
     }
 }
@@ -152,8 +158,8 @@ pub(crate) const RFC_2822: &[BorrowedFormatItem<'static>] = crate::macros::forma
 );
 
 fn text_of(format: &(impl Formattable + ?Sized), value: Value) -> Result<String, Format> {
-    let mut bytes = Vec::new();
-    format.put(value, &mut |more| {
+    let mut bytes = Vec::with_capacity(64);
+    format.put_value(value, &mut |more| {
         bytes.extend_from_slice(more);
         Ok(())
     })?;
@@ -169,16 +175,15 @@ fn write_to(
     format: &(impl Formattable + ?Sized),
     value: Value,
 ) -> Result<usize, Format> {
-    format.put(value, &mut |bytes| {
-        output.write_all(bytes).map_err(Format::StdIo)
-    })
+    format.put_value(value, &mut |bytes| output.write_all(bytes).map_err(Format::StdIo))
 }
 
 macro_rules! formatted {
     ($($Type:ident($value:ident): $parts:expr;)+) => {
         $(
             impl $Type {
-                /// The text by a description, or by a format of [`well_known`](crate::format_description::well_known).
+                /// The text by a description, or by a format of
+                /// [`well_known`](crate::format_description::well_known).
                 ///
                 /// # Errors
                 ///

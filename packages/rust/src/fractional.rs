@@ -11,7 +11,8 @@ const NOT_FINITE: u32 = 0x7ff;
 /// The bias of a stored exponent: that of the least bit of a significand is less by this.
 const BIAS: u32 = 1_023 + STORED;
 
-/// A finite number without its sign: a whole number of 53 bits, times 2 to the power of the second. None for infinity and NaN.
+/// A finite number without its sign: a whole number of 53 bits, times 2 to the power of the second.
+/// None for infinity and NaN.
 const fn parts(number: f64) -> Option<(u64, i32)> {
     let bits = number.to_bits();
     let fraction = bits & ((1 << STORED) - 1);
@@ -22,7 +23,8 @@ const fn parts(number: f64) -> Option<(u64, i32)> {
     }
 }
 
-/// The number halved a number of times, once at least: the nearest whole number, and the even one where two are as near.
+/// The number halved a number of times, once at least: the nearest whole number, and the even one
+/// where two are as near.
 const fn halve(number: u128, times: u32) -> u128 {
     if times >= u128::BITS {
         return 0;
@@ -34,8 +36,9 @@ const fn halve(number: u128, times: u32) -> u128 {
     whole + is_nearer_above as u128
 }
 
-/// The nanoseconds of `count` units: the nearest whole number, and the even one where two are as near. A unit has at most 2^50
-/// nanoseconds. None for infinity and NaN, and where 128 bits do not hold the nanoseconds.
+/// The nanoseconds of `count` units: the nearest whole number, and the even one where two are as
+/// near. A unit has at most 2^50 nanoseconds. None for infinity and NaN, and where 128 bits do not
+/// hold the nanoseconds.
 pub(crate) const fn nanoseconds(count: f64, unit: u64) -> Option<i128> {
     let Some((significand, exponent)) = parts(count) else {
         return None;
@@ -48,14 +51,11 @@ pub(crate) const fn nanoseconds(count: f64, unit: u64) -> Option<i128> {
     } else {
         return None;
     };
-    Some(if count < 0.0 {
-        -(size as i128)
-    } else {
-        size as i128
-    })
+    Some(if count < 0.0 { -(size as i128) } else { size as i128 })
 }
 
-/// Std's duration of `count` units. None where it is negative, infinite or NaN, and where 64 bits do not hold the seconds.
+/// Std's duration of `count` units. None where it is negative, infinite or NaN, and where 64 bits
+/// do not hold the seconds.
 pub(crate) fn std_duration(count: f64, unit: u64) -> Option<Duration> {
     const SECOND: i128 = 1_000_000_000;
     let whole = nanoseconds(count, unit)?;

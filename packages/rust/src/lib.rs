@@ -1,12 +1,15 @@
-//! Dates and times over the proleptic Gregorian calendar, the years -999999 to 999999, under the names of the crate `time`.
+//! Dates and times over the proleptic Gregorian calendar, the years -999999 to 999999, under the
+//! names of the crate `time`.
 //!
-//! The types and their functions are those of the module [`proved`]: plain Rust, made of sources of which each function is
-//! proved to meet its contract. What this crate adds by hand are the names of `time` that those sources do not have: literals,
-//! clocks, errors, texts read by `FromStr`, and numbers as durations. A program over `time` changes `use time::` into
-//! `use muxandu::`. Format descriptions are in [`mod@format_description`].
+//! The types and their functions are those of the module [`proved`]: plain Rust, made of sources of
+//! which each function is proved to meet its contract. What this crate adds by hand are the names
+//! of `time` that those sources do not have: literals, clocks, errors, texts read by `FromStr`, and
+//! numbers as durations. A program over `time` changes `use time::` into `use muxandu::`. Format
+//! descriptions are in [`mod@format_description`], and texts without an offset in [`local_texts`].
 //!
-//! [`PlainDateTime`] is a date and a time of day, [`UtcDateTime`] and [`Timestamp`] are instants, and [`OffsetDateTime`] is
-//! what clocks at an offset from UTC show. Only tested functions make a value, so reads cannot fail.
+//! [`PlainDateTime`] is a date and a time of day, [`UtcDateTime`] and [`Timestamp`] are instants,
+//! and [`OffsetDateTime`] is a wall clock at an offset from UTC. Only tested functions make a
+//! value, so reads cannot fail.
 //!
 //! ```
 //! use muxandu::ext::NumericalDuration as _;
@@ -68,6 +71,7 @@ mod unit;
 mod utc_offset;
 
 pub use error::Error;
+pub use proved::local_texts;
 pub use proved::{
     Date, Month, OffsetDateTime, PlainDateTime, SignedDuration, Text, TextRefusal, Time, Timestamp,
     UtcDateTime, UtcOffset, Weekday, days_in_month, days_in_year, is_leap_year,

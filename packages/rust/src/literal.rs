@@ -1,5 +1,6 @@
-//! The forms of literals, and of the texts that `FromStr` reads. The macros read a literal when a program is compiled, and
-//! `FromStr` reads a text when the program runs. This module is no part of the interface.
+//! The forms of literals, and of the texts that `FromStr` reads. The macros read a literal when a
+//! program is compiled, and `FromStr` reads a text when the program runs. This module is no part of
+//! the interface.
 
 use core::fmt;
 
@@ -32,11 +33,7 @@ struct Number {
 impl Number {
     /// The number, or 255 for a greater one, which no part has.
     const fn part(self) -> u8 {
-        if self.value > 255 {
-            255
-        } else {
-            self.value as u8
-        }
+        if self.value > 255 { 255 } else { self.value as u8 }
     }
 }
 
@@ -49,10 +46,7 @@ struct Rest<'a> {
 
 impl<'a> Rest<'a> {
     const fn new(text: &'a str) -> Rest<'a> {
-        Rest {
-            bytes: text.as_bytes(),
-            at: 0,
-        }
+        Rest { bytes: text.as_bytes(), at: 0 }
     }
 
     /// The next byte, spaces left out, and 0 at the end.
@@ -60,11 +54,7 @@ impl<'a> Rest<'a> {
         while self.at < self.bytes.len() && self.bytes[self.at].is_ascii_whitespace() {
             self.at += 1;
         }
-        if self.at < self.bytes.len() {
-            self.bytes[self.at]
-        } else {
-            0
-        }
+        if self.at < self.bytes.len() { self.bytes[self.at] } else { 0 }
     }
 
     const fn is_at_end(&mut self) -> bool {
@@ -85,10 +75,7 @@ impl<'a> Rest<'a> {
         if !self.next().is_ascii_digit() {
             return None;
         }
-        let mut number = Number {
-            value: 0,
-            digits: 0,
-        };
+        let mut number = Number { value: 0, digits: 0 };
         while self.at < self.bytes.len() {
             let byte = self.bytes[self.at];
             if byte.is_ascii_digit() {
@@ -132,11 +119,7 @@ impl<'a> Rest<'a> {
         if number.value > 9_999_999 {
             return None;
         }
-        let year = if is_negative {
-            -(number.value as i32)
-        } else {
-            number.value as i32
-        };
+        let year = if is_negative { -(number.value as i32) } else { number.value as i32 };
         if !self.takes(b'-') {
             return None;
         }
@@ -151,17 +134,9 @@ impl<'a> Rest<'a> {
         }
         let second = some!(self.number());
         if self.takes(b'-') {
-            return Some(DateLiteral::Calendar(
-                year,
-                second.part(),
-                some!(self.number()).part(),
-            ));
+            return Some(DateLiteral::Calendar(year, second.part(), some!(self.number()).part()));
         }
-        let ordinal = if second.value > 999 {
-            999
-        } else {
-            second.value as u16
-        };
+        let ordinal = if second.value > 999 { 999 } else { second.value as u16 };
         Some(DateLiteral::Ordinal(year, ordinal))
     }
 
@@ -171,12 +146,7 @@ impl<'a> Rest<'a> {
             return None;
         }
         let minute = some!(self.number()).part();
-        let mut time = TimeLiteral {
-            hour,
-            minute,
-            second: 0,
-            nanosecond: 0,
-        };
+        let mut time = TimeLiteral { hour, minute, second: 0, nanosecond: 0 };
         if self.takes(b':') {
             time.second = some!(self.number()).part();
             time.nanosecond = some!(self.fraction());
@@ -189,10 +159,7 @@ impl<'a> Rest<'a> {
             let is_utc =
                 (self.takes(b'T') || self.takes(b't')) && (self.takes(b'C') || self.takes(b'c'));
             return if is_utc {
-                Some(OffsetLiteral {
-                    is_negative: false,
-                    parts: [0; 3],
-                })
+                Some(OffsetLiteral { is_negative: false, parts: [0; 3] })
             } else {
                 None
             };
@@ -220,18 +187,11 @@ impl<'a> Rest<'a> {
         let nanosecond = some!(self.fraction());
         let seconds = number.value as i128;
         Some(match (is_negative, nanosecond) {
-            (false, _) => TimestampLiteral {
-                seconds,
-                nanosecond,
-            },
-            (true, 0) => TimestampLiteral {
-                seconds: -seconds,
-                nanosecond,
-            },
-            (true, _) => TimestampLiteral {
-                seconds: -seconds - 1,
-                nanosecond: 1_000_000_000 - nanosecond,
-            },
+            (false, _) => TimestampLiteral { seconds, nanosecond },
+            (true, 0) => TimestampLiteral { seconds: -seconds, nanosecond },
+            (true, _) => {
+                TimestampLiteral { seconds: -seconds - 1, nanosecond: 1_000_000_000 - nanosecond }
+            }
         })
     }
 }
@@ -288,7 +248,7 @@ pub struct TimestampLiteral {
     pub(crate) nanosecond: u32,
 }
 
-const fn ended<T: Copy>(mut rest: Rest<'_>, value: T) -> Option<T> {
+const fn only_value<T: Copy>(mut rest: Rest<'_>, value: T) -> Option<T> {
     if rest.is_at_end() { Some(value) } else { None }
 }
 
@@ -296,35 +256,35 @@ const fn ended<T: Copy>(mut rest: Rest<'_>, value: T) -> Option<T> {
 pub const fn date(text: &str) -> Option<DateLiteral> {
     let mut rest = Rest::new(text);
     let date = some!(rest.date());
-    ended(rest, date)
+    only_value(rest, date)
 }
 
 #[must_use]
 pub const fn time(text: &str) -> Option<TimeLiteral> {
     let mut rest = Rest::new(text);
     let time = some!(rest.time());
-    ended(rest, time)
+    only_value(rest, time)
 }
 
 #[must_use]
 pub const fn offset(text: &str) -> Option<OffsetLiteral> {
     let mut rest = Rest::new(text);
     let offset = some!(rest.offset());
-    ended(rest, offset)
+    only_value(rest, offset)
 }
 
 #[must_use]
-pub const fn plain(text: &str) -> Option<PlainLiteral> {
+pub const fn plain_literal(text: &str) -> Option<PlainLiteral> {
     let mut rest = Rest::new(text);
     let date = some!(rest.date());
     let time = some!(rest.time());
-    ended(rest, PlainLiteral { date, time })
+    only_value(rest, PlainLiteral { date, time })
 }
 
 /// The parts of the text that `Display` writes of an instant, in which UTC is `+00`.
 #[must_use]
 pub(crate) fn utc(text: &str) -> Option<UtcLiteral> {
-    plain(text.strip_suffix(AT_UTC)?).map(UtcLiteral)
+    plain_literal(text.strip_suffix(AT_UTC)?).map(UtcLiteral)
 }
 
 #[must_use]
@@ -333,20 +293,14 @@ pub const fn date_time(text: &str) -> Option<DateTimeLiteral> {
     let date = some!(rest.date());
     let time = some!(rest.time());
     let offset = some!(rest.offset());
-    ended(
-        rest,
-        DateTimeLiteral {
-            plain: PlainLiteral { date, time },
-            offset,
-        },
-    )
+    only_value(rest, DateTimeLiteral { plain: PlainLiteral { date, time }, offset })
 }
 
 #[must_use]
 pub const fn timestamp(text: &str) -> Option<TimestampLiteral> {
     let mut rest = Rest::new(text);
     let timestamp = some!(rest.timestamp());
-    ended(rest, timestamp)
+    only_value(rest, timestamp)
 }
 
 /// The literal. Another form ends the compilation with the message.
@@ -396,7 +350,7 @@ macro_rules! values {
                 /// The value. A part that is out of its range ends the compilation.
                 #[must_use]
                 pub const fn value(self) -> $Value {
-                    match self.tested() {
+                    match self.check() {
                         Ok(value) => value,
                         Err(refused) => refuse(refused),
                     }
@@ -417,7 +371,7 @@ values! {
 }
 
 impl DateLiteral {
-    pub(crate) const fn tested(self) -> RangeResult<Date> {
+    pub(crate) const fn check(self) -> RangeResult<Date> {
         match self {
             DateLiteral::Calendar(year, month, day) => {
                 Date::from_calendar_date(year, tried!(Month::from_number(month)), day)
@@ -429,19 +383,15 @@ impl DateLiteral {
 }
 
 impl TimeLiteral {
-    pub(crate) const fn tested(self) -> RangeResult<Time> {
+    pub(crate) const fn check(self) -> RangeResult<Time> {
         Time::from_hms_nano(self.hour, self.minute, self.second, self.nanosecond)
     }
 }
 
 impl OffsetLiteral {
-    pub(crate) const fn tested(self) -> RangeResult<UtcOffset> {
+    pub(crate) const fn check(self) -> RangeResult<UtcOffset> {
         let [hours, minutes, seconds] = self.parts;
-        UtcOffset::from_hms(
-            self.signed(hours),
-            self.signed(minutes),
-            self.signed(seconds),
-        )
+        UtcOffset::from_hms(self.signed(hours), self.signed(minutes), self.signed(seconds))
     }
 
     /// A part with the sign, or 127 for a greater one, which no part has.
@@ -455,9 +405,9 @@ impl OffsetLiteral {
 }
 
 impl PlainLiteral {
-    pub(crate) const fn tested(self) -> RangeResult<PlainDateTime> {
-        let date = tried!(self.date.tested());
-        Ok(PlainDateTime::new(date, tried!(self.time.tested())))
+    pub(crate) const fn check(self) -> RangeResult<PlainDateTime> {
+        let date = tried!(self.date.check());
+        Ok(PlainDateTime::new(date, tried!(self.time.check())))
     }
 
     /// As one in UTC.
@@ -468,26 +418,22 @@ impl PlainLiteral {
 }
 
 impl UtcLiteral {
-    pub(crate) const fn tested(self) -> RangeResult<UtcDateTime> {
-        Ok(tried!(self.0.tested()).as_utc())
+    pub(crate) const fn check(self) -> RangeResult<UtcDateTime> {
+        Ok(tried!(self.0.check()).as_utc())
     }
 }
 
 impl DateTimeLiteral {
-    pub(crate) const fn tested(self) -> RangeResult<OffsetDateTime> {
-        let plain = tried!(self.plain.tested());
-        Ok(plain.assume_offset(tried!(self.offset.tested())))
+    pub(crate) const fn check(self) -> RangeResult<OffsetDateTime> {
+        let plain = tried!(self.plain.check());
+        Ok(plain.assume_offset(tried!(self.offset.check())))
     }
 }
 
 impl TimestampLiteral {
-    pub(crate) const fn tested(self) -> RangeResult<Timestamp> {
+    pub(crate) const fn check(self) -> RangeResult<Timestamp> {
         let is_held = self.seconds >= i64::MIN as i128 && self.seconds <= i64::MAX as i128;
-        let seconds = if is_held {
-            self.seconds as i64
-        } else {
-            i64::MAX
-        };
+        let seconds = if is_held { self.seconds as i64 } else { i64::MAX };
         Timestamp::new(seconds, self.nanosecond)
     }
 }
@@ -500,7 +446,8 @@ fn write_part(f: &mut fmt::Formatter<'_>, part: u8, digits: usize) -> fmt::Resul
     write!(f, "{part:0digits$}")
 }
 
-/// The digits of the fraction after a point, of which zeros at the end are left out, but for the first.
+/// The digits of the fraction after a point, of which zeros at the end are left out, but for the
+/// first.
 fn write_fraction(f: &mut fmt::Formatter<'_>, nanosecond: u32) -> fmt::Result {
     let (mut fraction, mut width) = (nanosecond, 9);
     while width > 1 && fraction % 10 == 0 {
@@ -510,7 +457,8 @@ fn write_fraction(f: &mut fmt::Formatter<'_>, nanosecond: u32) -> fmt::Result {
     write!(f, ".{fraction:0width$}")
 }
 
-/// As `Display` writes a date of the parts, in the range or not. Other forms than that of a calendar date have no such text.
+/// As `Display` writes a date of the parts, in the range or not. Other forms than that of a
+/// calendar date have no such text.
 impl fmt::Display for DateLiteral {
     fn fmt(&self, f: &mut fmt::Formatter<'_>) -> fmt::Result {
         let DateLiteral::Calendar(year, month, day) = *self else {

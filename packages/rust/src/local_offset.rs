@@ -1,5 +1,6 @@
-//! The offset of the machine's clock, with the feature `local-offset`: no call finds it, and each fails. A program that has the
-//! feature of `time` builds, and takes the branch that it has for a machine without an offset.
+//! The offset of the machine's clock, with the feature `local-offset`: no call finds it, and each
+//! fails. A program that has the feature of `time` builds, and takes the branch that it has for a
+//! machine without an offset.
 
 use crate::error::IndeterminateOffset;
 use crate::{OffsetDateTime, UtcOffset};
@@ -33,7 +34,8 @@ impl UtcOffset {
 }
 
 impl OffsetDateTime {
-    /// What the clock of the machine shows at its own offset, which no call finds. [`OffsetDateTime::now_utc`] has the instant.
+    /// Returns [`IndeterminateOffset`], because no call finds the machine's offset.
+    /// [`OffsetDateTime::now_utc`] returns the instant.
     ///
     /// # Errors
     ///

@@ -1,7 +1,7 @@
 //! Literals of dates and times, in the forms that `time`'s macros take.
 //!
-//! A literal is a constant expression. What is no literal, or names no date or time, does not compile, and the compiler's error
-//! names the line of the literal and what is wrong with it:
+//! A literal is a constant expression. An invalid one does not compile. The error of the compiler
+//! names its line and its fault:
 //!
 //! ```compile_fail
 //! let date = muxandu::macros::date!(2023-02-29);
@@ -13,7 +13,8 @@
 //! assert_eq!(date!(2024-060), date!(2024-02-29));
 //! assert_eq!(date!(2024-W09-4), date!(2024-02-29));
 //! assert_eq!(datetime!(2024-02-29 1:02:03.5), date!(2024-02-29).with_time(time!(1:02:03.500)));
-//! assert_eq!(datetime!(2024-02-29 1:02 +1), datetime!(2024-02-29 1:02).assume_offset(offset!(+1:00)));
+//! let plain = datetime!(2024-02-29 1:02);
+//! assert_eq!(datetime!(2024-02-29 1:02 +1), plain.assume_offset(offset!(+1:00)));
 //! assert_eq!(timestamp!(-0.5), utc_datetime!(1969-12-31 23:59:59.5));
 //! ```
 
@@ -45,7 +46,8 @@ macro_rules! time {
     }};
 }
 
-/// A [`UtcOffset`](crate::UtcOffset): `offset!(UTC)`, `offset!(+1)`, `offset!(-1:30)` or `offset!(+1:02:03)`.
+/// A [`UtcOffset`](crate::UtcOffset): `offset!(UTC)`, `offset!(+1)`, `offset!(-1:30)` or
+/// `offset!(+1:02:03)`.
 #[macro_export]
 macro_rules! offset {
     ($($token:tt)+) => {{
@@ -58,7 +60,8 @@ macro_rules! offset {
     }};
 }
 
-/// A [`Timestamp`](crate::Timestamp), in seconds: `timestamp!(1_546_398_245)` or `timestamp!(-0.5)`.
+/// A [`Timestamp`](crate::Timestamp), in seconds: `timestamp!(1_546_398_245)` or
+/// `timestamp!(-0.5)`.
 #[macro_export]
 macro_rules! timestamp {
     ($($token:tt)+) => {{
@@ -76,7 +79,7 @@ macro_rules! timestamp {
 macro_rules! utc_datetime {
     ($($token:tt)+) => {{
         const LITERAL: $crate::UtcDateTime = $crate::literal::of_form(
-            $crate::literal::plain(::core::stringify!($($token)+)),
+            $crate::literal::plain_literal(::core::stringify!($($token)+)),
             ::core::concat!("no date and time of day: ", ::core::stringify!($($token)+)),
         )
         .in_utc()
@@ -86,7 +89,8 @@ macro_rules! utc_datetime {
 }
 
 /// A [`PlainDateTime`](crate::PlainDateTime), `datetime!(2024-02-29 1:02:03)`, or with an offset an
-/// [`OffsetDateTime`](crate::OffsetDateTime), `datetime!(2024-02-29 1:02:03 -5)` or `datetime!(2024-02-29 1:02:03 UTC)`.
+/// [`OffsetDateTime`](crate::OffsetDateTime), `datetime!(2024-02-29 1:02:03 -5)` or
+/// `datetime!(2024-02-29 1:02:03 UTC)`.
 #[macro_export]
 macro_rules! datetime {
     ($($token:tt)+) => {
@@ -111,7 +115,7 @@ macro_rules! __datetime_before_time {
 macro_rules! __datetime_after_date {
     (($text:expr)) => {{
         const LITERAL: $crate::PlainDateTime = $crate::literal::of_form(
-            $crate::literal::plain($text),
+            $crate::literal::plain_literal($text),
             ::core::concat!("no date and time of day: ", $text),
         )
         .value();
@@ -137,8 +141,9 @@ macro_rules! __datetime_at_offset {
     }};
 }
 
-/// A format description, which is read at compile time: `format_description!("[year]-[month]-[day]")`, and with `version = 2`
-/// before the text, `format_description!(version = 2, r"\[[year]\]")`.
+/// A format description, which is read at compile time:
+/// `format_description!("[year]-[month]-[day]")`, and with `version = 2` before the text,
+/// `format_description!(version = 2, r"\[[year]\]")`.
 ///
 /// A text that is no description does not compile:
 ///

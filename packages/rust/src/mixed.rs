@@ -1,4 +1,5 @@
-//! Comparisons and conversions between the types of instants, by the proved functions for each pair.
+//! Comparisons and conversions between the types of instants, by the proved functions for each
+//! pair.
 
 use core::cmp::Ordering;
 

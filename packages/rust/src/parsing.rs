@@ -1,4 +1,5 @@
-//! Values read by descriptions: each component by the proved function, and the value of its parts by proved functions too.
+//! Values read by descriptions: each component by the proved function, and the value of its parts
+//! by proved functions too.
 
 use core::num::{NonZeroU8, NonZeroU16};
 use core::ops::Deref;
@@ -7,7 +8,7 @@ use crate::error::{ComponentRange, Parse, ParseFromDescription, TryFromParsed};
 use crate::format_description::well_known::{Rfc2822, Rfc3339};
 use crate::format_description::{BorrowedFormatItem, Component, OwnedFormatItem};
 use crate::proved::Part;
-use crate::proved::format_descriptions::{self as proved, Field, Item, Parts, ValueRefusal};
+use crate::proved::format_descriptions::{self as proved, Field, Parts, ValueRefusal};
 use crate::{
     Date, Month, OffsetDateTime, PlainDateTime, Time, Timestamp, UtcDateTime, UtcOffset, Weekday,
 };
@@ -44,62 +45,28 @@ impl Default for Parsed {
     }
 }
 
-/// A part that is known, if the other does not contradict it.
-fn joined<T: PartialEq + Copy>(known: &mut Option<T>, other: Option<T>) -> bool {
-    match (*known, other) {
-        (Some(first), Some(second)) => first == second,
-        (None, Some(_)) => {
-            *known = other;
-            true
-        }
-        (_, None) => true,
-    }
-}
-
-macro_rules! joined_parts {
-    ($parts:ident, $others:ident: $($name:ident)+) => { true $(& joined(&mut $parts.$name, $others.$name))+ };
-}
-
-/// The parts and the others, if none contradicts another.
-fn together(mut parts: Parts, others: Parts) -> Option<Parts> {
-    let agree = joined_parts!(parts, others: year year_century is_before_zero year_last_two iso_year iso_year_century
-        is_iso_before_zero iso_year_last_two month day ordinal weekday iso_week sunday_week monday_week hour hour_12
-        is_afternoon minute second nanosecond is_west offset_hour offset_minute offset_second unix_second
-        unix_millisecond unix_microsecond unix_nanosecond);
-    agree.then_some(parts)
-}
-
-/// What a component reads at the front of a text, and how many bytes it takes.
-fn front(component: Component, input: &[u8]) -> Option<(Parts, usize)> {
-    proved::parse_front(&[Item::Part(component.proved())], input).ok()
-}
-
 impl Parsed {
     /// No part is known.
     #[must_use]
     pub const fn new() -> Parsed {
-        Parsed {
-            parts: Parts::none(),
-        }
+        Parsed { parts: Parts::none() }
     }
 
     /// Reads a component at the front of a text, and returns what follows it.
     ///
     /// # Errors
     ///
-    /// The text does not begin so, or contradicts what is known.
+    /// The text does not begin so, or contradicts a known part.
     pub fn parse_component<'a>(
         &mut self,
         input: &'a [u8],
         component: Component,
     ) -> Result<&'a [u8], ParseFromDescription> {
-        let fault = ParseFromDescription::InvalidComponent(component.name());
-        let (parts, count) = front(component, input).ok_or(fault)?;
-        self.parts = together(self.parts, parts).ok_or(fault)?;
-        Ok(&input[count..])
+        proved::parse_component_into(component.to_proved(), input, &mut self.parts)
+            .ok_or(ParseFromDescription::InvalidComponent(component.name()))
     }
 
-    /// What follows these bytes.
+    /// Returns the bytes after these.
     ///
     /// # Errors
     ///
@@ -108,9 +75,7 @@ impl Parsed {
         input: &'a [u8],
         literal: &[u8],
     ) -> Result<&'a [u8], ParseFromDescription> {
-        input
-            .strip_prefix(literal)
-            .ok_or(ParseFromDescription::InvalidLiteral)
+        input.strip_prefix(literal).ok_or(ParseFromDescription::InvalidLiteral)
     }
 }
 
@@ -155,11 +120,19 @@ fn read_all<'a>(
     parsed: &mut Parsed,
     input: &'a [u8],
 ) -> Result<&'a [u8], ParseFromDescription> {
-    let (mut read, mut rest) = (*parsed, input);
-    for item in items {
-        rest = item.read(&mut read, rest)?;
+    if let [item] = items {
+        return item.read(parsed, input);
     }
-    *parsed = read;
+    let (before, mut rest) = (*parsed, input);
+    for item in items {
+        match item.read(parsed, rest) {
+            Ok(more) => rest = more,
+            Err(error) => {
+                *parsed = before;
+                return Err(error);
+            }
+        }
+    }
     Ok(rest)
 }
 
@@ -168,7 +141,7 @@ impl Parsed {
     ///
     /// # Errors
     ///
-    /// The text does not begin so, or contradicts what is known.
+    /// The text does not begin so, or contradicts a known part.
     pub fn parse_item<'a>(
         &mut self,
         input: &'a [u8],
@@ -317,9 +290,7 @@ impl Parsed {
     /// The month, if it is known.
     #[must_use]
     pub fn month(&self) -> Option<Month> {
-        self.parts
-            .month
-            .and_then(|number| Month::from_number(u8::try_from(number).ok()?).ok())
+        self.parts.month.and_then(|number| Month::from_number(u8::try_from(number).ok()?).ok())
     }
 
     /// Sets the month.
@@ -395,7 +366,8 @@ impl From<ValueRefusal> for TryFromParsed {
 impl TryFrom<Parsed> for Date {
     type Error = TryFromParsed;
 
-    /// The date of the parts. Texts have wrong days of the week, as that of a cookie: it counts only where a week names the date.
+    /// The date of the parts. Texts have wrong days of the week, as that of a cookie: it counts
+    /// only where a week names the date.
     fn try_from(parsed: Parsed) -> Result<Date, TryFromParsed> {
         let mut parts = parsed.parts;
         if parts.year.is_some()
@@ -466,7 +438,8 @@ impl TryFrom<Parsed> for Timestamp {
     }
 }
 
-/// What a text can be read by: a description, or a format of [`well_known`](crate::format_description::well_known).
+/// A form that reads a text: a description, or a format of
+/// [`well_known`](crate::format_description::well_known).
 pub trait Parsable: sealed::Sealed {}
 
 impl Parsable for BorrowedFormatItem<'_> {}
@@ -484,18 +457,18 @@ mod sealed {
         /// Reads the front of a text, and gives what follows.
         fn parse_into<'a>(&self, input: &'a [u8], parsed: &mut Parsed) -> Result<&'a [u8], Parse>;
 
-        /// Reads a whole text into parts that may be known already.
-        fn parse_over(&self, input: &[u8], defaults: Parsed) -> Result<Parsed, Parse> {
+        /// Reads a whole text.
+        fn parse(&self, input: &[u8]) -> Result<Parsed, Parse> {
             let mut parsed = Parsed::new();
             if !self.parse_into(input, &mut parsed)?.is_empty() {
                 return Err(Parse::UnexpectedTrailingCharacters);
             }
-            Ok(parsed.over(defaults))
+            Ok(parsed)
         }
 
-        /// Reads a whole text.
-        fn parse(&self, input: &[u8]) -> Result<Parsed, Parse> {
-            self.parse_over(input, Parsed::new())
+        /// Reads a whole text that has a date, a time of day and an offset.
+        fn parse_offset_date_time(&self, input: &[u8]) -> Result<OffsetDateTime, Parse> {
+            parse_as(self, input)
         }
     }
 
@@ -527,6 +500,10 @@ mod sealed {
         fn parse_into<'a>(&self, input: &'a [u8], parsed: &mut Parsed) -> Result<&'a [u8], Parse> {
             self.deref().parse_into(input, parsed)
         }
+
+        fn parse_offset_date_time(&self, input: &[u8]) -> Result<OffsetDateTime, Parse> {
+            self.deref().parse_offset_date_time(input)
+        }
     }
 
     impl Sealed for Rfc3339 {
@@ -535,11 +512,21 @@ mod sealed {
             parsed.set_date_time(at);
             Ok(&[])
         }
+
+        fn parse_offset_date_time(&self, input: &[u8]) -> Result<OffsetDateTime, Parse> {
+            Ok(OffsetDateTime::from_rfc3339_leap(input)?.0)
+        }
     }
 
     impl Sealed for Rfc2822 {
         fn parse_into<'a>(&self, input: &'a [u8], parsed: &mut Parsed) -> Result<&'a [u8], Parse> {
-            Ok(crate::rfc2822::read(input, parsed)?)
+            let rest = crate::rfc2822::read(input, parsed)?;
+            if parsed.parts.second == Some(60)
+                && let Ok((at, _)) = parsed.parts.leap_date_time()
+            {
+                parsed.set_date_time(at);
+            }
+            Ok(rest)
         }
     }
 }
@@ -573,20 +560,31 @@ impl Parsed {
     }
 }
 
+/// Reads a whole text into a value.
+fn parse_as<T>(description: &(impl sealed::Sealed + ?Sized), input: &[u8]) -> Result<T, Parse>
+where
+    T: TryFrom<Parsed, Error: Into<Parse>>,
+{
+    description.parse(input)?.try_into().map_err(Into::into)
+}
+
 macro_rules! parsed {
-    ($($Type:ident)+) => {
+    ($($Type:ident: $read:path,)+) => {
         $(
             impl $Type {
-                /// Reads a text by a description, or by a format of [`well_known`](crate::format_description::well_known).
+                /// Reads a text by a description, or by a format of
+                /// [`well_known`](crate::format_description::well_known).
                 ///
                 /// # Errors
                 ///
-                /// The text is not written so, lacks a part, or has one that is out of its range or contradicts another.
+                /// The text is not written so, lacks a part, or has one that is out of its range or
+                /// contradicts another.
                 pub fn parse(input: &str, description: &(impl Parsable + ?Sized)) -> Result<$Type, Parse> {
-                    Ok(sealed::Sealed::parse(description, input.as_bytes())?.try_into()?)
+                    $read(description, input.as_bytes())
                 }
 
-                /// Reads a text by a description. The defaults stand for the parts that it does not give.
+                /// Reads a text by a description. The defaults fill the parts that it does not
+                /// have.
                 ///
                 /// # Errors
                 ///
@@ -596,11 +594,14 @@ macro_rules! parsed {
                     description: &(impl Parsable + ?Sized),
                     defaults: Parsed,
                 ) -> Result<$Type, Parse> {
-                    Ok(description.parse_over(input, defaults)?.try_into()?)
+                    Ok(sealed::Sealed::parse(description, input)?.over(defaults).try_into()?)
                 }
             }
         )+
     };
 }
 
-parsed! { Date Time UtcOffset PlainDateTime UtcDateTime OffsetDateTime Timestamp }
+parsed! {
+    Date: parse_as, Time: parse_as, UtcOffset: parse_as, PlainDateTime: parse_as, UtcDateTime: parse_as,
+    OffsetDateTime: sealed::Sealed::parse_offset_date_time, Timestamp: parse_as,
+}

@@ -1,52 +1,49 @@
-//! The proved sources of Muxandu as plain Rust: all the rules of the calendar, of time and of texts that this package has.
+//! The proved sources of Muxandu as plain Rust: all the rules of the calendar, of time and of texts
+//! that this package has.
 //!
-//! The repository has these functions as Rattle sources, Rust with contracts, and proves that each meets its contract.
-//! `make/erase write` takes the contracts out and writes this module; only this page and the module [`memory`] are written by
-//! hand. The libraries `calendar_values`, `plain_times`, `utc_times`, `offset_times`, `stamp_times`, `rfc3339` and
-//! `format_descriptions` are modules here. Each type also has the methods of the traits [`AsUtc`], [`Assume`], [`ToOffset`],
-//! [`ToTimestamp`] and [`Rfc3339`] itself, so that a program imports none of these.
+//! The repository has these functions as Rattle sources, Rust with contracts, and proves that each
+//! meets its contract. `make/erase write` takes the contracts out and writes this module; only this
+//! page and the module [`memory`] are written by hand. The libraries `calendar_values`,
+//! `plain_times`, `utc_times`, `offset_times`, `stamp_times`, `rfc3339`, `local_texts` and
+//! `format_descriptions` are modules here. Each type also has the methods of the traits [`AsUtc`],
+//! [`Assume`], [`ToOffset`], [`ToTimestamp`] and [`Rfc3339`] itself, so that a program imports none
+//! of these.
 //!
-//! # What is proved, and what is trusted
+//! # Proofs, and the programs that you trust
 //!
-//! 1. Every function has the body that is proved, word by word, for callers that meet what it requires, where `usize` has 64 bits.
-//!    `Date`, `Time`, `UtcOffset`, `SignedDuration` and `Timestamp` have a field more, `niche`, which has one value: an `Option` of
-//!    one then takes no more memory.
-//! 2. You trust `make/erase`, which takes the contracts out, and `gate/check_erased`, which shares no code with it and compares
-//!    each word.
+//! 1. Every function has the proved body, word by word. The proof covers callers that meet its
+//!    `requires`, and a `usize` of 64 bits. `Date`, `Time`, `UtcOffset`, `SignedDuration` and
+//!    `Timestamp` have a field more, `niche`, which has one value: an `Option` of one then takes no
+//!    more memory.
+//! 2. You trust `make/erase`, which takes the contracts out, and `gate/check_erased`, which shares
+//!    no code with it and compares each word.
 //! 3. You trust rustc and its `core` in place of Rattle's compiler and library.
 //! 4. You trust the lines of [`memory`]: a list whose growth can fail.
 //! 5. A call that breaks a `requires` panics, and names the line of its caller.
 //!
-//! A function whose wrong use nothing would stop is closed: this module alone calls it. `make/erased_lists/requires.txt` lists
-//! all that require something.
+//! A function whose wrong use nothing would stop is closed: this module alone calls it.
+//! `make/erased_lists/requires.txt` lists all that require something.
 //!
 //! # Contracts
 //!
-//! The page of a function has its contract under the heading Contract, in the words of the source. A `requires` is what you have
-//! to see to; an `ensures` is what the function returns. `docs/proofs/STATEMENT.md` says on one page what you have to believe, and
+//! The page of a function has its contract under the heading Contract, in the words of the source.
+//! A `requires` is your duty as a caller; an `ensures` states the result.
+//! `docs/proofs/STATEMENT.md` has on one page all that you must believe, and
 //! `docs/reference/DEFINITIONS.md` has every definition of the headline.
 //!
 //! # Whether it is in step
 //!
-//! The file `PROVED` names the kit that proved the sources, the trees of their folders as `git rev-parse HEAD:FOLDER` prints
-//! them, and the SHA-256 of each source and of each file of this module. `make/erase check` compares them, `gate/check_erased`
-//! compares the words, and `make/erase compare` makes the module again.
+//! The file `PROVED` names the kit that proved the sources, and the trees of their folders as
+//! `git rev-parse HEAD:FOLDER` prints them. It has the SHA-256 of each source and of each file of
+//! this module. `make/erase check` compares them, `gate/check_erased` compares the words, and
+//! `make/erase compare` makes the module again.
 
 // What the made modules have for Rattle or for their contracts alone.
-#![allow(
-    dead_code,
-    reason = "some functions are closed here, and called by no other"
-)]
-#![allow(
-    unused_imports,
-    reason = "some imports serve links of the documentation alone"
-)]
+#![allow(dead_code, reason = "some functions here have no caller")]
+#![allow(unused_imports, reason = "some imports serve links of the docs alone")]
 #![allow(unused_variables, reason = "proofs name the places of loops")]
 #![allow(missing_docs, reason = "the sources document what their users call")]
-#![allow(
-    clippy::manual_range_contains,
-    reason = "the sources compare with both ends"
-)]
+#![allow(clippy::manual_range_contains, reason = "sources compare both ends")]
 #![allow(
     clippy::assign_op_pattern,
     clippy::let_and_return,
@@ -56,6 +53,7 @@
     clippy::manual_map,
     clippy::manual_ok_err,
     clippy::question_mark,
+    clippy::too_many_arguments,
     clippy::while_let_on_iterator,
     reason = "proofs follow the sources"
 )]
@@ -73,6 +71,7 @@
 
 pub mod calendar_values;
 pub mod format_descriptions;
+pub mod local_texts;
 pub mod memory;
 pub mod offset_times;
 pub mod plain_times;

@@ -17,7 +17,8 @@ macro_rules! within {
     }};
 }
 
-/// A type: a value of random numbers, parts that shrink, and the value of such parts, if there is one.
+/// A type: a value of random numbers, parts that shrink, and the value of such parts, if there is
+/// one.
 macro_rules! arbitrary {
     ($($Type:ident: $g:ident => $made:expr; $value:ident => $parts:expr; $simpler:pat => $remade:expr;)+) => {
         $(

@@ -1,4 +1,5 @@
-//! Random values of each type, with the feature `rand`: the values that `time` makes of the same random numbers.
+//! Random values of each type, with the feature `rand`: the values that `time` makes of the same
+//! random numbers.
 
 use ::rand::Rng;
 use ::rand::distributions::{Distribution, Standard};

@@ -18,14 +18,15 @@ use crate::proved::{Component, TextRefusal};
 pub enum Refusal {
     /// The text has another form.
     Syntax,
-    /// The part of this name is out of range, by the names of [`ComponentRange`], or the `duration` is.
+    /// The part of this name is out of range, by the names of [`ComponentRange`], or the `duration`
+    /// is.
     OutOfRange(&'static str),
 }
 
 impl fmt::Display for Refusal {
     fn fmt(&self, f: &mut fmt::Formatter<'_>) -> fmt::Result {
         match self {
-            Refusal::Syntax => f.write_str("the text has another form"),
+            Refusal::Syntax => f.write_str("the text does not have the form that its type reads"),
             Refusal::OutOfRange(name) => write!(f, "{name} is out of range"),
         }
     }

@@ -1,4 +1,5 @@
-//! Texts of RFC 2822: their spaces, their day of the week and their zones by hand, the rest by descriptions.
+//! Texts of RFC 2822: their spaces, their day of the week and their zones by hand, the rest by
+//! descriptions.
 
 use crate::error::ParseFromDescription;
 use crate::format_description::StaticFormatDescription;
@@ -32,22 +33,15 @@ const ZONES: [(&[u8], i8); 11] = [
     (b"PDT", -7),
 ];
 
-/// What follows white space, of which some must be there.
+/// The text after white space, of which some must be there.
 fn after_space(input: &[u8]) -> Result<&[u8], ParseFromDescription> {
     let rest = input.trim_ascii_start();
-    if rest.len() < input.len() {
-        Ok(rest)
-    } else {
-        Err(ParseFromDescription::InvalidLiteral)
-    }
+    if rest.len() < input.len() { Ok(rest) } else { Err(ParseFromDescription::InvalidLiteral) }
 }
 
-/// What follows a mark, with white space on both sides.
+/// The text after a mark, with white space on both sides.
 fn after_mark(input: &[u8], mark: u8) -> Option<&[u8]> {
-    input
-        .trim_ascii_start()
-        .strip_prefix(&[mark])
-        .map(<[u8]>::trim_ascii_start)
+    input.trim_ascii_start().strip_prefix(&[mark]).map(<[u8]>::trim_ascii_start)
 }
 
 fn zone<'a>(input: &'a [u8], parsed: &mut Parsed) -> Result<&'a [u8], ParseFromDescription> {

@@ -1,11 +1,14 @@
-//! Values for serde, in the representations of `time`: `Serialize` and `Deserialize` of each type, and modules for fields.
+//! Values for serde, in the representations of `time`: `Serialize` and `Deserialize` of each type,
+//! and modules for fields.
 //!
-//! The package in the folder `time` has this module with its feature `serde`. It has the sources of `muxandu`, so that a program
-//! over `muxandu` takes that folder:
+//! The package in the folder `time` has this module with its feature `serde`. It has the sources of
+//! `muxandu`, so that a program over `muxandu` takes that folder:
 //!
 //! ```toml
-//! [dependencies]
-//! muxandu = { package = "time", path = "../muxandu/packages/rust/time", features = ["serde-human-readable", "serde-well-known"] }
+//! [dependencies.muxandu]
+//! package = "time"
+//! path = "../muxandu/packages/rust/time"
+//! features = ["serde-human-readable", "serde-well-known"]
 //! ```
 //!
 //! | Type | Numbers | Text, with the feature `serde-human-readable`, in formats for people |
@@ -13,14 +16,15 @@
 //! | `Date` | year, day of the year | `2024-02-29` |
 //! | `Time` | hour, minute, second, nanosecond | `01:02:03.5` |
 //! | `UtcOffset` | hours, minutes, seconds | `+01:30:00` |
-//! | `PlainDateTime`, `UtcDateTime` | those of the date and of the time of day | `2024-02-29 01:02:03.5` |
+//! | `PlainDateTime`, `UtcDateTime` | those of its date and its time | `2024-02-29 01:02:03.5` |
 //! | `OffsetDateTime` | those, and those of the offset | `2024-02-29 01:02:03.5 +01:30:00` |
 //! | `Timestamp` | seconds, nanosecond | `1709168523.5`, as `Display` writes |
 //! | `SignedDuration` | seconds, nanoseconds | `-1.500000000` |
 //! | `Month` | 1 for January | `January` |
 //! | `Weekday` | 1 for Monday | `Monday` |
 //!
-//! With that feature, formats for people read the numbers too. The modules below are for fields: `#[serde(with = "..")]`.
+//! With that feature, formats for people read the numbers too. The modules below are for fields:
+//! `#[serde(with = "..")]`.
 
 /// The module for a value that may be missing, over the two functions of the module around it.
 macro_rules! option {

@@ -1,4 +1,5 @@
-//! Durations by more of `time`'s names: numbers with a point, comparisons with std's durations, and texts.
+//! Durations by more of `time`'s names: numbers with a point, comparisons with std's durations, and
+//! texts.
 
 use core::cmp::Ordering;
 use core::fmt;
@@ -10,6 +11,9 @@ use crate::{Refusal, SignedDuration, fractional, spelled};
 
 const PER_SECOND: i128 = 1_000_000_000;
 
+/// The message of a panic over a duration whose seconds do not fit in 64 bits.
+pub(crate) const TOO_LONG: &str = "the duration is out of range: its seconds must fit in 64 bits";
+
 impl SignedDuration {
     #[inline]
     pub(crate) const fn of_nanoseconds(whole: i128) -> Option<SignedDuration> {
@@ -17,10 +21,7 @@ impl SignedDuration {
         if seconds < i64::MIN as i128 || seconds > i64::MAX as i128 {
             return None;
         }
-        Some(SignedDuration::new(
-            seconds as i64,
-            (whole % PER_SECOND) as i32,
-        ))
+        Some(SignedDuration::new(seconds as i64, (whole % PER_SECOND) as i32))
     }
 
     /// The length in seconds: the nearest `f64`, or one next to it.
@@ -57,7 +58,8 @@ impl SignedDuration {
         SignedDuration::seconds_f64(seconds as f64)
     }
 
-    /// The duration of a number of seconds, rounded to the nearest nanosecond, and to the even one where two are as near.
+    /// The duration of a number of seconds, rounded to the nearest nanosecond, and to the even one
+    /// where two are as near.
     ///
     /// ```
     /// use muxandu::SignedDuration;
@@ -83,7 +85,8 @@ impl SignedDuration {
     /// ```
     /// use muxandu::SignedDuration;
     ///
-    /// assert_eq!(SignedDuration::checked_seconds_f32(0.5), Some(SignedDuration::milliseconds(500)));
+    /// let half = SignedDuration::checked_seconds_f32(0.5);
+    /// assert_eq!(half, Some(SignedDuration::milliseconds(500)));
     /// assert_eq!(SignedDuration::checked_seconds_f32(f32::INFINITY), None);
     /// ```
     #[must_use]
@@ -92,13 +95,14 @@ impl SignedDuration {
         SignedDuration::checked_seconds_f64(seconds as f64)
     }
 
-    /// The duration of a number of seconds, as [`SignedDuration::seconds_f64`] rounds it. None where 64 bits do not hold the whole
-    /// seconds, and for NaN.
+    /// The duration of a number of seconds, as [`SignedDuration::seconds_f64`] rounds it. None
+    /// where 64 bits do not hold the whole seconds, and for NaN.
     ///
     /// ```
     /// use muxandu::SignedDuration;
     ///
-    /// assert_eq!(SignedDuration::checked_seconds_f64(-0.5), Some(SignedDuration::milliseconds(-500)));
+    /// let half = SignedDuration::checked_seconds_f64(-0.5);
+    /// assert_eq!(half, Some(SignedDuration::milliseconds(-500)));
     /// assert_eq!(SignedDuration::checked_seconds_f64(f64::NAN), None);
     /// assert_eq!(SignedDuration::checked_seconds_f64(1e19), None);
     /// ```
@@ -125,13 +129,14 @@ impl SignedDuration {
         SignedDuration::saturating_seconds_f64(seconds as f64)
     }
 
-    /// The duration of a number of seconds, as [`SignedDuration::seconds_f64`] rounds it, or the end of the range that it is
-    /// beyond. NaN gives the duration 0.
+    /// The duration of a number of seconds, as [`SignedDuration::seconds_f64`] rounds it, or the
+    /// end of the range that it is beyond. NaN gives the duration 0.
     ///
     /// ```
     /// use muxandu::SignedDuration;
     ///
-    /// assert_eq!(SignedDuration::saturating_seconds_f64(-0.5), SignedDuration::milliseconds(-500));
+    /// let half = SignedDuration::saturating_seconds_f64(-0.5);
+    /// assert_eq!(half, SignedDuration::milliseconds(-500));
     /// assert_eq!(SignedDuration::saturating_seconds_f64(f64::NEG_INFINITY), SignedDuration::MIN);
     /// assert_eq!(SignedDuration::saturating_seconds_f64(1e19), SignedDuration::MAX);
     /// assert_eq!(SignedDuration::saturating_seconds_f64(f64::NAN), SignedDuration::ZERO);
@@ -147,16 +152,15 @@ impl SignedDuration {
         }
     }
 
-    /// The duration of `count` units of a number of nanoseconds, rounded as [`fractional::nanoseconds`] does.
+    /// The duration of `count` units of a number of nanoseconds, rounded as
+    /// [`fractional::nanoseconds`] does.
     #[track_caller]
     #[inline]
     pub(crate) const fn of_units(count: f64, unit: u64) -> SignedDuration {
-        let Some(whole) = fractional::nanoseconds(count, unit) else {
-            panic!("64 bits hold the seconds of the duration")
-        };
+        let Some(whole) = fractional::nanoseconds(count, unit) else { panic!("{}", TOO_LONG) };
         match SignedDuration::of_nanoseconds(whole) {
             Some(duration) => duration,
-            None => panic!("64 bits hold the seconds of the duration"),
+            None => panic!("{}", TOO_LONG),
         }
     }
 }
@@ -185,7 +189,8 @@ macro_rules! factors_assigned {
 
 factors_assigned! { f32 f64 }
 
-/// Products and quotients with numbers that have a point: those of `as_seconds_f64`, as `seconds_f64` rounds them.
+/// Products and quotients with numbers that have a point: those of `as_seconds_f64`, as
+/// `seconds_f64` rounds them.
 macro_rules! fractional_factors {
     ($($Factor:ident)+) => {
         $(
@@ -282,11 +287,11 @@ impl PartialOrd<SignedDuration> for Duration {
     }
 }
 
-/// The days, the hours, the minutes, the seconds, and what is finer, of which those that are 0 are left out, as `1d2h` or
-/// `-1s500ms`.
+/// The days, the hours, the minutes, the seconds and finer units, without those that are 0, as
+/// `1d2h` or `-1s500ms`.
 ///
-/// With a precision, the number of the greatest unit that the duration has one of, rounded to that many decimals, and to an even
-/// digit where two are as near. More than 24 decimals are taken as 24.
+/// With a precision, the number of the greatest unit that the duration has one of, rounded to that
+/// many decimals. If two are as near, it takes the even digit. It writes at most 24 decimals.
 ///
 /// ```
 /// use muxandu::SignedDuration;
@@ -318,7 +323,8 @@ impl fmt::Debug for SignedDuration {
     }
 }
 
-/// Reads the text of `Display`. Fails with [`Refusal::Syntax`], and with `duration` if the seconds do not fit in 64 bits.
+/// Reads the text of `Display`. Fails with [`Refusal::Syntax`], and with `duration` if the seconds
+/// do not fit in 64 bits.
 impl FromStr for SignedDuration {
     type Err = Refusal;
 
@@ -333,26 +339,8 @@ mod tests {
 
     /// Seconds and nanoseconds at the ends of the range, about 0, and between.
     fn some() -> impl Iterator<Item = SignedDuration> + Clone {
-        let seconds = [
-            i64::MIN,
-            i64::MIN + 1,
-            -86_401,
-            -1,
-            0,
-            1,
-            59,
-            1 << 40,
-            i64::MAX,
-        ];
-        let nanoseconds = [
-            -999_999_999,
-            -500_000_000,
-            -1,
-            0,
-            1,
-            500_000_000,
-            999_999_999,
-        ];
+        let seconds = [i64::MIN, i64::MIN + 1, -86_401, -1, 0, 1, 59, 1 << 40, i64::MAX];
+        let nanoseconds = [-999_999_999, -500_000_000, -1, 0, 1, 500_000_000, 999_999_999];
         seconds.into_iter().flat_map(move |second| {
             let of_one_sign = move |nanosecond: &i32| {
                 second == 0 || i64::from(*nanosecond).signum() * second.signum() >= 0
@@ -377,26 +365,14 @@ mod tests {
             assert_eq!(first.whole_microseconds(), whole / 1_000);
             for second in some() {
                 let other = second.whole_nanoseconds();
-                assert_eq!(
-                    first.checked_add(second),
-                    held(whole + other),
-                    "{first} + {second}"
-                );
-                assert_eq!(
-                    first.checked_sub(second),
-                    held(whole - other),
-                    "{first} - {second}"
-                );
+                assert_eq!(first.checked_add(second), held(whole + other), "{first} + {second}");
+                assert_eq!(first.checked_sub(second), held(whole - other), "{first} - {second}");
                 assert_eq!(first.saturating_add(second), nearest(whole + other));
                 assert_eq!(first.saturating_sub(second), nearest(whole - other));
             }
             for factor in [i32::MIN, -7, -1, 0, 1, 2, 1_000_003, i32::MAX] {
                 let by = i128::from(factor);
-                assert_eq!(
-                    first.checked_mul(factor),
-                    held(whole * by),
-                    "{first} * {factor}"
-                );
+                assert_eq!(first.checked_mul(factor), held(whole * by), "{first} * {factor}");
                 assert_eq!(first.saturating_mul(factor), nearest(whole * by));
                 let quotient = (factor != 0).then(|| held(whole / by)).flatten();
                 assert_eq!(first.checked_div(factor), quotient, "{first} / {factor}");
@@ -411,15 +387,9 @@ mod tests {
 
     #[test]
     fn nanoseconds_are_carried() {
-        for nanoseconds in [
-            i32::MIN,
-            -1_000_000_000,
-            -999_999_999,
-            0,
-            999_999_999,
-            1_000_000_000,
-            i32::MAX,
-        ] {
+        for nanoseconds in
+            [i32::MIN, -1_000_000_000, -999_999_999, 0, 999_999_999, 1_000_000_000, i32::MAX]
+        {
             for seconds in [-3, -2, -1, 0, 1, 2, 3] {
                 let whole = i128::from(seconds) * super::PER_SECOND + i128::from(nanoseconds);
                 let duration = SignedDuration::new(seconds, nanoseconds);

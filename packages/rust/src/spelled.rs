@@ -25,8 +25,8 @@ fn is_written(text: &str, value: &impl fmt::Display) -> bool {
     write!(rest, "{value}").is_ok() && rest.0.is_empty()
 }
 
-/// The value of the parts that were read of a text, if the text is what `Display` writes so. What is refused is named only
-/// where the text has that form, and else it is the form.
+/// The value of the parts that were read of a text, if the text is what `Display` writes so. What
+/// is refused is named only where the text has that form, and else it is the form.
 pub(crate) fn read<Parts: Copy + fmt::Display, T: fmt::Display>(
     text: &str,
     parts: Option<Parts>,
@@ -71,8 +71,8 @@ impl Write for Length {
     }
 }
 
-/// Writes a duration with the width, the alignment and the precision that are asked for. `Formatter::pad` would cut it at the
-/// precision.
+/// Writes a duration with the width, the alignment and the precision that are asked for.
+/// `Formatter::pad` would cut it at the precision.
 pub(crate) fn write_duration(f: &mut fmt::Formatter<'_>, nanoseconds: i128) -> fmt::Result {
     let (fill, decimals, mut length) = (f.fill(), f.precision(), Length(0));
     let Some(width) = f.width() else {
@@ -168,15 +168,9 @@ pub(crate) fn duration(text: &str) -> Result<SignedDuration, Refusal> {
     while !rest.is_empty() {
         let digits = rest.bytes().take_while(u8::is_ascii_digit).count();
         let (number, after) = rest.split_at(digits);
-        let letters = after
-            .bytes()
-            .take_while(|byte| !byte.is_ascii_digit())
-            .count();
+        let letters = after.bytes().take_while(|byte| !byte.is_ascii_digit()).count();
         let (name, after) = after.split_at(letters);
-        let unit = UNITS
-            .iter()
-            .find(|(_, unit)| *unit == name)
-            .ok_or(Refusal::Syntax)?;
+        let unit = UNITS.iter().find(|(_, unit)| *unit == name).ok_or(Refusal::Syntax)?;
         let count: i128 = number.parse().map_err(|_| Refusal::Syntax)?;
         whole = whole.saturating_add(count.saturating_mul(unit.0 as i128));
         rest = after;
@@ -198,7 +192,7 @@ macro_rules! read_back {
                 type Err = Refusal;
 
                 fn from_str(text: &str) -> Result<$Type, Refusal> {
-                    read(text, literal::$literal(text), |literal| literal.tested())
+                    read(text, literal::$literal(text), |literal| literal.check())
                 }
             }
         )+
@@ -209,7 +203,7 @@ read_back! {
     Date: date;
     Time: time;
     UtcOffset: offset;
-    PlainDateTime: plain;
+    PlainDateTime: plain_literal;
 }
 
 /// `FromStr` of instants, which texts of RFC 3339 name too.
@@ -221,7 +215,7 @@ macro_rules! read_instants {
                 type Err = Refusal;
 
                 fn from_str(text: &str) -> Result<$Type, Refusal> {
-                    match read(text, literal::$literal(text), |literal| literal.tested()) {
+                    match read(text, literal::$literal(text), |literal| literal.check()) {
                         Err(Refusal::Syntax) => Ok($Type::from_rfc3339(text.as_bytes())?),
                         answer => answer,
                     }

@@ -10,14 +10,11 @@ impl Time {
     #[inline]
     pub fn duration_until(self, other: Time) -> SignedDuration {
         let ahead = other - self;
-        if ahead.is_negative() {
-            ahead + SignedDuration::DAY
-        } else {
-            ahead
-        }
+        if ahead.is_negative() { ahead + SignedDuration::DAY } else { ahead }
     }
 
-    /// The duration from the last other on to this time of day, which may have been on the day before.
+    /// The duration from the last other on to this time of day, which may have been on the day
+    /// before.
     #[must_use]
     #[inline]
     pub fn duration_since(self, other: Time) -> SignedDuration {

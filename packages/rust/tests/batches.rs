@@ -20,17 +20,11 @@ fn shown(seconds: &[i64], offset: UtcOffset) -> Result<Vec<OffsetDateTime>, Comp
 fn seconds_and_back() {
     let seconds = [0, -1, 1_709_210_096];
     let date_times = shown(&seconds, a_minute()).unwrap();
-    let texts: Vec<String> = date_times
-        .iter()
-        .map(|at| at.to_rfc3339().unwrap().to_string())
-        .collect();
+    let texts: Vec<String> =
+        date_times.iter().map(|at| at.to_rfc3339().unwrap().to_string()).collect();
     assert_eq!(
         texts,
-        [
-            "1970-01-01T00:01:00+00:01",
-            "1970-01-01T00:00:59+00:01",
-            "2024-02-29T12:35:56+00:01"
-        ]
+        ["1970-01-01T00:01:00+00:01", "1970-01-01T00:00:59+00:01", "2024-02-29T12:35:56+00:01"]
     );
     let back = date_times.iter().map(|at| at.unix_timestamp());
     assert!(back.eq(seconds));
@@ -56,11 +50,7 @@ fn many_dates() {
     let mut days: Vec<i32> = (-500..500).collect();
     let date_of = |day: &i32| Date::from_days_since_epoch(*day);
     let dates: Vec<Date> = days.iter().map_while(date_of).collect();
-    assert!(
-        days.iter()
-            .zip(&dates)
-            .all(|(day, date)| date.days_since_epoch() == *day)
-    );
+    assert!(days.iter().zip(&dates).all(|(day, date)| date.days_since_epoch() == *day));
     assert_eq!(dates.len(), 1_000);
     days[777] = i32::MAX;
     let dates: Vec<Date> = days.iter().map_while(date_of).collect();
@@ -72,16 +62,7 @@ fn days_and_dates() {
     let days = [-365_961_662, -1, 0, 19_782, 364_522_971];
     let dates = days.map(|day| Date::from_days_since_epoch(day).unwrap());
     let texts = dates.map(|date| date.to_string());
-    assert_eq!(
-        texts,
-        [
-            "-999999-01-01",
-            "1969-12-31",
-            "1970-01-01",
-            "2024-02-29",
-            "+999999-12-31"
-        ]
-    );
+    assert_eq!(texts, ["-999999-01-01", "1969-12-31", "1970-01-01", "2024-02-29", "+999999-12-31"]);
     assert_eq!(dates.map(Date::days_since_epoch), days);
 }
 
@@ -92,10 +73,7 @@ fn texts_in_a_block() {
         .split(|byte| *byte == b',')
         .map(|text| Timestamp::from_rfc3339(text).map(|at| (at.as_seconds(), at.nanosecond())))
         .collect();
-    assert_eq!(
-        read,
-        [Ok((1, 0)), Ok((0, 500_000_000)), Err(TextRefusal::Syntax)]
-    );
+    assert_eq!(read, [Ok((1, 0)), Ok((0, 500_000_000)), Err(TextRefusal::Syntax)]);
 }
 
 #[test]
@@ -107,10 +85,7 @@ fn threads_call_at_once() {
                 for _ in 0..20 {
                     let date_times = shown(&seconds, UtcOffset::UTC).unwrap();
                     assert!(
-                        date_times
-                            .iter()
-                            .map(|at| at.unix_timestamp())
-                            .eq(seconds.iter().copied())
+                        date_times.iter().map(|at| at.unix_timestamp()).eq(seconds.iter().copied())
                     );
                     let last = date_times[9_999].date().days_since_epoch();
                     assert_eq!(i64::from(last), 9_999 * day);

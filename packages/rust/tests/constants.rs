@@ -60,13 +60,9 @@ fn date_times_are_constants() {
     const STAMP: Timestamp = ok!(Timestamp::from_seconds(1_709_263_799));
     const JANUARY: Timestamp =
         ok!(ok!(Timestamp::from_nanoseconds(-1)).replace_month(Month::January));
-    const FROM_NANOSECONDS: UtcDateTime = ok!(UtcDateTime::from_unix_timestamp_nanos(
-        1_709_263_799_000_000_000
-    ));
-    assert_eq!(
-        (MIDNIGHT.month(), MIDNIGHT.day(), MIDNIGHT.hour()),
-        (Month::March, 1, 0)
-    );
+    const FROM_NANOSECONDS: UtcDateTime =
+        ok!(UtcDateTime::from_unix_timestamp_nanos(1_709_263_799_000_000_000));
+    assert_eq!((MIDNIGHT.month(), MIDNIGHT.day(), MIDNIGHT.hour()), (Month::March, 1, 0));
     assert_eq!(SECOND, 1_709_263_799);
     assert_eq!((SHOWN.day(), SHOWN.to_hms()), (1, (12, 29, 59)));
     assert_eq!((IN_UTC.day(), IN_UTC.as_hms()), (1, (3, 29, 59)));

@@ -18,22 +18,14 @@ use muxandu::{
 #[test]
 fn values_are_written() {
     let day = date!(2020 - 01 - 02);
+    assert_eq!(day.format(&format_description!("[year]-[month]-[day]")).unwrap(), "2020-01-02");
     assert_eq!(
-        day.format(&format_description!("[year]-[month]-[day]"))
-            .unwrap(),
-        "2020-01-02"
-    );
-    assert_eq!(
-        time!(12:00)
-            .format(&format_description!("[hour]:[minute]:[second]"))
-            .unwrap(),
+        time!(12:00).format(&format_description!("[hour]:[minute]:[second]")).unwrap(),
         "12:00:00"
     );
     assert_eq!(
         offset!(+1)
-            .format(&format_description!(
-                "[offset_hour sign:mandatory]:[offset_minute]"
-            ))
+            .format(&format_description!("[offset_hour sign:mandatory]:[offset_minute]"))
             .unwrap(),
         "+01:00"
     );
@@ -41,9 +33,7 @@ fn values_are_written() {
         "[year]-[month]-[day] [hour]:[minute]:[second] [offset_hour sign:mandatory]:[offset_minute]:[offset_second]"
     );
     assert_eq!(
-        datetime!(2020-01-02 03:04:05 +06:07:08)
-            .format(&long)
-            .unwrap(),
+        datetime!(2020-01-02 03:04:05 +06:07:08).format(&long).unwrap(),
         "2020-01-02 03:04:05 +06:07:08"
     );
     assert_eq!(
@@ -57,19 +47,10 @@ fn values_are_written() {
         datetime!(2024-02-09 15:04 UTC).format(named).unwrap(),
         "Friday, 9 February 2024  3 pm"
     );
+    assert_eq!(day.format(&format_description!("[[[year]]")).unwrap(), "[2020]");
+    assert_eq!(day.format(&format_description!(version = 2, r"\[[year]\]\\")).unwrap(), r"[2020]\");
     assert_eq!(
-        day.format(&format_description!("[[[year]]")).unwrap(),
-        "[2020]"
-    );
-    assert_eq!(
-        day.format(&format_description!(version = 2, r"\[[year]\]\\"))
-            .unwrap(),
-        r"[2020]\"
-    );
-    assert_eq!(
-        datetime!(1970-01-01 0:01 UTC)
-            .format(&format_description!("[unix_timestamp]"))
-            .unwrap(),
+        datetime!(1970-01-01 0:01 UTC).format(&format_description!("[unix_timestamp]")).unwrap(),
         "60"
     );
 }
@@ -114,10 +95,7 @@ fn values_are_read() {
         Ok(time!(13:00))
     );
     assert_eq!(
-        UtcOffset::parse(
-            "-00:30",
-            &format_description!("[offset_hour]:[offset_minute]")
-        ),
+        UtcOffset::parse("-00:30", &format_description!("[offset_hour]:[offset_minute]")),
         Ok(offset!(-0:30))
     );
     let day = format_description!("[year]-[month]-[day]");
@@ -132,20 +110,13 @@ fn values_are_read() {
     );
     assert_eq!(
         Date::parse("2020-1-02", &day),
-        Err(Parse::ParseFromDescription(
-            ParseFromDescription::InvalidComponent("month")
-        ))
+        Err(Parse::ParseFromDescription(ParseFromDescription::InvalidComponent("month")))
     );
     assert_eq!(
         Date::parse("2020/01-02", &day),
-        Err(Parse::ParseFromDescription(
-            ParseFromDescription::InvalidLiteral
-        ))
+        Err(Parse::ParseFromDescription(ParseFromDescription::InvalidLiteral))
     );
-    assert_eq!(
-        Date::parse("2020-01-02.", &day),
-        Err(Parse::UnexpectedTrailingCharacters)
-    );
+    assert_eq!(Date::parse("2020-01-02.", &day), Err(Parse::UnexpectedTrailingCharacters));
     assert_eq!(
         Time::parse("2020-01-02", &day),
         Err(Parse::TryFromParsed(TryFromParsed::InsufficientInformation))
@@ -192,48 +163,23 @@ fn descriptions_are_read_from_texts() {
     assert_eq!(time!(12:00).format(&owned).unwrap(), "12h");
     assert_eq!(Time::parse("12h", &owned), Ok(time!(12:00)));
     for (text, refused) in [
-        (
-            "[year",
-            InvalidFormatDescription::UnclosedOpeningBracket { index: 0 },
-        ),
-        (
-            "a [ ]",
-            InvalidFormatDescription::MissingComponentName { index: 2 },
-        ),
+        ("[year", InvalidFormatDescription::UnclosedOpeningBracket { index: 0 }),
+        ("a [ ]", InvalidFormatDescription::MissingComponentName { index: 2 }),
         (
             "[foo]",
-            InvalidFormatDescription::InvalidComponentName {
-                name: "foo".to_owned(),
-                index: 1,
-            },
+            InvalidFormatDescription::InvalidComponentName { name: "foo".to_owned(), index: 1 },
         ),
         (
             "[day foo:bar]",
-            InvalidFormatDescription::InvalidModifier {
-                value: "foo:bar".to_owned(),
-                index: 5,
-            },
+            InvalidFormatDescription::InvalidModifier { value: "foo:bar".to_owned(), index: 5 },
         ),
         (
             "[day padding:bar]",
-            InvalidFormatDescription::InvalidModifier {
-                value: "bar".to_owned(),
-                index: 13,
-            },
+            InvalidFormatDescription::InvalidModifier { value: "bar".to_owned(), index: 13 },
         ),
-        (
-            "[ignore]",
-            InvalidFormatDescription::MissingRequiredModifier {
-                name: "count",
-                index: 0,
-            },
-        ),
+        ("[ignore]", InvalidFormatDescription::MissingRequiredModifier { name: "count", index: 0 }),
     ] {
-        assert_eq!(
-            muxandu::format_description::parse(text),
-            Err(refused),
-            "{text}"
-        );
+        assert_eq!(muxandu::format_description::parse(text), Err(refused), "{text}");
     }
 }
 
@@ -245,10 +191,7 @@ fn optional_and_first_items_are_read() {
     ];
     let z = [BorrowedFormatItem::Literal(b"Z")];
     let zone = format_description!("[offset_hour sign:mandatory]:[offset_minute]");
-    let zones = [
-        BorrowedFormatItem::Compound(zone),
-        BorrowedFormatItem::Compound(&z),
-    ];
+    let zones = [BorrowedFormatItem::Compound(zone), BorrowedFormatItem::Compound(&z)];
     let fraction = BorrowedFormatItem::Compound(&fraction);
     let items = [
         BorrowedFormatItem::Compound(format_description!("[hour]:[minute]:[second]")),
@@ -262,54 +205,30 @@ fn optional_and_first_items_are_read() {
         assert_eq!(Time::parse(text, &owned), Ok(read));
     }
     let text = "[hour]:[minute]:[second][optional [.[subsecond]]][first [Z] [[offset_hour sign:mandatory]:[offset_minute]]]";
-    for read in [
-        parse_owned::<1>(text).unwrap(),
-        parse_owned::<2>(text).unwrap(),
-    ] {
-        assert_eq!(
-            Time::parse("12:34:56.5+01:00", &read),
-            Ok(time!(12:34:56.5))
-        );
+    for read in [parse_owned::<1>(text).unwrap(), parse_owned::<2>(text).unwrap()] {
+        assert_eq!(Time::parse("12:34:56.5+01:00", &read), Ok(time!(12:34:56.5)));
         assert_eq!(Time::parse("12:34:56Z", &read), Ok(time!(12:34:56)));
         assert!(Time::parse("12:34:56", &read).is_err());
     }
     for (text, refused) in [
-        (
-            "a[optional [[day]",
-            InvalidFormatDescription::UnclosedOpeningBracket { index: 11 },
-        ),
+        ("a[optional [[day]", InvalidFormatDescription::UnclosedOpeningBracket { index: 1 }),
         (
             "[optional x]",
-            InvalidFormatDescription::Expected {
-                what: "a `[`",
-                index: 10,
-            },
+            InvalidFormatDescription::Expected { what: "one description in brackets", index: 10 },
         ),
         (
             "[optional]",
-            InvalidFormatDescription::Expected {
-                what: "white space",
-                index: 9,
-            },
+            InvalidFormatDescription::Expected { what: "a description in brackets", index: 9 },
         ),
         (
             "[optional [a] [b]]",
-            InvalidFormatDescription::Expected {
-                what: "one description in brackets",
-                index: 9,
-            },
+            InvalidFormatDescription::Expected { what: "one description in brackets", index: 14 },
         ),
         (
             "é[first [a] [[foo]]]",
-            InvalidFormatDescription::InvalidComponentName {
-                name: "foo".to_owned(),
-                index: 15,
-            },
+            InvalidFormatDescription::InvalidComponentName { name: "foo".to_owned(), index: 15 },
         ),
-        (
-            "[first [a]",
-            InvalidFormatDescription::UnclosedOpeningBracket { index: 0 },
-        ),
+        ("[first [a]", InvalidFormatDescription::UnclosedOpeningBracket { index: 0 }),
     ] {
         assert_eq!(parse_owned::<1>(text), Err(refused), "{text}");
     }
@@ -319,14 +238,8 @@ fn optional_and_first_items_are_read() {
 #[test]
 fn well_known_formats() {
     let at = datetime!(1997-11-21 09:55:06 -06:00);
-    assert_eq!(
-        at.format(&Rfc2822).unwrap(),
-        "Fri, 21 Nov 1997 09:55:06 -0600"
-    );
-    assert_eq!(
-        OffsetDateTime::parse("Fri, 21 Nov 1997 09:55:06 -0600", &Rfc2822),
-        Ok(at)
-    );
+    assert_eq!(at.format(&Rfc2822).unwrap(), "Fri, 21 Nov 1997 09:55:06 -0600");
+    assert_eq!(OffsetDateTime::parse("Fri, 21 Nov 1997 09:55:06 -0600", &Rfc2822), Ok(at));
     assert_eq!(
         OffsetDateTime::parse("Sat, 12 Jun 1993 13:25:19 GMT", &Rfc2822),
         Ok(datetime!(1993-06-12 13:25:19 UTC))
@@ -335,11 +248,18 @@ fn well_known_formats() {
         OffsetDateTime::parse("21 Nov 1997 09:55 EST", &Rfc2822),
         Ok(datetime!(1997-11-21 09:55 -5))
     );
-    // The day of the week is wrong, as in texts that there are.
+    // A second of 60 at the end of a month in UTC, and elsewhere.
     assert_eq!(
-        OffsetDateTime::parse("Sat, 21 Nov 1997 09:55:06 -0600", &Rfc2822),
-        Ok(at)
+        OffsetDateTime::parse("31 Dec 2016 18:59:60 -0500", &Rfc2822),
+        Ok(datetime!(2016-12-31 18:59:59.999_999_999 -5))
     );
+    assert_eq!(
+        UtcDateTime::parse("31 Dec 2016 23:59:60 GMT", &Rfc2822),
+        Ok(UtcDateTime::new(date!(2016 - 12 - 31), time!(23:59:59.999_999_999)))
+    );
+    assert!(OffsetDateTime::parse("31 Dec 2016 23:59:60 -0500", &Rfc2822).is_err());
+    // The day of the week is wrong, as in texts that there are.
+    assert_eq!(OffsetDateTime::parse("Sat, 21 Nov 1997 09:55:06 -0600", &Rfc2822), Ok(at));
     assert_eq!(
         datetime!(1899-01-01 0:00 UTC).format(&Rfc2822),
         Err(Format::InvalidComponent("year"))
@@ -348,18 +268,12 @@ fn well_known_formats() {
         datetime!(2019-01-01 0:00 +0:00:01).format(&Rfc3339),
         Err(Format::InvalidComponent("offset_second"))
     );
-    assert_eq!(
-        Date::parse("1985-04-12T23:20:50.52Z", &Rfc3339),
-        Ok(date!(1985 - 04 - 12))
-    );
+    assert_eq!(Date::parse("1985-04-12T23:20:50.52Z", &Rfc3339), Ok(date!(1985 - 04 - 12)));
     assert_eq!(
         OffsetDateTime::parse("1985-04-12T23:20:50.52Z", &Rfc3339),
         Ok(datetime!(1985-04-12 23:20:50.52 UTC))
     );
-    assert_eq!(
-        date!(2024 - 01 - 01).format(&Rfc3339),
-        Err(Format::InsufficientTypeInformation)
-    );
+    assert_eq!(date!(2024 - 01 - 01).format(&Rfc3339), Err(Format::InsufficientTypeInformation));
 }
 
 #[test]
@@ -375,15 +289,9 @@ fn parts_are_set_and_read() {
         (Some(2024), Some(Month::February), Some(Weekday::Monday))
     );
     assert_eq!(parsed.ordinal(), None);
-    let offset = Parsed::new()
-        .with_offset_hour(-5)
-        .unwrap()
-        .with_offset_minute_signed(-30)
-        .unwrap();
-    assert_eq!(
-        (offset.offset_hour(), offset.offset_minute_signed()),
-        (Some(-5), Some(-30))
-    );
+    let offset =
+        Parsed::new().with_offset_hour(-5).unwrap().with_offset_minute_signed(-30).unwrap();
+    assert_eq!((offset.offset_hour(), offset.offset_minute_signed()), (Some(-5), Some(-30)));
     assert_eq!(UtcOffset::try_from(offset), Ok(offset!(-5:30)));
     let ordinal = parsed.with_ordinal(NonZeroU16::new(61).unwrap()).unwrap();
     assert!(Date::try_from(ordinal).is_err());
@@ -404,10 +312,7 @@ fn defaults_stand_for_parts_that_a_text_lacks() {
     let half_past = Ok(time!(15:30));
     assert_eq!(Time::parse_with_defaults(b"15", hours, zero), half_past);
     let west = format_description!("[offset_hour sign:mandatory]");
-    assert_eq!(
-        UtcOffset::parse_with_defaults(b"-05", west, Parsed::new()),
-        Ok(offset!(-5))
-    );
+    assert_eq!(UtcOffset::parse_with_defaults(b"-05", west, Parsed::new()), Ok(offset!(-5)));
     let noon = first.with_hour_24(12).unwrap();
     assert_eq!(
         PlainDateTime::parse_with_defaults(b"2024-02", month, noon),
@@ -433,24 +338,14 @@ fn parts_are_read_one_by_one() {
     assert_eq!(rest, Ok(&b"-02"[..]));
     let rest = Parsed::parse_literal(b"-02", b"-");
     assert_eq!(rest, Ok(&b"02"[..]));
-    assert_eq!(
-        Parsed::parse_literal(b"/02", b"-"),
-        Err(ParseFromDescription::InvalidLiteral)
-    );
+    assert_eq!(Parsed::parse_literal(b"/02", b"-"), Err(ParseFromDescription::InvalidLiteral));
     let rest = parsed.parse_component(b"02", Component::Month(month));
     assert_eq!(rest, Ok(&b""[..]));
     assert_eq!(parsed.month(), Some(Month::February));
-    assert!(
-        parsed
-            .parse_component(b"13", Component::Month(month))
-            .is_err()
-    );
+    assert!(parsed.parse_component(b"13", Component::Month(month)).is_err());
     let named = Parsed::new()
         .with_month(Month::March)
         .and_then(|parts| parts.with_weekday(Weekday::Friday))
         .unwrap();
-    assert_eq!(
-        (named.month(), named.weekday()),
-        (Some(Month::March), Some(Weekday::Friday))
-    );
+    assert_eq!((named.month(), named.weekday()), (Some(Month::March), Some(Weekday::Friday)));
 }

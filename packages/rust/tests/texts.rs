@@ -187,9 +187,7 @@ fn utc(text: &str) -> Reading {
 }
 
 fn date_time(text: &str) -> Reading {
-    let parts = text
-        .rsplit_once(' ')
-        .map(|(shown, end)| (plain(shown), offset_text(end)));
+    let parts = text.rsplit_once(' ').map(|(shown, end)| (plain(shown), offset_text(end)));
     if let Some((Some(shown), Some(offset))) = parts {
         return Some(shown.and_then(|shown| Ok(vec![shown[0], shown[1], offset?])));
     }
@@ -220,26 +218,13 @@ fn timestamp(text: &str) -> Reading {
     };
     let (first, last) = (day(-999_999, 1, 1).unwrap(), day(999_999, 12, 31).unwrap());
     let is_held = (first * DAY..(last + 1) * DAY).contains(&count);
-    Some(
-        is_held
-            .then(|| vec![count])
-            .ok_or(Refusal::OutOfRange("seconds")),
-    )
+    Some(is_held.then(|| vec![count]).ok_or(Refusal::OutOfRange("seconds")))
 }
 
 fn duration(text: &str) -> Reading {
-    let units = [
-        ("d", 86_400_000),
-        ("h", 3_600_000),
-        ("m", 60_000),
-        ("s", 1_000),
-        ("ms", 1),
-    ];
+    let units = [("d", 86_400_000), ("h", 3_600_000), ("m", 60_000), ("s", 1_000), ("ms", 1)];
     let units = units.map(|(name, milliseconds)| (name, milliseconds * 1_000_000));
-    let units: Vec<(&str, i128)> = units
-        .into_iter()
-        .chain([("µs", 1_000), ("ns", 1)])
-        .collect();
+    let units: Vec<(&str, i128)> = units.into_iter().chain([("µs", 1_000), ("ns", 1)]).collect();
     let (sign, mut rest) = match text.strip_prefix('-') {
         Some(rest) => ("-", rest),
         None => ("", text),
@@ -247,15 +232,9 @@ fn duration(text: &str) -> Reading {
     let mut whole = 0_i128;
     while !rest.is_empty() {
         let (number, after) = rest.split_at(rest.find(|letter: char| !letter.is_ascii_digit())?);
-        let end = after
-            .find(|letter: char| letter.is_ascii_digit())
-            .unwrap_or(after.len());
+        let end = after.find(|letter: char| letter.is_ascii_digit()).unwrap_or(after.len());
         let (_, unit) = units.iter().find(|(name, _)| *name == &after[..end])?;
-        whole += number
-            .parse::<i128>()
-            .ok()
-            .filter(|number| *number < 1 << 80)?
-            * unit;
+        whole += number.parse::<i128>().ok().filter(|number| *number < 1 << 80)? * unit;
         rest = &after[end..];
     }
     let mut written = String::from(sign);
@@ -271,11 +250,7 @@ fn duration(text: &str) -> Reading {
     }
     let whole = if sign.is_empty() { whole } else { -whole };
     let is_held = i64::try_from(whole / 1_000_000_000).is_ok();
-    Some(
-        is_held
-            .then(|| vec![whole])
-            .ok_or(Refusal::OutOfRange("duration")),
-    )
+    Some(is_held.then(|| vec![whole]).ok_or(Refusal::OutOfRange("duration")))
 }
 
 struct Source(u64);
@@ -340,17 +315,11 @@ fn compare<T: FromStr<Err = Refusal> + Debug>(
             Err(_) => refused += 1,
         }
     }
-    assert!(
-        read_count > TEXTS / 100 && refused > TEXTS / 100,
-        "{read_count} {refused}"
-    );
+    assert!(read_count > TEXTS / 100 && refused > TEXTS / 100, "{read_count} {refused}");
 }
 
-const EXCHANGED: [&str; 3] = [
-    "0000-00-00T00:00:00Z",
-    "0000-00-00T00:00:00.000+00:00",
-    "2024-02-20 00:00:00-00:00",
-];
+const EXCHANGED: [&str; 3] =
+    ["0000-00-00T00:00:00Z", "0000-00-00T00:00:00.000+00:00", "2024-02-20 00:00:00-00:00"];
 
 fn day_of(date: Date) -> i128 {
     let (year, month, of_month) = date.to_calendar_date();
@@ -359,32 +328,20 @@ fn day_of(date: Date) -> i128 {
 
 fn nanosecond_of(time: Time) -> i128 {
     let (hour, minute, second, nanosecond) = time.as_hms_nano();
-    clock(
-        &[hour.into(), minute.into(), second.into()],
-        nanosecond.into(),
-    )
-    .unwrap()
+    clock(&[hour.into(), minute.into(), second.into()], nanosecond.into()).unwrap()
 }
 
 #[test]
 fn dates() {
-    let forms = [
-        "0000-00-00",
-        "-0000-00-10",
-        "+100000-10-00",
-        "-900000-00-20",
-        "+1000000-10-10",
-    ];
+    let forms = ["0000-00-00", "-0000-00-10", "+100000-10-00", "-900000-00-20", "+1000000-10-10"];
     compare(&forms, date, |date: Date| vec![day_of(date)]);
 }
 
 #[test]
 fn times() {
-    compare(
-        &["0:00:00.0", "10:00:00.000", "20:00:00.000000000"],
-        time,
-        |time: Time| vec![nanosecond_of(time)],
-    );
+    compare(&["0:00:00.0", "10:00:00.000", "20:00:00.000000000"], time, |time: Time| {
+        vec![nanosecond_of(time)]
+    });
 }
 
 #[test]
@@ -396,70 +353,38 @@ fn offsets() {
 
 #[test]
 fn plain_date_times() {
-    let forms = [
-        "2000-00-00 0:00:00.0",
-        "-0000-00-00 10:00:00.01",
-        "+900000-10-00 0:00:00.5",
-    ];
-    compare(&forms, plain, |at: PlainDateTime| {
-        vec![day_of(at.date()), nanosecond_of(at.time())]
-    });
+    let forms = ["2000-00-00 0:00:00.0", "-0000-00-00 10:00:00.01", "+900000-10-00 0:00:00.5"];
+    compare(&forms, plain, |at: PlainDateTime| vec![day_of(at.date()), nanosecond_of(at.time())]);
 }
 
 #[test]
 fn instants_in_utc() {
     let forms = ["2000-00-00 0:00:00.0 +00", "-0000-00-00 10:00:00.01 +00"];
-    compare(
-        &[&forms[..], &EXCHANGED].concat(),
-        utc,
-        |at: UtcDateTime| vec![day_of(at.date()), nanosecond_of(at.time())],
-    );
+    compare(&[&forms[..], &EXCHANGED].concat(), utc, |at: UtcDateTime| {
+        vec![day_of(at.date()), nanosecond_of(at.time())]
+    });
 }
 
 #[test]
 fn date_times_at_an_offset() {
-    let forms = [
-        "2000-00-00 0:00:00.0 +00:00:00",
-        "-0000-00-00 10:00:00.01 -20:00:00",
-    ];
-    compare(
-        &[&forms[..], &EXCHANGED].concat(),
-        date_time,
-        |at: OffsetDateTime| {
-            let offset = at.offset().whole_seconds();
-            vec![day_of(at.date()), nanosecond_of(at.time()), offset.into()]
-        },
-    );
+    let forms = ["2000-00-00 0:00:00.0 +00:00:00", "-0000-00-00 10:00:00.01 -20:00:00"];
+    compare(&[&forms[..], &EXCHANGED].concat(), date_time, |at: OffsetDateTime| {
+        let offset = at.offset().whole_seconds();
+        vec![day_of(at.date()), nanosecond_of(at.time()), offset.into()]
+    });
 }
 
 #[test]
 fn timestamps() {
-    let forms = [
-        "0",
-        "-1000",
-        "0.00",
-        "-0.000000000",
-        "40000000000000",
-        "9200000000000000000",
-    ];
-    compare(
-        &[&forms[..], &EXCHANGED].concat(),
-        timestamp,
-        |at: Timestamp| vec![at.as_nanoseconds()],
-    );
+    let forms = ["0", "-1000", "0.00", "-0.000000000", "40000000000000", "9200000000000000000"];
+    compare(&[&forms[..], &EXCHANGED].concat(), timestamp, |at: Timestamp| {
+        vec![at.as_nanoseconds()]
+    });
 }
 
 #[test]
 fn durations() {
-    let forms = [
-        "0s",
-        "1d2h5m0s",
-        "-1s500ms",
-        "1ms1µs100ns",
-        "106751991160000d10h",
-        "-5d10h20m3ns",
-    ];
-    compare(&forms, duration, |duration: SignedDuration| {
-        vec![duration.whole_nanoseconds()]
-    });
+    let forms =
+        ["0s", "1d2h5m0s", "-1s500ms", "1ms1µs100ns", "106751991160000d10h", "-5d10h20m3ns"];
+    compare(&forms, duration, |duration: SignedDuration| vec![duration.whole_nanoseconds()]);
 }

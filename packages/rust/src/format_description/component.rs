@@ -38,27 +38,16 @@ const fn padding(padding: modifier::Padding) -> proved::Padding {
 }
 
 const fn sign(is_mandatory: bool) -> proved::Sign {
-    if is_mandatory {
-        proved::Sign::Mandatory
-    } else {
-        proved::Sign::Automatic
-    }
+    if is_mandatory { proved::Sign::Mandatory } else { proved::Sign::Automatic }
 }
 
 const fn read_case(is_sensitive: bool) -> proved::ReadCase {
-    if is_sensitive {
-        proved::ReadCase::Same
-    } else {
-        proved::ReadCase::Any
-    }
+    if is_sensitive { proved::ReadCase::Same } else { proved::ReadCase::Any }
 }
 
 const fn year(year: modifier::Year) -> proved::Component {
-    let base = if year.iso_week_based {
-        proved::YearBase::IsoWeek
-    } else {
-        proved::YearBase::Calendar
-    };
+    let base =
+        if year.iso_week_based { proved::YearBase::IsoWeek } else { proved::YearBase::Calendar };
     let range = match year.range {
         modifier::YearRange::Standard => proved::YearRange::Standard,
         modifier::YearRange::Extended => proved::YearRange::Extended,
@@ -103,7 +92,7 @@ const fn weekday(weekday: modifier::Weekday) -> proved::Component {
 
 impl Component {
     /// The component as the proved functions have it.
-    pub(crate) const fn proved(self) -> proved::Component {
+    pub(crate) const fn to_proved(self) -> proved::Component {
         match self {
             Component::Day(it) => proved::Component::Day(padding(it.padding)),
             Component::Month(it) => month(it),
@@ -124,11 +113,7 @@ impl Component {
             Component::Hour(it) => proved::Component::Hour(padding(it.padding)),
             Component::Minute(it) => proved::Component::Minute(padding(it.padding)),
             Component::Period(it) => {
-                let case = if it.is_uppercase {
-                    proved::Case::Upper
-                } else {
-                    proved::Case::Lower
-                };
+                let case = if it.is_uppercase { proved::Case::Upper } else { proved::Case::Lower };
                 proved::Component::Period(case, read_case(it.case_sensitive))
             }
             Component::Second(it) => proved::Component::Second(padding(it.padding)),
@@ -208,21 +193,19 @@ impl Component {
                     .with_one_indexed(matches!(count, proved::WeekdayCount::FromOne)),
             ),
             proved::Component::WeekNumber(rule, it) => Component::WeekNumber(
-                modifier::WeekNumber::default()
-                    .with_padding(padding_of(it))
-                    .with_repr(match rule {
+                modifier::WeekNumber::default().with_padding(padding_of(it)).with_repr(
+                    match rule {
                         proved::WeekRule::Iso => modifier::WeekNumberRepr::Iso,
                         proved::WeekRule::Sunday => modifier::WeekNumberRepr::Sunday,
                         proved::WeekRule::Monday => modifier::WeekNumberRepr::Monday,
-                    }),
+                    },
+                ),
             ),
             proved::Component::Hour(it) => {
                 Component::Hour(modifier::Hour::default().with_padding(padding_of(it)))
             }
             proved::Component::Hour12(it) => Component::Hour(
-                modifier::Hour::default()
-                    .with_padding(padding_of(it))
-                    .with_is_12_hour_clock(true),
+                modifier::Hour::default().with_padding(padding_of(it)).with_is_12_hour_clock(true),
             ),
             proved::Component::Period(case, read) => Component::Period(
                 modifier::Period::default()
@@ -271,6 +254,15 @@ impl Component {
                 None => Component::Ignore(modifier::Ignore::count(NonZeroU16::MIN)),
             },
             proved::Component::End => Component::End(modifier::End::default()),
+            proved::Component::IgnoreWeekday(_, _)
+            | proved::Component::IgnoreDigits
+            | proved::Component::OffsetWord(_, _)
+            | proved::Component::YearSince(_)
+            | proved::Component::YearSix(_)
+            | proved::Component::HourFraction(_)
+            | proved::Component::MinuteFraction(_) => {
+                panic!("no text of a description names a component that `time` lacks")
+            }
         }
     }
 

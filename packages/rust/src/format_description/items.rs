@@ -109,7 +109,7 @@ impl<'a> TryFrom<BorrowedFormatItem<'a>> for &'a [BorrowedFormatItem<'a>] {
     }
 }
 
-fn owned(items: &[BorrowedFormatItem<'_>]) -> Box<[OwnedFormatItem]> {
+fn to_owned_items(items: &[BorrowedFormatItem<'_>]) -> Box<[OwnedFormatItem]> {
     items.iter().map(|&item| item.into()).collect()
 }
 
@@ -118,9 +118,9 @@ impl From<BorrowedFormatItem<'_>> for OwnedFormatItem {
         match item {
             BorrowedFormatItem::Literal(literal) => OwnedFormatItem::Literal(literal.into()),
             BorrowedFormatItem::Component(component) => OwnedFormatItem::Component(component),
-            BorrowedFormatItem::Compound(items) => OwnedFormatItem::Compound(owned(items)),
+            BorrowedFormatItem::Compound(items) => OwnedFormatItem::Compound(to_owned_items(items)),
             BorrowedFormatItem::Optional(&item) => OwnedFormatItem::Optional(Box::new(item.into())),
-            BorrowedFormatItem::First(items) => OwnedFormatItem::First(owned(items)),
+            BorrowedFormatItem::First(items) => OwnedFormatItem::First(to_owned_items(items)),
         }
     }
 }
@@ -139,7 +139,7 @@ impl From<Vec<BorrowedFormatItem<'_>>> for OwnedFormatItem {
 
 impl From<&[BorrowedFormatItem<'_>]> for OwnedFormatItem {
     fn from(items: &[BorrowedFormatItem<'_>]) -> Self {
-        OwnedFormatItem::Compound(owned(items))
+        OwnedFormatItem::Compound(to_owned_items(items))
     }
 }
 

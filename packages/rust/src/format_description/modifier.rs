@@ -82,7 +82,7 @@ pub enum YearRange {
     Extended,
 }
 
-/// What a Unix timestamp counts.
+/// The unit that a Unix timestamp counts.
 #[non_exhaustive]
 #[derive(Clone, Copy, Debug, Default, PartialEq, Eq)]
 pub enum UnixTimestampPrecision {
@@ -108,7 +108,7 @@ macro_rules! modifiers {
             }
 
             impl $Name {
-                /// What a description without modifiers means.
+                /// Returns the modifiers of a description without modifiers.
                 #[must_use]
                 #[allow(clippy::should_implement_trait)]
                 pub const fn default() -> $Name {
@@ -230,7 +230,7 @@ modifiers! {
     }
     /// A Unix timestamp.
     UnixTimestamp {
-        /// What it counts.
+        /// The unit that it counts.
         precision: UnixTimestampPrecision = UnixTimestampPrecision::Second, with_precision;
         /// Whether it always has a sign.
         sign_is_mandatory: bool = false, with_sign_is_mandatory;
@@ -248,7 +248,7 @@ pub struct Ignore {
 }
 
 impl Ignore {
-    /// So many bytes.
+    /// Returns the component that ignores a number of bytes.
     #[must_use]
     pub const fn count(count: NonZeroU16) -> Ignore {
         Ignore { count }

@@ -1,4 +1,5 @@
-//! Descriptions from their texts: the proved function reads them, and what it reads becomes items here.
+//! Descriptions from their texts: the proved function reads them, and what it reads becomes items
+//! here.
 
 use alloc::string::String;
 use alloc::vec;
@@ -14,15 +15,15 @@ const fn between(text: &[u8], start: usize, end: usize) -> &[u8] {
     text.split_at(end).0.split_at(start).1
 }
 
-/// The place behind the next `]`.
-const fn behind_bracket(text: &[u8], mut place: usize) -> usize {
+/// The place after the next `]`.
+const fn after_bracket(text: &[u8], mut place: usize) -> usize {
     while place < text.len() && text[place] != b']' {
         place += 1;
     }
     place + 1
 }
 
-/// Whether an escape stands at a place, of which the second byte is meant.
+/// Whether an escape is at a place: its second byte is the literal.
 const fn is_escape(version: DescriptionVersion, byte: u8) -> bool {
     match version {
         DescriptionVersion::One => byte == b'[',
@@ -30,7 +31,13 @@ const fn is_escape(version: DescriptionVersion, byte: u8) -> bool {
     }
 }
 
-/// The items of a description, with one literal for each run of bytes: the next one, and where the one behind it begins.
+/// Whether an item is the head of a group.
+const fn is_head(item: Item) -> bool {
+    matches!(item, Item::Optional(_) | Item::First(_) | Item::Or(_))
+}
+
+/// The items of a description, with one literal for each run of bytes: the next one, and where the
+/// one after it begins.
 struct Runs<'a> {
     version: DescriptionVersion,
     text: &'a [u8],
@@ -40,35 +47,14 @@ struct Runs<'a> {
 
 impl<'a> Runs<'a> {
     const fn next(self, items: &[Item]) -> (BorrowedFormatItem<'a>, Runs<'a>) {
-        let Runs {
-            version,
-            text,
-            mut place,
-            mut at,
-        } = self;
+        let Runs { version, text, mut place, mut at } = self;
         if let Item::Part(component) = items[at] {
-            let behind = Runs {
-                version,
-                text,
-                place: behind_bracket(text, place),
-                at: at + 1,
-            };
-            return (
-                BorrowedFormatItem::Component(Component::of(component)),
-                behind,
-            );
+            let behind = Runs { version, text, place: after_bracket(text, place), at: at + 1 };
+            return (BorrowedFormatItem::Component(Component::of(component)), behind);
         }
         if is_escape(version, text[place]) {
             let literal = BorrowedFormatItem::Literal(between(text, place + 1, place + 2));
-            return (
-                literal,
-                Runs {
-                    version,
-                    text,
-                    place: place + 2,
-                    at: at + 1,
-                },
-            );
+            return (literal, Runs { version, text, place: place + 2, at: at + 1 });
         }
         let start = place;
         while at < items.len()
@@ -80,12 +66,7 @@ impl<'a> Runs<'a> {
         }
         (
             BorrowedFormatItem::Literal(between(text, start, place)),
-            Runs {
-                version,
-                text,
-                place,
-                at,
-            },
+            Runs { version, text, place, at },
         )
     }
 }
@@ -94,11 +75,12 @@ const fn version_of(version: usize) -> DescriptionVersion {
     match version {
         1 => DescriptionVersion::One,
         2 => DescriptionVersion::Two,
-        _ => panic!("a version of format descriptions is 1 or 2"),
+        _ => panic!("a version of format descriptions must be 1 or 2"),
     }
 }
 
-/// The items of a text at compile time, of which so many are the description's, for `format_description!`.
+/// The items of a text at compile time, and how many the description has, for
+/// `format_description!`.
 #[doc(hidden)]
 #[must_use]
 pub const fn constant<const ROOM: usize>(
@@ -112,19 +94,22 @@ pub const fn constant<const ROOM: usize>(
         Err(refusal) => fail(text.as_bytes(), refusal),
     };
     let (items, _) = room.split_at(read);
+    let mut at = 0;
+    while at < read {
+        assert!(
+            !is_head(items[at]),
+            "`optional` and `first` are for `parse_owned`: this macro has no room for their items"
+        );
+        at += 1;
+    }
     let mut found = [BorrowedFormatItem::Literal(&[]); ROOM];
     let mut count = 0;
-    let mut runs = Runs {
-        version,
-        text: text.as_bytes(),
-        place: 0,
-        at: 0,
-    };
+    let mut runs = Runs { version, text: text.as_bytes(), place: 0, at: 0 };
     while runs.at < read {
-        let (item, behind) = runs.next(items);
+        let (item, after) = runs.next(items);
         found[count] = item;
         count += 1;
-        runs = behind;
+        runs = after;
     }
     (found, count)
 }
@@ -144,32 +129,36 @@ pub const fn front<const COUNT: usize, const ROOM: usize>(
     front
 }
 
-/// What a fault is, before the word that it is of, and whether it is of one.
+/// The message of a fault, before its word, and whether it has one.
 const fn words_of(fault: DescriptionFault) -> (&'static str, bool) {
     match fault {
-        DescriptionFault::NoEnd => (
-            "a `[` has no `]`: close it, or write `[[` for a bracket",
-            false,
-        ),
-        DescriptionFault::NoName => (
-            "a `[` has no name behind it: name a component, as in `[year]`",
-            false,
-        ),
-        DescriptionFault::NestedBracket => (
-            "a `[` stands inside a component: close the component first",
-            false,
-        ),
+        DescriptionFault::NoEnd => {
+            ("a `[` has no `]`: close it, or write `[[` for a bracket", false)
+        }
+        DescriptionFault::NoName => {
+            ("a `[` has no name after it: name a component, as in `[year]`", false)
+        }
+        DescriptionFault::NestedBracket => {
+            ("a component has a `[` inside: close the component first", false)
+        }
         DescriptionFault::UnknownComponent => ("there is no such component: ", true),
         DescriptionFault::UnknownModifier => ("the component has no such modifier: ", true),
         DescriptionFault::WrongValue => ("the modifier has no such value: ", true),
-        DescriptionFault::MissingModifier => (
-            "the component lacks a modifier: write `count:N` behind `ignore`",
-            false,
-        ),
+        DescriptionFault::MissingModifier => {
+            ("the component lacks a modifier: write `count:N` after `ignore`", false)
+        }
         DescriptionFault::WrongEscape => (
-            "a backslash stands before another byte than `[`, `]` or a backslash",
+            "a backslash precedes another byte than `[`, `]` or a backslash: write two for one",
             false,
         ),
+        DescriptionFault::NoGroup => (
+            "`optional` and `first` need a description in brackets, as in `[optional [:[second]]]`",
+            false,
+        ),
+        DescriptionFault::WrongGroup => {
+            ("only descriptions in brackets follow `first`, and only one follows `optional`", false)
+        }
+        DescriptionFault::TooDeep => ("more than 32 groups are inside each other", false),
         DescriptionFault::NoRoom => ("the description has too many items", false),
     }
 }
@@ -177,10 +166,7 @@ const fn words_of(fault: DescriptionFault) -> (&'static str, bool) {
 /// Where the word at a place ends.
 const fn word_end(text: &[u8], mut place: usize) -> usize {
     while place < text.len()
-        && !matches!(
-            text[place],
-            b'[' | b']' | b' ' | b'\t' | b'\n' | b'\x0c' | b'\r'
-        )
+        && !matches!(text[place], b'[' | b']' | b' ' | b'\t' | b'\n' | b'\x0c' | b'\r')
     {
         place += 1;
     }
@@ -190,11 +176,7 @@ const fn word_end(text: &[u8], mut place: usize) -> usize {
 /// Ends the compilation with a message that names the fault, and the word that it is of.
 const fn fail(text: &[u8], refusal: DescriptionRefusal) -> ! {
     let (words, has_word) = words_of(refusal.fault);
-    let end = if has_word {
-        word_end(text, refusal.place)
-    } else {
-        refusal.place
-    };
+    let end = if has_word { word_end(text, refusal.place) } else { refusal.place };
     let mut message = [0; 160];
     let mut count = 0;
     while count < words.len() {
@@ -215,12 +197,8 @@ const fn fail(text: &[u8], refusal: DescriptionRefusal) -> ! {
 
 fn invalid(text: &str, refusal: DescriptionRefusal) -> InvalidFormatDescription {
     let index = refusal.place;
-    let word = || {
-        String::from(
-            text.get(index..word_end(text.as_bytes(), index))
-                .unwrap_or_default(),
-        )
-    };
+    let word =
+        || String::from(text.get(index..word_end(text.as_bytes(), index)).unwrap_or_default());
     match refusal.fault {
         DescriptionFault::NoEnd => InvalidFormatDescription::UnclosedOpeningBracket { index },
         DescriptionFault::NoName => InvalidFormatDescription::MissingComponentName { index },
@@ -229,57 +207,66 @@ fn invalid(text: &str, refusal: DescriptionRefusal) -> InvalidFormatDescription 
             context: "in components",
             index,
         },
-        DescriptionFault::UnknownComponent if matches!(&*word(), "optional" | "first") => {
-            InvalidFormatDescription::NotSupported {
-                what: "optional and first items",
-                context: "in borrowed descriptions: parse_owned reads them",
-                index,
-            }
+        DescriptionFault::UnknownComponent => {
+            InvalidFormatDescription::InvalidComponentName { name: word(), index }
         }
-        DescriptionFault::UnknownComponent => InvalidFormatDescription::InvalidComponentName {
-            name: word(),
-            index,
-        },
         DescriptionFault::UnknownModifier | DescriptionFault::WrongValue => {
-            InvalidFormatDescription::InvalidModifier {
-                value: word(),
-                index,
-            }
+            InvalidFormatDescription::InvalidModifier { value: word(), index }
         }
-        DescriptionFault::MissingModifier => InvalidFormatDescription::MissingRequiredModifier {
-            name: "count",
+        DescriptionFault::MissingModifier => {
+            InvalidFormatDescription::MissingRequiredModifier { name: "count", index }
+        }
+        DescriptionFault::WrongEscape => {
+            InvalidFormatDescription::Expected { what: "valid escape sequence", index }
+        }
+        DescriptionFault::NoGroup => {
+            InvalidFormatDescription::Expected { what: "a description in brackets", index }
+        }
+        DescriptionFault::WrongGroup => {
+            InvalidFormatDescription::Expected { what: "one description in brackets", index }
+        }
+        DescriptionFault::TooDeep => InvalidFormatDescription::NotSupported {
+            what: "a group",
+            context: "inside 32 others",
             index,
         },
-        DescriptionFault::WrongEscape => InvalidFormatDescription::Expected {
-            what: "valid escape sequence",
-            index,
-        },
-        DescriptionFault::NoRoom => InvalidFormatDescription::Expected {
-            what: "end of input",
-            index,
-        },
+        DescriptionFault::NoRoom => {
+            InvalidFormatDescription::Expected { what: "end of input", index }
+        }
     }
+}
+
+/// The items of a description, as the proved function reads them.
+fn items_of(
+    version: DescriptionVersion,
+    text: &str,
+) -> Result<Vec<Item>, InvalidFormatDescription> {
+    let mut room = vec![Item::Byte(0); text.len()];
+    let count = proved::parse_description(version, text.as_bytes(), &mut room)
+        .map_err(|refusal| invalid(text, refusal))?;
+    room.truncate(count);
+    Ok(room)
 }
 
 fn read(
     version: DescriptionVersion,
     text: &str,
 ) -> Result<Vec<BorrowedFormatItem<'_>>, InvalidFormatDescription> {
-    let mut room = vec![Item::Byte(0); text.len()];
-    let read = proved::parse_description(version, text.as_bytes(), &mut room)
-        .map_err(|refusal| invalid(text, refusal))?;
-    let items = &room[..read];
+    let items = items_of(version, text)?;
+    let items = &items[..];
     let mut found = Vec::new();
-    let mut runs = Runs {
-        version,
-        text: text.as_bytes(),
-        place: 0,
-        at: 0,
-    };
-    while runs.at < read {
-        let (item, behind) = runs.next(items);
+    let mut runs = Runs { version, text: text.as_bytes(), place: 0, at: 0 };
+    while runs.at < items.len() {
+        if is_head(items[runs.at]) {
+            return Err(InvalidFormatDescription::NotSupported {
+                what: "optional and first items",
+                context: "in borrowed descriptions: parse_owned reads them",
+                index: after_space(runs.text, runs.place + 1),
+            });
+        }
+        let (item, after) = runs.next(items);
         found.push(item);
-        runs = behind;
+        runs = after;
     }
     Ok(found)
 }
@@ -317,156 +304,76 @@ pub fn parse_borrowed<const VERSION: usize>(
     read(const { version_of(VERSION) }, text)
 }
 
-/// An error whose places are counted from a later byte.
-fn moved(refused: InvalidFormatDescription, base: usize) -> InvalidFormatDescription {
-    use InvalidFormatDescription::*;
-    match refused {
-        UnclosedOpeningBracket { index } => UnclosedOpeningBracket {
-            index: base + index,
-        },
-        InvalidComponentName { name, index } => InvalidComponentName {
-            name,
-            index: base + index,
-        },
-        InvalidModifier { value, index } => InvalidModifier {
-            value,
-            index: base + index,
-        },
-        MissingComponentName { index } => MissingComponentName {
-            index: base + index,
-        },
-        MissingRequiredModifier { name, index } => MissingRequiredModifier {
-            name,
-            index: base + index,
-        },
-        Expected { what, index } => Expected {
-            what,
-            index: base + index,
-        },
-        NotSupported {
-            what,
-            context,
-            index,
-        } => NotSupported {
-            what,
-            context,
-            index: base + index,
-        },
-    }
-}
-
 /// The place after white space.
 fn after_space(text: &[u8], place: usize) -> usize {
     text.len() - text[place..].trim_ascii_start().len()
 }
 
-/// The place of the `]` that closes the `[` at a place.
-fn closing(text: &[u8], opening: usize) -> Result<usize, InvalidFormatDescription> {
-    let mut depth = 0_usize;
-    for (place, byte) in text.iter().enumerate().skip(opening) {
-        match byte {
-            b'[' => depth += 1,
-            b']' if depth == 1 => return Ok(place),
-            b']' => depth -= 1,
-            _ => {}
-        }
-    }
-    Err(InvalidFormatDescription::UnclosedOpeningBracket { index: opening })
+/// The place in the first description of a group, whose `[` is at a place.
+fn in_group(text: &[u8], place: usize) -> usize {
+    let name_end = word_end(text, after_space(text, place + 1));
+    after_space(text, name_end) + 1
 }
 
-/// The descriptions in brackets after `optional` or `first`, and the place of the `]` that ends them.
-fn groups(
-    version: DescriptionVersion,
-    text: &str,
-    opening: usize,
-    name_end: usize,
-) -> Result<(Vec<OwnedFormatItem>, usize), InvalidFormatDescription> {
-    let bytes = text.as_bytes();
-    let (mut groups, mut place) = (Vec::new(), after_space(bytes, name_end));
-    if place == name_end {
-        return Err(InvalidFormatDescription::Expected {
-            what: "white space",
-            index: place,
-        });
-    }
-    loop {
-        match bytes.get(place) {
-            Some(b']') => return Ok((groups, place)),
-            Some(b'[') => {
-                let end = closing(bytes, place)?;
-                let items =
-                    nested(version, &text[place + 1..end]).map_err(|it| moved(it, place + 1))?;
-                groups.push(OwnedFormatItem::Compound(items.into()));
-                place = after_space(bytes, end + 1);
-            }
-            Some(_) => {
-                return Err(InvalidFormatDescription::Expected {
-                    what: "a `[`",
-                    index: place,
-                });
-            }
-            None => {
-                return Err(InvalidFormatDescription::UnclosedOpeningBracket { index: opening });
-            }
-        }
-    }
-}
-
-/// The items of a text that may have `[optional [..]]` and `[first [..] [..]]`. The proved function reads what lies between.
-fn nested(
-    version: DescriptionVersion,
-    text: &str,
-) -> Result<Vec<OwnedFormatItem>, InvalidFormatDescription> {
-    let bytes = text.as_bytes();
-    let (mut found, mut start, mut place) = (Vec::new(), 0, 0);
-    let flat =
-        |start: usize, end: usize| read(version, &text[start..end]).map_err(|it| moved(it, start));
-    while place < bytes.len() {
-        let is_bracket = bytes[place] == b'[';
-        if is_escape(version, bytes[place]) && (!is_bracket || bytes.get(place + 1) == Some(&b'['))
-        {
-            place += 2;
-            continue;
-        }
-        if !is_bracket {
-            place += 1;
-            continue;
-        }
-        let name = after_space(bytes, place + 1);
-        let name_end = word_end(bytes, name);
-        let word = &text[name..name_end];
-        if word != "optional" && word != "first" {
-            place = behind_bracket(bytes, place);
-            continue;
-        }
-        found.extend(flat(start, place)?.iter().map(OwnedFormatItem::from));
-        let (mut groups, end) = groups(version, text, place, name_end)?;
-        if word == "first" {
-            found.push(OwnedFormatItem::First(groups.into()));
-        } else if let (Some(item), true) = (groups.pop(), groups.is_empty()) {
-            found.push(OwnedFormatItem::Optional(item.into()));
+/// The items up to the end of a group, or of the description.
+fn owned_items<'a>(
+    mut runs: Runs<'a>,
+    items: &[Item],
+    end: usize,
+) -> (Vec<OwnedFormatItem>, Runs<'a>) {
+    let mut found = Vec::new();
+    while runs.at < end {
+        if is_head(items[runs.at]) {
+            runs.place = in_group(runs.text, runs.place);
+            let group;
+            (group, runs) = owned_group(runs, items, end);
+            found.push(group);
         } else {
-            return Err(InvalidFormatDescription::Expected {
-                what: "one description in brackets",
-                index: name_end,
-            });
+            let (item, after) = runs.next(items);
+            found.push(OwnedFormatItem::from(&item));
+            runs = after;
         }
-        place = end + 1;
-        start = place;
     }
-    found.extend(flat(start, bytes.len())?.iter().map(OwnedFormatItem::from));
-    Ok(found)
+    (found, runs)
 }
 
-/// A description that owns its items, in version 1 or 2 of the language. It may have items that a text may lack,
-/// `[optional [..]]`, and alternatives, `[first [..] [..]]`.
+/// The group whose head comes next, and whose first description begins at the place.
+fn owned_group<'a>(mut runs: Runs<'a>, items: &[Item], end: usize) -> (OwnedFormatItem, Runs<'a>) {
+    let is_optional = matches!(items[runs.at], Item::Optional(_));
+    let mut groups = Vec::new();
+    while let Some(Item::Optional(size) | Item::First(size) | Item::Or(size)) =
+        items[..end].get(runs.at).copied()
+    {
+        runs.at += 1;
+        let last = runs.at + size;
+        let group;
+        (group, runs) = owned_items(runs, items, last);
+        groups.push(OwnedFormatItem::Compound(group.into()));
+        runs.place = after_space(runs.text, runs.place + 1) + 1;
+        let is_next = matches!(items[..end].get(runs.at), Some(Item::Or(_)));
+        if !is_next {
+            break;
+        }
+    }
+    let group = match (is_optional, groups.pop()) {
+        (true, Some(item)) => OwnedFormatItem::Optional(item.into()),
+        (_, last) => {
+            groups.extend(last);
+            OwnedFormatItem::First(groups.into())
+        }
+    };
+    (group, runs)
+}
+
+/// A description that owns its items, in version 1 or 2 of the language. It may have items that a
+/// text may lack, `[optional [..]]`, and alternatives, `[first [..] [..]]`.
 ///
 /// ```
 /// use muxandu::Time;
-/// use muxandu::format_description;
+/// use muxandu::format_description::parse_owned;
 /// use muxandu::macros::time;
 ///
-/// let description = format_description::parse_owned::<2>("[hour]:[minute][optional [:[second]]]")?;
+/// let description = parse_owned::<2>("[hour]:[minute][optional [:[second]]]")?;
 /// assert_eq!(Time::parse("12:34", &description), Ok(time!(12:34)));
 /// assert_eq!(Time::parse("12:34:56", &description), Ok(time!(12:34:56)));
 /// # Ok::<(), muxandu::Error>(())
@@ -478,5 +385,8 @@ fn nested(
 pub fn parse_owned<const VERSION: usize>(
     text: &str,
 ) -> Result<OwnedFormatItem, InvalidFormatDescription> {
-    Ok(nested(const { version_of(VERSION) }, text)?.into())
+    let version = const { version_of(VERSION) };
+    let items = items_of(version, text)?;
+    let runs = Runs { version, text: text.as_bytes(), place: 0, at: 0 };
+    Ok(owned_items(runs, &items, items.len()).0.into())
 }

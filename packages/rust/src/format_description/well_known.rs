@@ -20,7 +20,8 @@ pub struct Rfc3339;
 /// use muxandu::format_description::well_known::Rfc2822;
 /// use muxandu::macros::datetime;
 ///
-/// assert_eq!(datetime!(1997-11-21 9:55:06 -6).format(&Rfc2822)?, "Fri, 21 Nov 1997 09:55:06 -0600");
+/// let at = datetime!(1997-11-21 9:55:06 -6);
+/// assert_eq!(at.format(&Rfc2822)?, "Fri, 21 Nov 1997 09:55:06 -0600");
 /// # Ok::<(), muxandu::Error>(())
 /// ```
 #[derive(Clone, Copy, Debug, PartialEq, Eq)]

@@ -15,7 +15,7 @@ mod write_fixed;
 mod write_into;
 mod write_unix;
 
-pub use fault::syntax_fault;
+pub use fault::{full_time_fault, syntax_fault};
 pub use front::{parse_rfc3339_front, parse_rfc3339_offset};
 pub use full_dates::{date_from_rfc3339, date_to_rfc3339};
 pub use leap::parse_rfc3339_leap;

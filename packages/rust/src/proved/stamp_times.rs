@@ -1,8 +1,10 @@
 // Made by make/erase of crates/stamp_times/src/lib.rt. Do not edit.
-//! Instants by their Unix seconds, runs of calls over instants of every type, and chains of conversions.
+//! Instants by their Unix seconds, runs of calls over instants of every type, and chains of
+//! conversions.
 pub mod batches;
 pub mod chains;
 pub mod logs;
+pub mod moment_logs;
 pub mod reciprocal;
 pub mod runs;
 mod timestamp;

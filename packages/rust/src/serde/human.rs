@@ -28,7 +28,7 @@ impl<T: Human> Display for Written<'_, T> {
     }
 }
 
-/// What is left of a text. It reads exactly the digits that the form has.
+/// The rest of a text. It reads exactly the digits that the form has.
 struct Rest<'a>(&'a [u8]);
 
 impl Rest<'_> {
@@ -43,7 +43,8 @@ impl Rest<'_> {
         self.takes(byte).then_some(())
     }
 
-    /// At least and at most so many digits, and how many there are. Nine at most make a number.
+    /// The number that between `least` and `most` digits spell, and how many there are. Nine at
+    /// most make a number.
     fn digits(&mut self, least: usize, most: usize) -> Option<(u32, usize)> {
         let digits = self.0.iter().take_while(|byte| byte.is_ascii_digit());
         let count = digits.count().min(most);
@@ -101,7 +102,7 @@ impl Rest<'_> {
         Some(OffsetLiteral { is_negative, parts })
     }
 
-    fn plain(&mut self) -> Option<PlainLiteral> {
+    fn plain_literal(&mut self) -> Option<PlainLiteral> {
         let date = self.date()?;
         self.byte(b' ')?;
         let time = self.time()?;
@@ -109,11 +110,11 @@ impl Rest<'_> {
     }
 
     fn utc(&mut self) -> Option<UtcLiteral> {
-        Some(self.plain()?.in_utc())
+        Some(self.plain_literal()?.in_utc())
     }
 
     fn date_time(&mut self) -> Option<DateTimeLiteral> {
-        let plain = self.plain()?;
+        let plain = self.plain_literal()?;
         self.byte(b' ')?;
         let offset = self.offset()?;
         Some(DateTimeLiteral { plain, offset })
@@ -152,7 +153,7 @@ macro_rules! read_parts {
             fn read(text: &str) -> Result<$Type, Refusal> {
                 let mut rest = Rest(text.as_bytes());
                 match rest.$read() {
-                    Some(parts) if rest.0.is_empty() => Ok(parts.tested()?),
+                    Some(parts) if rest.0.is_empty() => Ok(parts.check()?),
                     _ => Err(Refusal::Syntax),
                 }
             }
@@ -164,7 +165,7 @@ read_parts! {
     Date: date, date, f => write!(f, "{date}");
     Time: time, time, f => write_time(f, time);
     UtcOffset: offset, offset, f => write!(f, "{offset}");
-    PlainDateTime: plain, at, f => {
+    PlainDateTime: plain_literal, at, f => {
         write!(f, "{} ", at.date())?;
         write_time(f, at.time())
     };

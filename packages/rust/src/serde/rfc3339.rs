@@ -8,10 +8,10 @@ use ::serde::ser::{Error as _, Serializer};
 
 use crate::{OffsetDateTime, Text, TextRefusal, Timestamp, UtcDateTime};
 
-/// What has texts of RFC 3339: `OffsetDateTime`, `UtcDateTime` and `Timestamp`.
+/// The types with texts of RFC 3339: `OffsetDateTime`, `UtcDateTime` and `Timestamp`.
 pub trait Rfc3339: Sized {
     /// The shortest text. None where there is none.
-    fn written(&self) -> Option<Text>;
+    fn short_text(&self) -> Option<Text>;
 
     /// The value of a text.
     ///
@@ -24,7 +24,7 @@ pub trait Rfc3339: Sized {
 macro_rules! rfc3339 {
     ($($Type:ident)+) => {
         $(impl Rfc3339 for $Type {
-            fn written(&self) -> Option<Text> {
+            fn short_text(&self) -> Option<Text> {
                 self.to_rfc3339()
             }
 
@@ -57,7 +57,7 @@ impl<T: Rfc3339> Visitor<'_> for Read<T> {
 ///
 /// The value has no such text, and those of the format.
 pub fn serialize<T: Rfc3339, S: Serializer>(value: &T, serializer: S) -> Result<S::Ok, S::Error> {
-    match value.written() {
+    match value.short_text() {
         Some(text) => serializer.serialize_str(&text),
         None => Err(S::Error::custom("the value has no text of RFC 3339")),
     }

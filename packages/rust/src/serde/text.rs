@@ -1,4 +1,5 @@
-//! As `Display` writes and `FromStr` reads, for fields of each type: `#[serde(with = "time::serde::text")]`.
+//! As `Display` writes and `FromStr` reads, for fields of each type:
+//! `#[serde(with = "time::serde::text")]`.
 
 use core::fmt::{self, Display};
 use core::marker::PhantomData;

@@ -1,5 +1,6 @@
-//! As Unix timestamps, for fields of instants: `#[serde(with = "time::serde::timestamp")]` for seconds, and a module for each
-//! finer unit. A count is rounded down. An [`OffsetDateTime`] is read at the offset 0.
+//! As Unix timestamps, for fields of instants: `#[serde(with = "time::serde::timestamp")]` for
+//! seconds, and a module for each finer unit. A count is rounded down. An [`OffsetDateTime`] is
+//! read at the offset 0.
 
 use ::serde::de::Error as _;
 use ::serde::{Deserialize, Deserializer, Serialize, Serializer};
@@ -9,7 +10,7 @@ use crate::{OffsetDateTime, RangeResult, Timestamp, UtcDateTime};
 mod instants {
     use super::{OffsetDateTime, RangeResult, Timestamp, UtcDateTime};
 
-    /// What has a Unix timestamp: `OffsetDateTime`, `UtcDateTime` and `Timestamp`.
+    /// The types with a Unix timestamp: `OffsetDateTime`, `UtcDateTime` and `Timestamp`.
     pub trait Instant: Copy {
         /// The nanoseconds since the epoch.
         fn nanoseconds(self) -> i128;

@@ -151,7 +151,7 @@ macro_rules! of_sequence {
 }
 
 /// A date of its year and day of the year, at a time of day.
-fn plain(
+fn from_parts(
     (year, ordinal): (i32, u16),
     (hour, minute, second, nanosecond): (u8, u8, u8, u32),
 ) -> RangeResult<PlainDateTime> {
@@ -170,13 +170,13 @@ of_sequence! {
             (year, ordinal, hour, minute, second, nanosecond)
         };
         year: i32, ordinal: u16, hour: u8, minute: u8, second: u8, nanosecond: u32
-        => plain((year, ordinal), (hour, minute, second, nanosecond));
+        => from_parts((year, ordinal), (hour, minute, second, nanosecond));
     UtcDateTime, "a date and a time of day in UTC": at => {
             let ((year, ordinal), (hour, minute, second, nanosecond)) = (at.to_ordinal_date(), at.as_hms_nano());
             (year, ordinal, hour, minute, second, nanosecond)
         };
         year: i32, ordinal: u16, hour: u8, minute: u8, second: u8, nanosecond: u32
-        => Ok(plain((year, ordinal), (hour, minute, second, nanosecond)).map_err(A::Error::custom)?.as_utc());
+        => Ok(from_parts((year, ordinal), (hour, minute, second, nanosecond)).map_err(A::Error::custom)?.as_utc());
     OffsetDateTime, "a date, a time of day and an offset from UTC": at => {
             let ((year, ordinal), (hour, minute, second, nanosecond)) = (at.to_ordinal_date(), at.to_hms_nano());
             let (hours, minutes, seconds) = at.offset().as_hms();
@@ -184,7 +184,7 @@ of_sequence! {
         };
         year: i32, ordinal: u16, hour: u8, minute: u8, second: u8, nanosecond: u32, hours: i8, minutes: i8, seconds: i8
         => {
-            let plain = plain((year, ordinal), (hour, minute, second, nanosecond)).map_err(A::Error::custom)?;
+            let plain = from_parts((year, ordinal), (hour, minute, second, nanosecond)).map_err(A::Error::custom)?;
             UtcOffset::from_hms(hours, minutes, seconds).map(|offset| plain.assume_offset(offset))
         };
     Timestamp, "a timestamp": at => (at.as_seconds(), at.nanosecond());

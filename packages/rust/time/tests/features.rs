@@ -26,9 +26,7 @@ fn are_spread(numbers: &[i128], least: i128, most: i128) {
     let size = most - least + 1;
     let parts = if size < 100 { size } else { 10 };
     for part in 0..parts {
-        let has_one = numbers
-            .iter()
-            .any(|number| (number - least) * parts / size == part);
+        let has_one = numbers.iter().any(|number| (number - least) * parts / size == part);
         assert!(has_one, "{least} to {most}: none in part {part}");
     }
 }
@@ -39,17 +37,9 @@ fn random_values_are_spread_over_the_range() {
     are_spread(&random(of_date), of_date(Date::MIN), of_date(Date::MAX));
     let of_time = |time: Time| (time - Time::MIDNIGHT).whole_nanoseconds();
     are_spread(&random(of_time), 0, of_time(Time::MAX));
-    are_spread(
-        &random(|offset: UtcOffset| offset.whole_seconds().into()),
-        -86_399,
-        86_399,
-    );
+    are_spread(&random(|offset: UtcOffset| offset.whole_seconds().into()), -86_399, 86_399);
     let plain = |at: PrimitiveDateTime| at.assume_utc().unix_timestamp_nanos();
-    are_spread(
-        &random(plain),
-        plain(PrimitiveDateTime::MIN),
-        plain(PrimitiveDateTime::MAX),
-    );
+    are_spread(&random(plain), plain(PrimitiveDateTime::MIN), plain(PrimitiveDateTime::MAX));
     let utc = |at: UtcDateTime| at.unix_timestamp_nanos();
     are_spread(&random(utc), utc(UtcDateTime::MIN), utc(UtcDateTime::MAX));
     are_spread(
@@ -57,29 +47,13 @@ fn random_values_are_spread_over_the_range() {
         of_date(Date::MIN),
         of_date(Date::MAX),
     );
-    are_spread(
-        &random(|at: OffsetDateTime| at.offset().whole_seconds().into()),
-        -86_399,
-        86_399,
-    );
+    are_spread(&random(|at: OffsetDateTime| at.offset().whole_seconds().into()), -86_399, 86_399);
     let instant = |at: Timestamp| at.as_nanoseconds();
-    are_spread(
-        &random(instant),
-        instant(Timestamp::MIN),
-        instant(Timestamp::MAX),
-    );
+    are_spread(&random(instant), instant(Timestamp::MIN), instant(Timestamp::MAX));
     let length = |duration: Duration| duration.whole_nanoseconds();
-    are_spread(
-        &random(length),
-        length(Duration::MIN),
-        length(Duration::MAX),
-    );
+    are_spread(&random(length), length(Duration::MIN), length(Duration::MAX));
     are_spread(&random(|month: Month| u8::from(month).into()), 1, 12);
-    are_spread(
-        &random(|weekday: Weekday| weekday.number_from_monday().into()),
-        1,
-        7,
-    );
+    are_spread(&random(|weekday: Weekday| weekday.number_from_monday().into()), 1, 7);
 }
 
 /// The values of quickcheck for 1,000 sizes.
@@ -94,11 +68,7 @@ fn arbitrary_values_are_spread_over_the_range() {
     are_spread(&arbitrary(of_date), of_date(Date::MIN), of_date(Date::MAX));
     let of_time = |time: Time| (time - Time::MIDNIGHT).whole_nanoseconds();
     are_spread(&arbitrary(of_time), 0, of_time(Time::MAX));
-    are_spread(
-        &arbitrary(|offset: UtcOffset| offset.whole_seconds().into()),
-        -86_399,
-        86_399,
-    );
+    are_spread(&arbitrary(|offset: UtcOffset| offset.whole_seconds().into()), -86_399, 86_399);
     are_spread(
         &arbitrary(|at: OffsetDateTime| at.date().to_julian_day().into()),
         of_date(Date::MIN),
@@ -110,23 +80,11 @@ fn arbitrary_values_are_spread_over_the_range() {
         of_date(Date::MAX),
     );
     let instant = |at: Timestamp| at.as_nanoseconds();
-    are_spread(
-        &arbitrary(instant),
-        instant(Timestamp::MIN),
-        instant(Timestamp::MAX),
-    );
+    are_spread(&arbitrary(instant), instant(Timestamp::MIN), instant(Timestamp::MAX));
     let length = |duration: Duration| duration.whole_nanoseconds();
-    are_spread(
-        &arbitrary(length),
-        length(Duration::MIN),
-        length(Duration::MAX),
-    );
+    are_spread(&arbitrary(length), length(Duration::MIN), length(Duration::MAX));
     are_spread(&arbitrary(|month: Month| u8::from(month).into()), 1, 12);
-    are_spread(
-        &arbitrary(|weekday: Weekday| weekday.number_from_monday().into()),
-        1,
-        7,
-    );
+    are_spread(&arbitrary(|weekday: Weekday| weekday.number_from_monday().into()), 1, 7);
 }
 
 #[test]
@@ -144,17 +102,12 @@ fn values_shrink_to_the_simplest() {
     assert_eq!(simplest(timestamp!(1.5)), Timestamp::UNIX_EPOCH);
     assert_eq!(simplest(time!(23:59)), Time::MIDNIGHT);
     assert_eq!(simplest(offset!(-1:30)), UtcOffset::UTC);
-    assert!(
-        date!(2024 - 02 - 29)
-            .shrink()
-            .all(|date| date < date!(2024 - 02 - 29))
-    );
+    assert!(date!(2024 - 02 - 29).shrink().all(|date| date < date!(2024 - 02 - 29)));
     assert!(datetime!(2024-02-29 1:00).shrink().count() > 5);
     assert!(datetime!(2024-02-29 1:00).as_utc().shrink().count() > 5);
     let at = datetime!(2024-02-29 1:00 +1);
-    let (plain, offset): (Vec<_>, Vec<_>) = at
-        .shrink()
-        .partition(|simpler| simpler.offset() == at.offset());
+    let (plain, offset): (Vec<_>, Vec<_>) =
+        at.shrink().partition(|simpler| simpler.offset() == at.offset());
     assert!(plain.len() > 5 && !offset.is_empty());
 }
 
@@ -162,8 +115,7 @@ fn values_shrink_to_the_simplest() {
 fn a_property_is_tested() {
     fn days_come_back(date: Date, duration: Duration) -> bool {
         let whole = Duration::days(duration.whole_days());
-        date.checked_add(whole)
-            .is_none_or(|later| later - date == whole)
+        date.checked_add(whole).is_none_or(|later| later - date == whole)
     }
     let property: fn(Date, Duration) -> bool = days_come_back;
     QuickCheck::new().quickcheck(property as fn(Date, Duration) -> bool);
@@ -174,20 +126,10 @@ fn a_property_is_tested() {
 #[test]
 fn the_offset_of_the_machine_is_not_known() {
     assert_eq!(UtcOffset::current_local_offset(), Err(IndeterminateOffset));
-    assert_eq!(
-        UtcOffset::local_offset_at(OffsetDateTime::UNIX_EPOCH),
-        Err(IndeterminateOffset)
-    );
+    assert_eq!(UtcOffset::local_offset_at(OffsetDateTime::UNIX_EPOCH), Err(IndeterminateOffset));
     let error = time::Error::from(OffsetDateTime::now_local().unwrap_err());
-    assert!(
-        error
-            .to_string()
-            .starts_with("the offset of the machine's clock is not known")
-    );
-    assert_eq!(
-        IndeterminateOffset::try_from(error),
-        Ok(IndeterminateOffset)
-    );
+    assert!(error.to_string().starts_with("the offset of the machine's clock is not known"));
+    assert_eq!(IndeterminateOffset::try_from(error), Ok(IndeterminateOffset));
     let error = time::Error::from(IndeterminateOffset);
     assert_eq!(time::error::Format::try_from(error), Err(DifferentVariant));
 }

@@ -20,10 +20,7 @@ fn values_have_numbers() {
     is_written(offset!(-1:30), "[-1,-30,0]");
     is_written(datetime!(2024-02-29 1:02:03), "[2024,60,1,2,3,0]");
     is_written(utc_datetime!(2024-02-29 1:02:03), "[2024,60,1,2,3,0]");
-    is_written(
-        datetime!(2024-02-29 1:02:03 +1:30),
-        "[2024,60,1,2,3,0,1,30,0]",
-    );
+    is_written(datetime!(2024-02-29 1:02:03 +1:30), "[2024,60,1,2,3,0,1,30,0]");
     is_written(timestamp!(-0.5), "[-1,500000000]");
     is_written(Duration::new(-1, -5), "[-1,-5]");
     is_written(Month::May, "5");

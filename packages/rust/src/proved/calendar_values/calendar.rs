@@ -4,12 +4,8 @@ use crate::proved::calendar_values::Month;
 use crate::proved::calendar_values::range::FIRST_YEAR;
 use crate::proved::calendar_values::units::SECONDS_PER_DAY;
 
-// The days of 400 years, of a century that does not begin with a leap year, and of four years that do.
-const DAYS_PER_CYCLE: u32 = 146_097;
-
-const DAYS_PER_CENTURY: u32 = 36_524;
-
-const DAYS_PER_SPAN: u32 = 1_461;
+// 400 * 2^40 / 146,097, rounded up: the years that a day has, with 40 binary places.
+const YEARS_PER_DAY: u64 = 3_010_360_590;
 
 // Whole cycles of 400 years, counted back from the year 0, so that the first of them begins before the
 // range does.
@@ -47,8 +43,13 @@ const SECONDS_BEFORE_EPOCH: i64 = DAYS_BEFORE_EPOCH as i64 * SECONDS_PER_DAY;
 /// [docs/proofs/STATEMENT.md](crate::proved#contracts) explains the words.
 #[inline(always)]
 pub const fn is_leap_year(year: i32) -> bool {
-    // Of the years that 100 divides, 400 divides those that 16 divides. No test is a division.
-    (year % 4 == 0) & ((year % 100 != 0) | (year % 16 == 0))
+    // Of the years that 25 divides, 100 divides those that 4 divides, and 400 those that 16 divides. No test
+    // is a division.
+    if year % 25 != 0 {
+        year % 4 == 0
+    } else {
+        year % 16 == 0
+    }
 }
 
 /// The number of days of the year: 366 in a leap year, else 365 (Gregorian calendar).
@@ -194,7 +195,7 @@ pub(in crate::proved) const fn leap_ordinal_to_month_day(
     let until_march = 59 + is_leap_year as u16;
     let is_later = ordinal > until_march;
     let (month, day) = month_and_day_by_product(ordinal - is_later as u16 * until_march);
-    (Month::numbered(month + 2 * is_later as u8), day)
+    (Month::of_number(month + 2 * is_later as u8), day)
 }
 
 // The same for a day counted from 1 January, or from 1 March: from there on months of 31 and of 30
@@ -242,8 +243,7 @@ pub(in crate::proved) const fn day_and_second(second: i64) -> (i32, u32) {
     )
 }
 
-// The day number of 1 January. Centuries begin with the years that 100 divides, so that one division
-// gives their number and that of the cycles.
+// The day number of 1 January.
 /// # Contract
 ///
 /// ```text
@@ -256,10 +256,23 @@ pub(in crate::proved) const fn day_and_second(second: i64) -> (i32, u32) {
 /// [docs/proofs/STATEMENT.md](crate::proved#contracts) explains the words.
 #[inline(always)]
 pub(crate) const fn year_start(year: i32) -> i32 {
-    let years = years_from_first_cycle(year);
+    days_before_year(years_from_first_cycle(year)) as i32 - DAYS_BEFORE_1970
+}
+
+// The days of so many years from the first cycle of 400 years on. Centuries begin with the years that 100
+// divides, so that one division gives their number and that of the cycles.
+/// # Contract
+///
+/// ```text
+/// requires { years ≤ 2_000_000 }
+/// ensures { result ≡ days_from_0 years }
+/// ```
+///
+/// [docs/proofs/STATEMENT.md](crate::proved#contracts) explains the words.
+#[inline(always)]
+const fn days_before_year(years: u32) -> u32 {
     let centuries = (years + 99) / 100;
-    let days = (1_461 * years + 3) / 4 + (centuries + 3) / 4 - centuries;
-    days as i32 - DAYS_BEFORE_1970
+    (1_461 * years + 3) / 4 + (centuries + 3) / 4 - centuries
 }
 
 // How many years the year comes after the first cycle of 400 years began.
@@ -288,14 +301,10 @@ const fn years_from_first_cycle(year: i32) -> u32 {
 /// ```
 ///
 /// [docs/proofs/STATEMENT.md](crate::proved#contracts) explains the words.
-#[inline]
+#[inline(always)]
 pub(crate) const fn year_and_ordinal(day: i32) -> (i32, u16) {
-    let day = days_from_first_cycle(day);
-    let (year, ordinal) = year_and_ordinal_in_cycle(day % DAYS_PER_CYCLE);
-    (
-        year_from_first_cycle(day / DAYS_PER_CYCLE * 400 + year),
-        ordinal,
-    )
+    let (years, ordinal) = years_and_ordinal(days_from_first_cycle(day));
+    (year_from_first_cycle(years), ordinal)
 }
 
 // How many days the day comes after the first cycle of 400 years began.
@@ -328,28 +337,46 @@ const fn year_from_first_cycle(years: u32) -> i32 {
     years as i32 - YEARS_BEFORE_0
 }
 
-// The year of a day of a cycle of 400 years, and the day of that year, counted from 1. The first century
-// has a day more than the others, each span of four years a day more than four common years, and its first
-// year a day more than the others; but the first year of a later century is a common one.
+// The same for a day and a year that are counted from the first cycle. The year that a product gives is
+// that of the day or the next one: it is the next one if it begins after the day.
 /// # Contract
 ///
 /// ```text
-/// requires { day < 146_097 }
+/// requires first { 366 ≤ day }
+/// requires last { day < 730_485_000 }
 /// ensures day { days_from_0 result.0 + result.1 ≡ day + 1 }
 /// ensures first { 1 ≤ result.1 }
 /// ensures last { result.1 ≤ days_in_year (pos result.0) }
-/// ensures in_range { result.0 < 400 }
+/// ensures in_range { result.0 < 2_000_000 }
 /// ```
 ///
 /// [docs/proofs/STATEMENT.md](crate::proved#contracts) explains the words.
-#[inline]
-const fn year_and_ordinal_in_cycle(day: u32) -> (u32, u16) {
-    let century = day.saturating_sub(1) / DAYS_PER_CENTURY;
-    let day = day - century * DAYS_PER_CENTURY;
-    let span = day / DAYS_PER_SPAN;
-    let day = day % DAYS_PER_SPAN;
-    let year = day.saturating_sub(1) / 365;
-    let is_leap = year == 0 && (span > 0 || century == 0);
-    let ordinal = day - year * 365 + is_leap as u32;
-    (century * 100 + span * 4 + year, ordinal as u16)
+#[inline(always)]
+const fn years_and_ordinal(day: u32) -> (u32, u16) {
+    let years = years_by_product(day);
+    let start = days_before_year(years);
+    if start <= day {
+        (years, (day - start + 1) as u16)
+    } else {
+        let start = days_before_year(years - 1);
+        (years - 1, (day - start + 1) as u16)
+    }
+}
+
+// The year of a day or the year after it, by the mean length of a year.
+/// # Contract
+///
+/// ```text
+/// requires first { 366 ≤ day }
+/// requires last { day < 730_485_000 }
+/// ensures low { 1 ≤ result }
+/// ensures high { result ≤ 2_000_000 }
+/// ensures begun { days_from_0 (result - 1) ≤ day }
+/// ensures not_ended { day < days_from_0 (result + 1) }
+/// ```
+///
+/// [docs/proofs/STATEMENT.md](crate::proved#contracts) explains the words.
+#[inline(always)]
+const fn years_by_product(day: u32) -> u32 {
+    ((day as u64 + 1) * YEARS_PER_DAY >> 40) as u32
 }

@@ -46,7 +46,7 @@ impl Month {
         if number == 0 || number > 12 {
             return Err(ComponentRange::of_part(Part::Month, false));
         }
-        Ok(Month::numbered(number))
+        Ok(Month::of_number(number))
     }
 
     /// # Contract
@@ -59,7 +59,7 @@ impl Month {
     ///
     /// [docs/proofs/STATEMENT.md](crate::proved#contracts) explains the words.
     #[inline]
-    pub(crate) const fn numbered(number: u8) -> Month {
+    pub(crate) const fn of_number(number: u8) -> Month {
         match number {
             1 => Month::January,
             2 => Month::February,

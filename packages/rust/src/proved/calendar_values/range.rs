@@ -1,5 +1,6 @@
 // Made by make/erase of crates/calendar_values/src/range.rt. Do not edit.
-//! The range of the library. Limits elsewhere are computed from the numbers here, or proved to agree with them.
+//! The range of the library. Limits elsewhere are computed from the numbers here, or proved to
+//! agree with them.
 
 // The first year and the last.
 pub(crate) const FIRST_YEAR: i32 = -999_999;

@@ -1,5 +1,6 @@
 // Made by make/erase of crates/calendar_values/src/units.rt. Do not edit.
-//! How many of one unit of time another has, and the day from which days are counted. There are no leap seconds.
+//! How many of one unit of time another has, and the day from which days are counted. There are no
+//! leap seconds.
 
 /// The seconds of a minute.
 pub const SECONDS_PER_MINUTE: i64 = 60;

@@ -65,7 +65,7 @@ impl Weekday {
         if number > 6 {
             return None;
         }
-        Some(Weekday::numbered(number))
+        Some(Weekday::of_number(number))
     }
 
     /// As [`Weekday::from_number_days_from_monday`], of a number below 7. The caller proves that it
@@ -80,7 +80,7 @@ impl Weekday {
     ///
     /// [docs/proofs/STATEMENT.md](crate::proved#contracts) explains the words.
     #[inline]
-    pub(in crate::proved) const fn numbered(number: u8) -> Weekday {
+    pub(in crate::proved) const fn of_number(number: u8) -> Weekday {
         match number {
             0 => Weekday::Monday,
             1 => Weekday::Tuesday,

@@ -6,9 +6,10 @@ use crate::proved::format_descriptions::{Field, Parts, ValueRefusal};
 use crate::proved::calendar_values::Time;
 
 impl Parts {
-    /// The time of day of these parts: its hour, or its hour on a clock of 12 hours and the half of the day. A minute,
-    /// a second or a fraction that the text does not give is 0. Fails with `Missing` if there are too few parts. Fails
-    /// with `Wrong` for the first part out of range, or other than that of the hour.
+    /// The time of day of these parts: its hour, or its hour on a clock of 12 hours and the half of
+    /// the day. A minute, a second or a fraction that the text does not give is 0. Fails with
+    /// `Missing` if there are too few parts. Fails with `Wrong` for the first part out of range, or
+    /// other than that of the hour.
     ///
     /// ```
     /// # use muxandu::proved::*;

@@ -1,8 +1,8 @@
 // Made by make/erase of crates/format_descriptions/src/component.rt. Do not edit.
 //! The parts of a value that a description can name.
 use crate::proved::format_descriptions::{
-    Case, NameForm, Padding, ReadCase, Sign, SubsecondDigits, UnixPrecision, WeekRule, WeekStart,
-    WeekdayCount, YearBase, YearRange,
+    Case, NameForm, Padding, ReadCase, Sign, SubsecondDigits, UnixPrecision, UtcWord, WeekRule,
+    WeekStart, WeekdayCount, YearBase, YearRange,
 };
 
 /// A part of a date, a time of day or an offset, and how it is written.
@@ -52,4 +52,22 @@ pub enum Component {
     Ignore(u16),
     /// The end of the text. It writes nothing.
     End,
+    /// The English name of the day of the week, which is read whatever the date is. `time` has no
+    /// such component.
+    IgnoreWeekday(NameForm, ReadCase),
+    /// One digit or more, to skip. It writes nothing. `time` has no such component.
+    IgnoreDigits,
+    /// A word for the offset 0, which no other offset can write. `time` has no such component.
+    OffsetWord(UtcWord, ReadCase),
+    /// The last two digits of a year, of the hundred years from this one on. No other year can be
+    /// written. `time` has no such component.
+    YearSince(u16),
+    /// The sign of the year, and its six digits. `time` has no such component.
+    YearSix(YearBase),
+    /// Digits of the fraction of the hour, which the minute and all after it make. `time` has no
+    /// such component.
+    HourFraction(SubsecondDigits),
+    /// Digits of the fraction of the minute, which the second and its fraction make. `time` has no
+    /// such component.
+    MinuteFraction(SubsecondDigits),
 }

@@ -25,10 +25,19 @@ pub enum DescriptionFault {
     UnknownModifier,
     /// The modifier has no such value. The place is that of the value.
     WrongValue,
-    /// The component lacks a modifier that it needs, as `[ignore]` does without `count`. The place is that of the `[`.
+    /// The component lacks a modifier that it needs, as `[ignore]` does without `count`. The place
+    /// is that of the `[`.
     MissingModifier,
     /// A backslash precedes another byte than ``, `` and a backslash, in version 2.
     WrongEscape,
+    /// A `]` ends `[optional` or `[first` with no description in brackets. The place is that of the
+    /// `]`.
+    NoGroup,
+    /// Something else than a description in brackets follows `optional` or `first`, or a second one
+    /// follows `optional`.
+    WrongGroup,
+    /// More than 32 groups are inside each other. The place is that of the `[`.
+    TooDeep,
     /// The room has no place for another item.
     NoRoom,
 }

@@ -53,8 +53,8 @@ pub(crate) const fn step(
     match place {
         Place::Outside => outside(version, first, text),
         Place::Escaped => escaped(first, text),
-        Place::Opened(bracket) => opened(version, bracket, first, text),
-        Place::Unnamed(bracket) => unnamed(bracket, first, text),
+        Place::Opened(bracket) => open_bracket(version, bracket, first, text),
+        Place::Unnamed(bracket) => begin_name(bracket, first, text),
         Place::InWord(bracket, name, modifiers) => in_word(bracket, name, modifiers, first, text),
         Place::BetweenWords(bracket, name, modifiers) => {
             between_words(bracket, name, modifiers, first, text)
@@ -102,17 +102,17 @@ const fn escaped(first: u8, text: &[u8]) -> Step {
 /// # Contract
 ///
 /// ```text
-/// ensures { result ≡ opened version bracket first text.now }
+/// ensures { result ≡ open_bracket version bracket first text.now }
 /// ```
 ///
 /// [docs/proofs/STATEMENT.md](crate::proved#contracts) explains the words.
 #[inline]
-const fn opened(version: DescriptionVersion, bracket: usize, first: u8, text: &[u8]) -> Step {
+const fn open_bracket(version: DescriptionVersion, bracket: usize, first: u8, text: &[u8]) -> Step {
     match version {
         DescriptionVersion::One if first == b'[' => Ok((Place::Outside, Some(Item::Byte(b'[')))),
         _ => {
             if is_closed(text) {
-                unnamed(bracket, first, text)
+                begin_name(bracket, first, text)
             } else {
                 Err((DescriptionFault::NoEnd, bracket))
             }
@@ -124,12 +124,12 @@ const fn opened(version: DescriptionVersion, bracket: usize, first: u8, text: &[
 /// # Contract
 ///
 /// ```text
-/// ensures { result ≡ unnamed bracket first text.now }
+/// ensures { result ≡ begin_name bracket first text.now }
 /// ```
 ///
 /// [docs/proofs/STATEMENT.md](crate::proved#contracts) explains the words.
 #[inline]
-const fn unnamed(bracket: usize, first: u8, text: &[u8]) -> Step {
+const fn begin_name(bracket: usize, first: u8, text: &[u8]) -> Step {
     if is_white_space(first) {
         return Ok((Place::Unnamed(bracket), None));
     }
@@ -153,7 +153,7 @@ const fn unnamed(bracket: usize, first: u8, text: &[u8]) -> Step {
 #[inline]
 const fn in_word(bracket: usize, name: Name, modifiers: Modifiers, first: u8, text: &[u8]) -> Step {
     if first == b']' {
-        return finished(bracket, name, modifiers);
+        return finish_component(bracket, name, modifiers);
     }
     if first == b'[' {
         return Err((DescriptionFault::NestedBracket, text.len()));
@@ -182,7 +182,7 @@ const fn between_words(
     text: &[u8],
 ) -> Step {
     if first == b']' {
-        return finished(bracket, name, modifiers);
+        return finish_component(bracket, name, modifiers);
     }
     if first == b'[' {
         return Err((DescriptionFault::NestedBracket, text.len()));
@@ -200,12 +200,12 @@ const fn between_words(
 /// # Contract
 ///
 /// ```text
-/// ensures { result ≡ finished bracket name modifiers }
+/// ensures { result ≡ finish_component bracket name modifiers }
 /// ```
 ///
 /// [docs/proofs/STATEMENT.md](crate::proved#contracts) explains the words.
 #[inline]
-const fn finished(bracket: usize, name: Name, modifiers: Modifiers) -> Step {
+const fn finish_component(bracket: usize, name: Name, modifiers: Modifiers) -> Step {
     match component_of(name, modifiers) {
         Some(component) => Ok((Place::Outside, Some(Item::Part(component)))),
         None => Err((DescriptionFault::MissingModifier, bracket)),

@@ -1,12 +1,12 @@
 // Made by make/erase of crates/format_descriptions/src/descriptions.rt. Do not edit.
 //! Descriptions that texts give.
-use crate::proved::format_descriptions::description_steps::{
-    DescriptionVersion, Place, fault_at_end, step,
-};
+use crate::proved::format_descriptions::description_groups::{at_front, group_fault_at_end, group_step};
+use crate::proved::format_descriptions::description_steps::DescriptionVersion;
 use crate::proved::format_descriptions::{DescriptionFault, DescriptionRefusal, Item};
 
-/// How many items a text has as a description. They are put at the front of `room`, whose others do not change.
-/// Else why the text is no description, and where: its first fault, which `NoRoom` is too.
+/// How many items a text has as a description. They are put at the front of `room`, whose others do
+/// not change. Else why the text is no description, and where: its first fault, which `NoRoom` is
+/// too.
 ///
 /// ```
 /// # use muxandu::proved::*;
@@ -15,7 +15,8 @@ use crate::proved::format_descriptions::{DescriptionFault, DescriptionRefusal, I
 /// let mut room = [Item::Byte(0); 4];
 /// assert_eq!(parse_description(DescriptionVersion::Two, b"[hour]h", &mut room), Ok(2));
 /// assert_eq!(room[1], Item::Byte(b'h'));
-/// assert_eq!(parse_description(DescriptionVersion::Two, b"[hours]", &mut room).is_err(), true);
+/// let wrong = parse_description(DescriptionVersion::Two, b"[hours]", &mut room);
+/// assert_eq!(wrong.is_err(), true);
 /// # Ok(())
 /// # }
 /// ```
@@ -24,14 +25,14 @@ use crate::proved::format_descriptions::{DescriptionFault, DescriptionRefusal, I
 ///
 /// ```text
 /// ensures count { result ≡ result_map_both (λ items. length items) (refusal_of text.now)
-///     (described version (length room.old) text.now) }
-/// ensures items { IfOk (described version (length room.old) text.now)
+///     (items_of_description version (length room.old) text.now) }
+/// ensures items { IfOk (items_of_description version (length room.old) text.now)
 ///     (λ items. room.new ≡ items ++ drop (length items) room.old) }
 /// ensures read { IfOk result (λ count. (items : List Item) ×
-///     (described version (length room.old) text.now ≡ Ok items) ×
+///     (items_of_description version (length room.old) text.now ≡ Ok items) ×
 ///     (length items ≡ count) × (room.new ≡ items ++ drop count room.old)) }
 /// ensures refused { IfErr result (λ refusal. (left : ℕ) ×
-///     (described version (length room.old) text.now ≡ Err (refusal.fault, left)) ×
+///     (items_of_description version (length room.old) text.now ≡ Err (refusal.fault, left)) ×
 ///     (refusal.place ≡ length text.now - left)) }
 /// ```
 ///
@@ -42,11 +43,11 @@ pub const fn parse_description(
     text: &[u8],
     room: &mut [Item],
 ) -> Result<usize, DescriptionRefusal> {
-    let mut place = Place::Outside;
+    let mut state = at_front();
     let mut rest = text;
     let mut count = 0;
     while let Some((first, more)) = rest.split_first() {
-        let (next, item) = match step(version, place, *first, rest) {
+        let (next, item) = match group_step(version, state, *first, rest, more) {
             Ok(read) => read,
             Err(fault) => return Err(refusal(text, fault)),
         };
@@ -57,10 +58,10 @@ pub const fn parse_description(
             room[count] = item;
             count += 1;
         }
-        place = next;
+        state = next;
         rest = more;
     }
-    match fault_at_end(place) {
+    match group_fault_at_end(state) {
         Some(fault) => Err(refusal(text, fault)),
         None => Ok(count),
     }

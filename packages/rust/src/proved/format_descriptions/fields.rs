@@ -1,7 +1,9 @@
 // Made by make/erase of crates/format_descriptions/src/fields.rt. Do not edit.
 //! The number of each component, read from the front of a text.
-use crate::proved::format_descriptions::fractions::fraction;
-use crate::proved::format_descriptions::reading::{four, more, sign, three, two};
+use crate::proved::format_descriptions::fractions::{after_digits, fraction, read_digits};
+use crate::proved::format_descriptions::reading::{
+    after_word, digit, four, more, sign, three, two, two_digits,
+};
 use crate::proved::format_descriptions::words::{month, period, weekday, weekday_number};
 use crate::proved::format_descriptions::{Component, Padding, Sign, YearRange};
 
@@ -9,7 +11,7 @@ use crate::proved::format_descriptions::{Component, Padding, Sign, YearRange};
 /// # Contract
 ///
 /// ```text
-/// requires { is_timestamp component ≡ false }
+/// requires { has_large_number component ≡ false }
 /// ensures value { option_map (λ read. (read.0, read.1.now)) result
 ///     ≡ component_at component text.now }
 /// ensures below { IfSome result (λ read. read.0.1 ≤ 1_000_000_000) }
@@ -32,7 +34,7 @@ pub(crate) fn component_at(component: Component, text: &[u8]) -> Option<((bool, 
             let (number, rest) = month(form, case, 12, text)?;
             unsigned(number, rest)
         }
-        Component::WeekdayName(form, case) => {
+        Component::WeekdayName(form, case) | Component::IgnoreWeekday(form, case) => {
             let (number, rest) = weekday(form, case, 7, text)?;
             unsigned(number, rest)
         }
@@ -41,9 +43,18 @@ pub(crate) fn component_at(component: Component, text: &[u8]) -> Option<((bool, 
             unsigned(number, rest)
         }
         Component::Period(case, read) => period(case, read, text),
-        Component::Ignore(count) => nothing(ignored(count, text)?),
+        Component::Ignore(count) => nothing(skip_bytes(count, text)?),
         Component::End => nothing(end(text)?),
-        Component::UnixTimestamp(_, _) => None,
+        Component::IgnoreDigits => nothing(past_digits(text)?),
+        Component::OffsetWord(word, case) => nothing(after_word(case, word.letters(), text)?),
+        Component::YearSince(first) => {
+            let (number, rest) = year_since(first, text)?;
+            unsigned(number, rest)
+        }
+        Component::YearSix(_) => six_year(text),
+        Component::UnixTimestamp(_, _)
+        | Component::HourFraction(_)
+        | Component::MinuteFraction(_) => None,
         Component::Subsecond(digits) => {
             let (number, rest) = fraction(digits, text)?;
             unsigned(number, rest)
@@ -113,6 +124,23 @@ fn signed_year(
             Sign::Mandatory => None,
         },
     }
+}
+
+// A sign and six digits.
+/// # Contract
+///
+/// ```text
+/// ensures value { option_map (λ read. (read.0, read.1.now)) result ≡ six_at text.now }
+/// ensures below { IfSome result (λ read. read.0.1 ≤ 1_000_000_000) }
+/// ensures shorter { IfSome result (λ read. length read.1.now ≤ length text.now) }
+/// ```
+///
+/// [docs/proofs/STATEMENT.md](crate::proved#contracts) explains the words.
+#[inline]
+fn six_year(text: &[u8]) -> Option<((bool, u32), &[u8])> {
+    let (is_negative, digits) = sign(text)?;
+    let (number, rest) = read_digits(6, 100_000, digits)?;
+    Some(((is_negative, number), rest))
 }
 
 // A year without its last two digits.
@@ -192,6 +220,39 @@ const fn nothing(rest: &[u8]) -> Option<((bool, u32), &[u8])> {
     Some(((false, 0), rest))
 }
 
+// What follows one digit or more.
+/// # Contract
+///
+/// ```text
+/// ensures value { option_map (λ rest. rest.now) result ≡ past_digits text.now }
+/// ensures shorter { IfSome result (λ read. length read.now ≤ length text.now) }
+/// ```
+///
+/// [docs/proofs/STATEMENT.md](crate::proved#contracts) explains the words.
+#[inline]
+fn past_digits(text: &[u8]) -> Option<&[u8]> {
+    let (_, rest) = digit(text)?;
+    Some(after_digits(rest))
+}
+
+// The year of two digits, from this one on.
+/// # Contract
+///
+/// ```text
+/// ensures value { option_map (λ read. (read.0, read.1.now)) result
+///     ≡ year_since_at first text.now }
+/// ensures below { IfSome result (λ read. read.0 < 100_000) }
+/// ensures shorter { IfSome result (λ read. length read.1.now ≤ length text.now) }
+/// ```
+///
+/// [docs/proofs/STATEMENT.md](crate::proved#contracts) explains the words.
+#[inline]
+fn year_since(first: u16, text: &[u8]) -> Option<(u32, &[u8])> {
+    let (last_two, rest) = two_digits(text)?;
+    let first = first as u32;
+    Some((first + (last_two + 100 - first % 100) % 100, rest))
+}
+
 // What follows so many bytes.
 /// # Contract
 ///
@@ -202,7 +263,7 @@ const fn nothing(rest: &[u8]) -> Option<((bool, u32), &[u8])> {
 ///
 /// [docs/proofs/STATEMENT.md](crate::proved#contracts) explains the words.
 #[inline]
-fn ignored(count: u16, text: &[u8]) -> Option<&[u8]> {
+fn skip_bytes(count: u16, text: &[u8]) -> Option<&[u8]> {
     if text.len() < count as usize {
         return None;
     }

@@ -21,7 +21,7 @@ pub(crate) fn fraction(digits: SubsecondDigits, text: &[u8]) -> Option<(u32, &[u
         digit(text)?;
         return Some(all_digits(text));
     }
-    counted(count, 100_000_000, text)
+    read_digits(count, 100_000_000, text)
 }
 
 // So many digits: the first counts so many units, each other a tenth of the one before.
@@ -37,14 +37,14 @@ pub(crate) fn fraction(digits: SubsecondDigits, text: &[u8]) -> Option<(u32, &[u
 ///
 /// [docs/proofs/STATEMENT.md](crate::proved#contracts) explains the words.
 #[inline]
-fn counted(count: u8, unit: u32, text: &[u8]) -> Option<(u32, &[u8])> {
+pub(crate) fn read_digits(count: u8, unit: u32, text: &[u8]) -> Option<(u32, &[u8])> {
     if count == 0 {
         return Some((0, text));
     }
     let Some((digit, rest)) = digit(text) else {
         return None;
     };
-    let Some((more, rest)) = counted(count - 1, unit / 10, rest) else {
+    let Some((more, rest)) = read_digits(count - 1, unit / 10, rest) else {
         return None;
     };
     Some((digit * unit + more, rest))
@@ -86,7 +86,7 @@ fn all_digits(text: &[u8]) -> (u32, &[u8]) {
 ///
 /// [docs/proofs/STATEMENT.md](crate::proved#contracts) explains the words.
 #[inline]
-fn after_digits(text: &[u8]) -> &[u8] {
+pub(crate) fn after_digits(text: &[u8]) -> &[u8] {
     let mut rest = text;
     while let Some((_, more)) = digit(rest) {
         rest = more;

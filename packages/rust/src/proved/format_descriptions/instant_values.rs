@@ -2,14 +2,17 @@
 //! The instant that the Unix timestamps of a text name.
 use crate::proved::format_descriptions::clock_values::or_zero;
 use crate::proved::format_descriptions::parts::{fits, fits_count};
+use crate::proved::format_descriptions::unix::split_seconds;
 use crate::proved::format_descriptions::{Field, Parts, UnixPrecision, ValueRefusal};
+use crate::proved::calendar_values::{ComponentRange, Part};
 use crate::proved::stamp_times::Timestamp;
 use crate::proved::utc_times::UtcDateTime;
 
 impl Parts {
-    /// The instant of these parts, by the finest count of a Unix timestamp: the fraction of the second counts with
-    /// seconds. Each other count and the fraction have to be those of the instant. Fails with `Missing` if there is no
-    /// count. Fails with `Wrong` for the first out of range, or other than that of the instant.
+    /// The instant of these parts, by the finest count of a Unix timestamp: the fraction of the
+    /// second counts with seconds. Each other count and the fraction have to be those of the
+    /// instant. Fails with `Missing` if there is no count. Fails with `Wrong` for the first out of
+    /// range, or other than that of the instant.
     ///
     /// ```
     /// # use muxandu::proved::*;
@@ -210,12 +213,33 @@ const fn instant_at(
     wrong: Field,
     nanoseconds: i128,
 ) -> Result<Timestamp, ValueRefusal> {
-    match Timestamp::from_nanoseconds(nanoseconds) {
+    match timestamp_of(nanoseconds) {
         Ok(at) => match wrong_instant(parts, at) {
             None => Ok(at),
             Some(field) => Err(ValueRefusal::Wrong(field)),
         },
         Err(_) => Err(ValueRefusal::Wrong(wrong)),
+    }
+}
+
+// The instant of so many nanoseconds.
+/// # Contract
+///
+/// ```text
+/// ensures { Gives result (instant_outcome (codes "nanoseconds") nanoseconds) }
+/// ```
+///
+/// [docs/proofs/STATEMENT.md](crate::proved#contracts) explains the words.
+#[inline]
+const fn timestamp_of(nanoseconds: i128) -> Result<Timestamp, ComponentRange> {
+    if nanoseconds < -31_619_087_596_800_000_000_000 || nanoseconds > 31_494_784_780_799_999_999_999
+    {
+        return Err(ComponentRange::of_part(Part::Nanoseconds, false));
+    }
+    let (second, nanosecond) = split_seconds(nanoseconds);
+    match Timestamp::new(second as i64, nanosecond) {
+        Ok(at) => Ok(at),
+        Err(_) => Err(ComponentRange::of_part(Part::Nanoseconds, false)),
     }
 }
 

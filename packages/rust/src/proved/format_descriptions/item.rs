@@ -4,19 +4,20 @@ use crate::proved::format_descriptions::Component;
 
 /// An item of a description. A description is a slice of items.
 ///
-/// `Optional`, `First` and `Or` are heads of groups: each counts the items after it that belong to its group. A count
-/// that goes past the end counts up to the end. The count of a group in a group goes up to the end of the outer one.
+/// `Optional`, `First` and `Or` are heads of groups: each counts the items after it that belong to
+/// its group. A count that goes past the end counts up to the end. The count of a group in a group
+/// goes up to the end of the outer one.
 #[derive(Clone, Copy, Debug, PartialEq, Eq)]
 pub enum Item {
     /// A byte that is written as it is.
     Byte(u8),
     /// A part of the value.
     Part(Component),
-    /// A group that a text need not have. It is always written. Where a text does not have all its items, none of them
-    /// is read.
+    /// A group that a text need not have. It is always written. Where a text does not have all its
+    /// items, none of them is read.
     Optional(usize),
-    /// A group, in place of which a text can have one of the `Or` groups directly after it. It is written, and those are
-    /// not. The first of all these groups that a text has is read.
+    /// A group, in place of which a text can have one of the `Or` groups directly after it. It is
+    /// written, and those are not. The first of all these groups that a text has is read.
     First(usize),
     /// Another group in place of the `First` before it.
     Or(usize),

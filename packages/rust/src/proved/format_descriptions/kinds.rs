@@ -6,8 +6,8 @@ use crate::proved::format_descriptions::{Component, FormatRefusal, Item};
 use crate::proved::calendar_values::{Date, Text, Time, UtcOffset};
 use crate::proved::plain_times::PlainDateTime;
 
-/// The text of a date as the items write it. Fails with `Lacks` for the first component that is none of a date, else
-/// with `NoText` if the text has more than 64 bytes, or one that is not ASCII.
+/// The text of a date as the items write it. Fails with `Lacks` for the first component that is
+/// none of a date, else with `NoText` if the text has more than 64 bytes, or one that is not ASCII.
 ///
 /// ```
 /// # use muxandu::proved::*;
@@ -30,6 +30,8 @@ use crate::proved::plain_times::PlainDateTime;
 ///     (items_text items.now date 0 (pos 0)) }
 /// ensures lacks { (c : Component) → lacking true false false items.now ≡ Some c →
 ///     result ≡ Err (Lacks c) }
+/// ensures no_text { lacking true false false items.now ≡ None →
+///     IfErr result (λ refusal. refusal ≡ NoText) }
 /// ```
 ///
 /// [docs/proofs/STATEMENT.md](crate::proved#contracts) explains the words.
@@ -41,8 +43,9 @@ pub fn format_date(items: &[Item], date: Date) -> Result<Text, FormatRefusal> {
     }
 }
 
-/// The text of a time of day as the items write it. Fails with `Lacks` for the first component that is none of a time of
-/// day, else with `NoText` if the text has more than 64 bytes, or one that is not ASCII.
+/// The text of a time of day as the items write it. Fails with `Lacks` for the first component that
+/// is none of a time of day, else with `NoText` if the text has more than 64 bytes, or one that is
+/// not ASCII.
 ///
 /// ```
 /// # use muxandu::proved::*;
@@ -63,6 +66,8 @@ pub fn format_date(items: &[Item], date: Date) -> Result<Text, FormatRefusal> {
 ///     (items_text items.now (pos 0) time (pos 0)) }
 /// ensures lacks { (c : Component) → lacking false true false items.now ≡ Some c →
 ///     result ≡ Err (Lacks c) }
+/// ensures no_text { lacking false true false items.now ≡ None →
+///     IfErr result (λ refusal. refusal ≡ NoText) }
 /// ```
 ///
 /// [docs/proofs/STATEMENT.md](crate::proved#contracts) explains the words.
@@ -74,8 +79,9 @@ pub fn format_time(items: &[Item], time: Time) -> Result<Text, FormatRefusal> {
     }
 }
 
-/// The text of an offset as the items write it. Fails with `Lacks` for the first component that is none of an offset,
-/// else with `NoText` if the text has more than 64 bytes, or one that is not ASCII.
+/// The text of an offset as the items write it. Fails with `Lacks` for the first component that is
+/// none of an offset, else with `NoText` if the text has more than 64 bytes, or one that is not
+/// ASCII.
 ///
 /// ```
 /// # use muxandu::proved::*;
@@ -96,6 +102,8 @@ pub fn format_time(items: &[Item], time: Time) -> Result<Text, FormatRefusal> {
 ///     (items_text items.now (pos 0) 0 offset) }
 /// ensures lacks { (c : Component) → lacking false false true items.now ≡ Some c →
 ///     result ≡ Err (Lacks c) }
+/// ensures no_text { lacking false false true items.now ≡ None →
+///     IfErr result (λ refusal. refusal ≡ NoText) }
 /// ```
 ///
 /// [docs/proofs/STATEMENT.md](crate::proved#contracts) explains the words.
@@ -109,8 +117,9 @@ pub fn format_offset(items: &[Item], offset: UtcOffset) -> Result<Text, FormatRe
     }
 }
 
-/// The text of a wall clock as the items write it. Fails with `Lacks` for the first component that is of an offset, else
-/// with `NoText` if the text has more than 64 bytes, or one that is not ASCII.
+/// The text of a wall clock as the items write it. Fails with `Lacks` for the first component that
+/// is of an offset, else with `NoText` if the text has more than 64 bytes, or one that is not
+/// ASCII.
 ///
 /// ```
 /// # use muxandu::proved::*;
@@ -131,6 +140,8 @@ pub fn format_offset(items: &[Item], offset: UtcOffset) -> Result<Text, FormatRe
 ///     (items_text items.now (wall_day at) (wall_time at) (pos 0)) }
 /// ensures lacks { (c : Component) → lacking true true false items.now ≡ Some c →
 ///     result ≡ Err (Lacks c) }
+/// ensures no_text { lacking true true false items.now ≡ None →
+///     IfErr result (λ refusal. refusal ≡ NoText) }
 /// ```
 ///
 /// [docs/proofs/STATEMENT.md](crate::proved#contracts) explains the words.
@@ -218,17 +229,23 @@ const fn by_kind(component: Component, date: bool, time: bool, offset: bool) -> 
         | Component::Ordinal(_)
         | Component::WeekdayName(_, _)
         | Component::WeekdayNumber(_, _)
-        | Component::WeekNumber(_, _) => date,
+        | Component::WeekNumber(_, _)
+        | Component::IgnoreWeekday(_, _)
+        | Component::YearSince(_)
+        | Component::YearSix(_) => date,
         Component::Hour(_)
         | Component::Hour12(_)
         | Component::Period(_, _)
         | Component::Minute(_)
         | Component::Second(_)
-        | Component::Subsecond(_) => time,
-        Component::OffsetHour(_, _) | Component::OffsetMinute(_) | Component::OffsetSecond(_) => {
-            offset
-        }
+        | Component::Subsecond(_)
+        | Component::HourFraction(_)
+        | Component::MinuteFraction(_) => time,
+        Component::OffsetHour(_, _)
+        | Component::OffsetMinute(_)
+        | Component::OffsetSecond(_)
+        | Component::OffsetWord(_, _) => offset,
         Component::UnixTimestamp(_, _) => date & (time & offset),
-        Component::Ignore(_) | Component::End => true,
+        Component::Ignore(_) | Component::End | Component::IgnoreDigits => true,
     }
 }

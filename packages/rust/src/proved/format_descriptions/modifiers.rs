@@ -221,6 +221,38 @@ impl UnixPrecision {
     }
 }
 
+/// A word for UTC.
+#[derive(Clone, Copy, Debug, PartialEq, Eq)]
+pub enum UtcWord {
+    /// `UTC`.
+    Utc,
+    /// `GMT`.
+    Gmt,
+    /// `Z`.
+    Zulu,
+}
+
+impl UtcWord {
+    // The letters of the word.
+    /// # Contract
+    ///
+    /// ```text
+    /// ensures text { result.now ≡ utc_word self }
+    /// ensures ascii { IsAscii result.now }
+    /// ensures length { length result.now ≤ 3 }
+    /// ```
+    ///
+    /// [docs/proofs/STATEMENT.md](crate::proved#contracts) explains the words.
+    #[inline]
+    pub(crate) const fn letters(self) -> &'static [u8] {
+        match self {
+            UtcWord::Utc => b"UTC",
+            UtcWord::Gmt => b"GMT",
+            UtcWord::Zulu => b"Z",
+        }
+    }
+}
+
 /// How many digits of a fraction are written.
 #[derive(Clone, Copy, Debug, PartialEq, Eq)]
 pub enum SubsecondDigits {

@@ -7,38 +7,38 @@ use crate::proved::calendar_values::{Month, Text, Weekday};
 /// # Contract
 ///
 /// ```text
-/// ensures text { result ≡ shortened form (name_of_month (month_number month)) }
+/// ensures text { result ≡ name_in_form form (name_of_month (month_number month)) }
 /// ```
 ///
 /// [docs/proofs/STATEMENT.md](crate::proved#contracts) explains the words.
 #[inline]
 pub(crate) fn month_name(form: NameForm, month: Month) -> Text {
-    shortened(form, month.text())
+    name_in_form(form, month.text())
 }
 
 // The name of a day of the week.
 /// # Contract
 ///
 /// ```text
-/// ensures text { result ≡ shortened form (name_of_weekday (weekday_number weekday)) }
+/// ensures text { result ≡ name_in_form form (name_of_weekday (weekday_number weekday)) }
 /// ```
 ///
 /// [docs/proofs/STATEMENT.md](crate::proved#contracts) explains the words.
 #[inline]
 pub(crate) fn weekday_name(form: NameForm, weekday: Weekday) -> Text {
-    shortened(form, weekday.text())
+    name_in_form(form, weekday.text())
 }
 
 // A name, or its first three letters.
 /// # Contract
 ///
 /// ```text
-/// ensures text { result ≡ shortened form name }
+/// ensures text { result ≡ name_in_form form name }
 /// ```
 ///
 /// [docs/proofs/STATEMENT.md](crate::proved#contracts) explains the words.
 #[inline]
-fn shortened(form: NameForm, name: Text) -> Text {
+fn name_in_form(form: NameForm, name: Text) -> Text {
     match form {
         NameForm::Long => name,
         NameForm::Short => {

@@ -128,6 +128,23 @@ fn year_digits(year: u32) -> Text {
     text
 }
 
+// The last six digits of a number.
+/// # Contract
+///
+/// ```text
+/// ensures text { result ≡ last_digits 6 number }
+/// ensures length { length result ≡ 6 }
+/// ```
+///
+/// [docs/proofs/STATEMENT.md](crate::proved#contracts) explains the words.
+#[inline]
+pub(crate) fn six_digits(number: u32) -> Text {
+    let mut text = Text::new();
+    text.push_four_digits(number / 100);
+    text.push_two_digits((number % 100) as u8);
+    text
+}
+
 // A number without padding.
 /// # Contract
 ///

@@ -6,9 +6,9 @@ use crate::proved::format_descriptions::{Field, Parts, ValueRefusal};
 use crate::proved::calendar_values::UtcOffset;
 
 impl Parts {
-    /// The offset of these parts: its hours with their sign, which holds for `-00:30` too. Minutes or seconds that the
-    /// text does not give are 0. Fails with `Missing` without the hours, and with `Wrong` for the first part out
-    /// of range.
+    /// The offset of these parts: its hours with their sign, which holds for `-00:30` too. Minutes
+    /// or seconds that the text does not give are 0. Fails with `Missing` without the hours, and
+    /// with `Wrong` for the first part out of range.
     ///
     /// ```
     /// # use muxandu::proved::*;

@@ -1,9 +1,9 @@
 // Made by make/erase of crates/format_descriptions/src/parts.rt. Do not edit.
-//! What a text says.
+//! The parts that a text names.
 use crate::proved::format_descriptions::{Component, UnixPrecision, WeekRule, YearBase};
 
-/// The parts of a value that a text gives: each is None where no component of the description gives it. A part need
-/// not be in its range, and the parts need not be those of one value.
+/// The parts of a value that a text gives: each is None where no component of the description gives
+/// it. A part need not be in its range, and the parts need not be those of one value.
 #[derive(Clone, Copy)]
 pub struct Parts {
     /// The year.
@@ -67,7 +67,17 @@ pub struct Parts {
 }
 
 impl Parts {
-    // No part is known.
+    /// The parts of a text that gives none.
+    ///
+    /// ```
+    /// # use muxandu::proved::*;
+    /// # fn main() -> Result<(), Box<dyn std::error::Error>> {
+    /// use format_descriptions::Parts;
+    /// assert_eq!(Parts::none().day, None);
+    /// # Ok(())
+    /// # }
+    /// ```
+    ///
     /// # Contract
     ///
     /// ```text
@@ -76,7 +86,7 @@ impl Parts {
     ///
     /// [docs/proofs/STATEMENT.md](crate::proved#contracts) explains the words.
     #[inline]
-    pub(crate) const fn none() -> Parts {
+    pub const fn none() -> Parts {
         Parts {
             year: None,
             year_century: None,
@@ -115,13 +125,13 @@ impl Parts {
     ///
     /// ```text
     /// requires number { given.1 ≤ 1_000_000_000 }
-    /// requires small { is_timestamp component ≡ false }
-    /// ensures { result ≡ agrees component given self }
+    /// requires small { has_large_number component ≡ false }
+    /// ensures { result ≡ agrees component given self.now }
     /// ```
     ///
     /// [docs/proofs/STATEMENT.md](crate::proved#contracts) explains the words.
     #[inline]
-    pub(crate) const fn agrees(self, component: Component, given: (bool, u32)) -> bool {
+    pub(crate) const fn agrees(&self, component: Component, given: (bool, u32)) -> bool {
         let (sign, number) = given;
         match component {
             Component::Year(YearBase::Calendar, _, _, _) => {
@@ -158,111 +168,93 @@ impl Parts {
             }
             Component::OffsetMinute(_) => fits(self.offset_minute, number),
             Component::OffsetSecond(_) => fits(self.offset_second, number),
-            Component::UnixTimestamp(_, _) | Component::Ignore(_) | Component::End => true,
+            Component::OffsetWord(_, _) => {
+                fits_choice(self.is_west, sign)
+                    & fits(self.offset_hour, number / 3_600)
+                    & fits(self.offset_minute, number / 60 % 60)
+                    & fits(self.offset_second, number % 60)
+            }
+            Component::YearSince(_) | Component::YearSix(YearBase::Calendar) => {
+                fits_signed(self.year, signed(sign, number))
+            }
+            Component::YearSix(YearBase::IsoWeek) => {
+                fits_signed(self.iso_year, signed(sign, number))
+            }
+            Component::UnixTimestamp(_, _)
+            | Component::HourFraction(_)
+            | Component::MinuteFraction(_)
+            | Component::Ignore(_)
+            | Component::End
+            | Component::IgnoreWeekday(_, _)
+            | Component::IgnoreDigits => true,
         }
     }
 
-    // The parts with what a component gives.
+    // Sets what a component gives.
     /// # Contract
     ///
     /// ```text
     /// requires number { given.1 ≤ 1_000_000_000 }
-    /// requires small { is_timestamp component ≡ false }
-    /// ensures { result ≡ with_part component given self }
+    /// requires small { has_large_number component ≡ false }
+    /// ensures { self.new ≡ with_part component given self.old }
     /// ```
     ///
     /// [docs/proofs/STATEMENT.md](crate::proved#contracts) explains the words.
     #[inline]
-    pub(crate) const fn with(self, component: Component, given: (bool, u32)) -> Parts {
+    pub(crate) const fn set(&mut self, component: Component, given: (bool, u32)) {
         let (sign, number) = given;
         let part = Some(number);
         match component {
-            Component::Year(YearBase::Calendar, _, _, _) => Parts {
-                year: Some(signed(sign, number)),
-                ..self
-            },
-            Component::Year(YearBase::IsoWeek, _, _, _) => Parts {
-                iso_year: Some(signed(sign, number)),
-                ..self
-            },
-            Component::YearCentury(YearBase::Calendar, _, _, _) => Parts {
-                is_before_zero: Some(sign),
-                year_century: part,
-                ..self
-            },
-            Component::YearCentury(YearBase::IsoWeek, _, _, _) => Parts {
-                is_iso_before_zero: Some(sign),
-                iso_year_century: part,
-                ..self
-            },
-            Component::YearLastTwo(YearBase::Calendar, _) => Parts {
-                year_last_two: part,
-                ..self
-            },
-            Component::YearLastTwo(YearBase::IsoWeek, _) => Parts {
-                iso_year_last_two: part,
-                ..self
-            },
-            Component::Month(_) | Component::MonthName(_, _) => Parts {
-                month: part,
-                ..self
-            },
-            Component::Day(_) => Parts { day: part, ..self },
-            Component::Ordinal(_) => Parts {
-                ordinal: part,
-                ..self
-            },
-            Component::WeekdayName(_, _) | Component::WeekdayNumber(_, _) => Parts {
-                weekday: part,
-                ..self
-            },
-            Component::WeekNumber(WeekRule::Iso, _) => Parts {
-                iso_week: part,
-                ..self
-            },
-            Component::WeekNumber(WeekRule::Sunday, _) => Parts {
-                sunday_week: part,
-                ..self
-            },
-            Component::WeekNumber(WeekRule::Monday, _) => Parts {
-                monday_week: part,
-                ..self
-            },
-            Component::Hour(_) => Parts { hour: part, ..self },
-            Component::Hour12(_) => Parts {
-                hour_12: part,
-                ..self
-            },
-            Component::Period(_, _) => Parts {
-                is_afternoon: Some(sign),
-                ..self
-            },
-            Component::Minute(_) => Parts {
-                minute: part,
-                ..self
-            },
-            Component::Second(_) => Parts {
-                second: part,
-                ..self
-            },
-            Component::Subsecond(_) => Parts {
-                nanosecond: part,
-                ..self
-            },
-            Component::OffsetHour(_, _) => Parts {
-                is_west: Some(sign),
-                offset_hour: part,
-                ..self
-            },
-            Component::OffsetMinute(_) => Parts {
-                offset_minute: part,
-                ..self
-            },
-            Component::OffsetSecond(_) => Parts {
-                offset_second: part,
-                ..self
-            },
-            Component::UnixTimestamp(_, _) | Component::Ignore(_) | Component::End => self,
+            Component::Year(YearBase::Calendar, _, _, _) => self.year = Some(signed(sign, number)),
+            Component::Year(YearBase::IsoWeek, _, _, _) => {
+                self.iso_year = Some(signed(sign, number))
+            }
+            Component::YearCentury(YearBase::Calendar, _, _, _) => {
+                self.is_before_zero = Some(sign);
+                self.year_century = part;
+            }
+            Component::YearCentury(YearBase::IsoWeek, _, _, _) => {
+                self.is_iso_before_zero = Some(sign);
+                self.iso_year_century = part;
+            }
+            Component::YearLastTwo(YearBase::Calendar, _) => self.year_last_two = part,
+            Component::YearLastTwo(YearBase::IsoWeek, _) => self.iso_year_last_two = part,
+            Component::Month(_) | Component::MonthName(_, _) => self.month = part,
+            Component::Day(_) => self.day = part,
+            Component::Ordinal(_) => self.ordinal = part,
+            Component::WeekdayName(_, _) | Component::WeekdayNumber(_, _) => self.weekday = part,
+            Component::WeekNumber(WeekRule::Iso, _) => self.iso_week = part,
+            Component::WeekNumber(WeekRule::Sunday, _) => self.sunday_week = part,
+            Component::WeekNumber(WeekRule::Monday, _) => self.monday_week = part,
+            Component::Hour(_) => self.hour = part,
+            Component::Hour12(_) => self.hour_12 = part,
+            Component::Period(_, _) => self.is_afternoon = Some(sign),
+            Component::Minute(_) => self.minute = part,
+            Component::Second(_) => self.second = part,
+            Component::Subsecond(_) => self.nanosecond = part,
+            Component::OffsetHour(_, _) => {
+                self.is_west = Some(sign);
+                self.offset_hour = part;
+            }
+            Component::OffsetMinute(_) => self.offset_minute = part,
+            Component::OffsetSecond(_) => self.offset_second = part,
+            Component::OffsetWord(_, _) => {
+                self.is_west = Some(sign);
+                self.offset_hour = Some(number / 3_600);
+                self.offset_minute = Some(number / 60 % 60);
+                self.offset_second = Some(number % 60);
+            }
+            Component::YearSince(_) | Component::YearSix(YearBase::Calendar) => {
+                self.year = Some(signed(sign, number))
+            }
+            Component::YearSix(YearBase::IsoWeek) => self.iso_year = Some(signed(sign, number)),
+            Component::UnixTimestamp(_, _)
+            | Component::HourFraction(_)
+            | Component::MinuteFraction(_)
+            | Component::Ignore(_)
+            | Component::End
+            | Component::IgnoreWeekday(_, _)
+            | Component::IgnoreDigits => (),
         }
     }
 
@@ -272,12 +264,12 @@ impl Parts {
     /// ```text
     /// requires { given.1 < 10 ^ 23 }
     /// ensures { (sign : Sign) → result
-    ///     ≡ agrees (UnixTimestamp precision sign) given self }
+    ///     ≡ agrees (UnixTimestamp precision sign) given self.now }
     /// ```
     ///
     /// [docs/proofs/STATEMENT.md](crate::proved#contracts) explains the words.
     #[inline]
-    pub(crate) const fn agrees_unix(self, precision: UnixPrecision, given: (bool, u128)) -> bool {
+    pub(crate) const fn agrees_unix(&self, precision: UnixPrecision, given: (bool, u128)) -> bool {
         let count = signed_count(given.0, given.1);
         match precision {
             UnixPrecision::Seconds => fits_count(self.unix_second, count),
@@ -287,36 +279,24 @@ impl Parts {
         }
     }
 
-    // The parts with a Unix timestamp.
+    // Sets a Unix timestamp.
     /// # Contract
     ///
     /// ```text
     /// requires { given.1 < 10 ^ 23 }
-    /// ensures { (sign : Sign) → result
-    ///     ≡ with_part (UnixTimestamp precision sign) given self }
+    /// ensures { (sign : Sign) → self.new
+    ///     ≡ with_part (UnixTimestamp precision sign) given self.old }
     /// ```
     ///
     /// [docs/proofs/STATEMENT.md](crate::proved#contracts) explains the words.
     #[inline]
-    pub(crate) const fn with_unix(self, precision: UnixPrecision, given: (bool, u128)) -> Parts {
+    pub(crate) const fn set_unix(&mut self, precision: UnixPrecision, given: (bool, u128)) {
         let count = Some(signed_count(given.0, given.1));
         match precision {
-            UnixPrecision::Seconds => Parts {
-                unix_second: count,
-                ..self
-            },
-            UnixPrecision::Milliseconds => Parts {
-                unix_millisecond: count,
-                ..self
-            },
-            UnixPrecision::Microseconds => Parts {
-                unix_microsecond: count,
-                ..self
-            },
-            UnixPrecision::Nanoseconds => Parts {
-                unix_nanosecond: count,
-                ..self
-            },
+            UnixPrecision::Seconds => self.unix_second = count,
+            UnixPrecision::Milliseconds => self.unix_millisecond = count,
+            UnixPrecision::Microseconds => self.unix_microsecond = count,
+            UnixPrecision::Nanoseconds => self.unix_nanosecond = count,
         }
     }
 }

@@ -1,19 +1,21 @@
 // Made by make/erase of crates/format_descriptions/src/pieces.rt. Do not edit.
 //! The text of each component.
+use crate::proved::format_descriptions::clock_fractions::{hour_fraction, minute_fraction};
 use crate::proved::format_descriptions::names::{month_name, period_text, weekday_name};
 use crate::proved::format_descriptions::numbers::{
-    century_digits, decimal, four_text, subsecond_text, three_text, two_text,
+    century_digits, decimal, four_text, six_digits, subsecond_text, three_text, two_text,
 };
 use crate::proved::format_descriptions::unix::{unix_count, unix_text};
 use crate::proved::format_descriptions::{
-    Component, Padding, Sign, WeekRule, WeekStart, WeekdayCount, YearBase,
+    Component, Padding, Sign, UtcWord, WeekRule, WeekStart, WeekdayCount, YearBase,
 };
 use crate::proved::calendar_values::{Date, Text, Time, UtcOffset};
 
-// The text of a component of a date, a time of day and an offset.
+// The text of a component of a date, a time of day and an offset, if each value has one.
 /// # Contract
 ///
 /// ```text
+/// requires { is_partial component ≡ false }
 /// ensures text { result ≡ component_text component date time offset }
 /// ```
 ///
@@ -55,8 +57,98 @@ pub(crate) fn component_text(
         Component::UnixTimestamp(precision, sign) => {
             unix_text(sign, unix_count(precision, date, time, offset))
         }
-        Component::Ignore(_) | Component::End => Text::new(),
+        Component::IgnoreWeekday(form, _) => weekday_name(form, date.weekday()),
+        Component::YearSix(base) => six_text(year_by(base, date)),
+        Component::HourFraction(digits) => subsecond_text(digits, hour_fraction(time)),
+        Component::MinuteFraction(digits) => subsecond_text(digits, minute_fraction(time)),
+        Component::Ignore(_)
+        | Component::End
+        | Component::IgnoreDigits
+        | Component::OffsetWord(_, _)
+        | Component::YearSince(_) => Text::new(),
     }
+}
+
+// A word for UTC. None of another offset.
+/// # Contract
+///
+/// ```text
+/// ensures text { let text = offset_word_text word offset in
+///     SomeIff result (IsAscii text) text }
+/// ```
+///
+/// [docs/proofs/STATEMENT.md](crate::proved#contracts) explains the words.
+#[inline]
+pub(crate) fn offset_word_text(word: UtcWord, offset: UtcOffset) -> Option<Text> {
+    if !is_zero(offset) {
+        return None;
+    }
+    let mut text = Text::new();
+    text.push_bytes(word.letters());
+    Some(seen(text))
+}
+
+// Whether the offset is 0.
+/// # Contract
+///
+/// ```text
+/// ensures { result ≡ (unsigned_abs offset == 0) }
+/// ```
+///
+/// [docs/proofs/STATEMENT.md](crate::proved#contracts) explains the words.
+#[inline]
+const fn is_zero(offset: UtcOffset) -> bool {
+    offset.whole_seconds().unsigned_abs() == 0
+}
+
+// The last two digits of a year of the hundred years from this one on. None of another year.
+/// # Contract
+///
+/// ```text
+/// ensures text { let text = year_since_text first (year_by Calendar date) in
+///     SomeIff result (IsAscii text) text }
+/// ```
+///
+/// [docs/proofs/STATEMENT.md](crate::proved#contracts) explains the words.
+#[inline]
+pub(crate) fn year_since_text(first: u16, date: Date) -> Option<Text> {
+    let year = date.year();
+    if !is_year_since(first, year) {
+        return None;
+    }
+    Some(seen(two_text(
+        Padding::Zero,
+        (year.unsigned_abs() % 100) as u8,
+    )))
+}
+
+// Whether the year is one of the hundred years from this one on.
+/// # Contract
+///
+/// ```text
+/// ensures { result ≡ is_year_since first year }
+/// ```
+///
+/// [docs/proofs/STATEMENT.md](crate::proved#contracts) explains the words.
+#[inline]
+const fn is_year_since(first: u16, year: i32) -> bool {
+    let first = first as i32;
+    (year >= first) & (year < first + 100)
+}
+
+// The same text, of which a caller then knows that it is ASCII.
+/// # Contract
+///
+/// ```text
+/// ensures text { result ≡ text }
+/// ensures ascii { IsAscii text }
+/// ```
+///
+/// [docs/proofs/STATEMENT.md](crate::proved#contracts) explains the words.
+#[inline]
+pub(crate) fn seen(text: Text) -> Text {
+    let _bytes = text.as_bytes();
+    text
 }
 
 // The year of the calendar, or that of the ISO week.
@@ -109,6 +201,23 @@ const fn year_sign(sign: Sign, year: i32) -> Text {
 fn year_text(sign: Sign, padding: Padding, year: i32) -> Text {
     let digits = four_text(padding, year.unsigned_abs());
     let mut text = year_sign(sign, year);
+    text.push_bytes(digits.as_bytes());
+    text
+}
+
+// The sign of the year, and its six digits.
+/// # Contract
+///
+/// ```text
+/// requires year { IsYear year }
+/// ensures text { result ≡ six_text year }
+/// ```
+///
+/// [docs/proofs/STATEMENT.md](crate::proved#contracts) explains the words.
+#[inline]
+fn six_text(year: i32) -> Text {
+    let digits = six_digits(year.unsigned_abs());
+    let mut text = year_sign(Sign::Mandatory, year);
     text.push_bytes(digits.as_bytes());
     text
 }

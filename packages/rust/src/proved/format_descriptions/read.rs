@@ -1,13 +1,15 @@
 // Made by make/erase of crates/format_descriptions/src/read.rt. Do not edit.
 //! Texts read by descriptions.
+use crate::proved::format_descriptions::clock_fractions::{hour_fraction_at, minute_fraction_at};
 use crate::proved::format_descriptions::fields::component_at;
 use crate::proved::format_descriptions::item::{behind, fault_after, is_other, size_of};
 use crate::proved::format_descriptions::reading::after_mark;
 use crate::proved::format_descriptions::unix::unix_at;
 use crate::proved::format_descriptions::{Component, Item, Parts, Sign, UnixPrecision};
 
-/// The parts of a text that is written as the items say, to its end. Else the place, counted from 0, where the item
-/// begins that cannot be read or contradicts a part before it, or where more follows the last item.
+/// The parts of a text that is written as the items say, to its end. Else the place, counted from
+/// 0, where the item begins that cannot be read or contradicts a part before it, or where more
+/// follows the last item.
 ///
 /// ```
 /// # use muxandu::proved::*;
@@ -45,8 +47,9 @@ pub fn parse(items: &[Item], text: &[u8]) -> Result<Parts, usize> {
     }
 }
 
-/// The parts at the front of a text that is written as the items say, and how many bytes they take. Else the place,
-/// counted from 0, where the item begins that cannot be read or contradicts a part before it.
+/// The parts at the front of a text that is written as the items say, and how many bytes they take.
+/// Else the place, counted from 0, where the item begins that cannot be read or contradicts a part
+/// before it.
 ///
 /// ```
 /// # use muxandu::proved::*;
@@ -184,11 +187,24 @@ fn item_at(item: Item, text: &[u8], parts: Parts) -> Option<(Parts, &[u8])> {
             Some((parts, rest))
         }
         Item::Optional(_) | Item::First(_) | Item::Or(_) => Some((parts, text)),
-        Item::Part(component) => part_at(component, text, parts),
+        Item::Part(component) => parse_component(component, text, parts),
     }
 }
 
-// A component, with the parts so far, and what follows it.
+/// The parts with what a component reads at the front of a text, and the bytes after it. None where
+/// the text does not begin so, or contradicts one of the parts.
+///
+/// ```
+/// # use muxandu::proved::*;
+/// # fn main() -> Result<(), Box<dyn std::error::Error>> {
+/// use format_descriptions::{Component, Padding, Parts, parse_component};
+/// let day = Component::Day(Padding::Zero);
+/// let read = parse_component(day, b"05!", Parts::none());
+/// assert_eq!(read.map(|(parts, rest)| (parts.day, rest.len())), Some((Some(5), 1)));
+/// # Ok(())
+/// # }
+/// ```
+///
 /// # Contract
 ///
 /// ```text
@@ -199,39 +215,82 @@ fn item_at(item: Item, text: &[u8], parts: Parts) -> Option<(Parts, &[u8])> {
 ///
 /// [docs/proofs/STATEMENT.md](crate::proved#contracts) explains the words.
 #[inline]
-fn part_at(component: Component, text: &[u8], parts: Parts) -> Option<(Parts, &[u8])> {
+pub fn parse_component(component: Component, text: &[u8], parts: Parts) -> Option<(Parts, &[u8])> {
+    let mut parts = parts;
+    match parse_component_into(component, text, &mut parts) {
+        Some(rest) => Some((parts, rest)),
+        None => None,
+    }
+}
+
+/// Reads a component at the front of a text into the parts, and returns the bytes after it. None
+/// where the text does not begin so, or contradicts one of the parts: then no part changes.
+///
+/// ```
+/// # use muxandu::proved::*;
+/// # fn main() -> Result<(), Box<dyn std::error::Error>> {
+/// use format_descriptions::{Component, Padding, Parts, parse_component_into};
+/// let day = Component::Day(Padding::Zero);
+/// let mut parts = Parts::none();
+/// let rest = parse_component_into(day, b"05!", &mut parts);
+/// assert_eq!((parts.day, rest.map(|rest| rest.len())), (Some(5), Some(1)));
+/// # Ok(())
+/// # }
+/// ```
+///
+/// # Contract
+///
+/// ```text
+/// ensures value { option_map (λ rest. (parts.new, rest.now)) result
+///     ≡ part_at component text.now parts.old }
+/// ensures unchanged { IfNone result (parts.new ≡ parts.old) }
+/// ensures shorter { IfSome result (λ rest. length rest.now ≤ length text.now) }
+/// ```
+///
+/// [docs/proofs/STATEMENT.md](crate::proved#contracts) explains the words.
+#[inline]
+pub fn parse_component_into<'a>(
+    component: Component,
+    text: &'a [u8],
+    parts: &mut Parts,
+) -> Option<&'a [u8]> {
     match component {
         Component::UnixTimestamp(precision, sign) => unix_part_at(precision, sign, text, parts),
+        Component::HourFraction(digits) => hour_fraction_at(digits, text, parts),
+        Component::MinuteFraction(digits) => minute_fraction_at(digits, text, parts),
         _ => {
             let (number, rest) = component_at(component, text)?;
             if !parts.agrees(component, number) {
                 return None;
             }
-            Some((parts.with(component, number), rest))
+            parts.set(component, number);
+            Some(rest)
         }
     }
 }
 
-// A Unix timestamp, with the parts so far, and what follows it.
+// The same of a Unix timestamp.
 /// # Contract
 ///
 /// ```text
-/// ensures value { option_map (λ read. (read.0, read.1.now)) result
-///     ≡ part_at (UnixTimestamp precision sign) text.now parts }
-/// ensures shorter { IfSome result (λ read. length read.1.now ≤ length text.now) }
+/// ensures value { option_map (λ rest. (parts.new, rest.now)) result
+///     ≡ part_at (UnixTimestamp precision sign) text.now parts.old }
+/// ensures unchanged { IfNone result (parts.new ≡ parts.old) }
+/// ensures shorter { IfSome result (λ rest. length rest.now ≤ length text.now) }
 /// ```
 ///
 /// [docs/proofs/STATEMENT.md](crate::proved#contracts) explains the words.
 #[inline]
-fn unix_part_at(
+fn unix_part_at<'a>(
     precision: UnixPrecision,
     sign: Sign,
-    text: &[u8],
-    parts: Parts,
-) -> Option<(Parts, &[u8])> {
+    text: &'a [u8],
+    parts: &mut Parts,
+) -> Option<&'a [u8]> {
     let (given, rest) = unix_at(sign, precision.digits(), text)?;
     if !parts.agrees_unix(precision, given) {
         return None;
     }
-    Some((parts.with_unix(precision, given), rest))
+    parts.set_unix(precision, given);
+    Some(rest)
 }

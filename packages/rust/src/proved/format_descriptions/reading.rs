@@ -163,7 +163,7 @@ fn three_digits(text: &[u8]) -> Option<(u32, &[u8])> {
 ///
 /// [docs/proofs/STATEMENT.md](crate::proved#contracts) explains the words.
 #[inline]
-fn two_digits(text: &[u8]) -> Option<(u32, &[u8])> {
+pub(crate) fn two_digits(text: &[u8]) -> Option<(u32, &[u8])> {
     let (tens, text) = digit(text)?;
     let (units, text) = digit(text)?;
     Some((tens * 10 + units, text))

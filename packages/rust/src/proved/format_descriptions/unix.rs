@@ -54,11 +54,100 @@ const fn nanoseconds(date: Date, time: Time, offset: UtcOffset) -> i128 {
 #[inline]
 const fn unix_rounded(precision: UnixPrecision, instant: i128) -> i128 {
     match precision {
-        UnixPrecision::Seconds => instant.div_euclid(1_000_000_000),
-        UnixPrecision::Milliseconds => instant.div_euclid(1_000_000),
-        UnixPrecision::Microseconds => instant.div_euclid(1_000),
+        UnixPrecision::Seconds => split_seconds(instant).0,
+        UnixPrecision::Milliseconds => milliseconds(instant),
+        UnixPrecision::Microseconds => microseconds(instant),
         UnixPrecision::Nanoseconds => instant,
     }
+}
+
+// The whole milliseconds of a number of nanoseconds, rounded down.
+/// # Contract
+///
+/// ```text
+/// requires { unsigned_abs nanoseconds < 10 ^ 23 }
+/// ensures value { result ≡ unix_milliseconds_of nanoseconds }
+/// ensures below { unsigned_abs result < 10 ^ 23 }
+/// ```
+///
+/// [docs/proofs/STATEMENT.md](crate::proved#contracts) explains the words.
+#[inline]
+const fn milliseconds(nanoseconds: i128) -> i128 {
+    let (second, nanosecond) = split_seconds(nanoseconds);
+    second * 1_000 + (nanosecond / 1_000_000) as i128
+}
+
+// The whole microseconds of a number of nanoseconds, rounded down.
+/// # Contract
+///
+/// ```text
+/// requires { unsigned_abs nanoseconds < 10 ^ 23 }
+/// ensures value { result ≡ unix_microseconds_of nanoseconds }
+/// ensures below { unsigned_abs result < 10 ^ 23 }
+/// ```
+///
+/// [docs/proofs/STATEMENT.md](crate::proved#contracts) explains the words.
+#[inline]
+const fn microseconds(nanoseconds: i128) -> i128 {
+    let (second, nanosecond) = split_seconds(nanoseconds);
+    second * 1_000_000 + (nanosecond / 1_000) as i128
+}
+
+// The seconds of a number of nanoseconds, rounded down, and the nanoseconds past them.
+/// # Contract
+///
+/// ```text
+/// requires { unsigned_abs nanoseconds < 10 ^ 23 }
+/// ensures second { result.0 ≡ unix_seconds_of nanoseconds }
+/// ensures nanosecond { result.1 ≡ unix_nanosecond_of nanoseconds }
+/// ensures near { unsigned_abs result.0 ≤ 100_000_000_000_000 }
+/// ensures below { result.1 < nanos_per_second }
+/// ```
+///
+/// [docs/proofs/STATEMENT.md](crate::proved#contracts) explains the words.
+#[inline]
+pub(crate) const fn split_seconds(nanoseconds: i128) -> (i128, u32) {
+    let (second, nanosecond) =
+        by_a_billion((nanoseconds + 100_000_000_000_000_000_000_000) as u128);
+    (second as i128 - 100_000_000_000_000, nanosecond)
+}
+
+// A number by 1,000,000,000, and what is left, by divisions of 64 bits: for one of 128 bits a program calls a library.
+/// # Contract
+///
+/// ```text
+/// requires { number < 2 * 10 ^ 23 }
+/// ensures quotient { result.0 ≡ number / 1_000_000_000 }
+/// ensures rest { result.1 ≡ number % 1_000_000_000 }
+/// ```
+///
+/// [docs/proofs/STATEMENT.md](crate::proved#contracts) explains the words.
+#[inline]
+const fn by_a_billion(number: u128) -> (u64, u32) {
+    let high = (number / 18_446_744_073_709_551_616) as u64;
+    let low = (number % 18_446_744_073_709_551_616) as u64;
+    let left = high * 709_551_616 + low % 1_000_000_000;
+    let quotient = high * 18_446_744_073 + low / 1_000_000_000 + left / 1_000_000_000;
+    (quotient, (left % 1_000_000_000) as u32)
+}
+
+// A number by 10,000, and what is left.
+/// # Contract
+///
+/// ```text
+/// requires { number < 10 ^ 23 }
+/// ensures quotient { result.0 ≡ number / 10_000 }
+/// ensures rest { result.1 ≡ number % 10_000 }
+/// ```
+///
+/// [docs/proofs/STATEMENT.md](crate::proved#contracts) explains the words.
+#[inline]
+const fn by_ten_thousand(number: u128) -> (u64, u32) {
+    let high = (number / 18_446_744_073_709_551_616) as u64;
+    let low = (number % 18_446_744_073_709_551_616) as u64;
+    let left = high * 1_616 + low % 10_000;
+    let quotient = high * 1_844_674_407_370_955 + low / 10_000 + left / 10_000;
+    (quotient, (left % 10_000) as u32)
 }
 
 // The sign and the digits of a Unix timestamp.
@@ -97,8 +186,9 @@ fn push_long_decimal(text: &mut Text, number: u128) {
     if number < 10_000_000_000_000_000_000 {
         text.push_decimal(number as u64);
     } else {
-        text.push_decimal((number / 10_000) as u64);
-        text.push_four_digits((number % 10_000) as u32);
+        let (first, last) = by_ten_thousand(number);
+        text.push_decimal(first);
+        text.push_four_digits(last);
     }
 }
 

@@ -63,6 +63,7 @@ pub enum Field {
 pub enum ValueRefusal {
     /// The text does not give this part, and without it there is no one value.
     Missing(Field),
-    /// This part is out of its range, or it is not that of the value which the parts before it name.
+    /// This part is out of its range, or it is not that of the value which the parts before it
+    /// name.
     Wrong(Field),
 }

@@ -6,10 +6,11 @@ use crate::proved::format_descriptions::{Field, Parts, ValueRefusal};
 use crate::proved::calendar_values::{Date, Month, Weekday};
 
 impl Parts {
-    /// The date of these parts: its year, with its month and day, its day of the year, or its week by Sundays or Mondays
-    /// and its day of the week; or its ISO year, its ISO week and its day of the week. Each other part of a date that the
-    /// text gives has to be that of the date. Fails with `Missing` if there are too few parts. Fails with `Wrong` for
-    /// the first part out of range, or other than that of the date.
+    /// The date of these parts: its year, with its month and day, its day of the year, or its week
+    /// by Sundays or Mondays and its day of the week; or its ISO year, its ISO week and its day of
+    /// the week. Each other part of a date that the text gives has to be that of the date. Fails
+    /// with `Missing` if there are too few parts. Fails with `Wrong` for the first part out of
+    /// range, or other than that of the date.
     ///
     /// ```
     /// # use muxandu::proved::*;
@@ -319,7 +320,7 @@ fn iso_day(parts: Parts, year: i32, week: u32, weekday: u32) -> Result<Date, Val
     if weekday > 6 {
         return Err(ValueRefusal::Wrong(Field::Weekday));
     }
-    match Date::from_iso_week_date(year, week as u8, Weekday::numbered(weekday as u8)) {
+    match Date::from_iso_week_date(year, week as u8, Weekday::of_number(weekday as u8)) {
         Ok(date) => date_with(parts, date),
         Err(_) => Err(ValueRefusal::Wrong(Field::IsoWeek)),
     }

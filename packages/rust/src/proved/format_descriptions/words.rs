@@ -53,7 +53,7 @@ pub(crate) fn weekday(
     if end == 0 {
         return None;
     }
-    let name = Weekday::numbered(end - 1);
+    let name = Weekday::of_number(end - 1);
     match after_word(case, weekday_name(form, name).as_bytes(), text) {
         Some(rest) => Some(((end - 1) as u32, rest)),
         None => weekday(form, case, end - 1, text),

@@ -1,13 +1,15 @@
 // Made by make/erase of crates/format_descriptions/src/write.rt. Do not edit.
 //! Texts written by descriptions.
-use crate::proved::format_descriptions::Item;
 use crate::proved::format_descriptions::item::{behind, is_other, size_of};
-use crate::proved::format_descriptions::pieces::component_text;
+use crate::proved::format_descriptions::pieces::{
+    component_text, offset_word_text, seen, year_since_text,
+};
+use crate::proved::format_descriptions::{Component, Item};
 use crate::proved::calendar_values::{Date, Text, Time, UtcOffset};
 use crate::proved::offset_times::OffsetDateTime;
 
-/// The text of a date-time as the items write it, by its own wall clock and offset. None where the text has more than
-/// 64 bytes, or one that is not ASCII.
+/// The text of a date-time as the items write it, by its own wall clock and offset. None where the
+/// text has more than 64 bytes, or one that is not ASCII.
 ///
 /// ```
 /// # use muxandu::proved::*;
@@ -35,8 +37,8 @@ pub fn format_date_time(items: &[Item], at: OffsetDateTime) -> Option<Text> {
     format(items, date, time, offset)
 }
 
-/// The text of a date, a time of day and an offset as the items write them. None where the text has more than 64 bytes,
-/// or one that is not ASCII.
+/// The text of a date, a time of day and an offset as the items write them. None where the text has
+/// more than 64 bytes, or one that is not ASCII.
 ///
 /// ```
 /// # use muxandu::proved::*;
@@ -114,7 +116,7 @@ fn write_items(
     Some(text)
 }
 
-// The text of an item. None of a byte that is not ASCII.
+// The text of an item. None of a byte that is not ASCII, and of a value that the component cannot write.
 /// # Contract
 ///
 /// ```text
@@ -127,24 +129,46 @@ fn write_items(
 fn item_text(item: Item, date: Date, time: Time, offset: UtcOffset) -> Option<Text> {
     match item {
         Item::Byte(byte) => byte_text(byte),
-        Item::Part(component) => Some(seen(component_text(component, date, time, offset))),
+        Item::Part(component) => format_component(component, date, time, offset),
         Item::Optional(_) | Item::First(_) | Item::Or(_) => Some(seen(Text::new())),
     }
 }
 
-// The same text, of which a caller then knows that it is ASCII.
+/// The text of a component of a date, a time of day and an offset. None of a value that it cannot
+/// write.
+///
+/// ```
+/// # use muxandu::proved::*;
+/// # fn main() -> Result<(), Box<dyn std::error::Error>> {
+/// use format_descriptions::{Component, Padding, format_component};
+/// let date = Date::from_calendar_date(2024, Month::March, 5)?;
+/// let day = Component::Day(Padding::Zero);
+/// let text = format_component(day, date, Time::MIDNIGHT, UtcOffset::UTC);
+/// assert_eq!(text.map(|text| text.as_bytes() == b"05".as_slice()), Some(true));
+/// # Ok(())
+/// # }
+/// ```
+///
 /// # Contract
 ///
 /// ```text
-/// ensures text { result ≡ text }
-/// ensures ascii { IsAscii text }
+/// ensures text { let text = component_text component date time offset in
+///     SomeIff result (IsAscii text) text }
 /// ```
 ///
 /// [docs/proofs/STATEMENT.md](crate::proved#contracts) explains the words.
 #[inline]
-fn seen(text: Text) -> Text {
-    let _bytes = text.as_bytes();
-    text
+pub fn format_component(
+    component: Component,
+    date: Date,
+    time: Time,
+    offset: UtcOffset,
+) -> Option<Text> {
+    match component {
+        Component::OffsetWord(word, _) => offset_word_text(word, offset),
+        Component::YearSince(first) => year_since_text(first, date),
+        _ => Some(seen(component_text(component, date, time, offset))),
+    }
 }
 
 // A byte by itself.

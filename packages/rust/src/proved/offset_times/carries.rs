@@ -1,7 +1,7 @@
 // Made by make/erase of crates/offset_times/src/carries.rt. Do not edit.
-//! What clocks at another offset show, by carries: the second carries into the minute, the minute into the
-//! hour, the hour into the day, and the day into the year. So it is told in the year before and after the
-//! range too.
+//! The wall clock at another offset, by carries: the second carries into the minute, the minute
+//! into the hour, the hour into the day, and the day into the year. So it exists in the year before
+//! and after the range too.
 use crate::proved::offset_times::OffsetDateTime;
 use crate::proved::calendar_values::{Time, UtcOffset, days_in_year};
 use crate::proved::plain_times::PlainDateTime;

@@ -1,5 +1,8 @@
 // Made by make/erase of crates/rfc3339/src/fault.rt. Do not edit.
 //! Where a text has not the form.
+// The place after the separator of the date and the time of day.
+const AFTER_SEPARATOR: u8 = 11;
+
 // The places of the form after the 19 bytes of the date and of the time of day: before a point or an offset,
 const AFTER_SECOND: u8 = 19;
 
@@ -45,21 +48,49 @@ const NOWHERE: u8 = 28;
 /// [docs/proofs/STATEMENT.md](crate::proved#contracts) explains the words.
 #[inline]
 pub fn syntax_fault(text: &[u8]) -> usize {
-    standing(text)
+    standing(0, text)
 }
 
-// How many bytes may stand where they do.
+/// The index of the fault in a text that has not the form of a time of day with an offset: 8 for
+/// `12:34:56`. No text of the form continues with the byte at that index; or the text ends there,
+/// too early. For a text of the form it is the length of the text.
+///
+/// ```
+/// # use muxandu::proved::*;
+/// # fn main() -> Result<(), Box<dyn std::error::Error>> {
+/// assert_eq!(rfc3339::full_time_fault(b"23:20:50+1:00"), 10);
+/// # Ok(())
+/// # }
+/// ```
+///
 /// # Contract
 ///
 /// ```text
-/// ensures place { result ≡ standing 0 text.now }
+/// ensures at_most { result ≤ length text.now }
+/// ensures begins { (rest : List ℕ) × (p : Parts) ×
+///     IsDateTime (codes "1970-01-01T" ++ take result text.now ++ rest) p }
+/// ensures longest { (n : ℕ) (rest : List ℕ) (p : Parts) → n ≤ length text.now
+///     → IsDateTime (codes "1970-01-01T" ++ take n text.now ++ rest) p → n ≤ result }
+/// ```
+///
+/// [docs/proofs/STATEMENT.md](crate::proved#contracts) explains the words.
+#[inline]
+pub fn full_time_fault(text: &[u8]) -> usize {
+    standing(AFTER_SEPARATOR, text)
+}
+
+// How many bytes may stand where they do, from a place on.
+/// # Contract
+///
+/// ```text
+/// ensures place { result ≡ standing first text.now }
 /// ensures at_most { result ≤ length text.now }
 /// ```
 ///
 /// [docs/proofs/STATEMENT.md](crate::proved#contracts) explains the words.
 #[inline]
-fn standing(text: &[u8]) -> usize {
-    let mut place = 0;
+fn standing(first: u8, text: &[u8]) -> usize {
+    let mut place = first;
     for (k, byte) in text.iter().enumerate() {
         place = next_place(place, *byte);
         if place == NOWHERE {

@@ -1,5 +1,5 @@
 // Made by make/erase of crates/rfc3339/src/front.rt. Do not edit.
-//! Texts read that stand in front of others, and offsets alone.
+//! Texts read at the front of others, and offsets alone.
 use crate::proved::rfc3339::parse::{date_time, offset};
 use crate::proved::rfc3339::reading::{front, zone};
 use crate::proved::rfc3339::{Component, TextRefusal};

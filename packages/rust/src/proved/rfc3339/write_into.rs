@@ -26,7 +26,7 @@ pub const TEXT_ROOM: usize = 35;
 /// [docs/proofs/STATEMENT.md](crate::proved#contracts) explains the words.
 #[inline(always)]
 pub(in crate::proved) fn write_rfc3339_parts(parts: Parts, bytes: &mut [u8]) -> usize {
-    put(bytes, 0, &wall_bytes(parts));
+    write_at(bytes, 0, &wall_bytes(parts));
     let end = put_fraction(bytes, 19, parts.nanosecond);
     put_offset(
         bytes,
@@ -122,15 +122,15 @@ fn put_fraction(bytes: &mut [u8], place: usize, nanosecond: u32) -> usize {
 #[inline(never)]
 fn put_some_fraction(bytes: &mut [u8], place: usize, nanosecond: u32) -> usize {
     if nanosecond % 10 != 0 {
-        return put(bytes, place, &nine_digits(nanosecond));
+        return write_at(bytes, place, &nine_digits(nanosecond));
     }
     let microsecond = nanosecond / 1_000;
     if nanosecond % 1_000 == 0 && microsecond % 10 != 0 {
-        return put(bytes, place, &six_digits(microsecond));
+        return write_at(bytes, place, &six_digits(microsecond));
     }
     let millisecond = nanosecond / 1_000_000;
     if nanosecond % 1_000_000 == 0 && millisecond % 10 != 0 {
-        return put(bytes, place, &three_digits(millisecond));
+        return write_at(bytes, place, &three_digits(millisecond));
     }
     put_any_fraction(bytes, place, nanosecond)
 }
@@ -153,7 +153,7 @@ fn put_some_fraction(bytes: &mut [u8], place: usize, nanosecond: u32) -> usize {
 fn put_any_fraction(bytes: &mut [u8], place: usize, nanosecond: u32) -> usize {
     let digits = nine_digits(nanosecond);
     let end = 1 + count_before_zeros(nanosecond);
-    put(bytes, place, &digits[..end])
+    write_at(bytes, place, &digits[..end])
 }
 
 // How many of the nine digits of a fraction come before the zeros at its end, and 1 where all are zeros.
@@ -257,9 +257,9 @@ const fn three_digits(number: u32) -> [u8; 4] {
 #[inline(always)]
 fn put_offset(bytes: &mut [u8], place: usize, is_west: bool, hour: u8, minute: u8) -> usize {
     if (hour == 0) & (minute == 0) {
-        return put(bytes, place, b"Z");
+        return write_at(bytes, place, b"Z");
     }
-    put(bytes, place, &offset_bytes(is_west, hour, minute))
+    write_at(bytes, place, &offset_bytes(is_west, hour, minute))
 }
 
 // A sign, two digits of the hours, `:` and two digits of the minutes.
@@ -295,7 +295,7 @@ const fn offset_bytes(is_west: bool, hour: u8, minute: u8) -> [u8; 6] {
 ///
 /// [docs/proofs/STATEMENT.md](crate::proved#contracts) explains the words.
 #[inline(always)]
-fn put(bytes: &mut [u8], place: usize, text: &[u8]) -> usize {
+fn write_at(bytes: &mut [u8], place: usize, text: &[u8]) -> usize {
     let end = place + text.len();
     bytes[place..end].copy_from_slice(text);
     end

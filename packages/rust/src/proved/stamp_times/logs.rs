@@ -1,6 +1,6 @@
 // Made by make/erase of crates/stamp_times/src/logs.rt. Do not edit.
 //! Logs: timestamps in the order of time.
-use crate::proved::stamp_times::Timestamp;
+use crate::proved::stamp_times::{Timestamp, moment_logs};
 use crate::proved::offset_times::OffsetDateTime;
 use crate::proved::memory::AllocError;
 
@@ -19,10 +19,7 @@ use crate::proved::memory::AllocError;
 /// [docs/proofs/STATEMENT.md](crate::proved#contracts) explains the words.
 #[inline]
 pub(in crate::proved) fn find(log: &[Timestamp], at: Timestamp) -> Option<usize> {
-    match log.binary_search(&at) {
-        Ok(place) => Some(place),
-        Err(_) => None,
-    }
+    moment_logs::find(log, at)
 }
 
 /// Enters the timestamp in its place in a log that has each once. False if it is there already;
@@ -45,13 +42,7 @@ pub(in crate::proved) fn enter(
     log: &mut crate::proved::memory::Vec<Timestamp>,
     at: Timestamp,
 ) -> Result<bool, AllocError> {
-    match log.binary_search(&at) {
-        Ok(_) => Ok(false),
-        Err(place) => {
-            log.insert(place, at)?;
-            Ok(true)
-        }
-    }
+    moment_logs::enter(log, at)
 }
 
 /// Removes the timestamp from a log that has each once, and the others stay. False if it is not
@@ -75,13 +66,7 @@ pub(in crate::proved) fn remove(
     log: &mut crate::proved::memory::Vec<Timestamp>,
     at: Timestamp,
 ) -> bool {
-    match log.binary_search(&at) {
-        Ok(place) => {
-            log.remove(place);
-            true
-        }
-        Err(_) => false,
-    }
+    moment_logs::remove(log, at)
 }
 
 /// Puts a log in order, and leaves each timestamp once. `AllocError` if there is no memory to sort
@@ -99,9 +84,7 @@ pub(in crate::proved) fn remove(
 /// [docs/proofs/STATEMENT.md](crate::proved#contracts) explains the words.
 #[inline]
 pub fn put_in_order(log: &mut crate::proved::memory::Vec<Timestamp>) -> Result<(), AllocError> {
-    log.sort()?;
-    log.dedup();
-    Ok(())
+    moment_logs::put_in_order(log)
 }
 
 /// Adds the entries of another list, puts all in order, and leaves each timestamp once.
@@ -125,13 +108,7 @@ pub fn merge(
     log: &mut crate::proved::memory::Vec<Timestamp>,
     other: &[Timestamp],
 ) -> Result<(), AllocError> {
-    let before = log.len();
-    log.extend_from_slice(other)?;
-    let in_order = put_in_order(log);
-    if in_order.is_err() {
-        log.truncate(before);
-    }
-    in_order
+    moment_logs::merge(log, other)
 }
 
 /// The last entry of a log that is in order: none of the others is later. None if it is empty.
@@ -148,7 +125,7 @@ pub fn merge(
 /// [docs/proofs/STATEMENT.md](crate::proved#contracts) explains the words.
 #[inline]
 pub(in crate::proved) const fn last(log: &[Timestamp]) -> Option<Timestamp> {
-    log.last().copied()
+    moment_logs::last(log)
 }
 
 /// The latest of timestamps in any order. None if there are none.
@@ -174,7 +151,7 @@ pub(in crate::proved) const fn last(log: &[Timestamp]) -> Option<Timestamp> {
 /// [docs/proofs/STATEMENT.md](crate::proved#contracts) explains the words.
 #[inline]
 pub fn latest(stamps: &[Timestamp]) -> Option<Timestamp> {
-    stamps.iter().copied().max()
+    moment_logs::latest(stamps)
 }
 
 /// The earliest of timestamps in any order. None if there are none.
@@ -200,7 +177,7 @@ pub fn latest(stamps: &[Timestamp]) -> Option<Timestamp> {
 /// [docs/proofs/STATEMENT.md](crate::proved#contracts) explains the words.
 #[inline]
 pub fn earliest(stamps: &[Timestamp]) -> Option<Timestamp> {
-    stamps.iter().copied().min()
+    moment_logs::earliest(stamps)
 }
 
 /// A record that has a timestamp.

@@ -1,10 +1,10 @@
 // Made by make/erase of crates/stamp_times/src/reciprocal.rt. Do not edit.
 //! The calendar by two multiplications: a year, its kind and the day of the year with no division.
 //!
-//! A day is counted from 1 January of a year that 400 divides, so that it is not negative. The first
-//! product gives its century, and with it how many leap days the rule on centuries has left out. The second
-//! gives the year and the day of the year, as in a calendar without that rule. Each product stands in two
-//! words: the quotient, and the fraction of the quotient.
+//! A day is counted from 1 January of a year that 400 divides, so that it is not negative. The
+//! first product gives its century, and with it how many leap days the rule on centuries has left
+//! out. The second gives the year and the day of the year, as in a calendar without that rule. Each
+//! product has two words: the quotient, and the fraction of the quotient.
 // Days and years are counted from the year 0 by so many spans of 400 years, and from there to 1970.
 const ERAS: i32 = 5_949;
 

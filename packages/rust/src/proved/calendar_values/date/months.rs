@@ -132,7 +132,7 @@ impl Date {
     /// [docs/proofs/STATEMENT.md](crate::proved#contracts) explains the words.
     #[inline]
     const fn in_month(index: i64, day: u8) -> Option<Date> {
-        let month = Month::numbered(number_of_index(index));
+        let month = Month::of_number(number_of_index(index));
         match year_of_index(index) {
             Some(year) => Some(Date::day_or_last(year, month, day)),
             None => None,

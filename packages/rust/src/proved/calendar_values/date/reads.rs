@@ -1,5 +1,5 @@
 // Made by make/erase of crates/calendar_values/src/date/reads.rt. Do not edit.
-//! What a date shows.
+//! The parts of a date.
 use crate::proved::calendar_values::calendar::year_start;
 use crate::proved::calendar_values::units::EPOCH_JULIAN_DAY;
 use crate::proved::calendar_values::{Date, Month, Weekday, days_in_year};
@@ -306,7 +306,7 @@ impl Date {
     /// [docs/proofs/STATEMENT.md](crate::proved#contracts) explains the words.
     #[inline]
     pub const fn weekday(self) -> Weekday {
-        Weekday::numbered(days_from_monday(self.to_julian_day()))
+        Weekday::of_number(days_from_monday(self.to_julian_day()))
     }
 
     /// The Julian day, which is 2,440,588 on 1970-01-01.

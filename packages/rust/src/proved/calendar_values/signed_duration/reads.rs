@@ -1,5 +1,5 @@
 // Made by make/erase of crates/calendar_values/src/signed_duration/reads.rt. Do not edit.
-//! What a duration is made of.
+//! The parts of a duration.
 use crate::proved::calendar_values::SignedDuration;
 use crate::proved::calendar_values::units::{
     NANOS_PER_SECOND, SECONDS_PER_DAY, SECONDS_PER_HOUR, SECONDS_PER_MINUTE, SECONDS_PER_WEEK,

@@ -1,5 +1,5 @@
 // Made by make/erase of crates/calendar_values/src/time/reads.rt. Do not edit.
-//! What a time of day shows.
+//! The parts of a time of day.
 use crate::proved::calendar_values::Time;
 use crate::proved::calendar_values::units::NANOS_PER_SECOND;
 

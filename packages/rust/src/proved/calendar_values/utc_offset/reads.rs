@@ -1,5 +1,5 @@
 // Made by make/erase of crates/calendar_values/src/utc_offset/reads.rt. Do not edit.
-//! What an offset shows.
+//! The parts of an offset.
 use crate::proved::calendar_values::UtcOffset;
 
 impl UtcOffset {

@@ -1,5 +1,6 @@
 // Made by make/erase of crates/offset_times/src/offset_date_time/replacements.rt. Do not edit.
-//! Date-times with a part replaced, or truncated to a unit of time: the wall clock is, and the offset stays.
+//! Date-times with a part replaced, or truncated to a unit of time: the wall clock is, and the
+//! offset stays.
 use crate::proved::offset_times::{Assume, OffsetDateTime};
 use crate::proved::calendar_values::{ComponentRange, Date, Month, Time, UtcOffset};
 use crate::proved::plain_times::PlainDateTime;

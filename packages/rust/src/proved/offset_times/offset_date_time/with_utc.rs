@@ -1,5 +1,5 @@
 // Made by make/erase of crates/offset_times/src/offset_date_time/with_utc.rt. Do not edit.
-//! Date-times with an offset beside those in UTC.
+//! Date-times with an offset together with those in UTC.
 use crate::proved::offset_times::OffsetDateTime;
 use crate::proved::calendar_values::SignedDuration;
 use std::cmp::Ordering;

@@ -1,5 +1,5 @@
 // Made by make/erase of crates/plain_times/src/plain_date_time/reads.rt. Do not edit.
-//! What a plain date-time shows.
+//! The parts of a plain date-time.
 use crate::proved::plain_times::PlainDateTime;
 use crate::proved::calendar_values::{Date, Month, Time, Weekday};
 

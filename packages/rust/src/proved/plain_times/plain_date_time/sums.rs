@@ -31,7 +31,7 @@ impl PlainDateTime {
     #[inline]
     pub const fn checked_add(self, duration: SignedDuration) -> Option<PlainDateTime> {
         let (adjustment, time) = self.time().adjusting_add(duration);
-        self.moved(duration.whole_days() + days_of(adjustment), time)
+        self.add_days_at(duration.whole_days() + days_of(adjustment), time)
     }
 
     /// The date-time earlier by the duration, or later for a negative duration. None out of range.
@@ -59,7 +59,7 @@ impl PlainDateTime {
     #[inline]
     pub const fn checked_sub(self, duration: SignedDuration) -> Option<PlainDateTime> {
         let (adjustment, time) = self.time().adjusting_sub(duration);
-        self.moved(days_of(adjustment) - duration.whole_days(), time)
+        self.add_days_at(days_of(adjustment) - duration.whole_days(), time)
     }
 
     /// The date-time later by the duration. None out of range.
@@ -88,7 +88,7 @@ impl PlainDateTime {
     #[inline]
     pub const fn checked_add_std(self, duration: Duration) -> Option<PlainDateTime> {
         let (is_next_day, time) = self.time().adjusting_add_std(duration);
-        self.moved(whole_days(duration) + a_day_if(is_next_day), time)
+        self.add_days_at(whole_days(duration) + a_day_if(is_next_day), time)
     }
 
     /// The date-time earlier by the duration. None out of range.
@@ -117,7 +117,7 @@ impl PlainDateTime {
     #[inline]
     pub const fn checked_sub_std(self, duration: Duration) -> Option<PlainDateTime> {
         let (is_previous_day, time) = self.time().adjusting_sub_std(duration);
-        self.moved(-(whole_days(duration) + a_day_if(is_previous_day)), time)
+        self.add_days_at(-(whole_days(duration) + a_day_if(is_previous_day)), time)
     }
 
     // The date-time of a time of day, so many days later, if the range has it.
@@ -130,7 +130,7 @@ impl PlainDateTime {
     ///
     /// [docs/proofs/STATEMENT.md](crate::proved#contracts) explains the words.
     #[inline]
-    const fn moved(self, days: i64, time: Time) -> Option<PlainDateTime> {
+    const fn add_days_at(self, days: i64, time: Time) -> Option<PlainDateTime> {
         match self.date().checked_add_days(days) {
             Some(date) => Some(PlainDateTime::new(date, time)),
             None => None,

@@ -1,5 +1,5 @@
 // Made by make/erase of crates/stamp_times/src/runs/moment.rt. Do not edit.
-//! What instants of every type have in common.
+//! The calls that instants of every type have in common.
 use crate::proved::stamp_times::Timestamp;
 use crate::proved::stamp_times::runs::calls::{
     ClockPart, ClockRead, DatePart, DateRead, Replace, Shift,

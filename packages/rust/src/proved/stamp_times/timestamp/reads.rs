@@ -349,7 +349,7 @@ impl Timestamp {
     /// [docs/proofs/STATEMENT.md](crate::proved#contracts) explains the words.
     #[inline]
     pub const fn weekday(self) -> Weekday {
-        Weekday::numbered(self.days_from_monday())
+        Weekday::of_number(self.days_from_monday())
     }
 
     // How many days the date comes after a Monday.

@@ -31,7 +31,7 @@ impl Timestamp {
     #[inline]
     pub const fn checked_add(self, duration: SignedDuration) -> Option<Timestamp> {
         match self.as_seconds().checked_add(duration.whole_seconds()) {
-            Some(seconds) => carried(seconds, self.nanosecond(), duration.subsec_nanoseconds()),
+            Some(seconds) => carry(seconds, self.nanosecond(), duration.subsec_nanoseconds()),
             None => None,
         }
     }
@@ -60,7 +60,7 @@ impl Timestamp {
     #[inline]
     pub const fn checked_sub(self, duration: SignedDuration) -> Option<Timestamp> {
         match self.as_seconds().checked_sub(duration.whole_seconds()) {
-            Some(seconds) => carried(seconds, self.nanosecond(), -duration.subsec_nanoseconds()),
+            Some(seconds) => carry(seconds, self.nanosecond(), -duration.subsec_nanoseconds()),
             None => None,
         }
     }
@@ -90,7 +90,7 @@ impl Timestamp {
     #[inline]
     pub const fn checked_add_std(self, duration: Duration) -> Option<Timestamp> {
         match self.as_seconds().checked_add_unsigned(duration.as_secs()) {
-            Some(seconds) => carried(seconds, self.nanosecond(), duration.subsec_nanos() as i32),
+            Some(seconds) => carry(seconds, self.nanosecond(), duration.subsec_nanos() as i32),
             None => None,
         }
     }
@@ -120,7 +120,7 @@ impl Timestamp {
     #[inline]
     pub const fn checked_sub_std(self, duration: Duration) -> Option<Timestamp> {
         match self.as_seconds().checked_sub_unsigned(duration.as_secs()) {
-            Some(seconds) => carried(
+            Some(seconds) => carry(
                 seconds,
                 self.nanosecond(),
                 -(duration.subsec_nanos() as i32),
@@ -208,7 +208,7 @@ impl Timestamp {
 ///
 /// [docs/proofs/STATEMENT.md](crate::proved#contracts) explains the words.
 #[inline]
-const fn carried(seconds: i64, nanosecond: u32, change: i32) -> Option<Timestamp> {
+const fn carry(seconds: i64, nanosecond: u32, change: i32) -> Option<Timestamp> {
     let nanoseconds = nanosecond as i32 + change;
     if nanoseconds < 0 {
         match seconds.checked_sub(1) {

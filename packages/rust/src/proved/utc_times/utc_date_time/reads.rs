@@ -1,5 +1,5 @@
 // Made by make/erase of crates/utc_times/src/utc_date_time/reads.rt. Do not edit.
-//! What a date-time in UTC shows.
+//! The parts of a date-time in UTC.
 use crate::proved::utc_times::UtcDateTime;
 use crate::proved::calendar_values::{Date, Month, Time, Weekday};
 

@@ -1,0 +1,272 @@
+// Made by make/erase of crates/format_descriptions/src/date_time_values.rt. Do not edit.
+//! The date-times that the parts of a text name.
+use crate::proved::format_descriptions::{Field, Parts, ValueRefusal};
+use crate::proved::calendar_values::{SignedDuration, Time};
+use crate::proved::offset_times::{Assume, OffsetDateTime};
+use crate::proved::plain_times::PlainDateTime;
+use crate::proved::utc_times::UtcDateTime;
+
+impl Parts {
+    /// The wall clock of these parts. Fails as `date` does, and then as `time` does.
+    ///
+    /// ```
+    /// # use muxandu::proved::*;
+    /// # fn main() -> Result<(), Box<dyn std::error::Error>> {
+    /// let parts = format_descriptions::parse_iso8601(b"1970-01-01T00:00");
+    /// let wall = PlainDateTime::new(Date::UNIX_EPOCH, Time::MIDNIGHT);
+    /// assert_eq!(parts.map(|parts| parts.plain_date_time()), Ok(Ok(wall)));
+    /// # Ok(())
+    /// # }
+    /// ```
+    ///
+    /// # Contract
+    ///
+    /// ```text
+    /// ensures equation { result ≡ plain_of_parts self }
+    /// ensures value { IfOk result (λ wall. HasPlainParts self wall) }
+    /// ensures only { (wall : ℤ) → IsWallClock wall → IsTrue (tells_date self) →
+    ///     IsTrue (tells_time self) → HasPlainParts self wall → result ≡ Ok wall }
+    /// ```
+    ///
+    /// [docs/proofs/STATEMENT.md](crate::proved#contracts) explains the words.
+    #[inline]
+    pub fn plain_date_time(self) -> Result<PlainDateTime, ValueRefusal> {
+        named_plain(self)
+    }
+
+    /// The date-time of these parts at its offset. Fails as `date` does, then as `time` does, and
+    /// then as `offset` does.
+    ///
+    /// ```
+    /// # use muxandu::proved::*;
+    /// # fn main() -> Result<(), Box<dyn std::error::Error>> {
+    /// let parts = format_descriptions::parse_rfc2822(b"1 Jan 1970 00:00:00 GMT");
+    /// let epoch = OffsetDateTime::UNIX_EPOCH;
+    /// assert_eq!(parts.map(|parts| parts.offset_date_time()), Ok(Ok(epoch)));
+    /// # Ok(())
+    /// # }
+    /// ```
+    ///
+    /// # Contract
+    ///
+    /// ```text
+    /// ensures equation { result ≡ local_of_parts self }
+    /// ensures value { IfOk result (λ at. HasLocalParts self at) }
+    /// ensures only { (at : Local) → IsLocal at → IsTrue (tells_date self) →
+    ///     IsTrue (tells_time self) → IsTrue (tells_offset self) → HasLocalParts self at →
+    ///     result ≡ Ok at }
+    /// ```
+    ///
+    /// [docs/proofs/STATEMENT.md](crate::proved#contracts) explains the words.
+    #[inline]
+    pub fn offset_date_time(self) -> Result<OffsetDateTime, ValueRefusal> {
+        named_local(self)
+    }
+
+    /// The same, also with a second of 60. A leap second is valid only as the last second of a
+    /// month in UTC. It becomes the last nanosecond before the next month, for any fraction, and
+    /// the call returns `true` with it. Fails as `offset_date_time` does; then with `Wrong` for the
+    /// second if no month ends with a second of 60.
+    ///
+    /// ```
+    /// # use muxandu::proved::*;
+    /// # fn main() -> Result<(), Box<dyn std::error::Error>> {
+    /// let parts = format_descriptions::parse_rfc2822(b"31 Dec 2016 23:59:60 GMT");
+    /// let read = parts.map(|parts| parts.leap_date_time());
+    /// let is_last = read.map(|read| read.map(|(at, is_leap)| (at.nanosecond(), is_leap)));
+    /// assert_eq!(is_last, Ok(Ok((999_999_999, true))));
+    /// # Ok(())
+    /// # }
+    /// ```
+    ///
+    /// # Contract
+    ///
+    /// ```text
+    /// ensures equation { result ≡ leap_of_parts self }
+    /// ensures value { IfOk result (λ read. HasLocalParts (leap_parts self) read.0) }
+    /// ensures mark { IfOk result (λ read. read.1 ≡ is_sixty self.second) }
+    /// ensures marked { IfOk result (λ read. read.1 ≡ true →
+    ///     IsLeapStandIn (instant_of read.0)) }
+    /// ensures only { (at : Local) → IsLocal at → IsTrue (tells_date self) →
+    ///     IsTrue (tells_time self) → IsTrue (tells_offset self) →
+    ///     HasLocalParts (leap_parts self) at →
+    ///     (is_sixty self.second ≡ true → IsLeapStandIn (instant_of at)) →
+    ///     result ≡ Ok (at, is_sixty self.second) }
+    /// ```
+    ///
+    /// [docs/proofs/STATEMENT.md](crate::proved#contracts) explains the words.
+    #[inline]
+    pub fn leap_date_time(self) -> Result<(OffsetDateTime, bool), ValueRefusal> {
+        named_leap(self)
+    }
+}
+
+// The wall clock.
+/// # Contract
+///
+/// ```text
+/// ensures equation { result ≡ plain_of_parts parts }
+/// ensures value { IfOk result (λ wall. HasPlainParts parts wall) }
+/// ```
+///
+/// [docs/proofs/STATEMENT.md](crate::proved#contracts) explains the words.
+#[inline]
+fn named_plain(parts: Parts) -> Result<PlainDateTime, ValueRefusal> {
+    match parts.date() {
+        Ok(date) => match parts.time() {
+            Ok(time) => {
+                // For the proof alone: what is read lies in its range.
+                let _in_range = time.hour();
+                Ok(PlainDateTime::new(date, time))
+            }
+            Err(refusal) => Err(refusal),
+        },
+        Err(refusal) => Err(refusal),
+    }
+}
+
+// The date-time.
+/// # Contract
+///
+/// ```text
+/// ensures equation { result ≡ local_of_parts parts }
+/// ensures value { IfOk result (λ at. HasLocalParts parts at) }
+/// ```
+///
+/// [docs/proofs/STATEMENT.md](crate::proved#contracts) explains the words.
+#[inline]
+fn named_local(parts: Parts) -> Result<OffsetDateTime, ValueRefusal> {
+    match parts.plain_date_time() {
+        Ok(wall) => match parts.offset() {
+            Ok(offset) => Ok(wall.assume_offset(offset)),
+            Err(refusal) => Err(refusal),
+        },
+        Err(refusal) => Err(refusal),
+    }
+}
+
+// The date-time, whose second may be 60, with the mark.
+/// # Contract
+///
+/// ```text
+/// ensures equation { result ≡ leap_of_parts parts }
+/// ensures value { IfOk result (λ read. HasLocalParts (leap_parts parts) read.0) }
+/// ensures mark { IfOk result (λ read. read.1 ≡ is_sixty parts.second) }
+/// ensures marked { IfOk result (λ read. read.1 ≡ true → IsLeapStandIn (instant_of read.0)) }
+/// ```
+///
+/// [docs/proofs/STATEMENT.md](crate::proved#contracts) explains the words.
+#[inline]
+fn named_leap(parts: Parts) -> Result<(OffsetDateTime, bool), ValueRefusal> {
+    let is_leap = is_sixty(parts.second);
+    match with_last_nanosecond(is_leap, parts).offset_date_time() {
+        Ok(at) => with_mark(is_leap, at),
+        Err(refusal) => Err(refusal),
+    }
+}
+
+// The date-time with the mark, if a month ends with a leap second.
+/// # Contract
+///
+/// ```text
+/// ensures equation { result ≡ leap_outcome is_leap (Ok at) }
+/// ensures value { IfOk result (λ read. read ≡ (at, is_leap)) }
+/// ensures marked { IfOk result (λ read. read.1 ≡ true → IsLeapStandIn (instant_of read.0)) }
+/// ```
+///
+/// [docs/proofs/STATEMENT.md](crate::proved#contracts) explains the words.
+#[inline]
+fn with_mark(is_leap: bool, at: OffsetDateTime) -> Result<(OffsetDateTime, bool), ValueRefusal> {
+    if !is_leap {
+        return Ok((at, false));
+    }
+    if is_leap_stand_in(at) {
+        Ok((at, true))
+    } else {
+        Err(ValueRefusal::Wrong(Field::Second))
+    }
+}
+
+// Whether a second is 60.
+/// # Contract
+///
+/// ```text
+/// ensures { result ≡ is_sixty second }
+/// ```
+///
+/// [docs/proofs/STATEMENT.md](crate::proved#contracts) explains the words.
+#[inline]
+const fn is_sixty(second: Option<u32>) -> bool {
+    match second {
+        Some(second) => second == 60,
+        None => false,
+    }
+}
+
+// The parts, with the last nanosecond of the minute for a leap second.
+/// # Contract
+///
+/// ```text
+/// ensures { result ≡ with_last_nanosecond is_leap parts }
+/// ```
+///
+/// [docs/proofs/STATEMENT.md](crate::proved#contracts) explains the words.
+#[inline]
+const fn with_last_nanosecond(is_leap: bool, parts: Parts) -> Parts {
+    if is_leap {
+        Parts {
+            second: Some(59),
+            nanosecond: Some(999_999_999),
+            ..parts
+        }
+    } else {
+        parts
+    }
+}
+
+// Whether it is an instant of the range, and the last nanosecond of a month in UTC.
+/// # Contract
+///
+/// ```text
+/// ensures { result ≡ is_leap_stand_in (instant_of at) }
+/// ```
+///
+/// [docs/proofs/STATEMENT.md](crate::proved#contracts) explains the words.
+#[inline]
+fn is_leap_stand_in(at: OffsetDateTime) -> bool {
+    match at.checked_to_utc() {
+        Some(utc) => is_last_of_month(utc),
+        None => false,
+    }
+}
+
+// Whether the next nanosecond begins a month.
+/// # Contract
+///
+/// ```text
+/// ensures { result ≡ is_last_of_month at }
+/// ```
+///
+/// [docs/proofs/STATEMENT.md](crate::proved#contracts) explains the words.
+#[inline]
+fn is_last_of_month(at: UtcDateTime) -> bool {
+    // For the proof alone: what is read lies in its range.
+    let _in_range = at.date();
+    match at.checked_add(SignedDuration::nanoseconds(1)) {
+        Some(next) => begins_month(next),
+        None => true,
+    }
+}
+
+// Whether a month begins.
+/// # Contract
+///
+/// ```text
+/// ensures { result ≡ (day_of_month_of (wall_day at) == 1 && wall_time at == 0) }
+/// ```
+///
+/// [docs/proofs/STATEMENT.md](crate::proved#contracts) explains the words.
+#[inline]
+fn begins_month(at: UtcDateTime) -> bool {
+    at.day() == 1 && at.time() == Time::MIDNIGHT
+}

@@ -1,0 +1,415 @@
+// Made by make/erase of crates/format_descriptions/src/description_groups.rt. Do not edit.
+//! Groups of descriptions, read byte by byte: `[optional [..]]` and `[first [..] [..]]`.
+use crate::proved::format_descriptions::description_steps::{
+    DescriptionVersion, Place, Step, fault_at_end, step,
+};
+use crate::proved::format_descriptions::description_words::{is_white_space, is_word_at};
+use crate::proved::format_descriptions::{DescriptionFault, Item};
+
+// Where the next byte stands: in a description, or between those of a group.
+#[derive(Clone, Copy)]
+pub(crate) enum Spot {
+    // In a description.
+    Inside(Place),
+    // In the word of a group, or directly behind it.
+    GroupWord,
+    // Behind white space that follows the word of a group, or behind one of its descriptions, if it had one.
+    BetweenGroups(bool),
+}
+
+// Where the next byte of a description stands, and the groups that are open there.
+#[derive(Clone, Copy)]
+pub(crate) struct State {
+    // The groups that are open, in binary: 1, and then 0 for each that is optional and 1 for each of several.
+    pub(crate) groups: u64,
+    // How many bytes are left from the `[` of the outermost of them on.
+    pub(crate) outer: usize,
+    // Where the byte stands.
+    pub(crate) spot: Spot,
+}
+
+// The state behind a byte, and the item that ends with it, or a fault and how many bytes are left from it on.
+pub(crate) type GroupStep = Result<(State, Option<Item>), (DescriptionFault, usize)>;
+
+// The front of a text.
+/// # Contract
+///
+/// ```text
+/// ensures { result ≡ at_front }
+/// ```
+///
+/// [docs/proofs/STATEMENT.md](crate::proved#contracts) explains the words.
+#[inline]
+pub(crate) const fn at_front() -> State {
+    State {
+        groups: 1,
+        outer: 0,
+        spot: Spot::Inside(Place::Outside),
+    }
+}
+
+// Whether a group is open.
+/// # Contract
+///
+/// ```text
+/// ensures { result ≡ is_in_group state }
+/// ```
+///
+/// [docs/proofs/STATEMENT.md](crate::proved#contracts) explains the words.
+#[inline]
+const fn is_in_group(state: State) -> bool {
+    state.groups > 1
+}
+
+// Whether the innermost group that is open is the first of several.
+/// # Contract
+///
+/// ```text
+/// ensures { result ≡ is_in_first state }
+/// ```
+///
+/// [docs/proofs/STATEMENT.md](crate::proved#contracts) explains the words.
+#[inline]
+const fn is_in_first(state: State) -> bool {
+    state.groups % 2 == 1
+}
+
+// The state of another spot in the same groups.
+/// # Contract
+///
+/// ```text
+/// ensures { result ≡ at_spot state spot }
+/// ```
+///
+/// [docs/proofs/STATEMENT.md](crate::proved#contracts) explains the words.
+#[inline]
+const fn at_spot(state: State, spot: Spot) -> State {
+    State { spot, ..state }
+}
+
+// A step in the same groups.
+/// # Contract
+///
+/// ```text
+/// ensures { result ≡ in_groups state step }
+/// ```
+///
+/// [docs/proofs/STATEMENT.md](crate::proved#contracts) explains the words.
+#[inline]
+const fn in_groups(state: State, step: Step) -> GroupStep {
+    match step {
+        Ok((place, item)) => Ok((at_spot(state, Spot::Inside(place)), item)),
+        Err(fault) => Err(fault),
+    }
+}
+
+// The word of a group at the front of a text: true of `first`, and false of `optional`.
+/// # Contract
+///
+/// ```text
+/// ensures { result ≡ group_at text.now }
+/// ```
+///
+/// [docs/proofs/STATEMENT.md](crate::proved#contracts) explains the words.
+#[inline]
+const fn group_at(text: &[u8]) -> Option<bool> {
+    if is_word_at(b"optional", text) {
+        Some(false)
+    } else if is_word_at(b"first", text) {
+        Some(true)
+    } else {
+        None
+    }
+}
+
+// A group begins.
+/// # Contract
+///
+/// ```text
+/// ensures { result ≡ began state bracket is_first }
+/// ```
+///
+/// [docs/proofs/STATEMENT.md](crate::proved#contracts) explains the words.
+#[inline]
+const fn begin(state: State, bracket: usize, is_first: bool) -> GroupStep {
+    if state.groups > 4_294_967_295 {
+        return Err((DescriptionFault::TooDeep, bracket));
+    }
+    let groups = if is_first {
+        state.groups * 2 + 1
+    } else {
+        state.groups * 2
+    };
+    let outer = if is_in_group(state) {
+        state.outer
+    } else {
+        bracket
+    };
+    let begun = State {
+        groups,
+        outer,
+        spot: Spot::GroupWord,
+    };
+    Ok((begun, None))
+}
+
+// A byte of a description, perhaps of a group.
+/// # Contract
+///
+/// ```text
+/// ensures { result ≡ inside version state place first text.now }
+/// ```
+///
+/// [docs/proofs/STATEMENT.md](crate::proved#contracts) explains the words.
+#[inline]
+const fn inside(
+    version: DescriptionVersion,
+    state: State,
+    place: Place,
+    first: u8,
+    text: &[u8],
+) -> GroupStep {
+    match place {
+        Place::Outside => {
+            if is_in_group(state) && first == b']' {
+                Ok((at_spot(state, Spot::BetweenGroups(true)), None))
+            } else {
+                in_groups(state, step(version, Place::Outside, first, text))
+            }
+        }
+        Place::Opened(bracket) => match group_at(text) {
+            Some(is_first) => begin(state, bracket, is_first),
+            None => in_groups(state, step(version, Place::Opened(bracket), first, text)),
+        },
+        Place::Unnamed(bracket) => match group_at(text) {
+            Some(is_first) => begin(state, bracket, is_first),
+            None => in_groups(state, step(version, Place::Unnamed(bracket), first, text)),
+        },
+        Place::Escaped => in_groups(state, step(version, Place::Escaped, first, text)),
+        Place::InWord(bracket, name, modifiers) => {
+            let place = Place::InWord(bracket, name, modifiers);
+            in_groups(state, step(version, place, first, text))
+        }
+        Place::BetweenWords(bracket, name, modifiers) => {
+            let place = Place::BetweenWords(bracket, name, modifiers);
+            in_groups(state, step(version, place, first, text))
+        }
+    }
+}
+
+// A byte of the word of a group, or the one behind it.
+/// # Contract
+///
+/// ```text
+/// ensures { result ≡ in_group_word state first text.now }
+/// ```
+///
+/// [docs/proofs/STATEMENT.md](crate::proved#contracts) explains the words.
+#[inline]
+const fn in_group_word(state: State, first: u8, text: &[u8]) -> GroupStep {
+    if is_white_space(first) {
+        return Ok((at_spot(state, Spot::BetweenGroups(false)), None));
+    }
+    match first {
+        b']' => Err((DescriptionFault::NoGroup, text.len())),
+        b'[' => Err((DescriptionFault::WrongGroup, text.len())),
+        _ => Ok((at_spot(state, Spot::GroupWord), None)),
+    }
+}
+
+// The head of a group, or that of the next one of several, whose size is not known yet.
+/// # Contract
+///
+/// ```text
+/// ensures { result ≡ head_of is_first has_group }
+/// ```
+///
+/// [docs/proofs/STATEMENT.md](crate::proved#contracts) explains the words.
+#[inline]
+const fn head_of(is_first: bool, has_group: bool) -> Item {
+    match (is_first, has_group) {
+        (false, _) => Item::Optional(0),
+        (true, false) => Item::First(0),
+        (true, true) => Item::Or(0),
+    }
+}
+
+// A byte behind the word of a group, or behind one of its descriptions.
+/// # Contract
+///
+/// ```text
+/// ensures { result ≡ between_groups state has_group first text.now }
+/// ```
+///
+/// [docs/proofs/STATEMENT.md](crate::proved#contracts) explains the words.
+#[inline]
+const fn between_groups(state: State, has_group: bool, first: u8, text: &[u8]) -> GroupStep {
+    if is_white_space(first) {
+        return Ok((at_spot(state, Spot::BetweenGroups(has_group)), None));
+    }
+    if first == b']' {
+        if !has_group {
+            return Err((DescriptionFault::NoGroup, text.len()));
+        }
+        let end_of_items = State {
+            groups: state.groups / 2,
+            spot: Spot::Inside(Place::Outside),
+            ..state
+        };
+        return Ok((end_of_items, None));
+    }
+    let is_first = is_in_first(state);
+    if first == b'[' && (is_first || !has_group) {
+        let head = head_of(is_first, has_group);
+        Ok((at_spot(state, Spot::Inside(Place::Outside)), Some(head)))
+    } else {
+        Err((DescriptionFault::WrongGroup, text.len()))
+    }
+}
+
+// The step of a byte, the first of a text. The heads of groups have no size yet.
+/// # Contract
+///
+/// ```text
+/// ensures { result ≡ unsized_step version state state.spot first text.now }
+/// ```
+///
+/// [docs/proofs/STATEMENT.md](crate::proved#contracts) explains the words.
+#[inline]
+const fn unsized_step(
+    version: DescriptionVersion,
+    state: State,
+    first: u8,
+    text: &[u8],
+) -> GroupStep {
+    match state.spot {
+        Spot::Inside(place) => inside(version, state, place, first, text),
+        Spot::GroupWord => in_group_word(state, first, text),
+        Spot::BetweenGroups(has_group) => between_groups(state, has_group, first, text),
+    }
+}
+
+// Whether the byte is the `]` of the description in the innermost of these groups.
+/// # Contract
+///
+/// ```text
+/// ensures { result ≡ ends_group groups state first }
+/// ```
+///
+/// [docs/proofs/STATEMENT.md](crate::proved#contracts) explains the words.
+#[inline]
+const fn ends_group(groups: u64, state: State, first: u8) -> bool {
+    if state.groups != groups {
+        return false;
+    }
+    match state.spot {
+        Spot::Inside(Place::Outside) => first == b']',
+        _ => false,
+    }
+}
+
+// How many items a step has.
+/// # Contract
+///
+/// ```text
+/// ensures value { result ≡ item_count item }
+/// ensures at_most { result ≤ 1 }
+/// ```
+///
+/// [docs/proofs/STATEMENT.md](crate::proved#contracts) explains the words.
+#[inline]
+const fn item_count(item: Option<Item>) -> usize {
+    match item {
+        Some(_) => 1,
+        None => 0,
+    }
+}
+
+// How many items a text has up to the end of these groups.
+/// # Contract
+///
+/// ```text
+/// ensures { result ≡ group_size version groups state text.now }
+/// ```
+///
+/// [docs/proofs/STATEMENT.md](crate::proved#contracts) explains the words.
+#[inline]
+const fn group_size(version: DescriptionVersion, groups: u64, state: State, text: &[u8]) -> usize {
+    let mut state = state;
+    let mut rest = text;
+    let mut size = 0;
+    while let Some((first, more)) = rest.split_first() {
+        if ends_group(groups, state, *first) {
+            return size;
+        }
+        let (next, item) = match unsized_step(version, state, *first, rest) {
+            Ok(read) => read,
+            Err(_) => return size,
+        };
+        size += item_count(item);
+        state = next;
+        rest = more;
+    }
+    size
+}
+
+// An item behind which a state follows: the head of a group has the size of what follows.
+/// # Contract
+///
+/// ```text
+/// ensures { result ≡ item_of_size item (group_size version next.groups next rest.now) }
+/// ```
+///
+/// [docs/proofs/STATEMENT.md](crate::proved#contracts) explains the words.
+#[inline]
+const fn set_size(version: DescriptionVersion, item: Item, next: State, rest: &[u8]) -> Item {
+    match item {
+        Item::Byte(byte) => Item::Byte(byte),
+        Item::Part(component) => Item::Part(component),
+        Item::Optional(_) => Item::Optional(group_size(version, next.groups, next, rest)),
+        Item::First(_) => Item::First(group_size(version, next.groups, next, rest)),
+        Item::Or(_) => Item::Or(group_size(version, next.groups, next, rest)),
+    }
+}
+
+// The step of a byte, the first of a text, and what follows it.
+/// # Contract
+///
+/// ```text
+/// ensures { result ≡ group_step version state first text.now rest.now }
+/// ```
+///
+/// [docs/proofs/STATEMENT.md](crate::proved#contracts) explains the words.
+#[inline]
+pub(crate) const fn group_step(
+    version: DescriptionVersion,
+    state: State,
+    first: u8,
+    text: &[u8],
+    rest: &[u8],
+) -> GroupStep {
+    match unsized_step(version, state, first, text) {
+        Ok((next, Some(item))) => Ok((next, Some(set_size(version, item, next, rest)))),
+        Ok((next, None)) => Ok((next, None)),
+        Err(fault) => Err(fault),
+    }
+}
+
+// The fault of a description that ends here, and how many bytes are left from it on.
+/// # Contract
+///
+/// ```text
+/// ensures { result ≡ group_fault_at_end state }
+/// ```
+///
+/// [docs/proofs/STATEMENT.md](crate::proved#contracts) explains the words.
+#[inline]
+pub(crate) const fn group_fault_at_end(state: State) -> Option<(DescriptionFault, usize)> {
+    if is_in_group(state) {
+        return Some((DescriptionFault::NoEnd, state.outer));
+    }
+    match state.spot {
+        Spot::Inside(place) => fault_at_end(place),
+        Spot::GroupWord | Spot::BetweenGroups(_) => Some((DescriptionFault::NoEnd, state.outer)),
+    }
+}

@@ -1,0 +1,81 @@
+// Made by make/erase of crates/local_texts/src/full_times.rt. Do not edit.
+//! Times of day with an offset, read.
+use crate::proved::local_texts::faults::valid_bytes;
+use crate::proved::local_texts::readings::parse_time;
+use crate::proved::calendar_values::{Time, UtcOffset};
+use crate::proved::rfc3339::{TextRefusal, parse_rfc3339_offset};
+
+/// Reads a time of day and its offset, with nothing before or after them, as `12:34:56.5+01:00`: a
+/// `full-time` of RFC 3339, section 5.6. Digits of the fraction past the ninth drop out. Fails as
+/// `rfc3339::parse_rfc3339` does. [`time_with_offset_fault`](crate::proved::local_texts::time_with_offset_fault) returns
+/// the index of a fault.
+///
+/// ```
+/// # use muxandu::proved::*;
+/// # fn main() -> Result<(), Box<dyn std::error::Error>> {
+/// let (time, offset) = local_texts::parse_time_with_offset(b"16:39:57-08:00")?;
+/// assert_eq!(time.as_hms(), (16, 39, 57));
+/// assert_eq!(offset.whole_hours(), -8);
+/// assert_eq!(local_texts::parse_time_with_offset(b"16:39:57"), Err(TextRefusal::Syntax));
+/// # Ok(())
+/// # }
+/// ```
+///
+/// # Contract
+///
+/// ```text
+/// ensures reading { result ≡ reading_as time_and_offset (time_on_date text.now) }
+/// ensures value { (p : Parts) → IsFullTime text.now p → OkIff result (AreInRange p)
+///     (time_of_parts p, offset_of p.is_west p.offset_hour p.offset_minute) }
+/// ensures syntax { (result ≡ Err Syntax) ⊎ ((p : Parts) × IsFullTime text.now p) }
+/// ensures accepted { IfOk result (λ read.
+///     (p : Parts) × IsFullTime text.now p × AreInRange p × (read ≡
+///     (time_of_parts p, offset_of p.is_west p.offset_hour p.offset_minute))) }
+/// ```
+///
+/// [docs/proofs/STATEMENT.md](crate::proved#contracts) explains the words.
+#[inline]
+pub fn parse_time_with_offset(text: &[u8]) -> Result<(Time, UtcOffset), TextRefusal> {
+    read_time_with_offset(text)
+}
+
+// The same by the time of day and the offset. The offset begins with the first byte that no time of
+// day has there.
+/// # Contract
+///
+/// ```text
+/// ensures { result ≡ reading_as time_and_offset (time_on_date text.now) }
+/// ```
+///
+/// [docs/proofs/STATEMENT.md](crate::proved#contracts) explains the words.
+#[inline]
+fn read_time_with_offset(text: &[u8]) -> Result<(Time, UtcOffset), TextRefusal> {
+    let (time, offset) = text.split_at(valid_bytes(11, text));
+    read_both(time, offset)
+}
+
+// The readings of a time of day and of an offset, together.
+/// # Contract
+///
+/// ```text
+/// ensures { result ≡ both_readings
+///     (reading_as (λ at. wall_time at.wall) (time_in_utc time.now))
+///     (offset_reading_of offset.now) }
+/// ```
+///
+/// [docs/proofs/STATEMENT.md](crate::proved#contracts) explains the words.
+#[inline]
+fn read_both(time: &[u8], offset: &[u8]) -> Result<(Time, UtcOffset), TextRefusal> {
+    let time = parse_time(time);
+    match parse_rfc3339_offset(offset) {
+        Ok(offset) => match time {
+            Ok(time) => Ok((time, offset)),
+            Err(refusal) => Err(refusal),
+        },
+        Err(TextRefusal::Syntax) => Err(TextRefusal::Syntax),
+        Err(TextRefusal::OutOfRange(component)) => match time {
+            Ok(_) => Err(TextRefusal::OutOfRange(component)),
+            Err(refusal) => Err(refusal),
+        },
+    }
+}
