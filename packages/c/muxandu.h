@@ -3,28 +3,32 @@
  * Dates and times, proved: the calls of the Rattle crate muxandu_c.
  * Made by make/bindings from crates/muxandu_c/src. Do not edit.
  *
- * What a caller must see to, since nothing checks it:
- * - each pointer is not NULL, but one to items whose count is 0, and is aligned for what it points to;
- * - a pointer to items stands for as many as the count after it says, of at most PTRDIFF_MAX bytes together;
- * - what a pointer that is not const points to is reached in no other way during the call: it is no part of what
- *   another pointer points to, and no other thread reads or writes it. What a const pointer points to is not written
- *   meanwhile;
- * - the library is not older than these declarations: muxandu_version() is at least MUXANDU_VERSION.
- * Any number may stand in any field: each call tests what it reads. Structs go in by value, so that the result may be
- * written over one of them, as in muxandu_date_time_to_offset(at, 0, &at). A struct has bytes between its fields, or after
- * them: compare fields, not bytes.
+ * Your duties, which nothing checks:
+ * - no pointer is NULL, except one to items whose count is 0, and each is aligned for its type;
+ * - a pointer to items has as many items as the count after it, of at most PTRDIFF_MAX bytes
+ *   together;
+ * - during the call nothing else reaches the memory of a pointer that is not const: no other
+ *   pointer overlaps it, and no other thread reads or writes it. Nothing writes the memory of a
+ *   const pointer during the call;
+ * - the library is not older than these declarations: muxandu_version() is at least
+ *   MUXANDU_VERSION.
+ * A field may have any number: each call tests those that it reads. Structs go in by value, so the
+ * result may replace one of them, as in muxandu_date_time_to_offset(at, 0, &at). A struct has
+ * bytes between its fields, or after them: compare fields, not bytes.
  *
- * A call keeps nothing, shares nothing, takes no memory, waits for nothing and ends: it may be made from any thread, at
- * the same time as others, from a signal handler and after fork.
+ * A call keeps nothing, shares nothing, takes no memory, waits for nothing and ends. You may call
+ * it from any thread, at the same time as others, from a signal handler and after fork.
  *
- * A call that returns a status returns 0, MUXANDU_OK, where it has written its result, and else the number of what it
- * refuses, whose name comes after MUXANDU_REFUSED_; then what 'out' points to is as it was. A call that returns a
- * MuxanduBatch has written as many items as it counts, and what lies behind them in 'out' is as it was.
+ * A call that returns a status returns 0, MUXANDU_OK, if it has written its result. Otherwise it
+ * returns the number of an error, whose name begins with MUXANDU_REFUSED_, and leaves 'out' as it
+ * was. A call that returns a MuxanduBatch has written as many items as it counts, and leaves the
+ * rest of 'out' as it was.
  *
- * What stays, as long as the library is libmuxandu.so.0: names, numbers, structs, the parameters of calls and what they
- * give. A later version adds calls, constants and statuses, whose numbers come after those that there are. A name that is
- * to go has the attribute 'deprecated' first, which says what to use, for one year and one version at least; it goes only
- * where the number of the library goes up.
+ * As long as the library is libmuxandu.so.0, these stay: names, numbers, structs, and the
+ * parameters and results of calls. A later version adds calls, constants and statuses, with
+ * numbers after those of this version. A name that will go first has the attribute 'deprecated',
+ * for one year and one version at least. The attribute names its successor. The name goes only if
+ * the number of the library goes up.
  */
 #ifndef MUXANDU_H
 #define MUXANDU_H
@@ -59,8 +63,8 @@ extern "C" {
 #define MUXANDU_ENUM(name) enum name
 #endif
 
-/* The error of a call. Its status is this number, or 0 if it succeeds. The comment of each call lists its errors in
- * the order of its tests; it returns the first. */
+/* The error of a call. Its status is this number, or 0 if it succeeds. The comment of each call
+ * lists its errors in the order of its tests; it returns the first. */
 typedef MUXANDU_ENUM(MuxanduStatusCode) {
     /* Nothing is refused. */
     MUXANDU_OK = 0,
@@ -92,13 +96,16 @@ typedef MUXANDU_ENUM(MuxanduStatusCode) {
     MUXANDU_REFUSED_NANOSECOND = 13,
     /* An offset that is not -93599 to 93599 seconds, or whose part in seconds is not -59 to 59. */
     MUXANDU_REFUSED_OFFSET_SECONDS = 14,
-    /* A Unix second, or a count of another unit from 1970-01-01, outside the range of timestamps. */
+    /* A Unix second, or a count of another unit from 1970-01-01, outside the range of
+     * timestamps. */
     MUXANDU_REFUSED_TIMESTAMP = 15,
-    /* A day number that is not -365961662 to 364522971, or a Julian day outside the range of dates. */
+    /* A day number that is not -365961662 to 364522971, or a Julian day outside the range of
+     * dates. */
     MUXANDU_REFUSED_DAY_NUMBER = 16,
     /* A duration whose whole seconds do not fit in 64 bits. */
     MUXANDU_REFUSED_DURATION = 17,
-    /* A number that is not a unit, or not a part of a date-time. */
+    /* A number that is not a unit, not a part of a date-time, or not a kind, a version or an
+     * item of a format description. */
     MUXANDU_REFUSED_UNIT = 18,
     /* A result that is outside the range, or that its type cannot hold. */
     MUXANDU_REFUSED_RESULT = 19,
@@ -108,11 +115,13 @@ typedef MUXANDU_ENUM(MuxanduStatusCode) {
     MUXANDU_REFUSED_SPAN = 21,
     /* A text that does not have the form that the call reads, such as a date-time of RFC 3339. */
     MUXANDU_REFUSED_SYNTAX = 22,
-    /* Hours of an offset that are out of range: above 23 in a text of RFC 3339, not -25 to 25 elsewhere. */
+    /* Hours of an offset that are out of range: above 23 in a text of RFC 3339, not -25 to 25
+     * elsewhere. */
     MUXANDU_REFUSED_OFFSET_HOUR = 23,
     /* Minutes of an offset that are not -59 to 59. */
     MUXANDU_REFUSED_OFFSET_MINUTE = 24,
-    /* A value that has no text in RFC 3339: a year outside 0 to 9999, or an offset with seconds or beyond 23:59. */
+    /* A value that has no such text, as in RFC 3339 a year outside 0 to 9999, or an offset with
+     * seconds or beyond 23:59. */
     MUXANDU_REFUSED_NO_TEXT = 25
 } MuxanduStatusCode;
 
@@ -137,6 +146,112 @@ typedef MUXANDU_ENUM(MuxanduUnit) {
     MUXANDU_UNIT_NANOSECOND = 7
 } MuxanduUnit;
 
+/* The parts of a date-time that a description writes or reads. A call tests the other parts too,
+ * and reads them as those of 1970-01-01 0:00 UTC. */
+typedef MUXANDU_ENUM(MuxanduKind) {
+    /* The date, the time of day and the offset. */
+    MUXANDU_KIND_OFFSET_DATE_TIME = 1,
+    /* The date and the time of day. */
+    MUXANDU_KIND_PLAIN_DATE_TIME = 2,
+    /* The date. */
+    MUXANDU_KIND_DATE = 3,
+    /* The time of day. */
+    MUXANDU_KIND_TIME = 4,
+    /* The offset. */
+    MUXANDU_KIND_UTC_OFFSET = 5
+} MuxanduKind;
+
+/* The reason of an error of a description, or the part at fault of a text that it reads. Later
+ * versions may add reasons. */
+typedef MUXANDU_ENUM(MuxanduReason) {
+    /* A '[' without its ']'. */
+    MUXANDU_REASON_NO_END = 1,
+    /* A '[' that no name follows. */
+    MUXANDU_REASON_NO_NAME = 2,
+    /* A '[' inside the brackets of a component. */
+    MUXANDU_REASON_NESTED_BRACKET = 3,
+    /* A name of no component. */
+    MUXANDU_REASON_UNKNOWN_COMPONENT = 4,
+    /* A name that is no modifier of its component. */
+    MUXANDU_REASON_UNKNOWN_MODIFIER = 5,
+    /* A value that the modifier does not have. */
+    MUXANDU_REASON_WRONG_VALUE = 6,
+    /* A component without a modifier that it needs, such as the count of 'ignore'. */
+    MUXANDU_REASON_MISSING_MODIFIER = 7,
+    /* A backslash before another byte than '[', ']' and a backslash. */
+    MUXANDU_REASON_WRONG_ESCAPE = 8,
+    /* An 'optional' or 'first' without a description in brackets. */
+    MUXANDU_REASON_NO_GROUP = 9,
+    /* Something else than a description in brackets after 'optional' or 'first'. */
+    MUXANDU_REASON_WRONG_GROUP = 10,
+    /* More than 32 groups inside each other. */
+    MUXANDU_REASON_TOO_DEEP = 11,
+    /* An item, or its text, for which the caller has no room. */
+    MUXANDU_REASON_NO_ROOM = 12,
+    /* A component that has no name in the language of descriptions. */
+    MUXANDU_REASON_NO_TEXT = 13,
+    /* The count 0 of 'ignore'. */
+    MUXANDU_REASON_NO_COUNT = 14,
+    /* A ']' in a group, for which version 1 has no text. */
+    MUXANDU_REASON_NO_ESCAPE = 15,
+    /* A group in place of another that is not there. */
+    MUXANDU_REASON_NO_FIRST = 16,
+    /* A group of more items than the description, or the group around it, has. */
+    MUXANDU_REASON_PAST_END = 17,
+    /* The year. */
+    MUXANDU_REASON_YEAR = 18,
+    /* The year without its last two digits. */
+    MUXANDU_REASON_YEAR_CENTURY = 19,
+    /* The last two digits of the year. */
+    MUXANDU_REASON_YEAR_LAST_TWO = 20,
+    /* The year of the ISO week. */
+    MUXANDU_REASON_ISO_YEAR = 21,
+    /* The year of the ISO week without its last two digits. */
+    MUXANDU_REASON_ISO_YEAR_CENTURY = 22,
+    /* The last two digits of the year of the ISO week. */
+    MUXANDU_REASON_ISO_YEAR_LAST_TWO = 23,
+    /* The month. */
+    MUXANDU_REASON_MONTH = 24,
+    /* The day of the month. */
+    MUXANDU_REASON_DAY = 25,
+    /* The day of the year. */
+    MUXANDU_REASON_ORDINAL = 26,
+    /* The day of the week. */
+    MUXANDU_REASON_WEEKDAY = 27,
+    /* The ISO week. */
+    MUXANDU_REASON_ISO_WEEK = 28,
+    /* The week by the Sundays of the year. */
+    MUXANDU_REASON_SUNDAY_WEEK = 29,
+    /* The week by the Mondays of the year. */
+    MUXANDU_REASON_MONDAY_WEEK = 30,
+    /* The hour of the day. */
+    MUXANDU_REASON_HOUR = 31,
+    /* The hour on a clock of 12 hours. */
+    MUXANDU_REASON_HOUR12 = 32,
+    /* The half of the day. */
+    MUXANDU_REASON_PERIOD = 33,
+    /* The minute. */
+    MUXANDU_REASON_MINUTE = 34,
+    /* The second. */
+    MUXANDU_REASON_SECOND = 35,
+    /* The fraction of the second. */
+    MUXANDU_REASON_SUBSECOND = 36,
+    /* The hours of the offset. */
+    MUXANDU_REASON_OFFSET_HOUR = 37,
+    /* The minutes of the offset. */
+    MUXANDU_REASON_OFFSET_MINUTE = 38,
+    /* The seconds of the offset. */
+    MUXANDU_REASON_OFFSET_SECOND = 39,
+    /* The Unix time in seconds. */
+    MUXANDU_REASON_UNIX_SECOND = 40,
+    /* The Unix time in milliseconds. */
+    MUXANDU_REASON_UNIX_MILLISECOND = 41,
+    /* The Unix time in microseconds. */
+    MUXANDU_REASON_UNIX_MICROSECOND = 42,
+    /* The Unix time in nanoseconds. */
+    MUXANDU_REASON_UNIX_NANOSECOND = 43
+} MuxanduReason;
+
 /* A part of a date-time. A call takes its number. */
 typedef MUXANDU_ENUM(MuxanduPart) {
     /* The year, -999999 to 999999. */
@@ -157,8 +272,8 @@ typedef MUXANDU_ENUM(MuxanduPart) {
     MUXANDU_PART_NANOSECOND = 8
 } MuxanduPart;
 
-/* The version of these declarations: ten thousand times the first number, plus a hundred times the second, plus the
- * third. */
+/* The version of these declarations: ten thousand times the first number, plus a hundred times
+ * the second, plus the third. */
 #define MUXANDU_VERSION 100
 
 /* The same as a text. */
@@ -203,6 +318,9 @@ typedef MUXANDU_ENUM(MuxanduPart) {
 /* The bytes of the longest text that muxandu_status_text writes. Use it as the size of a buffer. */
 #define MUXANDU_STATUS_ROOM 128
 
+/* The most items of a description. */
+#define MUXANDU_DESCRIPTION_ROOM 128
+
 /* An instant: a Unix second and a nanosecond of that second, before 1970 too. */
 typedef struct MuxanduTimestamp {
     /* The seconds from 1970-01-01 0:00 UTC, rounded down: -31619087596800 to 31494784780799. */
@@ -211,9 +329,9 @@ typedef struct MuxanduTimestamp {
     uint32_t nanoseconds;
 } MuxanduTimestamp;
 
-/* A duration: the sum of its seconds and its nanoseconds. A call writes both with one sign, and less than a second
- * of nanoseconds. It takes any whose sum is at least -2^63 seconds - 999999999 ns and at most 2^63 - 1 seconds +
- * 999999999 ns. */
+/* A duration: the sum of its seconds and its nanoseconds. A call writes both with one sign, and
+ * less than a second of nanoseconds. It takes any whose sum is at least -2^63 seconds -
+ * 999999999 ns and at most 2^63 - 1 seconds + 999999999 ns. */
 typedef struct MuxanduDuration {
     /* The seconds. */
     int64_t seconds;
@@ -259,7 +377,8 @@ typedef struct MuxanduOrdinalDate {
     uint16_t ordinal;
 } MuxanduOrdinalDate;
 
-/* A date as an ISO year, an ISO week and a day of the week (ISO 8601). The week belongs to the year of its Thursday. */
+/* A date as an ISO year, an ISO week and a day of the week (ISO 8601). The week belongs to the
+ * year of its Thursday. */
 typedef struct MuxanduWeekDate {
     /* The ISO year, -999999 to 999999. */
     int32_t year;
@@ -277,13 +396,54 @@ typedef struct MuxanduSpan {
     size_t length;
 } MuxanduSpan;
 
-/* The result of a call with many items. It converts them in their order, up to the first that it rejects. */
+/* The result of a call with many items. It converts them in their order, up to the first that it
+ * rejects. */
 typedef struct MuxanduBatch {
     /* The number of items that it converted and wrote. */
     size_t count;
     /* 0 if these are all items, else the error of the next. */
     MuxanduStatus status;
 } MuxanduBatch;
+
+/* An item of a compiled description, as muxandu_description_parse writes it. Keep it as it is:
+ * its numbers can be others in a later version. */
+typedef struct MuxanduItem {
+    /* The kind of the item. */
+    uint8_t kind;
+    /* The first modifier of a component. */
+    uint8_t first;
+    /* The second modifier. */
+    uint8_t second;
+    /* The third modifier. */
+    uint8_t third;
+    /* The fourth modifier. */
+    uint8_t fourth;
+    /* The byte, the size of a group, or the number of a component. */
+    size_t number;
+} MuxanduItem;
+
+/* A time of day. */
+typedef struct MuxanduTime {
+    /* The hour, 0 to 23. */
+    uint8_t hour;
+    /* The minute, 0 to 59. */
+    uint8_t minute;
+    /* The second, 0 to 59: there are no leap seconds. */
+    uint8_t second;
+    /* The nanosecond of the second, 0 to 999999999. */
+    uint32_t nanosecond;
+} MuxanduTime;
+
+/* A moment: an instant, and the offset of the clocks that show it. It is a row of a column: 16
+ * bytes with no padding. */
+typedef struct MuxanduMoment {
+    /* The seconds from 1970-01-01 0:00 UTC, rounded down: -31619087596800 to 31494784780799. */
+    int64_t seconds;
+    /* The nanoseconds past that second, 0 to 999999999. */
+    uint32_t nanoseconds;
+    /* The offset: the seconds by which local clocks are ahead of UTC, -93599 to 93599. */
+    int32_t offset_seconds;
+} MuxanduMoment;
 
 /* An offset from UTC as hours, minutes and seconds, all of one sign. */
 typedef struct MuxanduOffset {
@@ -294,6 +454,17 @@ typedef struct MuxanduOffset {
     /* The seconds, -59 to 59. */
     int8_t seconds;
 } MuxanduOffset;
+
+/* The result of a call with a description. */
+typedef struct MuxanduOutcome {
+    /* The number of items or of bytes that the call wrote or, with BUFFER, has to write. After
+     * another error it is the index of the byte or of the item with the fault, or 0. */
+    size_t size;
+    /* 0, or the error. */
+    MuxanduStatus status;
+    /* The reason of the error, the part that is at fault, or 0. */
+    MuxanduReason reason;
+} MuxanduOutcome;
 
 /* Every reading of a date: its day numbers, its day of the year and of the week, and its weeks. */
 typedef struct MuxanduDateReads {
@@ -325,6 +496,8 @@ typedef struct MuxanduDateReads {
 MUXANDU_LAYOUT(Bits64, sizeof(size_t) == 8 && sizeof(void *) == 8);
 MUXANDU_LAYOUT(MuxanduStatus, sizeof(MuxanduStatus) == 4);
 MUXANDU_LAYOUT(MuxanduUnit, sizeof(MuxanduUnit) == 4);
+MUXANDU_LAYOUT(MuxanduKind, sizeof(MuxanduKind) == 4);
+MUXANDU_LAYOUT(MuxanduReason, sizeof(MuxanduReason) == 4);
 MUXANDU_LAYOUT(MuxanduPart, sizeof(MuxanduPart) == 4);
 MUXANDU_LAYOUT(MuxanduTimestamp, sizeof(MuxanduTimestamp) == 16);
 MUXANDU_LAYOUT(MuxanduTimestamp_seconds, offsetof(MuxanduTimestamp, seconds) == 0);
@@ -358,10 +531,30 @@ MUXANDU_LAYOUT(MuxanduSpan_length, offsetof(MuxanduSpan, length) == 8);
 MUXANDU_LAYOUT(MuxanduBatch, sizeof(MuxanduBatch) == 16);
 MUXANDU_LAYOUT(MuxanduBatch_count, offsetof(MuxanduBatch, count) == 0);
 MUXANDU_LAYOUT(MuxanduBatch_status, offsetof(MuxanduBatch, status) == 8);
+MUXANDU_LAYOUT(MuxanduItem, sizeof(MuxanduItem) == 16);
+MUXANDU_LAYOUT(MuxanduItem_kind, offsetof(MuxanduItem, kind) == 0);
+MUXANDU_LAYOUT(MuxanduItem_first, offsetof(MuxanduItem, first) == 1);
+MUXANDU_LAYOUT(MuxanduItem_second, offsetof(MuxanduItem, second) == 2);
+MUXANDU_LAYOUT(MuxanduItem_third, offsetof(MuxanduItem, third) == 3);
+MUXANDU_LAYOUT(MuxanduItem_fourth, offsetof(MuxanduItem, fourth) == 4);
+MUXANDU_LAYOUT(MuxanduItem_number, offsetof(MuxanduItem, number) == 8);
+MUXANDU_LAYOUT(MuxanduTime, sizeof(MuxanduTime) == 8);
+MUXANDU_LAYOUT(MuxanduTime_hour, offsetof(MuxanduTime, hour) == 0);
+MUXANDU_LAYOUT(MuxanduTime_minute, offsetof(MuxanduTime, minute) == 1);
+MUXANDU_LAYOUT(MuxanduTime_second, offsetof(MuxanduTime, second) == 2);
+MUXANDU_LAYOUT(MuxanduTime_nanosecond, offsetof(MuxanduTime, nanosecond) == 4);
+MUXANDU_LAYOUT(MuxanduMoment, sizeof(MuxanduMoment) == 16);
+MUXANDU_LAYOUT(MuxanduMoment_seconds, offsetof(MuxanduMoment, seconds) == 0);
+MUXANDU_LAYOUT(MuxanduMoment_nanoseconds, offsetof(MuxanduMoment, nanoseconds) == 8);
+MUXANDU_LAYOUT(MuxanduMoment_offset_seconds, offsetof(MuxanduMoment, offset_seconds) == 12);
 MUXANDU_LAYOUT(MuxanduOffset, sizeof(MuxanduOffset) == 3);
 MUXANDU_LAYOUT(MuxanduOffset_hours, offsetof(MuxanduOffset, hours) == 0);
 MUXANDU_LAYOUT(MuxanduOffset_minutes, offsetof(MuxanduOffset, minutes) == 1);
 MUXANDU_LAYOUT(MuxanduOffset_seconds, offsetof(MuxanduOffset, seconds) == 2);
+MUXANDU_LAYOUT(MuxanduOutcome, sizeof(MuxanduOutcome) == 16);
+MUXANDU_LAYOUT(MuxanduOutcome_size, offsetof(MuxanduOutcome, size) == 0);
+MUXANDU_LAYOUT(MuxanduOutcome_status, offsetof(MuxanduOutcome, status) == 8);
+MUXANDU_LAYOUT(MuxanduOutcome_reason, offsetof(MuxanduOutcome, reason) == 12);
 MUXANDU_LAYOUT(MuxanduDateReads, sizeof(MuxanduDateReads) == 20);
 MUXANDU_LAYOUT(MuxanduDateReads_day, offsetof(MuxanduDateReads, day) == 0);
 MUXANDU_LAYOUT(MuxanduDateReads_julian_day, offsetof(MuxanduDateReads, julian_day) == 4);
@@ -373,51 +566,61 @@ MUXANDU_LAYOUT(MuxanduDateReads_sunday_based_week, offsetof(MuxanduDateReads, su
 MUXANDU_LAYOUT(MuxanduDateReads_monday_based_week, offsetof(MuxanduDateReads, monday_based_week) == 17);
 #undef MUXANDU_LAYOUT
 
-/* The version of the library, a number like MUXANDU_VERSION. A library with a lower number lacks some of these
- * declarations. */
+/* The version of the library, a number like MUXANDU_VERSION. A library with a lower number lacks
+ * some of these declarations. */
 uint32_t muxandu_version(void);
 
-/* Writes the name of a status, such as 'OK' or 'DAY_OF_MONTH', to the front of 'buffer', and its length to 'size'.
- * The name has at most 15 bytes, all ASCII and none 0. A number that is no status of this version has the name
- * 'UNKNOWN'. Errors: BUFFER if the name is longer than 'buffer'; 'size' is then the length of the name, and 'buffer'
- * is unchanged. */
-MuxanduStatus muxandu_status_name(MuxanduStatus status, char *MUXANDU_RESTRICT buffer, size_t buffer_count,
-                                  size_t *MUXANDU_RESTRICT size);
+/* Writes the name of a status, such as 'OK' or 'DAY_OF_MONTH', to the front of 'buffer', and its
+ * length to 'size'. The name has at most 15 bytes, all ASCII and none 0. A number that is no
+ * status of this version has the name 'UNKNOWN'. Errors: BUFFER if the name is longer than
+ * 'buffer'; 'size' is then the length of the name, and 'buffer' is unchanged. */
+MuxanduStatus muxandu_status_name(MuxanduStatus status, char *MUXANDU_RESTRICT buffer,
+                                  size_t buffer_count, size_t *MUXANDU_RESTRICT size);
 
 /* Writes the meaning of a status, a sentence of at most 128 bytes, as muxandu_status_name does. */
-MuxanduStatus muxandu_status_text(MuxanduStatus status, char *MUXANDU_RESTRICT buffer, size_t buffer_count,
-                                  size_t *MUXANDU_RESTRICT size);
+MuxanduStatus muxandu_status_text(MuxanduStatus status, char *MUXANDU_RESTRICT buffer,
+                                  size_t buffer_count, size_t *MUXANDU_RESTRICT size);
 
 /* Checks that the parts make a timestamp. Errors, in this order: TIMESTAMP, NANOSECOND. */
 MuxanduStatus muxandu_timestamp_check(MuxanduTimestamp at);
 
-/* The order of two timestamps: -1 if 'first' comes first, 0 if both are one instant, 1 if 'second' comes first. It
- * compares seconds and nanoseconds together, and takes any parts, also invalid ones, so you can sort with it. */
+/* The order of two timestamps: -1 if 'first' comes first, 0 if both are one instant, 1 if
+ * 'second' comes first. It compares seconds and nanoseconds together, and takes any parts, also
+ * invalid ones, so you can sort with it. */
 int32_t muxandu_timestamp_compare(MuxanduTimestamp first, MuxanduTimestamp second);
 
-/* The instant plus a duration. Errors, in this order: those of the timestamp, DURATION, RESULT if out of range. */
-MuxanduStatus muxandu_timestamp_add(MuxanduTimestamp at, MuxanduDuration duration, MuxanduTimestamp *out);
+/* The instant plus a duration. Errors, in this order: those of the timestamp, DURATION, RESULT
+ * if out of range. */
+MuxanduStatus muxandu_timestamp_add(MuxanduTimestamp at, MuxanduDuration duration,
+                                    MuxanduTimestamp *out);
 
-/* The instant minus a duration. Errors, in this order: those of the timestamp, DURATION, RESULT if out of range. */
-MuxanduStatus muxandu_timestamp_subtract(MuxanduTimestamp at, MuxanduDuration duration, MuxanduTimestamp *out);
+/* The instant minus a duration. Errors, in this order: those of the timestamp, DURATION, RESULT
+ * if out of range. */
+MuxanduStatus muxandu_timestamp_subtract(MuxanduTimestamp at, MuxanduDuration duration,
+                                         MuxanduTimestamp *out);
 
-/* The instant plus a duration, or the nearer end of the range. Errors, in this order: those of the timestamp,
- * DURATION. */
-MuxanduStatus muxandu_timestamp_saturating_add(MuxanduTimestamp at, MuxanduDuration duration, MuxanduTimestamp *out);
+/* The instant plus a duration, or the nearer end of the range. Errors, in this order: those of
+ * the timestamp, DURATION. */
+MuxanduStatus muxandu_timestamp_saturating_add(MuxanduTimestamp at, MuxanduDuration duration,
+                                               MuxanduTimestamp *out);
 
-/* The instant minus a duration, or the nearer end of the range. Errors, in this order: those of the timestamp,
- * DURATION. */
+/* The instant minus a duration, or the nearer end of the range. Errors, in this order: those of
+ * the timestamp, DURATION. */
 MuxanduStatus muxandu_timestamp_saturating_subtract(MuxanduTimestamp at, MuxanduDuration duration,
                                                     MuxanduTimestamp *out);
 
-/* The duration from 'earlier' to 'later', negative if 'later' comes first. Errors, in this order: those of 'later',
- * those of 'earlier'. */
-MuxanduStatus muxandu_timestamp_difference(MuxanduTimestamp later, MuxanduTimestamp earlier, MuxanduDuration *out);
+/* The duration from 'earlier' to 'later', negative if 'later' comes first. Errors, in this
+ * order: those of 'later', those of 'earlier'. */
+MuxanduStatus muxandu_timestamp_difference(MuxanduTimestamp later, MuxanduTimestamp earlier,
+                                           MuxanduDuration *out);
 
-/* The instant, rounded down to a unit in UTC, also before 1970. Errors, in this order: those of the timestamp, UNIT. */
-MuxanduStatus muxandu_timestamp_truncate(MuxanduTimestamp at, MuxanduUnit unit, MuxanduTimestamp *out);
+/* The instant, rounded down to a unit in UTC, also before 1970. Errors, in this order: those of
+ * the timestamp, UNIT. */
+MuxanduStatus muxandu_timestamp_truncate(MuxanduTimestamp at, MuxanduUnit unit,
+                                         MuxanduTimestamp *out);
 
-/* The instant of a number of milliseconds from 1970-01-01 0:00 UTC. Errors: TIMESTAMP if out of range. */
+/* The instant of a number of milliseconds from 1970-01-01 0:00 UTC. Errors: TIMESTAMP if out of
+ * range. */
 MuxanduStatus muxandu_timestamp_from_milliseconds(int64_t milliseconds, MuxanduTimestamp *out);
 
 /* The whole milliseconds from 1970-01-01 0:00 UTC, rounded down. Errors: those of the timestamp. */
@@ -426,61 +629,71 @@ MuxanduStatus muxandu_timestamp_to_milliseconds(MuxanduTimestamp at, int64_t *ou
 /* The instant of a number of microseconds from 1970-01-01 0:00 UTC. It is always in range. */
 MuxanduTimestamp muxandu_timestamp_from_microseconds(int64_t microseconds);
 
-/* The whole microseconds from 1970-01-01 0:00 UTC, rounded down. They fit in 64 bits from -290308-12-21 to
- * 294247-01-10. Errors, in this order: those of the timestamp, RESULT if they do not fit. */
+/* The whole microseconds from 1970-01-01 0:00 UTC, rounded down. They fit in 64 bits from
+ * -290308-12-21 to 294247-01-10. Errors, in this order: those of the timestamp, RESULT if they
+ * do not fit. */
 MuxanduStatus muxandu_timestamp_to_microseconds(MuxanduTimestamp at, int64_t *out);
 
 /* The instant of a number of nanoseconds from 1970-01-01 0:00 UTC. It is always in range. */
 MuxanduTimestamp muxandu_timestamp_from_nanoseconds(int64_t nanoseconds);
 
-/* The nanoseconds from 1970-01-01 0:00 UTC. They fit in 64 bits from 1677-09-21 to 2262-04-11. Errors, in this
- * order: those of the timestamp, RESULT if they do not fit. */
+/* The nanoseconds from 1970-01-01 0:00 UTC. They fit in 64 bits from 1677-09-21 to 2262-04-11.
+ * Errors, in this order: those of the timestamp, RESULT if they do not fit. */
 MuxanduStatus muxandu_timestamp_to_nanoseconds(MuxanduTimestamp at, int64_t *out);
 
-/* Checks that the parts make a date-time. To replace a part yourself, write it and then make this call. Each call
- * that takes a date-time has these errors, in this order: MONTH, YEAR, DAY, DAY_OF_MONTH, HOUR, MINUTE, SECOND,
- * NANOSECOND, OFFSET_SECONDS. */
+/* Checks that the parts make a date-time. To replace a part yourself, write it and then make
+ * this call. Each call that takes a date-time has these errors, in this order: MONTH, YEAR, DAY,
+ * DAY_OF_MONTH, HOUR, MINUTE, SECOND, NANOSECOND, OFFSET_SECONDS. */
 MuxanduStatus muxandu_date_time_check(MuxanduDateTime date_time);
 
-/* The date-time of an instant at an offset in seconds. Errors, in this order: those of the timestamp,
- * OFFSET_SECONDS, RESULT if the year at that offset is out of range. */
-MuxanduStatus muxandu_date_time_from_timestamp(MuxanduTimestamp at, int32_t offset_seconds, MuxanduDateTime *out);
+/* The date-time of an instant at an offset in seconds. Errors, in this order: those of the
+ * timestamp, OFFSET_SECONDS, RESULT if the year at that offset is out of range. */
+MuxanduStatus muxandu_date_time_from_timestamp(MuxanduTimestamp at, int32_t offset_seconds,
+                                               MuxanduDateTime *out);
 
-/* The instant of a date-time. Errors, in this order: those of the date-time, RESULT outside the range of timestamps. */
+/* The instant of a date-time. Errors, in this order: those of the date-time, RESULT outside the
+ * range of timestamps. */
 MuxanduStatus muxandu_timestamp_from_date_time(MuxanduDateTime date_time, MuxanduTimestamp *out);
 
-/* The same instant at another offset in seconds. Errors, in this order: those of the date-time, OFFSET_SECONDS,
- * RESULT if the year at that offset is out of range. */
-MuxanduStatus muxandu_date_time_to_offset(MuxanduDateTime date_time, int32_t offset_seconds, MuxanduDateTime *out);
+/* The same instant at another offset in seconds. Errors, in this order: those of the date-time,
+ * OFFSET_SECONDS, RESULT if the year at that offset is out of range. */
+MuxanduStatus muxandu_date_time_to_offset(MuxanduDateTime date_time, int32_t offset_seconds,
+                                          MuxanduDateTime *out);
 
-/* The date-time plus a duration, at the same offset. Errors, in this order: those of the date-time, DURATION, RESULT
- * if the year is out of range. */
-MuxanduStatus muxandu_date_time_add(MuxanduDateTime date_time, MuxanduDuration duration, MuxanduDateTime *out);
+/* The date-time plus a duration, at the same offset. Errors, in this order: those of the
+ * date-time, DURATION, RESULT if the year is out of range. */
+MuxanduStatus muxandu_date_time_add(MuxanduDateTime date_time, MuxanduDuration duration,
+                                    MuxanduDateTime *out);
 
-/* The date-time minus a duration, at the same offset. Errors, in this order: those of the date-time, DURATION,
- * RESULT if the year is out of range. */
-MuxanduStatus muxandu_date_time_subtract(MuxanduDateTime date_time, MuxanduDuration duration, MuxanduDateTime *out);
+/* The date-time minus a duration, at the same offset. Errors, in this order: those of the
+ * date-time, DURATION, RESULT if the year is out of range. */
+MuxanduStatus muxandu_date_time_subtract(MuxanduDateTime date_time, MuxanduDuration duration,
+                                         MuxanduDateTime *out);
 
-/* The date-time plus a duration, at the same offset, or the nearer end of the range. Errors, in this order: those of
- * the date-time, DURATION. */
+/* The date-time plus a duration, at the same offset, or the nearer end of the range. Errors, in
+ * this order: those of the date-time, DURATION. */
 MuxanduStatus muxandu_date_time_saturating_add(MuxanduDateTime date_time, MuxanduDuration duration,
                                                MuxanduDateTime *out);
 
-/* The date-time minus a duration, at the same offset, or the nearer end of the range. Errors, in this order: those
- * of the date-time, DURATION. */
-MuxanduStatus muxandu_date_time_saturating_subtract(MuxanduDateTime date_time, MuxanduDuration duration,
-                                                    MuxanduDateTime *out);
+/* The date-time minus a duration, at the same offset, or the nearer end of the range. Errors, in
+ * this order: those of the date-time, DURATION. */
+MuxanduStatus muxandu_date_time_saturating_subtract(MuxanduDateTime date_time,
+                                                    MuxanduDuration duration, MuxanduDateTime *out);
 
-/* The duration from the instant of 'earlier' to that of 'later', negative if 'later' comes first. Errors, in this
- * order: those of 'later', those of 'earlier'. */
-MuxanduStatus muxandu_date_time_difference(MuxanduDateTime later, MuxanduDateTime earlier, MuxanduDuration *out);
+/* The duration from the instant of 'earlier' to that of 'later', negative if 'later' comes
+ * first. Errors, in this order: those of 'later', those of 'earlier'. */
+MuxanduStatus muxandu_date_time_difference(MuxanduDateTime later, MuxanduDateTime earlier,
+                                           MuxanduDuration *out);
 
-/* The date-time, rounded down to a unit at its own offset. Errors, in this order: those of the date-time, UNIT. */
-MuxanduStatus muxandu_date_time_truncate(MuxanduDateTime date_time, MuxanduUnit unit, MuxanduDateTime *out);
+/* The date-time, rounded down to a unit at its own offset. Errors, in this order: those of the
+ * date-time, UNIT. */
+MuxanduStatus muxandu_date_time_truncate(MuxanduDateTime date_time, MuxanduUnit unit,
+                                         MuxanduDateTime *out);
 
-/* The order of two instants: -1 if 'first' comes first, 0 if both are one instant, 1 if 'second' comes first.
- * Errors, in this order: those of 'first', those of 'second'. */
-MuxanduStatus muxandu_date_time_compare(MuxanduDateTime first, MuxanduDateTime second, int32_t *out);
+/* The order of two instants: -1 if 'first' comes first, 0 if both are one instant, 1 if 'second'
+ * comes first. Errors, in this order: those of 'first', those of 'second'. */
+MuxanduStatus muxandu_date_time_compare(MuxanduDateTime first, MuxanduDateTime second,
+                                        int32_t *out);
 
 /* The day number of the local date, 0 on 1970-01-01. Errors: those of the date-time. */
 MuxanduStatus muxandu_date_time_day(MuxanduDateTime date_time, int32_t *out);
@@ -497,12 +710,12 @@ MuxanduStatus muxandu_ordinal_date_from_day(int32_t day, MuxanduOrdinalDate *out
 /* The day number of a day of a year. Errors, in this order: YEAR, ORDINAL, ORDINAL_OF_YEAR. */
 MuxanduStatus muxandu_day_from_ordinal_date(MuxanduOrdinalDate date, int32_t *out);
 
-/* The ISO year, the ISO week and the day of the week of a day number. muxandu_day_from_week_date is the inverse.
- * Errors: DAY_NUMBER. */
+/* The ISO year, the ISO week and the day of the week of a day number. muxandu_day_from_week_date
+ * is the inverse. Errors: DAY_NUMBER. */
 MuxanduStatus muxandu_week_date_from_day(int32_t day, MuxanduWeekDate *out);
 
-/* The day number of an ISO week date. Errors, in this order: YEAR, WEEK, WEEKDAY, WEEK_OF_YEAR, RESULT for the two
- * days of the last week past the range. */
+/* The day number of an ISO week date. Errors, in this order: YEAR, WEEK, WEEKDAY, WEEK_OF_YEAR,
+ * RESULT for the two days of the last week past the range. */
 MuxanduStatus muxandu_day_from_week_date(MuxanduWeekDate date, int32_t *out);
 
 /* The day of the week of a day number, 0 for Monday to 6 for Sunday. Errors: DAY_NUMBER. */
@@ -511,240 +724,772 @@ MuxanduStatus muxandu_weekday_from_day(int32_t day, uint8_t *out);
 /* The number of days in a month of a year, 28 to 31. Errors, in this order: MONTH, YEAR. */
 MuxanduStatus muxandu_days_in_month(int32_t year, uint32_t month, uint8_t *out);
 
-/* The date-time of each Unix second at an offset in seconds, up to the first that muxandu_date_time_from_timestamp
- * rejects. Errors: BUFFER if 'out' has fewer items than 'seconds' (the call then writes nothing), else that of the
- * first rejected item. */
-MuxanduBatch muxandu_date_times_from_seconds(const int64_t *MUXANDU_RESTRICT seconds, size_t seconds_count,
-                                             int32_t offset_seconds, MuxanduDateTime *MUXANDU_RESTRICT out,
+/* The date-time of each Unix second at an offset in seconds, up to the first that
+ * muxandu_date_time_from_timestamp rejects. Errors: BUFFER if 'out' has fewer items than
+ * 'seconds' (the call then writes nothing), else that of the first rejected item. */
+MuxanduBatch muxandu_date_times_from_seconds(const int64_t *MUXANDU_RESTRICT seconds,
+                                             size_t seconds_count, int32_t offset_seconds,
+                                             MuxanduDateTime *MUXANDU_RESTRICT out,
                                              size_t out_count);
 
-/* The Unix second of each date-time, rounded down, up to the first that muxandu_timestamp_from_date_time rejects.
- * Errors: BUFFER if 'out' has fewer items than 'date_times' (the call then writes nothing), else that of the first
- * rejected item. */
+/* The Unix second of each date-time, rounded down, up to the first that
+ * muxandu_timestamp_from_date_time rejects. Errors: BUFFER if 'out' has fewer items than
+ * 'date_times' (the call then writes nothing), else that of the first rejected item. */
 MuxanduBatch muxandu_seconds_from_date_times(const MuxanduDateTime *MUXANDU_RESTRICT date_times,
-                                             size_t date_times_count, int64_t *MUXANDU_RESTRICT out, size_t out_count);
+                                             size_t date_times_count, int64_t *MUXANDU_RESTRICT out,
+                                             size_t out_count);
 
-/* The date of each day number, up to the first that muxandu_date_from_day rejects. Errors: BUFFER if 'out' has fewer
- * items than 'days' (the call then writes nothing), else that of the first rejected item. */
+/* The date of each day number, up to the first that muxandu_date_from_day rejects. Errors:
+ * BUFFER if 'out' has fewer items than 'days' (the call then writes nothing), else that of the
+ * first rejected item. */
 MuxanduBatch muxandu_dates_from_days(const int32_t *MUXANDU_RESTRICT days, size_t days_count,
                                      MuxanduDate *MUXANDU_RESTRICT out, size_t out_count);
 
-/* The day number of each date, up to the first that muxandu_day_from_date rejects. Errors: BUFFER if 'out' has fewer
- * items than 'dates' (the call then writes nothing), else that of the first rejected item. */
+/* The day number of each date, up to the first that muxandu_day_from_date rejects. Errors:
+ * BUFFER if 'out' has fewer items than 'dates' (the call then writes nothing), else that of the
+ * first rejected item. */
 MuxanduBatch muxandu_days_from_dates(const MuxanduDate *MUXANDU_RESTRICT dates, size_t dates_count,
                                      int32_t *MUXANDU_RESTRICT out, size_t out_count);
 
-/* The instant of each text of RFC 3339, up to the first that muxandu_timestamp_from_rfc3339 rejects. A span outside
- * the block 'texts' fails with SPAN. Errors: BUFFER if 'out' has fewer items than 'spans' (the call then writes
- * nothing), else that of the first rejected item. */
+/* The instant of each text of RFC 3339, up to the first that muxandu_timestamp_from_rfc3339
+ * rejects. A span outside the block 'texts' fails with SPAN. Errors: BUFFER if 'out' has fewer
+ * items than 'spans' (the call then writes nothing), else that of the first rejected item. */
 MuxanduBatch muxandu_timestamps_from_rfc3339(const char *MUXANDU_RESTRICT texts, size_t texts_count,
-                                             const MuxanduSpan *MUXANDU_RESTRICT spans, size_t spans_count,
-                                             MuxanduTimestamp *MUXANDU_RESTRICT out, size_t out_count);
+                                             const MuxanduSpan *MUXANDU_RESTRICT spans,
+                                             size_t spans_count,
+                                             MuxanduTimestamp *MUXANDU_RESTRICT out,
+                                             size_t out_count);
 
-/* Checks that an hour, a minute, a second and a nanosecond make a time of day. Errors, in this order: HOUR, MINUTE,
- * SECOND, NANOSECOND. */
-MuxanduStatus muxandu_time_check(uint32_t hour, uint32_t minute, uint32_t second, uint32_t nanosecond);
+/* Checks that an hour, a minute, a second and a nanosecond make a time of day. Errors, in this
+ * order: HOUR, MINUTE, SECOND, NANOSECOND. */
+MuxanduStatus muxandu_time_check(uint32_t hour, uint32_t minute, uint32_t second,
+                                 uint32_t nanosecond);
 
-/* The date that is a number of days later, or earlier if it is negative. Errors, in this order: those of the date,
- * RESULT if out of range. */
+/* The date that is a number of days later, or earlier if it is negative. Errors, in this order:
+ * those of the date, RESULT if out of range. */
 MuxanduStatus muxandu_date_add_days(MuxanduDate date, int32_t days, MuxanduDate *out);
 
-/* The same day of the month a number of months later, or earlier if it is negative; in a shorter month its last day.
- * Errors, in this order: those of the date, RESULT if out of range. */
+/* The same day of the month a number of months later, or earlier if it is negative; in a shorter
+ * month its last day. Errors, in this order: those of the date, RESULT if out of range. */
 MuxanduStatus muxandu_date_add_months(MuxanduDate date, int32_t months, MuxanduDate *out);
 
-/* Writes the RFC 3339 text of a date, such as '1985-04-12', in 10 bytes, as muxandu_date_time_text does. Errors, in
- * this order: those of the date, NO_TEXT, BUFFER. */
-MuxanduStatus muxandu_date_to_rfc3339(MuxanduDate date, char *MUXANDU_RESTRICT buffer, size_t buffer_count,
-                                      size_t *MUXANDU_RESTRICT size);
+/* Writes the RFC 3339 text of a date, such as '1985-04-12', in 10 bytes, as
+ * muxandu_date_time_text does. Errors, in this order: those of the date, NO_TEXT, BUFFER. */
+MuxanduStatus muxandu_date_to_rfc3339(MuxanduDate date, char *MUXANDU_RESTRICT buffer,
+                                      size_t buffer_count, size_t *MUXANDU_RESTRICT size);
 
-/* The date in an RFC 3339 text such as '1985-04-12', with nothing before or after it. Errors: SYNTAX if the text has
- * another form, else MONTH, DAY or DAY_OF_MONTH for the first part out of range. */
+/* The date in an RFC 3339 text such as '1985-04-12', with nothing before or after it. Errors:
+ * SYNTAX if the text has another form, else MONTH, DAY or DAY_OF_MONTH for the first part out of
+ * range. */
 MuxanduStatus muxandu_date_from_rfc3339(const char *MUXANDU_RESTRICT text, size_t text_count,
                                         MuxanduDate *MUXANDU_RESTRICT out);
 
-/* Writes the RFC 3339 text of a date-time with 'digits' digits of the fraction, in at most 35 bytes, as
- * muxandu_date_time_text does. With three it is '1985-04-12T23:20:50.520Z'. The call cuts further digits off, and
- * takes a number above nine as nine. Errors, in this order: those of the date-time, NO_TEXT, BUFFER. */
+/* The items of a description, such as '[year]-[month]-[day]', in version 1 or 2 of its language:
+ * docs/reference/FORMATS.md has both. Keep the items for the calls that take them. 'size' is
+ * their number. Errors, in this order: UNIT if the version is neither 1 nor 2. SYNTAX if the
+ * text is no description, with the place and the reason of its first fault: it has at most 128
+ * items. BUFFER if 'items' has room for fewer. The call then writes nothing. */
+MuxanduOutcome muxandu_description_parse(uint32_t version, const char *MUXANDU_RESTRICT text,
+                                         size_t text_count, MuxanduItem *MUXANDU_RESTRICT items,
+                                         size_t items_count);
+
+/* Writes the text of items as a description in version 1 or 2 of its language to the front of
+ * 'buffer'. 'size' is its length. muxandu_description_parse reads it back as the same items.
+ * Errors, in this order: UNIT if the version is neither 1 nor 2. UNIT if a number is no item, or
+ * for more than 128 items. NO_TEXT or BUFFER, with the index of the item and the reason. The
+ * call can change 'buffer' then. */
+MuxanduOutcome muxandu_description_text(uint32_t version, const MuxanduItem *MUXANDU_RESTRICT items,
+                                        size_t items_count, char *MUXANDU_RESTRICT buffer,
+                                        size_t buffer_count);
+
+/* Writes the RFC 3339 text of a date-time with 'digits' digits of the fraction, in at most 35
+ * bytes, as muxandu_date_time_text does. With three it is '1985-04-12T23:20:50.520Z'. The call
+ * cuts further digits off, and takes a number above nine as nine. Errors, in this order: those
+ * of the date-time, NO_TEXT, BUFFER. */
 MuxanduStatus muxandu_date_time_to_rfc3339_digits(MuxanduDateTime date_time, uint32_t digits,
-                                                  char *MUXANDU_RESTRICT buffer, size_t buffer_count,
+                                                  char *MUXANDU_RESTRICT buffer,
+                                                  size_t buffer_count,
                                                   size_t *MUXANDU_RESTRICT size);
 
-/* The date-time of each Unix second at an offset in seconds, and the status of muxandu_date_time_from_timestamp for
- * it. If an item fails, its place in 'out' keeps its contents, and the call continues with the next. 'count' is the
- * number of converted items. Errors: BUFFER if 'out' or 'statuses' has fewer items than 'seconds'; the call then
- * writes nothing. */
-MuxanduBatch muxandu_date_times_from_each_second(const int64_t *MUXANDU_RESTRICT seconds, size_t seconds_count,
-                                                 int32_t offset_seconds, MuxanduDateTime *MUXANDU_RESTRICT out,
-                                                 size_t out_count, MuxanduStatus *MUXANDU_RESTRICT statuses,
+/* The date-time of each Unix second at an offset in seconds, and the status of
+ * muxandu_date_time_from_timestamp for it. If an item fails, its place in 'out' keeps its
+ * contents, and the call continues with the next. 'count' is the number of converted items.
+ * Errors: BUFFER if 'out' or 'statuses' has fewer items than 'seconds'; the call then writes
+ * nothing. */
+MuxanduBatch muxandu_date_times_from_each_second(const int64_t *MUXANDU_RESTRICT seconds,
+                                                 size_t seconds_count, int32_t offset_seconds,
+                                                 MuxanduDateTime *MUXANDU_RESTRICT out,
+                                                 size_t out_count,
+                                                 MuxanduStatus *MUXANDU_RESTRICT statuses,
                                                  size_t statuses_count);
 
-/* The Unix second of each date-time, rounded down, and the status of muxandu_timestamp_from_date_time for it. If an
- * item fails, its place in 'out' keeps its contents, and the call continues with the next. 'count' is the number of
- * converted items. Errors: BUFFER if 'out' or 'statuses' has fewer items than 'date_times'; the call then writes
+/* The Unix second of each date-time, rounded down, and the status of
+ * muxandu_timestamp_from_date_time for it. If an item fails, its place in 'out' keeps its
+ * contents, and the call continues with the next. 'count' is the number of converted items.
+ * Errors: BUFFER if 'out' or 'statuses' has fewer items than 'date_times'; the call then writes
  * nothing. */
 MuxanduBatch muxandu_seconds_from_each_date_time(const MuxanduDateTime *MUXANDU_RESTRICT date_times,
-                                                 size_t date_times_count, int64_t *MUXANDU_RESTRICT out,
-                                                 size_t out_count, MuxanduStatus *MUXANDU_RESTRICT statuses,
+                                                 size_t date_times_count,
+                                                 int64_t *MUXANDU_RESTRICT out, size_t out_count,
+                                                 MuxanduStatus *MUXANDU_RESTRICT statuses,
                                                  size_t statuses_count);
 
-/* Writes the shortest RFC 3339 text of a date-time, in at most 35 bytes, as muxandu_date_time_text does. Examples
- * are '1985-04-12T23:20:50.52Z' and '1996-12-19T16:39:57-08:00'. Errors, in this order: those of the date-time,
- * NO_TEXT, BUFFER. */
+/* The date-time of each moment, at its own offset, and the status of
+ * muxandu_date_time_from_timestamp for it. If an item fails, its place in 'out' keeps its
+ * contents, and the call continues with the next. 'count' is the number of converted items.
+ * Errors: BUFFER if 'out' or 'statuses' has fewer items than 'moments'; the call then writes
+ * nothing. */
+MuxanduBatch muxandu_date_times_from_each_moment(const MuxanduMoment *MUXANDU_RESTRICT moments,
+                                                 size_t moments_count,
+                                                 MuxanduDateTime *MUXANDU_RESTRICT out,
+                                                 size_t out_count,
+                                                 MuxanduStatus *MUXANDU_RESTRICT statuses,
+                                                 size_t statuses_count);
+
+/* The moment of each date-time, and the status of muxandu_timestamp_from_date_time for it. If an
+ * item fails, its place in 'out' keeps its contents, and the call continues with the next.
+ * 'count' is the number of converted items. Errors: BUFFER if 'out' or 'statuses' has fewer
+ * items than 'date_times'; the call then writes nothing. */
+MuxanduBatch muxandu_moments_from_each_date_time(const MuxanduDateTime *MUXANDU_RESTRICT date_times,
+                                                 size_t date_times_count,
+                                                 MuxanduMoment *MUXANDU_RESTRICT out,
+                                                 size_t out_count,
+                                                 MuxanduStatus *MUXANDU_RESTRICT statuses,
+                                                 size_t statuses_count);
+
+/* The same instant of each moment at another offset in seconds, and the status of
+ * muxandu_date_time_to_offset for it. If an item fails, its place in 'out' keeps its contents,
+ * and the call continues with the next. 'count' is the number of converted items. Errors: BUFFER
+ * if 'out' or 'statuses' has fewer items than 'moments'; the call then writes nothing. */
+MuxanduBatch muxandu_each_moment_to_offset(const MuxanduMoment *MUXANDU_RESTRICT moments,
+                                           size_t moments_count, int32_t offset_seconds,
+                                           MuxanduMoment *MUXANDU_RESTRICT out, size_t out_count,
+                                           MuxanduStatus *MUXANDU_RESTRICT statuses,
+                                           size_t statuses_count);
+
+/* Each moment, rounded down to a unit by its own clocks, and the status of
+ * muxandu_date_time_truncate for it. If an item fails, its place in 'out' keeps its contents,
+ * and the call continues with the next. 'count' is the number of converted items. Errors: BUFFER
+ * if 'out' or 'statuses' has fewer items than 'moments'; the call then writes nothing. */
+MuxanduBatch muxandu_each_moment_truncate(const MuxanduMoment *MUXANDU_RESTRICT moments,
+                                          size_t moments_count, MuxanduUnit unit,
+                                          MuxanduMoment *MUXANDU_RESTRICT out, size_t out_count,
+                                          MuxanduStatus *MUXANDU_RESTRICT statuses,
+                                          size_t statuses_count);
+
+/* Each moment a number of months later, or earlier if it is negative, at the same local time and
+ * offset; in a shorter month on its last day, and the status of muxandu_date_add_months for it.
+ * If an item fails, its place in 'out' keeps its contents, and the call continues with the next.
+ * 'count' is the number of converted items. Errors: BUFFER if 'out' or 'statuses' has fewer
+ * items than 'moments'; the call then writes nothing. */
+MuxanduBatch muxandu_each_moment_add_months(const MuxanduMoment *MUXANDU_RESTRICT moments,
+                                            size_t moments_count, int32_t months,
+                                            MuxanduMoment *MUXANDU_RESTRICT out, size_t out_count,
+                                            MuxanduStatus *MUXANDU_RESTRICT statuses,
+                                            size_t statuses_count);
+
+/* The instant and the offset in each text of RFC 3339, and the status of
+ * muxandu_date_time_from_rfc3339 for it. The status is SPAN for a span outside the block
+ * 'texts'. If an item fails, its place in 'out' keeps its contents, and the call continues with
+ * the next. 'count' is the number of converted items. Errors: BUFFER if 'out' or 'statuses' has
+ * fewer items than 'spans'; the call then writes nothing. */
+MuxanduBatch muxandu_moments_from_each_rfc3339(const char *MUXANDU_RESTRICT texts,
+                                               size_t texts_count,
+                                               const MuxanduSpan *MUXANDU_RESTRICT spans,
+                                               size_t spans_count,
+                                               MuxanduMoment *MUXANDU_RESTRICT out,
+                                               size_t out_count,
+                                               MuxanduStatus *MUXANDU_RESTRICT statuses,
+                                               size_t statuses_count);
+
+/* Writes the text of each date-time into the block 'texts', one after the other with nothing
+ * between, its place to 'spans', and the status of muxandu_date_time_to_rfc3339 for it. The
+ * status is BUFFER if the rest of 'texts' is too short. If an item fails, its span is empty, and
+ * the call continues with the next. 'count' is the number of written texts. Errors: BUFFER if
+ * 'spans' or 'statuses' has fewer items than 'date_times'; the call then writes nothing. */
+MuxanduBatch muxandu_each_date_time_to_rfc3339(const MuxanduDateTime *MUXANDU_RESTRICT date_times,
+                                               size_t date_times_count,
+                                               char *MUXANDU_RESTRICT texts, size_t texts_count,
+                                               MuxanduSpan *MUXANDU_RESTRICT spans,
+                                               size_t spans_count,
+                                               MuxanduStatus *MUXANDU_RESTRICT statuses,
+                                               size_t statuses_count);
+
+/* Writes the shortest RFC 3339 text of a date-time, in at most 35 bytes, as
+ * muxandu_date_time_text does. Examples are '1985-04-12T23:20:50.52Z' and
+ * '1996-12-19T16:39:57-08:00'. Errors, in this order: those of the date-time, NO_TEXT, BUFFER. */
 MuxanduStatus muxandu_date_time_to_rfc3339(MuxanduDateTime date_time, char *MUXANDU_RESTRICT buffer,
                                            size_t buffer_count, size_t *MUXANDU_RESTRICT size);
 
-/* Writes the shortest RFC 3339 text of an instant in UTC, such as '1985-04-12T23:20:50.52Z', in at most 30 bytes, as
- * muxandu_date_time_text does. Errors, in this order: those of the timestamp, NO_TEXT, BUFFER. */
-MuxanduStatus muxandu_timestamp_to_rfc3339(MuxanduTimestamp at, char *MUXANDU_RESTRICT buffer, size_t buffer_count,
-                                           size_t *MUXANDU_RESTRICT size);
+/* Writes the shortest RFC 3339 text of an instant in UTC, such as '1985-04-12T23:20:50.52Z', in
+ * at most 30 bytes, as muxandu_date_time_text does. Errors, in this order: those of the
+ * timestamp, NO_TEXT, BUFFER. */
+MuxanduStatus muxandu_timestamp_to_rfc3339(MuxanduTimestamp at, char *MUXANDU_RESTRICT buffer,
+                                           size_t buffer_count, size_t *MUXANDU_RESTRICT size);
 
 /* Writes the RFC 3339 text of an instant in UTC with nine digits of the fraction, such as
- * '1985-04-12T23:20:50.520000000Z', in 30 bytes, as muxandu_date_time_text does. Such texts compare byte by byte as
- * their instants do. Errors, in this order: those of the timestamp, NO_TEXT, BUFFER. */
+ * '1985-04-12T23:20:50.520000000Z', in 30 bytes, as muxandu_date_time_text does. Such texts
+ * compare byte by byte as their instants do. Errors, in this order: those of the timestamp,
+ * NO_TEXT, BUFFER. */
 MuxanduStatus muxandu_timestamp_to_rfc3339_nanos(MuxanduTimestamp at, char *MUXANDU_RESTRICT buffer,
-                                                 size_t buffer_count, size_t *MUXANDU_RESTRICT size);
+                                                 size_t buffer_count,
+                                                 size_t *MUXANDU_RESTRICT size);
 
-/* The date-time and the offset in an RFC 3339 text, with nothing before or after it. Examples are
- * '1985-04-12T23:20:50.52Z' and '1996-12-19T16:39:57-08:00'. 't' or a space may replace the 'T', and 'z' the 'Z'.
- * The call drops digits past the ninth of the fraction, and reads '-00:00' as the offset 0. Errors: SYNTAX if the
- * text has another form, else that of the first part out of range: MONTH, DAY or DAY_OF_MONTH, HOUR, MINUTE, SECOND,
- * OFFSET_HOUR, OFFSET_MINUTE. */
+/* The date-time and the offset in an RFC 3339 text, with nothing before or after it. Examples
+ * are '1985-04-12T23:20:50.52Z' and '1996-12-19T16:39:57-08:00'. 't' or a space may replace the
+ * 'T', and 'z' the 'Z'. The call drops digits past the ninth of the fraction, and reads '-00:00'
+ * as the offset 0. Errors: SYNTAX if the text has another form, else that of the first part out
+ * of range: MONTH, DAY or DAY_OF_MONTH, HOUR, MINUTE, SECOND, OFFSET_HOUR, OFFSET_MINUTE. */
 MuxanduStatus muxandu_date_time_from_rfc3339(const char *MUXANDU_RESTRICT text, size_t text_count,
                                              MuxanduDateTime *MUXANDU_RESTRICT out);
 
-/* The instant of an RFC 3339 text, as muxandu_date_time_from_rfc3339 reads it. Errors: those of that call. */
+/* The instant of an RFC 3339 text, as muxandu_date_time_from_rfc3339 reads it. Errors: those of
+ * that call. */
 MuxanduStatus muxandu_timestamp_from_rfc3339(const char *MUXANDU_RESTRICT text, size_t text_count,
                                              MuxanduTimestamp *MUXANDU_RESTRICT out);
 
-/* The date-time and the offset at the front of a text, as muxandu_date_time_from_rfc3339 reads them. Writes the
- * number of bytes it read to 'size': 23 for '1985-04-12T23:20:50.52Z done'. Errors: SYNTAX if no front of the text
- * has that form, else those of that call. */
-MuxanduStatus muxandu_date_time_from_rfc3339_front(const char *MUXANDU_RESTRICT text, size_t text_count,
+/* The place of a field in each line of the block 'texts', and the number of lines in 'count'.
+ * Fields count from 0. A field ends before 'separator' or before the end of its line. A field
+ * that begins with 'quote' ends after the next single quote, and may contain separators and
+ * newlines. Its span has the bytes between the two quotes. Two quotes in a row within it are
+ * part of the field, and its span has both. If other bytes follow the last quote, the span has
+ * all bytes of the field. Each line ends with a newline, or with a carriage return and a
+ * newline. The last line may end with the block. A line with fewer fields has an empty span at
+ * its end. If 'quote' equals 'separator', no field has quotes. Errors: BUFFER if 'out' has fewer
+ * items than there are lines; the call then writes those of the first lines. */
+MuxanduBatch muxandu_field_spans(const char *MUXANDU_RESTRICT texts, size_t texts_count,
+                                 size_t field, uint8_t separator, uint8_t quote,
+                                 MuxanduSpan *MUXANDU_RESTRICT out, size_t out_count);
+
+/* Writes the text of a date-time as the items say to the front of 'buffer', and its length to
+ * 'size'. The text has at most 64 bytes, all ASCII. 'kind' says which of its parts the value
+ * has. Errors, in this order: UNIT if a number is no item, or for more than 128 items. Those of
+ * the date-time. UNIT if 'kind' is none. NO_TEXT if the kind lacks a component of the items.
+ * NO_TEXT for a text of more than 64 bytes, or with one that is not ASCII. BUFFER if the text is
+ * longer than 'buffer': 'size' is then its length, and 'buffer' is unchanged. */
+MuxanduStatus muxandu_format_items(MuxanduKind kind, const MuxanduItem *MUXANDU_RESTRICT items,
+                                   size_t items_count, MuxanduDateTime date_time,
+                                   char *MUXANDU_RESTRICT buffer, size_t buffer_count,
+                                   size_t *MUXANDU_RESTRICT size);
+
+/* Writes the text of a date-time by a description in version 2 of its language, such as
+ * '[year]-[month]-[day]', as muxandu_format_items does. Errors, in this order: SYNTAX if the
+ * text is no description: muxandu_description_parse returns the place and the reason. Those of
+ * muxandu_format_items. */
+MuxanduStatus muxandu_format(MuxanduKind kind, const char *MUXANDU_RESTRICT description,
+                             size_t description_count, MuxanduDateTime date_time,
+                             char *MUXANDU_RESTRICT buffer, size_t buffer_count,
+                             size_t *MUXANDU_RESTRICT size);
+
+/* Writes the text of each date-time as the items say into the block 'texts', one after the other
+ * with nothing between, and its place to 'spans'. It stops at the first that
+ * muxandu_format_items rejects, with BUFFER if the rest of 'texts' is too short. Errors, in this
+ * order: UNIT if a number is no item, or for more than 128 items. BUFFER if 'spans' has fewer
+ * items than 'date_times'. The call then writes nothing. Else that of the first rejected item. */
+MuxanduBatch muxandu_format_all(MuxanduKind kind, const MuxanduItem *MUXANDU_RESTRICT items,
+                                size_t items_count,
+                                const MuxanduDateTime *MUXANDU_RESTRICT date_times,
+                                size_t date_times_count, char *MUXANDU_RESTRICT texts,
+                                size_t texts_count, MuxanduSpan *MUXANDU_RESTRICT spans,
+                                size_t spans_count);
+
+/* The date-time and the offset at the front of a text, as muxandu_date_time_from_rfc3339 reads
+ * them. Writes the number of bytes it read to 'size': 23 for '1985-04-12T23:20:50.52Z done'.
+ * Errors: SYNTAX if no front of the text has that form, else those of that call. */
+MuxanduStatus muxandu_date_time_from_rfc3339_front(const char *MUXANDU_RESTRICT text,
+                                                   size_t text_count,
                                                    MuxanduDateTime *MUXANDU_RESTRICT out,
                                                    size_t *MUXANDU_RESTRICT size);
 
-/* The index of the fault in a text that fails with SYNTAX: 10 for '1985-04-12_23:20:50Z'. No RFC 3339 date-time
- * continues with the byte at that index; or the text ends there, too early. For a text that has the form it is the
- * length of the text. */
+/* The index of the fault in a text that fails with SYNTAX: 10 for '1985-04-12_23:20:50Z'. No RFC
+ * 3339 date-time continues with the byte at that index; or the text ends there, too early. For a
+ * text that has the form it is the length of the text. */
 size_t muxandu_rfc3339_fault(const char *text, size_t text_count);
 
-/* The date-time and the offset in a text, as muxandu_date_time_from_rfc3339 reads them, also with a second of 60, as
- * in '2016-12-31T23:59:60Z'. A leap second is valid only as the last second of a month in UTC. It becomes the last
- * nanosecond before the next month, for any fraction; 'is_leap' is then 1, else 0. So values keep the order of their
- * texts. Errors: those of that call, with SECOND above 60; then SECOND if no month ends with a second of 60. */
-MuxanduStatus muxandu_date_time_from_rfc3339_leap(const char *MUXANDU_RESTRICT text, size_t text_count,
+/* The time of day and the offset in an RFC 3339 text such as '12:34:56.5+01:00', with nothing
+ * before or after them. The call drops digits past the ninth of the fraction. Errors: SYNTAX if
+ * the text has another form, else HOUR, MINUTE, SECOND, OFFSET_HOUR or OFFSET_MINUTE for the
+ * first part out of range. */
+MuxanduStatus muxandu_full_time_from_rfc3339(const char *MUXANDU_RESTRICT text, size_t text_count,
+                                             MuxanduTime *MUXANDU_RESTRICT out,
+                                             int32_t *MUXANDU_RESTRICT offset_seconds);
+
+/* The index of the fault in a text that muxandu_full_time_from_rfc3339 rejects with SYNTAX, as
+ * muxandu_plain_fault returns it: 10 for '23:20:50+1:00'. */
+size_t muxandu_full_time_fault(const char *text, size_t text_count);
+
+/* The seconds of the offset in an RFC 3339 text such as '+05:30' or 'Z', with nothing before or
+ * after it. Errors: SYNTAX if the text has another form, else OFFSET_HOUR or OFFSET_MINUTE for
+ * the first part out of range. */
+MuxanduStatus muxandu_offset_from_rfc3339(const char *MUXANDU_RESTRICT text, size_t text_count,
+                                          int32_t *MUXANDU_RESTRICT out);
+
+/* The date-time and the offset in a text, as muxandu_date_time_from_rfc3339 reads them, also
+ * with a second of 60, as in '2016-12-31T23:59:60Z'. A leap second is valid only as the last
+ * second of a month in UTC. It becomes the last nanosecond before the next month, for any
+ * fraction; 'is_leap' is then 1, else 0. So values keep the order of their texts. Errors: those
+ * of that call, with SECOND above 60; then SECOND if no month ends with a second of 60. */
+MuxanduStatus muxandu_date_time_from_rfc3339_leap(const char *MUXANDU_RESTRICT text,
+                                                  size_t text_count,
                                                   MuxanduDateTime *MUXANDU_RESTRICT out,
                                                   uint8_t *MUXANDU_RESTRICT is_leap);
 
-/* The seconds of an offset of hours, minutes and seconds. Smaller parts take the sign of the hours, or of the
- * minutes if the hours are 0. Errors, in this order: OFFSET_HOUR if not -25 to 25, OFFSET_MINUTE if not -59 to 59,
- * OFFSET_SECONDS if the seconds are not -59 to 59. */
+/* The date-time in each text of RFC 3339, with or without an offset, up to the first that
+ * muxandu_date_time_from_local rejects at 'offset_seconds'. A span outside the block 'texts'
+ * fails with SPAN. Errors: BUFFER if 'out' has fewer items than 'spans' (the call then writes
+ * nothing), else that of the first rejected item. */
+MuxanduBatch muxandu_date_times_from_local(const char *MUXANDU_RESTRICT texts, size_t texts_count,
+                                           const MuxanduSpan *MUXANDU_RESTRICT spans,
+                                           size_t spans_count, int32_t offset_seconds,
+                                           MuxanduDateTime *MUXANDU_RESTRICT out, size_t out_count);
+
+/* The date-time in each text of RFC 3339, with or without an offset, and the status of
+ * muxandu_date_time_from_local for it at 'offset_seconds'. The status is SPAN for a span outside
+ * the block 'texts'. If an item fails, its place in 'out' keeps its contents, and the call
+ * continues with the next. 'count' is the number of converted items. Errors: BUFFER if 'out' or
+ * 'statuses' has fewer items than 'spans'; the call then writes nothing. */
+MuxanduBatch muxandu_date_times_from_each_local(const char *MUXANDU_RESTRICT texts,
+                                                size_t texts_count,
+                                                const MuxanduSpan *MUXANDU_RESTRICT spans,
+                                                size_t spans_count, int32_t offset_seconds,
+                                                MuxanduDateTime *MUXANDU_RESTRICT out,
+                                                size_t out_count,
+                                                MuxanduStatus *MUXANDU_RESTRICT statuses,
+                                                size_t statuses_count);
+
+/* The date-time in each text of RFC 3339, with or without an offset, up to the first that
+ * muxandu_date_time_from_local rejects at the offset at its place in 'offsets'. A span outside
+ * the block 'texts' fails with SPAN. Errors: BUFFER if 'out' or 'offsets' has fewer items than
+ * 'spans' (the call then writes nothing), else that of the first rejected item. */
+MuxanduBatch muxandu_date_times_from_local_at(const char *MUXANDU_RESTRICT texts,
+                                              size_t texts_count,
+                                              const MuxanduSpan *MUXANDU_RESTRICT spans,
+                                              size_t spans_count,
+                                              const int32_t *MUXANDU_RESTRICT offsets,
+                                              size_t offsets_count,
+                                              MuxanduDateTime *MUXANDU_RESTRICT out,
+                                              size_t out_count);
+
+/* The date-time in each text of RFC 3339, with or without an offset, and the status of
+ * muxandu_date_time_from_local for it at the offset at its place in 'offsets'. The status is
+ * SPAN for a span outside the block 'texts'. If an item fails, its place in 'out' keeps its
+ * contents, and the call continues with the next. 'count' is the number of converted items.
+ * Errors: BUFFER if 'out', 'offsets' or 'statuses' has fewer items than 'spans'; the call then
+ * writes nothing. */
+MuxanduBatch muxandu_date_times_from_each_local_at(const char *MUXANDU_RESTRICT texts,
+                                                   size_t texts_count,
+                                                   const MuxanduSpan *MUXANDU_RESTRICT spans,
+                                                   size_t spans_count,
+                                                   const int32_t *MUXANDU_RESTRICT offsets,
+                                                   size_t offsets_count,
+                                                   MuxanduDateTime *MUXANDU_RESTRICT out,
+                                                   size_t out_count,
+                                                   MuxanduStatus *MUXANDU_RESTRICT statuses,
+                                                   size_t statuses_count);
+
+/* The moment in each text of RFC 3339, with or without an offset, up to the first that
+ * muxandu_date_time_from_local rejects at 'offset_seconds'. A span outside the block 'texts'
+ * fails with SPAN. Errors: BUFFER if 'out' has fewer items than 'spans' (the call then writes
+ * nothing), else that of the first rejected item. */
+MuxanduBatch muxandu_moments_from_local(const char *MUXANDU_RESTRICT texts, size_t texts_count,
+                                        const MuxanduSpan *MUXANDU_RESTRICT spans,
+                                        size_t spans_count, int32_t offset_seconds,
+                                        MuxanduMoment *MUXANDU_RESTRICT out, size_t out_count);
+
+/* The moment in each text of RFC 3339, with or without an offset, and the status of
+ * muxandu_date_time_from_local for it at 'offset_seconds'. The status is SPAN for a span outside
+ * the block 'texts'. If an item fails, its place in 'out' keeps its contents, and the call
+ * continues with the next. 'count' is the number of converted items. Errors: BUFFER if 'out' or
+ * 'statuses' has fewer items than 'spans'; the call then writes nothing. */
+MuxanduBatch muxandu_moments_from_each_local(const char *MUXANDU_RESTRICT texts, size_t texts_count,
+                                             const MuxanduSpan *MUXANDU_RESTRICT spans,
+                                             size_t spans_count, int32_t offset_seconds,
+                                             MuxanduMoment *MUXANDU_RESTRICT out, size_t out_count,
+                                             MuxanduStatus *MUXANDU_RESTRICT statuses,
+                                             size_t statuses_count);
+
+/* The moment in each text of RFC 3339, with or without an offset, up to the first that
+ * muxandu_date_time_from_local rejects at the offset at its place in 'offsets'. A span outside
+ * the block 'texts' fails with SPAN. Errors: BUFFER if 'out' or 'offsets' has fewer items than
+ * 'spans' (the call then writes nothing), else that of the first rejected item. */
+MuxanduBatch muxandu_moments_from_local_at(const char *MUXANDU_RESTRICT texts, size_t texts_count,
+                                           const MuxanduSpan *MUXANDU_RESTRICT spans,
+                                           size_t spans_count,
+                                           const int32_t *MUXANDU_RESTRICT offsets,
+                                           size_t offsets_count,
+                                           MuxanduMoment *MUXANDU_RESTRICT out, size_t out_count);
+
+/* The moment in each text of RFC 3339, with or without an offset, and the status of
+ * muxandu_date_time_from_local for it at the offset at its place in 'offsets'. The status is
+ * SPAN for a span outside the block 'texts'. If an item fails, its place in 'out' keeps its
+ * contents, and the call continues with the next. 'count' is the number of converted items.
+ * Errors: BUFFER if 'out', 'offsets' or 'statuses' has fewer items than 'spans'; the call then
+ * writes nothing. */
+MuxanduBatch muxandu_moments_from_each_local_at(const char *MUXANDU_RESTRICT texts,
+                                                size_t texts_count,
+                                                const MuxanduSpan *MUXANDU_RESTRICT spans,
+                                                size_t spans_count,
+                                                const int32_t *MUXANDU_RESTRICT offsets,
+                                                size_t offsets_count,
+                                                MuxanduMoment *MUXANDU_RESTRICT out,
+                                                size_t out_count,
+                                                MuxanduStatus *MUXANDU_RESTRICT statuses,
+                                                size_t statuses_count);
+
+/* The date and the time of day in an RFC 3339 text without an offset, with nothing before or
+ * after it, such as '2024-02-29T12:34:56.5'. The call sets 'offset_seconds' to 0, and reads all
+ * else as muxandu_date_time_from_rfc3339 does. Errors: SYNTAX if the text has another form, else
+ * that of the first part out of range: MONTH, DAY or DAY_OF_MONTH, HOUR, MINUTE, SECOND. */
+MuxanduStatus muxandu_date_time_from_plain(const char *MUXANDU_RESTRICT text, size_t text_count,
+                                           MuxanduDateTime *MUXANDU_RESTRICT out);
+
+/* The date-time in an RFC 3339 text with or without an offset. The call reads a text with an
+ * offset as muxandu_date_time_from_rfc3339 does. It reads a text without an offset as
+ * muxandu_date_time_from_plain does, and sets its offset to 'offset_seconds'. Errors:
+ * OFFSET_SECONDS, SYNTAX if the text has another form, else that of the first part out of range:
+ * MONTH, DAY or DAY_OF_MONTH, HOUR, MINUTE, SECOND, OFFSET_HOUR, OFFSET_MINUTE. */
+MuxanduStatus muxandu_date_time_from_local(const char *MUXANDU_RESTRICT text, size_t text_count,
+                                           int32_t offset_seconds,
+                                           MuxanduDateTime *MUXANDU_RESTRICT out);
+
+/* The time of day in an RFC 3339 text such as '12:34:56.5', with nothing before or after it. The
+ * call drops digits past the ninth of the fraction. Errors: SYNTAX if the text has another form,
+ * else HOUR, MINUTE or SECOND for the first part out of range. */
+MuxanduStatus muxandu_time_from_rfc3339(const char *MUXANDU_RESTRICT text, size_t text_count,
+                                        MuxanduTime *MUXANDU_RESTRICT out);
+
+/* The index of the fault in a text that muxandu_date_time_from_plain rejects with SYNTAX: 19 for
+ * '1985-04-12T23:20:50Z'. No date-time without an offset continues with the byte at that index;
+ * or the text ends there, too early. For a text that has the form it is the length of the text. */
+size_t muxandu_plain_fault(const char *text, size_t text_count);
+
+/* The index of the fault in a text that muxandu_time_from_rfc3339 rejects with SYNTAX, as
+ * muxandu_plain_fault returns it: 5 for '23:20Z'. */
+size_t muxandu_time_fault(const char *text, size_t text_count);
+
+/* The date-time of each moment, at its own offset, up to the first that
+ * muxandu_date_time_from_timestamp rejects. Errors: BUFFER if 'out' has fewer items than
+ * 'moments' (the call then writes nothing), else that of the first rejected item. */
+MuxanduBatch muxandu_date_times_from_moments(const MuxanduMoment *MUXANDU_RESTRICT moments,
+                                             size_t moments_count,
+                                             MuxanduDateTime *MUXANDU_RESTRICT out,
+                                             size_t out_count);
+
+/* The moment of each date-time, up to the first that muxandu_timestamp_from_date_time rejects.
+ * Errors: BUFFER if 'out' has fewer items than 'date_times' (the call then writes nothing), else
+ * that of the first rejected item. */
+MuxanduBatch muxandu_moments_from_date_times(const MuxanduDateTime *MUXANDU_RESTRICT date_times,
+                                             size_t date_times_count,
+                                             MuxanduMoment *MUXANDU_RESTRICT out, size_t out_count);
+
+/* The same instant of each moment at another offset in seconds, up to the first that
+ * muxandu_date_time_to_offset rejects. Errors: BUFFER if 'out' has fewer items than 'moments'
+ * (the call then writes nothing), else that of the first rejected item. */
+MuxanduBatch muxandu_moments_to_offset(const MuxanduMoment *MUXANDU_RESTRICT moments,
+                                       size_t moments_count, int32_t offset_seconds,
+                                       MuxanduMoment *MUXANDU_RESTRICT out, size_t out_count);
+
+/* Each moment, rounded down to a unit by its own clocks, up to the first that
+ * muxandu_date_time_truncate rejects. Errors: BUFFER if 'out' has fewer items than 'moments'
+ * (the call then writes nothing), else that of the first rejected item. */
+MuxanduBatch muxandu_moments_truncate(const MuxanduMoment *MUXANDU_RESTRICT moments,
+                                      size_t moments_count, MuxanduUnit unit,
+                                      MuxanduMoment *MUXANDU_RESTRICT out, size_t out_count);
+
+/* Each moment a number of months later, or earlier if it is negative, at the same local time and
+ * offset; in a shorter month on its last day, up to the first that muxandu_date_add_months
+ * rejects. Errors: BUFFER if 'out' has fewer items than 'moments' (the call then writes
+ * nothing), else that of the first rejected item. */
+MuxanduBatch muxandu_moments_add_months(const MuxanduMoment *MUXANDU_RESTRICT moments,
+                                        size_t moments_count, int32_t months,
+                                        MuxanduMoment *MUXANDU_RESTRICT out, size_t out_count);
+
+/* The instant and the offset in each text of RFC 3339, up to the first that
+ * muxandu_date_time_from_rfc3339 rejects. A span outside the block 'texts' fails with SPAN.
+ * Errors: BUFFER if 'out' has fewer items than 'spans' (the call then writes nothing), else that
+ * of the first rejected item. */
+MuxanduBatch muxandu_moments_from_rfc3339(const char *MUXANDU_RESTRICT texts, size_t texts_count,
+                                          const MuxanduSpan *MUXANDU_RESTRICT spans,
+                                          size_t spans_count, MuxanduMoment *MUXANDU_RESTRICT out,
+                                          size_t out_count);
+
+/* Each moment plus the duration at its place, at the same offset, up to the first pair that
+ * muxandu_date_time_add rejects. Errors: BUFFER if 'out' or 'durations' has fewer items than
+ * 'moments' (the call then writes nothing), else that of the first rejected pair. */
+MuxanduBatch muxandu_moments_add(const MuxanduMoment *MUXANDU_RESTRICT moments,
+                                 size_t moments_count,
+                                 const MuxanduDuration *MUXANDU_RESTRICT durations,
+                                 size_t durations_count, MuxanduMoment *MUXANDU_RESTRICT out,
+                                 size_t out_count);
+
+/* Each moment plus the duration at its place, at the same offset, and the status of
+ * muxandu_date_time_add for both. If a pair fails, its place in 'out' keeps its contents, and
+ * the call continues with the next. 'count' is the number of converted pairs. Errors: BUFFER if
+ * 'out', 'durations' or 'statuses' has fewer items than 'moments'; the call then writes nothing. */
+MuxanduBatch muxandu_each_moment_add(const MuxanduMoment *MUXANDU_RESTRICT moments,
+                                     size_t moments_count,
+                                     const MuxanduDuration *MUXANDU_RESTRICT durations,
+                                     size_t durations_count, MuxanduMoment *MUXANDU_RESTRICT out,
+                                     size_t out_count, MuxanduStatus *MUXANDU_RESTRICT statuses,
+                                     size_t statuses_count);
+
+/* Each moment minus the duration at its place, at the same offset, up to the first pair that
+ * muxandu_date_time_subtract rejects. Errors: BUFFER if 'out' or 'durations' has fewer items
+ * than 'moments' (the call then writes nothing), else that of the first rejected pair. */
+MuxanduBatch muxandu_moments_subtract(const MuxanduMoment *MUXANDU_RESTRICT moments,
+                                      size_t moments_count,
+                                      const MuxanduDuration *MUXANDU_RESTRICT durations,
+                                      size_t durations_count, MuxanduMoment *MUXANDU_RESTRICT out,
+                                      size_t out_count);
+
+/* Each moment minus the duration at its place, at the same offset, and the status of
+ * muxandu_date_time_subtract for both. If a pair fails, its place in 'out' keeps its contents,
+ * and the call continues with the next. 'count' is the number of converted pairs. Errors: BUFFER
+ * if 'out', 'durations' or 'statuses' has fewer items than 'moments'; the call then writes
+ * nothing. */
+MuxanduBatch muxandu_each_moment_subtract(const MuxanduMoment *MUXANDU_RESTRICT moments,
+                                          size_t moments_count,
+                                          const MuxanduDuration *MUXANDU_RESTRICT durations,
+                                          size_t durations_count,
+                                          MuxanduMoment *MUXANDU_RESTRICT out, size_t out_count,
+                                          MuxanduStatus *MUXANDU_RESTRICT statuses,
+                                          size_t statuses_count);
+
+/* The order of each moment and the one at its place in 'others': -1 if it comes first, 0 if both
+ * are one instant, else 1, up to the first pair that muxandu_date_time_compare rejects. Errors:
+ * BUFFER if 'out' or 'others' has fewer items than 'firsts' (the call then writes nothing), else
+ * that of the first rejected pair. */
+MuxanduBatch muxandu_moments_compare(const MuxanduMoment *MUXANDU_RESTRICT firsts,
+                                     size_t firsts_count,
+                                     const MuxanduMoment *MUXANDU_RESTRICT others,
+                                     size_t others_count, int32_t *MUXANDU_RESTRICT out,
+                                     size_t out_count);
+
+/* The order of each moment and the one at its place in 'others': -1 if it comes first, 0 if both
+ * are one instant, else 1, and the status of muxandu_date_time_compare for both. If a pair
+ * fails, its place in 'out' keeps its contents, and the call continues with the next. 'count' is
+ * the number of converted pairs. Errors: BUFFER if 'out', 'others' or 'statuses' has fewer items
+ * than 'firsts'; the call then writes nothing. */
+MuxanduBatch muxandu_each_moment_compare(const MuxanduMoment *MUXANDU_RESTRICT firsts,
+                                         size_t firsts_count,
+                                         const MuxanduMoment *MUXANDU_RESTRICT others,
+                                         size_t others_count, int32_t *MUXANDU_RESTRICT out,
+                                         size_t out_count, MuxanduStatus *MUXANDU_RESTRICT statuses,
+                                         size_t statuses_count);
+
+/* The duration to each moment from the one at its place in 'earlier', by instant, up to the
+ * first pair that muxandu_date_time_difference rejects. Errors: BUFFER if 'out' or 'earlier' has
+ * fewer items than 'later' (the call then writes nothing), else that of the first rejected pair. */
+MuxanduBatch muxandu_moments_difference(const MuxanduMoment *MUXANDU_RESTRICT later,
+                                        size_t later_count,
+                                        const MuxanduMoment *MUXANDU_RESTRICT earlier,
+                                        size_t earlier_count, MuxanduDuration *MUXANDU_RESTRICT out,
+                                        size_t out_count);
+
+/* The duration to each moment from the one at its place in 'earlier', by instant, and the status
+ * of muxandu_date_time_difference for both. If a pair fails, its place in 'out' keeps its
+ * contents, and the call continues with the next. 'count' is the number of converted pairs.
+ * Errors: BUFFER if 'out', 'earlier' or 'statuses' has fewer items than 'later'; the call then
+ * writes nothing. */
+MuxanduBatch muxandu_each_moment_difference(const MuxanduMoment *MUXANDU_RESTRICT later,
+                                            size_t later_count,
+                                            const MuxanduMoment *MUXANDU_RESTRICT earlier,
+                                            size_t earlier_count,
+                                            MuxanduDuration *MUXANDU_RESTRICT out, size_t out_count,
+                                            MuxanduStatus *MUXANDU_RESTRICT statuses,
+                                            size_t statuses_count);
+
+/* The seconds of an offset of hours, minutes and seconds. Smaller parts take the sign of the
+ * hours, or of the minutes if the hours are 0. Errors, in this order: OFFSET_HOUR if not -25 to
+ * 25, OFFSET_MINUTE if not -59 to 59, OFFSET_SECONDS if the seconds are not -59 to 59. */
 MuxanduStatus muxandu_offset_from_parts(MuxanduOffset parts, int32_t *out);
 
-/* The hours, the minutes and the seconds of an offset in seconds, all of one sign. Errors: OFFSET_SECONDS. */
+/* The hours, the minutes and the seconds of an offset in seconds, all of one sign. Errors:
+ * OFFSET_SECONDS. */
 MuxanduStatus muxandu_offset_to_parts(int32_t offset_seconds, MuxanduOffset *out);
 
-/* Every reading of a date: its day number and Julian day, its day of the year and of the week, and its weeks by ISO
- * 8601, by Sundays and by Mondays. Errors, in this order: MONTH, YEAR, DAY, DAY_OF_MONTH. */
+/* The date-time of a text that is written as the items say, to its end. 'kind' says which parts
+ * it has: the others are those of 1970-01-01 0:00 UTC. A Unix timestamp alone gives a date-time,
+ * in UTC if the text has no offset. 'size' is the length of the text. Errors, in this order:
+ * UNIT if a number is no item, or for more than 128 items. SYNTAX with the index of the byte
+ * where the item begins that the text lacks. UNIT if 'kind' is none. SYNTAX with a part as the
+ * reason, without which the text names no one value. RESULT with the first part that is out of
+ * range, or that is not a part of the value. */
+MuxanduOutcome muxandu_parse_items(MuxanduKind kind, const MuxanduItem *MUXANDU_RESTRICT items,
+                                   size_t items_count, const char *MUXANDU_RESTRICT text,
+                                   size_t text_count, MuxanduDateTime *MUXANDU_RESTRICT out);
+
+/* The date-time of a text by a description in version 2 of its language, such as
+ * '[year]-[month]-[day]', as muxandu_parse_items reads it. Errors, in this order: SYNTAX if the
+ * description is none, with the place and the reason of its first fault. Those of
+ * muxandu_parse_items. */
+MuxanduOutcome muxandu_parse(MuxanduKind kind, const char *MUXANDU_RESTRICT description,
+                             size_t description_count, const char *MUXANDU_RESTRICT text,
+                             size_t text_count, MuxanduDateTime *MUXANDU_RESTRICT out);
+
+/* The date-time of each text of a block, up to the first that muxandu_parse_items rejects. A
+ * span outside the block 'texts' fails with SPAN. Errors, in this order: UNIT if a number is no
+ * item, or for more than 128 items. BUFFER if 'out' has fewer items than 'spans'. The call then
+ * writes nothing. Else that of the first rejected item. */
+MuxanduBatch muxandu_parse_all(MuxanduKind kind, const MuxanduItem *MUXANDU_RESTRICT items,
+                               size_t items_count, const char *MUXANDU_RESTRICT texts,
+                               size_t texts_count, const MuxanduSpan *MUXANDU_RESTRICT spans,
+                               size_t spans_count, MuxanduDateTime *MUXANDU_RESTRICT out,
+                               size_t out_count);
+
+/* The date-time of each text of a block, and the status of muxandu_parse_items for it. The
+ * status is SPAN for a span outside the block 'texts'. If an item fails, its place in 'out'
+ * keeps its contents, and the call continues with the next. 'count' is the number of converted
+ * items. Errors, in this order: UNIT if a number is no item, or for more than 128 items. BUFFER
+ * if 'out' or 'statuses' has fewer items than 'spans'. The call then writes nothing. */
+MuxanduBatch muxandu_parse_each(MuxanduKind kind, const MuxanduItem *MUXANDU_RESTRICT items,
+                                size_t items_count, const char *MUXANDU_RESTRICT texts,
+                                size_t texts_count, const MuxanduSpan *MUXANDU_RESTRICT spans,
+                                size_t spans_count, MuxanduDateTime *MUXANDU_RESTRICT out,
+                                size_t out_count, MuxanduStatus *MUXANDU_RESTRICT statuses,
+                                size_t statuses_count);
+
+/* Every reading of a date: its day number and Julian day, its day of the year and of the week,
+ * and its weeks by ISO 8601, by Sundays and by Mondays. Errors, in this order: MONTH, YEAR, DAY,
+ * DAY_OF_MONTH. */
 MuxanduStatus muxandu_date_reads(MuxanduDate date, MuxanduDateReads *out);
 
 /* The date of a Julian day, which is 2440588 on 1970-01-01. Errors: DAY_NUMBER if out of range. */
 MuxanduStatus muxandu_date_from_julian_day(int32_t julian_day, MuxanduDate *out);
 
-/* The date-time with one part replaced. It keeps the other parts and the offset; a day of the year replaces the
- * month and the day. Errors, in this order: those of the date-time, UNIT if 'part' is no number of a part, YEAR,
- * MONTH, DAY, DAY_OF_MONTH, ORDINAL, ORDINAL_OF_YEAR, HOUR, MINUTE, SECOND, NANOSECOND. */
+/* The date-time with one part replaced. It keeps the other parts and the offset; a day of the
+ * year replaces the month and the day. Errors, in this order: those of the date-time, UNIT if
+ * 'part' is no number of a part, YEAR, MONTH, DAY, DAY_OF_MONTH, ORDINAL, ORDINAL_OF_YEAR, HOUR,
+ * MINUTE, SECOND, NANOSECOND. */
 MuxanduStatus muxandu_date_time_replace(MuxanduDateTime date_time, MuxanduPart part, int32_t value,
                                         MuxanduDateTime *out);
 
-/* The instant with one part of its date or time in UTC replaced, as muxandu_date_time_replace does. Errors, in this
- * order: those of the timestamp, those of that call. */
-MuxanduStatus muxandu_timestamp_replace(MuxanduTimestamp at, MuxanduPart part, int32_t value, MuxanduTimestamp *out);
+/* The instant with one part of its date or time in UTC replaced, as muxandu_date_time_replace
+ * does. Errors, in this order: those of the timestamp, those of that call. */
+MuxanduStatus muxandu_timestamp_replace(MuxanduTimestamp at, MuxanduPart part, int32_t value,
+                                        MuxanduTimestamp *out);
+
+/* The instant of a number of microseconds from 2000-01-01 0:00 UTC, as a 'timestamptz' of
+ * PostgreSQL counts them. It is always in range. */
+MuxanduTimestamp muxandu_timestamp_from_microseconds_2000(int64_t microseconds);
+
+/* The whole microseconds from 2000-01-01 0:00 UTC, rounded down. They fit in 64 bits from
+ * -290278-12-22 to 294277-01-09. Errors, in this order: those of the timestamp, RESULT if they
+ * do not fit. */
+MuxanduStatus muxandu_timestamp_to_microseconds_2000(MuxanduTimestamp at, int64_t *out);
+
+/* The instant with the first 'digits' digits of its fraction: it is rounded down, also before
+ * 1970. A number above nine keeps all nine. Errors: those of the timestamp. */
+MuxanduStatus muxandu_timestamp_truncate_digits(MuxanduTimestamp at, uint32_t digits,
+                                                MuxanduTimestamp *out);
+
+/* Checks that the date-time has a text of RFC 3339, as muxandu_date_time_to_rfc3339 writes it.
+ * Errors, in this order: those of the date-time, NO_TEXT. */
+MuxanduStatus muxandu_date_time_check_rfc3339(MuxanduDateTime date_time);
 
 /* The date-time of each Unix millisecond at an offset in seconds, up to the first that
- * muxandu_timestamp_from_milliseconds or muxandu_date_time_from_timestamp rejects. Errors: BUFFER if 'out' has fewer
- * items than 'milliseconds' (the call then writes nothing), else that of the first rejected item. */
+ * muxandu_timestamp_from_milliseconds or muxandu_date_time_from_timestamp rejects. Errors:
+ * BUFFER if 'out' has fewer items than 'milliseconds' (the call then writes nothing), else that
+ * of the first rejected item. */
 MuxanduBatch muxandu_date_times_from_milliseconds(const int64_t *MUXANDU_RESTRICT milliseconds,
                                                   size_t milliseconds_count, int32_t offset_seconds,
-                                                  MuxanduDateTime *MUXANDU_RESTRICT out, size_t out_count);
-
-/* The milliseconds from 1970-01-01 0:00 UTC of each date-time, rounded down, up to the first that
- * muxandu_timestamp_from_date_time or muxandu_timestamp_to_milliseconds rejects. Errors: BUFFER if 'out' has fewer
- * items than 'date_times' (the call then writes nothing), else that of the first rejected item. */
-MuxanduBatch muxandu_milliseconds_from_date_times(const MuxanduDateTime *MUXANDU_RESTRICT date_times,
-                                                  size_t date_times_count, int64_t *MUXANDU_RESTRICT out,
+                                                  MuxanduDateTime *MUXANDU_RESTRICT out,
                                                   size_t out_count);
+
+/* The milliseconds from 1970-01-01 0:00 UTC of each date-time, rounded down, up to the first
+ * that muxandu_timestamp_from_date_time or muxandu_timestamp_to_milliseconds rejects. Errors:
+ * BUFFER if 'out' has fewer items than 'date_times' (the call then writes nothing), else that of
+ * the first rejected item. */
+MuxanduBatch
+                                                  muxandu_milliseconds_from_date_times(const MuxanduDateTime *MUXANDU_RESTRICT date_times,
+                                                  size_t date_times_count,
+                                                  int64_t *MUXANDU_RESTRICT out, size_t out_count);
 
 /* The date-time of each Unix microsecond at an offset in seconds, up to the first that
- * muxandu_date_time_from_timestamp rejects. Errors: BUFFER if 'out' has fewer items than 'microseconds' (the call
- * then writes nothing), else that of the first rejected item. */
+ * muxandu_date_time_from_timestamp rejects. Errors: BUFFER if 'out' has fewer items than
+ * 'microseconds' (the call then writes nothing), else that of the first rejected item. */
 MuxanduBatch muxandu_date_times_from_microseconds(const int64_t *MUXANDU_RESTRICT microseconds,
                                                   size_t microseconds_count, int32_t offset_seconds,
-                                                  MuxanduDateTime *MUXANDU_RESTRICT out, size_t out_count);
-
-/* The microseconds from 1970-01-01 0:00 UTC of each date-time, rounded down, up to the first that
- * muxandu_timestamp_from_date_time or muxandu_timestamp_to_microseconds rejects. Errors: BUFFER if 'out' has fewer
- * items than 'date_times' (the call then writes nothing), else that of the first rejected item. */
-MuxanduBatch muxandu_microseconds_from_date_times(const MuxanduDateTime *MUXANDU_RESTRICT date_times,
-                                                  size_t date_times_count, int64_t *MUXANDU_RESTRICT out,
+                                                  MuxanduDateTime *MUXANDU_RESTRICT out,
                                                   size_t out_count);
 
+/* The microseconds from 1970-01-01 0:00 UTC of each date-time, rounded down, up to the first
+ * that muxandu_timestamp_from_date_time or muxandu_timestamp_to_microseconds rejects. Errors:
+ * BUFFER if 'out' has fewer items than 'date_times' (the call then writes nothing), else that of
+ * the first rejected item. */
+MuxanduBatch
+                                                  muxandu_microseconds_from_date_times(const MuxanduDateTime *MUXANDU_RESTRICT date_times,
+                                                  size_t date_times_count,
+                                                  int64_t *MUXANDU_RESTRICT out, size_t out_count);
+
 /* The date-time of each Unix nanosecond at an offset in seconds, up to the first that
- * muxandu_date_time_from_timestamp rejects. Errors: BUFFER if 'out' has fewer items than 'nanoseconds' (the call
- * then writes nothing), else that of the first rejected item. */
-MuxanduBatch muxandu_date_times_from_nanoseconds(const int64_t *MUXANDU_RESTRICT nanoseconds, size_t nanoseconds_count,
-                                                 int32_t offset_seconds, MuxanduDateTime *MUXANDU_RESTRICT out,
+ * muxandu_date_time_from_timestamp rejects. Errors: BUFFER if 'out' has fewer items than
+ * 'nanoseconds' (the call then writes nothing), else that of the first rejected item. */
+MuxanduBatch muxandu_date_times_from_nanoseconds(const int64_t *MUXANDU_RESTRICT nanoseconds,
+                                                 size_t nanoseconds_count, int32_t offset_seconds,
+                                                 MuxanduDateTime *MUXANDU_RESTRICT out,
                                                  size_t out_count);
 
-/* The nanoseconds from 1970-01-01 0:00 UTC of each date-time, up to the first that muxandu_timestamp_from_date_time
- * or muxandu_timestamp_to_nanoseconds rejects. Errors: BUFFER if 'out' has fewer items than 'date_times' (the call
- * then writes nothing), else that of the first rejected item. */
+/* The nanoseconds from 1970-01-01 0:00 UTC of each date-time, up to the first that
+ * muxandu_timestamp_from_date_time or muxandu_timestamp_to_nanoseconds rejects. Errors: BUFFER
+ * if 'out' has fewer items than 'date_times' (the call then writes nothing), else that of the
+ * first rejected item. */
 MuxanduBatch muxandu_nanoseconds_from_date_times(const MuxanduDateTime *MUXANDU_RESTRICT date_times,
-                                                 size_t date_times_count, int64_t *MUXANDU_RESTRICT out,
-                                                 size_t out_count);
+                                                 size_t date_times_count,
+                                                 int64_t *MUXANDU_RESTRICT out, size_t out_count);
 
-/* The date-time and the offset in each text of RFC 3339, up to the first that muxandu_date_time_from_rfc3339
- * rejects. A span outside the block 'texts' fails with SPAN. Errors: BUFFER if 'out' has fewer items than 'spans'
- * (the call then writes nothing), else that of the first rejected item. */
-MuxanduBatch muxandu_date_times_from_rfc3339(const char *MUXANDU_RESTRICT texts, size_t texts_count,
-                                             const MuxanduSpan *MUXANDU_RESTRICT spans, size_t spans_count,
-                                             MuxanduDateTime *MUXANDU_RESTRICT out, size_t out_count);
-
-/* The date-time and the offset in each text of RFC 3339, and the status of muxandu_date_time_from_rfc3339 for it.
- * The status is SPAN for a span outside the block 'texts'. If an item fails, its place in 'out' keeps its contents,
- * and the call continues with the next. 'count' is the number of converted items. Errors: BUFFER if 'out' or
- * 'statuses' has fewer items than 'spans'; the call then writes nothing. */
-MuxanduBatch muxandu_date_times_from_each_rfc3339(const char *MUXANDU_RESTRICT texts, size_t texts_count,
-                                                  const MuxanduSpan *MUXANDU_RESTRICT spans, size_t spans_count,
-                                                  MuxanduDateTime *MUXANDU_RESTRICT out, size_t out_count,
-                                                  MuxanduStatus *MUXANDU_RESTRICT statuses, size_t statuses_count);
-
-/* Writes the text of each date-time into the block 'texts', one after the other with nothing between, and its place
- * to 'spans'. It stops at the first that muxandu_date_time_to_rfc3339 rejects, with BUFFER if the rest of 'texts' is
- * too short. Errors: BUFFER if 'spans' has fewer items than 'date_times' (the call then writes nothing), else that
+/* The date-time and the offset in each text of RFC 3339, up to the first that
+ * muxandu_date_time_from_rfc3339 rejects. A span outside the block 'texts' fails with SPAN.
+ * Errors: BUFFER if 'out' has fewer items than 'spans' (the call then writes nothing), else that
  * of the first rejected item. */
-MuxanduBatch muxandu_date_times_to_rfc3339(const MuxanduDateTime *MUXANDU_RESTRICT date_times, size_t date_times_count,
-                                           char *MUXANDU_RESTRICT texts, size_t texts_count,
-                                           MuxanduSpan *MUXANDU_RESTRICT spans, size_t spans_count);
+MuxanduBatch muxandu_date_times_from_rfc3339(const char *MUXANDU_RESTRICT texts, size_t texts_count,
+                                             const MuxanduSpan *MUXANDU_RESTRICT spans,
+                                             size_t spans_count,
+                                             MuxanduDateTime *MUXANDU_RESTRICT out,
+                                             size_t out_count);
 
-/* Writes the text of a date-time, such as '1970-01-01 0:00:00.0 +00:00:00', to the front of 'buffer', and its length
- * to 'size'. The text has at most 42 bytes, all ASCII and none 0. Its form is '[sign]year-month-day
- * hour:minute:second.fraction sign hours:minutes:seconds', with no blank after the last sign. The year has four to
- * six digits, with '-' before it below 0, and '+' above 9999. The hour has one digit below 10. The fraction has one
- * to nine digits, and ends with 0 only if it is '0'. Each other number has two digits. The offset has '-' below 0,
- * else '+'. Errors, in this order: those of the date-time, BUFFER if the text is longer than 'buffer'; 'size' is
- * then its length, and 'buffer' is unchanged. */
-MuxanduStatus muxandu_date_time_text(MuxanduDateTime date_time, char *MUXANDU_RESTRICT buffer, size_t buffer_count,
-                                     size_t *MUXANDU_RESTRICT size);
+/* The date-time and the offset in each text of RFC 3339, and the status of
+ * muxandu_date_time_from_rfc3339 for it. The status is SPAN for a span outside the block
+ * 'texts'. If an item fails, its place in 'out' keeps its contents, and the call continues with
+ * the next. 'count' is the number of converted items. Errors: BUFFER if 'out' or 'statuses' has
+ * fewer items than 'spans'; the call then writes nothing. */
+MuxanduBatch muxandu_date_times_from_each_rfc3339(const char *MUXANDU_RESTRICT texts,
+                                                  size_t texts_count,
+                                                  const MuxanduSpan *MUXANDU_RESTRICT spans,
+                                                  size_t spans_count,
+                                                  MuxanduDateTime *MUXANDU_RESTRICT out,
+                                                  size_t out_count,
+                                                  MuxanduStatus *MUXANDU_RESTRICT statuses,
+                                                  size_t statuses_count);
+
+/* Writes the text of each date-time into the block 'texts', one after the other with nothing
+ * between, and its place to 'spans'. It stops at the first that muxandu_date_time_to_rfc3339
+ * rejects, with BUFFER if the rest of 'texts' is too short. Errors: BUFFER if 'spans' has fewer
+ * items than 'date_times' (the call then writes nothing), else that of the first rejected item. */
+MuxanduBatch muxandu_date_times_to_rfc3339(const MuxanduDateTime *MUXANDU_RESTRICT date_times,
+                                           size_t date_times_count, char *MUXANDU_RESTRICT texts,
+                                           size_t texts_count, MuxanduSpan *MUXANDU_RESTRICT spans,
+                                           size_t spans_count);
+
+/* Writes the text of a date-time, such as '1970-01-01 0:00:00.0 +00:00:00', to the front of
+ * 'buffer', and its length to 'size'. The text has at most 42 bytes, all ASCII and none 0. Its
+ * form is '[sign]year-month-day hour:minute:second.fraction sign hours:minutes:seconds', with no
+ * blank after the last sign. The year has four to six digits, with '-' before it below 0, and
+ * '+' above 9999. The hour has one digit below 10. The fraction has one to nine digits, and ends
+ * with 0 only if it is '0'. Each other number has two digits. The offset has '-' below 0, else
+ * '+'. Errors, in this order: those of the date-time, BUFFER if the text is longer than
+ * 'buffer'; 'size' is then its length, and 'buffer' is unchanged. */
+MuxanduStatus muxandu_date_time_text(MuxanduDateTime date_time, char *MUXANDU_RESTRICT buffer,
+                                     size_t buffer_count, size_t *MUXANDU_RESTRICT size);
 
 /* Writes the seconds of a timestamp as a signed decimal, such as '-0.5', in at most 25 bytes, as
  * muxandu_date_time_text does. Errors, in this order: those of the timestamp, BUFFER. */
-MuxanduStatus muxandu_timestamp_text(MuxanduTimestamp at, char *MUXANDU_RESTRICT buffer, size_t buffer_count,
-                                     size_t *MUXANDU_RESTRICT size);
+MuxanduStatus muxandu_timestamp_text(MuxanduTimestamp at, char *MUXANDU_RESTRICT buffer,
+                                     size_t buffer_count, size_t *MUXANDU_RESTRICT size);
 
-/* What a status says, as muxandu_status_text writes it: a text that stays and ends with a byte 0, for a message. This call and
- * those that end with _z are compiled with the program, and not proved; what they answer is what the proved calls answer. */
+/* The text of a status, as muxandu_status_text writes it, for a message. It stays, and ends with a
+ * byte 0. Your compiler compiles this call and those that end with _z, and no proof covers them;
+ * they answer by the proved calls. */
 MUXANDU_INLINE const char *muxandu_status_string(MuxanduStatus status) {
     switch (status) {
     case MUXANDU_OK:
@@ -784,7 +1529,7 @@ MUXANDU_INLINE const char *muxandu_status_string(MuxanduStatus status) {
     case MUXANDU_REFUSED_DURATION:
         return "A duration whose whole seconds do not fit in 64 bits.";
     case MUXANDU_REFUSED_UNIT:
-        return "A number that is not a unit, or not a part of a date-time.";
+        return "A number that is not a unit, not a part of a date-time, or not a kind, a version or an item of a format description.";
     case MUXANDU_REFUSED_RESULT:
         return "A result that is outside the range, or that its type cannot hold.";
     case MUXANDU_REFUSED_BUFFER:
@@ -798,14 +1543,14 @@ MUXANDU_INLINE const char *muxandu_status_string(MuxanduStatus status) {
     case MUXANDU_REFUSED_OFFSET_MINUTE:
         return "Minutes of an offset that are not -59 to 59.";
     case MUXANDU_REFUSED_NO_TEXT:
-        return "A value that has no text in RFC 3339: a year outside 0 to 9999, or an offset with seconds or beyond 23:59.";
+        return "A value that has no such text, as in RFC 3339 a year outside 0 to 9999, or an offset with seconds or beyond 23:59.";
     default:
         return "A number that is no status of this version.";
     }
 }
 
-/* As muxandu_status_name, with a byte 0 at the end of the text. Errors: also BUFFER if 'buffer' has no room for that
- * byte. A buffer of 16 bytes is always enough. */
+/* As muxandu_status_name, with a byte 0 at the end of the text. Errors: also BUFFER if 'buffer'
+ * has no room for that byte. A buffer of 16 bytes is always enough. */
 MUXANDU_INLINE MuxanduStatus muxandu_status_name_z(MuxanduStatus status, char *buffer, size_t buffer_count) {
     size_t size = 0;
     MuxanduStatus answer = muxandu_status_name(status, buffer, buffer_count == 0 ? 0 : buffer_count - 1, &size);
@@ -813,8 +1558,8 @@ MUXANDU_INLINE MuxanduStatus muxandu_status_name_z(MuxanduStatus status, char *b
     return answer;
 }
 
-/* As muxandu_status_text, with a byte 0 at the end of the text. Errors: also BUFFER if 'buffer' has no room for that
- * byte. A buffer of 129 bytes is always enough. */
+/* As muxandu_status_text, with a byte 0 at the end of the text. Errors: also BUFFER if 'buffer'
+ * has no room for that byte. A buffer of 129 bytes is always enough. */
 MUXANDU_INLINE MuxanduStatus muxandu_status_text_z(MuxanduStatus status, char *buffer, size_t buffer_count) {
     size_t size = 0;
     MuxanduStatus answer = muxandu_status_text(status, buffer, buffer_count == 0 ? 0 : buffer_count - 1, &size);
@@ -822,8 +1567,8 @@ MUXANDU_INLINE MuxanduStatus muxandu_status_text_z(MuxanduStatus status, char *b
     return answer;
 }
 
-/* As muxandu_date_to_rfc3339, with a byte 0 at the end of the text. Errors: also BUFFER if 'buffer' has no room for
- * that byte. A buffer of 11 bytes is always enough. */
+/* As muxandu_date_to_rfc3339, with a byte 0 at the end of the text. Errors: also BUFFER if
+ * 'buffer' has no room for that byte. A buffer of 11 bytes is always enough. */
 MUXANDU_INLINE MuxanduStatus muxandu_date_to_rfc3339_z(MuxanduDate date, char *buffer, size_t buffer_count) {
     size_t size = 0;
     MuxanduStatus answer = muxandu_date_to_rfc3339(date, buffer, buffer_count == 0 ? 0 : buffer_count - 1, &size);
@@ -831,8 +1576,8 @@ MUXANDU_INLINE MuxanduStatus muxandu_date_to_rfc3339_z(MuxanduDate date, char *b
     return answer;
 }
 
-/* As muxandu_date_time_to_rfc3339_digits, with a byte 0 at the end of the text. Errors: also BUFFER if 'buffer' has
- * no room for that byte. A buffer of 36 bytes is always enough. */
+/* As muxandu_date_time_to_rfc3339_digits, with a byte 0 at the end of the text. Errors: also
+ * BUFFER if 'buffer' has no room for that byte. A buffer of 36 bytes is always enough. */
 MUXANDU_INLINE MuxanduStatus muxandu_date_time_to_rfc3339_digits_z(MuxanduDateTime date_time, uint32_t digits, char *buffer, size_t buffer_count) {
     size_t size = 0;
     MuxanduStatus answer = muxandu_date_time_to_rfc3339_digits(date_time, digits, buffer, buffer_count == 0 ? 0 : buffer_count - 1, &size);
@@ -840,8 +1585,8 @@ MUXANDU_INLINE MuxanduStatus muxandu_date_time_to_rfc3339_digits_z(MuxanduDateTi
     return answer;
 }
 
-/* As muxandu_date_time_to_rfc3339, with a byte 0 at the end of the text. Errors: also BUFFER if 'buffer' has no room
- * for that byte. A buffer of 36 bytes is always enough. */
+/* As muxandu_date_time_to_rfc3339, with a byte 0 at the end of the text. Errors: also BUFFER if
+ * 'buffer' has no room for that byte. A buffer of 36 bytes is always enough. */
 MUXANDU_INLINE MuxanduStatus muxandu_date_time_to_rfc3339_z(MuxanduDateTime date_time, char *buffer, size_t buffer_count) {
     size_t size = 0;
     MuxanduStatus answer = muxandu_date_time_to_rfc3339(date_time, buffer, buffer_count == 0 ? 0 : buffer_count - 1, &size);
@@ -849,8 +1594,8 @@ MUXANDU_INLINE MuxanduStatus muxandu_date_time_to_rfc3339_z(MuxanduDateTime date
     return answer;
 }
 
-/* As muxandu_timestamp_to_rfc3339, with a byte 0 at the end of the text. Errors: also BUFFER if 'buffer' has no room
- * for that byte. A buffer of 31 bytes is always enough. */
+/* As muxandu_timestamp_to_rfc3339, with a byte 0 at the end of the text. Errors: also BUFFER if
+ * 'buffer' has no room for that byte. A buffer of 31 bytes is always enough. */
 MUXANDU_INLINE MuxanduStatus muxandu_timestamp_to_rfc3339_z(MuxanduTimestamp at, char *buffer, size_t buffer_count) {
     size_t size = 0;
     MuxanduStatus answer = muxandu_timestamp_to_rfc3339(at, buffer, buffer_count == 0 ? 0 : buffer_count - 1, &size);
@@ -858,8 +1603,8 @@ MUXANDU_INLINE MuxanduStatus muxandu_timestamp_to_rfc3339_z(MuxanduTimestamp at,
     return answer;
 }
 
-/* As muxandu_timestamp_to_rfc3339_nanos, with a byte 0 at the end of the text. Errors: also BUFFER if 'buffer' has
- * no room for that byte. A buffer of 31 bytes is always enough. */
+/* As muxandu_timestamp_to_rfc3339_nanos, with a byte 0 at the end of the text. Errors: also
+ * BUFFER if 'buffer' has no room for that byte. A buffer of 31 bytes is always enough. */
 MUXANDU_INLINE MuxanduStatus muxandu_timestamp_to_rfc3339_nanos_z(MuxanduTimestamp at, char *buffer, size_t buffer_count) {
     size_t size = 0;
     MuxanduStatus answer = muxandu_timestamp_to_rfc3339_nanos(at, buffer, buffer_count == 0 ? 0 : buffer_count - 1, &size);
@@ -867,8 +1612,26 @@ MUXANDU_INLINE MuxanduStatus muxandu_timestamp_to_rfc3339_nanos_z(MuxanduTimesta
     return answer;
 }
 
-/* As muxandu_date_time_text, with a byte 0 at the end of the text. Errors: also BUFFER if 'buffer' has no room for
- * that byte. A buffer of 43 bytes is always enough. */
+/* As muxandu_format_items, with a byte 0 at the end of the text. Errors: also BUFFER if 'buffer'
+ * has no room for that byte. A buffer of 65 bytes is always enough. */
+MUXANDU_INLINE MuxanduStatus muxandu_format_items_z(MuxanduKind kind, const MuxanduItem *items, size_t items_count, MuxanduDateTime date_time, char *buffer, size_t buffer_count) {
+    size_t size = 0;
+    MuxanduStatus answer = muxandu_format_items(kind, items, items_count, date_time, buffer, buffer_count == 0 ? 0 : buffer_count - 1, &size);
+    if (answer == MUXANDU_OK) buffer[size] = '\0';
+    return answer;
+}
+
+/* As muxandu_format, with a byte 0 at the end of the text. Errors: also BUFFER if 'buffer' has
+ * no room for that byte. A buffer of 65 bytes is always enough. */
+MUXANDU_INLINE MuxanduStatus muxandu_format_z(MuxanduKind kind, const char *description, size_t description_count, MuxanduDateTime date_time, char *buffer, size_t buffer_count) {
+    size_t size = 0;
+    MuxanduStatus answer = muxandu_format(kind, description, description_count, date_time, buffer, buffer_count == 0 ? 0 : buffer_count - 1, &size);
+    if (answer == MUXANDU_OK) buffer[size] = '\0';
+    return answer;
+}
+
+/* As muxandu_date_time_text, with a byte 0 at the end of the text. Errors: also BUFFER if
+ * 'buffer' has no room for that byte. A buffer of 43 bytes is always enough. */
 MUXANDU_INLINE MuxanduStatus muxandu_date_time_text_z(MuxanduDateTime date_time, char *buffer, size_t buffer_count) {
     size_t size = 0;
     MuxanduStatus answer = muxandu_date_time_text(date_time, buffer, buffer_count == 0 ? 0 : buffer_count - 1, &size);
@@ -876,8 +1639,8 @@ MUXANDU_INLINE MuxanduStatus muxandu_date_time_text_z(MuxanduDateTime date_time,
     return answer;
 }
 
-/* As muxandu_timestamp_text, with a byte 0 at the end of the text. Errors: also BUFFER if 'buffer' has no room for
- * that byte. A buffer of 26 bytes is always enough. */
+/* As muxandu_timestamp_text, with a byte 0 at the end of the text. Errors: also BUFFER if
+ * 'buffer' has no room for that byte. A buffer of 26 bytes is always enough. */
 MUXANDU_INLINE MuxanduStatus muxandu_timestamp_text_z(MuxanduTimestamp at, char *buffer, size_t buffer_count) {
     size_t size = 0;
     MuxanduStatus answer = muxandu_timestamp_text(at, buffer, buffer_count == 0 ? 0 : buffer_count - 1, &size);

@@ -1,7 +1,8 @@
 /* SPDX-License-Identifier: MIT OR Apache-2.0
  *
- * The structs of time.h, both ways, by calls of muxandu.h. These four are compiled here, and not proved; what they answer comes of
- * calls that are. They refuse as those calls do, and then leave 'out' as it was. */
+ * The structs of time.h, both ways, by calls of muxandu.h. Your compiler compiles these four,
+ * and no proof covers them; they answer by proved calls. They fail as those calls do, and then
+ * leave 'out' as it was. */
 #ifndef MUXANDU_TIME_H
 #define MUXANDU_TIME_H
 
@@ -45,8 +46,9 @@ MUXANDU_INLINE uint8_t muxandu_part_of_tm(int part) {
     return part < 0 || part > 254 ? 255 : MUXANDU_CAST(uint8_t, part);
 }
 
-/* What the clocks of a struct tm show, at a nanosecond of its second and an offset, which it does not have. Its days of the
- * week and of the year and its tm_isdst are not read. Refused as by muxandu_date_time_check. */
+/* Returns the date-time of a struct tm, with a nanosecond and an offset, which it does not have.
+ * The call does not read its days of the week and of the year or its tm_isdst. It fails as
+ * muxandu_date_time_check does. */
 MUXANDU_INLINE MuxanduStatus muxandu_date_time_from_tm(const struct tm *from, uint32_t nanosecond,
                                                        int32_t offset_seconds, MuxanduDateTime *out) {
     MuxanduDateTime at;
@@ -64,8 +66,8 @@ MUXANDU_INLINE MuxanduStatus muxandu_date_time_from_tm(const struct tm *from, ui
     return status;
 }
 
-/* The struct tm of what clocks show, with its days of the week and of the year; tm_isdst is -1, since it is not known, and
- * what else the struct has is 0. Refused as the date-time. */
+/* The struct tm of what clocks show, with its days of the week and of the year; tm_isdst is -1,
+ * since it is not known, and what else the struct has is 0. Refused as the date-time. */
 MUXANDU_INLINE MuxanduStatus muxandu_tm_from_date_time(MuxanduDateTime at, struct tm *out) {
     MuxanduDate date;
     MuxanduDateReads reads;

@@ -1,4 +1,5 @@
-/* The conversions in bare C, with the tests of the library and its structs: days by eras, in 64 bits. */
+/* The conversions in bare C, with the tests of the library and its structs: days by eras, in 64
+ * bits. */
 #ifndef BARE_H
 #define BARE_H
 

@@ -1,5 +1,6 @@
-/* A counter of days: the dates of all days, counted one day at a time from -999999-01-01, by the leap rule and the lengths of the
- * months alone. That day was a Monday, as 1 January of the year 1 was, since 400 years have 20,871 whole weeks. */
+/* A counter of days: the dates of all days, counted one day at a time from -999999-01-01, by the
+ * leap rule and the lengths of the months alone. That day was a Monday, as 1 January of the year
+ * 1 was, since 400 years have 20,871 whole weeks. */
 #ifndef COUNTER_H
 #define COUNTER_H
 
@@ -13,7 +14,8 @@
 /* The days of 400 years, with which the calendar begins again. */
 #define COUNTER_CYCLE 146097
 
-/* A day number, 0 on 1970-01-01, its date, its day of the year, and its ISO week date, 0 for Monday. */
+/* A day number, 0 on 1970-01-01, its date, its day of the year, and its ISO week date, 0 for
+ * Monday. */
 typedef struct Counter {
     int32_t number;
     int32_t year;
@@ -36,7 +38,8 @@ static inline int32_t counter_month_length(const Counter *at) {
     return lengths[at->month - 1] + (at->month == 2 && counter_is_leap(at->year));
 }
 
-/* Whether a Monday begins an ISO year: its Thursday is in January, and the Thursday before is not. */
+/* Whether a Monday begins an ISO year: its Thursday is in January, and the Thursday before is
+ * not. */
 static inline int counter_begins_year(const Counter *at) {
     return (at->month == 12 && at->day >= 29) || (at->month == 1 && at->day <= 4);
 }
@@ -63,7 +66,8 @@ static inline void count_day(Counter *at) {
     }
 }
 
-/* The counter after a number of days: it skips whole spans of 400 years, and counts the other days. */
+/* The counter after a number of days: it skips whole spans of 400 years, and counts the other
+ * days. */
 static inline Counter counter_after(int64_t days) {
     Counter at = COUNTER_START;
     int32_t cycles = (int32_t)(days / COUNTER_CYCLE), left = (int32_t)(days % COUNTER_CYCLE);

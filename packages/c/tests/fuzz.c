@@ -1,4 +1,5 @@
-/* A target of libFuzzer: each reading of a text by two libraries, and what is read is written and read back.
+/* A target of libFuzzer: each reading of a text by two libraries, and what is read is written and read
+ * back.
  *
  * The names of the other library begin with other_. A difference ends the program. */
 #include <stdlib.h>

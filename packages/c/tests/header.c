@@ -1,4 +1,5 @@
-/* The headers alone, in each order and more than once: they are compiled with no warning in each standard of C and C++. */
+/* The headers alone, in each order and more than once: they are compiled with no warning in each
+ * standard of C and C++. */
 #include "muxandu.h"
 
 #include "muxandu_time.h"

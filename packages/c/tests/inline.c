@@ -1,13 +1,14 @@
-/* Tries the calls that are written in the header itself over the whole range of each number that they take, and compares each
- * answer with a plain reference that counts in 128 bits.
+/* Tries the calls that are written in the header itself over the whole range of each number that they
+ * take, and compares each answer with a plain reference that counts in 128 bits.
  *
- *     inline [--names | NAME [STEP] | STEP]
+ * inline [--names | NAME [STEP] | STEP]
  *
- * A range has all values of a number of 32 bits; the other numbers are valid. A number of 64 bits has all values of its lower
- * half, each with three values of its upper half, and all values of its upper half, each with three of its lower half. Dates,
- * months with days, and times of day have all combinations. NAME tries one range. With STEP it tries one value in STEP of a
- * range, and those next to an end; a range of at most 2^24 values is tried whole. The last line is 'N passed, M failed', a value
- * each. */
+ * A range has all values of a number of 32 bits; the other numbers are valid. A number of 64
+ * bits has all values of its lower half, each with three values of its upper half, and all
+ * values of its upper half, each with three of its lower half. Dates, months with days, and
+ * times of day have all combinations. NAME tries one range. With STEP it tries one value in STEP
+ * of a range, and those next to an end; a range of at most 2^24 values is tried whole. The last
+ * line is 'N passed, M failed', a value each. */
 #define _POSIX_C_SOURCE 200809L
 
 #include <limits.h>
@@ -46,8 +47,8 @@ static int32_t signed_of(uint64_t point) {
     return (int32_t)(uint32_t)point;
 }
 
-/* The number of 64 bits for a point below six times 2^32: each lower half with the upper halves of the ends of the range and of
- * 0, and each upper half with their lower halves. */
+/* The number of 64 bits for a point below six times 2^32: each lower half with the upper halves
+ * of the ends of the range and of 0, and each upper half with their lower halves. */
 static int64_t sixth(uint64_t point) {
     static const int64_t corners[] = {-31619087596800, 31494784780799, 0};
     uint32_t half = (uint32_t)(point % WHOLE);
@@ -98,8 +99,8 @@ static int timespec_seconds(uint64_t point) {
     return is_from_timespec(sixth(point), 999999999);
 }
 
-/* All lower halves of tv_nsec with the upper halves 0 and -1, and all its upper halves with lower ones that are in order by
- * themselves and that are not. */
+/* All lower halves of tv_nsec with the upper halves 0 and -1, and all its upper halves with
+ * lower ones that are in order by themselves and that are not. */
 static int timespec_nanoseconds(uint64_t point) {
     static const uint32_t lower[] = {0, 999999999, 1000000000};
     uint32_t half = (uint32_t)(point % WHOLE);
@@ -148,8 +149,8 @@ static int has_parts(const MuxanduDateTime *at, const Parts *wanted) {
            at->nanosecond == wanted->nanosecond && at->offset_seconds == wanted->offset_seconds;
 }
 
-/* Whether the call refuses, or gives the date-time of a struct tm with these parts. Its year is counted from 1900 and its month
- * from 0. */
+/* Whether the call refuses, or gives the date-time of a struct tm with these parts. Its year is
+ * counted from 1900 and its month from 0. */
 static int is_from_tm(const Parts *parts) {
     static const Parts before = {7, 7, 7, 7, 7, 7, 7, 7};
     struct tm from;
@@ -166,8 +167,9 @@ static int is_from_tm(const Parts *parts) {
     return status == wanted && has_parts(&at, status == MUXANDU_OK ? parts : &before);
 }
 
-/* Whether the call refuses, or gives the struct tm with these parts and 0 in all others. The day of the week is counted from
- * Sunday on; one below 0 is not known, and then it and the day of the year may be any. */
+/* Whether the call refuses, or gives the struct tm with these parts and 0 in all others. The day
+ * of the week is counted from Sunday on; one below 0 is not known, and then it and the day of
+ * the year may be any. */
 static int is_to_tm(const Parts *parts, int weekday, int ordinal) {
     MuxanduDateTime at;
     struct tm to, right, before;
@@ -264,8 +266,8 @@ static int date_time_offset(uint64_t point) {
     return is_to_tm(&at, LEAP_WEEKDAY, 60);
 }
 
-/* Each byte of a month with each of a day, in years of each kind and around the ends of the range; in a struct tm also
- * numbers that do not fit a byte. */
+/* Each byte of a month with each of a day, in years of each kind and around the ends of the
+ * range; in a struct tm also numbers that do not fit a byte. */
 static const int64_t YEARS[] = {2023, 2024, 1900, 2000, 0, -1, -4, -100, -999999, 999999, -1000000, 1000000};
 enum { YEAR_COUNT = sizeof YEARS / sizeof *YEARS };
 
@@ -334,7 +336,8 @@ static void walk(const struct Range *range, uint64_t step) {
     for (point = 0; point < range->values; point += step) count(range->is_so(point), range->name, point);
 }
 
-/* Tries the values around 0, 10^9 and 2^31 in each half of a range that a walk with steps passes over. */
+/* Tries the values around 0, 10^9 and 2^31 in each half of a range that a walk with steps passes
+ * over. */
 static void walk_ends(const struct Range *range) {
     static const uint64_t ends[] = {0, 1000000000, (uint64_t)1 << 31};
     uint64_t block, point;

@@ -1,6 +1,7 @@
-/* Random calls of all kinds, each compared with the calendar of reference.h: status, what is written, and what is not.
+/* Random calls of all kinds, each compared with the calendar of reference.h: status, what is written,
+ * and what is not.
  *
- *     random [COUNT [SEED]]
+ * random [COUNT [SEED]]
  *
  * The last line is 'N passed, M failed', a call each. */
 #include <stdlib.h>
@@ -60,8 +61,13 @@ static uint32_t some_nanosecond(void) {
     }
 }
 
+/* One in eight has the second of the one before it, and one in eight is near 1970. */
 static MuxanduTimestamp some_stamp(void) {
+    static int64_t last;
     MuxanduTimestamp at = {some_second(), some_nanosecond()};
+    if (one_of(8) == 0) at.seconds = last;
+    if (one_of(8) == 0) at.seconds >>= one_of(24);
+    last = at.seconds;
     return at;
 }
 
@@ -128,33 +134,76 @@ static MuxanduDuration some_duration(void) {
     return duration;
 }
 
-/* A number of 32 bits whose lowest byte is that one. */
-static uint32_t some_wide(uint8_t number) {
+/* A number of 32 bits for a month or a part of a time of day, which may have one in its lowest
+ * byte. */
+static uint32_t some_wide(void) {
+    uint32_t number = one_of(8) ? one_of(61) >> one_of(4) : one_of(256);
     return one_of(8) ? number : ((uint32_t)next() & ~(uint32_t)255) | number;
+}
+
+static uint32_t some_digits(void) {
+    return one_of(8) ? one_of(11) : (uint32_t)next();
+}
+
+static uint32_t some_part(void) {
+    return one_of(16) ? 1 + one_of(8) : (uint32_t)next() >> one_of(32);
+}
+
+static int32_t some_days(void) {
+    return (int32_t)((int64_t)next() >> (32 + one_of(32)));
+}
+
+static int64_t some_count(void) {
+    return (int64_t)next() >> one_of(40);
+}
+
+static int32_t some_julian_day(void) {
+    return one_of(2) ? (int32_t)between(-363521074 - 2, 366963559 + 2) : some_day();
+}
+
+static MuxanduOffset some_parts_of_offset(void) {
+    MuxanduOffset parts = {(int8_t)between(-26, 26), (int8_t)between(-60, 60), (int8_t)between(-60, 60)};
+    if (one_of(8) == 0) parts.hours = one_of(2) ? 0 : (int8_t)next();
+    if (one_of(8) == 0) parts.minutes = one_of(2) ? 0 : (int8_t)next();
+    return parts;
 }
 
 static uint32_t some_unit(void) {
     return one_of(16) ? 1 + one_of(7) : one_of(2) ? one_of(10) : (uint32_t)next();
 }
 
+static MuxanduOrdinalDate some_ordinal_date(void) {
+    MuxanduOrdinalDate value = {some_year(), (uint16_t)(1 + one_of(366))};
+    if (one_of(4) == 0) value.ordinal = (uint16_t)(364 + one_of(4));
+    if (one_of(8) == 0) value.ordinal = (uint16_t)next();
+    return value;
+}
+
+static MuxanduWeekDate some_week_date(void) {
+    MuxanduWeekDate value = {some_year(), (uint8_t)(1 + one_of(53)), (uint8_t)one_of(7)};
+    if (one_of(8) == 0) value.week = (uint8_t)next();
+    if (one_of(8) == 0) value.weekday = (uint8_t)next();
+    if (one_of(8) == 0) {
+        value.year = 999999;
+        value.week = (uint8_t)(51 + one_of(3));
+    }
+    return value;
+}
+
+/* A value for a part, mostly one that it can have. */
+static int32_t some_value(uint32_t part) {
+    static const int32_t most[] = {31, 999999, 12, 31, 366, 23, 59, 59, 999999999};
+    if (part == MUXANDU_PART_YEAR) return some_year();
+    if (one_of(16) == 0) return (int32_t)next();
+    return (int32_t)between(one_of(8) ? 1 : -1, part < 9 ? most[part] + (one_of(8) == 0) : 1);
+}
+
 static int same_stamp(MuxanduTimestamp a, MuxanduTimestamp b) {
     return is_stamp(a, b.seconds, b.nanoseconds);
 }
 
-static int same_length(MuxanduDuration a, MuxanduDuration b) {
-    return is_length(a, b.seconds, b.nanoseconds);
-}
-
 static int same_date(MuxanduDate a, MuxanduDate b) {
     return is_date(a, b.year, b.month, b.day);
-}
-
-static int same_ordinal(MuxanduOrdinalDate a, MuxanduOrdinalDate b) {
-    return a.year == b.year && a.ordinal == b.ordinal;
-}
-
-static int same_week(MuxanduWeekDate a, MuxanduWeekDate b) {
-    return a.year == b.year && a.week == b.week && a.weekday == b.weekday;
 }
 
 static int same_number(int64_t a, int64_t b) {
@@ -169,17 +218,7 @@ static void tell(const char *call, int is_same) {
     }
 }
 
-/* Calls both with what they are to read, where their outs hold the same, and compares. */
-#define COMPARE(type, same, call, ...)                                                                                 \
-    do {                                                                                                               \
-        type ours, theirs;                                                                                             \
-        uint32_t status, wanted;                                                                                       \
-        memset(&ours, 7, sizeof ours);                                                                                 \
-        theirs = ours;                                                                                                 \
-        status = muxandu_##call(__VA_ARGS__, &ours);                                                                   \
-        wanted = reference_##call(__VA_ARGS__, &theirs);                                                               \
-        tell(#call, status == wanted && same(ours, theirs));                                                           \
-    } while (0)
+#include "random_calls.h"
 
 /* Whether a text was written as it must: status, bytes, what is behind them, and the size. */
 static int is_written(uint32_t status, const char *buffer, size_t room, size_t size, uint32_t refused, const char *text,
@@ -234,7 +273,7 @@ static void compare_texts(uint32_t kind) {
         break;
     case 3: COMPARE_TEXT(timestamp_to_rfc3339, at, refused, reference_to_rfc3339(in_utc, text)); break;
     case 4: {
-        digits_of_texts = one_of(8) ? one_of(11) : some_wide((uint8_t)next());
+        digits_of_texts = one_of(8) ? one_of(11) : some_digits();
         COMPARE_TEXT(date_time_to_rfc3339_digits, date_time, reference_date_time_check(date_time),
                      reference_to_rfc3339_digits(date_time, digits_of_texts, text));
         break;
@@ -243,7 +282,8 @@ static void compare_texts(uint32_t kind) {
     }
 }
 
-/* A text of RFC 3339 spelled in a random way, one in four of them spoiled, with a byte 0 behind its end. */
+/* A text of RFC 3339 spelled in a random way, one in four of them spoiled, with a byte 0 behind
+ * its end. */
 static size_t some_text(char *out) {
     MuxanduDateTime at =
         date_time_of((Nanoseconds)between(-62167219200, 253402300799) * 1000000000 + some_nanosecond() % 1000000000,
@@ -277,7 +317,8 @@ static void compare_reading(int is_date_time_wanted) {
     }
 }
 
-/* The text of the last second of a month in UTC, or of a second a minute, an hour or a day beside it. */
+/* The text of the last second of a month in UTC, or of a second a minute, an hour or a day
+ * beside it. */
 static size_t last_second_of_month(char *out) {
     static const int64_t beside[] = {0, 0, 0, 60, -60, 3600, -3600, 86400, -86400};
     MuxanduDateTime at = date_time_of((Nanoseconds)between(-62167219200, 253402300799) * 1000000000, 0);
@@ -338,7 +379,8 @@ static void compare_dates_as_texts(int is_read) {
 
 enum { MOST_ITEMS = 13 };
 
-/* Compares a batch with calls of the reference, item by item: `one` converts item k into theirs[k]. */
+/* Compares a batch with calls of the reference, item by item: `one` converts item k into
+ * theirs[k]. */
 #define COMPARE_BATCH(type, same, name, batch, one)                                                                    \
     do {                                                                                                               \
         type ours[MOST_ITEMS], theirs[MOST_ITEMS];                                                                     \
@@ -454,7 +496,8 @@ static void compare_batches_of_counts(uint32_t kind) {
     }
 }
 
-/* Compares a batch that goes on after refusals with calls of the reference: each item has a status. */
+/* Compares a batch that goes on after refusals with calls of the reference: each item has a
+ * status. */
 #define COMPARE_EACH(type, same, name, batch, one)                                                                     \
     do {                                                                                                               \
         type ours[MOST_ITEMS], theirs[MOST_ITEMS];                                                                     \
@@ -587,193 +630,38 @@ static void compare_block_of_texts(void) {
                                       memcmp(spans, wanted_spans, sizeof spans) == 0);
 }
 
-static void compare_timestamps(uint32_t kind) {
-    MuxanduTimestamp at = some_stamp(), other = some_stamp();
-    MuxanduDuration duration = some_duration();
-    uint32_t unit = some_unit();
-    if (one_of(8) == 0) other.seconds = at.seconds;
-    switch (kind) {
-    case 0: tell("timestamp_check", muxandu_timestamp_check(at) == reference_timestamp_check(at)); break;
-    case 1:
-        tell("timestamp_compare", muxandu_timestamp_compare(at, other) == reference_timestamp_compare(at, other));
-        break;
-    case 2: COMPARE(MuxanduTimestamp, same_stamp, timestamp_add, at, duration); break;
-    case 3: COMPARE(MuxanduTimestamp, same_stamp, timestamp_subtract, at, duration); break;
-    case 4: COMPARE(MuxanduTimestamp, same_stamp, timestamp_saturating_add, at, duration); break;
-    case 5: COMPARE(MuxanduTimestamp, same_stamp, timestamp_saturating_subtract, at, duration); break;
-    case 6: COMPARE(MuxanduDuration, same_length, timestamp_difference, at, other); break;
-    default: COMPARE(MuxanduTimestamp, same_stamp, timestamp_truncate, at, unit); break;
+/* A call of any kind, each as often as another. */
+static void compare_one(void) {
+    const uint32_t tried = sizeof TRIED / sizeof *TRIED;
+    uint32_t kind = one_of(tried + 29);
+    if (kind < tried) {
+        TRIED[kind]();
+        return;
     }
-}
-
-static void compare_counts(uint32_t kind) {
-    MuxanduTimestamp at = some_stamp();
-    int64_t count = (int64_t)next() >> one_of(40);
-    if (one_of(4)) at.seconds >>= one_of(24);
-    switch (kind) {
-    case 0: COMPARE(MuxanduTimestamp, same_stamp, timestamp_from_milliseconds, count); break;
-    case 1: COMPARE(int64_t, same_number, timestamp_to_milliseconds, at); break;
-    case 2: COMPARE(int64_t, same_number, timestamp_to_microseconds, at); break;
-    case 3: COMPARE(int64_t, same_number, timestamp_to_nanoseconds, at); break;
-    case 4:
-        at = muxandu_timestamp_from_microseconds(count);
-        tell("timestamp_from_microseconds", same_stamp(at, reference_timestamp_from_microseconds(count)));
-        break;
-    default:
-        at = muxandu_timestamp_from_nanoseconds(count);
-        tell("timestamp_from_nanoseconds", same_stamp(at, reference_timestamp_from_nanoseconds(count)));
-        break;
-    }
-}
-
-static void compare_date_times(uint32_t kind) {
-    MuxanduDateTime date_time = some_date_time(), other = some_date_time();
-    MuxanduTimestamp at = some_stamp();
-    MuxanduDuration duration = some_duration();
-    int32_t offset = some_offset();
-    uint32_t unit = some_unit();
-    switch (kind) {
-    case 0: tell("date_time_check", muxandu_date_time_check(date_time) == reference_date_time_check(date_time)); break;
-    case 1: COMPARE(MuxanduDateTime, is_date_time, date_time_from_timestamp, at, offset); break;
-    case 2: COMPARE(MuxanduTimestamp, same_stamp, timestamp_from_date_time, date_time); break;
-    case 3: COMPARE(MuxanduDateTime, is_date_time, date_time_to_offset, date_time, offset); break;
-    case 4: COMPARE(MuxanduDateTime, is_date_time, date_time_add, date_time, duration); break;
-    case 5: COMPARE(MuxanduDateTime, is_date_time, date_time_subtract, date_time, duration); break;
-    case 6: COMPARE(MuxanduDateTime, is_date_time, date_time_saturating_add, date_time, duration); break;
-    case 7: COMPARE(MuxanduDateTime, is_date_time, date_time_saturating_subtract, date_time, duration); break;
-    case 8: COMPARE(MuxanduDuration, same_length, date_time_difference, date_time, other); break;
-    case 9: COMPARE(MuxanduDateTime, is_date_time, date_time_truncate, date_time, unit); break;
-    case 10: COMPARE(int32_t, same_number, date_time_compare, date_time, other); break;
-    default: COMPARE(int32_t, same_number, date_time_day, date_time); break;
-    }
-}
-
-static MuxanduOrdinalDate some_ordinal_date(void) {
-    MuxanduOrdinalDate value = {some_year(), (uint16_t)(1 + one_of(366))};
-    if (one_of(4) == 0) value.ordinal = (uint16_t)(364 + one_of(4));
-    if (one_of(8) == 0) value.ordinal = (uint16_t)next();
-    return value;
-}
-
-static MuxanduWeekDate some_week_date(void) {
-    MuxanduWeekDate value = {some_year(), (uint8_t)(1 + one_of(53)), (uint8_t)one_of(7)};
-    if (one_of(8) == 0) value.week = (uint8_t)next();
-    if (one_of(8) == 0) value.weekday = (uint8_t)next();
-    if (one_of(8) == 0) {
-        value.year = 999999;
-        value.week = (uint8_t)(51 + one_of(3));
-    }
-    return value;
-}
-
-static void compare_days(uint32_t kind) {
-    MuxanduDate value = some_date();
-    MuxanduOrdinalDate of_year = some_ordinal_date();
-    MuxanduWeekDate of_week = some_week_date();
-    int32_t day = some_day();
-    uint32_t month = some_wide(value.month);
-    switch (kind) {
-    case 0: COMPARE(MuxanduDate, same_date, date_from_day, day); break;
-    case 1: COMPARE(int32_t, same_number, day_from_date, value); break;
-    case 2: COMPARE(MuxanduOrdinalDate, same_ordinal, ordinal_date_from_day, day); break;
-    case 3: COMPARE(int32_t, same_number, day_from_ordinal_date, of_year); break;
-    case 4: COMPARE(MuxanduWeekDate, same_week, week_date_from_day, day); break;
-    case 5: COMPARE(int32_t, same_number, day_from_week_date, of_week); break;
-    case 6: COMPARE(uint8_t, same_number, weekday_from_day, day); break;
-    default: COMPARE(uint8_t, same_number, days_in_month, value.year, month); break;
-    }
-}
-
-static int same_reads(MuxanduDateReads a, MuxanduDateReads b) {
-    return a.day == b.day && a.julian_day == b.julian_day && a.iso_year == b.iso_year && a.ordinal == b.ordinal &&
-           a.iso_week == b.iso_week && a.weekday == b.weekday && a.sunday_based_week == b.sunday_based_week &&
-           a.monday_based_week == b.monday_based_week;
-}
-
-static int same_offset(MuxanduOffset a, MuxanduOffset b) {
-    return a.hours == b.hours && a.minutes == b.minutes && a.seconds == b.seconds;
-}
-
-/* A value for a part, mostly one that it can have. */
-static int32_t some_value(uint32_t part) {
-    static const int32_t most[] = {31, 999999, 12, 31, 366, 23, 59, 59, 999999999};
-    if (part == MUXANDU_PART_YEAR) return some_year();
-    if (one_of(16) == 0) return (int32_t)next();
-    return (int32_t)between(one_of(8) ? 1 : -1, part < 9 ? most[part] + (one_of(8) == 0) : 1);
-}
-
-/* What dates show and come to, parts that are replaced, offsets. */
-static void compare_dates(uint32_t kind) {
-    MuxanduDate value = some_date();
-    int32_t count = (int32_t)((int64_t)next() >> (32 + one_of(32)));
-    uint32_t part = one_of(16) ? 1 + one_of(8) : (uint32_t)next() >> one_of(32);
-    MuxanduOffset parts = {(int8_t)between(-26, 26), (int8_t)between(-60, 60), (int8_t)between(-60, 60)};
-    MuxanduDateTime at = some_date_time();
-    MuxanduTimestamp instant = some_stamp();
-    int32_t offset = some_offset(), held = some_value(part), julian_day = some_day();
-    uint32_t hour = some_wide(at.hour), minute = some_wide(at.minute), second = some_wide(at.second);
-    if (one_of(2)) julian_day = (int32_t)between(-363521074 - 2, 366963559 + 2);
-    if (one_of(8) == 0) parts.hours = one_of(2) ? 0 : (int8_t)next();
-    if (one_of(8) == 0) parts.minutes = one_of(2) ? 0 : (int8_t)next();
-    switch (kind) {
-    case 0: COMPARE(MuxanduDateReads, same_reads, date_reads, value); break;
-    case 1: COMPARE(MuxanduDate, same_date, date_from_julian_day, julian_day); break;
-    case 2: COMPARE(MuxanduDate, same_date, date_add_days, value, count); break;
-    case 3: COMPARE(MuxanduDate, same_date, date_add_months, value, count); break;
-    case 4: COMPARE(int32_t, same_number, offset_from_parts, parts); break;
-    case 5: COMPARE(MuxanduOffset, same_offset, offset_to_parts, offset); break;
-    case 6: COMPARE(MuxanduDateTime, is_date_time, date_time_replace, at, part, held); break;
-    case 7: COMPARE(MuxanduTimestamp, same_stamp, timestamp_replace, instant, part, held); break;
-    default:
-        tell("time_check", muxandu_time_check(hour, minute, second, at.nanosecond) ==
-                               reference_time_check(hour, minute, second, at.nanosecond));
-        break;
-    }
-}
-
-/* A call of the others, each group as often as it has calls. */
-static void compare_other(void) {
-    uint32_t kind = one_of(63);
-    if (kind < 8) {
-        compare_timestamps(kind);
-    } else if (kind < 14) {
-        compare_counts(kind - 8);
-    } else if (kind < 26) {
-        compare_date_times(kind - 14);
-    } else if (kind < 34) {
-        compare_days(kind - 26);
-    } else if (kind < 38) {
-        compare_batches(kind - 34);
-    } else if (kind == 38) {
+    kind -= tried;
+    if (kind < 4) {
+        compare_batches(kind);
+    } else if (kind < 10) {
+        compare_texts(kind - 4);
+    } else if (kind < 16) {
+        compare_batches_of_counts(kind - 10);
+    } else if (kind < 18) {
+        compare_each(kind - 16);
+    } else if (kind < 20) {
+        compare_dates_as_texts(kind == 18);
+    } else if (kind < 23) {
+        compare_other_reading(kind - 20);
+    } else if (kind < 25) {
+        compare_reading(kind == 23);
+    } else if (kind == 25) {
         compare_batch_of_texts();
-    } else if (kind < 41) {
-        compare_reading(kind == 39);
-    } else if (kind < 47) {
-        compare_texts(kind - 41);
-    } else if (kind < 53) {
-        compare_batches_of_counts(kind - 47);
-    } else if (kind < 55) {
-        compare_each(kind - 53);
-    } else if (kind == 55) {
+    } else if (kind == 26) {
         compare_batch_of_texts_at_offsets();
-    } else if (kind < 58) {
-        compare_dates_as_texts(kind == 56);
-    } else if (kind < 61) {
-        compare_other_reading(kind - 58);
-    } else if (kind == 61) {
+    } else if (kind == 27) {
         compare_each_text();
     } else {
         compare_block_of_texts();
     }
-}
-
-/* One call of any kind, each group as often as it has calls. */
-static void compare_one(void) {
-    if (one_of(72) < 9) {
-        compare_dates(one_of(9));
-        return;
-    }
-    compare_other();
 }
 
 int main(int words, char **word) {

@@ -1,5 +1,5 @@
-/* The reference for what dates show and come to, for parts that are replaced, and for offsets, over the calendar of
- * reference.h. */
+/* The reference for what dates show and come to, for parts that are replaced, and for offsets,
+ * over the calendar of reference.h. */
 #ifndef REFERENCE_DATES_H
 #define REFERENCE_DATES_H
 

@@ -1,5 +1,5 @@
-/* More threads than the portable library has places: each compares its results with those of one thread. Then a call of many
- * items.
+/* More threads than the portable library has places: each compares its results with those of one
+ * thread. Then a call of many items.
  *
  * The last line is 'N passed, M failed'. */
 #include <pthread.h>

@@ -1,10 +1,12 @@
-/* Walks over days by batches, and compares each with a counter that counts one day at a time: date, day of the year, ISO
- * week date, day of the week, and a second of the day at an offset, all both ways.
+/* Walks over days by batches, and compares each with a counter that counts one day at a time: date,
+ * day of the year, ISO week date, day of the week, and a second of the day at an offset, all both
+ * ways.
  *
- *     walk [COUNT [BEFORE]]
+ * walk [COUNT [BEFORE]]
  *
- * It walks over COUNT days after the first BEFORE days; without a number over all 730,484,634. It ends at the
- * first batch with a day that is not so. The last line is 'N passed, M failed', a day each. */
+ * It walks over COUNT days after the first BEFORE days; without a number over all 730,484,634.
+ * It ends at the first batch with a day that is not so. The last line is 'N passed, M failed', a
+ * day each. */
 #include <stdlib.h>
 
 #include "checks.h"
@@ -47,7 +49,8 @@ static void walk(size_t count) {
     size_t item;
     for (item = 0; item < count; item++) {
         days[item] = day + (int32_t)item;
-        /* A second of the day at the offset, another one each day, and one whose instant is in the range. */
+        /* A second of the day at the offset, another one each day, and one whose instant is in
+         * the range. */
         seconds[item] = (int64_t)days[item] * 86400 + (int64_t)(item * 21) % 86400 - offset_seconds;
         if (seconds[item] < FIRST || seconds[item] > LAST) seconds[item] = offset_seconds < 0 ? LAST : FIRST;
     }
@@ -74,7 +77,8 @@ static void walk(size_t count) {
     }
 }
 
-/* Whether there is no day before the first and after the last: the counter ends at 1000000-01-01, a Saturday. */
+/* Whether there is no day before the first and after the last: the counter ends at
+ * 1000000-01-01, a Saturday. */
 static int ends_there(void) {
     MuxanduDate unset;
     int is_end = next.year == 1000000 && next.ordinal == 1 && next.weekday == 5 && next.number == COUNTER_LAST + 1;
