@@ -1,4 +1,5 @@
-"""Prints each line of a log with its timestamp at the offset +02:00, or the name of the error in the timestamp."""
+"""Prints each line of a log with its timestamp at the offset +02:00, or the name of the error in
+the timestamp."""
 
 import sys
 

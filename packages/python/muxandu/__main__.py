@@ -1,13 +1,13 @@
-"""The parts of an instant: python -m muxandu TEXT, a text of RFC 3339, or a Unix second with or without a fraction.
+"""The parts of an instant: python -m muxandu TEXT, a text of RFC 3339, or a Unix second with or
+without a fraction.
 
-`--version` prints the version of the package, and whether it is compiled or goes through ctypes.
+`--version` prints the version of the package, and `--help` the usage.
 """
 
 import re
 import sys
 
-from . import IMPLEMENTATION, Refused, RefusedTimestamp, Timestamp, __version__
-from ._engine import REASON
+from . import Refused, RefusedTimestamp, Timestamp, __version__
 from ._values import OffsetDateTime
 
 
@@ -23,7 +23,9 @@ def _read(text: str) -> OffsetDateTime:
     return OffsetDateTime.from_parts(Timestamp.from_nanoseconds(-whole if sign == "-" else whole).to_offset(0))
 
 
-USAGE = "usage: python -m muxandu TEXT | --version | --help"
+USAGE = """\
+usage: python -m muxandu TEXT | --version | --help
+TEXT is a date-time of RFC 3339 with an offset, or a Unix second such as 1709166600.5"""
 
 
 def main(words: list[str]) -> int:
@@ -31,7 +33,7 @@ def main(words: list[str]) -> int:
         print(USAGE)
         return 0
     if words == ["--version"]:
-        print(f"muxandu {__version__}, {IMPLEMENTATION}{f': {REASON}' if REASON else ''}")
+        print(f"muxandu {__version__}")
         return 0
     if len(words) != 1 or words[0].startswith("--"):
         print(USAGE, file=sys.stderr)
@@ -41,7 +43,7 @@ def main(words: list[str]) -> int:
         date = shown.date()
         week = date.to_iso_week_date()
         rows = [
-            ("shown", str(shown)),
+            ("date-time", str(shown)),
             ("in UTC", str(shown.to_utc())),
             ("Unix second", str(shown.to_timestamp())),
             ("day", f"{date.day_number()} from 1970-01-01, {date.to_ordinal_date().ordinal} of {date.year}"),

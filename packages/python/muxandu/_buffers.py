@@ -1,7 +1,8 @@
 """Tests of the buffers of callers: whether their items are of a kind.
 
-A kind is a type of ctypes: a whole number, or a structure of whole numbers of muxandu_sys. A buffer is one of its items if
-their names, their places, their sizes, their signs and their byte order are those of the kind.
+A kind is a type of ctypes: a whole number, or a structure of whole numbers of _structures. A buffer
+is one of its items if their names, their places, their sizes, their signs and their byte order are
+those of the kind.
 """
 
 from __future__ import annotations
@@ -35,8 +36,8 @@ class Field(NamedTuple):
 
 
 def _sign(form: str, size: int) -> Optional[bool]:
-    """Whether the number of a format of one letter has a sign, or None if that is no integer of this machine with that
-    size."""
+    """Whether the number of a format of one letter has a sign, or None if that is no integer of
+    this machine with that size."""
     order, letter = (form[0], form[1:]) if len(form) > 1 else ("@", form)
     is_here = order in _ORDERS or size == 1 and order in "<>!"
     if letter not in _NATIVE or size not in (_NATIVE[letter], _STANDARD[letter]) or not is_here:
@@ -45,8 +46,8 @@ def _sign(form: str, size: int) -> Optional[bool]:
 
 
 def _fields_of_structure(structure: Any) -> Optional[tuple[Field, ...]]:
-    """The numbers of a structure of ctypes by its fields, or None if it has others. Its format leaves out padding and
-    bits."""
+    """The numbers of a structure of ctypes by its fields, or None if it has others. Its format
+    leaves out padding and bits."""
     named = [field for base in reversed(structure.__mro__) for field in vars(base).get("_fields_", ())]
     fields = []
     for name, kind, *bits in named:
@@ -58,8 +59,10 @@ def _fields_of_structure(structure: Any) -> Optional[tuple[Field, ...]]:
     return tuple(fields)
 
 
+@functools.lru_cache(maxsize=256)
 def _fields_of_format(form: str) -> Optional[tuple[Field, ...]]:
-    """The numbers of the format of a structure, as PEP 3118 has them, or None if it has other fields."""
+    """The numbers of the format of a structure, as PEP 3118 has them, or None if it has other
+    fields."""
     place, order, at = 0, "@", 0
     fields: list[Field] = []
     while place < len(form):
@@ -110,12 +113,12 @@ def fields_of(view: memoryview) -> Optional[tuple[Field, ...]]:
 
 
 @functools.lru_cache(maxsize=None)
-def wanted(kind: Any) -> tuple[Field, ...]:
+def fields_of_kind(kind: Any) -> tuple[Field, ...]:
     """The numbers of an item of a kind."""
     return fields_of(memoryview((kind * 1)())) or ()
 
 
-def _told(fields: tuple[Field, ...]) -> str:
+def _describe(fields: tuple[Field, ...]) -> str:
     """The numbers of an item in words."""
     words = [f"{'' if field.is_signed else 'u'}int{8 * field.size}" for field in fields]
     if fields[0].name:
@@ -137,10 +140,10 @@ def row(items: Any) -> memoryview:
 
 def of_kind(view: memoryview, kind: Any) -> None:
     """Raises TypeError if the items of a buffer are of another kind."""
-    if view.itemsize != ctypes.sizeof(kind) or fields_of(view) != wanted(kind):
+    if view.itemsize != ctypes.sizeof(kind) or fields_of(view) != fields_of_kind(kind):
         size = ctypes.sizeof(kind)
         form = f"{view.itemsize} bytes of format {view.format!r}"
-        raise TypeError(f"items must have {size} bytes in this machine's order ({_told(wanted(kind))}), not {form}")
+        raise TypeError(f"items must have {size} bytes in this machine's order ({_describe(fields_of_kind(kind))}), not {form}")
 
 
 def of_bytes(view: memoryview) -> None:
@@ -154,7 +157,7 @@ def side_by_side(view: memoryview) -> Union[memoryview, bytes]:
     return view if view.c_contiguous else view.tobytes()
 
 
-def written(out: Any, kind: Any) -> memoryview:
+def writable_buffer(out: Any, kind: Any) -> memoryview:
     """The buffer that items of a kind are written to."""
     view = row(out)
     # Python 3.9 says of an empty array of ctypes that its items have no bytes.

@@ -6,7 +6,7 @@ from typing import Any, Callable
 
 from ._missing import refuse_mask
 from ._refusals import Refused, RefusedBuffer, RefusedNanosecond, RefusedResult, RefusedTimestamp
-from .muxandu_sys import MuxanduDate, MuxanduDateTime, MuxanduTimestamp
+from ._structures import MuxanduDate, MuxanduDateTime, MuxanduTimestamp
 
 # How many seconds a unit has, and how many of a unit a second has.
 _SECONDS = {"W": 604_800, "D": 86_400, "h": 3_600, "m": 60, "s": 1}
@@ -37,17 +37,18 @@ def _counts(moments: Any) -> tuple[Any, str, int]:
     return counts, unit, many
 
 
-def _unit_of_row(moments: Any) -> tuple[str, int]:
-    """The unit of one row of moments, and how many units one is."""
+def _unit_of_row(items: Any, kind: str = "M") -> tuple[str, int]:
+    """The unit of one row of datetime64, or of timedelta64, and how many units one is."""
     import numpy
 
-    if moments.dtype.kind != "M":
-        raise TypeError(f"items must be datetime64, not {moments.dtype}")
-    if moments.ndim != 1:
-        raise TypeError(f"items must have one dimension, not {moments.ndim}")
-    unit, many = numpy.datetime_data(moments.dtype)
+    name = "datetime64" if kind == "M" else "timedelta64"
+    if items.dtype.kind != kind:
+        raise TypeError(f"items must be {name}, not {items.dtype}")
+    if items.ndim != 1:
+        raise TypeError(f"items must have one dimension, not {items.ndim}")
+    unit, many = numpy.datetime_data(items.dtype)
     if unit == "generic":
-        raise TypeError("datetime64 needs a unit, such as datetime64[ns]")
+        raise TypeError(f"{name} needs a unit, such as {name}[ns]")
     return unit, many
 
 
@@ -59,8 +60,8 @@ def missing(moments: Any) -> Any:
 
 
 def counts_of_parts(moments: Any) -> tuple[Any, str]:
-    """The integers of the moments and their unit, as calls over parts of a second take them. The unit is empty if a moment is
-    a multiple of one, or NaT, which calls do not know."""
+    """The integers of the moments and their unit, as calls over parts of a second take them. The
+    unit is empty if a moment is a multiple of one, or NaT, which calls do not know."""
     counts, unit, many = _counts(moments)
     return counts, unit if many == 1 and not (counts == _NONE).any() else ""
 
@@ -78,8 +79,8 @@ def _test_out(out: Any) -> None:
 
 
 def _of_months(counts: Any, unit: str, many: int) -> Any:
-    """The seconds at which years or months begin, by the dates of the library; an invalid second for those outside its
-    years."""
+    """The seconds at which years or months begin, by the dates of the library; an invalid second
+    for those outside its years."""
     import numpy
 
     from ._batch import days_from_dates
@@ -96,14 +97,37 @@ def _of_months(counts: Any, unit: str, many: int) -> Any:
 
 
 def split(moments: Any) -> tuple[Any, Any]:
-    """The Unix second of each moment, rounded down, and its nanoseconds. A second past 64 bits, and NaT, becomes an invalid
-    second."""
+    """The Unix second of each moment, rounded down, and its nanoseconds. A second past 64 bits, and
+    NaT, becomes an invalid second."""
     import numpy
 
     counts, unit, many = _counts(moments)
     if unit in ("Y", "M"):
         seconds, rest = _of_months(counts, unit, many), numpy.zeros(len(counts), dtype="int64")
-    elif unit in _SECONDS:
+    else:
+        seconds, rest = _split_counts(counts, unit, many)
+    return numpy.where(counts == _NONE, _NONE, seconds), rest.astype("uint32")
+
+
+def lengths(items: Any) -> tuple[Any, Any, Any]:
+    """The seconds of each timedelta64, rounded down, and its nanoseconds, and which of them are
+    NaT. Seconds past 64 bits become the nearer end of half of them, which no sum allows."""
+    import numpy
+
+    items = numpy.asarray(items)
+    unit, many = _unit_of_row(items, "m")
+    if unit in ("Y", "M"):
+        raise TypeError(f"items must be timedelta64 of days or less, not {items.dtype}, which has no one length")
+    counts = numpy.ascontiguousarray(items, items.dtype.newbyteorder("=")).view("int64")
+    return *_split_counts(counts, unit, many), counts == _NONE
+
+
+def _split_counts(counts: Any, unit: str, many: int) -> tuple[Any, Any]:
+    """The seconds of counts of a unit, or of a multiple of it, rounded down, and their
+    nanoseconds."""
+    import numpy
+
+    if unit in _SECONDS:
         each = _SECONDS[unit] * many
         most = 2**62 // each
         seconds = numpy.clip(counts, -most, most) * each
@@ -113,7 +137,7 @@ def split(moments: Any) -> tuple[Any, Any]:
         seconds, rest = exact // _PARTS[unit], exact % _PARTS[unit]
         rest = rest * (_NANO // _PARTS[unit]) if _PARTS[unit] <= _NANO else rest // (_PARTS[unit] // _NANO)
         seconds, rest = seconds.astype("int64"), rest.astype("int64")
-    return numpy.where(counts == _NONE, _NONE, seconds), rest.astype("uint32")
+    return seconds, rest
 
 
 def with_nanoseconds(out: Any, nanoseconds: Any, convert: Callable[[], Any]) -> Any:
@@ -202,22 +226,91 @@ def _months(seconds: Any, unit: str, many: int) -> Any:
     return months // (12 * many if unit == "Y" else many)
 
 
-def _put(out: Any, seconds: Any, nanoseconds: Any) -> None:
-    """Writes moments in the unit of `out`, rounded down, up to the first that does not fit in 64 bits."""
+def _counts_in(out: Any, seconds: Any, nanoseconds: Any) -> tuple[Any, Any]:
+    """Moments as counts of the unit of `out`, rounded down, and which of them fit in 64 bits."""
     import numpy
 
     unit, many = numpy.datetime_data(out.dtype)
     seconds, nanoseconds = seconds.astype("int64"), nanoseconds.astype("int64")
     counts = _months(seconds, unit, many) if unit in ("Y", "M") else _exact(seconds, nanoseconds, unit, many)
-    done = len(counts)
-    if counts.dtype == object:
-        done = _first(numpy.array([not _NONE < count < 2**63 for count in counts], dtype=bool))
-    out[:done] = counts[:done].astype("int64").view(f"datetime64[{many}{unit}]")
+    if counts.dtype != object:
+        return counts, numpy.ones(len(counts), bool)
+    fits = numpy.array([_NONE < count < 2**63 for count in counts], bool)
+    return numpy.where(fits, counts, _NONE).astype("int64"), fits
+
+
+def _write_counts(out: Any, counts: Any) -> None:
+    """Writes counts of the unit of `out` to its front, in its byte order."""
+    import numpy
+
+    unit, many = numpy.datetime_data(out.dtype)
+    out[: len(counts)] = counts.astype("int64").view(f"datetime64[{many}{unit}]")
+
+
+def _write_moments(out: Any, seconds: Any, nanoseconds: Any) -> None:
+    """Writes moments in the unit of `out`, rounded down, up to the first that does not fit in 64
+    bits."""
+    counts, fits = _counts_in(out, seconds, nanoseconds)
+    done = _first(~fits)
+    _write_counts(out, counts[:done])
     if done < len(counts):
         raise RefusedResult(done)
 
 
-def filled(out: Any, convert: Callable[[Any], Any], items: Any, name: str = "", days: bool = False) -> Any:
+def coerce(out: Any, seconds: Any, nanoseconds: Any, known: Any) -> Any:
+    """`out`, with these moments in its unit, rounded down, and NaT for one that is not known or
+    does not fit in 64 bits; and which of them fit."""
+    import numpy
+
+    _test_out(out)
+    if len(out) < len(known):
+        raise RefusedBuffer(0)
+    counts, fits = _counts_in(out, numpy.where(known, seconds, 0), numpy.where(known, nanoseconds, 0))
+    _write_counts(out, numpy.where(known & fits, counts, _NONE))
+    return out, fits
+
+
+def nanoseconds_for(out: Any, items: Any, statuses: Any) -> Any:
+    """The nanoseconds of date-times, for an `out` that a call of `each` can write their moments
+    to."""
+    import numpy
+
+    _test_out(out)
+    nanoseconds = _items(items, MuxanduDateTime)["nanosecond"].copy()
+    if len(out) < len(nanoseconds):
+        raise RefusedBuffer(0)
+    if statuses is not None and numpy.may_share_memory(out, numpy.asarray(memoryview(statuses))):
+        raise ValueError("`out` and `statuses` must not overlap")
+    return nanoseconds
+
+
+def put_known(out: Any, seconds: Any, nanoseconds: Any, statuses: Any) -> Any:
+    """`out`, with the moments whose seconds and statuses a call has written, and NaT for those with
+    a status. A moment that does not fit gets the status of RefusedResult."""
+    import numpy
+
+    if len(nanoseconds):
+        told = numpy.frombuffer(statuses, "uint32")[: len(nanoseconds)]
+        _, fits = coerce(out, numpy.asarray(seconds), nanoseconds, told == 0)
+        told[~fits & (told == 0)] = RefusedResult.status
+    return out
+
+
+def test_errors(errors: str) -> bool:
+    """Whether errors="coerce" is asked for. ValueError of another word than that and "raise"."""
+    if errors not in ("raise", "coerce"):
+        raise ValueError(f'errors must be "raise" or "coerce", not {errors!r}')
+    return errors == "coerce"
+
+
+def new_array(count: int, unit: str) -> Any:
+    """A new array of datetime64 of a unit."""
+    import numpy
+
+    return numpy.zeros(count, dtype=_dtype(unit))
+
+
+def fill(out: Any, convert: Callable[[Any], Any], items: Any, name: str = "", days: bool = False) -> Any:
     """`out`, with the results of a conversion, up to the first that fails."""
     import numpy
 
@@ -231,7 +324,7 @@ def filled(out: Any, convert: Callable[[Any], Any], items: Any, name: str = "", 
         refusal, done = refused, refused.count or 0
     seconds = numbers[:done].astype("int64") * (86_400 if days else 1)
     nanoseconds = _items(items, MuxanduDateTime)[name][:done] if name else numpy.zeros(done)
-    _put(out, seconds, nanoseconds)
+    _write_moments(out, seconds, nanoseconds)
     if refusal is not None:
         raise refusal
     return out
@@ -245,7 +338,7 @@ def filled_by_stamps(out: Any, place: Any, convert: Callable[[], int]) -> Any:
         done = convert()
     except Refused as refused:
         refusal, done = refused, refused.count or 0
-    _put(out, place["seconds"][:done], place["nanoseconds"][:done])
+    _write_moments(out, place["seconds"][:done], place["nanoseconds"][:done])
     if refusal is not None:
         raise refusal
     return out
@@ -262,8 +355,9 @@ def _dtype(unit: str) -> Any:
         raise TypeError(f"a unit of datetime64 must be one of {units}, with or without a count before it, not {unit!r}") from None
 
 
-def of_stamps(items: Any, unit: str) -> Any:
-    """An array of datetime64 of instants, up to the first that fails."""
+def of_stamps(items: Any, unit: str, missing: Any = (), is_coerced: bool = False) -> Any:
+    """An array of datetime64 of instants, up to the first that fails; or of all, with NaT for those
+    that fail or are missing."""
     import numpy
 
     from ._values import Timestamp
@@ -271,10 +365,13 @@ def of_stamps(items: Any, unit: str) -> Any:
     place = _items(items, MuxanduTimestamp)
     seconds, nanoseconds = place["seconds"], place["nanoseconds"]
     is_beyond = (seconds < Timestamp.MIN.seconds) | (seconds > Timestamp.MAX.seconds)
-    done = _first(is_beyond | (nanoseconds >= _NANO))
-    out = numpy.zeros(len(place), dtype=_dtype(unit))
+    is_wrong, out = is_beyond | (nanoseconds >= _NANO), new_array(len(place), unit)
+    if is_coerced:
+        is_wrong[numpy.asarray(missing, "int64")] = True
+        return coerce(out, seconds, nanoseconds, ~is_wrong)[0]
+    done = _first(is_wrong)
     _test_out(out)
-    _put(out, seconds[:done], nanoseconds[:done])
+    _write_moments(out, seconds[:done], nanoseconds[:done])
     if done < len(place):
         raise RefusedTimestamp(done) if is_beyond[done] else RefusedNanosecond(done)
     return out

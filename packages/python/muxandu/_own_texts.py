@@ -1,10 +1,12 @@
-"""The texts that `str` writes of values, read back."""
+"""The texts that `str` writes of values, read back, and texts of RFC 3339 of a time of day or of an
+offset."""
 
 from __future__ import annotations
 
 import re
-from typing import Any, Callable, TypeVar
+from typing import Any, Callable, Optional, TypeVar
 
+from . import _extension as engine
 from ._refusals import RefusedSyntax
 
 _Made = TypeVar("_Made")
@@ -30,15 +32,38 @@ _FORMS = {
 }
 
 
-def read(name: str, text: str, make: Callable[..., _Made]) -> _Made:
-    """The value whose `str` is this text, from the parts of the text. RefusedSyntax for another text."""
+def full_time(text: str) -> tuple[tuple[int, int, int, int], int]:
+    """The parts of a time of day and the seconds of its offset, of a text of RFC 3339 that has
+    both."""
+    if not isinstance(text, str):
+        raise TypeError(f"Time.from_text_with_offset() needs a str, not {type(text).__name__}")
+    return engine.full_time_from_rfc3339(text)
+
+
+def offset(text: str) -> int:
+    """The seconds of an offset of RFC 3339."""
+    try:
+        return engine.offset_from_rfc3339(text)
+    except RefusedSyntax:
+        time = b"00:00:00"
+        whole = time + text.encode("utf-8", "surrogatepass")
+        place = engine.full_time_fault(whole) - len(time) if text[:1] in ("Z", "z", "+", "-") else 0
+        raise RefusedSyntax(None, text, place) from None
+
+
+def read(name: str, text: str, make: Callable[..., _Made], exchange: Optional[Callable[[str], _Made]] = None) -> _Made:
+    """The value whose `str` is this text, from the parts of the text; else what `exchange` reads.
+    RefusedSyntax for another text, else the error of the first part that is out of range.
+    """
     if not isinstance(text, str):
         raise TypeError(f"{name}.from_text() needs a str, not {type(text).__name__}")
     found = _FORMS[name].fullmatch(text)
     made = None if found is None else make(*found.groups())
-    if made is None or str(made) != text:
+    if made is not None and str(made) == text:
+        return made
+    if exchange is None:
         raise RefusedSyntax(None, text)
-    return made
+    return exchange(text)
 
 
 def numbers(*parts: str) -> list[int]:

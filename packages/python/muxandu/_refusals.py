@@ -12,9 +12,11 @@ from typing import Optional
 class Refused(ValueError):
     """A call failed. `name` is the name of the error in the library, `status` its number.
 
-    Each error has a class, such as RefusedMonth or RefusedDayOfMonth. If a call over many items fails, `count` is the number
-    of items that it converted: it rejected the next, and left the rest of the output as it was. `value` is the number or the
-    text that it rejected, if that is a single one. `place` is the index of the byte of a text with the fault.
+    Each error has a class, such as RefusedMonth or RefusedDayOfMonth. If a call over many items
+    fails, `count` is the number of items that it converted: it rejected the next, and left the rest
+    of the output as it was. `value` is the number or the text that it rejected, if that is a single
+    one. `place` is the index of the byte of a text with the fault. `reason` says more of a
+    description, or of the part of a text, that is at fault.
     """
 
     name: str = ""
@@ -22,24 +24,31 @@ class Refused(ValueError):
     count: Optional[int] = None
     value: object = None
     place: Optional[int] = None
+    reason: str = ""
 
-    def __init__(self, count: Optional[int] = None, value: object = None, place: Optional[int] = None) -> None:
+    def __init__(
+        self, count: Optional[int] = None, value: object = None, place: Optional[int] = None, reason: str = ""
+    ) -> None:
         told = f"{self.name}: {' '.join((self.__doc__ or '').split())}"
-        shown = _shown(value)
+        shown = _spell(value)
         if shown:
             told = f"{told.rstrip('.')}: {shown}" + ("" if place is None else f", at byte {place}")
+        if reason:
+            told = f"{told.rstrip('.')}: {reason}"
         super().__init__(told if count is None else f"item {count}: {told}")
-        self.count, self.value, self.place = count, value, place
+        self.count, self.value, self.place, self.reason = count, value, place, reason
 
-    def __reduce__(self) -> tuple[type[Refused], tuple[Optional[int], object, Optional[int]]]:
-        return type(self), (self.count, self.value, self.place)
+    def __reduce__(self) -> tuple[type[Refused], tuple[Optional[int], object, Optional[int], str]]:
+        return type(self), (self.count, self.value, self.place, self.reason)
 
     def __init_subclass__(cls) -> None:
         cls.__module__ = "muxandu"
 
 
-def _shown(value: object) -> str:
-    """A number or a text for a message, cut to its limit, or an empty text for another value, which may print anything."""
+def _spell(value: object) -> str:
+    """A number or a text for a message, cut to its limit. Any other value is an empty text, because
+    it may print anything.
+    """
     if type(value) is int:
         return str(value) if value.bit_length() <= _MOST_BITS else f"a number of {value.bit_length()} bits"
     if type(value) not in (str, bytes):
@@ -152,14 +161,16 @@ class RefusedOffsetSeconds(Refused):
 
 
 class RefusedTimestamp(Refused):
-    """A Unix second, or a count of another unit from 1970-01-01, outside the range of timestamps."""
+    """A Unix second, or a count of another unit from 1970-01-01, outside the range of
+    timestamps."""
 
     name = "TIMESTAMP"
     status = 15
 
 
 class RefusedDayNumber(Refused):
-    """A day number that is not -365961662 to 364522971, or a Julian day outside the range of dates."""
+    """A day number that is not -365961662 to 364522971, or a Julian day outside the range of
+    dates."""
 
     name = "DAY_NUMBER"
     status = 16
@@ -173,7 +184,8 @@ class RefusedDuration(Refused):
 
 
 class RefusedUnit(Refused):
-    """A number that is not a unit, or not a part of a date-time."""
+    """A number that is not a unit, not a part of a date-time, or not a kind, a version or an item
+    of a format description."""
 
     name = "UNIT"
     status = 18
@@ -208,7 +220,8 @@ class RefusedSyntax(Refused):
 
 
 class RefusedOffsetHour(Refused):
-    """Hours of an offset that are out of range: above 23 in a text of RFC 3339, not -25 to 25 elsewhere."""
+    """Hours of an offset that are out of range: above 23 in a text of RFC 3339, not -25 to 25
+    elsewhere."""
 
     name = "OFFSET_HOUR"
     status = 23
@@ -222,7 +235,8 @@ class RefusedOffsetMinute(Refused):
 
 
 class RefusedNoText(Refused):
-    """A value that has no text in RFC 3339: a year outside 0 to 9999, or an offset with seconds or beyond 23:59."""
+    """A value that has no such text, as in RFC 3339 a year outside 0 to 9999, or an offset with
+    seconds or beyond 23:59."""
 
     name = "NO_TEXT"
     status = 25
@@ -281,3 +295,86 @@ class Part(enum.IntEnum):
     MINUTE = 6
     SECOND = 7
     NANOSECOND = 8
+
+
+# Where users and pickles look for them.
+for _kind in (Part, Refused, Unit):
+    _kind.__module__ = "muxandu"
+
+# What an error of a description says of it, by the number of its reason.
+REASONS = {
+    1: "A [ without its ].",
+    2: "A [ that no name follows.",
+    3: "A [ inside the brackets of a component.",
+    4: "A name of no component.",
+    5: "A name that is no modifier of its component.",
+    6: "A value that the modifier does not have.",
+    7: "A component without a modifier that it needs, such as the count of ignore.",
+    8: "A backslash before another byte than [, ] and a backslash.",
+    9: "An optional or first without a description in brackets.",
+    10: "Something else than a description in brackets after optional or first.",
+    11: "More than 32 groups inside each other.",
+    12: "An item, or its text, for which the caller has no room.",
+    13: "A component that has no name in the language of descriptions.",
+    14: "The count 0 of ignore.",
+    15: "A ] in a group, for which version 1 has no text.",
+    16: "A group in place of another that is not there.",
+    17: "A group of more items than the description, or the group around it, has.",
+    18: "The year.",
+    19: "The year without its last two digits.",
+    20: "The last two digits of the year.",
+    21: "The year of the ISO week.",
+    22: "The year of the ISO week without its last two digits.",
+    23: "The last two digits of the year of the ISO week.",
+    24: "The month.",
+    25: "The day of the month.",
+    26: "The day of the year.",
+    27: "The day of the week.",
+    28: "The ISO week.",
+    29: "The week by the Sundays of the year.",
+    30: "The week by the Mondays of the year.",
+    31: "The hour of the day.",
+    32: "The hour on a clock of 12 hours.",
+    33: "The half of the day.",
+    34: "The minute.",
+    35: "The second.",
+    36: "The fraction of the second.",
+    37: "The hours of the offset.",
+    38: "The minutes of the offset.",
+    39: "The seconds of the offset.",
+    40: "The Unix time in seconds.",
+    41: "The Unix time in milliseconds.",
+    42: "The Unix time in microseconds.",
+    43: "The Unix time in nanoseconds.",
+}
+
+__all__ = [
+    "Part",
+    "Refused",
+    "RefusedBuffer",
+    "RefusedDay",
+    "RefusedDayNumber",
+    "RefusedDayOfMonth",
+    "RefusedDuration",
+    "RefusedHour",
+    "RefusedMinute",
+    "RefusedMonth",
+    "RefusedNanosecond",
+    "RefusedNoText",
+    "RefusedOffsetHour",
+    "RefusedOffsetMinute",
+    "RefusedOffsetSeconds",
+    "RefusedOrdinal",
+    "RefusedOrdinalOfYear",
+    "RefusedResult",
+    "RefusedSecond",
+    "RefusedSpan",
+    "RefusedSyntax",
+    "RefusedTimestamp",
+    "RefusedUnit",
+    "RefusedWeek",
+    "RefusedWeekOfYear",
+    "RefusedWeekday",
+    "RefusedYear",
+    "Unit",
+]

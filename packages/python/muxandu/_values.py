@@ -1,22 +1,21 @@
-"""Instants, date-times, days and durations: the library's calls as methods, and code of Python's own, such as Duration."""
+"""Instants, date-times, days and durations: the library's calls as methods, and code of Python's
+own, such as Duration."""
 
 from __future__ import annotations
 
 import datetime
-import functools
 import time
-from typing import Any, ClassVar, NamedTuple, SupportsIndex, TypeVar, Union
+from typing import Any, Callable, ClassVar, NamedTuple, SupportsIndex, TypeVar, Union
 
-from . import _own_texts
-from ._engine import engine
+from . import _formats, _own_texts
+from . import _extension as engine
 from ._refusals import REFUSALS, RefusedResult
-from ._words import as_bytes, nanosecond_of, nanoseconds_of, whole
+from ._words import as_bytes, nanoseconds_of, to_int
+
+_PARTS = ("year", "month", "day", "hour", "minute", "second", "nanosecond")
 
 _SECOND = 1_000_000_000
 _DAY = 86_400
-
-# The least and the greatest timedelta.
-_TIMEDELTAS = (datetime.timedelta.min, datetime.timedelta.max)
 
 _Stamp = TypeVar("_Stamp", bound="Timestamp")
 _Shown = TypeVar("_Shown", bound="OffsetDateTime")
@@ -24,19 +23,18 @@ _Date = TypeVar("_Date", bound="Date")
 _Time = TypeVar("_Time", bound="Time")
 _Offset = TypeVar("_Offset", bound="UtcOffset")
 _Length = TypeVar("_Length", bound="Duration")
+_Any = TypeVar("_Any", bound="_Formatted")
 
 
 _Kind = TypeVar("_Kind")
 
-# The default of a part that `replace` keeps.
-_KEPT: Any = object()
 
-
-def _completed(kind: type[_Kind]) -> type[_Kind]:
-    """The type that the library's calls make, with the methods of a class derived from it. It is one type, so the collector
-    of cycles skips its values."""
+def _complete(kind: type[_Kind]) -> type[_Kind]:
+    """The type that the library's calls make, with the methods of a class derived from it. It is
+    one type, so the collector of cycles skips its values."""
     made: Any = kind.__base__
-    for name, value in vars(kind).items():
+    *parts, _, _ = kind.__mro__
+    for name, value in (pair for part in reversed(parts) for pair in vars(part).items()):
         if name not in ("__dict__", "__module__", "__slots__", "__weakref__"):
             setattr(made, name, value)
     made.__module__ = "muxandu"
@@ -44,16 +42,56 @@ def _completed(kind: type[_Kind]) -> type[_Kind]:
     return whole
 
 
-def _formatted(value: Any, form: str) -> str:
+def _parts(value: object, *names: str) -> tuple[int, ...]:
+    return tuple(getattr(value, name) for name in names)
+
+
+class _Value:
+    """A value by the names of its parts."""
+
+    __slots__ = ()
+
+    _names: ClassVar[tuple[str, ...]]
+
+    def __reduce__(self) -> tuple[Any, ...]:
+        return type(self), _parts(self, *self._names)
+
+    def __repr__(self) -> str:
+        return f"{type(self).__name__}{self.__reduce__()[1]}"
+
+
+class _Formatted(_Value):
+    """A value that patterns of strftime write and read, by the number of its kind."""
+
+    __slots__ = ()
+
+    _kind: ClassVar[int]
+
+    def strftime(self, pattern: str) -> str:
+        """The text by a pattern of strftime, as datetime writes it in the C locale. ValueError
+        names a directive that no format description says."""
+        return _formats.strftime_value(self._kind, self, pattern)
+
+    @classmethod
+    def strptime(cls: type[_Any], text: Union[str, bytes], pattern: str) -> _Any:
+        """The value of a text that strftime writes by the same pattern. Errors are those of parse
+        and of strftime."""
+        return cls(*_parts(_formats.strptime_value(cls._kind, text, pattern), *cls._names))
+
+
+def _format(value: Any, form: str) -> str:
     """A value in a format: by `strftime` if the format has a %, else its text, padded."""
     return str(value.to_datetime().strftime(form)) if "%" in form else format(str(value), form)
 
 
-@_completed
-class Duration(engine.Duration):
-    """A length of time, forwards or back: seconds and nanoseconds of one sign. Durations compare by both together."""
+@_complete
+class Duration(_Value, engine.Duration):
+    """A length of time, forwards or back: seconds and nanoseconds of one sign. Durations compare by
+    both together."""
 
     __slots__ = ()
+
+    _names = ("seconds", "nanoseconds")
 
     MIN: ClassVar[Duration]
     MAX: ClassVar[Duration]
@@ -76,7 +114,7 @@ class Duration(engine.Duration):
     @classmethod
     def of_days(cls, days: int) -> Duration:
         """The duration of a count of days of 86,400 seconds. RefusedDuration if out of range."""
-        return cls(whole(days) * _DAY)
+        return cls(to_int(days) * _DAY)
 
     @classmethod
     def from_text(cls: type[_Length], text: str) -> _Length:
@@ -97,7 +135,8 @@ class Duration(engine.Duration):
         return self.whole_nanoseconds() / _SECOND
 
     def to_timedelta(self) -> datetime.timedelta:
-        """The datetime.timedelta of as many whole microseconds, rounded down. OverflowError if out of its range."""
+        """The datetime.timedelta of as many whole microseconds, rounded down. OverflowError if out
+        of its range."""
         return datetime.timedelta(microseconds=self.whole_nanoseconds() // 1_000)
 
     def __pos__(self) -> Duration:
@@ -136,15 +175,6 @@ class Duration(engine.Duration):
     def __rdivmod__(self, other: datetime.timedelta) -> Any:
         return divmod(Duration.of(other), self) if _is_length(other) else NotImplemented
 
-    def __hash__(self) -> int:
-        # That of the datetime.timedelta that it equals, if there is one.
-        count = self.whole_nanoseconds()
-        is_timedelta = count % 1_000 == 0 and _TIMEDELTAS[0] <= self <= _TIMEDELTAS[1]
-        return hash(self.to_timedelta() if is_timedelta else count)
-
-    def __reduce__(self) -> tuple[Any, ...]:
-        return type(self), (self.seconds, self.nanoseconds)
-
     def __str__(self) -> str:
         count = abs(self.whole_nanoseconds())
         fraction = f".{count % _SECOND:09}".rstrip("0") if count % _SECOND else ""
@@ -153,68 +183,60 @@ class Duration(engine.Duration):
     def __format__(self, form: str) -> str:
         return format(str(self), form)
 
-    def __repr__(self) -> str:
-        return f"{type(self).__name__}({self.seconds}, {self.nanoseconds})"
-
 
 def _is_length(value: object) -> bool:
     return isinstance(value, (Duration, datetime.timedelta))
 
 
-@functools.total_ordering
-class UtcOffset:
-    """An offset from UTC, -25:59:59 to 25:59:59. Calls take it in place of the seconds of an offset."""
+@_complete
+class UtcOffset(engine.UtcOffset):
+    """An offset from UTC, -25:59:59 to 25:59:59. Calls take it in place of the seconds of an
+    offset."""
 
-    __slots__ = ("_seconds",)
-    _seconds: int
+    __slots__ = ()
 
     UTC: ClassVar[UtcOffset]
 
-    def __new__(cls: type[_Offset], whole_seconds: SupportsIndex) -> _Offset:
-        offset = object.__new__(cls)
-        offset._seconds = OffsetDateTime(1970, 1, 1, offset_seconds=whole_seconds).offset_seconds
-        return offset
-
     @classmethod
     def from_text(cls: type[_Offset], text: str) -> _Offset:
-        """The offset whose str() is this text, such as +02:00:00. RefusedSyntax for another text."""
-        return _own_texts.read("UtcOffset", text, lambda *parts: cls(_own_texts.seconds(*parts)))
+        """The offset whose str() is this text, such as +02:00:00, or that RFC 3339 writes so: Z or
+        +02:00. RefusedSyntax for another text."""
+        make: Callable[..., _Offset] = lambda *parts: cls(_own_texts.seconds(*parts))
+        return _own_texts.read("UtcOffset", text, make, lambda text: cls(_own_texts.offset(text)))
 
     @classmethod
     def from_hms(cls, hours: int, minutes: int = 0, seconds: int = 0) -> UtcOffset:
-        """The offset of hours, minutes and seconds: the smaller take the sign of the hours, or of the minutes if these are 0."""
+        """The offset of hours, minutes and seconds: the smaller take the sign of the hours, or of
+        the minutes if these are 0."""
         return cls(engine.offset_from_parts(hours, minutes, seconds))
-
-    def whole_seconds(self) -> int:
-        """The seconds by which clocks are ahead of UTC."""
-        return self._seconds
 
     def as_hms(self) -> tuple[int, int, int]:
         """The hours, the minutes and the seconds, all of one sign."""
-        return engine.offset_to_parts(self._seconds)
+        return engine.offset_to_parts(self.whole_seconds())
 
     def is_utc(self) -> bool:
         """Whether it is the offset 0."""
-        return self._seconds == 0
+        return self.whole_seconds() == 0
 
     def to_timezone(self) -> datetime.timezone:
         """The datetime.timezone of the offset, of less than a day."""
-        return datetime.timezone(datetime.timedelta(seconds=self._seconds))
+        return datetime.timezone(datetime.timedelta(seconds=self.whole_seconds()))
 
-    def __index__(self) -> int:
-        return self._seconds
+    def format(self, pattern: str) -> str:
+        """The text by a format description, such as [offset_hour]:[offset_minute]. RefusedSyntax if
+        it is none. RefusedNoText if the value lacks a component, or if the text has more than 64
+        bytes or one that is not ASCII."""
+        return _formats.format_value(_formats.UTC_OFFSET, OffsetDateTime(1970, 1, 1, offset_seconds=self), pattern)
 
-    def __eq__(self, other: object) -> Any:
-        return self._seconds == other._seconds if isinstance(other, UtcOffset) else NotImplemented
-
-    def __lt__(self, other: UtcOffset) -> bool:
-        return self._seconds < other._seconds if isinstance(other, UtcOffset) else NotImplemented
-
-    def __hash__(self) -> int:
-        return hash(self._seconds)
+    @classmethod
+    def parse(cls: type[_Offset], text: Union[str, bytes], pattern: str) -> _Offset:
+        """The value of a text by a format description, such as [offset_hour]:[offset_minute].
+        RefusedSyntax, with the byte and the item, if the text has another form or lacks a part.
+        RefusedResult, with the part, if a part is out of range or contradicts another."""
+        return cls(*_parts(_formats.parse_value(_formats.UTC_OFFSET, text, pattern), "offset_seconds"))
 
     def __reduce__(self) -> tuple[Any, ...]:
-        return type(self), (self._seconds,)
+        return type(self), (self.whole_seconds(),)
 
     def __str__(self) -> str:
         return str(OffsetDateTime(1970, 1, 1, offset_seconds=self)).rpartition(" ")[2]
@@ -223,14 +245,17 @@ class UtcOffset:
         return format(str(self), form)
 
     def __repr__(self) -> str:
-        return f"{type(self).__name__}({self._seconds})"
+        return f"{type(self).__name__}({self.whole_seconds()})"
 
 
-@_completed
-class Timestamp(engine.Timestamp):
-    """An instant: a Unix second and a nanosecond of that second, before 1970 too. Its text is its signed decimal."""
+@_complete
+class Timestamp(_Value, engine.Timestamp):
+    """An instant: a Unix second and a nanosecond of that second, before 1970 too. Its text is its
+    signed decimal."""
 
     __slots__ = ()
+
+    _names = ("seconds", "nanoseconds")
 
     MIN: ClassVar[Timestamp]
     MAX: ClassVar[Timestamp]
@@ -243,27 +268,24 @@ class Timestamp(engine.Timestamp):
 
     @classmethod
     def from_text(cls: type[_Stamp], text: str) -> _Stamp:
-        """The instant whose str() is this text, a decimal of Unix seconds such as -0.5. RefusedSyntax for another text."""
+        """The instant whose str() is this text, a decimal of Unix seconds such as -0.5.
+        RefusedSyntax for another text."""
         return _own_texts.read("Timestamp", text, lambda *parts: cls.from_nanoseconds(_own_texts.nanoseconds(*parts)))
 
     @classmethod
     def from_microseconds(cls: type[_Stamp], microseconds: int) -> _Stamp:
-        """The instant of a count of microseconds from 1970-01-01 0:00 UTC. RefusedTimestamp if out of range."""
-        count = whole(microseconds)
+        """The instant of a count of microseconds from 1970-01-01 0:00 UTC. RefusedTimestamp if out
+        of range."""
+        count = to_int(microseconds)
         seconds, left = divmod(count, 1_000_000)
         return cls._from_microseconds(count) if -(2**63) <= count < 2**63 else cls(seconds, left * 1_000)
 
     @classmethod
     def from_nanoseconds(cls: type[_Stamp], nanoseconds: int) -> _Stamp:
-        """The instant of a count of nanoseconds from 1970-01-01 0:00 UTC, as time.time_ns() counts; also past 64 bits.
-        RefusedTimestamp if out of range."""
-        count = whole(nanoseconds)
+        """The instant of a count of nanoseconds from 1970-01-01 0:00 UTC, as time.time_ns() counts;
+        also past 64 bits. RefusedTimestamp if out of range."""
+        count = to_int(nanoseconds)
         return cls._from_nanoseconds(count) if -(2**63) <= count < 2**63 else cls(*divmod(count, _SECOND))
-
-    @classmethod
-    def from_datetime(cls: type[_Stamp], at: datetime.datetime) -> _Stamp:
-        """The instant of a datetime.datetime that has an offset."""
-        return cls(*_parts(OffsetDateTime.from_datetime(at).to_timestamp(), "seconds", "nanoseconds"))
 
     def as_microseconds(self) -> int:
         """The microseconds from 1970-01-01 0:00 UTC, rounded down."""
@@ -279,39 +301,56 @@ class Timestamp(engine.Timestamp):
         except RefusedResult:
             return self.seconds * _SECOND + self.nanoseconds
 
-    def to_utc(self) -> UtcDateTime:
-        """The date-time in UTC."""
-        return UtcDateTime._shown_by(self.to_offset(0))
-
     def to_datetime(self, zone: datetime.tzinfo = datetime.timezone.utc) -> datetime.datetime:
-        """The datetime.datetime of the instant in a zone, to the microsecond, which is rounded down."""
+        """The datetime.datetime of the instant in a zone, to the microsecond, which is rounded
+        down."""
         return self.to_offset(0).to_datetime().astimezone(zone)
 
-    def __reduce__(self) -> tuple[Any, ...]:
-        return type(self), (self.seconds, self.nanoseconds)
+    def format(self, pattern: str) -> str:
+        """The text in UTC by a format description, such as [unix_timestamp]. RefusedSyntax if it is
+        none. RefusedNoText if the value lacks a component, or if the text has more than 64 bytes or
+        one that is not ASCII."""
+        return _formats.format_value(_formats.OFFSET_DATE_TIME, self.to_offset(0), pattern)
+
+    @classmethod
+    def parse(cls: type[_Stamp], text: Union[str, bytes], pattern: str) -> _Stamp:
+        """The value of a text by a format description, such as [unix_timestamp]. RefusedSyntax,
+        with the byte and the item, if the text has another form or lacks a part. RefusedResult,
+        with the part, if a part is out of range or contradicts another."""
+        return cls(*_instant(_formats.in_utc(_formats.parse_value, text, pattern)))
+
+    def strftime(self, pattern: str) -> str:
+        """The text in UTC by a pattern of strftime, as datetime writes it in the C locale.
+        ValueError names a directive that no format description says."""
+        return _formats.strftime_value(_formats.OFFSET_DATE_TIME, self.to_offset(0), pattern)
+
+    @classmethod
+    def strptime(cls: type[_Stamp], text: Union[str, bytes], pattern: str) -> _Stamp:
+        """The value of a text that strftime writes by the same pattern. Errors are those of parse
+        and of strftime."""
+        return cls(*_instant(_formats.in_utc(_formats.strptime_value, text, pattern)))
 
     def __format__(self, form: str) -> str:
-        return _formatted(self, form)
-
-    def __repr__(self) -> str:
-        return f"{type(self).__name__}({self.seconds}, {self.nanoseconds})"
+        return _format(self, form)
 
 
-_PARTS = ("year", "month", "day", "hour", "minute", "second", "nanosecond")
+def _instant(shown: Any) -> tuple[int, int]:
+    """The second and the nanosecond of the instant of a date-time in UTC."""
+    at = OffsetDateTime(*_parts(shown, *_PARTS)).to_timestamp()
+    return at.seconds, at.nanoseconds
 
 
-def _parts(value: object, *names: str) -> tuple[int, ...]:
-    return tuple(getattr(value, name) for name in names)
-
-
-@_completed
-class OffsetDateTime(engine.OffsetDateTime):
+@_complete
+class OffsetDateTime(_Formatted, engine.OffsetDateTime):
     """A date-time at an offset from UTC. Date-times compare by their instants.
 
     Its text is the library's own, as 1970-01-01 0:00:00.0 +00:00:00.
     """
 
     __slots__ = ()
+
+    _kind: ClassVar[int] = _formats.OFFSET_DATE_TIME
+    _names = (*_PARTS, "offset_seconds")
 
     UNIX_EPOCH: ClassVar[OffsetDateTime]
 
@@ -322,7 +361,8 @@ class OffsetDateTime(engine.OffsetDateTime):
 
     @classmethod
     def from_text(cls: type[_Shown], text: str) -> _Shown:
-        """The date-time whose str() is this text, such as 2024-02-29 4:00:00.0 +02:00:00. RefusedSyntax for another text."""
+        """The date-time whose str() is this text, such as 2024-02-29 4:00:00.0 +02:00:00.
+        RefusedSyntax for another text."""
 
         def make(*parts: str) -> _Shown:
             numbers = [*_own_texts.numbers(*parts[:7]), _own_texts.seconds(*parts[7:])]
@@ -336,75 +376,32 @@ class OffsetDateTime(engine.OffsetDateTime):
         is_structure = hasattr(item, "offset_seconds")
         return cls(*(getattr(item, name) if is_structure else item[name] for name in (*_PARTS, "offset_seconds")))
 
-    @classmethod
-    def from_datetime(cls: type[_Shown], at: datetime.datetime) -> _Shown:
-        """The date-time of a datetime.datetime, which must have an offset of whole seconds."""
-        offset = at.utcoffset()
-        if offset is None or offset.microseconds:
-            raise ValueError("the datetime must have an offset of whole seconds")
-        seconds = offset.days * _DAY + offset.seconds
-        return cls(at.year, at.month, at.day, at.hour, at.minute, at.second, nanosecond_of(at), seconds)
-
     def to_datetime(self) -> datetime.datetime:
         """The datetime.datetime that shows the same, to the microsecond, which is rounded down."""
         return _datetime(self, self.offset().to_timezone())
 
-    def to_utc(self) -> UtcDateTime:
-        """The date-time in UTC of the same instant."""
-        return UtcDateTime._shown_by(self.to_offset(0))
-
-    def replace(
-        self: _Shown,
-        *,
-        year: SupportsIndex = _KEPT,
-        month: SupportsIndex = _KEPT,
-        day: SupportsIndex = _KEPT,
-        hour: SupportsIndex = _KEPT,
-        minute: SupportsIndex = _KEPT,
-        second: SupportsIndex = _KEPT,
-        nanosecond: SupportsIndex = _KEPT,
-        offset_seconds: SupportsIndex = _KEPT,
-    ) -> _Shown:
-        """The same with other parts, by name: replace(day=1, hour=0)."""
-        made: _Shown = _replaced(self, (year, month, day, hour, minute, second, nanosecond, offset_seconds))
-        return made
-
-    def date(self) -> Date:
-        """The date that the clocks show."""
-        return Date(self.year, self.month, self.day)
-
-    def time(self) -> Time:
-        """The time of day that the clocks show."""
-        return Time(self.hour, self.minute, self.second, self.nanosecond)
-
-    def offset(self) -> UtcOffset:
-        """The offset."""
-        return UtcOffset(self.offset_seconds)
-
-    def date_time(self) -> PlainDateTime:
-        """The wall clock, without the offset."""
-        return PlainDateTime(*_parts(self, *_PARTS))
-
     def is_same(self, other: OffsetDateTime) -> bool:
-        """Whether both have the same parts and the same offset. `==` compares the instants alone."""
+        """Whether both have the same parts and the same offset. `==` compares the instants
+        alone."""
         if not isinstance(other, OffsetDateTime):
             raise TypeError(f"the other value must be an OffsetDateTime, not {type(other).__name__}")
         return bool(self.__reduce__()[1] == other.__reduce__()[1])
 
-    def __reduce__(self) -> tuple[Any, ...]:
-        return type(self), _parts(self, *_PARTS, "offset_seconds")
+    def format(self, pattern: str) -> str:
+        """The text by a format description, such as [year]-[month]-[day] [offset_hour].
+        RefusedSyntax if it is none. RefusedNoText if the value lacks a component, or if the text
+        has more than 64 bytes or one that is not ASCII."""
+        return _formats.format_value(_formats.OFFSET_DATE_TIME, self, pattern)
+
+    @classmethod
+    def parse(cls: type[_Shown], text: Union[str, bytes], pattern: str) -> _Shown:
+        """The value of a text by a format description, such as [year]-[month]-[day] [offset_hour].
+        RefusedSyntax, with the byte and the item, if the text has another form or lacks a part.
+        RefusedResult, with the part, if a part is out of range or contradicts another."""
+        return cls(*_parts(_formats.parse_value(cls._kind, text, pattern), *cls._names))
 
     def __format__(self, form: str) -> str:
-        return _formatted(self, form)
-
-    def __repr__(self) -> str:
-        return f"{type(self).__name__}{self.__reduce__()[1]}"
-
-
-def _replaced(value: Any, parts: tuple[SupportsIndex, ...]) -> Any:
-    """The value with those of its parts that are not kept."""
-    kind, kept = value.__reduce__()
-    return kind(*(old if part is _KEPT else part for old, part in zip(kept, parts)))
+        return _format(self, form)
 
 
 def _datetime(shown: Any, zone: Union[datetime.tzinfo, None]) -> datetime.datetime:
@@ -427,11 +424,14 @@ class IsoWeekDate(NamedTuple):
     weekday: int
 
 
-@_completed
-class Date(engine.Date):
+@_complete
+class Date(_Formatted, engine.Date):
     """A day: a year, a month and a day of the month."""
 
     __slots__ = ()
+
+    _kind: ClassVar[int] = _formats.DATE
+    _names = ("year", "month", "day")
 
     MIN: ClassVar[Date]
     MAX: ClassVar[Date]
@@ -446,18 +446,14 @@ class Date(engine.Date):
         """The day of an ISO year, an ISO week and a day of the week, 0 for Monday."""
         return cls.from_day_number(engine.day_from_week_date(year, week, weekday))
 
-    @classmethod
-    def from_rfc3339(cls: type[_Date], text: Union[str, bytes]) -> _Date:
-        """The day of a text of RFC 3339, as 1985-04-12."""
-        return cls(*engine.date_from_rfc3339(text))
-
     def to_rfc3339(self) -> str:
         """The text of RFC 3339, as 1985-04-12."""
         return engine.date_to_rfc3339(self.year, self.month, self.day)
 
     @classmethod
     def from_text(cls: type[_Date], text: str) -> _Date:
-        """The day whose str() is this text, such as 2024-02-29 or -0005-03-01. RefusedSyntax for another text."""
+        """The day whose str() is this text, such as 2024-02-29 or -0005-03-01. RefusedSyntax for
+        another text."""
         return _own_texts.read("Date", text, lambda *parts: cls(*_own_texts.numbers(*parts)))
 
     @classmethod
@@ -475,12 +471,13 @@ class Date(engine.Date):
         return datetime.date(self.year, self.month, self.day)
 
     def add_days(self: _Date, days: int) -> _Date:
-        """The day that is `days` days later, or earlier for a negative count. RefusedResult if out of range."""
+        """The day that is `days` days later, or earlier for a negative count. RefusedResult if out
+        of range."""
         return type(self)(*engine.date_add_days(self.year, self.month, self.day, days))
 
     def add_months(self: _Date, months: int) -> _Date:
-        """The same day of the month after `months` months, or the last day of a shorter month. RefusedResult if out of
-        range."""
+        """The same day of the month after `months` months, or the last day of a shorter month.
+        RefusedResult if out of range."""
         return type(self)(*engine.date_add_months(self.year, self.month, self.day, months))
 
     @classmethod
@@ -511,38 +508,18 @@ class Date(engine.Date):
         """The ISO year, the ISO week and the day of the week, 0 for Monday."""
         return IsoWeekDate(*engine.week_date_from_day(self.day_number()))
 
-    def weekday(self) -> int:
-        """The day of the week, 0 for Monday."""
-        return engine.weekday_from_day(self.day_number())
+    def format(self, pattern: str) -> str:
+        """The text by a format description, such as [day]/[month]/[year]. RefusedSyntax if it is
+        none. RefusedNoText if the value lacks a component, or if the text has more than 64 bytes or
+        one that is not ASCII."""
+        return _formats.format_value(_formats.DATE, self, pattern)
 
-    def replace(self: _Date, *, year: SupportsIndex = _KEPT, month: SupportsIndex = _KEPT, day: SupportsIndex = _KEPT) -> _Date:
-        """The same with other parts, by name: replace(day=1)."""
-        made: _Date = _replaced(self, (year, month, day))
-        return made
-
-    def _moved(self: _Date, days: Any, sign: int) -> _Date:
-        if _is_length(days):
-            days = Duration.of(days).whole_days()
-        elif not isinstance(days, int):
-            return NotImplemented
-        return self.from_day_number(self.day_number() + sign * days)
-
-    def __add__(self: _Date, days: Union[int, Duration, datetime.timedelta]) -> _Date:
-        """The day that many days later. Of a duration it takes the whole days, rounded towards zero; `datetime.date` takes
-        those of `timedelta.days`, which are rounded down."""
-        return self._moved(days, 1)
-
-    __radd__ = __add__
-
-    def __sub__(self, other: Any) -> Any:
-        """The duration from another day, or the day that many days earlier. Of a duration it takes the whole days, rounded
-        towards zero."""
-        if isinstance(other, Date):
-            return Duration.of_days(self.day_number() - other.day_number())
-        return self._moved(other, -1)
-
-    def __reduce__(self) -> tuple[Any, ...]:
-        return type(self), (self.year, self.month, self.day)
+    @classmethod
+    def parse(cls: type[_Date], text: Union[str, bytes], pattern: str) -> _Date:
+        """The value of a text by a format description, such as [day]/[month]/[year]. RefusedSyntax,
+        with the byte and the item, if the text has another form or lacks a part. RefusedResult,
+        with the part, if a part is out of range or contradicts another."""
+        return cls(*_parts(_formats.parse_value(cls._kind, text, pattern), *cls._names))
 
     def __str__(self) -> str:
         return str(OffsetDateTime(self.year, self.month, self.day)).partition(" ")[0]
@@ -550,30 +527,32 @@ class Date(engine.Date):
     def __format__(self, form: str) -> str:
         return self.to_date().strftime(form) if "%" in form else format(str(self), form)
 
-    def __repr__(self) -> str:
-        return f"{type(self).__name__}({self.year}, {self.month}, {self.day})"
 
-
-class Time:
+@_complete
+class Time(_Formatted, engine.Time):
     """A time of day, from 0:00:00.0 to 23:59:59.999999999."""
 
-    __slots__ = ("_at",)
-    _at: OffsetDateTime
+    __slots__ = ()
+
+    _kind: ClassVar[int] = _formats.TIME
+    _names = ("hour", "minute", "second", "nanosecond")
 
     MIDNIGHT: ClassVar[Time]
     MAX: ClassVar[Time]
 
-    def __new__(
-        cls: type[_Time], hour: SupportsIndex, minute: SupportsIndex = 0, second: SupportsIndex = 0, nanosecond: SupportsIndex = 0
-    ) -> _Time:
-        made = object.__new__(cls)
-        made._at = OffsetDateTime(1970, 1, 1, hour, minute, second, nanosecond)
-        return made
-
     @classmethod
     def from_text(cls: type[_Time], text: str) -> _Time:
-        """The time of day whose str() is this text, such as 4:00:00.0. RefusedSyntax for another text."""
-        return _own_texts.read("Time", text, lambda *parts: cls(*_own_texts.numbers(*parts)))
+        """The time of day whose str() is this text, such as 4:00:00.0, or that RFC 3339 writes so
+        without an offset: 04:00:00. RefusedSyntax for another text."""
+        make: Callable[..., _Time] = lambda *parts: cls(*_own_texts.numbers(*parts))
+        return _own_texts.read("Time", text, make, lambda text: cls(*engine.time_from_rfc3339(text)))
+
+    @classmethod
+    def from_text_with_offset(cls: type[_Time], text: str) -> tuple[_Time, UtcOffset]:
+        """The time of day and the offset of a text of both in RFC 3339, such as 04:00:00.5+02:00.
+        RefusedSyntax for another text."""
+        parts, seconds = _own_texts.full_time(text)
+        return cls(*parts), UtcOffset(seconds)
 
     @classmethod
     def from_time(cls, at: datetime.time) -> Time:
@@ -584,58 +563,21 @@ class Time:
         """The datetime.time, to the microsecond, which is rounded down."""
         return datetime.time(self.hour, self.minute, self.second, self.nanosecond // 1_000)
 
-    @property
-    def hour(self) -> int:
-        """The hour, 0 to 23."""
-        return self._at.hour
+    def format(self, pattern: str) -> str:
+        """The text by a format description, such as [hour]:[minute]. RefusedSyntax if it is none.
+        RefusedNoText if the value lacks a component, or if the text has more than 64 bytes or one
+        that is not ASCII."""
+        return _formats.format_value(_formats.TIME, self, pattern)
 
-    @property
-    def minute(self) -> int:
-        """The minute, 0 to 59."""
-        return self._at.minute
-
-    @property
-    def second(self) -> int:
-        """The second, 0 to 59."""
-        return self._at.second
-
-    @property
-    def nanosecond(self) -> int:
-        """The nanosecond of the second."""
-        return self._at.nanosecond
-
-    def __sub__(self, earlier: Time) -> Duration:
-        return self._at - earlier._at if isinstance(earlier, Time) else NotImplemented
-
-    def __eq__(self, other: object) -> Any:
-        return self._at == other._at if isinstance(other, Time) else NotImplemented
-
-    def __lt__(self, other: Time) -> bool:
-        return self._at < other._at if isinstance(other, Time) else NotImplemented
-
-    def __le__(self, other: Time) -> bool:
-        return self._at <= other._at if isinstance(other, Time) else NotImplemented
-
-    def __gt__(self, other: Time) -> bool:
-        return self._at > other._at if isinstance(other, Time) else NotImplemented
-
-    def __ge__(self, other: Time) -> bool:
-        return self._at >= other._at if isinstance(other, Time) else NotImplemented
-
-    def __hash__(self) -> int:
-        return hash(self._at)
-
-    def __reduce__(self) -> tuple[Any, ...]:
-        return type(self), _parts(self, "hour", "minute", "second", "nanosecond")
-
-    def __str__(self) -> str:
-        return str(self._at).split(" ")[1]
+    @classmethod
+    def parse(cls: type[_Time], text: Union[str, bytes], pattern: str) -> _Time:
+        """The value of a text by a format description, such as [hour]:[minute]. RefusedSyntax, with
+        the byte and the item, if the text has another form or lacks a part. RefusedResult, with the
+        part, if a part is out of range or contradicts another."""
+        return cls(*_parts(_formats.parse_value(cls._kind, text, pattern), *cls._names))
 
     def __format__(self, form: str) -> str:
         return self.to_time().strftime(form) if "%" in form else format(str(self), form)
-
-    def __repr__(self) -> str:
-        return f"{type(self).__name__}{self.__reduce__()[1]}"
 
 
 def _minimum_and_maximum() -> None:
@@ -658,7 +600,5 @@ def days_in_month(year: int, month: int) -> int:
     return engine.days_in_month(year, month)
 
 
-engine.bind(Timestamp, OffsetDateTime, Duration, Date, REFUSALS, datetime.timedelta, as_bytes)
+engine.bind(REFUSALS, as_bytes)
 _minimum_and_maximum()
-
-from ._clocks import PlainDateTime, UtcDateTime  # noqa: E402

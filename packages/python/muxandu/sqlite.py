@@ -7,7 +7,8 @@
 >>> connection.execute("SELECT muxandu_add('2024-02-28T23:30:00-01:00', 90, 'minutes')").fetchone()
 ('2024-02-29T01:00:00-01:00',)
 
-Python's sqlite3 reports each error of such a function in the same words. `functions.error` has the message of the last one:
+Python's sqlite3 reports each error of such a function in the same words. `functions.error` has the
+message of the last one:
 
 >>> connection.execute("SELECT muxandu_unix('2023-02-29T00:00:00Z')")
 Traceback (most recent call last):
@@ -15,7 +16,8 @@ sqlite3.OperationalError: user-defined function raised exception
 >>> functions.error
 'muxandu_unix: DAY_OF_MONTH: A day of 1 to 31 that its month does not have in its year.'
 
-A table like `muxandu_parts` needs the extension, since Python's sqlite3 makes no tables of functions.
+A table like `muxandu_parts` needs the extension, since Python's sqlite3 makes no tables of
+functions.
 """
 
 from __future__ import annotations
@@ -58,7 +60,8 @@ class _Invalid(ValueError):
 
 
 class _Function(NamedTuple):
-    """A function of SQL: its name, its least and its greatest number of arguments, and what it returns."""
+    """A function of SQL: its name, its least and its greatest number of arguments, and what it
+    returns."""
 
     name: str
     least: int
@@ -76,7 +79,7 @@ def _text(value: _Value) -> str:
     raise _wrong_type()
 
 
-def _whole(value: _Value) -> int:
+def _to_int(value: _Value) -> int:
     """A whole number. A float is one where it has no fraction, and is exact."""
     if isinstance(value, int):
         return value
@@ -110,7 +113,7 @@ def _unit(value: _Value, names: tuple[str, ...] = tuple(_NANOSECONDS)) -> str:
     )
 
 
-def _held(number: int) -> int:
+def _in_64_bits(number: int) -> int:
     """A number of 64 bits. RefusedResult of another."""
     if -_MOST <= number < _MOST:
         return number
@@ -123,16 +126,16 @@ def _nanoseconds(at: Timestamp) -> int:
 
 def _unix(at: _Value, unit: _Value = "second") -> _Value:
     instant = _instant(at)
-    return _held(_nanoseconds(instant) // _NANOSECONDS[_unit(unit, _COUNTED)])
+    return _in_64_bits(_nanoseconds(instant) // _NANOSECONDS[_unit(unit, _COUNTED)])
 
 
 def _of_unix(seconds: _Value, offset: _Value = 0, nanosecond: _Value = 0) -> _Value:
-    whole = _whole(seconds), _whole(offset), _whole(nanosecond)
+    whole = _to_int(seconds), _to_int(offset), _to_int(nanosecond)
     return Timestamp(whole[0], whole[2]).to_offset(whole[1]).to_rfc3339()
 
 
 def _to_offset(at: _Value, offset: _Value) -> _Value:
-    return _date_time(at).to_offset(_whole(offset)).to_rfc3339()
+    return _date_time(at).to_offset(_to_int(offset)).to_rfc3339()
 
 
 def _sortable(at: _Value) -> _Value:
@@ -140,12 +143,12 @@ def _sortable(at: _Value) -> _Value:
 
 
 def _add(at: _Value, number: _Value, unit: _Value = "second") -> _Value:
-    start, count = _date_time(at), _whole(number)
+    start, count = _date_time(at), _to_int(number)
     return (start + Duration(0, count * _NANOSECONDS[_unit(unit)])).to_rfc3339()
 
 
 def _add_months(at: _Value, months: _Value) -> _Value:
-    start, count = _date_time(at), _whole(months)
+    start, count = _date_time(at), _to_int(months)
     if not -_MOST_MONTHS <= count < _MOST_MONTHS:
         raise RefusedResult()
     date = Date(start.year, start.month, start.day).add_months(count)
@@ -164,7 +167,7 @@ def _truncate(at: _Value, unit: _Value) -> _Value:
 def _difference(later: _Value, earlier: _Value, unit: _Value = "second") -> _Value:
     nanoseconds = _nanoseconds(_instant(later)) - _nanoseconds(_instant(earlier))
     count = abs(nanoseconds) // _NANOSECONDS[_unit(unit)]
-    return _held(count if nanoseconds >= 0 else -count)
+    return _in_64_bits(count if nanoseconds >= 0 else -count)
 
 
 def _compare(first: _Value, second: _Value) -> _Value:
@@ -172,7 +175,7 @@ def _compare(first: _Value, second: _Value) -> _Value:
     return (one > other) - (one < other)
 
 
-def _refused(at: _Value) -> _Value:
+def _error_name(at: _Value) -> _Value:
     try:
         _instant(at)
     except (Refused, _Invalid) as error:
@@ -195,13 +198,15 @@ _CALLS = (
 
 
 class Functions:
-    """The functions of a connection. `error` is the message of the last call that failed, and "" before there is one."""
+    """The functions of a connection. `error` is the message of the last call that failed, and ""
+    before there is one."""
 
     def __init__(self) -> None:
         self.error = ""
 
     def _answers(self, call: _Function, is_or_null: bool) -> Callable[..., _Value]:
-        """What a function does: NULL where an argument is NULL, else the answer, an error, or NULL in its place."""
+        """The function of SQL: NULL if an argument is NULL, else the answer, an error, or NULL in
+        its place."""
 
         def answer(*values: _Value) -> _Value:
             if None in values:
@@ -219,10 +224,11 @@ class Functions:
 
 
 def register(connection: sqlite3.Connection) -> Functions:
-    """Gives a connection the functions of SQL: muxandu_unix, muxandu_text and the others of docs/guide/SQL.md, but muxandu_parts."""
+    """Gives a connection the functions of SQL: muxandu_unix, muxandu_text and the others of
+    docs/guide/SQL.md, but muxandu_parts."""
     functions = Functions()
     define: Any = connection.create_function
-    for call in (*_CALLS, _Function("muxandu_refused", 1, 1, _refused)):
+    for call in (*_CALLS, _Function("muxandu_refused", 1, 1, _error_name)):
         for count in range(call.least, call.most + 1):
             define(call.name, count, functions._answers(call, False), deterministic=True)
             if call in _CALLS:

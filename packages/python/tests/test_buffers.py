@@ -256,7 +256,7 @@ class Rest(unittest.TestCase):
         self.assertIn("not int", str(caught.exception))
 
     def test_layouts_are_tested_without_asserts(self):
-        source = Path(muxandu.__file__).with_name("muxandu_sys.py").read_text(encoding="utf-8")
+        source = Path(muxandu.__file__).with_name("_structures.py").read_text(encoding="utf-8")
         self.assertNotIn("\nassert ", source)
         with tempfile.TemporaryDirectory() as folder:
             wrong = source.replace('("seconds", ctypes.c_int64)', '("seconds", ctypes.c_int32)', 1)

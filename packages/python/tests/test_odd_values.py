@@ -14,7 +14,7 @@ from pathlib import Path
 from unittest import mock
 
 import muxandu
-from muxandu._engine import engine
+from muxandu import _extension as engine
 from muxandu import Date, Duration, OffsetDateTime, PlainDateTime, Span, Time, Timestamp, UtcDateTime, UtcOffset
 
 TEXT = "1970-01-01T00:00:01Z"

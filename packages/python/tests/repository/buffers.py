@@ -30,6 +30,7 @@ from shared import civil as calendar  # noqa: E402
 from shared import rfc3339  # noqa: E402
 
 import muxandu  # noqa: E402
+from muxandu import columns  # noqa: E402
 
 try:
     import numpy
@@ -75,6 +76,8 @@ DATE_TIMES = (
     20,
 )
 STAMPS = ((("seconds", "i8", 0), ("nanoseconds", "u4", 8)), 16)
+MOMENTS = ((("seconds", "i8", 0), ("nanoseconds", "u4", 8), ("offset_seconds", "i4", 12)), 16)
+ORDERS = DAYS
 SPANS = ((("start", "u8", 0), ("length", "u8", 8)), 16)
 STATUSES = ((("", "u4", 0),), 4)
 
@@ -283,6 +286,51 @@ def second_of_date_time(values):
     return {"": second} if calendar.FIRST_SECOND <= second <= calendar.LAST_SECOND else None
 
 
+def moment_at(second, nanosecond, offset):
+    """The moment, if the range has it and what clocks at the offset show."""
+    ends = (calendar.FIRST_SECOND, calendar.LAST_SECOND)
+    is_one = nanosecond < 10**9 and abs(offset) <= 93_599 and all(ends[0] <= at <= ends[1] for at in (second, second + offset))
+    return {"seconds": second, "nanoseconds": nanosecond, "offset_seconds": offset} if is_one else None
+
+
+def known_moment(values):
+    return moment_at(values["seconds"], values["nanoseconds"], values["offset_seconds"])
+
+
+def date_time_of_moment(values):
+    if known_moment(values) is None:
+        return None
+    shown = date_time_of_second({"": values["seconds"] + values["offset_seconds"]})
+    return {**shown, "nanosecond": values["nanoseconds"], "offset_seconds": values["offset_seconds"]}
+
+
+def moment_of_date_time(values):
+    found = second_of_date_time(values)
+    return found and {"seconds": found[""], "nanoseconds": values["nanosecond"], "offset_seconds": values["offset_seconds"]}
+
+
+def moment_later(values):
+    return known_moment(values) and moment_at(values["seconds"] + 5, values["nanoseconds"], values["offset_seconds"])
+
+
+def moment_earlier(values):
+    return known_moment(values) and moment_at(values["seconds"] - 5, values["nanoseconds"], values["offset_seconds"])
+
+
+def moment_an_hour_east(values):
+    return known_moment(values) and moment_at(values["seconds"], values["nanoseconds"], 3_600)
+
+
+def moment_in_hours(values):
+    offset = values["offset_seconds"]
+    return known_moment(values) and moment_at((values["seconds"] + offset) // 3_600 * 3_600 - offset, 0, offset)
+
+
+def moment_beside_1970(values):
+    at = (values["seconds"], values["nanoseconds"])
+    return known_moment(values) and {"": (at > (0, 0)) - (at < (0, 0))}
+
+
 def some_values(source):
     """Numbers for each name, nearly always ones that calls take."""
     day = source.choice((source.randint(FIRST_DAY, LAST_DAY), source.randint(-20_000, 40_000)))
@@ -297,6 +345,8 @@ def some_values(source):
         "second": source.randrange(60),
         "nanosecond": source.randrange(10**9),
         "offset_seconds": source.randint(-93_599, 93_599),
+        "seconds": day * 86_400 + source.randrange(86_400),
+        "nanoseconds": source.randrange(10**9),
     }
     if source.random() < 0.05:
         values[source.choice(sorted(values))] = source.randrange(-(2**63), 2**63)
@@ -335,12 +385,26 @@ CALLS = (
     (muxandu.nanoseconds_from_date_times, DATE_TIMES, SECONDS, parts_of_date_time(10**9), {}),
     (muxandu.dates_from_days, DAYS, DATES, date_of_day, {}),
     (muxandu.days_from_dates, DATES, DAYS, day_of_date, {}),
+    (columns.date_times_from_moments, MOMENTS, DATE_TIMES, date_time_of_moment, {}),
+    (columns.moments_from_date_times, DATE_TIMES, MOMENTS, moment_of_date_time, {}),
+    (columns.moments_to_offset, MOMENTS, MOMENTS, moment_an_hour_east, {"offset_seconds": 3_600}),
+    (columns.moments_truncate, MOMENTS, MOMENTS, moment_in_hours, {"unit": muxandu.Unit.HOUR}),
+    (columns.moments_add, MOMENTS, MOMENTS, moment_later, {"durations": muxandu.Duration(5)}),
+    (columns.moments_subtract, MOMENTS, MOMENTS, moment_earlier, {"durations": muxandu.Duration(5)}),
+    (columns.moments_compare, MOMENTS, ORDERS, moment_beside_1970, {"others": muxandu.OffsetDateTime(1970, 1, 1)}),
 )
 
 
 EACH = (
     (muxandu.date_times_from_each_second, SECONDS, DATE_TIMES, date_time_of_second, AT_UTC),
     (muxandu.seconds_from_each_date_time, DATE_TIMES, SECONDS, second_of_date_time, {}),
+    (columns.date_times_from_each_moment, MOMENTS, DATE_TIMES, date_time_of_moment, {}),
+    (columns.moments_from_each_date_time, DATE_TIMES, MOMENTS, moment_of_date_time, {}),
+    (columns.each_moment_to_offset, MOMENTS, MOMENTS, moment_an_hour_east, {"offset_seconds": 3_600}),
+    (columns.each_moment_truncate, MOMENTS, MOMENTS, moment_in_hours, {"unit": muxandu.Unit.HOUR}),
+    (columns.each_moment_add, MOMENTS, MOMENTS, moment_later, {"durations": muxandu.Duration(5)}),
+    (columns.each_moment_subtract, MOMENTS, MOMENTS, moment_earlier, {"durations": muxandu.Duration(5)}),
+    (columns.each_moment_compare, MOMENTS, ORDERS, moment_beside_1970, {"others": muxandu.OffsetDateTime(1970, 1, 1)}),
 )
 
 
@@ -689,7 +753,7 @@ def main():
     calls, seed = (*numbers, *(20_000, 1)[len(numbers) :])
     source = random.Random(seed)
     variety = min(max(calls // 50, 100), 3_000)
-    wanted = (SECONDS, DAYS, DATES, DATE_TIMES, STAMPS, SPANS, STATUSES)
+    wanted = (SECONDS, DAYS, DATES, DATE_TIMES, STAMPS, SPANS, STATUSES, MOMENTS)
     kinds = {each: [some_kind(source, each) for _ in range(variety)] for each in wanted}
     for each in wanted:
         exact = [kind for kind in kinds[each] if kind.is_exactly(each)]

@@ -1,35 +1,40 @@
 #!/usr/bin/env python3
-"""Random calls of all kinds through the Python package, each compared with Python's `datetime` and gate/shared/civil.py.
+"""Random calls of all kinds, each compared with Python's `datetime` and gate/shared/civil.py.
 
     compare.py [COUNT [SEED]]
 
-The library is the one that the package finds. The last line is 'N passed, M failed', a call or an item each.
+The calls over many items go through the Python package that is installed, and the others through ctypes to the shared library
+that MUXANDU_LIBRARY names. The last line is 'N passed, M failed', a call or an item each.
 """
 
 import array
 import ctypes
 import datetime
+import os
 import random
 import sys
 from pathlib import Path
 
 HERE = Path(__file__).resolve().parent
-sys.path[:0] = [str(HERE.parents[1]), str(HERE.parents[3] / "gate")]
+sys.path[:0] = [str(HERE.parents[3] / "gate"), str(HERE)]
 sys.dont_write_bytecode = True
 
-from muxandu import DateTimeParts, Refused, muxandu_sys  # noqa: E402
+import muxandu_sys  # noqa: E402
+from muxandu import DateTimeParts, Refused  # noqa: E402
 from muxandu import date_times_from_seconds, dates_from_days, days_from_dates  # noqa: E402
 from muxandu import seconds_from_date_times, timestamps_from_rfc3339  # noqa: E402
-from muxandu._library import library  # noqa: E402
-from muxandu.muxandu_sys import MuxanduDate, MuxanduDuration, MuxanduTimestamp  # noqa: E402
-from muxandu.muxandu_sys import MuxanduOrdinalDate, MuxanduWeekDate  # noqa: E402
+from muxandu._refusals import REFUSALS  # noqa: E402
+from muxandu._structures import MuxanduDate, MuxanduDuration, MuxanduTimestamp  # noqa: E402
+from muxandu._structures import MuxanduOrdinalDate, MuxanduWeekDate  # noqa: E402
 from shared import civil as calendar  # noqa: E402
 from shared import rfc3339  # noqa: E402
+
+library = muxandu_sys.declare(ctypes.CDLL(os.environ["MUXANDU_LIBRARY"]))
 
 SECOND, FIRST, LAST = calendar.SECOND, calendar.FIRST_SECOND, calendar.LAST_SECOND
 FIRST_DAY, LAST_DAY = FIRST // 86_400, LAST // 86_400
 UNITS = (86_400 * SECOND, 3_600 * SECOND, 60 * SECOND, SECOND, 1_000_000, 1_000)
-STATUS = {name: status for status, (name, _) in muxandu_sys.REFUSALS.items()}
+STATUS = {refusal.name: status for status, refusal in REFUSALS.items()}
 RESULT = STATUS["RESULT"]
 MOST_OFFSET = 93_599
 

@@ -18,10 +18,11 @@ NEEDED = (
     "gate/shared/gate.py",
     "make/declare_c.py",
     INTERFACE,
-    "packages/python/muxandu/_methods.py",
+    "make/python_methods.py",
     "packages/python/extension/calls.h",
     "packages/python/muxandu/_refusals.py",
-    "packages/python/muxandu/_places.py",
+    "make/python_batches.py",
+    *(f"packages/python/muxandu/{name}" for name in ("_batch.py", "_extension.pyi", "_texts.py", "columns.py")),
 )
 
 # Calls whose names say nothing of what they write: one over many items, and one over none.
@@ -38,7 +39,7 @@ CALLS = {
         ],
         "result": "MuxanduBatch",
     },
-    "muxandu_day_of_luck": {"doc": "A day.", "parameters": [], "result": "i32"},
+    "muxandu_day_of_luck": {"doc": "A day.", "parameters": [], "result": "MuxanduTimestamp"},
 }
 
 
@@ -64,20 +65,39 @@ class Tables(unittest.TestCase):
     def test_what_stands_is_what_it_writes(self):
         self.assertEqual(self.run_tool("compare"), (0, ""))
 
-    def test_roles_say_what_a_call_writes(self):
+    def add_calls(self, calls):
         path = self.root / INTERFACE
         interface = json.loads(path.read_text(encoding="utf-8"))
-        interface["calls"].update(CALLS)
+        interface["calls"].update(calls)
         path.write_text(json.dumps(interface), encoding="utf-8")
+        return interface["calls"]
+
+    def test_roles_say_what_a_call_writes(self):
+        self.add_calls(CALLS)
         status, said = self.run_tool("write")
         self.assertEqual(status, 1)
-        self.assertRegex(said, r"METHODS, OPERATORS and FUNCTIONS .* have no row for day_of_luck")
-        self.change("packages/python/muxandu/_methods.py", "FUNCTIONS = (\n", 'FUNCTIONS = (\n    "day_of_luck",\n')
+        self.assertRegex(said, r"METHODS and OPERATORS .* have no row for day_of_luck")
+        self.change("make/python_methods.py", "FOR_DATABASES = (\n", 'FOR_DATABASES = (\n    "day_of_luck",\n')
         self.assertEqual(self.run_tool("write"), (0, ""))
         made = (self.root / "packages/python/extension/calls.h").read_text(encoding="utf-8")
-        body = made.partition("PyObject *seconds_in_order(")[2].partition("\n}")[0]
+        body = " ".join(made.partition("PyObject *seconds_in_order(")[2].partition("\n}")[0].split())
         for place, is_written in ((0, 0), (2, 1), (4, 1)):
             self.assertIn(f"take_items(words + {place}, &word_{place}, {is_written})", body)
+
+    def test_a_call_over_moments_has_a_row(self):
+        calls = self.add_calls({})
+        self.add_calls({"muxandu_moments_negate": calls["muxandu_date_times_from_moments"]})
+        status, said = self.run_tool("write")
+        self.assertEqual(status, 1)
+        self.assertRegex(said, r"DOCS of make/python_batches.py has no row for moments_negate")
+
+    def test_overloads_follow_the_items(self):
+        calls = self.add_calls({})
+        self.add_calls({"muxandu_days_from_dates": calls["muxandu_dates_from_days"]})
+        self.assertEqual(self.run_tool("write"), (0, ""))
+        made = (self.root / "packages/python/muxandu/_batch.py").read_text(encoding="utf-8")
+        self.assertIn("def days_from_dates(dates: SupportsArray, out: Optional[Out] = None) -> NumPyOr[Out]:", made)
+        self.assertIn("def days_from_dates(dates: Numbers, out: Optional[Out] = None) -> DatesOr[Out]:", made)
 
     def test_the_room_of_a_text_is_that_of_its_contract(self):
         made = (self.root / "packages/python/extension/calls.h").read_text(encoding="utf-8")
@@ -86,7 +106,7 @@ class Tables(unittest.TestCase):
             self.assertIn(f"char text[{room}];", body)
 
     def test_what_is_stale_is_named(self):
-        self.change("packages/python/muxandu/_methods.py", "The milliseconds from 1970-01-01 0:00 UTC, rounded down.", "Others.")
+        self.change("make/python_methods.py", "The milliseconds from 1970-01-01 0:00 UTC, rounded down.", "Others.")
         status, said = self.run_tool("compare")
         self.assertEqual(status, 1)
         self.assertIn("extension/calls.h", said)

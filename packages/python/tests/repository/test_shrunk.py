@@ -1,4 +1,4 @@
-"""The random buffers of buffers.py as Hypothesis draws them: few, and shrunk where one fails.
+"""The random buffers of buffers.py and column_buffers.py as Hypothesis draws them: few, and shrunk where one fails.
 
 MUXANDU_INSTALLED takes the package that is installed in the place of the sources, as in that program.
 """
@@ -11,6 +11,7 @@ sys.path[:0] = [str(Path(__file__).resolve().parent)]
 sys.dont_write_bytecode = True
 
 import buffers  # noqa: E402
+import column_buffers  # noqa: E402
 
 try:
     import hypothesis
@@ -18,21 +19,27 @@ try:
 except ImportError:
     hypothesis = None
 
-KINDS = (buffers.SECONDS, buffers.DAYS, buffers.DATES, buffers.DATE_TIMES, buffers.STAMPS, buffers.SPANS, buffers.STATUSES)
+KINDS = (
+    buffers.SECONDS,
+    buffers.DAYS,
+    buffers.DATES,
+    buffers.DATE_TIMES,
+    buffers.STAMPS,
+    buffers.SPANS,
+    buffers.STATUSES,
+    buffers.MOMENTS,
+)
 VARIETY = 5
 EXAMPLES = 30
 
 
 @unittest.skipIf(hypothesis is None, "Hypothesis is not there")
 class Buffers(unittest.TestCase):
-    def try_all(self, compare):
-        """Makes a comparison of buffers that Hypothesis draws."""
+    def try_all(self, compare, draw=None):
+        """Makes a comparison of buffers that Hypothesis draws, of kinds that `draw` draws."""
 
         def law(source):
-            kinds = {each: [buffers.some_kind(source, each) for _ in range(VARIETY)] for each in KINDS}
-            for each in KINDS:
-                kinds[each].append(exact(each))
-            told = []
+            kinds, told = (draw or some_kinds)(source), []
             buffers.count, kept = lambda problem, *words: problem and told.append((problem, *words)), buffers.count
             try:
                 compare(source, kinds)
@@ -60,6 +67,10 @@ class Buffers(unittest.TestCase):
     def test_texts(self):
         self.try_all(buffers.compare_texts)
 
+    def test_columns(self):
+        for compare in set(column_buffers.COMPARISONS):
+            self.try_all(compare, lambda source: column_buffers.some_kinds(source, VARIETY))
+
     def test_written(self):
         self.try_all(buffers.compare_written)
 
@@ -69,12 +80,9 @@ class Buffers(unittest.TestCase):
         self.try_all(buffers.compare_out_of_moments)
 
 
-def exact(wanted):
-    """The kind that is wanted."""
-    fields = [(name, buffers.NUMBERS[form]) for name, form, _ in wanted[0]]
-    if fields[0][0] == "":
-        return buffers.kind_of_number(wanted[0][0][1], buffers.NATIVE)
-    return buffers.kind_of_structure(fields, buffers.BASES[buffers.NATIVE], buffers.NATIVE)
+def some_kinds(source):
+    """Kinds of items for each that calls take, and that itself."""
+    return {each: [*(buffers.some_kind(source, each) for _ in range(VARIETY)), column_buffers.exact_kind(each)] for each in KINDS}
 
 
 if __name__ == "__main__":

@@ -2,9 +2,10 @@
 
 from array import array
 from datetime import date, datetime, timedelta
-from typing import List, Tuple
+from typing import List, Optional, Tuple
 
 import muxandu
+from muxandu import columns
 from muxandu import Date, Duration, OffsetDateTime, PlainDateTime, Time, Timestamp, Unit, UtcDateTime, UtcOffset
 
 at: Timestamp = Timestamp.from_rfc3339("2024-02-29T12:34:56Z") + timedelta(days=1)
@@ -23,6 +24,7 @@ each, statuses = muxandu.date_times_from_each_second([0, None, float("nan"), 1],
 numbers = muxandu.seconds_from_date_times(muxandu.date_times_from_seconds(array("q", [0]), 3_600))
 parts_of_texts = muxandu.date_times_from_rfc3339(["1970-01-01T00:00:00Z", b"1970-01-01T00:00:00Z"])
 local_texts: List[str] = muxandu.rfc3339_from_date_times([shown, again])
+texts_or_none: List[Optional[str]] = muxandu.rfc3339_from_date_times([shown, None], "coerce")
 day_numbers = muxandu.days_from_dates(muxandu.dates_from_days(memoryview(array("i", [0]))))
 read: Tuple[OffsetDateTime, Date, UtcOffset] = (
     OffsetDateTime.from_text(str(shown)),
@@ -35,6 +37,20 @@ order: bool = at < later and shown <= again and utc != shown and length > timede
 instants: bool = at < shown and shown >= utc and utc > at and at <= utc
 lengths: Tuple[Duration, Duration, Duration] = (at - shown, shown - utc, utc - at)
 refusal: str = muxandu.RefusedMonth.name
+first_parts: muxandu.DateTimeParts = muxandu.date_times_from_seconds([0])[0]
+first_date: muxandu.DateParts = muxandu.dates_from_days(range(3))[0]
+first_stamp: muxandu.TimestampParts = muxandu.timestamps_from_rfc3339(["1970-01-01T00:00:00Z"])[0]
+whole: int = muxandu.seconds_from_date_times([shown])[0]
+filled: "array[int]" = muxandu.seconds_from_date_times([shown], array("q", [0]))
+status: int = statuses[0]
+rows = columns.moments_from_rfc3339(["1970-01-01T00:00:00Z", "1970-01-01T00:00:00+01:00"])
+row: columns.MomentParts = columns.moments_add(rows, Duration(1))[0]
+apart_by: columns.DurationParts = columns.moments_difference(rows, shown)[0]
+orders: List[int] = columns.moments_compare(rows, rows).tolist()
+moved, told = columns.each_moment_to_offset([shown, None], UtcOffset.UTC)
+moved_row, told_status = columns.each_moment_add(moved, [Duration(1), timedelta(1)])[0][0], told[1] == muxandu.MISSING
+plain_rows, _ = columns.moments_from_each_plain_text(["1970-01-01T00:00:00", None], [0, UtcOffset.UTC])
+full: Tuple[Time, UtcOffset] = Time.from_text_with_offset("12:34:56Z")
 
 
 class Stamp(Timestamp):
@@ -65,3 +81,13 @@ muxandu.rfc3339_from_timestamps(["1970-01-01T00:00:00Z"])  # wrong
 muxandu.timestamps_from_rfc3339([5])  # wrong
 Date.from_text(5)  # wrong
 one, two, three = muxandu.seconds_from_each_date_time([shown])  # wrong
+first_parts + 1  # wrong
+day_of: int = muxandu.dates_from_days([0])[0]  # wrong
+stamps: List[str] = muxandu.timestamps_from_rfc3339(["1970-01-01T00:00:00Z"])  # wrong
+words: List[str] = muxandu.seconds_from_date_times([shown]).tolist()  # wrong
+columns.moments_add(rows, 5)  # wrong
+columns.moments_to_offset(rows, "Z")  # wrong
+columns.moments_truncate([at], Unit.DAY)  # wrong
+columns.moments_from_rfc3339([5])  # wrong
+status_text: str = columns.each_moment_add(rows, Duration(1))[1][0]  # wrong
+other_row: columns.DurationParts = columns.moments_add(rows, Duration(1))[0]  # wrong

@@ -1,171 +1,29 @@
-"""Dates and times, proved: the calls of the Rattle crate muxandu_c.
+"""The calls of the shared library for tests, through ctypes.
 
 Made by make/bindings from crates/muxandu_c/src. Do not edit.
-
-What a caller must see to, since nothing checks it:
-- each pointer is not NULL, but one to items whose count is 0, and is aligned for what it points to;
-- a pointer to items stands for as many as the count after it says, of at most PTRDIFF_MAX bytes together;
-- what a pointer that is not const points to is reached in no other way during the call: it is no part of what
-  another pointer points to, and no other thread reads or writes it. What a const pointer points to is not written
-  meanwhile;
-- the library is not older than these declarations: muxandu_version() is at least MUXANDU_VERSION.
-Any number may stand in any field: each call tests what it reads. Structs go in by value, so that the result may be
-written over one of them, as in muxandu_date_time_to_offset(at, 0, &at). A struct has bytes between its fields, or after
-them: compare fields, not bytes.
-
-A call keeps nothing, shares nothing, takes no memory, waits for nothing and ends: it may be made from any thread, at
-the same time as others, from a signal handler and after fork.
-
-A call that returns a status returns 0, MUXANDU_OK, where it has written its result, and else the number of what it
-refuses, whose name comes after MUXANDU_REFUSED_; then what `out` points to is as it was. A call that returns a
-MuxanduBatch has written as many items as it counts, and what lies behind them in `out` is as it was.
-
-What stays, as long as the library is libmuxandu.so.0: names, numbers, structs, the parameters of calls and what they
-give. A later version adds calls, constants and statuses, whose numbers come after those that there are. A name that is
-to go has the attribute `deprecated` first, which says what to use, for one year and one version at least; it goes only
-where the number of the library goes up.
 """
 
 import ctypes
 
-# Nothing is refused.
-OK = 0
+from muxandu._structures import (
+    MuxanduBatch,
+    MuxanduDate,
+    MuxanduDateReads,
+    MuxanduDateTime,
+    MuxanduDuration,
+    MuxanduItem,
+    MuxanduMoment,
+    MuxanduOffset,
+    MuxanduOrdinalDate,
+    MuxanduOutcome,
+    MuxanduSpan,
+    MuxanduTime,
+    MuxanduTimestamp,
+    MuxanduWeekDate,
+)
 
-
-def laid_out(structure, size, **places):
-    """Stops where a structure has not the size, or a field of it not the place, that the library has."""
-    found = {name: getattr(structure, name).offset for name in places}
-    if (ctypes.sizeof(structure), found) != (size, places):
-        raise ImportError(f"{structure.__name__} is not laid out as the library has it: {found}")
-
-
-class Refused:
-    """The error of a call. Its status is this number, or 0 if it succeeds. The comment of each call lists its errors
-    in the order of its tests; it returns the first."""
-
-    # A year before -999999 or after 999999.
-    YEAR = 1
-    # A month that is not 1 to 12.
-    MONTH = 2
-    # A day that is not 1 to 31.
-    DAY = 3
-    # A day of 1 to 31 that its month does not have in its year.
-    DAY_OF_MONTH = 4
-    # A day of the year that is not 1 to 366.
-    ORDINAL = 5
-    # Day 366 of a year that has 365.
-    ORDINAL_OF_YEAR = 6
-    # An ISO week that is not 1 to 53.
-    WEEK = 7
-    # Week 53 of an ISO year that has 52.
-    WEEK_OF_YEAR = 8
-    # A number that is not a day of the week.
-    WEEKDAY = 9
-    # An hour that is not 0 to 23.
-    HOUR = 10
-    # A minute that is not 0 to 59.
-    MINUTE = 11
-    # A second that is not 0 to 59.
-    SECOND = 12
-    # A nanosecond that is not 0 to 999999999.
-    NANOSECOND = 13
-    # An offset that is not -93599 to 93599 seconds, or whose part in seconds is not -59 to 59.
-    OFFSET_SECONDS = 14
-    # A Unix second, or a count of another unit from 1970-01-01, outside the range of timestamps.
-    TIMESTAMP = 15
-    # A day number that is not -365961662 to 364522971, or a Julian day outside the range of dates.
-    DAY_NUMBER = 16
-    # A duration whose whole seconds do not fit in 64 bits.
-    DURATION = 17
-    # A number that is not a unit, or not a part of a date-time.
-    UNIT = 18
-    # A result that is outside the range, or that its type cannot hold.
-    RESULT = 19
-    # A buffer that is too short for what the call writes.
-    BUFFER = 20
-    # A span that does not lie in the block of texts.
-    SPAN = 21
-    # A text that does not have the form that the call reads, such as a date-time of RFC 3339.
-    SYNTAX = 22
-    # Hours of an offset that are out of range: above 23 in a text of RFC 3339, not -25 to 25 elsewhere.
-    OFFSET_HOUR = 23
-    # Minutes of an offset that are not -59 to 59.
-    OFFSET_MINUTE = 24
-    # A value that has no text in RFC 3339: a year outside 0 to 9999, or an offset with seconds or beyond 23:59.
-    NO_TEXT = 25
-
-
-# The name of each status of a refusal, and what it says.
-REFUSALS = {
-    1: ("YEAR", "A year before -999999 or after 999999."),
-    2: ("MONTH", "A month that is not 1 to 12."),
-    3: ("DAY", "A day that is not 1 to 31."),
-    4: ("DAY_OF_MONTH", "A day of 1 to 31 that its month does not have in its year."),
-    5: ("ORDINAL", "A day of the year that is not 1 to 366."),
-    6: ("ORDINAL_OF_YEAR", "Day 366 of a year that has 365."),
-    7: ("WEEK", "An ISO week that is not 1 to 53."),
-    8: ("WEEK_OF_YEAR", "Week 53 of an ISO year that has 52."),
-    9: ("WEEKDAY", "A number that is not a day of the week."),
-    10: ("HOUR", "An hour that is not 0 to 23."),
-    11: ("MINUTE", "A minute that is not 0 to 59."),
-    12: ("SECOND", "A second that is not 0 to 59."),
-    13: ("NANOSECOND", "A nanosecond that is not 0 to 999999999."),
-    14: ("OFFSET_SECONDS", "An offset that is not -93599 to 93599 seconds, or whose part in seconds is not -59 to 59."),
-    15: ("TIMESTAMP", "A Unix second, or a count of another unit from 1970-01-01, outside the range of timestamps."),
-    16: ("DAY_NUMBER", "A day number that is not -365961662 to 364522971, or a Julian day outside the range of dates."),
-    17: ("DURATION", "A duration whose whole seconds do not fit in 64 bits."),
-    18: ("UNIT", "A number that is not a unit, or not a part of a date-time."),
-    19: ("RESULT", "A result that is outside the range, or that its type cannot hold."),
-    20: ("BUFFER", "A buffer that is too short for what the call writes."),
-    21: ("SPAN", "A span that does not lie in the block of texts."),
-    22: ("SYNTAX", "A text that does not have the form that the call reads, such as a date-time of RFC 3339."),
-    23: ("OFFSET_HOUR", "Hours of an offset that are out of range: above 23 in a text of RFC 3339, not -25 to 25 elsewhere."),
-    24: ("OFFSET_MINUTE", "Minutes of an offset that are not -59 to 59."),
-    25: ("NO_TEXT", "A value that has no text in RFC 3339: a year outside 0 to 9999, or an offset with seconds or beyond 23:59."),
-}
-
-
-class Unit:
-    """A unit of time. A call takes its number."""
-
-    # A day.
-    DAY = 1
-    # An hour.
-    HOUR = 2
-    # A minute.
-    MINUTE = 3
-    # A second.
-    SECOND = 4
-    # A millisecond.
-    MILLISECOND = 5
-    # A microsecond.
-    MICROSECOND = 6
-    # A nanosecond.
-    NANOSECOND = 7
-
-
-class Part:
-    """A part of a date-time. A call takes its number."""
-
-    # The year, -999999 to 999999.
-    YEAR = 1
-    # The month, 1 to 12.
-    MONTH = 2
-    # The day of the month, 1 to 31.
-    DAY = 3
-    # The day of the year, 1 to 366.
-    ORDINAL = 4
-    # The hour, 0 to 23.
-    HOUR = 5
-    # The minute, 0 to 59.
-    MINUTE = 6
-    # The second, 0 to 59.
-    SECOND = 7
-    # The nanosecond of the second, 0 to 999999999.
-    NANOSECOND = 8
-
-# The version of these declarations: ten thousand times the first number, plus a hundred times the second, plus the
-# third.
+# The version of these declarations: ten thousand times the first number, plus a hundred times the
+# second, plus the third.
 VERSION = 100
 
 # The first year.
@@ -207,178 +65,8 @@ TEXT_ROOM = 42
 # The bytes of the longest text that muxandu_status_text writes. Use it as the size of a buffer.
 STATUS_ROOM = 128
 
-
-class MuxanduTimestamp(ctypes.Structure):
-    """An instant: a Unix second and a nanosecond of that second, before 1970 too."""
-
-    _fields_ = [
-        # The seconds from 1970-01-01 0:00 UTC, rounded down: -31619087596800 to 31494784780799.
-        ("seconds", ctypes.c_int64),
-        # The nanoseconds past that second, 0 to 999999999.
-        ("nanoseconds", ctypes.c_uint32),
-    ]
-
-
-laid_out(MuxanduTimestamp, 16, seconds=0, nanoseconds=8)
-
-
-class MuxanduDuration(ctypes.Structure):
-    """A duration: the sum of its seconds and its nanoseconds. A call writes both with one sign, and less than a
-    second of nanoseconds. It takes any whose sum is at least -2^63 seconds - 999999999 ns and at most 2^63 - 1
-    seconds + 999999999 ns."""
-
-    _fields_ = [
-        # The seconds.
-        ("seconds", ctypes.c_int64),
-        # The nanoseconds to add to the seconds.
-        ("nanoseconds", ctypes.c_int32),
-    ]
-
-
-laid_out(MuxanduDuration, 16, seconds=0, nanoseconds=8)
-
-
-class MuxanduDateTime(ctypes.Structure):
-    """A date and a time of day in the proleptic Gregorian calendar, and their offset from UTC."""
-
-    _fields_ = [
-        # The year, -999999 to 999999; year 0 comes before year 1.
-        ("year", ctypes.c_int32),
-        # The month, 1 to 12.
-        ("month", ctypes.c_uint8),
-        # The day of the month, 1 to 31 and no more than the month has.
-        ("day", ctypes.c_uint8),
-        # The hour, 0 to 23.
-        ("hour", ctypes.c_uint8),
-        # The minute, 0 to 59.
-        ("minute", ctypes.c_uint8),
-        # The second, 0 to 59: there are no leap seconds.
-        ("second", ctypes.c_uint8),
-        # The nanosecond of the second, 0 to 999999999.
-        ("nanosecond", ctypes.c_uint32),
-        # The offset: the seconds by which local clocks are ahead of UTC, -93599 to 93599.
-        ("offset_seconds", ctypes.c_int32),
-    ]
-
-
-laid_out(MuxanduDateTime, 20, year=0, month=4, day=5, hour=6, minute=7, second=8, nanosecond=12, offset_seconds=16)
-
-
-class MuxanduDate(ctypes.Structure):
-    """A date: a year, a month and a day of the month."""
-
-    _fields_ = [
-        # The year, -999999 to 999999.
-        ("year", ctypes.c_int32),
-        # The month, 1 to 12.
-        ("month", ctypes.c_uint8),
-        # The day of the month, 1 to 31 and no more than the month has.
-        ("day", ctypes.c_uint8),
-    ]
-
-
-laid_out(MuxanduDate, 8, year=0, month=4, day=5)
-
-
-class MuxanduOrdinalDate(ctypes.Structure):
-    """A date as a year and a day of the year."""
-
-    _fields_ = [
-        # The year, -999999 to 999999.
-        ("year", ctypes.c_int32),
-        # The day of the year, 1 to 365, or 366 in a leap year.
-        ("ordinal", ctypes.c_uint16),
-    ]
-
-
-laid_out(MuxanduOrdinalDate, 8, year=0, ordinal=4)
-
-
-class MuxanduWeekDate(ctypes.Structure):
-    """A date as an ISO year, an ISO week and a day of the week (ISO 8601). The week belongs to the year of its
-    Thursday."""
-
-    _fields_ = [
-        # The ISO year, -999999 to 999999.
-        ("year", ctypes.c_int32),
-        # The ISO week, 1 to 52, or 53 in a year of 53 weeks.
-        ("week", ctypes.c_uint8),
-        # The day of the week, 0 for Monday to 6 for Sunday.
-        ("weekday", ctypes.c_uint8),
-    ]
-
-
-laid_out(MuxanduWeekDate, 8, year=0, week=4, weekday=5)
-
-
-class MuxanduSpan(ctypes.Structure):
-    """The place of a text in a block of texts."""
-
-    _fields_ = [
-        # The index of its first byte in the block.
-        ("start", ctypes.c_size_t),
-        # The number of its bytes.
-        ("length", ctypes.c_size_t),
-    ]
-
-
-laid_out(MuxanduSpan, 16, start=0, length=8)
-
-
-class MuxanduBatch(ctypes.Structure):
-    """The result of a call with many items. It converts them in their order, up to the first that it rejects."""
-
-    _fields_ = [
-        # The number of items that it converted and wrote.
-        ("count", ctypes.c_size_t),
-        # 0 if these are all items, else the error of the next.
-        ("status", ctypes.c_uint32),
-    ]
-
-
-laid_out(MuxanduBatch, 16, count=0, status=8)
-
-
-class MuxanduOffset(ctypes.Structure):
-    """An offset from UTC as hours, minutes and seconds, all of one sign."""
-
-    _fields_ = [
-        # The hours, -25 to 25.
-        ("hours", ctypes.c_int8),
-        # The minutes, -59 to 59.
-        ("minutes", ctypes.c_int8),
-        # The seconds, -59 to 59.
-        ("seconds", ctypes.c_int8),
-    ]
-
-
-laid_out(MuxanduOffset, 3, hours=0, minutes=1, seconds=2)
-
-
-class MuxanduDateReads(ctypes.Structure):
-    """Every reading of a date: its day numbers, its day of the year and of the week, and its weeks."""
-
-    _fields_ = [
-        # The day number, 0 on 1970-01-01.
-        ("day", ctypes.c_int32),
-        # The Julian day, 2440588 on 1970-01-01.
-        ("julian_day", ctypes.c_int32),
-        # The year of the ISO week, which is the year of its Thursday.
-        ("iso_year", ctypes.c_int32),
-        # The day of the year, 1 to 366.
-        ("ordinal", ctypes.c_uint16),
-        # The ISO week, 1 to 53.
-        ("iso_week", ctypes.c_uint8),
-        # The day of the week, 0 for Monday to 6 for Sunday.
-        ("weekday", ctypes.c_uint8),
-        # The number of Sundays in the year up to and including the date, 0 to 53.
-        ("sunday_based_week", ctypes.c_uint8),
-        # The number of Mondays in the year up to and including the date, 0 to 53.
-        ("monday_based_week", ctypes.c_uint8),
-    ]
-
-
-laid_out(MuxanduDateReads, 20, day=0, julian_day=4, iso_year=8, ordinal=12, iso_week=14, weekday=15, sunday_based_week=16, monday_based_week=17)
+# The most items of a description.
+DESCRIPTION_ROOM = 128
 
 
 # The calls: what each takes, what it returns, and what it says. Items go as an address and their count.
@@ -618,6 +306,16 @@ CALLS = {
         ctypes.c_uint32,
         "The date in an RFC 3339 text such as `1985-04-12`, with nothing before or after it. Errors: SYNTAX if the text has another form, else MONTH, DAY or DAY_OF_MONTH for the first part out of range.",
     ),
+    "muxandu_description_parse": (
+        [ctypes.c_uint32, ctypes.c_void_p, ctypes.c_size_t, ctypes.c_void_p, ctypes.c_size_t],
+        MuxanduOutcome,
+        "The items of a description, such as `[year]-[month]-[day]`, in version 1 or 2 of its language: docs/reference/FORMATS.md has both. Keep the items for the calls that take them. `size` is their number. Errors, in this order: UNIT if the version is neither 1 nor 2. SYNTAX if the text is no description, with the place and the reason of its first fault: it has at most 128 items. BUFFER if `items` has room for fewer. The call then writes nothing.",
+    ),
+    "muxandu_description_text": (
+        [ctypes.c_uint32, ctypes.c_void_p, ctypes.c_size_t, ctypes.c_void_p, ctypes.c_size_t],
+        MuxanduOutcome,
+        "Writes the text of items as a description in version 1 or 2 of its language to the front of `buffer`. `size` is its length. muxandu_description_parse reads it back as the same items. Errors, in this order: UNIT if the version is neither 1 nor 2. UNIT if a number is no item, or for more than 128 items. NO_TEXT or BUFFER, with the index of the item and the reason. The call can change `buffer` then.",
+    ),
     "muxandu_date_time_to_rfc3339_digits": (
         [MuxanduDateTime, ctypes.c_uint32, ctypes.c_void_p, ctypes.c_size_t, ctypes.POINTER(ctypes.c_size_t)],
         ctypes.c_uint32,
@@ -632,6 +330,41 @@ CALLS = {
         [ctypes.c_void_p, ctypes.c_size_t, ctypes.c_void_p, ctypes.c_size_t, ctypes.c_void_p, ctypes.c_size_t],
         MuxanduBatch,
         "The Unix second of each date-time, rounded down, and the status of muxandu_timestamp_from_date_time for it. If an item fails, its place in `out` keeps its contents, and the call continues with the next. `count` is the number of converted items. Errors: BUFFER if `out` or `statuses` has fewer items than `date_times`; the call then writes nothing.",
+    ),
+    "muxandu_date_times_from_each_moment": (
+        [ctypes.c_void_p, ctypes.c_size_t, ctypes.c_void_p, ctypes.c_size_t, ctypes.c_void_p, ctypes.c_size_t],
+        MuxanduBatch,
+        "The date-time of each moment, at its own offset, and the status of muxandu_date_time_from_timestamp for it. If an item fails, its place in `out` keeps its contents, and the call continues with the next. `count` is the number of converted items. Errors: BUFFER if `out` or `statuses` has fewer items than `moments`; the call then writes nothing.",
+    ),
+    "muxandu_moments_from_each_date_time": (
+        [ctypes.c_void_p, ctypes.c_size_t, ctypes.c_void_p, ctypes.c_size_t, ctypes.c_void_p, ctypes.c_size_t],
+        MuxanduBatch,
+        "The moment of each date-time, and the status of muxandu_timestamp_from_date_time for it. If an item fails, its place in `out` keeps its contents, and the call continues with the next. `count` is the number of converted items. Errors: BUFFER if `out` or `statuses` has fewer items than `date_times`; the call then writes nothing.",
+    ),
+    "muxandu_each_moment_to_offset": (
+        [ctypes.c_void_p, ctypes.c_size_t, ctypes.c_int32, ctypes.c_void_p, ctypes.c_size_t, ctypes.c_void_p, ctypes.c_size_t],
+        MuxanduBatch,
+        "The same instant of each moment at another offset in seconds, and the status of muxandu_date_time_to_offset for it. If an item fails, its place in `out` keeps its contents, and the call continues with the next. `count` is the number of converted items. Errors: BUFFER if `out` or `statuses` has fewer items than `moments`; the call then writes nothing.",
+    ),
+    "muxandu_each_moment_truncate": (
+        [ctypes.c_void_p, ctypes.c_size_t, ctypes.c_uint32, ctypes.c_void_p, ctypes.c_size_t, ctypes.c_void_p, ctypes.c_size_t],
+        MuxanduBatch,
+        "Each moment, rounded down to a unit by its own clocks, and the status of muxandu_date_time_truncate for it. If an item fails, its place in `out` keeps its contents, and the call continues with the next. `count` is the number of converted items. Errors: BUFFER if `out` or `statuses` has fewer items than `moments`; the call then writes nothing.",
+    ),
+    "muxandu_each_moment_add_months": (
+        [ctypes.c_void_p, ctypes.c_size_t, ctypes.c_int32, ctypes.c_void_p, ctypes.c_size_t, ctypes.c_void_p, ctypes.c_size_t],
+        MuxanduBatch,
+        "Each moment a number of months later, or earlier if it is negative, at the same local time and offset; in a shorter month on its last day, and the status of muxandu_date_add_months for it. If an item fails, its place in `out` keeps its contents, and the call continues with the next. `count` is the number of converted items. Errors: BUFFER if `out` or `statuses` has fewer items than `moments`; the call then writes nothing.",
+    ),
+    "muxandu_moments_from_each_rfc3339": (
+        [ctypes.c_void_p, ctypes.c_size_t, ctypes.c_void_p, ctypes.c_size_t, ctypes.c_void_p, ctypes.c_size_t, ctypes.c_void_p, ctypes.c_size_t],
+        MuxanduBatch,
+        "The instant and the offset in each text of RFC 3339, and the status of muxandu_date_time_from_rfc3339 for it. The status is SPAN for a span outside the block `texts`. If an item fails, its place in `out` keeps its contents, and the call continues with the next. `count` is the number of converted items. Errors: BUFFER if `out` or `statuses` has fewer items than `spans`; the call then writes nothing.",
+    ),
+    "muxandu_each_date_time_to_rfc3339": (
+        [ctypes.c_void_p, ctypes.c_size_t, ctypes.c_void_p, ctypes.c_size_t, ctypes.c_void_p, ctypes.c_size_t, ctypes.c_void_p, ctypes.c_size_t],
+        MuxanduBatch,
+        "Writes the text of each date-time into the block `texts`, one after the other with nothing between, its place to `spans`, and the status of muxandu_date_time_to_rfc3339 for it. The status is BUFFER if the rest of `texts` is too short. If an item fails, its span is empty, and the call continues with the next. `count` is the number of written texts. Errors: BUFFER if `spans` or `statuses` has fewer items than `date_times`; the call then writes nothing.",
     ),
     "muxandu_date_time_to_rfc3339": (
         [MuxanduDateTime, ctypes.c_void_p, ctypes.c_size_t, ctypes.POINTER(ctypes.c_size_t)],
@@ -658,6 +391,26 @@ CALLS = {
         ctypes.c_uint32,
         "The instant of an RFC 3339 text, as muxandu_date_time_from_rfc3339 reads it. Errors: those of that call.",
     ),
+    "muxandu_field_spans": (
+        [ctypes.c_void_p, ctypes.c_size_t, ctypes.c_size_t, ctypes.c_uint8, ctypes.c_uint8, ctypes.c_void_p, ctypes.c_size_t],
+        MuxanduBatch,
+        "The place of a field in each line of the block `texts`, and the number of lines in `count`. Fields count from 0. A field ends before `separator` or before the end of its line. A field that begins with `quote` ends after the next single quote, and may contain separators and newlines. Its span has the bytes between the two quotes. Two quotes in a row within it are part of the field, and its span has both. If other bytes follow the last quote, the span has all bytes of the field. Each line ends with a newline, or with a carriage return and a newline. The last line may end with the block. A line with fewer fields has an empty span at its end. If `quote` equals `separator`, no field has quotes. Errors: BUFFER if `out` has fewer items than there are lines; the call then writes those of the first lines.",
+    ),
+    "muxandu_format_items": (
+        [ctypes.c_uint32, ctypes.c_void_p, ctypes.c_size_t, MuxanduDateTime, ctypes.c_void_p, ctypes.c_size_t, ctypes.POINTER(ctypes.c_size_t)],
+        ctypes.c_uint32,
+        "Writes the text of a date-time as the items say to the front of `buffer`, and its length to `size`. The text has at most 64 bytes, all ASCII. `kind` says which of its parts the value has. Errors, in this order: UNIT if a number is no item, or for more than 128 items. Those of the date-time. UNIT if `kind` is none. NO_TEXT if the kind lacks a component of the items. NO_TEXT for a text of more than 64 bytes, or with one that is not ASCII. BUFFER if the text is longer than `buffer`: `size` is then its length, and `buffer` is unchanged.",
+    ),
+    "muxandu_format": (
+        [ctypes.c_uint32, ctypes.c_void_p, ctypes.c_size_t, MuxanduDateTime, ctypes.c_void_p, ctypes.c_size_t, ctypes.POINTER(ctypes.c_size_t)],
+        ctypes.c_uint32,
+        "Writes the text of a date-time by a description in version 2 of its language, such as `[year]-[month]-[day]`, as muxandu_format_items does. Errors, in this order: SYNTAX if the text is no description: muxandu_description_parse returns the place and the reason. Those of muxandu_format_items.",
+    ),
+    "muxandu_format_all": (
+        [ctypes.c_uint32, ctypes.c_void_p, ctypes.c_size_t, ctypes.c_void_p, ctypes.c_size_t, ctypes.c_void_p, ctypes.c_size_t, ctypes.c_void_p, ctypes.c_size_t],
+        MuxanduBatch,
+        "Writes the text of each date-time as the items say into the block `texts`, one after the other with nothing between, and its place to `spans`. It stops at the first that muxandu_format_items rejects, with BUFFER if the rest of `texts` is too short. Errors, in this order: UNIT if a number is no item, or for more than 128 items. BUFFER if `spans` has fewer items than `date_times`. The call then writes nothing. Else that of the first rejected item.",
+    ),
     "muxandu_date_time_from_rfc3339_front": (
         [ctypes.c_void_p, ctypes.c_size_t, ctypes.POINTER(MuxanduDateTime), ctypes.POINTER(ctypes.c_size_t)],
         ctypes.c_uint32,
@@ -668,10 +421,160 @@ CALLS = {
         ctypes.c_size_t,
         "The index of the fault in a text that fails with SYNTAX: 10 for `1985-04-12_23:20:50Z`. No RFC 3339 date-time continues with the byte at that index; or the text ends there, too early. For a text that has the form it is the length of the text.",
     ),
+    "muxandu_full_time_from_rfc3339": (
+        [ctypes.c_void_p, ctypes.c_size_t, ctypes.POINTER(MuxanduTime), ctypes.POINTER(ctypes.c_int32)],
+        ctypes.c_uint32,
+        "The time of day and the offset in an RFC 3339 text such as `12:34:56.5+01:00`, with nothing before or after them. The call drops digits past the ninth of the fraction. Errors: SYNTAX if the text has another form, else HOUR, MINUTE, SECOND, OFFSET_HOUR or OFFSET_MINUTE for the first part out of range.",
+    ),
+    "muxandu_full_time_fault": (
+        [ctypes.c_void_p, ctypes.c_size_t],
+        ctypes.c_size_t,
+        "The index of the fault in a text that muxandu_full_time_from_rfc3339 rejects with SYNTAX, as muxandu_plain_fault returns it: 10 for `23:20:50+1:00`.",
+    ),
+    "muxandu_offset_from_rfc3339": (
+        [ctypes.c_void_p, ctypes.c_size_t, ctypes.POINTER(ctypes.c_int32)],
+        ctypes.c_uint32,
+        "The seconds of the offset in an RFC 3339 text such as `+05:30` or `Z`, with nothing before or after it. Errors: SYNTAX if the text has another form, else OFFSET_HOUR or OFFSET_MINUTE for the first part out of range.",
+    ),
     "muxandu_date_time_from_rfc3339_leap": (
         [ctypes.c_void_p, ctypes.c_size_t, ctypes.POINTER(MuxanduDateTime), ctypes.POINTER(ctypes.c_uint8)],
         ctypes.c_uint32,
         "The date-time and the offset in a text, as muxandu_date_time_from_rfc3339 reads them, also with a second of 60, as in `2016-12-31T23:59:60Z`. A leap second is valid only as the last second of a month in UTC. It becomes the last nanosecond before the next month, for any fraction; `is_leap` is then 1, else 0. So values keep the order of their texts. Errors: those of that call, with SECOND above 60; then SECOND if no month ends with a second of 60.",
+    ),
+    "muxandu_date_times_from_local": (
+        [ctypes.c_void_p, ctypes.c_size_t, ctypes.c_void_p, ctypes.c_size_t, ctypes.c_int32, ctypes.c_void_p, ctypes.c_size_t],
+        MuxanduBatch,
+        "The date-time in each text of RFC 3339, with or without an offset, up to the first that muxandu_date_time_from_local rejects at `offset_seconds`. A span outside the block `texts` fails with SPAN. Errors: BUFFER if `out` has fewer items than `spans` (the call then writes nothing), else that of the first rejected item.",
+    ),
+    "muxandu_date_times_from_each_local": (
+        [ctypes.c_void_p, ctypes.c_size_t, ctypes.c_void_p, ctypes.c_size_t, ctypes.c_int32, ctypes.c_void_p, ctypes.c_size_t, ctypes.c_void_p, ctypes.c_size_t],
+        MuxanduBatch,
+        "The date-time in each text of RFC 3339, with or without an offset, and the status of muxandu_date_time_from_local for it at `offset_seconds`. The status is SPAN for a span outside the block `texts`. If an item fails, its place in `out` keeps its contents, and the call continues with the next. `count` is the number of converted items. Errors: BUFFER if `out` or `statuses` has fewer items than `spans`; the call then writes nothing.",
+    ),
+    "muxandu_date_times_from_local_at": (
+        [ctypes.c_void_p, ctypes.c_size_t, ctypes.c_void_p, ctypes.c_size_t, ctypes.c_void_p, ctypes.c_size_t, ctypes.c_void_p, ctypes.c_size_t],
+        MuxanduBatch,
+        "The date-time in each text of RFC 3339, with or without an offset, up to the first that muxandu_date_time_from_local rejects at the offset at its place in `offsets`. A span outside the block `texts` fails with SPAN. Errors: BUFFER if `out` or `offsets` has fewer items than `spans` (the call then writes nothing), else that of the first rejected item.",
+    ),
+    "muxandu_date_times_from_each_local_at": (
+        [ctypes.c_void_p, ctypes.c_size_t, ctypes.c_void_p, ctypes.c_size_t, ctypes.c_void_p, ctypes.c_size_t, ctypes.c_void_p, ctypes.c_size_t, ctypes.c_void_p, ctypes.c_size_t],
+        MuxanduBatch,
+        "The date-time in each text of RFC 3339, with or without an offset, and the status of muxandu_date_time_from_local for it at the offset at its place in `offsets`. The status is SPAN for a span outside the block `texts`. If an item fails, its place in `out` keeps its contents, and the call continues with the next. `count` is the number of converted items. Errors: BUFFER if `out`, `offsets` or `statuses` has fewer items than `spans`; the call then writes nothing.",
+    ),
+    "muxandu_moments_from_local": (
+        [ctypes.c_void_p, ctypes.c_size_t, ctypes.c_void_p, ctypes.c_size_t, ctypes.c_int32, ctypes.c_void_p, ctypes.c_size_t],
+        MuxanduBatch,
+        "The moment in each text of RFC 3339, with or without an offset, up to the first that muxandu_date_time_from_local rejects at `offset_seconds`. A span outside the block `texts` fails with SPAN. Errors: BUFFER if `out` has fewer items than `spans` (the call then writes nothing), else that of the first rejected item.",
+    ),
+    "muxandu_moments_from_each_local": (
+        [ctypes.c_void_p, ctypes.c_size_t, ctypes.c_void_p, ctypes.c_size_t, ctypes.c_int32, ctypes.c_void_p, ctypes.c_size_t, ctypes.c_void_p, ctypes.c_size_t],
+        MuxanduBatch,
+        "The moment in each text of RFC 3339, with or without an offset, and the status of muxandu_date_time_from_local for it at `offset_seconds`. The status is SPAN for a span outside the block `texts`. If an item fails, its place in `out` keeps its contents, and the call continues with the next. `count` is the number of converted items. Errors: BUFFER if `out` or `statuses` has fewer items than `spans`; the call then writes nothing.",
+    ),
+    "muxandu_moments_from_local_at": (
+        [ctypes.c_void_p, ctypes.c_size_t, ctypes.c_void_p, ctypes.c_size_t, ctypes.c_void_p, ctypes.c_size_t, ctypes.c_void_p, ctypes.c_size_t],
+        MuxanduBatch,
+        "The moment in each text of RFC 3339, with or without an offset, up to the first that muxandu_date_time_from_local rejects at the offset at its place in `offsets`. A span outside the block `texts` fails with SPAN. Errors: BUFFER if `out` or `offsets` has fewer items than `spans` (the call then writes nothing), else that of the first rejected item.",
+    ),
+    "muxandu_moments_from_each_local_at": (
+        [ctypes.c_void_p, ctypes.c_size_t, ctypes.c_void_p, ctypes.c_size_t, ctypes.c_void_p, ctypes.c_size_t, ctypes.c_void_p, ctypes.c_size_t, ctypes.c_void_p, ctypes.c_size_t],
+        MuxanduBatch,
+        "The moment in each text of RFC 3339, with or without an offset, and the status of muxandu_date_time_from_local for it at the offset at its place in `offsets`. The status is SPAN for a span outside the block `texts`. If an item fails, its place in `out` keeps its contents, and the call continues with the next. `count` is the number of converted items. Errors: BUFFER if `out`, `offsets` or `statuses` has fewer items than `spans`; the call then writes nothing.",
+    ),
+    "muxandu_date_time_from_plain": (
+        [ctypes.c_void_p, ctypes.c_size_t, ctypes.POINTER(MuxanduDateTime)],
+        ctypes.c_uint32,
+        "The date and the time of day in an RFC 3339 text without an offset, with nothing before or after it, such as `2024-02-29T12:34:56.5`. The call sets `offset_seconds` to 0, and reads all else as muxandu_date_time_from_rfc3339 does. Errors: SYNTAX if the text has another form, else that of the first part out of range: MONTH, DAY or DAY_OF_MONTH, HOUR, MINUTE, SECOND.",
+    ),
+    "muxandu_date_time_from_local": (
+        [ctypes.c_void_p, ctypes.c_size_t, ctypes.c_int32, ctypes.POINTER(MuxanduDateTime)],
+        ctypes.c_uint32,
+        "The date-time in an RFC 3339 text with or without an offset. The call reads a text with an offset as muxandu_date_time_from_rfc3339 does. It reads a text without an offset as muxandu_date_time_from_plain does, and sets its offset to `offset_seconds`. Errors: OFFSET_SECONDS, SYNTAX if the text has another form, else that of the first part out of range: MONTH, DAY or DAY_OF_MONTH, HOUR, MINUTE, SECOND, OFFSET_HOUR, OFFSET_MINUTE.",
+    ),
+    "muxandu_time_from_rfc3339": (
+        [ctypes.c_void_p, ctypes.c_size_t, ctypes.POINTER(MuxanduTime)],
+        ctypes.c_uint32,
+        "The time of day in an RFC 3339 text such as `12:34:56.5`, with nothing before or after it. The call drops digits past the ninth of the fraction. Errors: SYNTAX if the text has another form, else HOUR, MINUTE or SECOND for the first part out of range.",
+    ),
+    "muxandu_plain_fault": (
+        [ctypes.c_void_p, ctypes.c_size_t],
+        ctypes.c_size_t,
+        "The index of the fault in a text that muxandu_date_time_from_plain rejects with SYNTAX: 19 for `1985-04-12T23:20:50Z`. No date-time without an offset continues with the byte at that index; or the text ends there, too early. For a text that has the form it is the length of the text.",
+    ),
+    "muxandu_time_fault": (
+        [ctypes.c_void_p, ctypes.c_size_t],
+        ctypes.c_size_t,
+        "The index of the fault in a text that muxandu_time_from_rfc3339 rejects with SYNTAX, as muxandu_plain_fault returns it: 5 for `23:20Z`.",
+    ),
+    "muxandu_date_times_from_moments": (
+        [ctypes.c_void_p, ctypes.c_size_t, ctypes.c_void_p, ctypes.c_size_t],
+        MuxanduBatch,
+        "The date-time of each moment, at its own offset, up to the first that muxandu_date_time_from_timestamp rejects. Errors: BUFFER if `out` has fewer items than `moments` (the call then writes nothing), else that of the first rejected item.",
+    ),
+    "muxandu_moments_from_date_times": (
+        [ctypes.c_void_p, ctypes.c_size_t, ctypes.c_void_p, ctypes.c_size_t],
+        MuxanduBatch,
+        "The moment of each date-time, up to the first that muxandu_timestamp_from_date_time rejects. Errors: BUFFER if `out` has fewer items than `date_times` (the call then writes nothing), else that of the first rejected item.",
+    ),
+    "muxandu_moments_to_offset": (
+        [ctypes.c_void_p, ctypes.c_size_t, ctypes.c_int32, ctypes.c_void_p, ctypes.c_size_t],
+        MuxanduBatch,
+        "The same instant of each moment at another offset in seconds, up to the first that muxandu_date_time_to_offset rejects. Errors: BUFFER if `out` has fewer items than `moments` (the call then writes nothing), else that of the first rejected item.",
+    ),
+    "muxandu_moments_truncate": (
+        [ctypes.c_void_p, ctypes.c_size_t, ctypes.c_uint32, ctypes.c_void_p, ctypes.c_size_t],
+        MuxanduBatch,
+        "Each moment, rounded down to a unit by its own clocks, up to the first that muxandu_date_time_truncate rejects. Errors: BUFFER if `out` has fewer items than `moments` (the call then writes nothing), else that of the first rejected item.",
+    ),
+    "muxandu_moments_add_months": (
+        [ctypes.c_void_p, ctypes.c_size_t, ctypes.c_int32, ctypes.c_void_p, ctypes.c_size_t],
+        MuxanduBatch,
+        "Each moment a number of months later, or earlier if it is negative, at the same local time and offset; in a shorter month on its last day, up to the first that muxandu_date_add_months rejects. Errors: BUFFER if `out` has fewer items than `moments` (the call then writes nothing), else that of the first rejected item.",
+    ),
+    "muxandu_moments_from_rfc3339": (
+        [ctypes.c_void_p, ctypes.c_size_t, ctypes.c_void_p, ctypes.c_size_t, ctypes.c_void_p, ctypes.c_size_t],
+        MuxanduBatch,
+        "The instant and the offset in each text of RFC 3339, up to the first that muxandu_date_time_from_rfc3339 rejects. A span outside the block `texts` fails with SPAN. Errors: BUFFER if `out` has fewer items than `spans` (the call then writes nothing), else that of the first rejected item.",
+    ),
+    "muxandu_moments_add": (
+        [ctypes.c_void_p, ctypes.c_size_t, ctypes.c_void_p, ctypes.c_size_t, ctypes.c_void_p, ctypes.c_size_t],
+        MuxanduBatch,
+        "Each moment plus the duration at its place, at the same offset, up to the first pair that muxandu_date_time_add rejects. Errors: BUFFER if `out` or `durations` has fewer items than `moments` (the call then writes nothing), else that of the first rejected pair.",
+    ),
+    "muxandu_each_moment_add": (
+        [ctypes.c_void_p, ctypes.c_size_t, ctypes.c_void_p, ctypes.c_size_t, ctypes.c_void_p, ctypes.c_size_t, ctypes.c_void_p, ctypes.c_size_t],
+        MuxanduBatch,
+        "Each moment plus the duration at its place, at the same offset, and the status of muxandu_date_time_add for both. If a pair fails, its place in `out` keeps its contents, and the call continues with the next. `count` is the number of converted pairs. Errors: BUFFER if `out`, `durations` or `statuses` has fewer items than `moments`; the call then writes nothing.",
+    ),
+    "muxandu_moments_subtract": (
+        [ctypes.c_void_p, ctypes.c_size_t, ctypes.c_void_p, ctypes.c_size_t, ctypes.c_void_p, ctypes.c_size_t],
+        MuxanduBatch,
+        "Each moment minus the duration at its place, at the same offset, up to the first pair that muxandu_date_time_subtract rejects. Errors: BUFFER if `out` or `durations` has fewer items than `moments` (the call then writes nothing), else that of the first rejected pair.",
+    ),
+    "muxandu_each_moment_subtract": (
+        [ctypes.c_void_p, ctypes.c_size_t, ctypes.c_void_p, ctypes.c_size_t, ctypes.c_void_p, ctypes.c_size_t, ctypes.c_void_p, ctypes.c_size_t],
+        MuxanduBatch,
+        "Each moment minus the duration at its place, at the same offset, and the status of muxandu_date_time_subtract for both. If a pair fails, its place in `out` keeps its contents, and the call continues with the next. `count` is the number of converted pairs. Errors: BUFFER if `out`, `durations` or `statuses` has fewer items than `moments`; the call then writes nothing.",
+    ),
+    "muxandu_moments_compare": (
+        [ctypes.c_void_p, ctypes.c_size_t, ctypes.c_void_p, ctypes.c_size_t, ctypes.c_void_p, ctypes.c_size_t],
+        MuxanduBatch,
+        "The order of each moment and the one at its place in `others`: -1 if it comes first, 0 if both are one instant, else 1, up to the first pair that muxandu_date_time_compare rejects. Errors: BUFFER if `out` or `others` has fewer items than `firsts` (the call then writes nothing), else that of the first rejected pair.",
+    ),
+    "muxandu_each_moment_compare": (
+        [ctypes.c_void_p, ctypes.c_size_t, ctypes.c_void_p, ctypes.c_size_t, ctypes.c_void_p, ctypes.c_size_t, ctypes.c_void_p, ctypes.c_size_t],
+        MuxanduBatch,
+        "The order of each moment and the one at its place in `others`: -1 if it comes first, 0 if both are one instant, else 1, and the status of muxandu_date_time_compare for both. If a pair fails, its place in `out` keeps its contents, and the call continues with the next. `count` is the number of converted pairs. Errors: BUFFER if `out`, `others` or `statuses` has fewer items than `firsts`; the call then writes nothing.",
+    ),
+    "muxandu_moments_difference": (
+        [ctypes.c_void_p, ctypes.c_size_t, ctypes.c_void_p, ctypes.c_size_t, ctypes.c_void_p, ctypes.c_size_t],
+        MuxanduBatch,
+        "The duration to each moment from the one at its place in `earlier`, by instant, up to the first pair that muxandu_date_time_difference rejects. Errors: BUFFER if `out` or `earlier` has fewer items than `later` (the call then writes nothing), else that of the first rejected pair.",
+    ),
+    "muxandu_each_moment_difference": (
+        [ctypes.c_void_p, ctypes.c_size_t, ctypes.c_void_p, ctypes.c_size_t, ctypes.c_void_p, ctypes.c_size_t, ctypes.c_void_p, ctypes.c_size_t],
+        MuxanduBatch,
+        "The duration to each moment from the one at its place in `earlier`, by instant, and the status of muxandu_date_time_difference for both. If a pair fails, its place in `out` keeps its contents, and the call continues with the next. `count` is the number of converted pairs. Errors: BUFFER if `out`, `earlier` or `statuses` has fewer items than `later`; the call then writes nothing.",
     ),
     "muxandu_offset_from_parts": (
         [MuxanduOffset, ctypes.POINTER(ctypes.c_int32)],
@@ -682,6 +585,26 @@ CALLS = {
         [ctypes.c_int32, ctypes.POINTER(MuxanduOffset)],
         ctypes.c_uint32,
         "The hours, the minutes and the seconds of an offset in seconds, all of one sign. Errors: OFFSET_SECONDS.",
+    ),
+    "muxandu_parse_items": (
+        [ctypes.c_uint32, ctypes.c_void_p, ctypes.c_size_t, ctypes.c_void_p, ctypes.c_size_t, ctypes.POINTER(MuxanduDateTime)],
+        MuxanduOutcome,
+        "The date-time of a text that is written as the items say, to its end. `kind` says which parts it has: the others are those of 1970-01-01 0:00 UTC. A Unix timestamp alone gives a date-time, in UTC if the text has no offset. `size` is the length of the text. Errors, in this order: UNIT if a number is no item, or for more than 128 items. SYNTAX with the index of the byte where the item begins that the text lacks. UNIT if `kind` is none. SYNTAX with a part as the reason, without which the text names no one value. RESULT with the first part that is out of range, or that is not a part of the value.",
+    ),
+    "muxandu_parse": (
+        [ctypes.c_uint32, ctypes.c_void_p, ctypes.c_size_t, ctypes.c_void_p, ctypes.c_size_t, ctypes.POINTER(MuxanduDateTime)],
+        MuxanduOutcome,
+        "The date-time of a text by a description in version 2 of its language, such as `[year]-[month]-[day]`, as muxandu_parse_items reads it. Errors, in this order: SYNTAX if the description is none, with the place and the reason of its first fault. Those of muxandu_parse_items.",
+    ),
+    "muxandu_parse_all": (
+        [ctypes.c_uint32, ctypes.c_void_p, ctypes.c_size_t, ctypes.c_void_p, ctypes.c_size_t, ctypes.c_void_p, ctypes.c_size_t, ctypes.c_void_p, ctypes.c_size_t],
+        MuxanduBatch,
+        "The date-time of each text of a block, up to the first that muxandu_parse_items rejects. A span outside the block `texts` fails with SPAN. Errors, in this order: UNIT if a number is no item, or for more than 128 items. BUFFER if `out` has fewer items than `spans`. The call then writes nothing. Else that of the first rejected item.",
+    ),
+    "muxandu_parse_each": (
+        [ctypes.c_uint32, ctypes.c_void_p, ctypes.c_size_t, ctypes.c_void_p, ctypes.c_size_t, ctypes.c_void_p, ctypes.c_size_t, ctypes.c_void_p, ctypes.c_size_t, ctypes.c_void_p, ctypes.c_size_t],
+        MuxanduBatch,
+        "The date-time of each text of a block, and the status of muxandu_parse_items for it. The status is SPAN for a span outside the block `texts`. If an item fails, its place in `out` keeps its contents, and the call continues with the next. `count` is the number of converted items. Errors, in this order: UNIT if a number is no item, or for more than 128 items. BUFFER if `out` or `statuses` has fewer items than `spans`. The call then writes nothing.",
     ),
     "muxandu_date_reads": (
         [MuxanduDate, ctypes.POINTER(MuxanduDateReads)],
@@ -702,6 +625,26 @@ CALLS = {
         [MuxanduTimestamp, ctypes.c_uint32, ctypes.c_int32, ctypes.POINTER(MuxanduTimestamp)],
         ctypes.c_uint32,
         "The instant with one part of its date or time in UTC replaced, as muxandu_date_time_replace does. Errors, in this order: those of the timestamp, those of that call.",
+    ),
+    "muxandu_timestamp_from_microseconds_2000": (
+        [ctypes.c_int64],
+        MuxanduTimestamp,
+        "The instant of a number of microseconds from 2000-01-01 0:00 UTC, as a `timestamptz` of PostgreSQL counts them. It is always in range.",
+    ),
+    "muxandu_timestamp_to_microseconds_2000": (
+        [MuxanduTimestamp, ctypes.POINTER(ctypes.c_int64)],
+        ctypes.c_uint32,
+        "The whole microseconds from 2000-01-01 0:00 UTC, rounded down. They fit in 64 bits from -290278-12-22 to 294277-01-09. Errors, in this order: those of the timestamp, RESULT if they do not fit.",
+    ),
+    "muxandu_timestamp_truncate_digits": (
+        [MuxanduTimestamp, ctypes.c_uint32, ctypes.POINTER(MuxanduTimestamp)],
+        ctypes.c_uint32,
+        "The instant with the first `digits` digits of its fraction: it is rounded down, also before 1970. A number above nine keeps all nine. Errors: those of the timestamp.",
+    ),
+    "muxandu_date_time_check_rfc3339": (
+        [MuxanduDateTime],
+        ctypes.c_uint32,
+        "Checks that the date-time has a text of RFC 3339, as muxandu_date_time_to_rfc3339 writes it. Errors, in this order: those of the date-time, NO_TEXT.",
     ),
     "muxandu_date_times_from_milliseconds": (
         [ctypes.c_void_p, ctypes.c_size_t, ctypes.c_int32, ctypes.c_void_p, ctypes.c_size_t],

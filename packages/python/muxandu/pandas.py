@@ -1,0 +1,703 @@
+"""A column of pandas whose items are moments: date-times, each at its own offset, to the
+nanosecond, with gaps.
+
+>>> import pandas
+>>> import muxandu.pandas
+>>> at = pandas.Series(["2024-02-29T00:30:00+02:00", None]).astype("moment")
+>>> at.moment.hour.tolist()
+[0, <NA>]
+
+The dtype is `moment`. An item is an OffsetDateTime, and a gap is pandas.NA. Moments compare, sort
+and group by their instants. The accessor `.moment` has the parts that clocks show, offsets, units,
+months and texts. Each result comes from the calls over columns of muxandu.columns.
+"""
+
+from __future__ import annotations
+
+import datetime
+import numbers
+from typing import Any, Callable, Union
+
+import numpy
+import pandas
+from pandas.api.extensions import ExtensionArray, ExtensionDtype, register_extension_dtype, register_series_accessor
+from pandas.api.indexers import check_array_indexer
+from pandas.api.types import is_list_like
+
+from . import (
+    MISSING,
+    Date,
+    DateTimeParts,
+    Duration,
+    OffsetDateTime,
+    RefusedSyntax,
+    RefusedTimestamp,
+    Timestamp,
+    Unit,
+    UtcDateTime,
+    columns,
+    rfc3339_from_date_times,
+)
+from ._arrow_writes import ArrowMoments
+from .columns import NO_SECOND
+from ._datetime64 import split, test_errors
+from ._missing import is_missing, places_of
+
+__all__ = ["MomentArray", "MomentDtype", "from_arrow", "from_block", "from_texts"]
+
+ROW = numpy.dtype(columns.MomentParts)
+_PARTS = ("year", "month", "day", "hour", "minute", "second", "nanosecond", "offset_seconds")
+_DAY = numpy.datetime64("1970-01-01", "D")
+_GAP = (NO_SECOND, 0, 0)
+
+# The whole seconds of the first lengths whose nanoseconds may not fit in 64 bits.
+_FIRST_LONG = 9_223_372_036
+
+# The nanoseconds of NaT, and the rows of a block.
+_NO_LENGTH, _BLOCK = -(2**63), 131_072
+
+# The last second of the range, and how many seconds have nanoseconds that fit in 64 bits.
+_LAST_SECOND, _SECONDS_OF_NANOSECONDS = Timestamp.MAX.seconds, 2**63 // 1_000_000_000 - 1
+_UNITS = {unit.name.lower(): unit for unit in Unit}
+
+
+@register_extension_dtype
+class MomentDtype(ExtensionDtype):
+    """The dtype of a column of moments, by the name `moment`."""
+
+    name = "moment"
+    type = OffsetDateTime
+    kind = "O"
+    na_value = pandas.NA
+    _is_numeric = False
+
+    @classmethod
+    def construct_array_type(cls) -> Any:
+        """The class of arrays of this dtype."""
+        return MomentArray
+
+    def __from_arrow__(self, array: Any) -> MomentArray:
+        """The column of an Arrow array of structures."""
+        chunks = getattr(array, "chunks", [array])
+        rows = [_rows_of_arrow(chunk) for chunk in chunks]
+        return MomentArray(numpy.concatenate(rows) if rows else numpy.zeros(0, ROW))
+
+
+def _rows_of_arrow(chunk: Any) -> Any:
+    """The rows of a chunk of structures of Arrow."""
+    rows = numpy.zeros(len(chunk), ROW)
+    for name in ROW.names or ():
+        rows[name] = chunk.field(name).to_numpy(zero_copy_only=False)
+    rows[chunk.is_null().to_numpy(zero_copy_only=False)] = _GAP
+    return rows
+
+
+def _as_date_time(value: Any) -> OffsetDateTime:
+    """A value as a date-time at an offset."""
+    if isinstance(value, OffsetDateTime):
+        return value
+    if isinstance(value, (Timestamp, UtcDateTime)):
+        return value.to_offset(0)
+    if isinstance(value, datetime.datetime):
+        return OffsetDateTime.from_datetime(value)
+    raise TypeError(f"an item must be an OffsetDateTime, a datetime with an offset or a text, not {type(value).__name__}")
+
+
+def _rows_of_datetime64(values: Any) -> Any:
+    """The rows of an array of datetime64, in UTC. RefusedTimestamp of the first that is out of
+    range."""
+    rows, gaps = numpy.zeros(len(values), ROW), numpy.isnat(values)
+    seconds, rows["nanoseconds"] = split(values)
+    is_far = ~gaps & ((seconds < Timestamp.MIN.seconds) | (seconds > _LAST_SECOND))
+    if is_far.any():
+        raise RefusedTimestamp(int(is_far.argmax()))
+    rows["seconds"] = seconds
+    rows[gaps] = _GAP
+    return rows
+
+
+def _rows_of_zoned(values: Any) -> Any:
+    """The rows of a column of pandas with a time zone, each at the offset that its clocks have
+    then."""
+    index = pandas.DatetimeIndex(values)
+    instants, walls = index.tz_convert("UTC").tz_localize(None), index.tz_localize(None)
+    rows = _rows_of_datetime64(numpy.asarray(instants, "M8[ns]"))
+    known = ~numpy.asarray(index.isna())
+    offsets = (walls - instants).asi8 // 1_000_000_000
+    rows["offset_seconds"][known] = offsets[known]
+    return rows
+
+
+def _check(rows: Any, statuses: Any) -> Any:
+    """The rows of a call of `each`, in which a gap stays a gap. The first other error is raised."""
+    columns.first_error(statuses)
+    if statuses.any():
+        rows[statuses == MISSING] = _GAP
+    return rows
+
+
+def _read_own_texts(items: list[Any], rows: Any, statuses: Any) -> None:
+    """Reads the texts that are no RFC 3339, but as `str` writes a date-time, and as to_csv writes a
+    column."""
+    for place in numpy.flatnonzero(statuses == RefusedSyntax.status):
+        rows[place] = _row_of(OffsetDateTime.from_text(items[place]))
+        statuses[place] = 0
+
+
+def _row_of(moment: OffsetDateTime) -> tuple[int, int, int]:
+    """The row of a date-time."""
+    at = moment.to_timestamp()
+    return at.seconds, at.nanoseconds, moment.offset_seconds
+
+
+def _rows_of_items(items: list[Any]) -> Any:
+    """The rows of texts, or of date-times."""
+    gaps, rows = numpy.zeros(len(items), bool), numpy.zeros(len(items), ROW)
+    gaps[places_of(items)] = True
+    if any(isinstance(item, str) for item in items):
+        statuses = numpy.zeros(len(items), "uint32")
+        columns.moments_from_each_rfc3339(items, out=rows, statuses=statuses)
+        _read_own_texts(items, rows, statuses)
+        return _check(rows, statuses)
+    known = [_as_date_time(item) for gap, item in zip(gaps, items) if not gap]
+    if known:
+        rows[~gaps] = columns.moments_from_date_times(known, numpy.zeros(len(known), ROW))
+    rows[gaps] = _GAP
+    return rows
+
+
+def _rows_of(values: Any, copy: bool = False) -> Any:
+    """The rows of a column: of moments, of datetime64, of a column of pandas with a time zone, of
+    texts or of date-times."""
+    if isinstance(values, (pandas.Series, pandas.Index)):
+        values = values.array
+    if isinstance(values, MomentArray):
+        return values._rows.copy() if copy else values._rows
+    if isinstance(values, numpy.ndarray) and values.dtype == ROW:
+        return values.copy() if copy else values
+    if isinstance(getattr(values, "dtype", None), pandas.DatetimeTZDtype):
+        return _rows_of_zoned(values)
+    if getattr(getattr(values, "dtype", None), "kind", "") == "M":
+        return _rows_of_datetime64(numpy.asarray(values))
+    return _rows_of_items(list(values))
+
+
+def _end_of(rows: Any, name: str) -> Any:
+    """The row of the first instant, for `min`, or of the last, for `max`; a gap is before each
+    instant. Of no rows it is a gap."""
+    seconds, end = rows["seconds"], numpy.min if name == "min" else numpy.max
+    blocks = [slice(start, start + _BLOCK) for start in range(0, len(rows), _BLOCK)]
+    ends: Any = [end(seconds[block]) for block in blocks]
+    places = [
+        block.start + numpy.flatnonzero(seconds[block] == end(ends)) for block, one in zip(blocks, ends) if one == end(ends)
+    ]
+    if not places:
+        return numpy.array(_GAP, ROW)
+    at = numpy.concatenate(places)
+    nanoseconds = rows["nanoseconds"][at]
+    return rows[int(at[numpy.argmin(nanoseconds) if name == "min" else numpy.argmax(nanoseconds)])]
+
+
+class MomentArray(ExtensionArray):
+    """A column of moments: an array of rows of 16 bytes, which it does not copy."""
+
+    def __init__(self, rows: Any, copy: bool = False) -> None:
+        if not isinstance(rows, numpy.ndarray) or rows.dtype != ROW or rows.ndim != 1:
+            raise TypeError("rows must be an array of one dimension of MomentParts")
+        self._rows = rows.copy() if copy else rows
+
+    @classmethod
+    def _from_sequence(cls, scalars: Any, *, dtype: Any = None, copy: bool = False) -> MomentArray:
+        return cls(_rows_of(scalars, copy))
+
+    @classmethod
+    def _from_sequence_of_strings(cls, strings: Any, *, dtype: Any = None, copy: bool = False) -> MomentArray:
+        return cls(_rows_of_items([None if is_missing(text) or text == "" else text for text in strings]))
+
+    @classmethod
+    def _from_factorized(cls, values: Any, original: MomentArray) -> MomentArray:
+        places = original._firsts()
+        found, values = original._ranks()[places], numpy.asarray(values)
+        order = numpy.argsort(found)
+        at = numpy.searchsorted(found, values, sorter=order).clip(max=max(len(found) - 1, 0))
+        rows = places[order][at] if len(found) else at
+        return original.take(numpy.where(values < 0, -1, rows), allow_fill=True)
+
+    @classmethod
+    def _concat_same_type(cls, to_concat: Any) -> MomentArray:
+        return cls(numpy.concatenate([array._rows for array in to_concat]))
+
+    @property
+    def dtype(self) -> MomentDtype:
+        """The dtype of the column."""
+        return MomentDtype()
+
+    @property
+    def nbytes(self) -> int:
+        """The bytes of the rows, 16 for each."""
+        return int(self._rows.nbytes)
+
+    def __len__(self) -> int:
+        return len(self._rows)
+
+    def isna(self) -> Any:
+        """Which rows are gaps."""
+        return self._rows["seconds"] == NO_SECOND
+
+    def copy(self) -> MomentArray:
+        """The column with rows of its own."""
+        return type(self)(self._rows.copy())
+
+    def view(self, dtype: Any = None) -> Any:
+        """The same rows as another column."""
+        if dtype is not None:
+            raise NotImplementedError(f"a column of moments has no view of {dtype}")
+        return type(self)(self._rows)
+
+    def _item(self, row: Any) -> Any:
+        seconds, nanoseconds, offset_seconds = row.item()
+        if seconds == NO_SECOND:
+            return pandas.NA
+        return Timestamp(seconds, nanoseconds).to_offset(offset_seconds)
+
+    def __getitem__(self, item: Any) -> Any:
+        if isinstance(item, (str, float)):
+            # NumPy would take a text as the name of a field: its error of numbers is the one for all.
+            return self._rows["seconds"][item]
+        item = check_array_indexer(self, item)
+        if isinstance(item, numbers.Integral):
+            return self._item(self._rows[item])
+        return MomentArray(self._rows[item])
+
+    def __setitem__(self, key: Any, value: Any) -> None:
+        key = check_array_indexer(self, key)
+        rows = _rows_of(value if is_list_like(value) else [value])
+        self._rows[key] = rows if is_list_like(value) else rows[0]
+
+    def __iter__(self) -> Any:
+        return map(self._item, self._rows)
+
+    def take(self, indices: Any, *, allow_fill: bool = False, fill_value: Any = None) -> MomentArray:
+        """The rows at these places; with `allow_fill` a place of -1 has the filling, which is a gap
+        by default."""
+        places = numpy.asarray(indices, "intp")
+        if not len(self) and len(places) and (not allow_fill or (places >= 0).any()):
+            raise IndexError("cannot do a non-empty take from an empty axes")
+        if not allow_fill:
+            return type(self)(self._rows[places])
+        if (places < -1).any():
+            raise ValueError("a place is below -1")
+        if len(places) and places.max() >= len(self):
+            raise IndexError("a place is out of bounds")
+        rows, known = numpy.zeros(len(places), ROW), places >= 0
+        rows[known] = self._rows[places[known]]
+        rows[~known] = _GAP if is_missing(fill_value) else _rows_of([fill_value])[0]
+        return type(self)(rows)
+
+    # The order of instants, by which pandas sorts, finds and groups.
+
+    def _ranks(self) -> Any:
+        """A number for each instant, in their order, the same for equal instants, and -1 for a
+        gap."""
+        gaps, nanoseconds = self.isna(), self._rows["nanoseconds"]
+        least = self._rows["seconds"][~gaps].min(initial=_LAST_SECOND)
+        seconds = numpy.where(gaps, 0, self._rows["seconds"] - least)
+        if seconds.max(initial=0) < _SECONDS_OF_NANOSECONDS:
+            return numpy.where(gaps, -1, seconds * 1_000_000_000 + nanoseconds)
+        order, ranks = numpy.lexsort((nanoseconds, seconds)), numpy.zeros(len(self), "int64")
+        pairs = numpy.stack([seconds[order], nanoseconds[order]])
+        ranks[order[1:]] = numpy.cumsum((pairs[:, 1:] != pairs[:, :-1]).any(axis=0))
+        return numpy.where(gaps, -1, ranks)
+
+    def _values_for_argsort(self) -> Any:
+        return self._ranks()
+
+    def _values_for_factorize(self) -> tuple[Any, int]:
+        return self._ranks(), -1
+
+    def _firsts(self) -> Any:
+        """The places of the first row of each instant."""
+        return numpy.flatnonzero(~pandas.Series(self._ranks()).duplicated().to_numpy())
+
+    def unique(self) -> MomentArray:
+        """The first row of each instant."""
+        return MomentArray(self._rows[self._firsts()])
+
+    def value_counts(self, dropna: bool = True) -> Any:
+        """How often each instant comes, the most frequent first."""
+        codes, found = pandas.factorize(self)
+        counts = numpy.bincount(codes[codes >= 0], minlength=len(found))
+        gaps = int(self.isna().sum())
+        if not dropna and gaps:
+            found = found._concat_same_type([found, self[self.isna()][:1]])
+            counts = numpy.append(counts, gaps)
+        values = pandas.array(counts, dtype="Int64")
+        return pandas.Series(values, pandas.Index(found)).sort_values(ascending=False, kind="stable")
+
+    # Comparisons.
+
+    def _comparison(self, other: Any, compare: Callable[..., Any]) -> Any:
+        """How each row compares with another, or with one for all, with gaps masked."""
+        found, gaps = numpy.zeros(len(self), bool), numpy.zeros(len(self), bool)
+        room = numpy.zeros(min(len(self), _BLOCK), "int32"), numpy.zeros(min(len(self), _BLOCK), "uint32")
+        for block, rows, others in self._blocks(other):
+            orders, statuses = (column[: len(rows)] for column in room)
+            columns.each_moment_compare(rows, others, orders, statuses)
+            columns.first_error(statuses, block.start)
+            compare(orders, 0, out=found[block])
+            numpy.equal(statuses, MISSING, out=gaps[block])
+        return pandas.arrays.BooleanArray(found, gaps)
+
+    def _blocks(self, other: Any) -> Any:
+        """The blocks of the column, each with its rows and the rows of another column there.
+
+        Results of a block stay in the cache of the processor."""
+        for start in range(0, len(self), _BLOCK):
+            block = slice(start, start + _BLOCK)
+            yield block, self._rows[block], other if isinstance(other, OffsetDateTime) else other[block]
+
+    def _compare(self, other: Any, compare: Callable[..., Any]) -> Any:
+        if isinstance(other, (pandas.Series, pandas.Index, pandas.DataFrame)):
+            return NotImplemented
+        if is_list_like(other) and len(other) != len(self):
+            raise ValueError("Lengths must match")
+        if not is_list_like(other) and is_missing(other):
+            return pandas.arrays.BooleanArray(numpy.zeros(len(self), bool), numpy.ones(len(self), bool))
+        try:
+            found = _rows_of(other) if is_list_like(other) else _as_date_time(other)
+        except (TypeError, ValueError):
+            return self._unlike(compare)
+        return self._comparison(found, compare)
+
+    def _unlike(self, compare: Callable[..., Any]) -> Any:
+        """The comparison with what is no moment: equal to none, and without an order."""
+        if compare not in (numpy.equal, numpy.not_equal):
+            raise TypeError("a moment has an order with moments alone")
+        return pandas.arrays.BooleanArray(numpy.full(len(self), compare is numpy.not_equal), self.isna())
+
+    def __eq__(self, other: Any) -> Any:
+        return self._compare(other, numpy.equal)
+
+    def __ne__(self, other: Any) -> Any:
+        return self._compare(other, numpy.not_equal)
+
+    def __lt__(self, other: Any) -> Any:
+        return self._compare(other, numpy.less)
+
+    def __le__(self, other: Any) -> Any:
+        return self._compare(other, numpy.less_equal)
+
+    def __gt__(self, other: Any) -> Any:
+        return self._compare(other, numpy.greater)
+
+    def __ge__(self, other: Any) -> Any:
+        return self._compare(other, numpy.greater_equal)
+
+    # Sums.
+
+    def _change(self, call: Callable[..., Any], *words: Any) -> MomentArray:
+        """The column that a call of `each` makes of this one. A gap stays a gap."""
+        rows, statuses = numpy.zeros(len(self), ROW), numpy.zeros(len(self), "uint32")
+        call(self._rows, *words, rows, statuses)
+        return MomentArray(_check(rows, statuses))
+
+    def _is_length(self, other: Any) -> bool:
+        kind = getattr(getattr(other, "dtype", None), "kind", "")
+        return isinstance(other, (Duration, datetime.timedelta, numpy.timedelta64)) or kind == "m"
+
+    def _sum(self, other: Any, call: Callable[..., Any]) -> Any:
+        if isinstance(other, (pandas.Series, pandas.Index, pandas.DataFrame)):
+            return NotImplemented
+        if isinstance(other, numpy.timedelta64):
+            other = pandas.Timedelta(other)
+        if is_list_like(other) and not self._is_length(other):
+            other = list(other)
+            if not all(is_missing(item) or self._is_length(item) for item in other):
+                return NotImplemented
+        elif not self._is_length(other):
+            return NotImplemented
+        return self._change(call, numpy.asarray(other) if self._is_length(other) and is_list_like(other) else other)
+
+    def __add__(self, other: Any) -> Any:
+        return self._sum(other, columns.each_moment_add)
+
+    __radd__ = __add__
+
+    def __sub__(self, other: Any) -> Any:
+        if isinstance(other, (MomentArray, OffsetDateTime)):
+            return self.since(other)
+        return self._sum(other, columns.each_moment_subtract)
+
+    def since(self, other: Any) -> Any:
+        """The timedelta64 to each moment from the one of another column, or from one for all.
+        OverflowError beyond 292 years."""
+        earlier = other if isinstance(other, OffsetDateTime) else _rows_of(other)
+        if not isinstance(other, OffsetDateTime) and len(earlier) != len(self):
+            raise ValueError(f"columns must have one length, not {len(self)} and {len(earlier)}")
+        counts = numpy.zeros(len(self), "int64")
+        room = numpy.zeros(min(len(self), _BLOCK), columns.DurationParts), numpy.zeros(min(len(self), _BLOCK), "uint32")
+        for block, rows, others in self._blocks(earlier):
+            lengths, statuses = (column[: len(rows)] for column in room)
+            columns.each_moment_difference(rows, others, lengths, statuses)
+            columns.first_error(statuses, block.start)
+            seconds, part = lengths["seconds"], counts[block]
+            if seconds.min() <= -_FIRST_LONG or seconds.max() >= _FIRST_LONG:
+                place = block.start + int((numpy.abs(seconds) >= _FIRST_LONG).argmax())
+                raise OverflowError(f"item {place} is more than 292 years: use columns.moments_difference")
+            numpy.multiply(seconds, 1_000_000_000, out=part)
+            part += lengths["nanoseconds"]
+            if statuses.any():
+                part[statuses == MISSING] = _NO_LENGTH
+        return pandas.array(counts.view("m8[ns]"), copy=False)
+
+    def _reduce(self, name: str, *, skipna: bool = True, keepdims: bool = False, **words: Any) -> Any:
+        if name not in ("min", "max"):
+            raise TypeError(f"a column of moments has no {name}")
+        found = self._item(_end_of(self._rows, name))
+        if skipna and found is pandas.NA:
+            found = self._item(_end_of(self._rows[~self.isna()], name))
+        elif not skipna and self.isna().any():
+            found = pandas.NA
+        return self._from_sequence([found]) if keepdims else found
+
+    def _quantile(self, qs: Any, interpolation: str) -> MomentArray:
+        """The moments at these shares of the column in its order, each at the offset of the one
+        before it."""
+        order = numpy.flatnonzero(~self.isna())[numpy.argsort(self._ranks()[~self.isna()], kind="stable")]
+        if not len(order):
+            return self._from_sequence([pandas.NA] * len(qs))
+        places = numpy.asarray(qs, float) * (len(order) - 1)
+        low, high = (self.take(order[ends(places).astype("intp")]) for ends in (numpy.floor, numpy.ceil))
+        share = {
+            "lower": 0 * places,
+            "higher": 0 * places + 1,
+            "midpoint": (places % 1 > 0) / 2,
+            "nearest": numpy.round(places) > places,
+        }
+        shares = share.get(interpolation, places % 1)
+        found = [one + Duration(0, int((other - one).whole_nanoseconds() * part)) for one, other, part in zip(low, high, shares)]
+        return self._from_sequence(found)
+
+    # What clocks show.
+
+    def parts(self) -> Any:
+        """The parts of each moment: items of DateTimeParts, of zeros for a gap."""
+        shown, statuses = numpy.zeros(len(self), numpy.dtype(DateTimeParts)), numpy.zeros(len(self), "uint32")
+        columns.date_times_from_each_moment(self._rows, shown, statuses)
+        columns.first_error(statuses)
+        return shown
+
+    def texts(self, errors: str = "raise") -> Any:
+        """The text of RFC 3339 of each moment, and NA for a gap. With errors="coerce" a moment
+        outside the years 0 to 9999 is NA too."""
+        texts, known = numpy.full(len(self), pandas.NA, object), ~self.isna()
+        found = rfc3339_from_date_times(self.parts()[known], errors)
+        texts[known] = [pandas.NA if text is None else text for text in found]
+        return texts
+
+    def _formatter(self, boxed: bool = False) -> Callable[[Any], str]:
+        return lambda item: "<NA>" if item is pandas.NA else _text(item)
+
+    def astype(self, dtype: Any, copy: bool = True) -> Any:
+        """The column as another: of instants in UTC for datetime64, else as pandas makes it of the
+        items."""
+        dtype = pandas.api.types.pandas_dtype(dtype)
+        if isinstance(dtype, MomentDtype):
+            return self.copy() if copy else self
+        if getattr(dtype, "kind", "") == "M":
+            return self._datetime64().astype(dtype, copy=False)
+        return super().astype(dtype, copy)
+
+    def _datetime64(self, errors: str = "raise") -> Any:
+        """The instants as datetime64 of nanoseconds in UTC. OverflowError beyond the years 1677 to
+        2262, or with errors="coerce" NaT."""
+        rows, gaps = self._rows, self.isna()
+        is_far = ~gaps & (numpy.abs(rows["seconds"]) >= _FIRST_LONG)
+        if is_far.any() and not test_errors(errors):
+            raise OverflowError(f'item {int(is_far.argmax())} is outside the years of datetime64: use errors="coerce"')
+        counts = numpy.where(gaps | is_far, 0, rows["seconds"]) * 1_000_000_000 + rows["nanoseconds"]
+        counts[gaps | is_far] = numpy.iinfo("int64").min
+        return counts.view("M8[ns]")
+
+    def __arrow_array__(self, type: Any = None) -> Any:
+        """The column as an Arrow array of structures."""
+        import pyarrow
+
+        fields = [pyarrow.array(self._rows[name].copy()) for name in ROW.names or ()]
+        return pyarrow.StructArray.from_arrays(fields, names=list(ROW.names or ()), mask=pyarrow.array(self.isna()))
+
+    def _as_arrow(self) -> ArrowMoments:
+        return ArrowMoments(self._rows, self.isna())
+
+    def __arrow_c_schema__(self) -> Any:
+        """The schema of the column, as the C data interface of Arrow has it."""
+        return self._as_arrow().__arrow_c_schema__()
+
+    def __arrow_c_array__(self, requested_schema: Any = None) -> tuple[Any, Any]:
+        """The column as the C data interface of Arrow has it: a structure of three, with a null for
+        each gap."""
+        return self._as_arrow().__arrow_c_array__(requested_schema)
+
+    def __arrow_c_stream__(self, requested_schema: Any = None) -> Any:
+        """The column as the C stream interface of Arrow has it: one array, as of
+        `__arrow_c_array__`."""
+        return self._as_arrow().__arrow_c_stream__(requested_schema)
+
+    def to_offset(self, offset_seconds: Any) -> MomentArray:
+        """The same instants at another offset."""
+        return self._change(columns.each_moment_to_offset, offset_seconds)
+
+    def floor(self, unit: Union[str, Unit]) -> MomentArray:
+        """Each moment, rounded down to a unit by its own clocks."""
+        return self._change(columns.each_moment_truncate, _unit(unit))
+
+    def add_months(self, months: int) -> MomentArray:
+        """Each moment some months later, on the last day of a month that is shorter."""
+        return self._change(columns.each_moment_add_months, months)
+
+
+def _unit(unit: Union[str, Unit]) -> Unit:
+    """A unit, by its name."""
+    if isinstance(unit, str):
+        if unit.lower() not in _UNITS:
+            raise ValueError(f"a unit is one of {', '.join(_UNITS)}, not {unit!r}")
+        return _UNITS[unit.lower()]
+    return unit
+
+
+def _text(moment: OffsetDateTime) -> str:
+    """The text of RFC 3339, or the library's own for what has none."""
+    try:
+        return moment.to_rfc3339()
+    except ValueError:
+        return str(moment)
+
+
+@register_series_accessor("moment")
+class MomentAccessor:
+    """The accessor of a column of moments."""
+
+    def __init__(self, series: Any) -> None:
+        if not isinstance(series.dtype, MomentDtype):
+            raise AttributeError("only a column of moments has .moment")
+        self._series, self._array = series, series.array
+
+    def _column(self, values: Any) -> Any:
+        return pandas.Series(values, self._series.index, name=self._series.name)
+
+    def _integers(self, values: Any) -> Any:
+        return self._column(pandas.arrays.IntegerArray(values.astype("int64"), self._array.isna()))
+
+    def __getattr__(self, name: str) -> Any:
+        if name not in _PARTS:
+            raise AttributeError(f"a column of moments has no {name}")
+        return self._integers(self._array.parts()[name])
+
+    def __dir__(self) -> Any:
+        return [*super().__dir__(), *_PARTS]
+
+    @property
+    def seconds(self) -> Any:
+        """The Unix second of each instant, rounded down."""
+        return self._integers(numpy.where(self._array.isna(), 0, self._array._rows["seconds"]))
+
+    def _dates(self, read: Callable[[Date], int]) -> Any:
+        """A number of the local date of each moment, by one call for each date that there is."""
+        shown = self._array.parts()
+        keys = (shown["year"].astype("int64") << 16) | (shown["month"].astype("int64") << 8) | shown["day"]
+        dates, places = numpy.unique(keys, return_inverse=True)
+        values = [read(Date(int(key >> 16), int(key >> 8) & 255, int(key) & 255)) if key & 255 else 0 for key in dates]
+        return numpy.asarray(values, "int64")[places]
+
+    def isocalendar(self) -> Any:
+        """The ISO year, week and day, 1 for Monday, of the local date of each moment: a table."""
+        found = {}
+        for name, read in (
+            ("year", lambda date: date.to_iso_week_date().year),
+            ("week", lambda date: date.to_iso_week_date().week),
+            ("day", lambda date: date.weekday() + 1),
+        ):
+            found[name] = self._integers(self._dates(read))
+        return pandas.DataFrame(found, self._series.index)
+
+    def to_utc(self) -> Any:
+        """The same instants in UTC."""
+        return self.to_offset(0)
+
+    def to_offset(self, offset_seconds: Any) -> Any:
+        """The same instants at another offset, in seconds."""
+        return self._column(self._array.to_offset(offset_seconds))
+
+    def floor(self, unit: Union[str, Unit]) -> Any:
+        """Each moment, rounded down to a unit by its own clocks: "day", "hour", "minute", "second"
+        or less."""
+        return self._column(self._array.floor(unit))
+
+    def add_months(self, months: int) -> Any:
+        """Each moment some months later, at the same local time."""
+        return self._column(self._array.add_months(months))
+
+    def since(self, other: Any) -> Any:
+        """The timedelta64 to each moment from the one of another column, or from one for all."""
+        return self._column(self._array.since(other))
+
+    def to_rfc3339(self, errors: str = "raise") -> Any:
+        """The text of RFC 3339 of each moment. With errors="coerce" it is NA for a moment outside
+        the years 0 to 9999."""
+        return self._column(self._array.texts(errors))
+
+    def to_datetime64(self, errors: str = "raise") -> Any:
+        """The instants as datetime64 of pandas in UTC. OverflowError beyond the years 1677 to 2262,
+        or with errors="coerce" NaT."""
+        return self._column(pandas.DatetimeIndex(self._array._datetime64(errors)).tz_localize("UTC"))
+
+
+def from_texts(texts: Any, errors: str = "raise", offset_seconds: Any = None) -> MomentArray:
+    """The column of texts of RFC 3339. With errors="coerce" an invalid text is a gap.
+
+    With `offset_seconds` a text can lack an offset, as 2024-02-29 12:34:56: it then has that
+    offset, which is one for all texts or one for each. An offset in a text comes first.
+    """
+    is_coerced, items = test_errors(errors), list(texts)
+    rows, statuses = numpy.zeros(len(items), ROW), numpy.zeros(len(items), "uint32")
+    columns.moments_from_each_rfc3339(items, None, rows, statuses)
+    if offset_seconds is not None:
+        _read_plain_texts(items, offset_seconds, rows, statuses)
+    return _of_rows(rows, statuses, is_coerced)
+
+
+def _read_plain_texts(items: list[Any], offset_seconds: Any, rows: Any, statuses: Any) -> None:
+    """Reads the texts that lack an offset, of those that are no RFC 3339."""
+    places = numpy.flatnonzero(statuses == RefusedSyntax.status)
+    offsets = offset_seconds
+    if not hasattr(offset_seconds, "__index__") or hasattr(offset_seconds, "__array__"):
+        each = list(offset_seconds)
+        if len(each) != len(items):
+            raise ValueError(f"there must be one offset, or one for each text: {len(items)}, not {len(each)}")
+        offsets = [each[place] for place in places]
+    if len(places):
+        texts, found = [items[place] for place in places], (rows[places], statuses[places])
+        rows[places], statuses[places] = columns.moments_from_each_plain_text(texts, offsets, *found)
+
+
+def from_block(block: Any, spans: Any, errors: str = "raise") -> MomentArray:
+    """The column of the texts at the spans of a block of bytes. With errors="coerce" an invalid
+    text is a gap."""
+    is_coerced = test_errors(errors)
+    rows, statuses = numpy.zeros(len(spans), ROW), numpy.zeros(len(spans), "uint32")
+    columns.moments_from_each_rfc3339(block, spans, rows, statuses)
+    return _of_rows(rows, statuses, is_coerced)
+
+
+def _of_rows(rows: Any, statuses: Any, is_coerced: bool) -> MomentArray:
+    """The column of the rows of a call of `each`: a gap for each that failed, or the error of the
+    first."""
+    if not is_coerced:
+        return MomentArray(_check(rows, statuses))
+    rows[statuses != 0] = _GAP
+    return MomentArray(rows)
+
+
+def from_arrow(column: Any) -> MomentArray:
+    """The column of a column of Arrow, as columns.moments_from_arrow reads it."""
+    return MomentArray(columns.moments_from_arrow(column))

@@ -1,0 +1,248 @@
+"""Columns of moments in pandas, beside pandas' own columns and Python's datetime."""
+
+import datetime
+import io
+import pickle
+import unittest
+from unittest import mock
+
+import numpy
+import pandas
+
+import muxandu.pandas
+from muxandu import (
+    DateParts,
+    Duration,
+    OffsetDateTime,
+    RefusedDayOfMonth,
+    RefusedMonth,
+    RefusedNanosecond,
+    RefusedResult,
+    RefusedSyntax,
+    RefusedTimestamp,
+    Timestamp,
+    Unit,
+    UtcDateTime,
+)
+from muxandu.pandas import MomentArray
+
+TEXTS = ["2024-02-29T00:30:00+02:00", None, "1969-12-31T23:59:59.999999999-23:00", "0001-01-01T00:00:00Z", "2024-02-28T22:30:00Z"]
+FAR = OffsetDateTime(-999_999, 1, 1)
+
+
+def moments(*texts):
+    return pandas.Series(texts or TEXTS, dtype="object").astype("moment")
+
+
+class Columns(unittest.TestCase):
+    def test_what_clocks_show(self):
+        at = moments()
+        self.assertEqual(at.moment.hour.tolist(), [0, pandas.NA, 23, 0, 22])
+        self.assertEqual(at.moment.year.tolist(), [2024, pandas.NA, 1969, 1, 2024])
+        self.assertEqual(at.moment.nanosecond.tolist()[2], 999_999_999)
+        self.assertEqual(at.moment.offset_seconds.tolist(), [7_200, pandas.NA, -82_800, 0, 0])
+        self.assertEqual(at.moment.to_rfc3339().tolist(), [TEXTS[0], pandas.NA, *TEXTS[2:]])
+        self.assertEqual(at.moment.to_utc().moment.hour.tolist(), [22, pandas.NA, 22, 0, 22])
+        self.assertEqual(at.moment.to_offset(-3_600).moment.hour.tolist(), [21, pandas.NA, 21, 23, 21])
+        self.assertEqual(at.moment.seconds.tolist()[4], 1_709_159_400)
+        self.assertIn("hour", dir(at.moment))
+        with self.assertRaises(AttributeError):
+            at.moment.minutes
+        with self.assertRaises(AttributeError):
+            pandas.Series([1]).moment
+
+    def test_units_and_months(self):
+        at = moments(*TEXTS[:3])
+        self.assertEqual(at.moment.floor("day").moment.to_rfc3339().tolist()[0], "2024-02-29T00:00:00+02:00")
+        self.assertEqual(at.moment.floor(Unit.SECOND).moment.to_rfc3339().tolist()[2], "1969-12-31T23:59:59-23:00")
+        self.assertEqual(at.moment.add_months(12).moment.to_rfc3339().tolist()[0], "2025-02-28T00:30:00+02:00")
+        with self.assertRaisesRegex(ValueError, "a unit is one of day, hour"):
+            at.moment.floor("week")
+
+    def test_isocalendar_is_that_of_datetime(self):
+        days = [
+            datetime.datetime(2015, 12, 20, 23, tzinfo=datetime.timezone.utc) + datetime.timedelta(days=k) for k in range(800)
+        ]
+        found = pandas.Series(days).astype("moment").moment.isocalendar()
+        self.assertEqual([tuple(row) for row in found.to_numpy()], [day.isocalendar() for day in days])
+        self.assertIs(moments().moment.isocalendar()["week"].tolist()[1], pandas.NA)
+
+    def test_sums_and_differences(self):
+        at = moments()
+        self.assertEqual((at + Duration(0, 1)).moment.nanosecond.tolist(), [1, pandas.NA, 0, 1, 1])
+        self.assertTrue(((at + pandas.Timedelta(hours=1)) - pandas.Timedelta(hours=1)).equals(at))
+        self.assertTrue(
+            (at + numpy.array([1, 2, 3, 4, 5], "m8[s]")).equals(at + pandas.Series([1, 2, 3, 4, 5]).astype("m8[s]").array)
+        )
+        apart = at.drop(3) - at.iloc[4]
+        self.assertEqual(apart.dtype, "m8[ns]")
+        self.assertEqual(
+            (apart.tolist()[0], apart.tolist()[2]), (pandas.Timedelta(0), pandas.Timestamp(TEXTS[2]) - pandas.Timestamp(TEXTS[4]))
+        )
+        self.assertTrue(pandas.isna(apart.tolist()[1]))
+        with self.assertRaises(RefusedResult) as caught:
+            pandas.Series([OffsetDateTime(2024, 1, 1), FAR]).astype("moment") - Duration(1)
+        self.assertEqual(caught.exception.count, 1)
+        with self.assertRaises(OverflowError):
+            moments("0001-01-01T00:00:00Z") - moments("2024-01-01T00:00:00Z")
+        with self.assertRaises(TypeError):
+            at + 1
+
+    def test_order_is_by_instant(self):
+        at = moments()
+        self.assertEqual((at == at.iloc[4]).tolist(), [True, pandas.NA, False, False, True])
+        self.assertEqual((at < at.iloc[4]).tolist(), [False, pandas.NA, True, True, False])
+        self.assertEqual(at.sort_values().index.tolist(), [3, 2, 0, 4, 1])
+        self.assertEqual((at.min(), at.max()), (OffsetDateTime(1, 1, 1), at.iloc[0]))
+        self.assertEqual(at.groupby(at).size().tolist(), [1, 1, 2])
+        frame = pandas.DataFrame({"at": at.dropna(), "x": range(4)})
+        self.assertEqual(len(frame.merge(frame, on="at")), 6)
+        self.assertEqual(at.nunique(), 3)
+
+    def test_columns_of_many_blocks(self):
+        with mock.patch.object(muxandu.pandas, "_BLOCK", 2):
+            self.test_order_is_by_instant()
+            self.test_sums_and_differences()
+            at = moments("2024-01-01T00:00:00Z", *["1970-01-01T00:00:00Z"] * 3, None)
+            for found in (at < at.iloc[0], at < at.drop(4).max()):
+                self.assertEqual(found.tolist(), [False, True, True, True, pandas.NA])
+            self.assertEqual(
+                (at - at.iloc[1]).tolist()[:2], [pandas.Timestamp("2024-01-01") - pandas.Timestamp(0), pandas.Timedelta(0)]
+            )
+            with self.assertRaisesRegex(OverflowError, "item 3 is more than 292 years"):
+                at - moments(*TEXTS[:3], "0001-01-01T00:00:00Z", None)
+            lengths = numpy.arange(6).astype("m8[s]")
+            self.assertEqual((at + lengths[:5]).moment.second.tolist(), [0, 1, 2, 3, pandas.NA])
+            with self.assertRaisesRegex(ValueError, "columns must have one length, not 4 and 6"):
+                at.array[:4] + lengths
+            with self.assertRaises(RefusedResult) as caught:
+                pandas.Series([*at[:3], Timestamp.MAX.to_offset(0)], dtype="moment") + Duration(1)
+            self.assertEqual(caught.exception.count, 3)
+            with self.assertRaisesRegex(ValueError, "columns must have one length, not 5 and 4"):
+                at.array - at.array[:4]
+            rows = at.array._rows.copy()
+            rows["nanoseconds"][3] = 10**9
+            with self.assertRaises(RefusedNanosecond) as caught:
+                MomentArray(rows) < at.iloc[0]
+            self.assertEqual(caught.exception.count, 3)
+
+    def test_ends_of_columns(self):
+        gaps, at = moments(None, None), moments("2024-01-01T00:00:00Z", None, "1970-01-01T00:00:00.5Z", "1970-01-01T00:00:00.25Z")
+        for size in (1, 3, 131_072):
+            with mock.patch.object(muxandu.pandas, "_BLOCK", size):
+                self.assertEqual((at.min(), at.max()), (at.iloc[3], at.iloc[0]))
+                for end in ("min", "max"):
+                    for column in (gaps, gaps[:0]):
+                        self.assertIs(getattr(column, end)(), pandas.NA)
+                    self.assertIs(getattr(at, end)(skipna=False), pandas.NA)
+                    self.assertEqual(getattr(at[2:], end)(skipna=False), getattr(at[2:], end)())
+
+    def test_quantiles(self):
+        """Beside those of datetime64, to the microsecond, which is what floats of pandas have."""
+        instants = pandas.Series(numpy.array([5, 1, 9, 3, 3, 1_000_000_007], "M8[us]").astype("M8[ns]"))
+        at = instants.astype("moment")
+        for way in ("linear", "lower", "higher", "nearest", "midpoint"):
+            for share in (0, 0.1, 0.3, 0.5, 0.75, 1):
+                found = at.quantile(share, interpolation=way).to_timestamp().as_nanoseconds()
+                self.assertAlmostEqual(found, instants.quantile(share, interpolation=way).value, delta=1_000)
+        found = moments().quantile([0, 1])
+        self.assertEqual((found.dtype, found.tolist()), ("moment", [moments().min(), moments().max()]))
+        self.assertIs(moments(None).quantile(0.5), pandas.NA)
+
+    def test_resampling_by_floor(self):
+        start = numpy.datetime64("2024-03-30T00:00", "m")
+        frame = pandas.DataFrame({"at": pandas.Series(start + 7 * numpy.arange(1_000)).astype("moment"), "x": 1})
+        found = frame.groupby(frame["at"].moment.floor("hour"))["x"].sum()
+        wanted = pandas.Series(1, pandas.DatetimeIndex(start + 7 * numpy.arange(1_000))).resample("H").sum()
+        self.assertEqual(found.tolist(), wanted.tolist())
+        self.assertEqual([str(at.to_rfc3339()) for at in found.index], [f"{at:%Y-%m-%dT%H:%M:%SZ}" for at in wanted.index])
+
+    def test_gaps(self):
+        items = [None, float("nan"), pandas.NA, pandas.NaT, OffsetDateTime(2024, 1, 1)]
+        at = pandas.Series(items, dtype="moment")
+        self.assertEqual(at.isna().tolist(), [True] * 4 + [False])
+        self.assertEqual(at.fillna(FAR).tolist(), [FAR] * 4 + [items[4]])
+        self.assertEqual(
+            muxandu.pandas.from_texts(["2024-13-01T00:00:00Z", None, TEXTS[0]], "coerce").isna().tolist(), [True, True, False]
+        )
+        with self.assertRaises(RefusedMonth) as caught:
+            muxandu.pandas.from_texts([None, "2024-13-01T00:00:00Z"])
+        self.assertEqual(caught.exception.count, 1)
+        spans = numpy.array([(21, 20), (0, 20)], numpy.dtype(muxandu.Span))
+        found = muxandu.pandas.from_block(b"1970-01-01T00:00:01Z 1970-01-41T00:00:02Z", spans, "coerce")
+        self.assertEqual(found.isna().tolist(), [True, False])
+
+    def test_texts_without_an_offset(self):
+        texts = pandas.Series(["2024-02-29 12:34:56", None, "2024-02-29T12:34:56.5Z", "1969-12-31T23:59:59.25"])
+        found = pandas.Series(muxandu.pandas.from_texts(texts, offset_seconds=3_600)).moment
+        wanted = ["2024-02-29T12:34:56+01:00", pandas.NA, "2024-02-29T12:34:56.5Z", "1969-12-31T23:59:59.25+01:00"]
+        self.assertEqual(found.to_rfc3339().tolist(), wanted)
+        offsets = pandas.Series([3_600, 0, 7_200, -60])
+        for each in (offsets, offsets.tolist(), offsets.to_numpy()):
+            found = pandas.Series(muxandu.pandas.from_texts(texts, offset_seconds=each)).moment
+            self.assertEqual(found.offset_seconds.tolist(), [3_600, pandas.NA, 0, -60])
+        with self.assertRaises(RefusedSyntax) as caught:
+            muxandu.pandas.from_texts(texts)
+        self.assertEqual(caught.exception.count, 0)
+        wrong = ["2024-02-29T12:34:56", "2024-02-30 12:34:56", "12:34:56", None]
+        for errors, refusal, count in ((wrong, RefusedDayOfMonth, 1), (wrong[::3] + wrong[2:], RefusedSyntax, 2)):
+            with self.assertRaises(refusal) as caught:
+                muxandu.pandas.from_texts(errors, offset_seconds=0)
+            self.assertEqual(caught.exception.count, count)
+        self.assertEqual(muxandu.pandas.from_texts(wrong, "coerce", 0).isna().tolist(), [False, True, True, True])
+        self.assertEqual(muxandu.pandas.from_texts(texts, "coerce", [None] * 4).isna().tolist(), [True, True, False, True])
+        with self.assertRaisesRegex(ValueError, "one for each text: 4, not 3"):
+            muxandu.pandas.from_texts(wrong, offset_seconds=[0] * 3)
+
+    def test_other_columns(self):
+        zoned = pandas.Series(pandas.to_datetime(["2024-03-31T00:59:59.5Z", None, "2024-03-31T01:00:00Z"])).dt.tz_convert(
+            "Europe/Berlin"
+        )
+        at = zoned.astype("moment")
+        self.assertEqual(at.moment.offset_seconds.tolist(), [3_600, pandas.NA, 7_200])
+        self.assertTrue(at.moment.to_datetime64().equals(zoned.dt.tz_convert("UTC")))
+        before = pandas.Series(numpy.array(["1969-12-31T23:59:59.999999999", "NaT"], "M8[ns]"))
+        self.assertTrue(before.equals(before.astype("moment").astype("M8[ns]")))
+        mixed = [Timestamp(5), UtcDateTime(1970, 1, 1), datetime.datetime(1970, 1, 1, tzinfo=datetime.timezone.utc)]
+        self.assertEqual(pandas.Series(mixed, dtype="object").astype("moment").moment.seconds.tolist(), [5, 0, 0])
+        with self.assertRaisesRegex(OverflowError, 'item 0 is outside the years of datetime64: use errors="coerce"'):
+            pandas.Series([FAR], dtype="moment").astype("M8[ns]")
+        found = pandas.Series([FAR, None, OffsetDateTime(1970, 1, 1)], dtype="moment").moment.to_datetime64("coerce")
+        self.assertEqual(found.tolist(), [pandas.NaT, pandas.NaT, pandas.Timestamp(0, tz="UTC")])
+        with self.assertRaisesRegex(ValueError, 'errors must be "raise" or "coerce"'):
+            pandas.Series([FAR], dtype="moment").moment.to_datetime64("ignore")
+
+    def test_texts_of_years_without_one(self):
+        column = pandas.Series([FAR, None, OffsetDateTime(1970, 1, 1)], dtype="moment")
+        self.assertEqual(column.moment.to_rfc3339("coerce").tolist(), [pandas.NA, pandas.NA, "1970-01-01T00:00:00Z"])
+        self.assertRaises(muxandu.RefusedNoText, column.moment.to_rfc3339)
+        with self.assertRaises(TypeError):
+            pandas.Series([5], dtype="object").astype("moment")
+
+    def test_datetime64_out_of_range(self):
+        for unit, count in (("D", 2**40), ("W", 2**50), ("Y", 10**9), ("h", -(2**62)), ("s", 31_494_784_780_800)):
+            with self.assertRaises(RefusedTimestamp) as caught:
+                MomentArray._from_sequence(numpy.array([0, "NaT", count], f"M8[{unit}]"))
+            self.assertEqual(caught.exception.count, 2)
+
+    def test_rows_are_not_copied(self):
+        rows = numpy.zeros(3, muxandu.pandas.ROW)
+        column = MomentArray(rows)
+        rows["seconds"][1] = 5
+        self.assertEqual((column[1], column.nbytes), (Timestamp(5).to_offset(0), 48))
+        with self.assertRaises(TypeError):
+            MomentArray(numpy.zeros(3, numpy.dtype(DateParts)))
+
+    def test_csv_json_and_pickles(self):
+        frame = pandas.DataFrame({"at": [*moments(), FAR], "x": range(6)})
+        frame["at"] = frame["at"].astype("moment")
+        read = pandas.read_csv(io.StringIO(frame.to_csv(index=False)), dtype={"at": "moment"})
+        self.assertTrue(read.equals(frame))
+        self.assertTrue(pickle.loads(pickle.dumps(frame)).equals(frame))
+        texts = frame.iloc[:5].assign(at=frame["at"].iloc[:5].moment.to_rfc3339())
+        read = pandas.read_json(io.StringIO(texts.to_json()), convert_dates=False)
+        self.assertTrue(read["at"].astype("moment").equals(frame["at"].iloc[:5]))
+
+
+if __name__ == "__main__":
+    unittest.main()
