@@ -32,13 +32,20 @@ export type RefusalName =
     | "NANOSECOND"
     /** An offset that is not -93599 to 93599 seconds, or whose part in seconds is not -59 to 59. */
     | "OFFSET_SECONDS"
-    /** A Unix second, or a count of another unit from 1970-01-01, outside the range of timestamps. */
+    /**
+     * A Unix second, or a count of another unit from 1970-01-01, outside the range of timestamps.
+     */
     | "TIMESTAMP"
-    /** A day number that is not -365961662 to 364522971, or a Julian day outside the range of dates. */
+    /**
+     * A day number that is not -365961662 to 364522971, or a Julian day outside the range of dates.
+     */
     | "DAY_NUMBER"
     /** A duration whose whole seconds do not fit in 64 bits. */
     | "DURATION"
-    /** A number that is not a unit, or not a part of a date-time. */
+    /**
+     * A number that is not a unit, not a part of a date-time, or not a kind, a version or an item
+     * of a format description.
+     */
     | "UNIT"
     /** A result that is outside the range, or that its type cannot hold. */
     | "RESULT"
@@ -48,11 +55,17 @@ export type RefusalName =
     | "SPAN"
     /** A text that does not have the form that the call reads, such as a date-time of RFC 3339. */
     | "SYNTAX"
-    /** Hours of an offset that are out of range: above 23 in a text of RFC 3339, not -25 to 25 elsewhere. */
+    /**
+     * Hours of an offset that are out of range: above 23 in a text of RFC 3339, not -25 to 25
+     * elsewhere.
+     */
     | "OFFSET_HOUR"
     /** Minutes of an offset that are not -59 to 59. */
     | "OFFSET_MINUTE"
-    /** A value that has no text in RFC 3339: a year outside 0 to 9999, or an offset with seconds or beyond 23:59. */
+    /**
+     * A value that has no such text, as in RFC 3339 a year outside 0 to 9999, or an offset with
+     * seconds or beyond 23:59.
+     */
     | "NO_TEXT";
 
 /** A unit to round down to. */

@@ -19,14 +19,14 @@ export const REFUSALS = [
     { name: "TIMESTAMP", meaning: "A Unix second, or a count of another unit from 1970-01-01, outside the range of timestamps." },
     { name: "DAY_NUMBER", meaning: "A day number that is not -365961662 to 364522971, or a Julian day outside the range of dates." },
     { name: "DURATION", meaning: "A duration whose whole seconds do not fit in 64 bits." },
-    { name: "UNIT", meaning: "A number that is not a unit, or not a part of a date-time." },
+    { name: "UNIT", meaning: "A number that is not a unit, not a part of a date-time, or not a kind, a version or an item of a format description." },
     { name: "RESULT", meaning: "A result that is outside the range, or that its type cannot hold." },
     { name: "BUFFER", meaning: "A buffer that is too short for what the call writes." },
     { name: "SPAN", meaning: "A span that does not lie in the block of texts." },
     { name: "SYNTAX", meaning: "A text that does not have the form that the call reads, such as a date-time of RFC 3339." },
     { name: "OFFSET_HOUR", meaning: "Hours of an offset that are out of range: above 23 in a text of RFC 3339, not -25 to 25 elsewhere." },
     { name: "OFFSET_MINUTE", meaning: "Minutes of an offset that are not -59 to 59." },
-    { name: "NO_TEXT", meaning: "A value that has no text in RFC 3339: a year outside 0 to 9999, or an offset with seconds or beyond 23:59." },
+    { name: "NO_TEXT", meaning: "A value that has no such text, as in RFC 3339 a year outside 0 to 9999, or an offset with seconds or beyond 23:59." },
 ];
 
 /** The units, by their numbers. */

@@ -1,4 +1,4 @@
-import { BILLION, partNames, textual, whole } from "./library.js";
+import { BILLION, partNames, textual, toBigInt } from "./library.js";
 
 // The nanoseconds of each part. A day has 24 hours.
 const PARTS = {
@@ -17,12 +17,12 @@ const NANOSECONDS = Symbol("nanoseconds");
 /** A number of nanoseconds, of either sign. */
 export class Duration {
     constructor(nanoseconds) {
-        this[NANOSECONDS] = whole(nanoseconds, "nanoseconds");
+        this[NANOSECONDS] = toBigInt(nanoseconds, "nanoseconds");
     }
 
     static of(parts) {
         let total = 0n;
-        for (const name of partNames(parts, PARTS, "duration")) total += whole(parts[name], name) * PARTS[name];
+        for (const name of partNames(parts, PARTS, "duration")) total += toBigInt(parts[name], name) * PARTS[name];
         return new Duration(total);
     }
 

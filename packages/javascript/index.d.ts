@@ -9,7 +9,10 @@ export class Refused extends RangeError {
     readonly refusal: RefusalName;
 }
 
-/** Parts of a duration, one at least: whole numbers of any sign, which are added. A day has 24 hours. */
+/**
+ * Parts of a duration, one at least: whole numbers of any sign, which are added. A day has 24
+ * hours.
+ */
 export interface DurationParts {
     days?: number | bigint;
     hours?: number | bigint;
@@ -30,13 +33,19 @@ export class Duration {
     negated(): Duration;
     /** The decimal of its seconds, such as `-1.5 s`. */
     toString(): string;
-    /** Its nanoseconds, in decimal digits, since JSON has no `BigInt`: `new Duration(BigInt(text))` is the same. */
+    /**
+     * Its nanoseconds, in decimal digits, since JSON has no `BigInt`. `new Duration(BigInt(text))`
+     * is the same.
+     */
     toJSON(): string;
     /** Its nanoseconds, so that durations compare by `<`. */
     valueOf(): bigint;
 }
 
-/** An instant: a second from 1970-01-01 0:00 UTC and a nanosecond of it, in the years -999999 to 999999. */
+/**
+ * An instant: a second from 1970-01-01 0:00 UTC and a nanosecond of it, in the years -999999 to
+ * 999999.
+ */
 export class Timestamp {
     /** Throws `TIMESTAMP` or `NANOSECOND`. */
     constructor(seconds: number | bigint, nanosecond?: number);
@@ -48,8 +57,9 @@ export class Timestamp {
     /** The time of the clock of this machine, to the millisecond. */
     static now(): Timestamp;
     /**
-     * The instant of a text of RFC 3339, of 250,000 bytes at most. Throws `LENGTH` or `SYNTAX`, else `MONTH`, `DAY`,
-     * `DAY_OF_MONTH`, `HOUR`, `MINUTE`, `SECOND`, `OFFSET_HOUR` or `OFFSET_MINUTE`.
+     * The instant of a text of RFC 3339, of 250,000 bytes at most. Throws `LENGTH` or `SYNTAX`,
+     * else `MONTH`, `DAY`, `DAY_OF_MONTH`, `HOUR`, `MINUTE`, `SECOND`, `OFFSET_HOUR` or
+     * `OFFSET_MINUTE`.
      */
     static parse(text: string): Timestamp;
     /** -1, 0 or 1: for `sort`. */
@@ -119,8 +129,9 @@ export class OffsetDateTime implements Readonly<OffsetDateTimeParts> {
     /** As `Timestamp.parse`, and keeps the offset. */
     static parse(text: string): OffsetDateTime;
     /**
-     * As `parse`, also with a second of 60. A leap second is valid only as the last second of a month in UTC. It becomes the
-     * last nanosecond before the next month, and `isLeap` is true. Any other second of 60 throws `SECOND`.
+     * As `parse`, also with a second of 60. A leap second is valid only as the last second of a
+     * month in UTC. It becomes the last nanosecond before the next month, and `isLeap` is true. Any
+     * other second of 60 throws `SECOND`.
      */
     static parseLeap(text: string): { dateTime: OffsetDateTime; isLeap: boolean };
     static fromDate(date: Date, offsetSeconds?: number): OffsetDateTime;
@@ -166,12 +177,18 @@ export class OffsetDateTime implements Readonly<OffsetDateTimeParts> {
     toRfc3339(): string;
     toJSON(): string;
     toString(): string;
-    /** The nanoseconds of its instant, so that date-times compare by `<`. Throws `RESULT` outside the range of timestamps. */
+    /**
+     * The nanoseconds of its instant, so that date-times compare by `<`. Throws `RESULT` outside
+     * the range of timestamps.
+     */
     valueOf(): bigint;
 }
 
 /** The number of days in a month, 28 to 31. Throws `MONTH` or `YEAR`. */
 export function daysInMonth(year: number, month: number): number;
 
-/** The seconds of an offset such as `+02:00` or `Z`. Throws `SYNTAX`, `OFFSET_HOUR` or `OFFSET_MINUTE`. */
+/**
+ * The seconds of an offset such as `+02:00` or `Z`. Throws `SYNTAX`, `OFFSET_HOUR` or
+ * `OFFSET_MINUTE`.
+ */
 export function parseOffset(text: string): number;

@@ -12,9 +12,9 @@ export const MuxanduTimestamp = {
     },
 };
 
-/** A duration: the sum of its seconds and its nanoseconds. A call writes both with one sign, and less than a second of
- * nanoseconds. It takes any whose sum is at least -2^63 seconds - 999999999 ns and at most 2^63 - 1 seconds + 999999999
- * ns. */
+/** A duration: the sum of its seconds and its nanoseconds. A call writes both with one sign, and
+ * less than a second of nanoseconds. It takes any whose sum is at least -2^63 seconds - 999999999
+ * ns and at most 2^63 - 1 seconds + 999999999 ns. */
 export const MuxanduDuration = {
     get: (view, place) => ({
         seconds: view.getBigInt64(place + 0, true),
@@ -76,8 +76,8 @@ export const MuxanduOrdinalDate = {
     },
 };
 
-/** A date as an ISO year, an ISO week and a day of the week (ISO 8601). The week belongs to the year of its Thursday.
- * */
+/** A date as an ISO year, an ISO week and a day of the week (ISO 8601). The week belongs to the
+ * year of its Thursday. */
 export const MuxanduWeekDate = {
     get: (view, place) => ({
         year: view.getInt32(place + 0, true),
@@ -103,7 +103,8 @@ export const MuxanduSpan = {
     },
 };
 
-/** The result of a call with many items. It converts them in their order, up to the first that it rejects. */
+/** The result of a call with many items. It converts them in their order, up to the first that it
+ * rejects. */
 export const MuxanduBatch = {
     get: (view, place) => ({
         count: view.getBigUint64(place + 0, true),
@@ -112,6 +113,58 @@ export const MuxanduBatch = {
     put(view, place, { count, status }) {
         view.setBigUint64(place + 0, count, true);
         view.setUint32(place + 8, status, true);
+    },
+};
+
+/** An item of a compiled description, as muxandu_description_parse writes it. Keep it as it is: its
+ * numbers can be others in a later version. */
+export const MuxanduItem = {
+    get: (view, place) => ({
+        kind: view.getUint8(place + 0),
+        first: view.getUint8(place + 1),
+        second: view.getUint8(place + 2),
+        third: view.getUint8(place + 3),
+        fourth: view.getUint8(place + 4),
+        number: view.getBigUint64(place + 8, true),
+    }),
+    put(view, place, { kind, first, second, third, fourth, number }) {
+        view.setUint8(place + 0, kind);
+        view.setUint8(place + 1, first);
+        view.setUint8(place + 2, second);
+        view.setUint8(place + 3, third);
+        view.setUint8(place + 4, fourth);
+        view.setBigUint64(place + 8, number, true);
+    },
+};
+
+/** A time of day. */
+export const MuxanduTime = {
+    get: (view, place) => ({
+        hour: view.getUint8(place + 0),
+        minute: view.getUint8(place + 1),
+        second: view.getUint8(place + 2),
+        nanosecond: view.getUint32(place + 4, true),
+    }),
+    put(view, place, { hour, minute, second, nanosecond }) {
+        view.setUint8(place + 0, hour);
+        view.setUint8(place + 1, minute);
+        view.setUint8(place + 2, second);
+        view.setUint32(place + 4, nanosecond, true);
+    },
+};
+
+/** A moment: an instant, and the offset of the clocks that show it. It is a row of a column: 16
+ * bytes with no padding. */
+export const MuxanduMoment = {
+    get: (view, place) => ({
+        seconds: view.getBigInt64(place + 0, true),
+        nanoseconds: view.getUint32(place + 8, true),
+        offsetSeconds: view.getInt32(place + 12, true),
+    }),
+    put(view, place, { seconds, nanoseconds, offsetSeconds }) {
+        view.setBigInt64(place + 0, seconds, true);
+        view.setUint32(place + 8, nanoseconds, true);
+        view.setInt32(place + 12, offsetSeconds, true);
     },
 };
 
@@ -126,6 +179,20 @@ export const MuxanduOffset = {
         view.setInt8(place + 0, hours);
         view.setInt8(place + 1, minutes);
         view.setInt8(place + 2, seconds);
+    },
+};
+
+/** The result of a call with a description. */
+export const MuxanduOutcome = {
+    get: (view, place) => ({
+        size: view.getBigUint64(place + 0, true),
+        status: view.getUint32(place + 8, true),
+        reason: view.getUint32(place + 12, true),
+    }),
+    put(view, place, { size, status, reason }) {
+        view.setBigUint64(place + 0, size, true);
+        view.setUint32(place + 8, status, true);
+        view.setUint32(place + 12, reason, true);
     },
 };
 

@@ -29,8 +29,8 @@ function use(exports) {
 use(instance.exports);
 
 /**
- * The same calls, with an instance of the module that works. Where JavaScript's stack overflows within a call, that does not
- * come to its end, and the instance takes no other one.
+ * The same calls, with an instance of the module that works. If JavaScript's stack overflows within
+ * a call, that call does not end, and the instance takes no other one.
  */
 function lasting(group) {
     const lastingly = (call) => (one, other) => {
@@ -63,7 +63,7 @@ export function refuseType(name, type, value) {
 }
 
 /** A BigInt of an integer. */
-export function whole(value, name) {
+export function toBigInt(value, name) {
     if (typeof value === "bigint") return value;
     if (Number.isSafeInteger(value)) return BigInt(value);
     return refuseType(name, "an integer", value);
@@ -83,14 +83,14 @@ export function partNames(parts, known, what) {
 export const textual = (value) => (typeof value === "string" ? value : refuseType("the argument", "a text", value));
 
 /** A number of a number of bits. Any other becomes a number that the library rejects. */
-function held(value, name, least, most) {
+function fitBits(value, name, least, most) {
     if (!Number.isInteger(value)) refuseType(name, "an integer", value);
     return value < least || value > most ? most : value;
 }
 
-const signed32 = (value, name) => held(value, name, -(2 ** 31), 2 ** 31 - 1);
-const unsigned32 = (value, name) => held(value, name, 0, 2 ** 32 - 1);
-const unsigned8 = (value, name) => held(value, name, 0, 255);
+const signed32 = (value, name) => fitBits(value, name, -(2 ** 31), 2 ** 31 - 1);
+const unsigned32 = (value, name) => fitBits(value, name, 0, 2 ** 32 - 1);
+const unsigned8 = (value, name) => fitBits(value, name, 0, 255);
 
 function putTimestamp(place, { seconds, nanosecond }) {
     const isHeld = seconds >= LEAST_SECOND && seconds <= MOST_SECOND;
@@ -154,7 +154,8 @@ function getBy(status, get) {
     return get(OUT);
 }
 
-/** The calls of timestamps, each of which is `{ seconds, nanosecond }`; durations are nanoseconds. */
+/** The calls of timestamps, each of which is `{ seconds, nanosecond }`; durations are
+ * nanoseconds. */
 export const timestamps = lasting({
     /** Its parts in the memory, read before the call, which may change them. */
     checked(at) {
@@ -163,10 +164,10 @@ export const timestamps = lasting({
         return { seconds: at.seconds, nanosecond };
     },
     compare: (one, other) => calls.muxandu_timestamp_compare(putTimestamp(FIRST, one), putTimestamp(SECOND, other)),
-    add: (at, nanoseconds) => moved(calls.muxandu_timestamp_add, at, nanoseconds),
-    subtract: (at, nanoseconds) => moved(calls.muxandu_timestamp_subtract, at, nanoseconds),
-    saturatingAdd: (at, nanoseconds) => moved(calls.muxandu_timestamp_saturating_add, at, nanoseconds),
-    saturatingSubtract: (at, nanoseconds) => moved(calls.muxandu_timestamp_saturating_subtract, at, nanoseconds),
+    add: (at, nanoseconds) => shift(calls.muxandu_timestamp_add, at, nanoseconds),
+    subtract: (at, nanoseconds) => shift(calls.muxandu_timestamp_subtract, at, nanoseconds),
+    saturatingAdd: (at, nanoseconds) => shift(calls.muxandu_timestamp_saturating_add, at, nanoseconds),
+    saturatingSubtract: (at, nanoseconds) => shift(calls.muxandu_timestamp_saturating_subtract, at, nanoseconds),
     difference(later, earlier) {
         const places = [putTimestamp(FIRST, later), putTimestamp(SECOND, earlier)];
         return getBy(calls.muxandu_timestamp_difference(...places, out), getDuration);
@@ -181,7 +182,7 @@ export const timestamps = lasting({
     rfc3339Nanos: (at) => textBy(calls.muxandu_timestamp_to_rfc3339_nanos, putTimestamp(FIRST, at)),
 });
 
-function moved(call, at, nanoseconds) {
+function shift(call, at, nanoseconds) {
     return getBy(call(putTimestamp(FIRST, at), putDuration(SECOND, nanoseconds), out), getTimestamp);
 }
 

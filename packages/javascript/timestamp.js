@@ -1,6 +1,6 @@
 import { UNITS } from "./declared.js";
 import { Duration, nanosecondsOf } from "./duration.js";
-import { BILLION, KNOWN, refuseType, timestamps, whole } from "./library.js";
+import { BILLION, KNOWN, refuseType, timestamps, toBigInt } from "./library.js";
 import { dateTimeOf } from "./offset_date_time.js";
 import { refuse } from "./refused.js";
 
@@ -12,7 +12,7 @@ export function unitNumber(unit) {
     return typeof unit === "string" && Object.hasOwn(UNITS, unit) ? UNITS[unit] : refuse("UNIT");
 }
 
-/** The key of the parts: code that compares objects finds them, and no other code does by chance. */
+/** The key of the parts: code that compares objects finds them, and other code only by intent. */
 const PARTS_OF_TIMESTAMP = Symbol("parts");
 
 /** The timestamp of parts that the library has given. */
@@ -33,19 +33,19 @@ export class Timestamp {
 
     constructor(seconds, nanosecond = 0) {
         if (seconds === KNOWN) return;
-        this[PARTS_OF_TIMESTAMP] = timestamps.checked({ seconds: whole(seconds, "seconds"), nanosecond });
+        this[PARTS_OF_TIMESTAMP] = timestamps.checked({ seconds: toBigInt(seconds, "seconds"), nanosecond });
     }
 
     static fromMilliseconds(milliseconds) {
-        return Timestamp.fromNanoseconds(whole(milliseconds, "milliseconds") * 1_000_000n);
+        return Timestamp.fromNanoseconds(toBigInt(milliseconds, "milliseconds") * 1_000_000n);
     }
 
     static fromMicroseconds(microseconds) {
-        return Timestamp.fromNanoseconds(whole(microseconds, "microseconds") * 1_000n);
+        return Timestamp.fromNanoseconds(toBigInt(microseconds, "microseconds") * 1_000n);
     }
 
     static fromNanoseconds(nanoseconds) {
-        const total = whole(nanoseconds, "nanoseconds");
+        const total = toBigInt(nanoseconds, "nanoseconds");
         const past = ((total % BILLION) + BILLION) % BILLION;
         return new Timestamp((total - past) / BILLION, Number(past));
     }

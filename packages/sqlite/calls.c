@@ -6,7 +6,8 @@ SQLITE_EXTENSION_INIT3
 
 enum { NANOSECONDS = 1000000000 };
 
-/* A call reads its arguments, none of which is NULL, and sets its result or returns why it refuses. */
+/* A call reads its arguments, none of which is NULL, and sets its result or returns why it
+ * refuses. */
 typedef uint32_t Answer(sqlite3_context *context, int count, sqlite3_value **values);
 
 typedef struct Call {
@@ -68,7 +69,7 @@ static uint32_t answer_sortable(sqlite3_context *context, int count, sqlite3_val
     return status;
 }
 
-/* So many of a unit as a duration. */
+/* A number of a unit as a duration. */
 static uint32_t duration_of(int64_t number, const Unit *unit, MuxanduDuration *out) {
     int64_t seconds_each = unit->nanoseconds / NANOSECONDS, each_second;
     if (seconds_each > 0) {
@@ -132,7 +133,8 @@ static uint32_t answer_unix(sqlite3_context *context, int count, sqlite3_value *
     return status;
 }
 
-/* The date-time rounded down to a unit of that name, or to its month or year, as its clocks show it. */
+/* The date-time rounded down to a unit of that name, or to its month or year, as its clocks show
+ * it. */
 static uint32_t truncate_to(MuxanduDateTime *at, sqlite3_value *name) {
     const Unit *unit;
     const char *text;
@@ -158,7 +160,8 @@ static uint32_t answer_truncate(sqlite3_context *context, int count, sqlite3_val
     return status == MUXANDU_OK ? answer_date_time(context, at) : status;
 }
 
-/* The same day of the month and time of day so many months later, or the last day of a month that is shorter. */
+/* The same day of the month and time of day a number of months later, or the last day of a month
+ * that is shorter. */
 static uint32_t answer_add_months(sqlite3_context *context, int count, sqlite3_value **values) {
     MuxanduDateTime at;
     MuxanduDate date;

@@ -48,7 +48,7 @@ typedef struct Table {
 
 typedef struct Cursor {
     sqlite3_vtab_cursor base;
-    /* What the row is made from, and how many arguments the plan passes. */
+    /* The arguments of the row, and how many of them the plan passes. */
     sqlite3_value *arguments[ARGUMENTS];
     int argument_count;
     int64_t parts[PARTS];
@@ -99,11 +99,12 @@ static int close_cursor(sqlite3_vtab_cursor *base) {
     return SQLITE_OK;
 }
 
-/* What a plan says to 'filter'. */
+/* The messages of a plan to 'filter'. */
 enum { TEXT_IS_PASSED, TEXT_IS_MISSING };
 
-/* Has the text, and the offset where one is given, passed to 'filter'. A plan in which one of them is not known yet is none;
- * one with no text at all is the last that SQLite takes: it weighs such plans for parts of a condition too. */
+/* Has the text, and the offset where one is given, passed to 'filter'. A plan in which one of
+ * them is not known yet is none; one with no text at all is the last that SQLite takes: it
+ * weighs such plans for parts of a condition too. */
 static int plan(sqlite3_vtab *table, sqlite3_index_info *info) {
     int places[ARGUMENTS] = {-1, -1}, are_unknown[ARGUMENTS] = {0, 0}, passed = 0;
     (void)table;
@@ -178,7 +179,8 @@ static int fail(sqlite3_vtab *base, char *message) {
     return message == NULL ? SQLITE_NOMEM : SQLITE_ERROR;
 }
 
-/* What an error says of an argument that is not passed. In a CROSS JOIN SQLite passes none of a table that comes later. */
+/* The message of an argument that is missing. In a CROSS JOIN SQLite passes none of a table that
+ * comes later. */
 static char *missing_message(const Form *form, const char *argument) {
     return sqlite3_mprintf("%s: the %s is missing: pass it, and in a CROSS JOIN name its table before %s", form->name,
                            argument, form->name);
@@ -218,7 +220,8 @@ static int is_at_the_end(sqlite3_vtab_cursor *cursor) {
     return ((Cursor *)cursor)->is_past_the_row;
 }
 
-/* A column of an argument that is not passed has no answer: SQLite would compare it with the argument that it did not pass. */
+/* A column of an argument that is not passed has no answer: SQLite would compare it with the
+ * argument that it did not pass. */
 static int answer_argument(Cursor *cursor, sqlite3_context *context, int argument) {
     sqlite3_vtab *table = cursor->base.pVtab;
     if (argument >= cursor->argument_count) return fail(table, missing_message(((Table *)table)->form, "offset"));
@@ -239,7 +242,8 @@ static int answer_row_number(sqlite3_vtab_cursor *cursor, sqlite3_int64 *out) {
     return SQLITE_OK;
 }
 
-/* With no 'xCreate' these are tables that stand for themselves, and are called like functions. */
+/* With no 'xCreate' these are tables without a CREATE statement, which a query calls like
+ * functions. */
 static sqlite3_module MODULE = {
     .xConnect = connect_table,
     .xDisconnect = disconnect_table,

@@ -1,4 +1,5 @@
-/* The refusals of muxandu.h, by their numbers. Made by make/declarations from packages/c/interface.json. Do not edit. */
+/* The refusals of muxandu.h, by their numbers.
+ * Made by make/declarations from packages/c/interface.json. Do not edit. */
 typedef struct Refusal {
     const char *name;
     const char *meaning;
@@ -40,7 +41,7 @@ static const Refusal REFUSALS[] = {
     [MUXANDU_REFUSED_DURATION] =
         {"DURATION", "A duration whose whole seconds do not fit in 64 bits."},
     [MUXANDU_REFUSED_UNIT] =
-        {"UNIT", "A number that is not a unit, or not a part of a date-time."},
+        {"UNIT", "A number that is not a unit, not a part of a date-time, or not a kind, a version or an item of a format description."},
     [MUXANDU_REFUSED_RESULT] =
         {"RESULT", "A result that is outside the range, or that its type cannot hold."},
     [MUXANDU_REFUSED_BUFFER] =
@@ -54,5 +55,5 @@ static const Refusal REFUSALS[] = {
     [MUXANDU_REFUSED_OFFSET_MINUTE] =
         {"OFFSET_MINUTE", "Minutes of an offset that are not -59 to 59."},
     [MUXANDU_REFUSED_NO_TEXT] =
-        {"NO_TEXT", "A value that has no text in RFC 3339: a year outside 0 to 9999, or an offset with seconds or beyond 23:59."},
+        {"NO_TEXT", "A value that has no such text, as in RFC 3339 a year outside 0 to 9999, or an offset with seconds or beyond 23:59."},
 };

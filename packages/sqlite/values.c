@@ -40,7 +40,8 @@ uint32_t read_instant(sqlite3_value *value, MuxanduTimestamp *out) {
     return status == MUXANDU_OK ? muxandu_timestamp_from_rfc3339(text, size, out) : status;
 }
 
-/* Languages that have doubles alone bind whole numbers as such: they are taken where a double holds them exactly. */
+/* Languages that have doubles alone bind whole numbers as such: they are taken where a double
+ * holds them exactly. */
 uint32_t read_whole_number(sqlite3_value *value, int64_t *out) {
     double real;
     switch (sqlite3_value_type(value)) {
@@ -54,7 +55,7 @@ uint32_t read_whole_number(sqlite3_value *value, int64_t *out) {
     }
 }
 
-/* What 32 bits do not hold becomes a number that the calls of the library refuse. */
+/* A number of more than 32 bits becomes one that the calls of the library reject. */
 uint32_t read_offset(sqlite3_value *value, int32_t *out) {
     int64_t number = 0;
     uint32_t status = read_whole_number(value, &number);

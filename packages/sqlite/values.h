@@ -5,10 +5,10 @@
 #include <muxandu.h>
 #include <sqlite3ext.h>
 
-/* What is refused of SQL's values alone, beside the refusals of muxandu.h, and what is none. */
+/* Faults of SQL's values, in addition to the errors of muxandu.h. */
 enum { REFUSED_TYPE = 1000, REFUSED_UNIT_NAME = 1001, OUT_OF_MEMORY = 1002 };
 
-/* A unit of time: its number in the library, and so many nanoseconds. */
+/* A unit of time: its number in the library, and its nanoseconds. */
 typedef struct Unit {
     const char *name;
     MuxanduUnit number;
@@ -29,8 +29,8 @@ int is_named(const char *text, size_t size, const char *name);
 
 const char *refusal_name(uint32_t status);
 
-/* What an error says: the call, the name of the refusal and what that means. The caller frees it. It is NULL where there is
- * no memory. */
+/* The message of an error: the call, the name of the error and its text. The caller frees it. It
+ * is NULL if memory runs out. */
 char *refusal_message(const char *call, uint32_t status);
 
 #endif

@@ -20,14 +20,16 @@ const RANGES = {
 
 const WIDTHS = [7, 8, 15, 16, 31, 32, 53].map((bits) => 2 ** bits);
 
-/** The numbers around the ends of a range, and those that fewer bits would hold as one of the range. */
+/** The numbers around the ends of a range, and those that fewer bits would hold as one of the
+ * range. */
 function numbersAround(least, most) {
     const ends = [least - 1, least, most, most + 1, -1, 0, 1];
     const wide = WIDTHS.flatMap((width) => ends.flatMap((end) => [width + end, end - width]));
     return [...new Set([...ends, ...wide, 1e300, -1e300])];
 }
 
-/** Sees that a call takes each number of a part's range, and refuses each other one by name. It returns the part. */
+/** Sees that a call takes each number of a part's range, and refuses each other one by name. It
+ * returns the part. */
 function keepsRange(name, call) {
     const [least, most, refusal] = RANGES[name];
     for (const number of numbersAround(least, most)) {

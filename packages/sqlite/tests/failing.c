@@ -1,7 +1,7 @@
-/* The extension where SQLite fails it: a version that is too old, a text that is not given, and memory that runs out at each
- * allocation in turn.
+/* The extension where SQLite fails it: a version that is too old, a text that is not given, and memory
+ * that runs out at each allocation in turn.
  *
- *     failing EXTENSION
+ * failing EXTENSION
  *
  * Each line is a case, and what is wrong with it. The last line is 'N passed, M failed'. */
 /* This is a program, which calls SQLite itself. */
@@ -70,8 +70,8 @@ static void say(Said *said, const char *text) {
     snprintf(said->text + size, sizeof said->text - size, "%s", text);
 }
 
-/* Prepares a statement and takes its first step, with that many allocations. Sets `was_enough` to whether they
- * were enough. */
+/* Prepares a statement and takes its first step, with that many allocations. Sets `was_enough`
+ * to whether they were enough. */
 static Said ask(sqlite3 *db, const char *text, int allocations, int *was_enough) {
     Said said = {0, ""};
     sqlite3_stmt *statement = NULL;
@@ -107,8 +107,8 @@ static void load(sqlite3 *db, const char *extension) {
 static const char *const ENCODINGS[] = {"PRAGMA encoding = 'UTF-8'; CREATE TABLE t(x)",
                                         "PRAGMA encoding = 'UTF-16'; CREATE TABLE t(x)"};
 
-/* Has memory run out at one allocation of a statement. Returns what is wrong, or NULL. Sets `wanted` where memory does
- * not run out. */
+/* Has memory run out at one allocation of a statement. Returns what is wrong, or NULL. Sets
+ * `wanted` where memory does not run out. */
 static const char *run_out_at(sqlite3 *db, const char *text, int allocations, Said *wanted, int *was_enough) {
     static char problem[LONGEST + 30];
     Said said = ask(db, text, allocations, was_enough);
@@ -122,7 +122,8 @@ static const char *run_out_at(sqlite3 *db, const char *text, int allocations, Sa
     return problem;
 }
 
-/* Has memory run out at each allocation of a statement in turn: the error must be SQLite's, or the answer as with memory. */
+/* Has memory run out at each allocation of a statement in turn: the error must be SQLite's, or
+ * the answer as with memory. */
 static void run_out(const char *extension, const char *text) {
     char name[LONGEST];
     const char *problem = NULL;
@@ -215,7 +216,8 @@ static const unsigned char *no_text(sqlite3_value *value) {
     return NULL;
 }
 
-/* Has SQLite return no text, as where it has no memory to convert one. Then an answer is wrong, and so is a refusal. */
+/* Has SQLite return no text, as where it has no memory to convert one. Then an answer is wrong,
+ * and so is a refusal. */
 static void return_no_text(Entry *entry, const char *text) {
     sqlite3_api_routines own = routines;
     sqlite3 *db = connected(ENCODINGS[1]);

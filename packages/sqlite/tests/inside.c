@@ -1,4 +1,5 @@
-/* The extension inside a program, compiled with SQLITE_CORE and with no file to load: it prints what one call answers. */
+/* The extension inside a program, compiled with SQLITE_CORE and with no file to load: it prints
+ * what one call answers. */
 #include <sqlite3.h>
 #include <stdio.h>
 

@@ -1,8 +1,9 @@
-/* Random arguments of every type and length to each call of the extension, in databases of UTF-8 and of UTF-16: there must be
- * an answer or an error that begins with the call's name and a refusal's, and what the form `_or_null` says must go with it.
- * In some calls memory runs out: then the error is SQLite's own, or the answer is as without.
+/* Random arguments of every type and length to each call of the extension, in databases of UTF-8 and
+ * of UTF-16: there must be an answer or an error that begins with the call's name and a refusal's, and
+ * what the form `_or_null` says must go with it. In some calls memory runs out: then the error is
+ * SQLite's own, or the answer is as without.
  *
- *     random EXTENSION [COUNT [SEED]]
+ * random EXTENSION [COUNT [SEED]]
  *
  * The last line is 'N passed, M failed', a call each. */
 #include <math.h>

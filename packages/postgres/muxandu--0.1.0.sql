@@ -1,0 +1,364 @@
+-- The types offset_timestamp and exact_duration. Load this file by CREATE EXTENSION muxandu.
+-- Made by make/postgres_script from make/page_sources/muxandu.sql. Do not edit.
+\echo Use CREATE EXTENSION muxandu to load this file. \quit
+
+-- The types
+CREATE TYPE offset_timestamp;
+CREATE TYPE exact_duration;
+CREATE FUNCTION offset_timestamp_in(cstring, oid, integer) RETURNS offset_timestamp
+    LANGUAGE C IMMUTABLE STRICT PARALLEL SAFE AS 'MODULE_PATHNAME', 'offset_timestamp_in';
+CREATE FUNCTION offset_timestamp_out(offset_timestamp) RETURNS cstring
+    LANGUAGE C IMMUTABLE STRICT PARALLEL SAFE AS 'MODULE_PATHNAME', 'offset_timestamp_out';
+CREATE FUNCTION offset_timestamp_recv(internal, oid, integer) RETURNS offset_timestamp
+    LANGUAGE C IMMUTABLE STRICT PARALLEL SAFE AS 'MODULE_PATHNAME', 'offset_timestamp_recv';
+CREATE FUNCTION offset_timestamp_send(offset_timestamp) RETURNS bytea
+    LANGUAGE C IMMUTABLE STRICT PARALLEL SAFE AS 'MODULE_PATHNAME', 'offset_timestamp_send';
+CREATE FUNCTION offset_timestamp_typmod_in(cstring[]) RETURNS integer
+    LANGUAGE C IMMUTABLE STRICT PARALLEL SAFE AS 'MODULE_PATHNAME', 'offset_timestamp_typmod_in';
+CREATE FUNCTION offset_timestamp_typmod_out(integer) RETURNS cstring
+    LANGUAGE C IMMUTABLE STRICT PARALLEL SAFE AS 'MODULE_PATHNAME', 'offset_timestamp_typmod_out';
+CREATE FUNCTION exact_duration_in(cstring) RETURNS exact_duration
+    LANGUAGE C IMMUTABLE STRICT PARALLEL SAFE AS 'MODULE_PATHNAME', 'exact_duration_in';
+CREATE FUNCTION exact_duration_out(exact_duration) RETURNS cstring
+    LANGUAGE C IMMUTABLE STRICT PARALLEL SAFE AS 'MODULE_PATHNAME', 'exact_duration_out';
+CREATE FUNCTION exact_duration_recv(internal) RETURNS exact_duration
+    LANGUAGE C IMMUTABLE STRICT PARALLEL SAFE AS 'MODULE_PATHNAME', 'exact_duration_recv';
+CREATE FUNCTION exact_duration_send(exact_duration) RETURNS bytea
+    LANGUAGE C IMMUTABLE STRICT PARALLEL SAFE AS 'MODULE_PATHNAME', 'exact_duration_send';
+CREATE TYPE offset_timestamp (
+    INPUT = offset_timestamp_in, OUTPUT = offset_timestamp_out, RECEIVE = offset_timestamp_recv, SEND = offset_timestamp_send,
+    TYPMOD_IN = offset_timestamp_typmod_in, TYPMOD_OUT = offset_timestamp_typmod_out,
+    INTERNALLENGTH = 16, ALIGNMENT = double, STORAGE = plain, CATEGORY = 'D'
+);
+CREATE TYPE exact_duration (
+    INPUT = exact_duration_in, OUTPUT = exact_duration_out, RECEIVE = exact_duration_recv, SEND = exact_duration_send,
+    INTERNALLENGTH = 12, ALIGNMENT = double, STORAGE = plain, CATEGORY = 'T'
+);
+COMMENT ON TYPE offset_timestamp IS 'an instant to the nanosecond, and the offset of the clocks that showed it';
+COMMENT ON TYPE exact_duration IS 'a duration of seconds and nanoseconds';
+
+-- The order of offset_timestamp
+CREATE FUNCTION offset_timestamp_lt(offset_timestamp, offset_timestamp) RETURNS boolean
+    LANGUAGE C IMMUTABLE STRICT PARALLEL SAFE AS 'MODULE_PATHNAME', 'offset_timestamp_lt';
+CREATE OPERATOR < (
+    LEFTARG = offset_timestamp, RIGHTARG = offset_timestamp, FUNCTION = offset_timestamp_lt, COMMUTATOR = >, NEGATOR = >=,
+    RESTRICT = scalarltsel, JOIN = scalarltjoinsel
+);
+CREATE FUNCTION offset_timestamp_le(offset_timestamp, offset_timestamp) RETURNS boolean
+    LANGUAGE C IMMUTABLE STRICT PARALLEL SAFE AS 'MODULE_PATHNAME', 'offset_timestamp_le';
+CREATE OPERATOR <= (
+    LEFTARG = offset_timestamp, RIGHTARG = offset_timestamp, FUNCTION = offset_timestamp_le, COMMUTATOR = >=, NEGATOR = >,
+    RESTRICT = scalarlesel, JOIN = scalarlejoinsel
+);
+CREATE FUNCTION offset_timestamp_eq(offset_timestamp, offset_timestamp) RETURNS boolean
+    LANGUAGE C IMMUTABLE STRICT PARALLEL SAFE AS 'MODULE_PATHNAME', 'offset_timestamp_eq';
+CREATE OPERATOR = (
+    LEFTARG = offset_timestamp, RIGHTARG = offset_timestamp, FUNCTION = offset_timestamp_eq, COMMUTATOR = =, NEGATOR = <>,
+    RESTRICT = eqsel, JOIN = eqjoinsel, HASHES, MERGES
+);
+CREATE FUNCTION offset_timestamp_ne(offset_timestamp, offset_timestamp) RETURNS boolean
+    LANGUAGE C IMMUTABLE STRICT PARALLEL SAFE AS 'MODULE_PATHNAME', 'offset_timestamp_ne';
+CREATE OPERATOR <> (
+    LEFTARG = offset_timestamp, RIGHTARG = offset_timestamp, FUNCTION = offset_timestamp_ne, COMMUTATOR = <>, NEGATOR = =,
+    RESTRICT = neqsel, JOIN = neqjoinsel
+);
+CREATE FUNCTION offset_timestamp_ge(offset_timestamp, offset_timestamp) RETURNS boolean
+    LANGUAGE C IMMUTABLE STRICT PARALLEL SAFE AS 'MODULE_PATHNAME', 'offset_timestamp_ge';
+CREATE OPERATOR >= (
+    LEFTARG = offset_timestamp, RIGHTARG = offset_timestamp, FUNCTION = offset_timestamp_ge, COMMUTATOR = <=, NEGATOR = <,
+    RESTRICT = scalargesel, JOIN = scalargejoinsel
+);
+CREATE FUNCTION offset_timestamp_gt(offset_timestamp, offset_timestamp) RETURNS boolean
+    LANGUAGE C IMMUTABLE STRICT PARALLEL SAFE AS 'MODULE_PATHNAME', 'offset_timestamp_gt';
+CREATE OPERATOR > (
+    LEFTARG = offset_timestamp, RIGHTARG = offset_timestamp, FUNCTION = offset_timestamp_gt, COMMUTATOR = <, NEGATOR = <=,
+    RESTRICT = scalargtsel, JOIN = scalargtjoinsel
+);
+CREATE FUNCTION offset_timestamp_cmp(offset_timestamp, offset_timestamp) RETURNS integer
+    LANGUAGE C IMMUTABLE STRICT PARALLEL SAFE AS 'MODULE_PATHNAME', 'offset_timestamp_cmp';
+CREATE FUNCTION offset_timestamp_hash(offset_timestamp) RETURNS integer
+    LANGUAGE C IMMUTABLE STRICT PARALLEL SAFE AS 'MODULE_PATHNAME', 'offset_timestamp_hash';
+CREATE FUNCTION offset_timestamp_hash_extended(offset_timestamp, bigint) RETURNS bigint
+    LANGUAGE C IMMUTABLE STRICT PARALLEL SAFE AS 'MODULE_PATHNAME', 'offset_timestamp_hash_extended';
+CREATE FUNCTION offset_timestamp_larger(offset_timestamp, offset_timestamp) RETURNS offset_timestamp
+    LANGUAGE C IMMUTABLE STRICT PARALLEL SAFE AS 'MODULE_PATHNAME', 'offset_timestamp_larger';
+CREATE FUNCTION offset_timestamp_smaller(offset_timestamp, offset_timestamp) RETURNS offset_timestamp
+    LANGUAGE C IMMUTABLE STRICT PARALLEL SAFE AS 'MODULE_PATHNAME', 'offset_timestamp_smaller';
+CREATE FUNCTION offset_timestamp_sortsupport(internal) RETURNS void
+    LANGUAGE C IMMUTABLE STRICT PARALLEL SAFE AS 'MODULE_PATHNAME', 'offset_timestamp_sortsupport';
+CREATE FUNCTION offset_timestamp_same(offset_timestamp, offset_timestamp) RETURNS boolean
+    LANGUAGE C IMMUTABLE STRICT PARALLEL SAFE AS 'MODULE_PATHNAME', 'offset_timestamp_same';
+CREATE OPERATOR === (
+    LEFTARG = offset_timestamp, RIGHTARG = offset_timestamp, FUNCTION = offset_timestamp_same,
+    COMMUTATOR = ===, RESTRICT = eqsel, JOIN = eqjoinsel
+);
+
+-- The order of exact_duration
+CREATE FUNCTION exact_duration_lt(exact_duration, exact_duration) RETURNS boolean
+    LANGUAGE C IMMUTABLE STRICT PARALLEL SAFE AS 'MODULE_PATHNAME', 'exact_duration_lt';
+CREATE OPERATOR < (
+    LEFTARG = exact_duration, RIGHTARG = exact_duration, FUNCTION = exact_duration_lt, COMMUTATOR = >, NEGATOR = >=,
+    RESTRICT = scalarltsel, JOIN = scalarltjoinsel
+);
+CREATE FUNCTION exact_duration_le(exact_duration, exact_duration) RETURNS boolean
+    LANGUAGE C IMMUTABLE STRICT PARALLEL SAFE AS 'MODULE_PATHNAME', 'exact_duration_le';
+CREATE OPERATOR <= (
+    LEFTARG = exact_duration, RIGHTARG = exact_duration, FUNCTION = exact_duration_le, COMMUTATOR = >=, NEGATOR = >,
+    RESTRICT = scalarlesel, JOIN = scalarlejoinsel
+);
+CREATE FUNCTION exact_duration_eq(exact_duration, exact_duration) RETURNS boolean
+    LANGUAGE C IMMUTABLE STRICT PARALLEL SAFE AS 'MODULE_PATHNAME', 'exact_duration_eq';
+CREATE OPERATOR = (
+    LEFTARG = exact_duration, RIGHTARG = exact_duration, FUNCTION = exact_duration_eq, COMMUTATOR = =, NEGATOR = <>,
+    RESTRICT = eqsel, JOIN = eqjoinsel, HASHES, MERGES
+);
+CREATE FUNCTION exact_duration_ne(exact_duration, exact_duration) RETURNS boolean
+    LANGUAGE C IMMUTABLE STRICT PARALLEL SAFE AS 'MODULE_PATHNAME', 'exact_duration_ne';
+CREATE OPERATOR <> (
+    LEFTARG = exact_duration, RIGHTARG = exact_duration, FUNCTION = exact_duration_ne, COMMUTATOR = <>, NEGATOR = =,
+    RESTRICT = neqsel, JOIN = neqjoinsel
+);
+CREATE FUNCTION exact_duration_ge(exact_duration, exact_duration) RETURNS boolean
+    LANGUAGE C IMMUTABLE STRICT PARALLEL SAFE AS 'MODULE_PATHNAME', 'exact_duration_ge';
+CREATE OPERATOR >= (
+    LEFTARG = exact_duration, RIGHTARG = exact_duration, FUNCTION = exact_duration_ge, COMMUTATOR = <=, NEGATOR = <,
+    RESTRICT = scalargesel, JOIN = scalargejoinsel
+);
+CREATE FUNCTION exact_duration_gt(exact_duration, exact_duration) RETURNS boolean
+    LANGUAGE C IMMUTABLE STRICT PARALLEL SAFE AS 'MODULE_PATHNAME', 'exact_duration_gt';
+CREATE OPERATOR > (
+    LEFTARG = exact_duration, RIGHTARG = exact_duration, FUNCTION = exact_duration_gt, COMMUTATOR = <, NEGATOR = <=,
+    RESTRICT = scalargtsel, JOIN = scalargtjoinsel
+);
+CREATE FUNCTION exact_duration_cmp(exact_duration, exact_duration) RETURNS integer
+    LANGUAGE C IMMUTABLE STRICT PARALLEL SAFE AS 'MODULE_PATHNAME', 'exact_duration_cmp';
+CREATE FUNCTION exact_duration_hash(exact_duration) RETURNS integer
+    LANGUAGE C IMMUTABLE STRICT PARALLEL SAFE AS 'MODULE_PATHNAME', 'exact_duration_hash';
+CREATE FUNCTION exact_duration_hash_extended(exact_duration, bigint) RETURNS bigint
+    LANGUAGE C IMMUTABLE STRICT PARALLEL SAFE AS 'MODULE_PATHNAME', 'exact_duration_hash_extended';
+CREATE FUNCTION exact_duration_larger(exact_duration, exact_duration) RETURNS exact_duration
+    LANGUAGE C IMMUTABLE STRICT PARALLEL SAFE AS 'MODULE_PATHNAME', 'exact_duration_larger';
+CREATE FUNCTION exact_duration_smaller(exact_duration, exact_duration) RETURNS exact_duration
+    LANGUAGE C IMMUTABLE STRICT PARALLEL SAFE AS 'MODULE_PATHNAME', 'exact_duration_smaller';
+
+-- The order of offset_timestamp and timestamptz
+CREATE FUNCTION offset_timestamp_lt_timestamptz(offset_timestamp, timestamptz) RETURNS boolean
+    LANGUAGE C IMMUTABLE STRICT PARALLEL SAFE AS 'MODULE_PATHNAME', 'offset_timestamp_lt_timestamptz';
+CREATE OPERATOR < (
+    LEFTARG = offset_timestamp, RIGHTARG = timestamptz, FUNCTION = offset_timestamp_lt_timestamptz, COMMUTATOR = >, NEGATOR = >=,
+    RESTRICT = scalarltsel, JOIN = scalarltjoinsel
+);
+CREATE FUNCTION offset_timestamp_timestamptz_lt(timestamptz, offset_timestamp) RETURNS boolean
+    LANGUAGE C IMMUTABLE STRICT PARALLEL SAFE AS 'MODULE_PATHNAME', 'offset_timestamp_timestamptz_lt';
+CREATE OPERATOR < (
+    LEFTARG = timestamptz, RIGHTARG = offset_timestamp, FUNCTION = offset_timestamp_timestamptz_lt, COMMUTATOR = >, NEGATOR = >=,
+    RESTRICT = scalarltsel, JOIN = scalarltjoinsel
+);
+CREATE FUNCTION offset_timestamp_le_timestamptz(offset_timestamp, timestamptz) RETURNS boolean
+    LANGUAGE C IMMUTABLE STRICT PARALLEL SAFE AS 'MODULE_PATHNAME', 'offset_timestamp_le_timestamptz';
+CREATE OPERATOR <= (
+    LEFTARG = offset_timestamp, RIGHTARG = timestamptz, FUNCTION = offset_timestamp_le_timestamptz, COMMUTATOR = >=, NEGATOR = >,
+    RESTRICT = scalarlesel, JOIN = scalarlejoinsel
+);
+CREATE FUNCTION offset_timestamp_timestamptz_le(timestamptz, offset_timestamp) RETURNS boolean
+    LANGUAGE C IMMUTABLE STRICT PARALLEL SAFE AS 'MODULE_PATHNAME', 'offset_timestamp_timestamptz_le';
+CREATE OPERATOR <= (
+    LEFTARG = timestamptz, RIGHTARG = offset_timestamp, FUNCTION = offset_timestamp_timestamptz_le, COMMUTATOR = >=, NEGATOR = >,
+    RESTRICT = scalarlesel, JOIN = scalarlejoinsel
+);
+CREATE FUNCTION offset_timestamp_eq_timestamptz(offset_timestamp, timestamptz) RETURNS boolean
+    LANGUAGE C IMMUTABLE STRICT PARALLEL SAFE AS 'MODULE_PATHNAME', 'offset_timestamp_eq_timestamptz';
+CREATE OPERATOR = (
+    LEFTARG = offset_timestamp, RIGHTARG = timestamptz, FUNCTION = offset_timestamp_eq_timestamptz, COMMUTATOR = =, NEGATOR = <>,
+    RESTRICT = eqsel, JOIN = eqjoinsel, MERGES
+);
+CREATE FUNCTION offset_timestamp_timestamptz_eq(timestamptz, offset_timestamp) RETURNS boolean
+    LANGUAGE C IMMUTABLE STRICT PARALLEL SAFE AS 'MODULE_PATHNAME', 'offset_timestamp_timestamptz_eq';
+CREATE OPERATOR = (
+    LEFTARG = timestamptz, RIGHTARG = offset_timestamp, FUNCTION = offset_timestamp_timestamptz_eq, COMMUTATOR = =, NEGATOR = <>,
+    RESTRICT = eqsel, JOIN = eqjoinsel, MERGES
+);
+CREATE FUNCTION offset_timestamp_ne_timestamptz(offset_timestamp, timestamptz) RETURNS boolean
+    LANGUAGE C IMMUTABLE STRICT PARALLEL SAFE AS 'MODULE_PATHNAME', 'offset_timestamp_ne_timestamptz';
+CREATE OPERATOR <> (
+    LEFTARG = offset_timestamp, RIGHTARG = timestamptz, FUNCTION = offset_timestamp_ne_timestamptz, COMMUTATOR = <>, NEGATOR = =,
+    RESTRICT = neqsel, JOIN = neqjoinsel
+);
+CREATE FUNCTION offset_timestamp_timestamptz_ne(timestamptz, offset_timestamp) RETURNS boolean
+    LANGUAGE C IMMUTABLE STRICT PARALLEL SAFE AS 'MODULE_PATHNAME', 'offset_timestamp_timestamptz_ne';
+CREATE OPERATOR <> (
+    LEFTARG = timestamptz, RIGHTARG = offset_timestamp, FUNCTION = offset_timestamp_timestamptz_ne, COMMUTATOR = <>, NEGATOR = =,
+    RESTRICT = neqsel, JOIN = neqjoinsel
+);
+CREATE FUNCTION offset_timestamp_ge_timestamptz(offset_timestamp, timestamptz) RETURNS boolean
+    LANGUAGE C IMMUTABLE STRICT PARALLEL SAFE AS 'MODULE_PATHNAME', 'offset_timestamp_ge_timestamptz';
+CREATE OPERATOR >= (
+    LEFTARG = offset_timestamp, RIGHTARG = timestamptz, FUNCTION = offset_timestamp_ge_timestamptz, COMMUTATOR = <=, NEGATOR = <,
+    RESTRICT = scalargesel, JOIN = scalargejoinsel
+);
+CREATE FUNCTION offset_timestamp_timestamptz_ge(timestamptz, offset_timestamp) RETURNS boolean
+    LANGUAGE C IMMUTABLE STRICT PARALLEL SAFE AS 'MODULE_PATHNAME', 'offset_timestamp_timestamptz_ge';
+CREATE OPERATOR >= (
+    LEFTARG = timestamptz, RIGHTARG = offset_timestamp, FUNCTION = offset_timestamp_timestamptz_ge, COMMUTATOR = <=, NEGATOR = <,
+    RESTRICT = scalargesel, JOIN = scalargejoinsel
+);
+CREATE FUNCTION offset_timestamp_gt_timestamptz(offset_timestamp, timestamptz) RETURNS boolean
+    LANGUAGE C IMMUTABLE STRICT PARALLEL SAFE AS 'MODULE_PATHNAME', 'offset_timestamp_gt_timestamptz';
+CREATE OPERATOR > (
+    LEFTARG = offset_timestamp, RIGHTARG = timestamptz, FUNCTION = offset_timestamp_gt_timestamptz, COMMUTATOR = <, NEGATOR = <=,
+    RESTRICT = scalargtsel, JOIN = scalargtjoinsel
+);
+CREATE FUNCTION offset_timestamp_timestamptz_gt(timestamptz, offset_timestamp) RETURNS boolean
+    LANGUAGE C IMMUTABLE STRICT PARALLEL SAFE AS 'MODULE_PATHNAME', 'offset_timestamp_timestamptz_gt';
+CREATE OPERATOR > (
+    LEFTARG = timestamptz, RIGHTARG = offset_timestamp, FUNCTION = offset_timestamp_timestamptz_gt, COMMUTATOR = <, NEGATOR = <=,
+    RESTRICT = scalargtsel, JOIN = scalargtjoinsel
+);
+CREATE FUNCTION offset_timestamp_cmp_timestamptz(offset_timestamp, timestamptz) RETURNS integer
+    LANGUAGE C IMMUTABLE STRICT PARALLEL SAFE AS 'MODULE_PATHNAME', 'offset_timestamp_cmp_timestamptz';
+CREATE FUNCTION offset_timestamp_timestamptz_cmp(timestamptz, offset_timestamp) RETURNS integer
+    LANGUAGE C IMMUTABLE STRICT PARALLEL SAFE AS 'MODULE_PATHNAME', 'offset_timestamp_timestamptz_cmp';
+
+-- Sums and differences
+CREATE FUNCTION offset_timestamp_plus(offset_timestamp, exact_duration) RETURNS offset_timestamp
+    LANGUAGE C IMMUTABLE STRICT PARALLEL SAFE AS 'MODULE_PATHNAME', 'offset_timestamp_plus';
+CREATE FUNCTION offset_timestamp_minus(offset_timestamp, exact_duration) RETURNS offset_timestamp
+    LANGUAGE C IMMUTABLE STRICT PARALLEL SAFE AS 'MODULE_PATHNAME', 'offset_timestamp_minus';
+CREATE FUNCTION offset_timestamp_difference(offset_timestamp, offset_timestamp) RETURNS exact_duration
+    LANGUAGE C IMMUTABLE STRICT PARALLEL SAFE AS 'MODULE_PATHNAME', 'offset_timestamp_difference';
+CREATE FUNCTION exact_duration_plus(exact_duration, exact_duration) RETURNS exact_duration
+    LANGUAGE C IMMUTABLE STRICT PARALLEL SAFE AS 'MODULE_PATHNAME', 'exact_duration_plus';
+CREATE FUNCTION exact_duration_minus(exact_duration, exact_duration) RETURNS exact_duration
+    LANGUAGE C IMMUTABLE STRICT PARALLEL SAFE AS 'MODULE_PATHNAME', 'exact_duration_minus';
+CREATE FUNCTION exact_duration_negative(exact_duration) RETURNS exact_duration
+    LANGUAGE C IMMUTABLE STRICT PARALLEL SAFE AS 'MODULE_PATHNAME', 'exact_duration_negative';
+CREATE OPERATOR + (
+    LEFTARG = offset_timestamp, RIGHTARG = exact_duration, FUNCTION = offset_timestamp_plus
+);
+CREATE OPERATOR - (
+    LEFTARG = offset_timestamp, RIGHTARG = exact_duration, FUNCTION = offset_timestamp_minus
+);
+CREATE OPERATOR - (
+    LEFTARG = offset_timestamp, RIGHTARG = offset_timestamp, FUNCTION = offset_timestamp_difference
+);
+CREATE OPERATOR + (
+    LEFTARG = exact_duration, RIGHTARG = exact_duration, FUNCTION = exact_duration_plus, COMMUTATOR = +
+);
+CREATE OPERATOR - (
+    LEFTARG = exact_duration, RIGHTARG = exact_duration, FUNCTION = exact_duration_minus
+);
+CREATE OPERATOR - (
+    RIGHTARG = exact_duration, FUNCTION = exact_duration_negative
+);
+CREATE FUNCTION add_months(offset_timestamp, integer) RETURNS offset_timestamp
+    LANGUAGE C IMMUTABLE STRICT PARALLEL SAFE AS 'MODULE_PATHNAME', 'offset_timestamp_add_months';
+CREATE FUNCTION whole_units(exact_duration, text) RETURNS bigint
+    LANGUAGE C IMMUTABLE STRICT PARALLEL SAFE AS 'MODULE_PATHNAME', 'exact_duration_count';
+CREATE FUNCTION generate_series(offset_timestamp, offset_timestamp, exact_duration) RETURNS SETOF offset_timestamp
+    LANGUAGE C IMMUTABLE STRICT PARALLEL SAFE ROWS 1000 AS 'MODULE_PATHNAME', 'offset_timestamp_series';
+CREATE FUNCTION in_range(offset_timestamp, offset_timestamp, exact_duration, boolean, boolean) RETURNS boolean
+    LANGUAGE C IMMUTABLE STRICT PARALLEL SAFE AS 'MODULE_PATHNAME', 'offset_timestamp_in_range';
+
+-- Indexes
+-- Values that are equal may have two offsets, so no equalimage lets an index keep one of them alone.
+CREATE OPERATOR FAMILY offset_timestamp_ops USING btree;
+CREATE OPERATOR CLASS offset_timestamp_ops DEFAULT FOR TYPE offset_timestamp USING btree FAMILY offset_timestamp_ops AS
+    OPERATOR 1 <, OPERATOR 2 <=, OPERATOR 3 =, OPERATOR 4 >=, OPERATOR 5 >,
+    FUNCTION 1 offset_timestamp_cmp(offset_timestamp, offset_timestamp),
+    FUNCTION 2 offset_timestamp_sortsupport(internal),
+    FUNCTION 3 (offset_timestamp, exact_duration) in_range(offset_timestamp, offset_timestamp, exact_duration, boolean, boolean);
+ALTER OPERATOR FAMILY offset_timestamp_ops USING btree ADD
+    OPERATOR 1 < (offset_timestamp, timestamptz),
+    OPERATOR 2 <= (offset_timestamp, timestamptz),
+    OPERATOR 3 = (offset_timestamp, timestamptz),
+    OPERATOR 4 >= (offset_timestamp, timestamptz),
+    OPERATOR 5 > (offset_timestamp, timestamptz),
+    FUNCTION 1 (offset_timestamp, timestamptz) offset_timestamp_cmp_timestamptz(offset_timestamp, timestamptz),
+    OPERATOR 1 < (timestamptz, offset_timestamp),
+    OPERATOR 2 <= (timestamptz, offset_timestamp),
+    OPERATOR 3 = (timestamptz, offset_timestamp),
+    OPERATOR 4 >= (timestamptz, offset_timestamp),
+    OPERATOR 5 > (timestamptz, offset_timestamp),
+    FUNCTION 1 (timestamptz, offset_timestamp) offset_timestamp_timestamptz_cmp(timestamptz, offset_timestamp),
+    OPERATOR 1 < (timestamptz, timestamptz),
+    OPERATOR 2 <= (timestamptz, timestamptz),
+    OPERATOR 3 = (timestamptz, timestamptz),
+    OPERATOR 4 >= (timestamptz, timestamptz),
+    OPERATOR 5 > (timestamptz, timestamptz),
+    FUNCTION 1 (timestamptz, timestamptz) timestamptz_cmp(timestamptz, timestamptz);
+CREATE OPERATOR CLASS exact_duration_ops DEFAULT FOR TYPE exact_duration USING btree AS
+    OPERATOR 1 <, OPERATOR 2 <=, OPERATOR 3 =, OPERATOR 4 >=, OPERATOR 5 >,
+    FUNCTION 1 exact_duration_cmp(exact_duration, exact_duration);
+CREATE OPERATOR CLASS offset_timestamp_hash_ops DEFAULT FOR TYPE offset_timestamp USING hash AS
+    OPERATOR 1 =,
+    FUNCTION 1 offset_timestamp_hash(offset_timestamp),
+    FUNCTION 2 offset_timestamp_hash_extended(offset_timestamp, bigint);
+CREATE OPERATOR CLASS offset_timestamp_minmax_ops DEFAULT FOR TYPE offset_timestamp USING brin AS
+    OPERATOR 1 <, OPERATOR 2 <=, OPERATOR 3 =, OPERATOR 4 >=, OPERATOR 5 >,
+    FUNCTION 1 brin_minmax_opcinfo(internal),
+    FUNCTION 2 brin_minmax_add_value(internal, internal, internal, internal),
+    FUNCTION 3 brin_minmax_consistent(internal, internal, internal),
+    FUNCTION 4 brin_minmax_union(internal, internal, internal);
+CREATE OPERATOR CLASS exact_duration_hash_ops DEFAULT FOR TYPE exact_duration USING hash AS
+    OPERATOR 1 =,
+    FUNCTION 1 exact_duration_hash(exact_duration),
+    FUNCTION 2 exact_duration_hash_extended(exact_duration, bigint);
+CREATE OPERATOR CLASS exact_duration_minmax_ops DEFAULT FOR TYPE exact_duration USING brin AS
+    OPERATOR 1 <, OPERATOR 2 <=, OPERATOR 3 =, OPERATOR 4 >=, OPERATOR 5 >,
+    FUNCTION 1 brin_minmax_opcinfo(internal),
+    FUNCTION 2 brin_minmax_add_value(internal, internal, internal, internal),
+    FUNCTION 3 brin_minmax_consistent(internal, internal, internal),
+    FUNCTION 4 brin_minmax_union(internal, internal, internal);
+CREATE FUNCTION offset_timestamp_subtype_diff(offset_timestamp, offset_timestamp) RETURNS double precision
+    LANGUAGE C IMMUTABLE STRICT PARALLEL SAFE AS 'MODULE_PATHNAME', 'offset_timestamp_subtype_diff';
+CREATE TYPE offset_timestamp_range AS RANGE (SUBTYPE = offset_timestamp, SUBTYPE_DIFF = offset_timestamp_subtype_diff);
+
+-- Aggregates
+CREATE AGGREGATE max(offset_timestamp) (
+    SFUNC = offset_timestamp_larger, STYPE = offset_timestamp, SORTOP = >, COMBINEFUNC = offset_timestamp_larger, PARALLEL = SAFE
+);
+CREATE AGGREGATE min(offset_timestamp) (
+    SFUNC = offset_timestamp_smaller, STYPE = offset_timestamp, SORTOP = <, COMBINEFUNC = offset_timestamp_smaller, PARALLEL = SAFE
+);
+CREATE AGGREGATE max(exact_duration) (
+    SFUNC = exact_duration_larger, STYPE = exact_duration, SORTOP = >, COMBINEFUNC = exact_duration_larger, PARALLEL = SAFE
+);
+CREATE AGGREGATE min(exact_duration) (
+    SFUNC = exact_duration_smaller, STYPE = exact_duration, SORTOP = <, COMBINEFUNC = exact_duration_smaller, PARALLEL = SAFE
+);
+CREATE AGGREGATE sum(exact_duration) (
+    SFUNC = exact_duration_plus, STYPE = exact_duration, COMBINEFUNC = exact_duration_plus, PARALLEL = SAFE
+);
+
+-- Casts: an assignment takes a timestamptz, at the offset 0
+CREATE FUNCTION offset_timestamp(timestamptz) RETURNS offset_timestamp
+    LANGUAGE C IMMUTABLE STRICT PARALLEL SAFE AS 'MODULE_PATHNAME', 'offset_timestamp_from_timestamptz';
+CREATE FUNCTION offset_timestamp(timestamptz, integer) RETURNS offset_timestamp
+    LANGUAGE C IMMUTABLE STRICT PARALLEL SAFE AS 'MODULE_PATHNAME', 'offset_timestamp_from_timestamptz';
+CREATE FUNCTION offset_timestamp_digits(offset_timestamp, integer) RETURNS offset_timestamp
+    LANGUAGE C IMMUTABLE STRICT PARALLEL SAFE AS 'MODULE_PATHNAME', 'offset_timestamp_digits';
+CREATE FUNCTION timestamptz(offset_timestamp) RETURNS timestamptz
+    LANGUAGE C IMMUTABLE STRICT PARALLEL SAFE AS 'MODULE_PATHNAME', 'offset_timestamp_to_timestamptz';
+CREATE FUNCTION rounded_down(offset_timestamp) RETURNS timestamptz
+    LANGUAGE C IMMUTABLE STRICT PARALLEL SAFE AS 'MODULE_PATHNAME', 'offset_timestamp_rounded_down';
+CREATE FUNCTION exact_duration(interval) RETURNS exact_duration
+    LANGUAGE C IMMUTABLE STRICT PARALLEL SAFE AS 'MODULE_PATHNAME', 'exact_duration_from_interval';
+CREATE FUNCTION "interval"(exact_duration) RETURNS interval
+    LANGUAGE C IMMUTABLE STRICT PARALLEL SAFE AS 'MODULE_PATHNAME', 'exact_duration_to_interval';
+CREATE CAST (offset_timestamp AS offset_timestamp) WITH FUNCTION offset_timestamp_digits(offset_timestamp, integer) AS IMPLICIT;
+CREATE CAST (timestamptz AS offset_timestamp) WITH FUNCTION offset_timestamp(timestamptz) AS ASSIGNMENT;
+CREATE CAST (offset_timestamp AS timestamptz) WITH FUNCTION timestamptz(offset_timestamp);
+CREATE CAST (interval AS exact_duration) WITH FUNCTION exact_duration(interval) AS IMPLICIT;
+CREATE CAST (exact_duration AS interval) WITH FUNCTION "interval"(exact_duration);
+
+-- Parts, offsets and texts
+CREATE FUNCTION at_offset(offset_timestamp, integer) RETURNS offset_timestamp
+    LANGUAGE C IMMUTABLE STRICT PARALLEL SAFE AS 'MODULE_PATHNAME', 'offset_timestamp_at_offset';
+CREATE FUNCTION date_trunc(text, offset_timestamp) RETURNS offset_timestamp
+    LANGUAGE C IMMUTABLE STRICT PARALLEL SAFE AS 'MODULE_PATHNAME', 'offset_timestamp_truncate';
+CREATE FUNCTION date_part(text, offset_timestamp) RETURNS bigint
+    LANGUAGE C IMMUTABLE STRICT PARALLEL SAFE AS 'MODULE_PATHNAME', 'offset_timestamp_part';
+CREATE FUNCTION offset_timestamp_refused(text) RETURNS text
+    LANGUAGE C IMMUTABLE STRICT PARALLEL SAFE AS 'MODULE_PATHNAME', 'offset_timestamp_refused';
+CREATE FUNCTION offset_timestamp_or_null(text) RETURNS offset_timestamp
+    LANGUAGE C IMMUTABLE STRICT PARALLEL SAFE AS 'MODULE_PATHNAME', 'offset_timestamp_or_null';

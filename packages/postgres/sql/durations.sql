@@ -1,0 +1,26 @@
+SELECT d::exact_duration FROM (VALUES ('90'), ('1.5'), ('-0.5'), ('90 minutes'), ('1 day 2 hours -1 nanosecond'), ('+1 Day'), ('0.5 days')) v (d);
+SELECT '9223372036854775807.999999999'::exact_duration, '-9223372036854775808.999999999'::exact_duration;
+SELECT '9223372036854775808'::exact_duration;
+SELECT '106751991167301 days'::exact_duration;
+SELECT '99999999999999999999999999999999999999999'::exact_duration;
+SELECT '99999999999999999999999999 days'::exact_duration;
+SELECT '0.123456789123456789123456789123 days'::exact_duration;
+SELECT ''::exact_duration;
+SELECT '1 month'::exact_duration;
+SELECT '1 day 2 weeks'::exact_duration;
+SELECT '0.5 nanoseconds'::exact_duration;
+SELECT '1.'::exact_duration;
+SELECT '1 - 2'::exact_duration;
+SELECT exact_duration_send('-0.5'), exact_duration_send('1 day');
+SELECT a, b, a = b AS eq, a < b AS lt, a <= b AS le, a > b AS gt, a >= b AS ge, a <> b AS ne
+FROM (VALUES ('1 day'::exact_duration, '86400'::exact_duration), ('-0.000000001', '0')) v (a, b);
+SELECT '1 day'::exact_duration + '0.5', '1 day'::exact_duration - '1.5 days'::exact_duration, - '0.5'::exact_duration;
+SELECT '9223372036854775807'::exact_duration + '1';
+SELECT sum(d), min(d), max(d) FROM (VALUES ('0.1'::exact_duration), ('0.2'), ('-1')) v (d);
+SELECT u, whole_units('-25 hours', u) FROM unnest(ARRAY['day', 'hours', 'minute', 'second', 'millisecond', 'nanoseconds']) u;
+SELECT whole_units('9223372036854775807', 'nanosecond');
+SELECT whole_units('1', 'fortnight');
+SELECT interval '1 day 02:00:00.5'::exact_duration, '90061.5'::exact_duration::interval;
+SELECT interval '1 month'::exact_duration;
+SELECT '0.000000001'::exact_duration::interval;
+SELECT '1000000000 days'::exact_duration::interval;

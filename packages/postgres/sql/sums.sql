@@ -1,0 +1,32 @@
+SELECT '2024-02-28T23:30:00-01:00'::offset_timestamp + '90 minutes', '2024-02-28T23:30:00-01:00'::offset_timestamp - '1 nanosecond'::exact_duration,
+    '2024-02-28T23:30:00-01:00'::offset_timestamp + interval '1 day 1 second';
+SELECT '2024-02-28T23:30:00-01:00'::offset_timestamp + interval '1 month';
+SELECT '9999-12-31T23:59:59Z'::offset_timestamp + '1';
+SELECT '9999-12-31T23:59:59Z'::offset_timestamp + '1' > '9999-12-31T23:59:59Z' AS later;
+SELECT '2024-02-28T23:30:00-01:00'::offset_timestamp + '9223372036854775807';
+SELECT '2024-03-01T00:00:00Z'::offset_timestamp - '2024-02-28T23:30:00-01:00', '9999-12-31T23:59:59Z'::offset_timestamp - '0000-01-01T00:00:00Z';
+SELECT add_months('2024-01-31T23:30:00-01:00', 1), add_months('2024-02-29T00:00:00Z', -12), add_months('2024-02-29T00:00:00Z', 0);
+SELECT add_months('9999-12-31T23:59:59Z', 1);
+SELECT u, date_trunc(u, '2024-02-28T23:34:56.123456789-01:00'::offset_timestamp)
+FROM unnest(ARRAY['year', 'quarter', 'month', 'week', 'day', 'hour', 'minute', 'second', 'milliseconds', 'microsecond', 'nanosecond']) u;
+SELECT date_trunc('week', '2025-01-01T00:00:00+14:00'::offset_timestamp), date_trunc('quarter', '2024-12-31T23:59:59Z'::offset_timestamp);
+SELECT date_trunc('week', '0000-01-01T00:00:00Z'::offset_timestamp);
+SELECT date_trunc('fortnight', '2024-12-31T23:59:59Z'::offset_timestamp);
+SELECT at_offset('2024-02-28T23:30:00-01:00', 7200), at_offset('9999-12-31T23:59:59Z', -60);
+SELECT at_offset('9999-12-31T23:59:59Z', 60);
+SELECT at_offset('2024-02-28T23:30:00-01:00', 7201);
+SELECT at_offset('2024-02-28T23:30:00-01:00', 86400);
+SELECT p, date_part(p, '2024-12-30T23:30:05.5-01:00'::offset_timestamp)
+FROM unnest(ARRAY['year', 'quarter', 'month', 'day', 'hour', 'minute', 'second', 'nanosecond', 'timezone', 'epoch', 'doy', 'dow', 'isodow', 'isoyear', 'week', 'julian']) p;
+SELECT date_part('quarter', '2024-01-15T00:00:00Z'::offset_timestamp), date_part('quarter', '2024-06-30T00:00:00Z'::offset_timestamp);
+SELECT date_part('millennium', '2024-12-30T23:30:05.5-01:00'::offset_timestamp);
+-- series, up and down, and at the end of the range
+SELECT generate_series('2024-02-28T22:00:00-01:00'::offset_timestamp, '2024-02-29T01:00:00Z', '30 minutes');
+SELECT generate_series('2024-02-29T00:00:00Z'::offset_timestamp, '2024-02-27T00:00:00Z', '-1 day');
+SELECT generate_series('9999-12-31T22:30:00Z'::offset_timestamp, '9999-12-31T23:59:59Z', '1 hour');
+SELECT generate_series('2024-02-29T00:00:00Z'::offset_timestamp, '2024-02-27T00:00:00Z', '0');
+-- a window of a day
+SELECT at, count(*) OVER (ORDER BY at RANGE BETWEEN '1 day' PRECEDING AND CURRENT ROW) AS day,
+    count(*) OVER (ORDER BY at RANGE BETWEEN interval '12 hours' PRECEDING AND '12 hours' FOLLOWING) AS both_ways
+FROM (VALUES ('2024-02-27T00:00:00Z'::offset_timestamp), ('2024-02-27T23:00:00Z'), ('2024-02-28T01:00:00+01:00'), ('2024-02-28T00:00:00.000000001Z')) v (at);
+SELECT count(*) OVER (ORDER BY at RANGE BETWEEN '-1 day' PRECEDING AND CURRENT ROW) FROM (VALUES ('2024-02-27T00:00:00Z'::offset_timestamp)) v (at);
