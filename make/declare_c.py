@@ -57,8 +57,9 @@ MUXANDU_INLINE {head} {{
 """
 
 STRING = f"""\
-/* What a status says, as muxandu_status_text writes it: a text that stays and ends with a byte 0, for a message. This call and
- * those that end with _z are compiled with the program, and not proved; what they answer is what the proved calls answer. */
+/* The text of a status, as muxandu_status_text writes it, for a message. It stays, and ends with a
+ * byte 0. Your compiler compiles this call and those that end with _z, and no proof covers them;
+ * they answer by the proved calls. */
 MUXANDU_INLINE const char *muxandu_status_string({STATUS} status) {{
     switch (status) {{
 """
@@ -117,7 +118,7 @@ def room_of(call):
     return next((place for place, one in enumerate(call["parameters"]) if "most" in one), None)
 
 
-def terminated(name, call):
+def terminated_call(name, call):
     """The lines of that call."""
     place = room_of(call)
     if place is None:
@@ -203,7 +204,7 @@ class Header:
             made += [f"    case MUXANDU_{variant['constant']}:", f"        return {quoted(variant['doc'])};"]
         made += ["    default:", f"        return {quoted(others['UNKNOWN']['doc'])};", "    }", "}", ""]
         for name, call in self.interface["calls"].items():
-            made += terminated(name, call)
+            made += terminated_call(name, call)
         return made
 
 

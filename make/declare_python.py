@@ -1,15 +1,15 @@
-"""packages/python/muxandu/muxandu_sys.py, of the description of the interface."""
+"""The structures of the Python package, and the calls that its tests make of the shared library, of the description."""
 
 from declare_c import NUMBERS
-from shared.interface import CONSTANTS, HEAD, WIDTH, duties, quoted, type_of, variants_of, wrapped
+from shared.interface import CONSTANTS, HEAD, WIDTH, quoted, type_of, wrapped
 
 # The type of ctypes whose name is not that of C without its end.
 SHORT = {"usize": "size_t"}
 
 # How the layout is compared when the module is read.
 LAID_OUT = '''
-def laid_out(structure, size, **places):
-    """Stops where a structure has not the size, or a field of it not the place, that the library has."""
+def laid_out(structure, size, /, **places):
+    """Stops if the size of a structure or the place of a field is not that of the library."""
     found = {name: getattr(structure, name).offset for name in places}
     if (ctypes.sizeof(structure), found) != (size, places):
         raise ImportError(f"{structure.__name__} is not laid out as the library has it: {found}")
@@ -27,7 +27,7 @@ def declare(library):
 '''
 
 
-def documented(text, indent):
+def docstring(text, indent):
     if len(indent) + len(text) + 6 <= WIDTH:
         return [f'{indent}"""{text}"""']
     lines = wrapped(text, f'{indent}"""', indent, WIDTH - 3)
@@ -45,20 +45,6 @@ class Module:
         kind = type_of(self.interface, kind)
         return f"ctypes.c_{SHORT.get(kind) or NUMBERS[kind][:-2]}" if kind in NUMBERS else str(kind)
 
-    def enums(self):
-        made = []
-        for name, enum in self.interface["enums"].items():
-            made += ["", f"class {name}:", *documented(enum["doc"], "    "), ""]
-            for one in variants_of(self.interface, name):
-                made += [*wrapped(one["doc"], "    # ", "    # "), f"    {one['name']} = {one['number']}"]
-            made.append("")
-            if name == "Refused":
-                made += ["", "# The name of each status of a refusal, and what it says.", "REFUSALS = {"]
-                for one in variants_of(self.interface, name):
-                    made.append(f"    {one['number']}: ({quoted(one['name'])}, {quoted(one['doc'])}),")
-                made += ["}", ""]
-        return made
-
     def constants(self):
         version = self.interface["version"]
         groups = [{version["name"]: version}, *(self.interface[group] for group in CONSTANTS)]
@@ -70,7 +56,7 @@ class Module:
     def structs(self):
         made = []
         for name, struct in self.interface["structs"].items():
-            made += ["", f"class {name}(ctypes.Structure):", *documented(struct["doc"], "    "), "", "    _fields_ = ["]
+            made += ["", f"class {name}(ctypes.Structure):", *docstring(struct["doc"], "    "), "", "    _fields_ = ["]
             for field in struct["fields"]:
                 made += wrapped(field["doc"], "        # ", "        # ")
                 made.append(f'        ("{field["name"]}", {self.type_of(field["type"])}),')
@@ -93,9 +79,24 @@ class Module:
         return [*made, "}", "", ""]
 
 
-def write_python(interface):
+def write_structures(interface):
+    """The structures, which the package has."""
+    made = [
+        '"""The structures of the library, as ctypes has them.',
+        "",
+        HEAD[1],
+        '"""',
+        "",
+        "import ctypes",
+        "",
+        *LAID_OUT.split("\n"),
+    ]
+    return "\n".join([*made, *Module(interface).structs()])
+
+
+def write_calls(interface):
+    """The calls and the constants, which tests have."""
     module = Module(interface)
-    made = [f'"""{HEAD[0]}', "", HEAD[1], "", *duties(), '"""', "", "import ctypes", ""]
-    made += ["# Nothing is refused.", "OK = 0", "", *LAID_OUT.split("\n")]
-    made += [*module.enums(), *module.constants(), *module.structs(), *module.calls(), DECLARE]
-    return "\n".join(made)
+    made = ['"""The calls of the shared library for tests, through ctypes.', "", HEAD[1], '"""', "", "import ctypes", ""]
+    made += ["from muxandu._structures import (", *(f"    {name}," for name in sorted(interface["structs"])), ")", ""]
+    return "\n".join([*made, *module.constants(), *module.calls(), DECLARE])

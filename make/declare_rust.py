@@ -16,7 +16,7 @@ UNSAFE = {
 UNUSED = ("muxandu_status_name", "muxandu_status_text")
 
 
-def documented(doc, indent=""):
+def doc_comment(doc, indent=""):
     return wrapped(doc, f"{indent}/// ", f"{indent}/// ")
 
 
@@ -24,21 +24,21 @@ def numbers(interface):
     made = ["/// Nothing is refused.", "pub const OK: u32 = 0;"]
     for name in interface["enums"]:
         for one in variants_of(interface, name):
-            made += [*documented(one["doc"]), f"pub const {one['constant']}: u32 = {one['number']};"]
+            made += [*doc_comment(one["doc"]), f"pub const {one['constant']}: u32 = {one['number']};"]
         made.append("")
     groups = [{interface["version"]["name"]: interface["version"]}, *(interface[group] for group in CONSTANTS)]
     for name, one in [pair for group in groups for pair in group.items()]:
-        made += [*documented(one["doc"]), "#[allow(dead_code)]", f"pub const {name}: {one['type']} = {one['number']};", ""]
+        made += [*doc_comment(one["doc"]), "#[allow(dead_code)]", f"pub const {name}: {one['type']} = {one['number']};", ""]
     return made
 
 
 def structs(interface):
     made = []
     for name, struct in interface["structs"].items():
-        made += [*documented(struct["doc"]), "#[repr(C)]", "#[derive(Clone, Copy, Debug, Default, PartialEq, Eq)]"]
+        made += [*doc_comment(struct["doc"]), "#[repr(C)]", "#[derive(Clone, Copy, Debug, Default, PartialEq, Eq)]"]
         made.append(f"pub struct {name} {{")
         for field in struct["fields"]:
-            made += [*documented(field["doc"], "    "), f"    pub {field['name']}: {type_of(interface, field['type'])},"]
+            made += [*doc_comment(field["doc"], "    "), f"    pub {field['name']}: {type_of(interface, field['type'])},"]
         made += ["}", "", f"const _: () = assert!(size_of::<{name}>() == {struct['size']});"]
         for field in struct["fields"]:
             place = f"core::mem::offset_of!({name}, {field['name']})"
@@ -56,12 +56,12 @@ def calls(interface):
         ]
         safety = "safe" if all(one["role"] in SAFE for one in call["parameters"]) else "unsafe"
         result = f" -> {type_of(interface, call['result'])}" if call["result"] else ""
-        made += [*documented(call["doc"], "    "), *(["    #[allow(dead_code)]"] if name in UNUSED else [])]
+        made += [*doc_comment(call["doc"], "    "), *(["    #[allow(dead_code)]"] if name in UNUSED else [])]
         made.append(f"    pub {safety} fn {name}({', '.join(words)}){result};")
     return [*made, "}", ""]
 
 
 def write_rust(interface):
-    told = "\n".join(duties()).replace("\nAny", "\n\nAny").split("\n")
+    told = "\n".join(duties()).replace("\nA field", "\n\nA field").split("\n")
     made = [*(f"//! {line}" for line in HEAD), "//!", *(f"//! {line}".rstrip() for line in told), ""]
     return "\n".join([*made, *numbers(interface), *structs(interface), *calls(interface)])

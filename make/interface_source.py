@@ -3,11 +3,12 @@
 A source that the description cannot tell stops the tool with its file, its line and what was expected there.
 """
 
+import itertools
 import re
 import sys
 from pathlib import Path
 
-from shared.items import above, body_from, head_from, one_line
+from shared.items import above, body_from, first_sentence, head_from, one_line
 from shared.version import version_text
 
 ROOT = Path(__file__).resolve().parent.parent
@@ -25,7 +26,6 @@ BYTES = {"items in": "text", "items out": "room"}
 
 CONSTANT = re.compile(r"pub const MUXANDU_(\w+): (usize|u32|i32|i64) = (-?[0-9_]+);$")
 OTHERS = re.compile(r'^ +(?:return|None =>) "(.*)"[;,]$', re.MULTILINE)
-WORDS = re.compile(r'^ +Refused::(\w+) =>\s+(?:\{\s+)?"(.*)",?$', re.MULTILINE)
 MOST = re.compile(r"^    ensures room \{.*? length .* [≤≡] (\d+)\)? \}$")
 
 
@@ -45,12 +45,18 @@ class Source:
     def stop(self, at, expected):
         sys.exit(f"{self.path}:{at + 1}: {self.lines[at].strip()}: expected {expected}")
 
-    def documented(self, at):
+    def doc_at(self, at):
         """The doc comment above a line, in one line, and the attributes there."""
         doc, attributes = above(self.lines, at)
         if not doc:
             self.stop(at, "a doc comment above it")
         return " ".join(doc), attributes
+
+    def group(self):
+        """What the calls of the file are, as the first sentence at its head says."""
+        head = itertools.takewhile(lambda line: line.startswith("//!"), self.lines)
+        said = first_sentence(" ".join(line.removeprefix("//!").strip() for line in head)).rstrip(".")
+        return said or self.stop(0, "a line `//!` about the calls of the file")
 
     def rows(self, at):
         """The places of the lines inside the braces of a type that are no comments."""
@@ -80,11 +86,11 @@ class Interface:
             if not getattr(self, name):
                 sys.exit(f"{SOURCE.relative_to(ROOT)}: expected {name}, and there is none")
         self.compare_types()
-        self.compare_words()
+        self.read_others()
         for struct in self.structs.values():
             self.lay_out(struct)
 
-    def described(self):
+    def description(self):
         return {
             "version": self.version,
             "limits": self.limits,
@@ -115,7 +121,7 @@ class Interface:
         group[name] = described
 
     def constant(self, source, at):
-        doc, _ = source.documented(at)
+        doc, _ = source.doc_at(at)
         name, kind, number = source.match(at, CONSTANT, "a constant MUXANDU_NAME: usize, u32, i32 or i64, in digits").groups()
         described = {"type": kind, "number": int(number), "doc": doc}
         if source.name == "version":
@@ -129,7 +135,7 @@ class Interface:
 
     def number(self, source, at):
         """A name for a number of an enum, which stands in the same file."""
-        doc, _ = source.documented(at)
+        doc, _ = source.doc_at(at)
         [name] = source.match(at, r"pub type (\w+) = u32;$", "a name of u32").groups()
         enums = [found[1] for found in (re.match(r"pub enum (\w+)", line) for line in source.lines) if found]
         if len(enums) != 1:
@@ -137,7 +143,7 @@ class Interface:
         self.add(source, at, self.numbers, name, {"type": "u32", "of": enums[0], "doc": doc})
 
     def enum(self, source, at):
-        doc, _ = source.documented(at)
+        doc, _ = source.doc_at(at)
         [name] = source.match(at, r"pub enum (\w+) \{$", "an enum with a variant a line").groups()
         variants, last = {}, 0
         for row in source.rows(at):
@@ -146,7 +152,7 @@ class Interface:
             if int(number) <= last:
                 source.stop(row, expected)
             last = int(number)
-            sentence, _ = source.documented(row)
+            sentence, _ = source.doc_at(row)
             if not sentence.endswith(".") or ". " in sentence:
                 source.stop(row, "one sentence above it")
             variants[upper(variant)] = {"variant": variant, "number": last, "doc": sentence}
@@ -154,7 +160,7 @@ class Interface:
         self.add(source, at, self.enums, name, {"doc": doc, "variants": variants})
 
     def struct(self, source, at):
-        doc, attributes = source.documented(at)
+        doc, attributes = source.doc_at(at)
         [name] = source.match(at, r"pub struct (\w+) \{$", "a struct with a field a line").groups()
         if "#[repr(C)]" not in attributes:
             source.stop(at, "#[repr(C)] above it")
@@ -162,11 +168,11 @@ class Interface:
         for row in source.rows(at):
             field, kind = source.match(row, r"    pub (\w+): (\w+),$", "a public field of a number").groups()
             self.used.append((source, row, kind, "a number"))
-            fields.append({"name": field, "type": kind, "doc": source.documented(row)[0]})
+            fields.append({"name": field, "type": kind, "doc": source.doc_at(row)[0]})
         self.add(source, at, self.structs, name, {"doc": doc, "fields": fields})
 
     def call(self, source, at):
-        doc, attributes = source.documented(at)
+        doc, attributes = source.doc_at(at)
         head, clauses = head_from(source.lines, at)
         for row, clause in enumerate(clauses, at + len(head)):
             if clause.strip().startswith("requires"):
@@ -186,7 +192,8 @@ class Interface:
                 source.stop(at, "a clause `room` with the most bytes of its text")
         if result:
             self.used.append((source, at, result, "a number or a struct"))
-        self.add(source, at, self.calls, name, {"doc": doc, "parameters": parameters, "result": result})
+        group = source.group()
+        self.add(source, at, self.calls, name, {"group": group, "doc": doc, "parameters": parameters, "result": result})
 
     def parameter(self, source, at, word):
         """A parameter of the source: one of C, or an address and how many items lie there."""
@@ -209,19 +216,9 @@ class Interface:
             if kind not in SIZES and kind not in self.numbers and (kind not in self.structs or "struct" not in expected):
                 source.stop(at, f"{expected}, and {kind} is none")
 
-    def compare_words(self):
-        """The names and the words that the library has of its refusals are those of the enum. Reads those of 0, and of a number
-        that is no status."""
+    def read_others(self):
+        """Reads the names and the sentences of 0, and of a number that is no status."""
         [source] = [source for source in self.sources if source.name == "status_texts"]
-        found = list(WORDS.finditer("\n".join(source.lines)))
-        variants = self.enums["Refused"]["variants"].items()
-        wanted = [(one["variant"], name) for name, one in variants] + [(one["variant"], one["doc"]) for _, one in variants]
-        for place, (variant, words) in zip(found, wanted):
-            if place.groups() != (variant, words):
-                at = "\n".join(source.lines)[: place.start(1)].count("\n")
-                source.stop(at, f'Refused::{variant} => "{words}", as refused.rt has it')
-        if len(found) != len(wanted):
-            source.stop(len(source.lines) - 1, f"{len(wanted)} names and sentences of refusals, and not {len(found)}")
         others = OTHERS.findall("\n".join(source.lines))
         if len(others) != 4:
             source.stop(len(source.lines) - 1, "a name and a sentence for 0 and for other numbers")
@@ -242,6 +239,6 @@ class Interface:
         struct["size"] = -(-end // widest) * widest
 
 
-def described():
+def description():
     """The description."""
-    return Interface().described()
+    return Interface().description()

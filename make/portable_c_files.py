@@ -236,7 +236,7 @@ def constants():
     return dict(re.findall(r'^export const (\w+) = "(.*)";$', MODULE.read_text(encoding="utf-8"), re.MULTILINE))
 
 
-def ended(*words):
+def output_of(*words):
     """What a command prints, which must end well."""
     return subprocess.run(words, stdout=subprocess.PIPE, encoding="utf-8", check=True).stdout
 
@@ -253,7 +253,7 @@ def without(text, *patterns):
 def module_in_c(folder, module):
     """The functions of the module as wasm2c writes them, closed in their file, and how many pages its memory has."""
     (folder / "module.wasm").write_bytes(base64.b64decode(module))
-    ended(WASM_TO_C, str(folder / "module.wasm"), "-n", "muxandu", "-o", str(folder / "module.c"))
+    output_of(WASM_TO_C, str(folder / "module.wasm"), "-n", "muxandu", "-o", str(folder / "module.c"))
     header, body = ((folder / f"module.{end}").read_text(encoding="utf-8") for end in "hc")
     found = re.search(r"wasm_rt_allocate_memory\(&instance->w2c_memory, (\d+), \1\);", body)
     if found is None or "CALL_INDIRECT(instance" in body:
@@ -379,7 +379,7 @@ def write_all(folder):
         body, pages = module_in_c(work, said["MODULE"])
     finally:
         shutil.rmtree(work)
-    wabt = ended(WASM_TO_C, "--version").strip()
+    wabt = output_of(WASM_TO_C, "--version").strip()
     banner = BANNER.format(
         version=described["version"]["text"], proved=said["PROVED_MODULE"], lowered=said["LOWERED_BY"], wasm2c=wabt
     )

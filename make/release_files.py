@@ -1,6 +1,5 @@
 """The files of a release, each a function of the sources, the archive and the programs, and of nothing else of the machine."""
 
-import glob
 import gzip
 import hashlib
 import io
@@ -15,6 +14,7 @@ from pathlib import Path
 
 from shared.gate import REPOSITORY
 from shared.interface import read as read_interface
+from shared.python_package import PYTHON
 
 ROOT = Path(REPOSITORY)
 MAINTAINERS = "Muxandu maintainers <maintainers@users.noreply.muxandu.example>"
@@ -73,7 +73,7 @@ class Failed(Exception):
     """A release cannot be made, for this reason."""
 
 
-def packed(content):
+def compress(content):
     """A text or bytes, compressed, without the time and the name."""
     data = io.BytesIO()
     with gzip.GzipFile("", "wb", 9, data, mtime=0) as file:
@@ -96,7 +96,7 @@ def write_tar(release, path, files):
             member.size = len(content)
             member.mode = 0o755 if source.stat().st_mode & stat.S_IXUSR else 0o644
             archive.addfile(member, io.BytesIO(content))
-    path.write_bytes(packed(data.getvalue()))
+    path.write_bytes(compress(data.getvalue()))
 
 
 def files_below(folder, prefix):
@@ -108,7 +108,7 @@ def write_sources(release):
     """The sources of the commit."""
     name = f"muxandu-{release.version}"
     content = release.run("git", "archive", "--format=tar", f"--prefix={name}/", release.commit)
-    (release.folder("source") / f"{name}-source.tar.gz").write_bytes(packed(content))
+    (release.folder("source") / f"{name}-source.tar.gz").write_bytes(compress(content))
 
 
 def write_rust(release):
@@ -137,11 +137,24 @@ def value_of(manifest, key):
 
 def write_python(release, dist):
     """The wheel and the archive of sources, in which the library is compiled in."""
-    folder = release.folder("python")
-    program = "import sys, wheel_backend as made; made.build_wheel(sys.argv[1]); made.build_sdist(sys.argv[1])"
-    python = "/usr/bin/python3" if glob.glob("/usr/include/python3.*/Python.h") else "python3"
+    folder, work = release.folder("python"), release.empty("python")
+    sources = plain_copy(ROOT / "packages" / "python", work / "sources")
     variables = {"MUXANDU_DIST": str(dist), "MUXANDU_EXTENSION": "must", "PYTHONDONTWRITEBYTECODE": "1"}
-    release.run(python, "-c", program, folder, folder=ROOT / "packages" / "python", **variables)
+    release.run(PYTHON, "setup.py", "-q", "bdist_wheel", "--dist-dir", folder, folder=sources, **variables)
+    release.run(PYTHON, "setup.py", "-q", "sdist", "--formats", "tar", "--dist-dir", work, folder=sources, **variables)
+    name = f"muxandu-{release.version}"
+    release.run("tar", "--extract", "--file", f"{name}.tar", folder=work)
+    write_tar(release, folder / f"{name}.tar.gz", files_below(work / name, name))
+
+
+def plain_copy(source, target):
+    """A copy of the files of the commit in a folder, which all may read."""
+    for name in subprocess.run(["git", "ls-files"], cwd=source, capture_output=True, encoding="utf-8", check=True).stdout.split():
+        path = target / name
+        path.parent.mkdir(parents=True, exist_ok=True)
+        shutil.copyfile(source / name, path)
+        path.chmod(0o644)
+    return target
 
 
 def write_javascript(release):
@@ -156,6 +169,21 @@ def write_javascript(release):
 def write_sqlite(release, dist):
     """The extension, whose name must be that of its entry point."""
     release.run(ROOT / "packages" / "sqlite" / "build", dist, release.folder("sqlite") / "muxandu.so")
+
+
+def write_postgres(release, dist):
+    """The extension for PostgreSQL, for the version whose headers are here."""
+    said = release.run("pg_config", "--version", "--pgxs").decode().split()
+    if not os.path.exists(said[-1]):
+        return
+    made, version = release.empty("postgres"), said[1].partition(".")[0]
+    shutil.copytree(ROOT / "packages" / "postgres", made, dirs_exist_ok=True, ignore=shutil.ignore_patterns("*.o", "*.so"))
+    release.run("make", f"DIST={dist}", "COPT=-g0", folder=made)
+    name = f"muxandu-{release.version}-postgresql-{version}-x86_64-linux"
+    files = {f"{name}/lib/muxandu.so": made / "muxandu.so", f"{name}/extension/muxandu.control": made / "muxandu.control"}
+    files |= {f"{name}/extension/{path.name}": path for path in made.glob("muxandu--*.sql")}
+    files |= {f"{name}/{path.name}": path for path in ROOT.glob("LICENSE-*")}
+    write_tar(release, release.folder("postgres") / f"{name}.tar.gz", files)
 
 
 def write_library(release, dist):
@@ -175,10 +203,14 @@ def write_portable(release):
 
 
 def write_programs(release):
-    """The two programs."""
-    folder = release.folder("programs")
+    """The two programs, which need no library of the machine where their objects are there."""
+    folder, kit = release.folder("programs"), Path(shutil.which("rattle") or "").resolve().parent.parent
     for name in ("stamps", "times_bench"):
-        shutil.copyfile(release.built / name, folder / name)
+        built = release.built / f"{name}.o"
+        if built.is_file():
+            release.run("cc", "-static", "-o", folder / name, built, kit / "c" / "libos_c.a", kit / "c" / "liblibc_c.a")
+        else:
+            shutil.copyfile(release.built / name, folder / name)
         (folder / name).chmod(0o755)
 
 
@@ -205,7 +237,7 @@ class Package:
         }
         self.others = others
 
-    def put(self, name, content, mode=0o644):
+    def add_file(self, name, content, mode=0o644):
         """Writes a file of the package."""
         path = self.root / name
         path.parent.mkdir(parents=True, exist_ok=True)
@@ -219,19 +251,19 @@ class Package:
         if source.is_symlink():
             path.symlink_to(os.readlink(source))
         else:
-            self.put(name, source.read_bytes(), 0o755 if source.stat().st_mode & stat.S_IXUSR else 0o644)
+            self.add_file(name, source.read_bytes(), 0o755 if source.stat().st_mode & stat.S_IXUSR else 0o644)
 
     def build(self):
         """Writes the package."""
         share = f"usr/share/doc/{self.name}"
-        self.put(f"{share}/copyright", copyright_text().encode())
-        self.put(f"{share}/changelog.Debian.gz", packed(changelog(self.release).encode()))
+        self.add_file(f"{share}/copyright", copyright_text().encode())
+        self.add_file(f"{share}/changelog.Debian.gz", compress(changelog(self.release).encode()))
         files = {name: path for name, path in files_below(self.root, "").items() if not path.is_symlink()}
         sums = "".join(f"{hashlib.md5(path.read_bytes()).hexdigest()}  {name[1:]}\n" for name, path in sorted(files.items()))
         self.fields["Installed-Size"] = str(sum(path.stat().st_size for path in files.values()) // 1024 + 1)
         control = "".join(f"{field}: {text}\n" for field, text in self.fields.items())
         for name, text in {"control": control, "md5sums": sums, **self.others}.items():
-            self.put(f"DEBIAN/{name}", text.encode())
+            self.add_file(f"DEBIAN/{name}", text.encode())
         for path in [self.root, *self.root.rglob("*")]:
             if path.is_dir():
                 path.chmod(0o755)
@@ -308,19 +340,19 @@ def write_debian(release, archive):
                 release.run("strip", "--strip-unneeded", library.root / inside)
                 (library.root / inside).chmod(0o644)
         elif "/share/man/" in name and not path.is_symlink():
-            develop.put(f"{inside}.gz", packed(path.read_bytes()))
+            develop.add_file(f"{inside}.gz", compress(path.read_bytes()))
         elif "/share/" not in name:
             develop.copy(inside, path)
     tools = Package(
         release, "muxandu-tools", "utils", f"libc6 (>= {least_libc(release.built / 'stamps')})", "programs for logs", {}
     )
-    tools.copy("usr/bin/stamps", release.out / "programs" / "stamps")
+    tools.copy("usr/bin/stamps", release.built / "stamps")
     release.run("strip", tools.root / "usr/bin/stamps")
     share = ROOT / "crates" / "stamps" / "share"
-    tools.put("usr/share/man/man1/stamps.1.gz", packed((share / "stamps.1").read_bytes()))
-    tools.put("usr/share/bash-completion/completions/stamps", (share / "stamps.bash").read_bytes())
-    tools.put("usr/share/zsh/vendor-completions/_stamps", (share / "_stamps").read_bytes())
-    tools.put("usr/share/fish/vendor_completions.d/stamps.fish", (share / "stamps.fish").read_bytes())
+    tools.add_file("usr/share/man/man1/stamps.1.gz", compress((share / "stamps.1").read_bytes()))
+    tools.add_file("usr/share/bash-completion/completions/stamps", (share / "stamps.bash").read_bytes())
+    tools.add_file("usr/share/zsh/vendor-completions/_stamps", (share / "_stamps").read_bytes())
+    tools.add_file("usr/share/fish/vendor_completions.d/stamps.fish", (share / "stamps.fish").read_bytes())
     for package in (library, develop, tools):
         package.build()
 
@@ -406,6 +438,8 @@ def write_all(release, toolchain):
     write_python(release, dist)
     write_javascript(release)
     write_sqlite(release, dist)
+    if shutil.which("pg_config") is not None:
+        write_postgres(release, dist)
     write_library(release, dist)
     if shutil.which("wasm2c"):
         write_portable(release)

@@ -142,7 +142,7 @@ function hoursAround(shown, step) {
 const clockText = (shown) => `${two(shown.hour)}:${two(shown.minute)}:${two(shown.second)}`;
 const dayText = (shown) => `${WEEKDAYS[shown.weekday - 1].slice(0, 3)} ${shown.day} ${MONTHS[shown.month - 1]}`;
 
-function drawn(name, attributes, text = "") {
+function createSvg(name, attributes, text = "") {
     const element = document.createElementNS("http://www.w3.org/2000/svg", name);
     for (const [key, value] of Object.entries(attributes)) element.setAttribute(key, value);
     element.textContent = text;
@@ -164,7 +164,7 @@ function drawName(svg, shown, start, end, middle, y) {
     const [from, to] = start + end < 0 ? [start, Math.min(end, 0)] : [Math.max(start, 0), end];
     const name = dayText(hour.then), names = [`${name} ${hour.then.year}`, name], scale = middle - 14;
     const text = names.find((each) => (to - from) * scale > 7 * each.length + 6);
-    if (text) svg.append(drawn("text", { x: middle + ((from + to) / 2) * scale, y }, text));
+    if (text) svg.append(createSvg("text", { x: middle + ((from + to) / 2) * scale, y }, text));
 }
 
 /** The days that clocks show on one side of the line of time, and their hours. */
@@ -174,18 +174,18 @@ function drawClocks(svg, shown, kind, width, line, isAbove) {
     edges.slice(1).forEach((end, day) => {
         const start = edges[day], isItsDay = start <= 0 && (end > 0 || day === edges.length - 2);
         const fill = `var(--${kind}-${isItsDay ? "day" : "other"})`;
-        svg.append(drawn("rect", { x: place(start), y: top, width: place(end) - place(start), height: 28, fill }));
+        svg.append(createSvg("rect", { x: place(start), y: top, width: place(end) - place(start), height: 28, fill }));
         if (day > 0) {
             const x = place(start), stroke = `var(--${kind})`;
-            svg.append(drawn("line", { x1: x, x2: x, y1: top, y2: top + 28, stroke }));
+            svg.append(createSvg("line", { x1: x, x2: x, y1: top, y2: top + 28, stroke }));
         }
         drawName(svg, shown, start, end, middle, top + 18);
     });
     for (const hour of hoursAround(shown, width < 480 ? 6 : 3)) {
         const x = place(hour.at);
-        svg.append(drawn("line", { x1: x, x2: x, y1: line, y2: line + toward * 8, stroke: `var(--${kind})` }));
+        svg.append(createSvg("line", { x1: x, x2: x, y1: line, y2: line + toward * 8, stroke: `var(--${kind})` }));
         if (Math.abs(x - middle) > 14) {
-            svg.append(drawn("text", { x, y: line + (isAbove ? -14 : 24), class: "quiet" }, two(hour.then.hour)));
+            svg.append(createSvg("text", { x, y: line + (isAbove ? -14 : 24), class: "quiet" }, two(hour.then.hour)));
         }
     }
 }
@@ -194,10 +194,10 @@ function drawClocks(svg, shown, kind, width, line, isAbove) {
 function drawOther(svg, past, middle, height) {
     if (past === 0n || past < -HALF || past > HALF) return;
     const x = middle + (Number(past) / Number(HALF)) * (middle - 14), side = past < 0n ? -1 : 1;
-    svg.append(drawn("line", { x1: x, x2: x, y1: 22, y2: height - 30, stroke: "var(--ink)", "stroke-dasharray": "4 3" }));
+    svg.append(createSvg("line", { x1: x, x2: x, y1: 22, y2: height - 30, stroke: "var(--ink)", "stroke-dasharray": "4 3" }));
     // its name stands clear of the time in the middle, and of the edge
     const away = Math.min(Math.max(Math.abs(x - middle), 82), middle - 28);
-    svg.append(drawn("text", { x: middle + side * away, y: 15, class: "quiet" }, "the other"));
+    svg.append(createSvg("text", { x: middle + side * away, y: 15, class: "quiet" }, "the other"));
 }
 
 // The axis of years: the range of the library, the years with texts of RFC 3339, and the instant.
@@ -215,25 +215,25 @@ const startOf = (year) => OffsetDateTime.of({ year, month: 1, day: 1 }).toTimest
 /** A text on the axis, on the side of its mark that has room. */
 function axisText(x, y, width, text, kind) {
     const room = 4 * text.length, anchor = x < room ? "start" : x > width - room ? "end" : "middle";
-    return drawn("text", { x, y, class: kind, style: `text-anchor: ${anchor}` }, text);
+    return createSvg("text", { x, y, class: kind, style: `text-anchor: ${anchor}` }, text);
 }
 
 /** Draws the axis of years. */
 function drawYears(place, { at, there, second }) {
     const width = Math.max(place.clientWidth, 160), line = 34, height = 60, year = yearText(there.year);
     const across = (moment) => 14 + placeInRange(moment) * (width - 28), range = "the range -999999 to 999999";
-    const svg = drawn("svg", { viewBox: `0 0 ${width} ${height}`, width, height, role: "img", "aria-label": `The year ${year} in ${range}` });
+    const svg = createSvg("svg", { viewBox: `0 0 ${width} ${height}`, width, height, role: "img", "aria-label": `The year ${year} in ${range}` });
     const [from, to] = [across(startOf(0)), across(startOf(10_000))];
-    svg.append(drawn("rect", { x: from, y: line - 5, width: to - from, height: 10, fill: "var(--utc-day)" }));
-    svg.append(drawn("line", { x1: 14, x2: width - 14, y1: line, y2: line, stroke: "var(--quiet)" }));
+    svg.append(createSvg("rect", { x: from, y: line - 5, width: to - from, height: 10, fill: "var(--utc-day)" }));
+    svg.append(createSvg("line", { x1: 14, x2: width - 14, y1: line, y2: line, stroke: "var(--quiet)" }));
     for (const tick of width < 480 ? [-999_999, 0, 999_999] : [-999_999, -500_000, 0, 500_000, 999_999]) {
         const x = tick === 999_999 ? width - 14 : across(startOf(tick));
-        svg.append(drawn("line", { x1: x, x2: x, y1: line, y2: line + 6, stroke: "var(--quiet)" }));
+        svg.append(createSvg("line", { x1: x, x2: x, y1: line, y2: line + 6, stroke: "var(--quiet)" }));
         svg.append(axisText(x, line + 20, width, String(tick), "year"));
     }
     for (const [moment, stroke] of second ? [[second, "var(--quiet)"], [at, "var(--ink)"]] : [[at, "var(--ink)"]]) {
         const x = across(moment);
-        svg.append(drawn("line", { x1: x, x2: x, y1: line - 12, y2: line + 4, stroke, "stroke-width": 2 }));
+        svg.append(createSvg("line", { x1: x, x2: x, y1: line - 12, y2: line + 4, stroke, "stroke-width": 2 }));
     }
     svg.append(axisText(across(at), line - 17, width, `year ${year}`, "there"));
     place.append(svg);
@@ -244,14 +244,14 @@ function draw(place, { at, there, second }) {
     const width = Math.max(place.clientWidth, 160), line = 98, height = 2 * line;
     const utc = at.toOffset(0), middle = width / 2;
     const told = `${clockText(utc)} in UTC is ${clockText(there)} at the offset`;
-    const svg = drawn("svg", { viewBox: `0 0 ${width} ${height}`, width, height, role: "img", "aria-label": told });
-    svg.append(drawn("line", { x1: 14, x2: width - 14, y1: line, y2: line, stroke: "var(--quiet)" }));
+    const svg = createSvg("svg", { viewBox: `0 0 ${width} ${height}`, width, height, role: "img", "aria-label": told });
+    svg.append(createSvg("line", { x1: 14, x2: width - 14, y1: line, y2: line, stroke: "var(--quiet)" }));
     if (second) drawOther(svg, second.since(at).nanoseconds, middle, height);
     drawClocks(svg, utc, "utc", width, line, true);
     drawClocks(svg, there, "there", width, line, false);
-    svg.append(drawn("line", { x1: middle, x2: middle, y1: 22, y2: height - 22, stroke: "var(--ink)", "stroke-width": 2 }));
-    svg.append(drawn("text", { x: middle, y: 15, class: "utc" }, `${clockText(utc)} UTC`));
-    svg.append(drawn("text", { x: middle, y: height - 8, class: "there" }, `${clockText(there)} at the offset`));
+    svg.append(createSvg("line", { x1: middle, x2: middle, y1: 22, y2: height - 22, stroke: "var(--ink)", "stroke-width": 2 }));
+    svg.append(createSvg("text", { x: middle, y: 15, class: "utc" }, `${clockText(utc)} UTC`));
+    svg.append(createSvg("text", { x: middle, y: height - 8, class: "there" }, `${clockText(there)} at the offset`));
     place.replaceChildren(svg);
     drawYears(place, { at, there, second });
 }

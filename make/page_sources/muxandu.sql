@@ -1,0 +1,146 @@
+-- The types offset_timestamp and exact_duration. Load this file by CREATE EXTENSION muxandu.
+\echo Use CREATE EXTENSION muxandu to load this file. \quit
+
+-- The types
+CREATE TYPE offset_timestamp;
+CREATE TYPE exact_duration;
+C: offset_timestamp_in(cstring, oid, integer) RETURNS offset_timestamp
+C: offset_timestamp_out(offset_timestamp) RETURNS cstring
+C: offset_timestamp_recv(internal, oid, integer) RETURNS offset_timestamp
+C: offset_timestamp_send(offset_timestamp) RETURNS bytea
+C: offset_timestamp_typmod_in(cstring[]) RETURNS integer
+C: offset_timestamp_typmod_out(integer) RETURNS cstring
+C: exact_duration_in(cstring) RETURNS exact_duration
+C: exact_duration_out(exact_duration) RETURNS cstring
+C: exact_duration_recv(internal) RETURNS exact_duration
+C: exact_duration_send(exact_duration) RETURNS bytea
+CREATE TYPE offset_timestamp (
+    INPUT = offset_timestamp_in, OUTPUT = offset_timestamp_out, RECEIVE = offset_timestamp_recv, SEND = offset_timestamp_send,
+    TYPMOD_IN = offset_timestamp_typmod_in, TYPMOD_OUT = offset_timestamp_typmod_out,
+    INTERNALLENGTH = 16, ALIGNMENT = double, STORAGE = plain, CATEGORY = 'D'
+);
+CREATE TYPE exact_duration (
+    INPUT = exact_duration_in, OUTPUT = exact_duration_out, RECEIVE = exact_duration_recv, SEND = exact_duration_send,
+    INTERNALLENGTH = 12, ALIGNMENT = double, STORAGE = plain, CATEGORY = 'T'
+);
+COMMENT ON TYPE offset_timestamp IS 'an instant to the nanosecond, and the offset of the clocks that showed it';
+COMMENT ON TYPE exact_duration IS 'a duration of seconds and nanoseconds';
+
+-- The order of offset_timestamp
+ORDER: offset_timestamp
+C: offset_timestamp_hash(offset_timestamp) RETURNS integer
+C: offset_timestamp_hash_extended(offset_timestamp, bigint) RETURNS bigint
+C: offset_timestamp_larger(offset_timestamp, offset_timestamp) RETURNS offset_timestamp
+C: offset_timestamp_smaller(offset_timestamp, offset_timestamp) RETURNS offset_timestamp
+C: offset_timestamp_sortsupport(internal) RETURNS void
+C: offset_timestamp_same(offset_timestamp, offset_timestamp) RETURNS boolean
+CREATE OPERATOR === (
+    LEFTARG = offset_timestamp, RIGHTARG = offset_timestamp, FUNCTION = offset_timestamp_same,
+    COMMUTATOR = ===, RESTRICT = eqsel, JOIN = eqjoinsel
+);
+
+-- The order of exact_duration
+ORDER: exact_duration
+C: exact_duration_hash(exact_duration) RETURNS integer
+C: exact_duration_hash_extended(exact_duration, bigint) RETURNS bigint
+C: exact_duration_larger(exact_duration, exact_duration) RETURNS exact_duration
+C: exact_duration_smaller(exact_duration, exact_duration) RETURNS exact_duration
+
+-- The order of offset_timestamp and timestamptz
+ORDER: offset_timestamp timestamptz
+
+-- Sums and differences
+C: offset_timestamp_plus(offset_timestamp, exact_duration) RETURNS offset_timestamp
+C: offset_timestamp_minus(offset_timestamp, exact_duration) RETURNS offset_timestamp
+C: offset_timestamp_difference(offset_timestamp, offset_timestamp) RETURNS exact_duration
+C: exact_duration_plus(exact_duration, exact_duration) RETURNS exact_duration
+C: exact_duration_minus(exact_duration, exact_duration) RETURNS exact_duration
+C: exact_duration_negative(exact_duration) RETURNS exact_duration
+CREATE OPERATOR + (
+    LEFTARG = offset_timestamp, RIGHTARG = exact_duration, FUNCTION = offset_timestamp_plus
+);
+CREATE OPERATOR - (
+    LEFTARG = offset_timestamp, RIGHTARG = exact_duration, FUNCTION = offset_timestamp_minus
+);
+CREATE OPERATOR - (
+    LEFTARG = offset_timestamp, RIGHTARG = offset_timestamp, FUNCTION = offset_timestamp_difference
+);
+CREATE OPERATOR + (
+    LEFTARG = exact_duration, RIGHTARG = exact_duration, FUNCTION = exact_duration_plus, COMMUTATOR = +
+);
+CREATE OPERATOR - (
+    LEFTARG = exact_duration, RIGHTARG = exact_duration, FUNCTION = exact_duration_minus
+);
+CREATE OPERATOR - (
+    RIGHTARG = exact_duration, FUNCTION = exact_duration_negative
+);
+C: add_months(offset_timestamp, integer) RETURNS offset_timestamp AS offset_timestamp_add_months
+C: whole_units(exact_duration, text) RETURNS bigint AS exact_duration_count
+CREATE FUNCTION generate_series(offset_timestamp, offset_timestamp, exact_duration) RETURNS SETOF offset_timestamp
+    LANGUAGE C IMMUTABLE STRICT PARALLEL SAFE ROWS 1000 AS 'MODULE_PATHNAME', 'offset_timestamp_series';
+C: in_range(offset_timestamp, offset_timestamp, exact_duration, boolean, boolean) RETURNS boolean AS offset_timestamp_in_range
+
+-- Indexes
+-- Values that are equal may have two offsets, so no equalimage lets an index keep one of them alone.
+CREATE OPERATOR FAMILY offset_timestamp_ops USING btree;
+CREATE OPERATOR CLASS offset_timestamp_ops DEFAULT FOR TYPE offset_timestamp USING btree FAMILY offset_timestamp_ops AS
+    OPERATOR 1 <, OPERATOR 2 <=, OPERATOR 3 =, OPERATOR 4 >=, OPERATOR 5 >,
+    FUNCTION 1 offset_timestamp_cmp(offset_timestamp, offset_timestamp),
+    FUNCTION 2 offset_timestamp_sortsupport(internal),
+    FUNCTION 3 (offset_timestamp, exact_duration) in_range(offset_timestamp, offset_timestamp, exact_duration, boolean, boolean);
+ALTER OPERATOR FAMILY offset_timestamp_ops USING btree ADD
+    OPERATOR 1 < (offset_timestamp, timestamptz),
+    OPERATOR 2 <= (offset_timestamp, timestamptz),
+    OPERATOR 3 = (offset_timestamp, timestamptz),
+    OPERATOR 4 >= (offset_timestamp, timestamptz),
+    OPERATOR 5 > (offset_timestamp, timestamptz),
+    FUNCTION 1 (offset_timestamp, timestamptz) offset_timestamp_cmp_timestamptz(offset_timestamp, timestamptz),
+    OPERATOR 1 < (timestamptz, offset_timestamp),
+    OPERATOR 2 <= (timestamptz, offset_timestamp),
+    OPERATOR 3 = (timestamptz, offset_timestamp),
+    OPERATOR 4 >= (timestamptz, offset_timestamp),
+    OPERATOR 5 > (timestamptz, offset_timestamp),
+    FUNCTION 1 (timestamptz, offset_timestamp) offset_timestamp_timestamptz_cmp(timestamptz, offset_timestamp),
+    OPERATOR 1 < (timestamptz, timestamptz),
+    OPERATOR 2 <= (timestamptz, timestamptz),
+    OPERATOR 3 = (timestamptz, timestamptz),
+    OPERATOR 4 >= (timestamptz, timestamptz),
+    OPERATOR 5 > (timestamptz, timestamptz),
+    FUNCTION 1 (timestamptz, timestamptz) timestamptz_cmp(timestamptz, timestamptz);
+CREATE OPERATOR CLASS exact_duration_ops DEFAULT FOR TYPE exact_duration USING btree AS
+    OPERATOR 1 <, OPERATOR 2 <=, OPERATOR 3 =, OPERATOR 4 >=, OPERATOR 5 >,
+    FUNCTION 1 exact_duration_cmp(exact_duration, exact_duration);
+HASH: offset_timestamp
+MINMAX: offset_timestamp
+HASH: exact_duration
+MINMAX: exact_duration
+C: offset_timestamp_subtype_diff(offset_timestamp, offset_timestamp) RETURNS double precision
+CREATE TYPE offset_timestamp_range AS RANGE (SUBTYPE = offset_timestamp, SUBTYPE_DIFF = offset_timestamp_subtype_diff);
+
+-- Aggregates
+ENDS: offset_timestamp
+ENDS: exact_duration
+CREATE AGGREGATE sum(exact_duration) (
+    SFUNC = exact_duration_plus, STYPE = exact_duration, COMBINEFUNC = exact_duration_plus, PARALLEL = SAFE
+);
+
+-- Casts: an assignment takes a timestamptz, at the offset 0
+C: offset_timestamp(timestamptz) RETURNS offset_timestamp AS offset_timestamp_from_timestamptz
+C: offset_timestamp(timestamptz, integer) RETURNS offset_timestamp AS offset_timestamp_from_timestamptz
+C: offset_timestamp_digits(offset_timestamp, integer) RETURNS offset_timestamp
+C: timestamptz(offset_timestamp) RETURNS timestamptz AS offset_timestamp_to_timestamptz
+C: rounded_down(offset_timestamp) RETURNS timestamptz AS offset_timestamp_rounded_down
+C: exact_duration(interval) RETURNS exact_duration AS exact_duration_from_interval
+C: "interval"(exact_duration) RETURNS interval AS exact_duration_to_interval
+CREATE CAST (offset_timestamp AS offset_timestamp) WITH FUNCTION offset_timestamp_digits(offset_timestamp, integer) AS IMPLICIT;
+CREATE CAST (timestamptz AS offset_timestamp) WITH FUNCTION offset_timestamp(timestamptz) AS ASSIGNMENT;
+CREATE CAST (offset_timestamp AS timestamptz) WITH FUNCTION timestamptz(offset_timestamp);
+CREATE CAST (interval AS exact_duration) WITH FUNCTION exact_duration(interval) AS IMPLICIT;
+CREATE CAST (exact_duration AS interval) WITH FUNCTION "interval"(exact_duration);
+
+-- Parts, offsets and texts
+C: at_offset(offset_timestamp, integer) RETURNS offset_timestamp AS offset_timestamp_at_offset
+C: date_trunc(text, offset_timestamp) RETURNS offset_timestamp AS offset_timestamp_truncate
+C: date_part(text, offset_timestamp) RETURNS bigint AS offset_timestamp_part
+C: offset_timestamp_refused(text) RETURNS text
+C: offset_timestamp_or_null(text) RETURNS offset_timestamp
