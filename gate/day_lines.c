@@ -20,7 +20,7 @@ enum { MOST = 512, ROOM = 1 << 16 };
 
 static const char *const WEEKDAYS[] = {"Monday", "Tuesday", "Wednesday", "Thursday", "Friday", "Saturday", "Sunday"};
 
-static char *put(char *at, const char *text) {
+static char *put_text(char *at, const char *text) {
     size_t size = strlen(text);
     memcpy(at, text, size);
     return at + size;
@@ -51,15 +51,15 @@ static char *put_date(char *at, const Counter *day) {
 
 static char *put_lines(char *at, const Counter *day) {
     int64_t first = (int64_t)day->number * 86400;
-    if (day->number == COUNTER_FIRST) at = put(put_number(put(at, "unix "), first - 1, 1), "\n");
-    at = put_number(put(at, "unix "), first, 1);
-    at = put(put_number(put(at, "\nstamp "), first + 86399, 1), " 999999999\nrun 43200 0 replace_date=");
+    if (day->number == COUNTER_FIRST) at = put_text(put_number(put_text(at, "unix "), first - 1, 1), "\n");
+    at = put_number(put_text(at, "unix "), first, 1);
+    at = put_text(put_number(put_text(at, "\nstamp "), first + 86399, 1), " 999999999\nrun 43200 0 replace_date=");
     at = put_number(at, day->year, 1);
     *at++ = ',';
     at = put_number(at, day->month, 1);
     *at++ = ',';
-    at = put(put_number(at, day->day, 1), " ordinal to_iso_week_date to_julian_day\n");
-    if (day->number == COUNTER_LAST) at = put(put_number(put(at, "unix "), first + 86400, 1), "\n");
+    at = put_text(put_number(at, day->day, 1), " ordinal to_iso_week_date to_julian_day\n");
+    if (day->number == COUNTER_LAST) at = put_text(put_number(put_text(at, "unix "), first + 86400, 1), "\n");
     return at;
 }
 
@@ -67,24 +67,24 @@ static char *put_answers(char *at, const Counter *day) {
     static const char outside[] = "refused timestamp\n";
     char date[32], *end = put_date(date, day);
     *end = 0;
-    if (day->number == COUNTER_FIRST) at = put(at, outside);
-    at = put(put(at, date), " 0:00:00.0 +00\n");
-    at = put_number(put(put(at, date), " 23:59:59.999999999 +00 "), day->ordinal, 1);
+    if (day->number == COUNTER_FIRST) at = put_text(at, outside);
+    at = put_text(put_text(at, date), " 0:00:00.0 +00\n");
+    at = put_number(put_text(put_text(at, date), " 23:59:59.999999999 +00 "), day->ordinal, 1);
     *at++ = ' ';
-    at = put(at, WEEKDAYS[day->weekday]);
+    at = put_text(at, WEEKDAYS[day->weekday]);
     *at++ = ' ';
     at = put_number(at, (int64_t)day->number + 2440588, 1);
     *at++ = '\n';
-    at = put_number(put(put(at, date), " 12:00:00.0; "), day->ordinal, 1);
-    at = put_number(put(at, "; "), day->week_year, 1);
+    at = put_number(put_text(put_text(at, date), " 12:00:00.0; "), day->ordinal, 1);
+    at = put_number(put_text(at, "; "), day->week_year, 1);
     *at++ = ' ';
     at = put_number(at, day->week, 1);
     *at++ = ' ';
-    at = put(put(at, WEEKDAYS[day->weekday]), "; ");
+    at = put_text(put_text(at, WEEKDAYS[day->weekday]), "; ");
     at = put_number(at, (int64_t)day->number + 2440588, 1);
-    at = put_number(put(at, "; end "), (int64_t)day->number * 86400 + 43200, 1);
+    at = put_number(put_text(at, "; end "), (int64_t)day->number * 86400 + 43200, 1);
     *at++ = '\n';
-    if (day->number == COUNTER_LAST) at = put(at, outside);
+    if (day->number == COUNTER_LAST) at = put_text(at, outside);
     return at;
 }
 

@@ -90,27 +90,27 @@ class Test(Source):
                     self.code[place].before = instead
                     break
 
-    def erased(self):
+    def erase(self):
         self.take_ghosts()
         self.take_attributes()
         self.take_models()
         self.take_runtime()
         self.put_paths(shim_names())
         self.take_comments()
-        return re.sub(r"^//!", "//", self.left(), flags=re.MULTILINE)
+        return re.sub(r"^//!", "//", self.text_left(), flags=re.MULTILINE)
 
 
 class Part(Source):
     """A file of a program, or of a library that is left out elsewhere."""
 
-    def erased(self):
+    def erase(self):
         self.take_ghosts()
         self.take_attributes()
         self.take_models()
         self.take_writers()
         self.put_paths(shim_names())
         self.take_comments()
-        return self.left()
+        return self.text_left()
 
 
 def source_text(crate, path):
@@ -125,7 +125,7 @@ def add_left_out(place):
         for module in LEFT_OUT:
             if os.path.exists(os.path.join(REPOSITORY, "crates", crate, "src", f"{module}.rt")):
                 part = Part(*source_text(crate, f"{module}.rt"), crate)
-                write(part.erased(), place, crate, f"{module}.rs")
+                write(part.erase(), place, crate, f"{module}.rs")
                 write(read(place, root) + f"pub mod {module};\n", place, root)
 
 
@@ -139,7 +139,7 @@ def make_tests(folder):
         head += f"\nmod {crate};"
         for _, path in sources(crates=(f"{crate}_tests",), left_out=()):
             if path != "lib.rt":
-                text = Test(*source_text(f"{crate}_tests", path), "").erased()
+                text = Test(*source_text(f"{crate}_tests", path), "").erase()
                 lead = f"#[allow(unused_imports)]\nuse crate::{MODULE}::erased_tests::ToList;\n"
                 place = f"{crate}.rs" if path == "tests.rt" else os.path.join(crate, path[len("tests/") : -len(".rt")] + ".rs")
                 write(lead + text, made, "erased_tests", place)
@@ -154,7 +154,7 @@ def make_program(folder):
         for _, path in sources(crates=(crate,), left_out=("main", "tests")):
             part = Part(*source_text(crate, path), crate)
             part.libraries, part.modules = (*CRATES, "line_devices"), (*part.modules, *MODULES_OF_PROGRAMS)
-            write(part.erased(), made, erased_name(crate, path))
+            write(part.erase(), made, erased_name(crate, path))
     modules = [
         name for name in re.findall(r"^mod (\w+);$", source_text("times_bench", "main.rt")[1], re.MULTILINE) if name != "tests"
     ]

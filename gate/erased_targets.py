@@ -84,7 +84,7 @@ class Build:
         self.printed = run.stderr
         return run.returncode == 0
 
-    def found(self, name):
+    def path_of(self, name):
         ending = "rlib" if self.target == WASM else "rmeta"
         return ["--extern", f"{name}={os.path.join(self.folder, f'lib{name}.{ending}')}"]
 
@@ -93,8 +93,8 @@ class Build:
         library = self.compiler.sources
         features = ["--cfg", 'feature="compiler-builtins"', "--cfg", 'feature="unmangled-names"', "--cfg", 'feature="mem"']
         builtins = os.path.join(library, "compiler-builtins", "compiler-builtins", "src", "lib.rs")
-        core, below = os.path.join(library, "core", "src", "lib.rs"), self.found("core")
-        above = [*below, *self.found("compiler_builtins")]
+        core, below = os.path.join(library, "core", "src", "lib.rs"), self.path_of("core")
+        above = [*below, *self.path_of("compiler_builtins")]
         return (
             self.rustc("core", core, is_std=True)
             and self.rustc("compiler_builtins", builtins, *below, *features, is_std=True)
@@ -112,7 +112,7 @@ class Build:
     def link_wasm(self):
         """Links the module with the calls of wasm.rs. Its path, or None."""
         harness = os.path.join(OWN, "wasm.rs")
-        if not self.rustc("wasm", harness, "--emit=obj", *self.found(NAME)):
+        if not self.rustc("wasm", harness, "--emit=obj", *self.path_of(NAME)):
             return None
         libraries = [os.path.join(self.folder, f"lib{name}.rlib") for name in (NAME, "alloc", "core", "compiler_builtins")]
         if not self.is_own:

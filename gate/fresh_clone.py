@@ -8,7 +8,7 @@ import signal
 import subprocess
 import time
 
-from shared.gate import ARCHIVE, PROVED, REPOSITORY, SHARED_FOLDER, crates, is_beside, program, wait_for
+from shared.gate import ARCHIVE, PROVED, REPOSITORY, SHARED_FOLDER, STARTERS, crates, has_proved, is_beside, program, wait_for
 from shared.version import version
 
 # Variables of whoever runs this step that a newcomer has not.
@@ -52,13 +52,24 @@ def source_of_builds(folder):
     shared = os.environ.get(SHARED_FOLDER)
     if folder is None and shared:
         wait_for(shared, PROVED)
-        # the programs come from `rt ci`
-        while is_beside():
+        # the programs come from `rt ci`, which builds each as soon as it is proved
+        while is_beside() and not all(has_proved(shared, crate) for crate in STARTERS):
             time.sleep(1)
-        built = {crate: program(shared, "llvm", crate) for crate in BUILT}
+        built = {crate: path_of_program(shared, crate) for crate in STARTERS}
         return os.path.join(shared, "copy"), {**built, "muxandu_c": os.path.join(shared, ARCHIVE)}
     folder = os.path.abspath(folder or REPOSITORY)
-    return folder, {crate: os.path.join(folder, "crates", crate, "out", name) for crate, name in BUILT.items()}
+    return folder, {crate: place_of(folder, crate) for crate in BUILT}
+
+
+def place_of(root, crate):
+    """Where a crate of a repository has its program, or the archive."""
+    return os.path.join(root, "crates", crate, "out", BUILT[crate])
+
+
+def path_of_program(shared, crate):
+    """The program of a crate that `rt ci` has built: in the folder of the gate once `rt ci` has ended, and until then where it is."""
+    kept = program(shared, "llvm", crate)
+    return place_of(REPOSITORY, crate) if is_beside() and not os.path.exists(kept) else kept
 
 
 class Ended:

@@ -37,7 +37,9 @@ ORDER = (
     "Rust",
     "C",
     "JavaScript",
-    "SQL",
+    "SQLite",
+    "PostgreSQL",
+    "stamps",
     "Concepts",
 )
 

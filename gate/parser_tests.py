@@ -1,11 +1,16 @@
-"""Cases of gate/gate_tests over the readers of sources on which the gate rests: `items`, `definitions` and `wrong`."""
+"""Cases of gate/gate_tests over the readers of sources on which the gate rests: `items`, `definitions` and `wrong`, and the two
+lists that read names and the places of wrong bodies, `participles` and `misplaced`."""
 
+import contextlib
+import importlib.machinery
+import importlib.util
 import os
 import tempfile
 
 from shared.definitions import declarations, imports, module_of, words_of
+from shared.gate import GATE
 from shared.items import contracts, exports_of, first_sentence, implementations, public_items
-from shared.wrong import put, read, right_bodies, wrong_bodies
+from shared.wrong import Wrong, is_in_function, put_body, read, right_bodies, unread_files, wrong_bodies
 
 ROOT = """//! A library.
 mod hidden;
@@ -85,25 +90,27 @@ FILES = {
 }
 
 
-def found():
+def library_items():
     """The public items of the library above, by their full names."""
     return {item.full_name(): item for item in public_items(FILES)}
 
 
 def items_are_those_that_the_root_passes_on():
     names = {"Known", "Known::FIRST", "Known::value", "Moved", "Moved::moved", "moved", "open::stays"}
-    assert set(found()) == names, set(found())
+    assert set(library_items()) == names, set(library_items())
 
 
 def items_have_their_docs_heads_and_clauses():
-    value, known = found()["Known::value"], found()["Known"]
+    value, known = library_items()["Known::value"], library_items()["Known"]
     assert value.signature == "const fn value(self, step: u32) -> u32", value.signature
     assert value.doc == "Returns the value. Then more.", value.doc
     assert value.clauses.split() == "requires { step ≤ 1 } ensures value { result ≡ self.value }".split(), value.clauses
     assert HIDDEN.split("\n")[value.line - 1].strip() == "pub const fn value(", value.line
     assert known.derived == ("Clone", "Copy") and first_sentence(known.doc) == "A known type, as `Moved` is.", known
-    assert found()["Known::FIRST"].signature == "const FIRST: Known"
-    assert found()["Moved::moved"].clauses.strip() == "ensures { result ≡ self };", found()["Moved::moved"].clauses
+    assert library_items()["Known::FIRST"].signature == "const FIRST: Known"
+    assert library_items()["Moved::moved"].clauses.strip() == "ensures { result ≡ self };", library_items()[
+        "Moved::moved"
+    ].clauses
 
 
 def contracts_are_those_of_private_functions_too():
@@ -180,12 +187,39 @@ old: return
 new: break
 """
 
+EDITS = """file: src/lib.rt
+
+# adds_two
+says: It adds two.
+function: next
+clause: value
+after: fn next
+old: + 1
+new: + 2
+
+# adds_nothing
+says: It adds nothing, and the test is another.
+function: last
+clause: ensures
+after: fn last
+old: + 1
+new: + 0
+file: src/more.rt
+old: # test
+new: # other
+
+# breaks
+function: last
+old: return
+new: break
+"""
+
 
 def crate_with(folder, **files):
     """A crate with a wrong body, and files of this name."""
     for name, text in {
         "src/lib.rt": "fn next { n + 1 }\nfn last { n + 1; return }\n",
-        "wrong/adds_two.edit": EDIT,
+        "must-fail/adds_two.edit": EDIT,
         **files,
     }.items():
         os.makedirs(os.path.dirname(os.path.join(folder, name)), exist_ok=True)
@@ -194,22 +228,55 @@ def crate_with(folder, **files):
     return folder
 
 
+def read_one(folder):
+    """The wrong body of the file above."""
+    (wrong,) = read(os.path.join(folder, "must-fail", "adds_two.edit"))
+    return wrong
+
+
 def wrong_bodies_are_read_as_they_are():
     with tempfile.TemporaryDirectory() as folder:
-        crate_with(folder, **{"must-fail/other.edit": EDIT, "right/same.edit": EDIT, "wrong/notes.txt": "no edit"})
-        wrong = read(os.path.join(folder, "wrong", "adds_two.edit"))
+        wrong = read_one(crate_with(folder, **{"right/same.edit": EDIT, "wrong/lib.edits": EDITS}))
         assert (wrong.name, wrong.says, wrong.function, wrong.clause) == ("adds_two", "It adds two.", "next", "value"), wrong
         assert wrong.changes == [("src/lib.rt", "fn next", "+ 1", "+ 2"), ("src/lib.rt", "", "return", "break")], wrong.changes
-        assert [each.name for each in wrong_bodies(folder)] == ["other", "adds_two"]
-        assert [each.name for each in wrong_bodies(folder, ["adds_two"])] == ["adds_two"]
+        assert [each.name for each in wrong_bodies(folder)] == ["adds_two", "adds_two", "adds_nothing", "breaks"]
+        assert [each.name for each in wrong_bodies(folder, ["breaks"])] == ["breaks"]
         assert [each.name for each in right_bodies(folder)] == ["same"]
+
+
+def files_of_many_bodies_are_read_body_by_body():
+    with tempfile.TemporaryDirectory() as folder:
+        crate_with(folder, **{"wrong/more/lib.edits": EDITS})
+        two, none, breaks = wrong_bodies(folder, parts=["wrong"])
+        assert (two.name, two.says, two.function, two.clause) == ("adds_two", "It adds two.", "next", "value"), two
+        assert two.changes == [("src/lib.rt", "fn next", "+ 1", "+ 2")], two.changes
+        changes = [("src/lib.rt", "fn last", "+ 1", "+ 0"), ("src/more.rt", "", "# test", "# other")]
+        assert (none.name, none.clause, none.changes) == ("adds_nothing", "ensures", changes), none
+        assert (breaks.name, breaks.says, breaks.clause) == ("breaks", "", ""), breaks
+        assert breaks.changes == [("src/lib.rt", "", "return", "break")], breaks.changes
+        assert len({each.place for each in (two, none, breaks)}) == 3 and two.path == none.path, two.place
+
+
+def files_without_bodies_have_none():
+    for text in ("", "file: src/lib.rt\n", "says: a body before its name\nold: a\nnew: b\n"):
+        with tempfile.TemporaryDirectory() as folder:
+            crate_with(folder, **{"wrong/lib.edits": text})
+            assert not wrong_bodies(folder, parts=["wrong"]), text
+
+
+def files_of_another_ending_are_named():
+    with tempfile.TemporaryDirectory() as folder:
+        others = ("wrong/adds_two.edit", "wrong/notes.txt", "must-fail/lib.edits", "right/lib.edits")
+        crate_with(folder, **{"wrong/lib.edits": EDITS, **dict.fromkeys(others, EDIT)})
+        assert {os.path.relpath(path, folder) for path in unread_files(folder)} == set(others)
+        assert [each.name for each in wrong_bodies(folder, parts=["wrong"])] == ["adds_two", "adds_nothing", "breaks"]
 
 
 def wrong_bodies_are_put_at_their_places():
     with tempfile.TemporaryDirectory() as folder:
         texts = {}
         crate_with(folder)
-        assert put(folder, texts, read(os.path.join(folder, "wrong", "adds_two.edit"))) is None
+        assert put_body(folder, texts, read_one(folder)) is None
         assert texts == {"src/lib.rt": "fn next { n + 2 }\nfn last { n + 1; break }\n"}, texts
 
 
@@ -227,10 +294,99 @@ MISPLACED = (
 def wrong_bodies_without_a_place_are_named():
     for old, new, problem in MISPLACED:
         with tempfile.TemporaryDirectory() as folder:
-            crate_with(folder, **{"wrong/adds_two.edit": EDIT.replace(old, new)})
+            crate_with(folder, **{"must-fail/adds_two.edit": EDIT.replace(old, new)})
             texts = {}
-            said = put(folder, texts, read(os.path.join(folder, "wrong", "adds_two.edit")))
-            assert said == problem and not texts, f"{new}: {said}, {texts}"
+            fault = put_body(folder, texts, read_one(folder))
+            assert fault == problem and not texts, f"{new}: {fault}, {texts}"
+
+
+# A source, and changes of it: the function, the old text after another, and whether the change is in that function alone.
+SOURCE_OF_TWO = """\
+const STEP: u64 = 1;
+pub const fn next(n: u64) -> u64 {
+    n + STEP
+}
+impl Of {
+    pub(crate) fn first(self) -> u64 { 0 }
+    const LAST: u64 = 9;
+    /// The last number.
+    pub extern "C" fn last(self) -> u64 {
+        next(LAST)
+    }
+}
+"""
+REACHES = (
+    ("next", "", "n + STEP", True),
+    ("module::Of::last", "fn last", "LAST", True),
+    ("module::Of::first", "", "{ 0 }", True),
+    ("next", "", "u64 = 1", False),
+    ("next", "", "next(LAST)", False),
+    ("module::Of::last", "", "u64 = 9", False),
+    ("module::Of::last", "", "/// The last", False),
+    ("next", "", "n + STEP\n}\nimpl", False),
+)
+
+
+def changes_of_wrong_bodies_are_in_their_function_or_not():
+    with tempfile.TemporaryDirectory() as folder:
+        crate_with(folder, **{"src/lib.rt": SOURCE_OF_TWO})
+        for function, after, old, is_in in REACHES:
+            wrong = Wrong("", "", function=function, changes=[("src/lib.rt", after, old, "")])
+            assert is_in_function(folder, wrong) == is_in, f"{function}: {old!r}"
+        twice = Wrong("", "", function="next", changes=[("src/lib.rt", "", old, "") for old in ("n + STEP", "u64 = 1")])
+        assert not is_in_function(folder, twice)
+
+
+def list_of(name):
+    """The module of a list of `lint`, a program of this folder."""
+    loader = importlib.machinery.SourceFileLoader(name, os.path.join(GATE, name))
+    module = importlib.util.module_from_spec(importlib.util.spec_from_loader(name, loader))
+    loader.exec_module(module)
+    return module
+
+
+# Files, and the names of each that are bare.
+NAMED = (
+    ("crates/one/src/sums.rt", "pub fn moved<T>() {}\nfn move_by() {}\nfn failed() {}\n// fn of a shape\n", ["moved"]),
+    ("crates/one/specs/Sums.antt", "abbrev pub kept : ℕ\nunfoldable pub whole : ℕ\npub kept-none : ℕ\n", ["kept", "whole"]),
+    ("crates/one/proofs/Sums.antt", "abbrev pub kept : ℕ\n", []),
+    ("gate/step", "#!/usr/bin/env python3\ndef _told():\n    def count_of():\n", ["_told"]),
+    ("gate/words", "#!/usr/bin/env bash\ndef told():\n", []),
+    ("packages/one/one.js", "export function held(a) {}\nconst put = 1;\n    const said = 2;\n", ["held", "put"]),
+    ("packages/one/one.c", "static int shown(int a) {\n    return told(a);\n}\n", ["shown"]),
+    ("packages/one/made.py", '"""Made by make/one."""\ndef told():\n', []),
+    ("packages/one/tests/one.py", "def told():\n", []),
+)
+
+
+def names_that_are_bare_are_listed():
+    participles = list_of("participles")
+    for path, text, names in NAMED:
+        bare = [name for name, _ in participles.names_of(path, text) if participles.is_bare(name)]
+        assert bare == names, f"{path}: {bare}"
+    assert list(participles.names_of("gate/one.py", "\ndef one():\n")) == [("one", 2)]
+
+
+# Files of a crate `one`, and what is wrong with the place of the first wrong body that they have.
+PLACES = (
+    ({"wrong/lib.edits": EDITS}, None),
+    ({"wrong/more.edits": EDITS}, "its file must be wrong/lib.edits"),
+    ({"wrong/lib.edits": EDITS.replace("function: next", "function: first")}, "there is no function first"),
+    ({"wrong/lib.edits": EDITS.replace("function: next", "function: more::next")}, "there is no module more"),
+    ({"wrong/lib.edits": EDITS.replace("clause: value\n", "")}, "it names no function or no clause"),
+)
+
+
+def places_of_wrong_bodies_are_those_of_their_sources():
+    misplaced = list_of("misplaced")
+    for files, problem in PLACES:
+        with tempfile.TemporaryDirectory() as root, contextlib.ExitStack() as stack:
+            stack.callback(setattr, misplaced, "REPOSITORY", misplaced.REPOSITORY)
+            misplaced.REPOSITORY = root
+            folder = crate_with(os.path.join(root, "crates", "one"), **files)
+            sources = {"crates/one/src/lib.rt": "fn next { n + 1 }\nfn last { n + 1; return }\n"}
+            fault = misplaced.fault_of_place(sources, "one", wrong_bodies(folder, parts=["wrong"])[0])
+            assert fault == problem, f"{sorted(files)}: {fault}"
 
 
 CASES = (
@@ -242,6 +398,12 @@ CASES = (
     definitions_are_told_from_lemmas,
     imports_lead_to_their_modules,
     wrong_bodies_are_read_as_they_are,
+    files_of_many_bodies_are_read_body_by_body,
+    files_without_bodies_have_none,
+    files_of_another_ending_are_named,
     wrong_bodies_are_put_at_their_places,
     wrong_bodies_without_a_place_are_named,
+    changes_of_wrong_bodies_are_in_their_function_or_not,
+    names_that_are_bare_are_listed,
+    places_of_wrong_bodies_are_those_of_their_sources,
 )

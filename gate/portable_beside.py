@@ -80,6 +80,36 @@ static size_t some_texts(MuxanduSpan *spans, size_t count) {
     return used;
 }
 
+/* A description, of which one byte is another at times. */
+static const char *some_description(size_t *count) {
+    static const char *const known[] = {
+        "[year]-[month]-[day]T[hour]:[minute]:[second]Z",
+        "[year]-[month]-[day]T[hour]:[minute]:[second].[subsecond][offset_hour sign:mandatory]:[offset_minute]",
+        "[weekday repr:short], [day padding:none] [month repr:long] [year repr:last_two]",
+        "[first [[ordinal]] [[week_number] [weekday repr:monday]]][optional [[hour repr:12] [period]]]",
+        "[unix_timestamp precision:microsecond] [offset_second][ignore count:2]",
+        "",
+    };
+    static char made[128];
+    const char *one = known[below(6)];
+    *count = strlen(one);
+    memcpy(made, one, *count);
+    if (*count > 0 && below(3) == 0) made[below(*count)] = "[]\\\\ :aeinost0-"[below(14)];
+    return made;
+}
+
+/* The items of a description, of which one has another number at times. */
+static size_t some_items(MuxanduItem *items, size_t most) {
+    size_t count;
+    const char *description = some_description(&count);
+    MuxanduOutcome found = muxandu_description_parse(2, description, count, items, most);
+    if (found.status != MUXANDU_OK) return 0;
+    if (found.size > 0 && below(4) == 0) items[below(found.size)].kind = (uint8_t)below(33);
+    if (found.size > 0 && below(4) == 0) items[below(found.size)].first = (uint8_t)below(12);
+    if (found.size > 0 && below(4) == 0) items[below(found.size)].number = (size_t)(next() >> below(64));
+    return found.size;
+}
+
 static void tell(const char *name) {
     printf("%s: the libraries differ\\n", name);
 }
@@ -129,6 +159,8 @@ RANGES = {
     "unit": ("0", "12"),
     "part": ("0", "12"),
     "digits": ("0", "9"),
+    "kind": ("1", "5"),
+    "version": ("1", "2"),
 }
 ANY = ("-1000", "1000")
 
@@ -151,7 +183,7 @@ class Beside:
             low, high = RANGES["minutes"]
         return f"({self.c(kind)})some({low}, {high})"
 
-    def filled(self, place, name, kind):
+    def fill(self, place, name, kind):
         """The lines that give a place a random value."""
         if kind in NUMBERS:
             return [f"{place} = {self.number(name, kind)};"]
@@ -175,23 +207,37 @@ class Beside:
                 others.append(own)
                 continue
             if role == "in":
-                lines += [f"{self.c(kind)} {own};", *self.filled(own, own, kind)]
+                lines += [f"{self.c(kind)} {own};", *self.fill(own, own, kind)]
+                given.append(own)
+                others.append(own)
+            elif role == "text" and (own == "description" or name == "muxandu_description_parse"):
+                lines += [f"size_t {own}_count;", f"const char *{own} = some_description(&{own}_count);"]
+                given.append(own)
+                others.append(own)
+            elif role == "items in" and kind == "MuxanduItem":
+                lines += [f"static MuxanduItem {own}[MOST];", f"size_t {own}_count = some_items({own}, MOST);"]
                 given.append(own)
                 others.append(own)
             elif role == "text":
                 lines += ["static MuxanduSpan made[MOST];", f"size_t {own}_count;"]
-                has_spans = any(it["role"] == "items in" for it in call["parameters"])
-                lines += [f"size_t items = {'below(MOST + 1)' if has_spans else '1'};", f"{own}_count = some_texts(made, items);"]
+                has_spans = any(it["type"] == "MuxanduSpan" for it in call["parameters"])
+                lines += [f"size_t many = {'below(MOST + 1)' if has_spans else '1'};", f"{own}_count = some_texts(made, many);"]
                 given.append("texts")
                 others.append("texts")
             elif role == "items in":
                 lines += [f"static {self.c(kind)} {own}[MOST];"]
-                if texts:
-                    lines += [f"size_t {own}_count = items;", f"memcpy({own}, made, sizeof made);"]
+                if texts and kind == "MuxanduSpan":
+                    lines += [f"size_t {own}_count = many;", f"memcpy({own}, made, sizeof made);"]
                 else:
-                    lines += [f"size_t {own}_count = below(MOST + 1);", "size_t n;"]
-                    inner = " ".join(self.filled(f"{own}[n]", own, kind))
-                    lines += [f"for (n = 0; n < {own}_count; n++) {{ {inner} }}"]
+                    # most second columns are as long as the first
+                    columns = (
+                        it["name"] for it in call["parameters"] if it["role"] == "items in" and it["type"] != "MuxanduItem"
+                    )
+                    first = next(columns, own)
+                    count = "below(MOST + 1)" if first == own else f"below(4) ? {first}_count : below(MOST + 1)"
+                    lines += [f"size_t {own}_count = {count};"]
+                    inner = " ".join(self.fill(f"{own}[n]", own, kind))
+                    lines += [f"for (size_t n = 0; n < {own}_count; n++) {{ {inner} }}"]
                 given.append(own)
                 others.append(own)
             else:
@@ -217,7 +263,7 @@ class Beside:
         body = "".join(f"    {line}\n" for line in [*head, *lines, *run, *tests, "return 1;"])
         return f"static int same_{name}(void) {{\n{body}}}\n"
 
-    def declared(self, name, call):
+    def declaration_of(self, name, call):
         kinds = {"text": "const char *", "room": "char *", "count": "size_t"}
         words = []
         for it in call["parameters"]:
@@ -228,6 +274,6 @@ class Beside:
     def text(self):
         calls = self.described["calls"].items()
         rows = "\n".join(f'        {{"{name}", same_{name}}},' for name, _ in calls)
-        declared = "\n".join(self.declared(name, call) for name, call in calls)
+        declared = "\n".join(self.declaration_of(name, call) for name, call in calls)
         functions = "\n".join(self.function(name, call) for name, call in calls)
         return "\n".join([HEAD, declared, "", functions, MAIN.format(rows=rows)])

@@ -88,7 +88,7 @@ class Refused(Exception):
     """A part is out of its range."""
 
 
-def replaced(at, part, value):
+def with_part(at, part, value):
     """The instant with a part replaced."""
     day, clock = divmod(at, DAY)
     year, month, day_of_month = civil_date(day)
@@ -208,7 +208,7 @@ def call(source, at):
         largest = CLOCK_PARTS[part][0] if part in CLOCK_PARTS else 366 if part == "ordinal" else 31
         value = source.choice((0, largest, largest + 1, WRITTEN.get(part, 2**32 - 1), source.randint(0, largest)))
     try:
-        moved = replaced(at, part, value)
+        moved = with_part(at, part, value)
         return f"replace_{part}={value}", date_time_text(moved), moved
     except Refused as refusal:
         return f"replace_{part}={value}", f"refused {refusal}", at

@@ -39,13 +39,8 @@ const TIMES: [&str; 12] = [
     "[subsecond digits:9]",
     "[hour padding:space]",
 ];
-const OFFSETS: [&str; 5] = [
-    "[offset_hour]",
-    "[offset_hour sign:mandatory]",
-    "[offset_minute]",
-    "[offset_second]",
-    "[offset_hour padding:none]",
-];
+const OFFSETS: [&str; 5] =
+    ["[offset_hour]", "[offset_hour sign:mandatory]", "[offset_minute]", "[offset_second]", "[offset_hour padding:none]"];
 /// Descriptions of whole values, of which the random ones are few.
 const WHOLE: [&str; 8] = [
     "[year]-[month]-[day]T[hour]:[minute]:[second].[subsecond][offset_hour sign:mandatory]:[offset_minute]:[offset_second]",
@@ -107,13 +102,7 @@ impl Value {
         let years = if random.below(4) == 0 { 7_900 } else { 100 };
         Value {
             second: random.below(2 * years * 31_556_952) as i64 - (years * 31_556_952) as i64,
-            nanosecond: [
-                0,
-                5,
-                120_000_000,
-                999_999_999,
-                random.below(1_000_000_000) as u32,
-            ][random.below(5) as usize],
+            nanosecond: [0, 5, 120_000_000, 999_999_999, random.below(1_000_000_000) as u32][random.below(5) as usize],
             offset: match random.below(4) {
                 0 => 0,
                 1 => (random.below(47) as i32 - 23) * 3_600,
@@ -143,7 +132,7 @@ macro_rules! package {
             }
 
             /// What is written, and what a text is read as: a date, a time of day, an offset and a date-time.
-            pub fn written(value: &Value, items: &Vec<FormatItem<'_>>) -> Option<String> {
+            pub fn write_value(value: &Value, items: &Vec<FormatItem<'_>>) -> Option<String> {
                 at(value).format(items).ok()
             }
 
@@ -151,12 +140,8 @@ macro_rules! package {
                 [
                     Date::parse(text, items).ok().map(|it| it.to_string()),
                     Time::parse(text, items).ok().map(|it| it.to_string()),
-                    UtcOffset::parse(text, items)
-                        .ok()
-                        .map(|it| it.whole_seconds().to_string()),
-                    OffsetDateTime::parse(text, items)
-                        .ok()
-                        .map(|it| it.unix_timestamp_nanos().to_string()),
+                    UtcOffset::parse(text, items).ok().map(|it| it.whole_seconds().to_string()),
+                    OffsetDateTime::parse(text, items).ok().map(|it| it.unix_timestamp_nanos().to_string()),
                 ]
             }
         }
@@ -166,53 +151,27 @@ macro_rules! package {
 package!(here, muxandu);
 package!(there, time);
 
-/// Why the two may differ, as docs/proofs/DIFFERENCES.md states it, or None.
-fn stated(
-    description: &str,
-    text: &str,
-    kind: usize,
-    here: &Option<String>,
-    there: &Option<String>,
-) -> Option<&'static str> {
+/// Why the two may differ, as docs/guide/RUST.md states it, or None.
+fn reason_of(description: &str, text: &str, kind: usize, here: &Option<String>, there: &Option<String>) -> Option<&'static str> {
     let has = |word: &str| description.contains(word);
-    let is_repeated = |words: &[&str]| {
-        words
-            .iter()
-            .map(|word| description.matches(word).count())
-            .sum::<usize>()
-            > 1
-    };
+    let is_repeated = |words: &[&str]| words.iter().map(|word| description.matches(word).count()).sum::<usize>() > 1;
     match (here, there) {
-        _ if kind >= 2
-            && (text.contains("-00")
-                || has("[offset_hour padding:none]") && text.contains("-0")) =>
-        {
+        _ if kind >= 2 && (text.contains("-00") || has("[offset_hour padding:none]") && text.contains("-0")) => {
             Some("an offset of no hours keeps its sign")
         }
         (None, Some(_))
             if is_repeated(&["[year"])
                 || is_repeated(&["[month", "[day", "[ordinal", "[week"])
                 || is_repeated(&["[hour", "[period"])
-                || [
-                    "[minute",
-                    "[second",
-                    "[subsecond",
-                    "[offset_hour",
-                    "[offset_minute",
-                    "[offset_second",
-                ]
-                .iter()
-                .any(|word| is_repeated(&[word])) =>
+                || ["[minute", "[second", "[subsecond", "[offset_hour", "[offset_minute", "[offset_second"]
+                    .iter()
+                    .any(|word| is_repeated(&[word])) =>
         {
             Some("a part that contradicts another is an error")
         }
-        (Some(_), None) if kind % 2 == 1 && !has("[minute") => {
-            Some("a time of day needs no minute")
-        }
+        (Some(_), None) if kind % 2 == 1 && !has("[minute") => Some("a time of day needs no minute"),
         (Some(_), None) if kind < 3 => Some("a part that the type has not may be out of its range"),
-        (Some(_), None)
-            if kind >= 2 && (text.contains("-2") || text.contains("+2") || text.contains(" 2")) =>
-        {
+        (Some(_), None) if kind >= 2 && (text.contains("-2") || text.contains("+2") || text.contains(" 2")) => {
             Some("an offset may have 24 and 25 hours")
         }
         _ => None,
@@ -220,29 +179,20 @@ fn stated(
 }
 
 fn main() {
-    let mut words = std::env::args()
-        .skip(1)
-        .map(|word| word.parse::<u64>().expect("a number"));
+    let mut words = std::env::args().skip(1).map(|word| word.parse::<u64>().expect("a number"));
     let rounds = words.next().unwrap_or(100_000);
-    let mut random = Random(
-        words
-            .next()
-            .unwrap_or(1)
-            .wrapping_mul(0x9e37_79b9_7f4a_7c15)
-            | 1,
-    );
+    let mut random = Random(words.next().unwrap_or(1).wrapping_mul(0x9e37_79b9_7f4a_7c15) | 1);
     let (mut compared, mut wrong) = (0_u64, 0_u64);
     let mut differences = BTreeMap::new();
     for _ in 0..rounds {
         let description = description(&mut random);
-        let (Some(here), Some(there)) = (here::items(&description), there::items(&description))
-        else {
+        let (Some(here), Some(there)) = (here::items(&description), there::items(&description)) else {
             wrong += 1;
             println!("{description} is a description for one of them");
             continue;
         };
         let value = Value::random(&mut random);
-        let (ours, theirs) = (here::written(&value, &here), there::written(&value, &there));
+        let (ours, theirs) = (here::write_value(&value, &here), there::write_value(&value, &there));
         compared += 1;
         let (Some(text), true) = (&ours, ours == theirs) else {
             wrong += 1;
@@ -263,14 +213,12 @@ fn main() {
                 if ours == theirs {
                     continue;
                 }
-                match stated(&description, &text, kind, ours, theirs) {
+                match reason_of(&description, &text, kind, ours, theirs) {
                     Some(why) => *differences.entry(why).or_insert(0_u64) += 1,
                     None => {
                         wrong += 1;
                         if wrong < 30 {
-                            println!(
-                                "{description} reads {text:?} as {ours:?} here, {theirs:?} there ({kind})"
-                            );
+                            println!("{description} reads {text:?} as {ours:?} here, {theirs:?} there ({kind})");
                         }
                     }
                 }

@@ -24,9 +24,7 @@ impl u8x16 {
     }
 
     pub fn simd_eq(self, other: u8x16) -> Mask {
-        Mask(core::array::from_fn(|place| {
-            self.0[place] == other.0[place]
-        }))
+        Mask(core::array::from_fn(|place| self.0[place] == other.0[place]))
     }
 }
 

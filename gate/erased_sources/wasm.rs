@@ -30,7 +30,7 @@ pub extern "C" fn out() -> usize {
     &raw const OUT as usize
 }
 
-fn put(bytes: &[u8]) -> u32 {
+fn put_bytes(bytes: &[u8]) -> u32 {
     unsafe { (&mut *(&raw mut OUT))[..bytes.len()].copy_from_slice(bytes) };
     bytes.len() as u32
 }
@@ -39,8 +39,8 @@ fn put(bytes: &[u8]) -> u32 {
 #[unsafe(no_mangle)]
 pub extern "C" fn unix(second: i64) -> u32 {
     match Timestamp::from_seconds(second) {
-        Ok(at) => put(at.to_utc().text().as_bytes()),
-        Err(_) => put(b"refused timestamp"),
+        Ok(at) => put_bytes(at.to_utc().text().as_bytes()),
+        Err(_) => put_bytes(b"refused timestamp"),
     }
 }
 
@@ -54,7 +54,6 @@ pub extern "C" fn exchange(second: i64, nanosecond: u32) -> u32 {
     let Some(text) = at.to_rfc3339() else {
         return 2;
     };
-    let back =
-        parse_rfc3339(text.as_bytes()).map(|back: OffsetDateTime| back.unix_timestamp_nanos());
+    let back = parse_rfc3339(text.as_bytes()).map(|back: OffsetDateTime| back.unix_timestamp_nanos());
     u32::from(back == Ok(at.to_utc().unix_timestamp_nanos()))
 }

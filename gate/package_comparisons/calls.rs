@@ -36,13 +36,13 @@ fn put_refusal(refusal: &ComponentRange, out: &mut Answers) {
 
 /// Answers as numbers.
 trait Put {
-    fn put(&self, out: &mut Answers);
+    fn put_answer(&self, out: &mut Answers);
 }
 
 macro_rules! put_numbers {
     ($($Number:ident)+) => {
         $(impl Put for $Number {
-            fn put(&self, out: &mut Answers) {
+            fn put_answer(&self, out: &mut Answers) {
                 out.push(i128::from(*self));
             }
         })+
@@ -54,9 +54,9 @@ put_numbers! { i8 u8 i16 u16 i32 u32 i64 i128 bool }
 macro_rules! put_parts {
     ($($Type:ident: $value:ident => $parts:expr;)+) => {
         $(impl Put for $Type {
-            fn put(&self, out: &mut Answers) {
+            fn put_answer(&self, out: &mut Answers) {
                 let $value = *self;
-                $parts.put(out);
+                $parts.put_answer(out);
             }
         })+
     };
@@ -76,8 +76,8 @@ put_parts! {
 macro_rules! put_tuples {
     ($($($Part:ident $place:tt)+;)+) => {
         $(impl<$($Part: Put),+> Put for ($($Part,)+) {
-            fn put(&self, out: &mut Answers) {
-                $(self.$place.put(out);)+
+            fn put_answer(&self, out: &mut Answers) {
+                $(self.$place.put_answer(out);)+
             }
         })+
     };
@@ -90,18 +90,18 @@ put_tuples! {
 }
 
 impl<T: Put> Put for Option<T> {
-    fn put(&self, out: &mut Answers) {
+    fn put_answer(&self, out: &mut Answers) {
         match self {
-            Some(value) => value.put(out),
+            Some(value) => value.put_answer(out),
             None => out.push(i128::MIN),
         }
     }
 }
 
 impl<T: Put> Put for Result<T, ComponentRange> {
-    fn put(&self, out: &mut Answers) {
+    fn put_answer(&self, out: &mut Answers) {
         match self {
-            Ok(value) => value.put(out),
+            Ok(value) => value.put_answer(out),
             Err(refusal) => put_refusal(refusal, out),
         }
     }
@@ -109,7 +109,7 @@ impl<T: Put> Put for Result<T, ComponentRange> {
 
 macro_rules! put {
     ($out:expr, $($value:expr),+ $(,)?) => {
-        $($value.put($out);)+
+        $($value.put_answer($out);)+
     };
 }
 
@@ -162,12 +162,7 @@ macro_rules! put_sums {
 
 macro_rules! put_date_replacements {
     ($out:expr, $value:expr, $input:expr) => {
-        put!(
-            $out,
-            $value.replace_year($input.year),
-            $value.replace_month(month($input)),
-            $value.replace_day($input.day),
-        );
+        put!($out, $value.replace_year($input.year), $value.replace_month(month($input)), $value.replace_day($input.day),);
     };
 }
 
@@ -198,8 +193,7 @@ fn duration(input: &Input) -> Duration {
 /// Lengths of each unit, their products, quotients and sums, and std's lengths beside them.
 fn put_lengths(duration: Duration, input: &Input, out: &mut Answers) {
     let count = i64::from(input.offset_seconds);
-    let std_duration =
-        std::time::Duration::new(input.seconds.unsigned_abs(), input.small % 1_000_000_000);
+    let std_duration = std::time::Duration::new(input.seconds.unsigned_abs(), input.small % 1_000_000_000);
     // 0.3.9 divides seconds and nanoseconds apart, and loses a nanosecond where both leave a rest.
     let whole = Duration::seconds(input.seconds);
     put!(
@@ -256,17 +250,9 @@ fn put_names(input: &Input, out: &mut Answers) {
     put!(out, Month::try_from(input.day));
     put_display(&month(input), out);
     put_display(&weekday, out);
-    let names = [
-        month(input).to_string(),
-        weekday.to_string(),
-        month(input).to_string().to_lowercase(),
-    ];
+    let names = [month(input).to_string(), weekday.to_string(), month(input).to_string().to_lowercase()];
     for name in names {
-        put!(
-            out,
-            name.parse::<Month>().ok(),
-            name.parse::<Weekday>().ok()
-        );
+        put!(out, name.parse::<Month>().ok(), name.parse::<Weekday>().ok());
     }
 }
 
@@ -295,10 +281,7 @@ pub fn answers(input: &Input, out: &mut Answers) {
     );
     // 0.3.9 has no offset of 24 hours and more.
     if input.offset.0.unsigned_abs() < 24 {
-        put!(
-            out,
-            UtcOffset::from_hms(input.offset.0, input.offset.1, input.offset.2)
-        );
+        put!(out, UtcOffset::from_hms(input.offset.0, input.offset.1, input.offset.2));
     }
     let duration = duration(input);
     // 0.3.9 drops what is finer than a nanosecond, and a 512th of a second has nothing finer.
@@ -339,25 +322,14 @@ pub fn answers(input: &Input, out: &mut Answers) {
         (part.std_weeks() + part.std_hours()).as_nanos() as i128,
         (part.std_days() + part.std_minutes() + part.std_seconds()).as_nanos() as i128,
         duration < Duration::seconds(input.seconds),
-        std::time::Duration::try_from(duration)
-            .map(|duration| duration.as_nanos() as i128)
-            .ok(),
-        duration
-            == std::time::Duration::new(
-                input.seconds.unsigned_abs(),
-                input.nanoseconds.unsigned_abs()
-            ),
+        std::time::Duration::try_from(duration).map(|duration| duration.as_nanos() as i128).ok(),
+        duration == std::time::Duration::new(input.seconds.unsigned_abs(), input.nanoseconds.unsigned_abs()),
     );
     put_lengths(duration, input, out);
     put_names(input, out);
     let (Ok(date), Ok(time)) = (
         Date::from_julian_day(input.julian_day),
-        Time::from_hms_nano(
-            hour % 24,
-            minute % 60,
-            second % 60,
-            input.nanosecond % 1_000_000_000,
-        ),
+        Time::from_hms_nano(hour % 24, minute % 60, second % 60, input.nanosecond % 1_000_000_000),
     ) else {
         return;
     };
@@ -372,49 +344,20 @@ pub fn answers(input: &Input, out: &mut Answers) {
         date.with_hms_micro(hour, minute, second, input.small),
         date.with_hms_nano(hour, minute, second, input.nanosecond),
     );
-    let std_duration = std::time::Duration::new(
-        input.seconds.unsigned_abs() % 1_000_000_000,
-        input.small % 1_000_000_000,
-    );
+    let std_duration = std::time::Duration::new(input.seconds.unsigned_abs() % 1_000_000_000, input.small % 1_000_000_000);
     put!(out, time + std_duration, time - std_duration);
     // Away from the ends of the range, where 0.3.9 does not hold all that clocks at an offset show.
     let other = Date::from_ordinal_date(input.year.clamp(-999_000, 999_000), 1).unwrap();
     let inner = date.year().abs() < 999_900;
-    put!(
-        out,
-        date - other,
-        other - date,
-        date < other,
-        date == other,
-        other + std_duration,
-        other - std_duration
-    );
+    put!(out, date - other, other - date, date < other, date == other, other + std_duration, other - std_duration);
     put_sums!(out, date, duration);
     put_date_replacements!(out, date, input);
     put_display(&date, out);
     put_time_reads!(out, time);
-    put!(
-        out,
-        time.as_hms(),
-        time.as_hms_milli(),
-        time.as_hms_micro(),
-        time + duration,
-        time - duration
-    );
-    let second_time = Time::from_hms_nano(
-        second % 24,
-        hour % 60,
-        minute % 60,
-        input.small % 1_000_000_000,
-    )
-    .unwrap();
+    put!(out, time.as_hms(), time.as_hms_milli(), time.as_hms_micro(), time + duration, time - duration);
+    let second_time = Time::from_hms_nano(second % 24, hour % 60, minute % 60, input.small % 1_000_000_000).unwrap();
     // 0.3.9 gives seconds and nanoseconds of two signs.
-    put!(
-        out,
-        (time - second_time).whole_nanoseconds(),
-        (second_time - time).whole_nanoseconds(),
-        time < second_time
-    );
+    put!(out, (time - second_time).whole_nanoseconds(), (second_time - time).whole_nanoseconds(), time < second_time);
     put_time_replacements!(out, time, input);
     put_display(&time, out);
 
@@ -424,51 +367,17 @@ pub fn answers(input: &Input, out: &mut Answers) {
     put_sums!(out, plain, duration);
     put_date_replacements!(out, plain, input);
     put_time_replacements!(out, plain, input);
-    put!(
-        out,
-        plain.replace_time(Time::MIDNIGHT),
-        plain.replace_date(Date::MAX)
-    );
+    put!(out, plain.replace_time(Time::MIDNIGHT), plain.replace_date(Date::MAX));
     put_display(&plain, out);
     let midnight = other.midnight();
-    put!(
-        out,
-        plain - midnight,
-        midnight - plain,
-        plain < midnight,
-        plain == midnight
-    );
-    put!(
-        out,
-        midnight + std_duration,
-        midnight - std_duration,
-        plain.assume_utc()
-    );
+    put!(out, plain - midnight, midnight - plain, plain < midnight, plain == midnight);
+    put!(out, midnight + std_duration, midnight - std_duration, plain.assume_utc());
     if inner {
         let offset = UtcOffset::from_whole_seconds(input.offset_seconds).unwrap();
         let shown = plain.assume_offset(offset);
-        put!(
-            out,
-            shown,
-            shown.unix_timestamp_nanos(),
-            shown - midnight.assume_utc(),
-            shown < midnight.assume_utc()
-        );
-        put!(
-            out,
-            shown + std_duration,
-            shown - std_duration,
-            shown.replace_date_time(midnight),
-            shown.replace_date(other)
-        );
-        put!(
-            out,
-            shown == plain.assume_utc(),
-            shown.to_offset(UtcOffset::UTC),
-            shown.date(),
-            shown.time(),
-            shown.offset()
-        );
+        put!(out, shown, shown.unix_timestamp_nanos(), shown - midnight.assume_utc(), shown < midnight.assume_utc());
+        put!(out, shown + std_duration, shown - std_duration, shown.replace_date_time(midnight), shown.replace_date(other));
+        put!(out, shown == plain.assume_utc(), shown.to_offset(UtcOffset::UTC), shown.date(), shown.time(), shown.offset());
     }
 
     // 0.3.9 keeps the date-time in UTC, so what clocks at an offset show at the ends of the range is not compared.
@@ -502,26 +411,13 @@ pub fn answers(input: &Input, out: &mut Answers) {
     // A time of the system lies as far back as the clocks of the machine count.
     let of_system = std::time::SystemTime::from(shown);
     let earlier = at - Duration::seconds(input.seconds % 1_000_000_000);
-    put!(
-        out,
-        OffsetDateTime::from(of_system),
-        shown == of_system,
-        of_system < earlier,
-        earlier < of_system
-    );
-    put!(
-        out,
-        shown - of_system,
-        of_system - earlier,
-        earlier - of_system
-    );
+    put!(out, OffsetDateTime::from(of_system), shown == of_system, of_system < earlier, earlier < of_system);
+    put!(out, shown - of_system, of_system - earlier, earlier - of_system);
     put_date_reads!(out, shown);
     put_time_reads!(out, shown);
     put_date_replacements!(out, shown, input);
     put_time_replacements!(out, shown, input);
-    if input.seconds.unsigned_abs() < 100_000_000_000
-        || input.seconds.unsigned_abs() > 100_000_000_000_000
-    {
+    if input.seconds.unsigned_abs() < 100_000_000_000 || input.seconds.unsigned_abs() > 100_000_000_000_000 {
         put_sums!(out, shown, duration);
     }
     put!(
@@ -576,36 +472,16 @@ pub struct Data {
 
 impl Data {
     pub fn new(inputs: &[Input]) -> Data {
-        let dates: Vec<Date> = inputs
-            .iter()
-            .map(|input| Date::from_julian_day(input.julian_day).unwrap())
-            .collect();
+        let dates: Vec<Date> = inputs.iter().map(|input| Date::from_julian_day(input.julian_day).unwrap()).collect();
         let times: Vec<Time> = inputs
             .iter()
-            .map(|input| {
-                Time::from_hms_nano(
-                    input.clock.0,
-                    input.clock.1,
-                    input.clock.2,
-                    input.nanosecond,
-                )
-                .unwrap()
-            })
+            .map(|input| Time::from_hms_nano(input.clock.0, input.clock.1, input.clock.2, input.nanosecond).unwrap())
             .collect();
-        let plain: Vec<PrimitiveDateTime> = dates
-            .iter()
-            .zip(&times)
-            .map(|(date, time)| PrimitiveDateTime::new(*date, *time))
-            .collect();
-        let offsets: Vec<UtcOffset> = inputs
-            .iter()
-            .map(|input| UtcOffset::from_whole_seconds(input.offset_seconds).unwrap())
-            .collect();
-        let shown = plain
-            .iter()
-            .zip(&offsets)
-            .map(|(plain, offset)| plain.assume_offset(*offset))
-            .collect();
+        let plain: Vec<PrimitiveDateTime> =
+            dates.iter().zip(&times).map(|(date, time)| PrimitiveDateTime::new(*date, *time)).collect();
+        let offsets: Vec<UtcOffset> =
+            inputs.iter().map(|input| UtcOffset::from_whole_seconds(input.offset_seconds).unwrap()).collect();
+        let shown = plain.iter().zip(&offsets).map(|(plain, offset)| plain.assume_offset(*offset)).collect();
         // Within two days of one another, at the same offsets.
         let near: Vec<OffsetDateTime> = inputs
             .iter()
@@ -616,10 +492,7 @@ impl Data {
                 (at + Duration::nanoseconds(i64::from(input.nanosecond))).to_offset(*offset)
             })
             .collect();
-        let durations = inputs
-            .iter()
-            .map(|input| Duration::new(input.seconds % 100_000_000, input.nanoseconds))
-            .collect();
+        let durations = inputs.iter().map(|input| Duration::new(input.seconds % 100_000_000, input.nanoseconds)).collect();
         let months: Vec<Month> = inputs.iter().map(month).collect();
         let weekdays: Vec<Weekday> = inputs.iter().map(weekday).collect();
         let names = months.iter().zip(&weekdays);
@@ -627,9 +500,7 @@ impl Data {
         Data {
             inputs: inputs.to_vec(),
             names: names.collect(),
-            texts: in_minutes(&near)
-                .map(|at| at.format(&Rfc3339).unwrap())
-                .collect(),
+            texts: in_minutes(&near).map(|at| at.format(&Rfc3339).unwrap()).collect(),
             minutes: in_minutes(&near).collect(),
             months,
             weekdays,

@@ -39,20 +39,10 @@ fn compare(rounds: u64, seed: u64) -> bool {
         }
         wrong += 1;
         if wrong <= SHOWN {
-            let place = ours
-                .iter()
-                .zip(&theirs)
-                .position(|(one, other)| one != other);
+            let place = ours.iter().zip(&theirs).position(|(one, other)| one != other);
             match place {
-                Some(at) => println!(
-                    "{input:?}: answer {at}: {:?}, and beside it {:?}",
-                    ours[at], theirs[at]
-                ),
-                None => println!(
-                    "{input:?}: {} answers, and beside it {}",
-                    ours.len(),
-                    theirs.len()
-                ),
+                Some(at) => println!("{input:?}: answer {at}: {:?}, and beside it {:?}", ours[at], theirs[at]),
+                None => println!("{input:?}: {} answers, and beside it {}", ours.len(), theirs.len()),
             }
         }
     }
@@ -61,7 +51,7 @@ fn compare(rounds: u64, seed: u64) -> bool {
 }
 
 /// The nanoseconds an item of a loop.
-fn timed(items: usize, run: impl FnOnce() -> u64) -> f64 {
+fn nanos_per_item(items: usize, run: impl FnOnce() -> u64) -> f64 {
     let began = Instant::now();
     std::hint::black_box(run());
     began.elapsed().as_nanos() as f64 / items as f64
@@ -77,9 +67,9 @@ fn measure(rounds: u64) {
     for round in 0..rounds {
         for (place, (name, run)) in ours::LOOPS.iter().enumerate() {
             let (_, run_theirs) = theirs::LOOPS[place];
-            let first = (round % 2 == 0).then(|| timed(inputs.len(), || run(&ours)));
-            let other = timed(inputs.len(), || run_theirs(&theirs));
-            let one = first.unwrap_or_else(|| timed(inputs.len(), || run(&ours)));
+            let first = (round % 2 == 0).then(|| nanos_per_item(inputs.len(), || run(&ours)));
+            let other = nanos_per_item(inputs.len(), || run_theirs(&theirs));
+            let one = first.unwrap_or_else(|| nanos_per_item(inputs.len(), || run(&ours)));
             println!("{name}|{one:.3}|{other:.3}");
         }
     }

@@ -23,7 +23,7 @@ mod theirs {
 const PRINTED: usize = 20;
 
 /// The text with one character gone, doubled or another.
-fn changed(text: &str, rng: &mut SmallRng) -> String {
+fn change_one(text: &str, rng: &mut SmallRng) -> String {
     let mut bytes = text.as_bytes().to_vec();
     let place = rng.gen_range(0..bytes.len());
     match rng.gen_range(0..3) {
@@ -35,10 +35,7 @@ fn changed(text: &str, rng: &mut SmallRng) -> String {
 }
 
 fn main() {
-    let words: Vec<u64> = std::env::args()
-        .skip(1)
-        .map(|word| word.parse().expect("a number"))
-        .collect();
+    let words: Vec<u64> = std::env::args().skip(1).map(|word| word.parse().expect("a number")).collect();
     let (rounds, seed) = (words[0], words[1]);
     let mut rng = SmallRng::seed_from_u64(seed);
     let (mut compared, mut wrong) = (0_u64, 0_usize);
@@ -53,33 +50,15 @@ fn main() {
     };
     for _ in 0..rounds {
         let seed = rng.r#gen();
-        let (ours, theirs) = (ours::written(seed), theirs::written(seed));
-        for (place, ((text, bytes), (other_text, other_bytes))) in
-            ours.into_iter().zip(theirs).enumerate()
-        {
+        let (ours, theirs) = (ours::write_values(seed), theirs::write_values(seed));
+        for (place, ((text, bytes), (other_text, other_bytes))) in ours.into_iter().zip(theirs).enumerate() {
             see("the text", text.clone(), other_text);
-            see(
-                "the bytes",
-                format!("{bytes:?}"),
-                format!("{other_bytes:?}"),
-            );
-            see(
-                "the value of bytes",
-                ours::read_bytes(place, &bytes),
-                text.clone(),
-            );
-            see(
-                "the value of the text",
-                ours::read(place, &text),
-                text.clone(),
-            );
-            for given in [text.clone(), changed(&text, &mut rng)] {
+            see("the bytes", format!("{bytes:?}"), format!("{other_bytes:?}"));
+            see("the value of bytes", ours::read_bytes(place, &bytes), text.clone());
+            see("the value of the text", ours::read(place, &text), text.clone());
+            for given in [text.clone(), change_one(&text, &mut rng)] {
                 if !ours::differs(place, &given) {
-                    see(
-                        &given,
-                        ours::read(place, &given),
-                        theirs::read(place, &given),
-                    );
+                    see(&given, ours::read(place, &given), theirs::read(place, &given));
                 }
             }
         }

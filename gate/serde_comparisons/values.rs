@@ -61,7 +61,7 @@ fn counts(rng: &mut SmallRng) -> Counts {
 macro_rules! kinds {
     ($($place:literal $Type:ty: $rng:ident => $made:expr;)+) => {
         /// What serde_json and bincode write of random values of each kind.
-        pub fn written(seed: u64) -> Vec<(String, Vec<u8>)> {
+        pub fn write_values(seed: u64) -> Vec<(String, Vec<u8>)> {
             let mut rng = SmallRng::seed_from_u64(seed);
             vec![$({
                 let $rng = &mut rng;
@@ -112,19 +112,13 @@ kinds! {
 #[allow(dead_code)]
 pub fn differs(place: usize, text: &str) -> bool {
     let bare = text.trim_matches(['"', '[', ']']);
-    let is_long = |part: &str| {
-        part.find('-')
-            .is_some_and(|at| at > 4 && part.as_bytes()[..at].iter().all(u8::is_ascii_digit))
-    };
+    let is_long = |part: &str| part.find('-').is_some_and(|at| at > 4 && part.as_bytes()[..at].iter().all(u8::is_ascii_digit));
     if text.split('"').any(is_long) {
         return true;
     }
     match place {
         2 | 4 if text.starts_with('[') => {
-            let hours = bare
-                .rsplit(',')
-                .nth(2)
-                .and_then(|hours| hours.parse::<i32>().ok());
+            let hours = bare.rsplit(',').nth(2).and_then(|hours| hours.parse::<i32>().ok());
             hours.is_some_and(|hours| hours.abs() >= 24)
         }
         2 | 4 => {
@@ -137,9 +131,7 @@ pub fn differs(place: usize, text: &str) -> bool {
         6 | 7 => !text.starts_with('"'),
         11 => text.split('"').any(|part| {
             part.contains(' ')
-                || part.len() > 6
-                    && part.is_char_boundary(part.len() - 6)
-                    && part[part.len() - 6..].starts_with("-00")
+                || part.len() > 6 && part.is_char_boundary(part.len() - 6) && part[part.len() - 6..].starts_with("-00")
         }),
         _ => false,
     }

@@ -23,7 +23,7 @@ def write(path, text):
         file.write(text)
 
 
-def installed(names):
+def installed_versions(names):
     """Those of the crates that Debian has installed, and their versions. Each is told of, and how to install one that is not
     there."""
     folders = os.listdir(REGISTRY) if os.path.isdir(REGISTRY) else []

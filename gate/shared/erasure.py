@@ -9,7 +9,16 @@ from shared.gate import REPOSITORY
 from shared.rattle_tokens import CLOSING, COMMENTS, Lexer, Refused
 
 # The libraries, each a module of the erased text, the package that has it, and the root of that text and its folder there.
-CRATES = ("calendar_values", "plain_times", "utc_times", "offset_times", "stamp_times", "rfc3339", "format_descriptions")
+CRATES = (
+    "calendar_values",
+    "plain_times",
+    "utc_times",
+    "offset_times",
+    "stamp_times",
+    "rfc3339",
+    "local_texts",
+    "format_descriptions",
+)
 FOLDER = os.path.join("packages", "rust")
 NAME = "muxandu"
 MODULE = "proved"
@@ -118,7 +127,7 @@ class Lists:
             at += len(line) + 1
         return found
 
-    def unused(self):
+    def first_unused(self):
         """The first line of which there is no function, as a refusal, or None."""
         for key in sorted({*self.const, *self.asking} - self.used):
             return Refused(*self.lines[key], f"there is no function {key}")
@@ -508,7 +517,7 @@ class Source:
             key = self.key(place, type_name)
             mark = "const " if key in self.lists.const else ""
             self.lists.used.add(key)
-            body = self.rendered(place, self.closes[self.end_of_head(place)])
+            body = self.render(place, self.closes[self.end_of_head(place)])
             hints = self.hint(place) + "\n#[track_caller]" * self.panics(place, trait)
             method = f"/// As [`{trait}::{name}`], which has the contract.\n{hints}\npub {mark}{body}\n"
             parts.setdefault((start, type_name), []).append(method)
@@ -524,7 +533,7 @@ class Source:
         found = re.search(r"#\[inline(?:\(\w+\))?\]", words)
         return found[0] if found else "#[inline]"
 
-    def rendered(self, first, last):
+    def render(self, first, last):
         """The code from the first to the last of these places, as it is left, without what is put in before the first."""
         tokens = self.tokens[self.places[self.code[first].at] : self.places[self.code[last].at] + 1]
         return tokens[0].text + "".join(token.before + token.text for token in tokens[1:] if not token.reason)
@@ -577,7 +586,7 @@ class Source:
         """Links of the documentation: those to what is left out are plain, and paths are those of one crate."""
         known = {token.text for token in self.code if token.kind == "word"}
 
-        def linked(match):
+        def link(match):
             text, target = match[1], match[2]
             first = re.match(r"`?(?:crate::)?(\w*)", target or text)[1]
             if first in LEFT_OUT or not target and first not in known and first not in OF_RUST:
@@ -590,9 +599,9 @@ class Source:
 
         for token in self.tokens:
             if token.kind in ("doc", "inner") and not token.reason:
-                token.text = LINK.sub(linked, token.text)
+                token.text = LINK.sub(link, token.text)
 
-    def left(self):
+    def text_left(self):
         """The text that is left, before it is laid out."""
         out, gap = [], None
         for token in self.tokens:
@@ -703,12 +712,12 @@ def erase_all(root=REPOSITORY, const=None):
             source = Source(name, file.read(), crate, lists)
         closed.setdefault(crate, set()).update(source.erase(shim))
         found.append((crate, path, source))
-    unused = lists.unused()
+    unused = lists.first_unused()
     if unused:
         raise unused
     for crate, path, source in found:
         source.put_closed_uses(closed[crate])
-        text = examples_of_rust(source, source.left())
+        text = examples_of_rust(source, source.text_left())
         head = f"// Made by make/erase of {source.path}. Do not edit.\n"
         made[erased_name(crate, path)] = head + text
         keys += [source.key(place, owner) for place, kind, owner, _ in source.functions() if kind in ("own", "free")]

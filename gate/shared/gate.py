@@ -36,6 +36,15 @@ COMPILERS = ("llvm", "rattle")
 # The programs, and the commands that prove, build and run them.
 STARTERS = {"times_bench": ("bench",), "stamps": ("stamps", "check")}
 
+# The crates that gate/proved_copy proves also where the proofs of `rt ci` are at hand: those whose contracts `promises` changes, and
+# the library for C, which `rt ci` does not build. Where checks had kept something in the checkout it proves each crate, and says so
+# by this file.
+PROVED_IN_COPY = ("utc_times", "offset_times", "stamp_times", "muxandu_c")
+KEPT = "kept"
+
+# The crates of callers. They have no proofs of their own, and nothing for other crates but their tests.
+CRATES_OF_CALLERS = ("uses", "pattern_uses")
+
 # How much of what a command printed is shown where it failed.
 SHOWN = 3_000
 
@@ -187,10 +196,21 @@ def crates(root=REPOSITORY):
         return [line.split(":")[0].split()[0] for line in lines if ":" in line and not line.startswith("#")]
 
 
+def link_kept(source, target):
+    """Copies a file, what a check has kept by a link, as `rt` does: a check replaces such a file, and never changes it."""
+    try:
+        if source.endswith(".oantt"):
+            return os.link(source, target)
+    except OSError:
+        pass
+    return shutil.copy2(source, target)
+
+
 def copy_repository(folder, repository=REPOSITORY):
     """The path of a copy of a repository in the folder, with what checks have kept."""
     copy = os.path.join(folder, "copy")
-    shutil.copytree(repository, copy, symlinks=True, ignore=shutil.ignore_patterns(".git", "__pycache__"))
+    ignored = shutil.ignore_patterns(".git", "__pycache__")
+    shutil.copytree(repository, copy, symlinks=True, ignore=ignored, copy_function=link_kept)
     return copy
 
 
@@ -241,8 +261,23 @@ def own_folder():
 
 
 def proof_of(crate):
-    """The file that gate/proved_copy leaves in the folder that the steps share, once that crate is proved."""
+    """The file that gate/proved_copy leaves in the folder that the steps share, once that crate is proved, in the copy or by
+    `rt ci`, whose library is then there."""
     return f"{PROVED}_{crate}"
+
+
+def has_proved(folder, crate):
+    """Whether `rt ci` has said so far that it has proved that crate, in this run or an earlier one, and so has built it."""
+    try:
+        with open(os.path.join(folder, CI_LOG), encoding="utf-8", errors="replace") as log:
+            return re.search(rf"^rt: {crate} (?:proved$|is kept: )", log.read(), re.MULTILINE) is not None
+    except FileNotFoundError:
+        return False
+
+
+def is_proved_in_copy(folder, crate):
+    """Whether gate/proved_copy proves that crate, and does not only take its library from `rt ci`."""
+    return crate in PROVED_IN_COPY or os.path.exists(os.path.join(folder, KEPT))
 
 
 def wait_for(folder, name):
@@ -282,7 +317,7 @@ def prove(root, crate, is_built=False):
     if is_test(crate):
         return
     folder = os.path.join(root, "crates", crate)
-    is_library = crate != "uses" and not is_built and not os.path.exists(os.path.join(folder, "src", "main.rt"))
+    is_library = crate not in CRATES_OF_CALLERS and not is_built and not os.path.exists(os.path.join(folder, "src", "main.rt"))
     # a library that was built by its statements alone has kept nothing
     for word in ("lib", "check") if is_library else ("check",):
         if word == "check" and is_library and os.path.exists(os.path.join(folder, "out", "incremental")):
@@ -315,8 +350,8 @@ def programs(crate="times_bench"):
 def lines_and_answers(tool, *numbers):
     """The lines for times_bench that a tool prints, and the answers that it says they must have, as bytes."""
 
-    def printed(*flags):
+    def output_of(*flags):
         command = [os.path.join(GATE, tool), *flags, *map(str, numbers)]
         return subprocess.run(command, stdout=subprocess.PIPE, check=True).stdout
 
-    return printed(), printed("--answers")
+    return output_of(), output_of("--answers")

@@ -8,7 +8,7 @@ ROOT = Path(__file__).resolve().parents[2]
 PATH = ROOT / "packages/c/interface.json"
 
 # The widest line of what is made.
-WIDTH = 120
+WIDTH = 100
 
 LICENCE = "MIT OR Apache-2.0"
 
@@ -20,34 +20,38 @@ HEAD = (
 # The groups of constants besides the version, in their order.
 CONSTANTS = ("limits", "rooms")
 
-# What a caller must see to, which nothing checks.
+# The duties of a caller, which nothing checks.
 DUTIES = """\
-What a caller must see to, since nothing checks it:
-- each pointer is not NULL, but one to items whose count is 0, and is aligned for what it points to;
-- a pointer to items stands for as many as the count after it says, of at most PTRDIFF_MAX bytes together;
-- what a pointer that is not const points to is reached in no other way during the call: it is no part of what
-  another pointer points to, and no other thread reads or writes it. What a const pointer points to is not written
-  meanwhile;
-- the library is not older than these declarations: muxandu_version() is at least MUXANDU_VERSION.
-Any number may stand in any field: each call tests what it reads. Structs go in by value, so that the result may be
-written over one of them, as in muxandu_date_time_to_offset(at, 0, &at). A struct has bytes between its fields, or after
-them: compare fields, not bytes.
+Your duties, which nothing checks:
+- no pointer is NULL, except one to items whose count is 0, and each is aligned for its type;
+- a pointer to items has as many items as the count after it, of at most PTRDIFF_MAX bytes
+  together;
+- during the call nothing else reaches the memory of a pointer that is not const: no other
+  pointer overlaps it, and no other thread reads or writes it. Nothing writes the memory of a
+  const pointer during the call;
+- the library is not older than these declarations: muxandu_version() is at least
+  MUXANDU_VERSION.
+A field may have any number: each call tests those that it reads. Structs go in by value, so the
+result may replace one of them, as in muxandu_date_time_to_offset(at, 0, &at). A struct has
+bytes between its fields, or after them: compare fields, not bytes.
 
-A call keeps nothing, shares nothing, takes no memory, waits for nothing and ends: it may be made from any thread, at
-the same time as others, from a signal handler and after fork.
+A call keeps nothing, shares nothing, takes no memory, waits for nothing and ends. You may call
+it from any thread, at the same time as others, from a signal handler and after fork.
 
-A call that returns a status returns 0, MUXANDU_OK, where it has written its result, and else the number of what it
-refuses, whose name comes after MUXANDU_REFUSED_; then what `out` points to is as it was. A call that returns a
-MuxanduBatch has written as many items as it counts, and what lies behind them in `out` is as it was.
+A call that returns a status returns 0, MUXANDU_OK, if it has written its result. Otherwise it
+returns the number of an error, whose name begins with MUXANDU_REFUSED_, and leaves `out` as it
+was. A call that returns a MuxanduBatch has written as many items as it counts, and leaves the
+rest of `out` as it was.
 
-What stays, as long as the library is libmuxandu.so.0: names, numbers, structs, the parameters of calls and what they
-give. A later version adds calls, constants and statuses, whose numbers come after those that there are. A name that is
-to go has the attribute `deprecated` first, which says what to use, for one year and one version at least; it goes only
-where the number of the library goes up."""
+As long as the library is libmuxandu.so.0, these stay: names, numbers, structs, and the
+parameters and results of calls. A later version adds calls, constants and statuses, with
+numbers after those of this version. A name that will go first has the attribute `deprecated`,
+for one year and one version at least. The attribute names its successor. The name goes only if
+the number of the library goes up."""
 
 
 def duties():
-    """The lines of what a caller must see to."""
+    """The lines of the duties of a caller."""
     return DUTIES.split("\n")
 
 

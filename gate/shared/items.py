@@ -4,13 +4,14 @@ import os
 import re
 from dataclasses import dataclass
 
+from shared.gate import CRATES_OF_CALLERS
 from shared.sources import crate_of
 
 # Functions whose contracts are laws, or say what a constant is: no code calls them.
 FOR_CONTRACTS = ("laws.rt", "constants.rt")
 
 # Callers and programs: they have nothing for other crates.
-NO_LIBRARIES = ("uses", "times_bench", "stamps")
+NO_LIBRARIES = (*CRATES_OF_CALLERS, "times_bench", "stamps")
 
 BLOCK = re.compile(r"(?P<pub>pub )?(?P<kind>impl|trait)\b(?:<[^{]*?>)? ?(?:(?P<of>\w[\w:]*(?:<[^{]*?>)?) for )?(?P<type>\w+)")
 FUNCTION = re.compile(r"(?P<indent> *)(?P<pub>pub )?(?:pub\(crate\) )?(?:const |unsafe )*fn (?P<name>\w+)")
@@ -56,7 +57,7 @@ def first_sentence(doc):
     return NAMED_LINK.sub(r"\1", found[1] if found else text)
 
 
-def reexported(text):
+def names_passed_on(text):
     """The names that the root file of a library passes on."""
     return {name.strip() for one, more in REEXPORTS.findall(text) for name in (one or more).split(",")}
 
@@ -226,5 +227,5 @@ def public_items(files):
         root = f"crates/{crate_of(path)}/src/lib.rt"
         if root not in files or not is_library(path):
             continue
-        found += items_of(path, text, is_public_module(path, files), reexported(files[root]))
+        found += items_of(path, text, is_public_module(path, files), names_passed_on(files[root]))
     return found

@@ -53,7 +53,7 @@ class Processor:
         """How many of the rounds that were noted began in the fast state."""
         return sum(state >= FAST for state in self.states)
 
-    def said(self, parts="rounds"):
+    def describe(self, parts="rounds"):
         """The date, the processor, its load, and how many parts of what was measured began in the fast state, in a sentence."""
         load = f"load {os.getloadavg()[1]:.1f} on {os.cpu_count()} processors"
         text = f"Measured on {time.strftime('%Y-%m-%d')}, {model()}, {load}"

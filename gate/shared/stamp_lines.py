@@ -2,9 +2,12 @@
 hand."""
 
 import codecs
+import heapq
 import random
 import re
+from dataclasses import dataclass
 from datetime import datetime, timedelta
+from itertools import groupby
 
 # The form of a stamp, which nothing that belongs to a date-time follows.
 FORM = re.compile(rb"(\d{4})-(\d\d)-(\d\d)[Tt ](\d\d):(\d\d):(\d\d)(?:\.(\d+))?(?:([Zz])|([+-])(\d\d):(\d\d))(?![0-9A-Za-z:.+-])")
@@ -104,8 +107,116 @@ def offset_of(text):
     return (-1 if text[0] == "-" else 1) * (int(text[1:3]) * 60 + int(text[4:6]))
 
 
-def result_of(words, data):
-    """What `stamps` writes for an input, and what it prints on standard error, if anything."""
+@dataclass
+class LogLine:
+    """A line of a log: its text, its number, the instant up to it, and whether that is before the one of the line before."""
+
+    log: int
+    text: bytes
+    number: int
+    instant: tuple
+    is_back: bool
+
+
+def log_lines(log, data, find=stamp_of):
+    """The lines of a log. Those before the first instant come before all instants. `find` has the stamp of a line."""
+    lines, instant = [], (0, 0)
+    for number, text in enumerate(re.findall(rb"[^\n]*\n|[^\n]+", data), 1):
+        stamp = find((text[len(MARK) :] if number == 1 and text.startswith(MARK) else text).removesuffix(b"\n"))
+        own = (1, stamp[0]) if isinstance(stamp, tuple) else instant
+        lines.append(LogLine(log, text, number, own, own < instant))
+        instant = own
+    return lines
+
+
+def text_of(lines):
+    """The text of lines: one without a line feed gets one if another follows."""
+    texts = [line.text for line in lines]
+    return b"".join(text if text.endswith(b"\n") else text + b"\n" for text in texts[:-1]) + b"".join(texts[-1:])
+
+
+def merge_of(logs, is_strict, find=stamp_of):
+    """What `stamps merge` writes for logs, and the lines that it names on standard error, as numbers of logs and lines."""
+    merged = list(heapq.merge(*(log_lines(log, data, find) for log, data in enumerate(logs)), key=lambda line: line.instant))
+    backs = [line for line in merged if line.is_back]
+    if is_strict and backs:
+        return text_of(merged[: merged.index(backs[0])]), [(backs[0].log, backs[0].number)]
+    return text_of(merged), first_backs(merged)
+
+
+def first_backs(lines):
+    """The first line of each log that goes back, as numbers of logs and lines."""
+    firsts = {}
+    for line in lines:
+        if line.is_back:
+            firsts.setdefault(line.log, line.number)
+    return sorted(firsts.items())
+
+
+UNITS = {"minute": 60, "hour": 3_600, "day": 86_400}
+
+# The words of a duration.
+DURATION = re.compile(r"(?:(\d{1,9})d)?(?:(\d{1,9})h)?(?:(\d{1,9})m)?(?:(\d{1,9})s)?")
+
+
+def duration_of(text):
+    """The nanoseconds of a duration such as 1h30m."""
+    numbers = [int(number or 0) for number in DURATION.fullmatch(text).groups()]
+    return sum(number * seconds for number, seconds in zip(numbers, (86_400, 3_600, 60, 1))) * NANOS
+
+
+def label_of(instant, offset):
+    """The text of an instant at an offset of so many minutes, or its Unix seconds."""
+    return text_at(instant, offset) or unix_text(instant)
+
+
+def gap_of(number, before, instant):
+    """The line that `stamps gaps` writes."""
+    seconds, nanos = divmod(instant - before, NANOS)
+    fraction = f"{nanos:09}".rstrip("0") or "0"
+    return label_of(instant, 0) + f" line {number}: {seconds}.{fraction} s after ".encode() + label_of(before, 0) + b"\n"
+
+
+def count_of(words, data, is_ended=True, find=stamp_of):
+    """What `stamps count` writes for an input, or for the beginning of one, and what it prints on standard error."""
+    offset = offset_of(words[3]) if "at" in words else 0
+    unit = UNITS[words[1]] * NANOS
+    shift = offset * 60 * NANOS
+    starts, told = [], b""
+    for number, line in enumerate(re.findall(rb"[^\n]*\n|[^\n]+", data if is_ended else data[: data.rfind(b"\n") + 1]), 1):
+        stamp = find((line[len(MARK) :] if number == 1 and line.startswith(MARK) else line).removesuffix(b"\n"))
+        start = stamp[0] - (stamp[0] + shift) % unit if isinstance(stamp, tuple) else None
+        goes_back = start is not None and bool(starts) and start < starts[-1]
+        if words[-1] == "--strict" and (start is None or goes_back):
+            told = f"stamps: line {number}: {'no valid stamp' if start is None else 'earlier than the one before'}\n".encode()
+            break
+        if goes_back and not told:
+            told = f"stamps: line {number}: earlier than the one before\n".encode()
+        if start is not None:
+            starts.append(start)
+    rows = []
+    for start, run in groupby(starts):
+        rows += [(empty, 0) for empty in range(rows[-1][0] + unit, start, unit)] if rows else []
+        rows.append((start, len(list(run))))
+    return b"".join(label_of(start, offset) + b" %d\n" % count for start, count in (rows if is_ended else rows[:-1])), told
+
+
+def cut_merge_of(logs, broken):
+    """What `stamps merge` writes for logs if a read of this one fails after its bytes, and the lines that it names: all up to its
+    last line, and that line too if it has the bytes that decide on it."""
+    tables = [log_lines(log, data) for log, data in enumerate(logs)]
+    if tables[broken] and not tables[broken][-1].text.endswith(b"\n") and len(tables[broken][-1].text) < 1_027:
+        tables[broken].pop()
+    if not tables[broken]:
+        return b"", []
+    merged = list(heapq.merge(*tables, key=lambda line: line.instant))
+    written = merged[: merged.index(tables[broken][-1]) + 1]
+    return text_of(written), first_backs(written)
+
+
+def result_of(words, data, find=stamp_of):
+    """What `stamps` writes for an input, and what it prints on standard error, if anything. `find` has the instant and the end of the
+    stamp of a line, and its beginning if that is not the front; or the part that is out of range; or None."""
     word, is_strict = words[0], words[-1] == "--strict"
     mark = MARK if data.startswith(MARK) else b""
     lines = data[len(mark) :].split(b"\n")
@@ -114,8 +225,9 @@ def result_of(words, data):
     goes_on = word == "until"
     bound = stamp_of(words[1].encode())[0] if word in ("since", "until") else None
     offset = offset_of(words[1]) if word == "at" else 0
+    limit = duration_of(words[1]) if word == "gaps" else 0
 
-    def told(number, cause):
+    def end_by(number, cause):
         return b"".join(written), f"stamps: line {number}: {cause}\n".encode()
 
     for number, line in enumerate(lines, 1):
@@ -123,33 +235,47 @@ def result_of(words, data):
         front = mark if number == 1 else b""
         if not front + line + end:
             break
-        stamp = stamp_of(line)
+        stamp = find(line)
         is_read = isinstance(stamp, tuple)
         cause = None if is_read else "no stamp" if stamp is None else f"{stamp} is out of range"
         if word in STYLES:
             text = STYLES[word](stamp[0], offset) if is_read else None
             if is_read and is_strict and line[stamp[1] :].startswith(b"["):
-                return told(number, "a zone in brackets follows the stamp")
+                return end_by(number, "a zone in brackets follows the stamp")
             if text is None:
                 if is_strict:
-                    return told(number, cause or "its instant has no text")
+                    return end_by(number, cause or "its instant has no text")
                 written.append(front + line + end)
             else:
-                written.append(front + text + line[stamp[1] :] + end)
+                written.append(front + line[: sum(stamp[2:])] + text + line[stamp[1] :] + end)
         elif word == "check":
             if is_read:
                 if last is not None and stamp[0] < last:
-                    return told(number, "earlier than the one before")
+                    cause = "earlier than the one before"
                 last = stamp[0]
-            elif stamp is not None or is_strict:
-                return told(number, cause)
+            elif stamp is None and not is_strict:
+                continue
+            if cause and "--all" not in words:
+                return end_by(number, cause)
+            if cause:
+                written.append(f"line {number}: {cause}\n".encode())
+        elif word == "gaps":
+            if not is_read:
+                if is_strict:
+                    return end_by(number, cause)
+                continue
+            if last is not None and stamp[0] < last and is_strict:
+                return end_by(number, "earlier than the one before")
+            if last is not None and stamp[0] - last > limit:
+                written.append(gap_of(number, last, stamp[0]))
+            last = stamp[0]
         else:
             if is_read:
                 goes_on = (stamp[0] >= bound) == (word == "since")
             if goes_on:
                 written.append(front + line + end)
     if word == "check" and last is None and data:
-        return b"", b"stamps: no line has a stamp\n"
+        return b"".join(written), b"stamps: no line has a stamp\n"
     return b"".join(written), b""
 
 

@@ -1,57 +1,94 @@
 """Wrong bodies, as their files in the crates have them."""
 
 import os
+import re
 from dataclasses import dataclass, field
 
-# Where wrong bodies stand in a crate, and where right ones of another shape.
+# The folders of a crate that have wrong bodies, and those with right bodies of another shape.
 FOLDERS = ("must-fail", "wrong")
 RIGHT_FOLDERS = ("right",)
+
+# A file of a folder has one body, as `rt must-fail` reads them, or in `wrong` all bodies of one source file.
+ONE, MANY = ".edit", ".edits"
+ENDINGS = {"must-fail": ONE, "wrong": MANY, "right": ONE}
+
+# The line that begins a body in a file of many.
+BEGIN = "# "
+
+# The line that begins a function.
+FUNCTION = re.compile(r"(?P<indent> *)(?:pub(?:\([^)]*\))? |const |unsafe |extern \"C\" )*fn (?P<name>\w+)")
 
 
 @dataclass
 class Wrong:
-    """A wrong body: its file, what it does in words, the function that it makes wrong, the clause that it breaks, and what it
-    changes: for each text that stands once in a file of the crate, or first behind a text that does, another."""
+    """A wrong body: its file and its name, what it does in words, the function that it makes wrong, the clause that it breaks,
+    and what it changes: for each text that a file of the crate has once, or first after a text that it has once, another."""
 
     path: str
+    name: str
     says: str = ""
     function: str = ""
     clause: str = ""
     changes: list = field(default_factory=list)
 
     @property
-    def name(self):
-        return os.path.basename(self.path).removesuffix(".edit")
+    def place(self):
+        """The file and the name in one text, which no other body has."""
+        return f"{self.path}: {self.name}"
+
+
+def body_of(path, name, lines, file=""):
+    """The wrong body of these lines, whose changes are in that file unless a line names another."""
+    wrong, after, old = Wrong(path, name), "", None
+    for line in lines:
+        word, _, rest = line.partition(":")
+        rest = rest.removeprefix(" ")
+        if word in ("says", "function", "clause"):
+            setattr(wrong, word, rest.strip())
+        elif word == "file":
+            file = rest.strip()
+        elif word == "after":
+            after = rest
+        elif word == "old":
+            old = rest
+        elif word == "new":
+            wrong.changes.append((file, after, old, rest))
+            after = ""
+    return wrong
+
+
+def read_many(path, lines):
+    """The wrong bodies of a file that has a head, with the line `file:`, and a line `# NAME` before each body."""
+    begins = [place for place, line in enumerate(lines) if line.startswith(BEGIN)]
+    head = lines[: begins[0]] if begins else lines
+    file = "".join(line.partition(":")[2].strip() for line in head if line.startswith("file:"))
+    ends = [*begins[1:], len(lines)]
+    return [
+        body_of(path, lines[begin].removeprefix(BEGIN).strip(), lines[begin + 1 : end], file) for begin, end in zip(begins, ends)
+    ]
 
 
 def read(path):
-    """The wrong body that a file has."""
-    wrong, file, after, old = Wrong(path), "", "", None
+    """The wrong bodies of a file: one of a file NAME.edit, all of a file NAME.edits."""
     with open(path, encoding="utf-8") as text:
-        for line in text.read().split("\n"):
-            word, _, rest = line.partition(":")
-            rest = rest.removeprefix(" ")
-            if word in ("says", "function", "clause"):
-                setattr(wrong, word, rest.strip())
-            elif word == "file":
-                file = rest.strip()
-            elif word == "after":
-                after = rest
-            elif word == "old":
-                old = rest
-            elif word == "new":
-                wrong.changes.append((file, after, old, rest))
-                after = ""
-    return wrong
+        lines = text.read().split("\n")
+    if path.endswith(MANY):
+        return read_many(path, lines)
+    return [body_of(path, os.path.basename(path).removesuffix(ONE), lines)]
+
+
+def files_of(folder, parts=FOLDERS):
+    """The paths of all files of these parts of a crate, each with its part."""
+    for part in parts:
+        for place, below, names in os.walk(os.path.join(folder, part)):
+            below.sort()
+            for name in sorted(names):
+                yield part, os.path.join(place, name)
 
 
 def wrong_bodies(folder, names=(), parts=FOLDERS):
     """The wrong bodies of a crate, or those of these names."""
-    found = []
-    for part in parts:
-        inside = os.path.join(folder, part)
-        files = sorted(os.listdir(inside)) if os.path.isdir(inside) else []
-        found += [read(os.path.join(inside, file)) for file in files if file.endswith(".edit")]
+    found = [wrong for part, path in files_of(folder, parts) if path.endswith(ENDINGS[part]) for wrong in read(path)]
     return [wrong for wrong in found if not names or wrong.name in names]
 
 
@@ -60,7 +97,13 @@ def right_bodies(folder):
     return wrong_bodies(folder, parts=RIGHT_FOLDERS)
 
 
-def put(folder, texts, wrong):
+def unread_files(folder):
+    """The files of these folders of a crate that nothing reads, since their names end otherwise."""
+    parts = (*FOLDERS, *RIGHT_FOLDERS)
+    return [path for part, path in files_of(folder, parts) if not path.endswith(ENDINGS[part])]
+
+
+def put_body(folder, texts, wrong):
     """Puts a wrong body into the texts of files, or says why it cannot be put there."""
     changed = dict(texts)
     for file, after, old, new in wrong.changes:
@@ -79,3 +122,27 @@ def put(folder, texts, wrong):
         changed[file] = before + mark + text.replace(old, new, 1)
     texts.update(changed)
     return None if wrong.changes else "it changes nothing"
+
+
+def function_at(text, place):
+    """The name of the function that has that place of a text between its first line and the brace that ends it, or None."""
+    lines, number = text.split("\n"), text.count("\n", 0, place)
+    for first in range(number, -1, -1):
+        found = FUNCTION.match(lines[first])
+        if found:
+            end = found["indent"] + "}"
+            is_long = not lines[first].endswith("}") and end in lines[first:]
+            return found["name"] if number <= (lines.index(end, first) if is_long else first) else None
+    return None
+
+
+def is_in_function(folder, wrong):
+    """Whether each change of a wrong body is within the function that it makes wrong, which no other function then sees."""
+    for file, after, old, _ in wrong.changes:
+        with open(os.path.join(folder, file), encoding="utf-8") as source:
+            text = source.read()
+        begin = text.find(old, text.find(after) + len(after))
+        ends = (begin, begin + len(old) - 1)
+        if any(function_at(text, place) != wrong.function.rpartition("::")[2] for place in ends):
+            return False
+    return True

@@ -43,18 +43,9 @@ impl Compared {
     }
 
     /// Compares the answers to a call, and shows the first that differ.
-    pub fn same<T: PartialEq + Debug>(
-        &mut self,
-        call: &str,
-        input: impl Debug,
-        ours: T,
-        theirs: T,
-    ) {
+    pub fn same<T: PartialEq + Debug>(&mut self, call: &str, input: impl Debug, ours: T, theirs: T) {
         let is_same = ours == theirs;
-        self.count(
-            is_same,
-            format_args!("{call} of {input:?}: {ours:?}, and beside it {theirs:?}"),
-        );
+        self.count(is_same, format_args!("{call} of {input:?}: {ours:?}, and beside it {theirs:?}"));
     }
 
     /// Counts a stated difference.
@@ -77,9 +68,7 @@ impl Compared {
             self.state(stated);
         }
         let is_same = foretold == theirs;
-        let of = format_args!(
-            "{call} of {input:?}: {ours:?}, and beside it {theirs:?}, where {foretold:?} was foretold"
-        );
+        let of = format_args!("{call} of {input:?}: {ours:?}, and beside it {theirs:?}, where {foretold:?} was foretold");
         self.count(is_same, of);
     }
 }
@@ -88,7 +77,7 @@ impl Compared {
 pub type Answer<T> = Result<T, &'static str>;
 
 /// What a call of the library answers, by its status.
-pub fn answered<T: Default>(call: impl FnOnce(&mut T) -> u32) -> Answer<T> {
+pub fn answer_of<T: Default>(call: impl FnOnce(&mut T) -> u32) -> Answer<T> {
     let mut out = T::default();
     match call(&mut out) {
         sys::OK => Ok(out),
@@ -136,86 +125,50 @@ pub fn compare_marks(
     (status, is_of_some): (u32, bool),
     refusal: ComponentRange,
 ) {
-    let ours = matches!(
-        status,
-        sys::REFUSED_DAY_OF_MONTH | sys::REFUSED_ORDINAL_OF_YEAR | sys::REFUSED_WEEK_OF_YEAR
-    );
+    let ours = matches!(status, sys::REFUSED_DAY_OF_MONTH | sys::REFUSED_ORDINAL_OF_YEAR | sys::REFUSED_WEEK_OF_YEAR);
     if ours != refusal.is_conditional() {
         of.state("0.3.9 calls the range conditional of a day, a day of the year or a week that there never is");
     }
-    of.same(
-        call,
-        ("whether the range is conditional", input),
-        ours,
-        refusal.is_conditional() && is_of_some,
-    );
+    of.same(call, ("whether the range is conditional", input), ours, refusal.is_conditional() && is_of_some);
 }
 
 /// What a date-time of `time` shows, which may lie past the range.
-pub fn shown(at: OffsetDateTime) -> sys::MuxanduDateTime {
+pub fn parts_of(at: OffsetDateTime) -> sys::MuxanduDateTime {
     let (year, month, day) = at.to_calendar_date();
     let (hour, minute, second, nanosecond) = at.to_hms_nano();
     let offset_seconds = at.offset().whole_seconds();
-    sys::MuxanduDateTime {
-        year,
-        month: month.into(),
-        day,
-        hour,
-        minute,
-        second,
-        nanosecond,
-        offset_seconds,
-    }
+    sys::MuxanduDateTime { year, month: month.into(), day, hour, minute, second, nanosecond, offset_seconds }
 }
 
 /// The same, refused past the range: 0.3.9 goes on, and shows the year before the first or after the last.
 pub fn shown_in_range(at: OffsetDateTime) -> Answer<sys::MuxanduDateTime> {
-    if source::is_in_range(at.year()) {
-        Ok(shown(at))
-    } else {
-        Err("result")
-    }
+    if source::is_in_range(at.year()) { Ok(parts_of(at)) } else { Err("result") }
 }
 
 /// The instant of a date-time of `time`, refused past the range as above.
 pub fn instant(at: OffsetDateTime) -> Answer<sys::MuxanduTimestamp> {
     let seconds = at.unix_timestamp();
     match OffsetDateTime::from_unix_timestamp(seconds) {
-        Ok(_) => Ok(sys::MuxanduTimestamp {
-            seconds,
-            nanoseconds: at.nanosecond(),
-        }),
+        Ok(_) => Ok(sys::MuxanduTimestamp { seconds, nanoseconds: at.nanosecond() }),
         Err(_) => Err("result"),
     }
 }
 
 /// The parts of a duration of `time`.
 pub fn lasting(duration: Duration) -> sys::MuxanduDuration {
-    sys::MuxanduDuration {
-        seconds: duration.whole_seconds(),
-        nanoseconds: duration.subsec_nanoseconds(),
-    }
+    sys::MuxanduDuration { seconds: duration.whole_seconds(), nanoseconds: duration.subsec_nanoseconds() }
 }
 
 type Kind = (&'static str, fn(&mut Source, &mut Compared));
 
 const KINDS: &[Kind] = &[
-    (
-        "Unix seconds to date-times and back",
-        instants::compare_parts,
-    ),
-    (
-        "counts of milliseconds, microseconds, nanoseconds",
-        instants::compare_counts,
-    ),
+    ("Unix seconds to date-times and back", instants::compare_parts),
+    ("counts of milliseconds, microseconds, nanoseconds", instants::compare_counts),
     ("durations of any parts", instants::compare_durations),
     ("sums of instants", instants::compare_sums),
     ("differences and order of instants", instants::compare_two),
     ("instants rounded down", instants::compare_truncations),
-    (
-        "offsets, and instants at them and back",
-        offsets::compare_conversions,
-    ),
+    ("offsets, and instants at them and back", offsets::compare_conversions),
     ("sums at offsets", offsets::compare_sums),
     ("differences and order at offsets", offsets::compare_two),
     ("date-times rounded down", offsets::compare_truncations),
@@ -231,20 +184,12 @@ const KINDS: &[Kind] = &[
 ];
 
 fn main() {
-    let words: Vec<u64> = std::env::args()
-        .skip(1)
-        .map(|word| word.parse().expect("a number"))
-        .collect();
-    let &[rounds, seed] = words.as_slice() else {
-        panic!("usage: time_comparisons ROUNDS SEED")
-    };
+    let words: Vec<u64> = std::env::args().skip(1).map(|word| word.parse().expect("a number")).collect();
+    let &[rounds, seed] = words.as_slice() else { panic!("usage: time_comparisons ROUNDS SEED") };
     let mut wrong = 0;
     for (kind, compare) in KINDS {
         let mut source = Source::new(seed);
-        let mut of = Compared {
-            name: kind,
-            ..Compared::default()
-        };
+        let mut of = Compared { name: kind, ..Compared::default() };
         for _ in 0..rounds {
             compare(&mut source, &mut of);
         }

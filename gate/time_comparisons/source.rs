@@ -105,11 +105,7 @@ impl Source {
     /// The last days of a year, of its February, and the first of the year and of March.
     fn end_of_year(&mut self) -> Date {
         let year = self.year();
-        let february = if time::util::is_leap_year(year) {
-            29
-        } else {
-            28
-        };
+        let february = if time::util::is_leap_year(year) { 29 } else { 28 };
         let (month, day) = match self.one_of(4) {
             0 => (Month::January, 1),
             1 => (Month::February, february),
@@ -135,11 +131,7 @@ impl Source {
 
     /// A second of a day, and a second or two past its ends.
     fn in_day(&mut self) -> i64 {
-        if self.is_one_in(2) {
-            self.near(0, DAY - 1, 2)
-        } else {
-            self.between(0, DAY - 1)
-        }
+        if self.is_one_in(2) { self.near(0, DAY - 1, 2) } else { self.between(0, DAY - 1) }
     }
 
     /// A second of the range or past it.
@@ -200,8 +192,7 @@ impl Source {
     pub fn time(&mut self) -> Time {
         let second = self.in_day().clamp(0, DAY - 1);
         let (hour, minute, second) = (second / 3_600, second / 60 % 60, second % 60);
-        Time::from_hms_nano(hour as u8, minute as u8, second as u8, self.nanosecond())
-            .expect("a time of day")
+        Time::from_hms_nano(hour as u8, minute as u8, second as u8, self.nanosecond()).expect("a time of day")
     }
 
     pub fn date(&mut self) -> Date {
@@ -212,8 +203,7 @@ impl Source {
     /// An instant of the range, in UTC.
     pub fn instant(&mut self) -> OffsetDateTime {
         let at = OffsetDateTime::from_unix_timestamp(self.second()).expect("a second of the range");
-        at.replace_nanosecond(self.nanosecond())
-            .expect("a nanosecond")
+        at.replace_nanosecond(self.nanosecond()).expect("a nanosecond")
     }
 
     /// A date-time of the range at an offset. Its instant may lie past the range.
@@ -234,42 +224,27 @@ impl Source {
             1 => self.any_number() as i32,
             _ => self.between(-999_999_999, 999_999_999) as i32,
         };
-        MuxanduDuration {
-            seconds,
-            nanoseconds,
-        }
+        MuxanduDuration { seconds, nanoseconds }
     }
 
     /// A duration, often one that leads from a date-time to an end of the range, to within two nanoseconds.
     pub fn duration_from(&mut self, at: OffsetDateTime) -> Duration {
         match self.one_of(8) {
             0 => {
-                let day = if self.is_one_in(2) {
-                    Date::MIN
-                } else {
-                    Date::MAX
-                };
-                let time =
-                    Time::from_hms_nano(23, 59, 59, 999_999_999).expect("the last time of day");
-                let time = if day == Date::MIN {
-                    Time::MIDNIGHT
-                } else {
-                    time
-                };
+                let day = if self.is_one_in(2) { Date::MIN } else { Date::MAX };
+                let time = Time::from_hms_nano(23, 59, 59, 999_999_999).expect("the last time of day");
+                let time = if day == Date::MIN { Time::MIDNIGHT } else { time };
                 let end = PrimitiveDateTime::new(day, time).assume_offset(at.offset());
                 let lasts = end - at + Duration::nanoseconds(self.between(-2, 2));
                 if self.is_one_in(2) { -lasts } else { lasts }
             }
             1 => self.end_of_year().midnight().assume_offset(at.offset()) - at,
             2 => Duration::seconds(self.between(-2 * DAY, 2 * DAY)),
-            3 => [Duration::MIN, Duration::MAX, Duration::ZERO, Duration::DAY]
-                [self.one_of(4) as usize],
+            3 => [Duration::MIN, Duration::MAX, Duration::ZERO, Duration::DAY][self.one_of(4) as usize],
             _ => loop {
                 let lasts = self.any_duration();
                 let whole = Duration::seconds(lasts.seconds);
-                if let Some(lasts) =
-                    whole.checked_add(Duration::nanoseconds(lasts.nanoseconds.into()))
-                {
+                if let Some(lasts) = whole.checked_add(Duration::nanoseconds(lasts.nanoseconds.into())) {
                     break lasts;
                 }
             },
@@ -278,9 +253,6 @@ impl Source {
 
     /// A timestamp of any parts.
     pub fn any_timestamp(&mut self) -> MuxanduTimestamp {
-        MuxanduTimestamp {
-            seconds: self.any_second(),
-            nanoseconds: self.any_nanosecond(),
-        }
+        MuxanduTimestamp { seconds: self.any_second(), nanoseconds: self.any_nanosecond() }
     }
 }

@@ -1,0 +1,402 @@
+"""Stamps of logs in named forms at places of a line, and random lines of each form: by Python's `re` and `datetime`, with
+nanoseconds by hand."""
+
+import re
+from datetime import timedelta
+
+from shared.stamp_lines import EPOCH, EPOCH_SECONDS, NANOS, days_of, second_of, wall_text
+
+MONTHS = "Jan Feb Mar Apr May Jun Jul Aug Sep Oct Nov Dec".split()
+WEEKDAYS = "Mon Tue Wed Thu Fri Sat Sun".split()
+
+# The parts of a stamp: %e is a day without a zero before it, %k an hour that a space can pad, %y a year of 1970 to 2069, %s a Unix
+# timestamp, %z and %n the hours and the minutes of an offset.
+PARTS = {
+    "Y": ("year", "[0-9]{4}(?![0-9])"),
+    "y": ("short", "[0-9]{2}"),
+    "m": ("month", "[0-9]{2}"),
+    "b": ("name", "|".join(MONTHS)),
+    "d": ("day", "[0-9]{2}"),
+    "e": ("day", " [0-9]|[0-9]{1,2}"),
+    "a": ("weekday", "|".join(WEEKDAYS)),
+    "H": ("hour", "[0-9]{2}"),
+    "k": ("hour", " [0-9]|[0-9]{2}"),
+    "M": ("minute", "[0-9]{2}"),
+    "S": ("second", "[0-9]{2}"),
+    "f": ("fraction", "[0-9]+"),
+    "z": ("hours", "[+-][0-9]{2}"),
+    "n": ("minutes", "[0-9]{2}"),
+    "p": ("ignored", "[0-9]+"),
+    "s": ("count", "[0-9]{%d}(?![0-9])"),
+}
+
+# The text before a stamp of each form, and the stamp: {a|b} is a or b.
+FORMS = {
+    "rfc3339": ("", "%Y-%m-%d{T|t| }%H:%M:%S{.%f|}{%z:%n|Z|z}"),
+    "rfc3339-comma": ("", "%Y-%m-%d{T|t| }%H:%M:%S,%f{%z:%n|Z|z}"),
+    "journald": ("", "%Y-%m-%d{T|t| }%H:%M:%S{.%f|,%f|}%z%n"),
+    "rfc5424": ("<%p>%p ", "%Y-%m-%dT%H:%M:%S{.%f|}{%z:%n|Z|z}"),
+    "rfc3164": ("<%p>", "%b %e %H:%M:%S{.%f|}"),
+    "git": ("", "%Y-%m-%d %H:%M:%S{.%f|,%f|} %z{:|}%n"),
+    "postgres": ("", "%Y-%m-%d %H:%M:%S{.%f|} {UTC|GMT}"),
+    "clf": ("", "%d/%b/%Y:%H:%M:%S %z%n"),
+    "git-default": ("", "%a %b %e %H:%M:%S %Y %z%n"),
+    "date": ("", "%a %b %e %H:%M:%S {UTC|GMT} %Y"),
+    "rfc2822": ("", "{%a, |}%e %b %Y %H:%M{:%S|} {%z%n|GMT|UTC|Z|z}"),
+    "haproxy": ("", "%d/%b/%Y:%H:%M:%S{.%f|}"),
+    "nginx-error": ("", "%Y/%m/%d %H:%M:%S{.%f|,%f|}"),
+    "local-comma": ("", "%Y-%m-%d{T|t| }%H:%M:%S,%f"),
+    "local": ("", "%Y-%m-%d{T|t| }%H:%M:%S{.%f|}"),
+    "two-spaces": ("", "%Y-%m-%d  %H:%M:%S{.%f|,%f|}"),
+    "apache-error": ("", "%a %b %e %H:%M:%S{.%f|} %Y"),
+    "redis": ("", "%d %b %Y %H:%M:%S{.%f|}"),
+    "tomcat": ("", "%d-%b-%Y %H:%M:%S{.%f|}"),
+    "erlang": ("", "%d-%b-%Y::%H:%M:%S{.%f|}"),
+    "bgl": ("", "%Y-%m-%d-%H.%M.%S{.%f|}"),
+    "syslog": ("", "%b %e %H:%M:%S{.%f|}"),
+    "klog": ("{I|W|E|F}", "%m%d %H:%M:%S{.%f|}"),
+    "android": ("", "%m-%d %H:%M:%S{.%f|}"),
+    "unix": ("", "%s{.%f|}"),
+    "unix-ms": ("", "%s"),
+    "unix-us": ("", "%s"),
+    "unix-ns": ("", "%s"),
+    "mysql-5.6": ("", "%y%m%d %k:%M:%S"),
+    "hdfs": ("", "%y%m%d %H%M%S"),
+    "spark": ("", "%y/%m/%d %H:%M:%S"),
+}
+
+# The forms whose stamps have an offset, or are a Unix timestamp.
+WHOLE = {name for name, (_, text) in FORMS.items() if re.search("%z|UTC|%s", text)}
+
+# The sample of each form that the program prints.
+SAMPLES = {
+    "rfc3339": "2024-02-29T12:00:00.5+05:30",
+    "rfc3339-comma": "2024-02-29T12:00:00,5+05:30",
+    "journald": "2024-02-29T12:00:00+0530",
+    "rfc5424": "<34>1 2024-02-29T12:00:00.003Z",
+    "rfc3164": "<34>Feb 29 12:00:00",
+    "git": "2024-02-29 12:00:00 +0530",
+    "postgres": "2024-02-29 12:00:00.123 UTC",
+    "clf": "29/Feb/2024:12:00:00 +0530",
+    "git-default": "Thu Feb 29 12:00:00 2024 +0530",
+    "date": "Thu Feb 29 12:00:00 UTC 2024",
+    "rfc2822": "Thu, 29 Feb 2024 12:00:00 +0530",
+    "haproxy": "29/Feb/2024:12:00:00.123",
+    "nginx-error": "2024/02/29 12:00:00",
+    "local-comma": "2024-02-29 12:00:00,123",
+    "local": "2024-02-29 12:00:00.123",
+    "two-spaces": "2024-02-29  12:00:00",
+    "apache-error": "Thu Feb 29 12:00:00.123456 2024",
+    "redis": "29 Feb 2024 12:00:00.123",
+    "tomcat": "29-Feb-2024 12:00:00.123",
+    "erlang": "29-Feb-2024::12:00:00",
+    "bgl": "2024-02-29-12.00.00.123456",
+    "syslog": "Feb 29 12:00:00",
+    "klog": "I0229 12:00:00.123456",
+    "android": "02-29 12:00:00.123",
+    "unix": "1709188200.123",
+    "unix-ms": "1709188200123",
+    "unix-us": "1709188200123456",
+    "unix-ns": "1709188200123456789",
+    "mysql-5.6": "240229 12:00:00",
+    "hdfs": "240229 120000",
+    "spark": "24/02/29 12:00:00",
+}
+
+# The digits of a Unix timestamp in each form, of which so many are of a fraction of a second.
+DIGITS = {"unix": (10, 0), "unix-ms": (13, 3), "unix-us": (16, 6), "unix-ns": (19, 9)}
+
+# The forms that are chosen by the first lines of a log, and the places at which they are tried.
+CHOSEN = [name for name in FORMS if "%y" not in FORMS[name][1]]
+PLACES = ("front", "after:[", "json:time", "json:timestamp", "json:@timestamp", "json:ts", "json:eventTime")
+PLACES += ('after:"$date":"', 'after:time="', "after:time=", "field:2", "field:3")
+
+# The abbreviations of time zones, and of halves of the day.
+ZONES = """
+    ACDT ACST ADT AEDT AEST AKDT AKST AM ART AST AWDT AWST BRST BRT BST CAT CDT CEST CET CST ChST EAT EDT EEST EET EST GMT GST HDT HKT
+    HST ICT IDT IST JST KST MDT MEST MET MSD MSK MST MYT NDT NPT NST NZDT NZST PDT PHT PKST PKT PM PST SAST SGT SST UCT UTC WAT WEST WET
+    WIB WIT WITA Z am pm
+""".split()
+
+# What belongs to a stamp, so that one ends before it in no form; and what belongs to one without an offset.
+CONTINUED = re.compile(rb"[0-9A-Za-z+.:-]")
+OFFSET_FOLLOWS = re.compile(rb" (?:[+-][0-9]{2}|(?:%s)(?![A-Za-z]))" % "|".join(ZONES).encode())
+FRACTION_FOLLOWS = re.compile(rb",[0-9]")
+
+# The bytes of a line that decide on its stamp, and those up to the end of a stamp.
+LONGEST_FRONT, LONGEST_STAMP = 1_024, 1_000
+
+CHOICES = re.compile(r"\{([^}]*)\}|%(.)|([^{%]+)")
+
+
+def pattern_of(name, text):
+    """The regular expression of a text of FORMS. The number after the name of a group tells those of one part apart."""
+    made = []
+    for place, (choices, code, literal) in enumerate(CHOICES.findall(text)):
+        if literal:
+            made.append(re.escape(literal))
+        elif code:
+            part, form = PARTS[code]
+            made.append(f"(?P<{part}_{place}>{form % DIGITS[name][0] if code == 's' else form})")
+        else:
+            options = [pattern_of(name, option) for option in choices.split("|")]
+            made.append("(?:%s)" % "|".join(re.sub(r"_(\d+)>", rf"_{place}_{at}_\1>", one) for at, one in enumerate(options)))
+    return "".join(made)
+
+
+PATTERNS = {name: [re.compile(pattern_of(name, text).encode()) for text in texts] for name, texts in FORMS.items()}
+
+
+def member_in(name, line):
+    """The place of the value of the first member of a name in the outermost object of JSON: behind the quote of a text."""
+    member = re.compile(rb'"%s"[ \t]*:[ \t]*"?' % re.escape(name))
+    depth = 0
+    for token in re.finditer(rb'"(?:\\.|[^"\\])*(?:"|\\?$)|[{}\[\]]', line, re.DOTALL):
+        if not token[0].startswith(b'"'):
+            depth = depth + 1 if token[0] in b"{[" else max(depth - 1, 0)
+            continue
+        found = member.match(line, token.start()) if depth == 1 else None
+        if found:
+            return found.end()
+    return None
+
+
+def place_in(place, line):
+    """The place in a line at which a stamp begins, or None."""
+    word, _, text = place.partition(":")
+    if word == "front":
+        return 0
+    if word == "field":
+        found = re.match(rb"[ \t]*(?:[^ \t]+[ \t]+){%d}(?=[^ \t])" % (int(text) - 1), line)
+        return found and found.end()
+    if word == "json":
+        return member_in(text.encode(), line)
+    at = line.find(text.encode())
+    return at + len(text.encode()) if at >= 0 else None
+
+
+class Reader:
+    """Finds the stamps of a log in a form at a place, with an offset in minutes and a year for those that have none."""
+
+    def __init__(self, name, place="front", offset=0, year=2000):
+        self.lead, self.pattern = PATTERNS[name]
+        self.name, self.place, self.offset, self.year, self.month = name, place, offset, year, 0
+
+    def stamp_of(self, line):
+        """The instant in nanoseconds, the end and the beginning of the stamp of a line, or the name of the part that is out of its
+        range, or None."""
+        line = line[:LONGEST_FRONT]
+        at = place_in(self.place, line)
+        lead = None if at is None else self.lead.match(line, at)
+        found = lead and self.pattern.match(line, lead.end())
+        if not found or found.end() > LONGEST_STAMP:
+            return None
+        parts = {name.split("_")[0]: text.decode() for name, text in found.groupdict().items() if text is not None}
+        rest = line[found.end() :]
+        is_whole = self.name in WHOLE
+        if CONTINUED.match(rest):
+            return None
+        if not is_whole and (OFFSET_FOLLOWS.match(rest) or ("fraction" not in parts and FRACTION_FOLLOWS.match(rest))):
+            return None
+        instant = self.instant_of(parts, is_whole)
+        return instant if isinstance(instant, str) else (instant, found.end(), found.start())
+
+    def instant_of(self, parts, is_whole):
+        """The instant of the parts of a stamp in nanoseconds, or the name of the first part out of its range."""
+        nanos = int((parts.get("fraction", "") + "000000000")[:9])
+        if "count" in parts:
+            return int(parts["count"]) * 10 ** (9 - DIGITS[self.name][1]) + nanos
+        month = int(parts["month"]) if "month" in parts else MONTHS.index(parts["name"]) + 1
+        year, day = self.year_of(parts, month), int(parts["day"])
+        clock = [int(parts.get(part, 0)) for part in ("hour", "minute", "second")]
+        hours, minutes = int(parts.get("hours", "+0")[1:]), int(parts.get("minutes", 0))
+        tests = {
+            "month": 1 <= month <= 12,
+            "day": 1 <= month <= 12 and 1 <= day <= days_of(year, month),
+            "hour": clock[0] <= 23,
+            "minute": clock[1] <= 59,
+            "second": clock[2] <= 59,
+            "offset hour": hours <= 23,
+            "offset minute": minutes <= 59,
+        }
+        for part, holds in tests.items():
+            if not holds:
+                return part
+        ahead = (-1 if parts.get("hours", "+")[0] == "-" else 1) * (hours * 60 + minutes) if is_whole else self.offset
+        instant = (second_of(year, month, day, *clock) - ahead * 60) * NANOS + nanos
+        self.keep(instant)
+        return instant
+
+    def year_of(self, parts, month):
+        """The year of a stamp: one without a year that is of January follows one of December, and the other way round."""
+        if "short" in parts:
+            return 1970 + (int(parts["short"]) - 70) % 100
+        if "year" in parts:
+            return int(parts["year"])
+        return self.year + ((self.month, month) == (12, 1)) - ((self.month, month) == (1, 12))
+
+    def keep(self, instant):
+        """Keeps the year and the month of a stamp at the offset, for the next one."""
+        wall = wall_text(instant + self.offset * 60 * NANOS)
+        if wall is not None:
+            self.year, self.month = int(wall[:4]), int(wall[5:7])
+
+
+def options_of(name, place):
+    """The options of the command line for a form at a place, with those that the form lacks: the offset +05:30 and the year 2024."""
+    offset = [] if name in WHOLE else ["--offset", "+05:30"]
+    year = [] if re.search("%[Yys]", FORMS[name][1]) else ["--year", "2024"]
+    return ["--form", name, "--at", place, *offset, *year]
+
+
+def chosen_reader(lines):
+    """The form and the place that are chosen by the first lines of a log: those that both first lines have, or most lines."""
+    readers = [(name, place) for place in PLACES for name in CHOSEN]
+
+    def count(reader, among):
+        return sum(isinstance(Reader(*reader).stamp_of(line), tuple) for line in among)
+
+    if len(lines) > 1:
+        both = next((reader for reader in readers if count(reader, lines[:2]) == 2), None)
+        if both:
+            return both
+    best = max(readers, key=lambda reader: count(reader, lines))
+    return best if count(best, lines) else None
+
+
+# Values at the ends of ranges, one of which some stamps have.
+ENDS_OF_RANGES = {
+    "m": ("00", "12", "13"),
+    "d": ("00", "29", "30", "31", "32"),
+    "H": ("23", "24"),
+    "M": ("59", "60"),
+    "S": ("59", "60"),
+}
+ENDS_OF_RANGES |= {
+    "e": (" 0", "29", "30", "31", "32"),
+    "z": ("-00", "+23", "-24", "+24"),
+    "n": ("00", "59", "60"),
+    "f": ("0", "9" * 12),
+}
+
+
+def stamp_text(rng, name, second):
+    """A text of an instant in a form, and what is before it, at a random offset where the form has one. The parts of the clock are
+    those of UTC at the offset, also where the form has none."""
+    offset = rng.choice((0, 0, 330, -480, 60, -210, 1_439, -1_439))
+    wall = EPOCH + timedelta(seconds=second - EPOCH_SECONDS + offset * 60)
+    digits, of_fraction = DIGITS.get(name, (0, 0))
+    texts = {
+        "Y": f"{wall.year:04}",
+        "y": f"{wall.year % 100:02}",
+        "m": f"{wall.month:02}",
+        "b": MONTHS[wall.month - 1],
+        "d": f"{wall.day:02}",
+        "e": rng.choice((f"{wall.day:2}", str(wall.day), f"{wall.day:02}")),
+        "a": rng.choice((WEEKDAYS[wall.weekday()], rng.choice(WEEKDAYS))),
+        "H": f"{wall.hour:02}",
+        "k": rng.choice((f"{wall.hour:2}", f"{wall.hour:02}")),
+        "M": f"{wall.minute:02}",
+        "S": f"{wall.second:02}",
+        "f": "".join(rng.choices("0123456789", k=rng.choice((1, 3, 3, 6, 6, 9, 10, 12)))),
+        "z": f"{'-' if offset < 0 else '+'}{abs(offset) // 60:02}",
+        "n": f"{abs(offset) % 60:02}",
+        "p": str(rng.randrange(200)),
+        "s": str(second) + "".join(rng.choices("0123456789", k=of_fraction)) if digits else "",
+    }
+
+    if rng.random() < 0.2:
+        code = rng.choice(list(ENDS_OF_RANGES))
+        texts[code] = rng.choice(ENDS_OF_RANGES[code])
+
+    def fill(text):
+        def one(found):
+            choices, code, literal = found.groups()
+            return literal or (texts[code] if code else fill(rng.choice(choices.split("|"))))
+
+        return CHOICES.sub(one, text)
+
+    return "".join(map(fill, FORMS[name])).encode()
+
+
+# What follows a stamp: mostly what ends it.
+ENDS = [
+    b"",
+    b" ",
+    b" x",
+    b" [12] info: done",
+    b"[UTC] x",
+    b"] y",
+    b'", "level": "info"}',
+    b": message",
+    b", next",
+    b"\t-",
+    b" -5 degrees",
+]
+ENDS += [b" %s" % zone.encode() for zone in ("CET", "CETERA", "PM", "Z", "UTC", "AESTX")]
+ENDS += [b"+05", b" +0530", b" -08 x", b",5", b", 5", b".5", b"Z", b"-1", b":30", b"0", b"a", b" +5", b"_", b"\xc3\xa9"]
+
+# The bytes that a change puts into a line.
+CHANGES = b'0123456789 :-.,+/TZtz[]<>JFMADuUGCSPI\t"x\xff'
+
+
+def mutate(rng, line):
+    """A line with one to three of its first bytes changed, taken out or doubled, or with another digit for one or two."""
+    line = bytearray(line)
+    digits = [at for at, byte in enumerate(line[:45]) if byte in b"0123456789"]
+    if digits and rng.random() < 0.5:
+        for at in rng.choices(digits, k=rng.randrange(1, 3)):
+            line[at] = rng.choice(b"0123456789")
+        return bytes(line)
+    for _ in range(rng.randrange(1, 4)):
+        at = rng.randrange(min(len(line), 45) + 1)
+        line[at : at + rng.randrange(2)] = bytes(rng.choices(CHANGES, k=rng.randrange(3)))
+    return bytes(line)
+
+
+def form_lines(rng, name, count):
+    """So many lines of a form: most have a stamp at their front, some another one, and a third of them is changed."""
+    short, least, most = "%y" in FORMS[name][1], -62_135_500_000, 253_402_200_000
+    if short or name in DIGITS:
+        least, most = (86_400 * 366, 3_155_600_000) if short else (1_000_000_000, 9_999_999_999)
+    second, lines = rng.randrange(1_600_000_000, 1_750_000_000), []
+    for _ in range(count):
+        second = second + rng.randrange(-90_000, 3_000_000) if rng.random() < 0.9 else rng.randrange(least, most)
+        second = min(max(second, least), most)
+        line = stamp_text(rng, name if rng.random() < 0.97 else rng.choice([one for one in FORMS if one not in DIGITS]), second)
+        line += rng.choice(ENDS[:11] if rng.random() < 0.7 else ENDS)
+        lines.append(mutate(rng, line) if rng.random() < 0.33 else line)
+        if rng.random() < 0.001:
+            lines[-1] = b" " * rng.choice((900, 960, 975, 980, 1_000, 1_010)) + lines[-1]
+    return lines
+
+
+# Texts before a stamp, some with what a place looks for.
+WORDS = [b"host", b"[worker-3]", b"time=", b'a="b\\"c"', b"INFO", b"-", b"10.0.0.1", b"ts", b"{}"]
+MEMBERS = [
+    b'"level": "info"',
+    b'"a": {"%s": "2001-01-01"}',
+    b'"b": [1, {"%s": 0}, "]"]',
+    b'"c": "\\"%s\\": 5"',
+    b'"d": "1\\" wide"',
+    b'"%s2": 1',
+    b'"n" : -1.5e3',
+]
+
+
+def place_stamp(rng, place, line):
+    """A line with the stamp of another at a place, or nearly so."""
+    word, _, text = place.partition(":")
+    if word == "field":
+        before = rng.choices(WORDS, k=max(int(text) - 1 + rng.choice((0, 0, 0, 1, -1)), 0))
+        return rng.choice((b"", b" ", b"\t")) + b"".join(one + rng.choice((b" ", b"  ", b"\t")) for one in before) + line
+    if word == "after":
+        before = b" ".join(rng.choices(WORDS, k=rng.randrange(3)))
+        return before + rng.choice((text.encode(), text.encode(), b" " + text.encode(), b"")) + line
+    if word == "json":
+        key = text.encode()
+        before = [one.replace(b"%s", key) for one in rng.choices(MEMBERS, k=rng.randrange(4))]
+        blank, after = rng.choice((b"", b"", b" ", b"\t ")), rng.choice((b"", b" ", b" "))
+        quote = rng.choice((b'"', b'"', b'"', b""))
+        return b"{" + b", ".join([*before, b'"' + key + b'"' + blank + b":" + after + quote + line])
+    return line
