@@ -16,14 +16,8 @@ fn write_stamp(out: &mut impl Write, text: &str) -> Option<io::Result<()>> {
     use time::{OffsetDateTime, UtcOffset};
     const FIXED: &[time::format_description::FormatItem<'_>] =
         format_description!("[year]-[month]-[day]T[hour]:[minute]:[second].[subsecond digits:9]Z");
-    let at = OffsetDateTime::parse(text, &Rfc3339)
-        .ok()?
-        .to_offset(UtcOffset::UTC);
-    Some(
-        at.format_into(out, FIXED)
-            .map(|_| ())
-            .map_err(io::Error::other),
-    )
+    let at = OffsetDateTime::parse(text, &Rfc3339).ok()?.to_offset(UtcOffset::UTC);
+    Some(at.format_into(out, FIXED).map(|_| ()).map_err(io::Error::other))
 }
 
 fn main() -> io::Result<()> {
@@ -31,10 +25,7 @@ fn main() -> io::Result<()> {
     let mut out = io::BufWriter::with_capacity(65_536, io::stdout().lock());
     let mut line = Vec::new();
     while lines.read_until(b'\n', &mut line)? > 0 {
-        let end = line
-            .iter()
-            .position(|byte| *byte == b' ' || *byte == b'\n')
-            .unwrap_or(line.len());
+        let end = line.iter().position(|byte| *byte == b' ' || *byte == b'\n').unwrap_or(line.len());
         let text = std::str::from_utf8(&line[..end]).unwrap_or("");
         match write_stamp(&mut out, text) {
             Some(written) => {

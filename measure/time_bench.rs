@@ -6,13 +6,14 @@
 // refuses nothing and no offset has 24 hours, `checked_add` moves what clocks show near the ends of the range and for such
 // offsets, whose texts are written here too. An instant is held as what clocks in UTC show, a `PrimitiveDateTime`, whose
 // calls take less than those of `OffsetDateTime`.
+mod bench_lines;
+
+use bench_lines::{LONGEST_LINE, answer_lines, digit, push_digits, whole_number};
 use std::fmt::Display;
-use std::io::{self, Read, Write};
+use std::io::{self, Write};
 use time::error::ComponentRange;
 use time::{Date, Duration, Month, OffsetDateTime, PrimitiveDateTime, Time, UtcOffset};
 
-const BLOCK: usize = 65_536;
-const LONGEST_LINE: usize = 1024;
 const BY_HAND: bool = cfg!(feature = "by_hand");
 
 // What a call of a run does.
@@ -47,36 +48,12 @@ enum Step {
 
 impl Step {
     fn offset(self) -> i32 {
-        if let Step::Offset(offset) = self {
-            offset
-        } else {
-            0
-        }
+        if let Step::Offset(offset) = self { offset } else { 0 }
     }
 }
 
 fn number<T: TryFrom<i64>>(word: &[u8]) -> Option<T> {
-    let (is_negative, digits) = match word {
-        [b'-', digits @ ..] => (true, digits),
-        digits => (false, digits),
-    };
-    if digits.is_empty() {
-        return None;
-    }
-    let mut value = 0_i64;
-    for byte in digits {
-        let digit = byte.wrapping_sub(b'0');
-        if digit > 9 {
-            return None;
-        }
-        value = value.checked_mul(10)?.checked_sub(i64::from(digit))?;
-    }
-    T::try_from(if is_negative {
-        value
-    } else {
-        value.checked_neg()?
-    })
-    .ok()
+    T::try_from(whole_number(word)?).ok()
 }
 
 fn two_digits(tens: u8, units: u8, last: i32) -> Option<i32> {
@@ -89,17 +66,13 @@ fn offset_of(word: &[u8]) -> Option<i32> {
     let [sign @ (b'+' | b'-'), h, i, b':', m, n, b':', s, t] = word else {
         return None;
     };
-    let size =
-        (two_digits(*h, *i, 25)? * 60 + two_digits(*m, *n, 59)?) * 60 + two_digits(*s, *t, 59)?;
+    let size = (two_digits(*h, *i, 25)? * 60 + two_digits(*m, *n, 59)?) * 60 + two_digits(*s, *t, 59)?;
     Some(if *sign == b'-' { -size } else { size })
 }
 
 fn duration_of(numbers: &[u8]) -> Option<Duration> {
     let comma = numbers.iter().position(|byte| *byte == b',')?;
-    let (seconds, nanoseconds) = (
-        number::<i64>(&numbers[..comma])?,
-        number::<i32>(&numbers[comma + 1..])?,
-    );
+    let (seconds, nanoseconds) = (number::<i64>(&numbers[..comma])?, number::<i32>(&numbers[comma + 1..])?);
     let is_one_sign = seconds.signum() * i64::from(nanoseconds.signum()) >= 0;
     (is_one_sign && nanoseconds.abs() < 1_000_000_000).then(|| Duration::new(seconds, nanoseconds))
 }
@@ -110,11 +83,7 @@ fn month_of(word: &[u8]) -> Option<Month> {
 
 fn date_of(numbers: &[u8]) -> Option<Date> {
     let mut words = numbers.split(|byte| *byte == b',');
-    let (year, month, day) = (
-        number(words.next()?)?,
-        month_of(words.next()?)?,
-        number(words.next()?)?,
-    );
+    let (year, month, day) = (number(words.next()?)?, month_of(words.next()?)?, number(words.next()?)?);
     if words.next().is_some() {
         return None;
     }
@@ -228,10 +197,6 @@ fn push(out: &mut Vec<u8>, text: impl Display) {
     write!(out, "{text}").expect("a vector takes all");
 }
 
-fn digit(number: u32) -> u8 {
-    b'0' + (number % 10) as u8
-}
-
 fn push_number(out: &mut Vec<u8>, number: impl Into<i64>) {
     let number = number.into();
     if !BY_HAND {
@@ -265,34 +230,7 @@ fn push_date(out: &mut Vec<u8>, date: Date) {
         return push(out, date);
     }
     let (year, month, day) = date.to_calendar_date();
-    let (absolute, month, day) = (
-        year.unsigned_abs(),
-        u32::from(u8::from(month)),
-        u32::from(day),
-    );
-    if year < 0 {
-        out.push(b'-');
-    } else if year > 9_999 {
-        out.push(b'+');
-    }
-    if absolute >= 100_000 {
-        out.push(digit(absolute / 100_000));
-    }
-    if absolute >= 10_000 {
-        out.push(digit(absolute / 10_000));
-    }
-    out.extend_from_slice(&[
-        digit(absolute / 1_000),
-        digit(absolute / 100),
-        digit(absolute / 10),
-        digit(absolute),
-        b'-',
-        digit(month / 10),
-        digit(month),
-        b'-',
-        digit(day / 10),
-        digit(day),
-    ]);
+    push_digits(out, year, u8::from(month).into(), day.into());
 }
 
 // A point, and the digits of a nanosecond without the zeros at the end, but at least one.
@@ -302,10 +240,7 @@ fn push_fraction(out: &mut Vec<u8>, nanosecond: u32) {
         *place = digit(rest);
         rest /= 10;
     }
-    let count = digits
-        .iter()
-        .rposition(|digit| *digit != b'0')
-        .map_or(1, |last| last + 1);
+    let count = digits.iter().rposition(|digit| *digit != b'0').map_or(1, |last| last + 1);
     out.push(b'.');
     out.extend_from_slice(&digits[..count]);
 }
@@ -319,15 +254,7 @@ fn push_time(out: &mut Vec<u8>, time: Time) {
     if hour >= 10 {
         out.push(digit(hour / 10));
     }
-    out.extend_from_slice(&[
-        digit(hour),
-        b':',
-        digit(minute / 10),
-        digit(minute),
-        b':',
-        digit(second / 10),
-        digit(second),
-    ]);
+    out.extend_from_slice(&[digit(hour), b':', digit(minute / 10), digit(minute), b':', digit(second / 10), digit(second)]);
     push_fraction(out, nanosecond);
 }
 
@@ -342,10 +269,7 @@ fn push_offset(out: &mut Vec<u8>, offset: i32) {
     let (hour, minute, second) = (size / 3_600, size / 60 % 60, size % 60);
     let sign = if offset < 0 { '-' } else { '+' };
     if !BY_HAND {
-        return push(
-            out,
-            format_args!(" {sign}{hour:02}:{minute:02}:{second:02}"),
-        );
+        return push(out, format_args!(" {sign}{hour:02}:{minute:02}:{second:02}"));
     }
     out.extend_from_slice(&[
         b' ',
@@ -398,10 +322,7 @@ fn shown_at(shown: PrimitiveDateTime, from: i32, to: i32) -> Option<PrimitiveDat
     if from == to {
         return Some(shown);
     }
-    match (
-        UtcOffset::from_whole_seconds(from),
-        UtcOffset::from_whole_seconds(to),
-    ) {
+    match (UtcOffset::from_whole_seconds(from), UtcOffset::from_whole_seconds(to)) {
         (Ok(from), Ok(to)) if shown.year().abs() < Date::MAX.year() => {
             let at = shown.assume_offset(from).to_offset(to);
             Some(PrimitiveDateTime::new(at.date(), at.time()))
@@ -411,7 +332,7 @@ fn shown_at(shown: PrimitiveDateTime, from: i32, to: i32) -> Option<PrimitiveDat
 }
 
 // The instant after a call that moves it: with no instant, and no part, it is refused.
-fn moved(at: PrimitiveDateTime, call: Call) -> Result<PrimitiveDateTime, Option<ComponentRange>> {
+fn shift(at: PrimitiveDateTime, call: Call) -> Result<PrimitiveDateTime, Option<ComponentRange>> {
     match call {
         Call::CheckedAdd(duration) => return at.checked_add(duration).ok_or(None),
         Call::CheckedSub(duration) => return at.checked_sub(duration).ok_or(None),
@@ -422,9 +343,7 @@ fn moved(at: PrimitiveDateTime, call: Call) -> Result<PrimitiveDateTime, Option<
         Call::Year(year) => at.replace_year(year),
         Call::Month(month) => at.replace_month(month),
         Call::Day(day) => at.replace_day(day),
-        Call::Ordinal(ordinal) => {
-            Date::from_ordinal_date(at.year(), ordinal).map(|date| at.replace_date(date))
-        }
+        Call::Ordinal(ordinal) => Date::from_ordinal_date(at.year(), ordinal).map(|date| at.replace_date(date)),
         Call::Hour(hour) => at.replace_hour(hour),
         Call::Minute(minute) => at.replace_minute(minute),
         Call::Second(second) => at.replace_second(second),
@@ -447,7 +366,7 @@ fn push_reply(out: &mut Vec<u8>, at: PrimitiveDateTime, call: Call) -> Primitive
             }
             None => out.extend_from_slice(b"refused"),
         },
-        call => match moved(at, call) {
+        call => match shift(at, call) {
             Ok(moved) => {
                 push_date_time(out, moved);
                 return moved;
@@ -484,11 +403,7 @@ fn push_stamp(out: &mut Vec<u8>, second: i64, nanosecond: u32) {
     }
 }
 
-fn push_run<'a>(
-    out: &mut Vec<u8>,
-    start: Result<PrimitiveDateTime, &str>,
-    words: impl Iterator<Item = &'a [u8]>,
-) -> Option<()> {
+fn push_run<'a>(out: &mut Vec<u8>, start: Result<PrimitiveDateTime, &str>, words: impl Iterator<Item = &'a [u8]>) -> Option<()> {
     let mut held = start;
     for word in words {
         let call = call_of(word)?;
@@ -568,11 +483,7 @@ fn push_good(out: &mut Vec<u8>, line: &[u8]) -> Option<()> {
         b"chain" => return push_chain(out, start_of(second, number(words.next()?)?), words),
         _ => return None,
     }
-    if words.next().is_some() {
-        None
-    } else {
-        Some(())
-    }
+    if words.next().is_some() { None } else { Some(()) }
 }
 
 fn push_answer(out: &mut Vec<u8>, line: &[u8]) {
@@ -585,34 +496,5 @@ fn push_answer(out: &mut Vec<u8>, line: &[u8]) {
 }
 
 fn main() -> io::Result<()> {
-    let mut input = io::stdin().lock();
-    let mut output = io::stdout().lock();
-    let mut block = vec![0; BLOCK];
-    let mut line = Vec::new();
-    let mut out = Vec::with_capacity(2 * BLOCK);
-    loop {
-        let count = input.read(&mut block)?;
-        if count == 0 {
-            break;
-        }
-        let mut rest = &block[..count];
-        while let Some(end) = rest.iter().position(|byte| *byte == b'\n') {
-            if line.is_empty() {
-                push_answer(&mut out, &rest[..end]);
-            } else {
-                line.extend_from_slice(&rest[..end]);
-                push_answer(&mut out, &line);
-                line.clear();
-            }
-            rest = &rest[end + 1..];
-        }
-        line.extend_from_slice(rest);
-        output.write_all(&out)?;
-        out.clear();
-    }
-    if !line.is_empty() {
-        push_answer(&mut out, &line);
-        output.write_all(&out)?;
-    }
-    output.flush()
+    answer_lines(push_answer)
 }

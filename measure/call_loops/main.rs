@@ -6,6 +6,8 @@
 use std::ffi::c_int;
 
 mod bare;
+#[cfg(any(feature = "with_chrono", feature = "with_time"))]
+mod loops;
 #[cfg(feature = "with_chrono")]
 mod with_chrono;
 #[cfg(feature = "with_time")]
@@ -24,136 +26,36 @@ const TWO_DAYS: i64 = 172_800;
 // The processor time, in nanoseconds, that a measurement of one contender takes at least.
 const LEAST: u64 = 4_000_000;
 
-type Linked =
-    unsafe extern "C" fn(*const i64, usize, *const i32, usize, u32, *mut u8, usize) -> u64;
+type Linked = unsafe extern "C" fn(*const i64, usize, *const i32, usize, u32, *mut u8, usize) -> u64;
 
 // A slice crosses as its address and its length, and in a slice too.
 #[allow(improper_ctypes)]
 unsafe extern "C" {
-    fn calls_parts_of_utc(
-        s: *const i64,
-        n: usize,
-        o: *const i32,
-        m: usize,
-        rounds: u32,
-        out: *mut u8,
-        size: usize,
-    ) -> u64;
-    fn calls_parts_of_stamp(
-        s: *const i64,
-        n: usize,
-        o: *const i32,
-        m: usize,
-        rounds: u32,
-        out: *mut u8,
-        size: usize,
-    ) -> u64;
-    fn calls_seconds_of_utc(
-        s: *const i64,
-        n: usize,
-        o: *const i32,
-        m: usize,
-        rounds: u32,
-        out: *mut u8,
-        size: usize,
-    ) -> u64;
-    fn calls_shown_at_offset(
-        s: *const i64,
-        n: usize,
-        o: *const i32,
-        m: usize,
-        rounds: u32,
-        out: *mut u8,
-        size: usize,
-    ) -> u64;
-    fn calls_sums_of_utc(
-        s: *const i64,
-        n: usize,
-        o: *const i32,
-        m: usize,
-        rounds: u32,
-        out: *mut u8,
-        size: usize,
-    ) -> u64;
-    fn calls_sums_of_stamp(
-        s: *const i64,
-        n: usize,
-        o: *const i32,
-        m: usize,
-        rounds: u32,
-        out: *mut u8,
-        size: usize,
-    ) -> u64;
-    fn calls_texts_of_utc(
-        s: *const i64,
-        n: usize,
-        o: *const i32,
-        m: usize,
-        rounds: u32,
-        out: *mut u8,
-        size: usize,
-    ) -> u64;
-    fn calls_compared(
-        s: *const i64,
-        n: usize,
-        o: *const i32,
-        m: usize,
-        rounds: u32,
-        out: *mut u8,
-        size: usize,
-    ) -> u64;
-    fn calls_sorted(
-        s: *const i64,
-        n: usize,
-        o: *const i32,
-        m: usize,
-        rounds: u32,
-        out: *mut u8,
-        size: usize,
-    ) -> u64;
-    fn calls_written(
-        s: *const i64,
-        n: usize,
-        o: *const i32,
-        m: usize,
-        rounds: u32,
-        out: *mut u8,
-        size: usize,
-    ) -> u64;
+    fn calls_parts_of_utc(s: *const i64, n: usize, o: *const i32, m: usize, rounds: u32, out: *mut u8, size: usize) -> u64;
+    fn calls_parts_of_stamp(s: *const i64, n: usize, o: *const i32, m: usize, rounds: u32, out: *mut u8, size: usize) -> u64;
+    fn calls_seconds_of_utc(s: *const i64, n: usize, o: *const i32, m: usize, rounds: u32, out: *mut u8, size: usize) -> u64;
+    fn calls_shown_at_offset(s: *const i64, n: usize, o: *const i32, m: usize, rounds: u32, out: *mut u8, size: usize) -> u64;
+    fn calls_sums_of_utc(s: *const i64, n: usize, o: *const i32, m: usize, rounds: u32, out: *mut u8, size: usize) -> u64;
+    fn calls_sums_of_stamp(s: *const i64, n: usize, o: *const i32, m: usize, rounds: u32, out: *mut u8, size: usize) -> u64;
+    fn calls_texts_of_utc(s: *const i64, n: usize, o: *const i32, m: usize, rounds: u32, out: *mut u8, size: usize) -> u64;
+    fn calls_compared(s: *const i64, n: usize, o: *const i32, m: usize, rounds: u32, out: *mut u8, size: usize) -> u64;
+    fn calls_sorted(s: *const i64, n: usize, o: *const i32, m: usize, rounds: u32, out: *mut u8, size: usize) -> u64;
+    fn calls_written(s: *const i64, n: usize, o: *const i32, m: usize, rounds: u32, out: *mut u8, size: usize) -> u64;
     fn calls_read(texts: *const &[u8], n: usize, rounds: u32) -> u64;
-    fn calls_run_of_utc(
-        s: *const i64,
-        n: usize,
-        o: *const i32,
-        m: usize,
-        rounds: u32,
-        out: *mut u8,
-        size: usize,
-    ) -> u64;
-    fn calls_run_of_stamp(
-        s: *const i64,
-        n: usize,
-        o: *const i32,
-        m: usize,
-        rounds: u32,
-        out: *mut u8,
-        size: usize,
-    ) -> u64;
+    fn calls_run_of_utc(s: *const i64, n: usize, o: *const i32, m: usize, rounds: u32, out: *mut u8, size: usize) -> u64;
+    fn calls_run_of_stamp(s: *const i64, n: usize, o: *const i32, m: usize, rounds: u32, out: *mut u8, size: usize) -> u64;
     fn clock_gettime(clock: c_int, time: *mut [i64; 2]) -> c_int;
 }
 
 /// The parts of a date-time in one number.
 pub fn word(year: i32, high: u16, low: u8, hour: u8, minute: u8, second: u8) -> u64 {
-    let date = u64::from(year < 0) << 20
-        | u64::from(year.unsigned_abs()) << 24
-        | u64::from(high) << 5
-        | u64::from(low);
+    let date = u64::from(year < 0) << 20 | u64::from(year.unsigned_abs()) << 24 | u64::from(high) << 5 | u64::from(low);
     let clock = u64::from(hour) << 12 | u64::from(minute) << 6 | u64::from(second);
     date.wrapping_mul(1 << 18).wrapping_add(clock)
 }
 
 /// What a text was read as, in one number.
-pub fn told(second: i64, nanosecond: u32, offset: i32) -> u64 {
+pub fn sum_of_parts(second: i64, nanosecond: u32, offset: i32) -> u64 {
     second
         .unsigned_abs()
         .wrapping_mul(1_000_003)
@@ -264,17 +166,7 @@ impl Loop {
     fn run(&self, input: &Input, views: &[&[u8]], rounds: u32, out: &mut [u8]) -> u64 {
         let (s, o) = (&input.seconds, &input.offsets);
         match self {
-            Loop::Linked(f) => unsafe {
-                f(
-                    s.as_ptr(),
-                    s.len(),
-                    o.as_ptr(),
-                    o.len(),
-                    rounds,
-                    out.as_mut_ptr(),
-                    out.len(),
-                )
-            },
+            Loop::Linked(f) => unsafe { f(s.as_ptr(), s.len(), o.as_ptr(), o.len(), rounds, out.as_mut_ptr(), out.len()) },
             Loop::Rust(f) => f(s, o, rounds, out),
             Loop::LinkedReader(f) => unsafe { f(views.as_ptr(), views.len(), rounds) },
             Loop::RustReader(f) => f(views, rounds),
@@ -325,33 +217,15 @@ fn views(input: &Input) -> Vec<&[u8]> {
 }
 
 fn part(input: &Input, from: usize, count: usize) -> Input {
-    let seconds = input
-        .seconds
-        .iter()
-        .skip(from)
-        .take(count)
-        .copied()
-        .collect();
-    let offsets = input
-        .offsets
-        .iter()
-        .skip(from)
-        .take(count)
-        .copied()
-        .collect();
+    let seconds = input.seconds.iter().skip(from).take(count).copied().collect();
+    let offsets = input.offsets.iter().skip(from).take(count).copied().collect();
     let texts = input.texts.iter().skip(from).take(count).cloned().collect();
-    Input {
-        seconds,
-        offsets,
-        texts,
-    }
+    Input { seconds, offsets, texts }
 }
 
 // Ends the program where two contenders have another answer to an item, or to all.
 fn compare_answers(row: &Row) {
-    let parts = (0..COMPARED)
-        .map(|from| part(&row.input, from, row.group))
-        .filter(|_| row.group < SORTED);
+    let parts = (0..COMPARED).map(|from| part(&row.input, from, row.group)).filter(|_| row.group < SORTED);
     for input in parts.chain([row.input.clone()]) {
         for rounds in [1, 2] {
             let mut expected: Option<(u64, Vec<u8>)> = None;
@@ -360,24 +234,10 @@ fn compare_answers(row: &Row) {
                 let answer = contender.code.run(&input, &views(&input), rounds, &mut out);
                 let (first, bytes) = expected.get_or_insert_with(|| (answer, out.clone()));
                 if *first != answer || *bytes != out {
-                    println!(
-                        "{}: {} answers {answer} {:?}",
-                        row.name,
-                        contender.name,
-                        String::from_utf8_lossy(&out)
-                    );
-                    println!(
-                        "and {} {first} {:?}",
-                        row.contenders[0].name,
-                        String::from_utf8_lossy(bytes)
-                    );
+                    println!("{}: {} answers {answer} {:?}", row.name, contender.name, String::from_utf8_lossy(&out));
+                    println!("and {} {first} {:?}", row.contenders[0].name, String::from_utf8_lossy(bytes));
                     let count = row.group.min(input.seconds.len());
-                    println!(
-                        "to {:?} {:?} {:?}",
-                        &input.seconds[..count],
-                        &input.offsets[..count],
-                        views(&input).first()
-                    );
+                    println!("to {:?} {:?} {:?}", &input.seconds[..count], &input.offsets[..count], views(&input).first());
                     std::process::exit(1);
                 }
             }
@@ -395,12 +255,7 @@ fn measure(kind: &str, row: &Row, rounds: usize) {
         std::hint::black_box(code.run(&row.input, &views, inner, out));
         processor_time() - from
     };
-    while row
-        .contenders
-        .iter()
-        .any(|contender| time(&contender.code, inner, &mut out) < LEAST)
-        && inner < 1 << 12
-    {
+    while row.contenders.iter().any(|contender| time(&contender.code, inner, &mut out) < LEAST) && inner < 1 << 12 {
         inner *= 2;
     }
     // What a loop builds before its rounds is taken away: the time of half as many rounds.
@@ -419,40 +274,32 @@ fn measure(kind: &str, row: &Row, rounds: usize) {
     }
 }
 
-fn row(
-    name: &'static str,
-    input: &Input,
-    group: usize,
-    contenders: Vec<(&'static str, Loop)>,
-) -> Row {
+fn row(name: &'static str, input: &Input, group: usize, contenders: Vec<(&'static str, Loop)>) -> Row {
     let contenders = contenders
         .into_iter()
-        .map(|(name, code)| Contender {
-            name: name.trim_end_matches('*'),
-            code,
-            same: !name.ends_with('*'),
-        })
+        .map(|(name, code)| Contender { name: name.trim_end_matches('*'), code, same: !name.ends_with('*') })
         .collect();
-    Row {
-        name,
-        contenders,
-        input: input.clone(),
-        group,
-    }
+    Row { name, contenders, input: input.clone(), group }
 }
 
-macro_rules! contenders {
-    ($bare:expr; $($name:literal: $linked:expr),+; $word:ident, $variant:ident, $time:literal $(, $chrono:literal)?) => {{
-        let mut all = vec![("bare", Loop::$variant($bare))];
-        all.extend([$(($name, $linked)),+]);
-        #[cfg(feature = "with_time")]
-        all.push(($time, Loop::$variant(with_time::$word)));
-        $(
-            #[cfg(feature = "with_chrono")]
-            all.push(($chrono, Loop::$variant(with_chrono::$word)));
-        )?
-        all
-    }};
+// The rows of the table, each with the loops over the crates by their names and those of the other contenders.
+macro_rules! table {
+    ($(
+        $row:literal, $input:expr, $group:expr; $word:ident, $variant:ident;
+        $($name:literal: $code:expr),+; $time:literal $(, $chrono:literal)?;
+    )+) => {
+        vec![$(row($row, $input, $group, {
+            let mut all = vec![("bare", Loop::$variant(bare::$word))];
+            all.extend([$(($name, $code)),+]);
+            #[cfg(feature = "with_time")]
+            all.push(($time, Loop::$variant(with_time::$word)));
+            $(
+                #[cfg(feature = "with_chrono")]
+                all.push(($chrono, Loop::$variant(with_chrono::$word)));
+            )?
+            all
+        })),+]
+    };
 }
 
 fn rows(source: &mut Source, first: i64, last: i64) -> Vec<Row> {
@@ -470,137 +317,49 @@ fn rows(source: &mut Source, first: i64, last: i64) -> Vec<Row> {
         near.push(last + source.between(-86_400, 86_400));
     }
     let one = vec![quarters(source); HELD];
-    let with = |seconds: &[i64], offsets: &[i32]| Input {
-        seconds: seconds.to_vec(),
-        offsets: offsets.to_vec(),
-        texts: Vec::new(),
-    };
+    let with =
+        |seconds: &[i64], offsets: &[i32]| Input { seconds: seconds.to_vec(), offsets: offsets.to_vec(), texts: Vec::new() };
     let plain = with(&seconds, &mixed);
     let long_seconds: Vec<i64> = (0..SORTED).map(|_| source.between(first, last)).collect();
     let long_offsets: Vec<i32> = (0..SORTED).map(|_| quarters(source)).collect();
     let from = source.between(first, last - TWO_DAYS);
-    let long_near: Vec<i64> = (0..SORTED)
-        .map(|_| source.between(from, from + TWO_DAYS))
-        .collect();
-    let of_years: Vec<i64> = seconds
-        .iter()
-        .map(|second| (*second).max(-62_000_000_000))
-        .collect();
+    let long_near: Vec<i64> = (0..SORTED).map(|_| source.between(from, from + TWO_DAYS)).collect();
+    let of_years: Vec<i64> = seconds.iter().map(|second| (*second).max(-62_000_000_000)).collect();
     let fractions = with(&of_years, &mixed);
     let texts = of_years
         .iter()
         .zip(&mixed)
         .map(|(second, offset)| {
             let mut out = [0; 64];
-            let end = bare::written(&[*second], &[*offset], 1, &mut out) as usize;
+            let end = bare::write(&[*second], &[*offset], 1, &mut out) as usize;
             out[..end].to_vec()
         })
         .collect();
-    let spelled = Input {
-        texts,
-        ..Input::default()
-    };
-    vec![
-        row(
-            "parts",
-            &plain,
-            1,
-            contenders!(bare::parts;
-            "UtcDateTime": Loop::Linked(calls_parts_of_utc), "Timestamp": Loop::Linked(calls_parts_of_stamp); parts, Rust, "time", "chrono"),
-        ),
-        row(
-            "offset",
-            &plain,
-            1,
-            contenders!(bare::shown_at_offset;
-            "here": Loop::Linked(calls_shown_at_offset); shown_at_offset, Rust, "time", "chrono"),
-        ),
-        row(
-            "sum",
-            &plain,
-            1,
-            contenders!(bare::sums;
-            "UtcDateTime": Loop::Linked(calls_sums_of_utc), "Timestamp": Loop::Linked(calls_sums_of_stamp); sums, Rust, "time", "chrono"),
-        ),
-        row(
-            "second",
-            &plain,
-            1,
-            contenders!(bare::seconds_again;
-            "here": Loop::Linked(calls_seconds_of_utc); seconds_again, Rust, "time", "chrono"),
-        ),
-        row(
-            "text",
-            &plain,
-            1,
-            contenders!(bare::texts;
-            "here": Loop::Linked(calls_texts_of_utc); texts, Rust, "time*", "chrono*"),
-        ),
-        row(
-            "compare far",
-            &plain,
-            2,
-            contenders!(bare::compared;
-            "here": Loop::Linked(calls_compared); compared, Rust, "time", "chrono"),
-        ),
-        row(
-            "compare near, one offset",
-            &with(&near, &one),
-            2,
-            contenders!(bare::compared;
-            "here": Loop::Linked(calls_compared); compared, Rust, "time", "chrono"),
-        ),
-        row(
-            "compare near, two offsets",
-            &with(&near, &mixed),
-            2,
-            contenders!(bare::compared;
-            "here": Loop::Linked(calls_compared); compared, Rust, "time", "chrono"),
-        ),
-        row(
-            "sort",
-            &with(&long_seconds, &long_offsets),
-            SORTED,
-            contenders!(bare::sorted;
-            "here": Loop::Linked(calls_sorted); sorted, Rust, "time", "chrono"),
-        ),
-        row(
-            "sort near",
-            &with(&long_near, &long_offsets),
-            SORTED,
-            contenders!(bare::sorted;
-            "here": Loop::Linked(calls_sorted); sorted, Rust, "time", "chrono"),
-        ),
-        row(
-            "RFC 3339 written",
-            &fractions,
-            1,
-            contenders!(bare::written;
-            "here": Loop::Linked(calls_written); written, Rust, "time", "chrono*"),
-        ),
-        row(
-            "RFC 3339 read",
-            &spelled,
-            1,
-            contenders!(bare::read;
-            "here": Loop::LinkedReader(calls_read); read, RustReader, "time", "chrono"),
-        ),
-        row(
-            "run",
-            &plain,
-            CALLS,
-            contenders!(bare::run;
-            "UtcDateTime": Loop::Linked(calls_run_of_utc), "Timestamp": Loop::Linked(calls_run_of_stamp);
-            run, Rust, "time"),
-        ),
-    ]
+    let spelled = Input { texts, ..Input::default() };
+    table! {
+        "parts", &plain, 1; parts, Rust;
+            "UtcDateTime": Loop::Linked(calls_parts_of_utc), "Timestamp": Loop::Linked(calls_parts_of_stamp); "time", "chrono";
+        "offset", &plain, 1; shown_at_offset, Rust; "here": Loop::Linked(calls_shown_at_offset); "time", "chrono";
+        "sum", &plain, 1; sums, Rust;
+            "UtcDateTime": Loop::Linked(calls_sums_of_utc), "Timestamp": Loop::Linked(calls_sums_of_stamp); "time", "chrono";
+        "second", &plain, 1; seconds_again, Rust; "here": Loop::Linked(calls_seconds_of_utc); "time", "chrono";
+        "text", &plain, 1; texts, Rust; "here": Loop::Linked(calls_texts_of_utc); "time*", "chrono*";
+        "compare far", &plain, 2; compare, Rust; "here": Loop::Linked(calls_compared); "time", "chrono";
+        "compare near, one offset", &with(&near, &one), 2; compare, Rust; "here": Loop::Linked(calls_compared); "time", "chrono";
+        "compare near, two offsets", &with(&near, &mixed), 2; compare, Rust;
+            "here": Loop::Linked(calls_compared); "time", "chrono";
+        "sort", &with(&long_seconds, &long_offsets), SORTED; sorted, Rust; "here": Loop::Linked(calls_sorted); "time", "chrono";
+        "sort near", &with(&long_near, &long_offsets), SORTED; sorted, Rust; "here": Loop::Linked(calls_sorted); "time", "chrono";
+        "RFC 3339 written", &fractions, 1; write, Rust; "here": Loop::Linked(calls_written); "time", "chrono*";
+        "RFC 3339 read", &spelled, 1; read, RustReader; "here": Loop::LinkedReader(calls_read); "time", "chrono";
+        "run", &plain, CALLS; run, Rust;
+            "UtcDateTime": Loop::Linked(calls_run_of_utc), "Timestamp": Loop::Linked(calls_run_of_stamp); "time";
+    }
 }
 
 // The last days of the years -9999 and 9999 are left out, so that an offset and a sum stay in the range of all.
-const YEARS: [(&str, i64, i64); 2] = [
-    ("2017 to 2021", 1_483_228_800, 1_640_995_199),
-    ("-9999 to 9999", -377_700_000_000, 253_390_000_000),
-];
+const YEARS: [(&str, i64, i64); 2] =
+    [("2017 to 2021", 1_483_228_800, 1_640_995_199), ("-9999 to 9999", -377_700_000_000, 253_390_000_000)];
 
 fn run(words: &[String]) {
     let mut source = Source(88_172_645_463_325_252);
@@ -621,8 +380,6 @@ fn run(words: &[String]) {
 fn main() {
     let words: Vec<String> = std::env::args().skip(1).collect();
     // The tables of the loops stand on the stack.
-    let runner = std::thread::Builder::new()
-        .stack_size(1 << 28)
-        .spawn(move || run(&words));
+    let runner = std::thread::Builder::new().stack_size(1 << 28).spawn(move || run(&words));
     runner.expect("a thread").join().expect("all answers");
 }

@@ -1,30 +1,18 @@
 // The same by the crate chrono.
-use crate::{delta, nanosecond_after, told, word};
-use chrono::{
-    DateTime, Datelike, Duration, FixedOffset, NaiveDateTime, Offset, TimeZone, Timelike, Utc,
-};
+use crate::loops::loops;
+use crate::{delta, nanosecond_after, sum_of_parts, word};
+use chrono::{DateTime, Datelike, Duration, FixedOffset, NaiveDateTime, Offset, TimeZone, Timelike, Utc};
 use std::fmt::Write as _;
+
+loops!(DateTime<Utc>, DateTime<FixedOffset>, timestamp, checked_add_signed, checked_sub_signed);
+
+fn at_second(second: i64) -> Option<DateTime<Utc>> {
+    Utc.timestamp_opt(second, 0).single()
+}
 
 fn at_offset(second: i64, nanosecond: u32, offset: i32) -> DateTime<FixedOffset> {
     let offset = FixedOffset::east_opt(offset).unwrap();
-    Utc.timestamp_opt(second, nanosecond)
-        .unwrap()
-        .with_timezone(&offset)
-}
-
-fn held(seconds: &[i64], offsets: &[i32], with_fraction: bool) -> Vec<DateTime<FixedOffset>> {
-    let fraction = |second| {
-        if with_fraction {
-            nanosecond_after(second)
-        } else {
-            0
-        }
-    };
-    seconds
-        .iter()
-        .zip(offsets)
-        .map(|(second, offset)| at_offset(*second, fraction(*second), *offset))
-        .collect()
+    Utc.timestamp_opt(second, nanosecond).unwrap().with_timezone(&offset)
 }
 
 #[inline(never)]
@@ -34,22 +22,8 @@ pub fn parts(seconds: &[i64], _offsets: &[i32], rounds: u32, _out: &mut [u8]) ->
         for second in seconds {
             if let Some(at) = NaiveDateTime::from_timestamp_opt(*second, 0) {
                 let (month, day) = (at.month() as u16, at.day() as u8);
-                let (hour, minute, second) =
-                    (at.hour() as u8, at.minute() as u8, at.second() as u8);
+                let (hour, minute, second) = (at.hour() as u8, at.minute() as u8, at.second() as u8);
                 sum = sum.wrapping_add(word(at.year(), month, day, hour, minute, second));
-            }
-        }
-    }
-    sum
-}
-
-#[inline(never)]
-pub fn seconds_again(seconds: &[i64], _offsets: &[i32], rounds: u32, _out: &mut [u8]) -> u64 {
-    let mut sum = 0_u64;
-    for _ in 0..rounds {
-        for second in seconds {
-            if let Some(at) = Utc.timestamp_opt(*second, 0).single() {
-                sum = sum.wrapping_add(at.timestamp().unsigned_abs());
             }
         }
     }
@@ -61,102 +35,21 @@ pub fn shown_at_offset(seconds: &[i64], offsets: &[i32], rounds: u32, _out: &mut
     let held: Vec<(DateTime<Utc>, FixedOffset)> = seconds
         .iter()
         .zip(offsets)
-        .map(|(second, offset)| {
-            (
-                Utc.timestamp_opt(*second, 0).unwrap(),
-                FixedOffset::east_opt(*offset).unwrap(),
-            )
-        })
+        .map(|(second, offset)| (Utc.timestamp_opt(*second, 0).unwrap(), FixedOffset::east_opt(*offset).unwrap()))
         .collect();
     let mut sum = 0_u64;
     for _ in 0..rounds {
         for (at, offset) in &held {
             let shown = at.with_timezone(offset);
-            sum = sum.wrapping_add(word(
-                shown.year(),
-                shown.ordinal() as u16,
-                0,
-                shown.hour() as u8,
-                0,
-                0,
-            ));
+            sum = sum.wrapping_add(word(shown.year(), shown.ordinal() as u16, 0, shown.hour() as u8, 0, 0));
         }
     }
     sum
 }
 
 #[inline(never)]
-pub fn sums(seconds: &[i64], offsets: &[i32], rounds: u32, _out: &mut [u8]) -> u64 {
-    let mut held: Vec<DateTime<Utc>> = seconds
-        .iter()
-        .map(|second| Utc.timestamp_opt(*second, 0).unwrap())
-        .collect();
-    let durations: Vec<Duration> = offsets
-        .iter()
-        .map(|offset| Duration::seconds(delta(*offset)))
-        .collect();
-    for round in 0..rounds {
-        for (at, duration) in held.iter_mut().zip(&durations) {
-            let moved = if round % 2 == 0 {
-                at.checked_add_signed(*duration)
-            } else {
-                at.checked_sub_signed(*duration)
-            };
-            if let Some(moved) = moved {
-                *at = moved;
-            }
-        }
-    }
-    held.iter()
-        .fold(0, |sum, at| sum.wrapping_add(at.timestamp().unsigned_abs()))
-}
-
-#[inline(never)]
-pub fn texts(seconds: &[i64], _offsets: &[i32], rounds: u32, out: &mut [u8]) -> u64 {
-    let mut sum = 0_u64;
-    let mut text = String::with_capacity(64);
-    for _ in 0..rounds {
-        for second in seconds {
-            if let Some(at) = Utc.timestamp_opt(*second, 0).single() {
-                text.clear();
-                write!(text, "{at}").unwrap();
-                out[..text.len()].copy_from_slice(text.as_bytes());
-                sum = sum.wrapping_add(text.len() as u64);
-            }
-        }
-    }
-    sum
-}
-
-#[inline(never)]
-pub fn compared(seconds: &[i64], offsets: &[i32], rounds: u32, _out: &mut [u8]) -> u64 {
-    let held = held(seconds, offsets, false);
-    let mut sum = 0_u64;
-    for _ in 0..rounds {
-        for (first, second) in held.iter().zip(held.iter().skip(1)) {
-            sum = sum.wrapping_add(u64::from(first < second));
-        }
-    }
-    sum
-}
-
-#[inline(never)]
-pub fn sorted(seconds: &[i64], offsets: &[i32], rounds: u32, _out: &mut [u8]) -> u64 {
-    let held = held(seconds, offsets, false);
-    let mut sum = 0_u64;
-    for _ in 0..rounds {
-        let mut sorted = held.clone();
-        sorted.sort_unstable();
-        for (place, at) in sorted.iter().enumerate().step_by(9_973) {
-            sum = sum.wrapping_add((place as u64).wrapping_mul(at.timestamp().unsigned_abs()));
-        }
-    }
-    sum
-}
-
-#[inline(never)]
-pub fn written(seconds: &[i64], offsets: &[i32], rounds: u32, out: &mut [u8]) -> u64 {
-    let held = held(seconds, offsets, true);
+pub fn write(seconds: &[i64], offsets: &[i32], rounds: u32, out: &mut [u8]) -> u64 {
+    let held = values_of(seconds, offsets, true);
     let mut sum = 0_u64;
     for _ in 0..rounds {
         for at in &held {
@@ -180,6 +73,6 @@ pub fn read(texts: &[&[u8]], rounds: u32) -> u64 {
     }
     held.iter().fold(0, |sum, at| {
         let offset = at.offset().fix().local_minus_utc();
-        sum.wrapping_add(told(at.timestamp(), at.timestamp_subsec_nanos(), offset))
+        sum.wrapping_add(sum_of_parts(at.timestamp(), at.timestamp_subsec_nanos(), offset))
     })
 }
