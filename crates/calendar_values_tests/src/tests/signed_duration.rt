@@ -434,125 +434,140 @@ fn quotients_round_towards_zero(rt: HostRuntime) {
 }
 
 #[test]
-fn whole_numbers_are_factors_and_divisors(rt: HostRuntime) {
+fn whole_numbers_with_a_sign_are_factors_and_divisors(rt: HostRuntime) {
     let duration = SignedDuration::new(3, 500);
-    let (mut product, mut quotient) = (duration, duration);
-    is(&rt, duration * -100_i8, SignedDuration::new(-300, -50_000));
-    is(&rt, -100_i8 * duration, SignedDuration::new(-300, -50_000));
+    let (by_i8, by_i16) = (
+        SignedDuration::new(-300, -50_000),
+        SignedDuration::new(-90_000, -15_000_000),
+    );
+    is(&rt, duration * -100_i8, by_i8);
+    is(&rt, -100_i8 * duration, by_i8);
     is(&rt, duration / -100_i8, SignedDuration::new(0, -30_000_005));
-    is(
-        &rt,
-        duration * -30_000_i16,
-        SignedDuration::new(-90_000, -15_000_000),
-    );
-    is(
-        &rt,
-        -30_000_i16 * duration,
-        SignedDuration::new(-90_000, -15_000_000),
-    );
+    is(&rt, duration * -30_000_i16, by_i16);
+    is(&rt, -30_000_i16 * duration, by_i16);
     is(
         &rt,
         duration / -30_000_i16,
         SignedDuration::new(0, -100_000),
     );
-    is(
-        &rt,
-        duration * -2_000_000_000_i32,
-        SignedDuration::new(-6_000_001_000, 0),
+}
+
+#[test]
+fn large_whole_numbers_with_a_sign_are_factors_and_divisors(rt: HostRuntime) {
+    let duration = SignedDuration::new(3, 500);
+    let by_i32 = SignedDuration::new(-6_000_001_000, 0);
+    is(&rt, duration * -2_000_000_000_i32, by_i32);
+    is(&rt, -2_000_000_000_i32 * duration, by_i32);
+    let quotient = duration / -2_000_000_000_i32;
+    is(&rt, quotient, SignedDuration::new(0, -1));
+}
+
+#[test]
+fn whole_numbers_without_a_sign_are_factors_and_divisors(rt: HostRuntime) {
+    let duration = SignedDuration::new(3, 500);
+    let (by_u8, by_u16) = (
+        SignedDuration::new(600, 100_000),
+        SignedDuration::new(180_000, 30_000_000),
     );
-    is(
-        &rt,
-        -2_000_000_000_i32 * duration,
-        SignedDuration::new(-6_000_001_000, 0),
-    );
-    is(
-        &rt,
-        duration / -2_000_000_000_i32,
-        SignedDuration::new(0, -1),
-    );
-    is(&rt, duration * 200_u8, SignedDuration::new(600, 100_000));
-    is(&rt, 200_u8 * duration, SignedDuration::new(600, 100_000));
+    is(&rt, duration * 200_u8, by_u8);
+    is(&rt, 200_u8 * duration, by_u8);
     is(&rt, duration / 200_u8, SignedDuration::new(0, 15_000_002));
-    is(
-        &rt,
-        duration * 60_000_u16,
-        SignedDuration::new(180_000, 30_000_000),
-    );
-    is(
-        &rt,
-        60_000_u16 * duration,
-        SignedDuration::new(180_000, 30_000_000),
-    );
+    is(&rt, duration * 60_000_u16, by_u16);
+    is(&rt, 60_000_u16 * duration, by_u16);
     is(&rt, duration / 60_000_u16, SignedDuration::new(0, 50_000));
-    is(
-        &rt,
-        duration * 4_000_000_000_u32,
-        SignedDuration::new(12_000_002_000, 0),
-    );
-    is(
-        &rt,
-        4_000_000_000_u32 * duration,
-        SignedDuration::new(12_000_002_000, 0),
-    );
+}
+
+#[test]
+fn large_whole_numbers_without_a_sign_are_factors_and_divisors(rt: HostRuntime) {
+    let duration = SignedDuration::new(3, 500);
+    let by_u32 = SignedDuration::new(12_000_002_000, 0);
+    is(&rt, duration * 4_000_000_000_u32, by_u32);
+    is(&rt, 4_000_000_000_u32 * duration, by_u32);
     is(&rt, duration / 4_000_000_000_u32, SignedDuration::new(0, 0));
+}
+
+#[test]
+fn products_by_whole_numbers_are_in_place(rt: HostRuntime) {
+    let mut product = SignedDuration::new(3, 500);
     product *= -2_i8;
     is(&rt, product, SignedDuration::new(-6, -1_000));
-    quotient /= -2_i8;
-    is(&rt, quotient, SignedDuration::new(-1, -500_000_250));
     product *= 3_i16;
     is(&rt, product, SignedDuration::new(-18, -3_000));
-    quotient /= 3_i16;
-    is(&rt, quotient, SignedDuration::new(0, -500_000_083));
     product *= -5_i32;
     is(&rt, product, SignedDuration::new(90, 15_000));
-    quotient /= -5_i32;
-    is(&rt, quotient, SignedDuration::new(0, 100_000_016));
     product *= 7_u8;
     is(&rt, product, SignedDuration::new(630, 105_000));
-    quotient /= 7_u8;
-    is(&rt, quotient, SignedDuration::new(0, 14_285_716));
     product *= 11_u16;
     is(&rt, product, SignedDuration::new(6_930, 1_155_000));
-    quotient /= 11_u16;
-    is(&rt, quotient, SignedDuration::new(0, 1_298_701));
     product *= 13_u32;
     is(&rt, product, SignedDuration::new(90_090, 15_015_000));
+}
+
+#[test]
+fn quotients_by_whole_numbers_are_in_place(rt: HostRuntime) {
+    let mut quotient = SignedDuration::new(3, 500);
+    quotient /= -2_i8;
+    is(&rt, quotient, SignedDuration::new(-1, -500_000_250));
+    quotient /= 3_i16;
+    is(&rt, quotient, SignedDuration::new(0, -500_000_083));
+    quotient /= -5_i32;
+    is(&rt, quotient, SignedDuration::new(0, 100_000_016));
+    quotient /= 7_u8;
+    is(&rt, quotient, SignedDuration::new(0, 14_285_716));
+    quotient /= 11_u16;
+    is(&rt, quotient, SignedDuration::new(0, 1_298_701));
     quotient /= 13_u32;
     is(&rt, quotient, SignedDuration::new(0, 99_900));
 }
 
 #[test]
-fn durations_of_std_are_converted_compared_and_added(rt: HostRuntime) {
-    let (second, half) = (SignedDuration::SECOND, SignedDuration::milliseconds(500));
-    let (std_second, std_half) = (Duration::new(1, 0), Duration::new(0, 500_000_000));
-    let (most, past) = (
-        Duration::new(i64::MAX as u64, 999_999_999),
-        Duration::new(1 << 63, 0),
-    );
-    let before = SignedDuration::milliseconds(-500);
+fn durations_of_std_are_converted(rt: HostRuntime) {
+    let (second, std_second) = (SignedDuration::SECOND, Duration::new(1, 0));
+    let most = Duration::new(i64::MAX as u64, 999_999_999);
+    let past = Duration::new(1 << 63, 0);
     is(&rt, SignedDuration::try_from(std_second), Ok(second));
     is(&rt, SignedDuration::try_from(most), Ok(SignedDuration::MAX));
     is(&rt, SignedDuration::try_from(past), Err(ConversionRange));
+    let before = SignedDuration::milliseconds(-500);
     assert!(rt; Duration::try_from(second) == Ok(std_second));
     assert!(rt; Duration::try_from(before) == Err(ConversionRange));
-    is(&rt, second.cmp_std(std_half), Ordering::Greater);
+}
+
+#[test]
+fn durations_of_std_are_compared(rt: HostRuntime) {
+    let half = SignedDuration::milliseconds(500);
+    let (std_half, past) = (Duration::new(0, 500_000_000), Duration::new(1 << 63, 0));
+    is(
+        &rt,
+        SignedDuration::SECOND.cmp_std(std_half),
+        Ordering::Greater,
+    );
     is(&rt, half.cmp_std(std_half), Ordering::Equal);
-    is(&rt, before.cmp_std(Duration::ZERO), Ordering::Less);
+    is(&rt, (-half).cmp_std(Duration::ZERO), Ordering::Less);
     is(&rt, SignedDuration::MAX.cmp_std(past), Ordering::Less);
+}
+
+#[test]
+fn durations_of_std_are_added(rt: HostRuntime) {
+    let (second, half) = (SignedDuration::SECOND, SignedDuration::milliseconds(500));
+    let (std_second, std_half) = (Duration::new(1, 0), Duration::new(0, 500_000_000));
+    let before = SignedDuration::milliseconds(-500);
     is(&rt, second + std_half, SignedDuration::milliseconds(1_500));
     is(&rt, std_half + second, SignedDuration::milliseconds(1_500));
     is(&rt, half - std_second, before);
     is(&rt, std_half - second, before);
     // 2^63 seconds alone do not fit.
-    is(
-        &rt,
-        SignedDuration::seconds(-1) + past,
-        SignedDuration::seconds(i64::MAX),
-    );
-    let mut sum = before;
+    let sum = SignedDuration::seconds(-1) + Duration::new(1 << 63, 0);
+    is(&rt, sum, SignedDuration::seconds(i64::MAX));
+}
+
+#[test]
+fn durations_of_std_are_added_in_place(rt: HostRuntime) {
+    let (std_second, half) = (Duration::new(1, 0), SignedDuration::milliseconds(500));
+    let mut sum = SignedDuration::milliseconds(-500);
     sum += std_second;
     is(&rt, sum, half);
-    let mut std_sum = std_half;
+    let mut std_sum = Duration::new(0, 500_000_000);
     std_sum += half;
     assert!(rt; std_sum == std_second);
 }
