@@ -27,6 +27,9 @@ ROOT = f"{MADE}.rs"
 BY_HAND = (ROOT, os.path.join(MADE, "memory.rs"))
 LISTS = os.path.join("make", "erased_lists")
 
+# The calls that break what a function requires: each panics.
+PANICS = os.path.join(FOLDER, "tests", "requires.rs")
+
 TAKEN_OUT = {
     "ghost use": "imports of names for clauses and proofs",
     "ghost member": "what a trait or a type has for clauses and proofs; that which states something stays as text",
@@ -51,7 +54,7 @@ PUT_IN = {
     "module": "`proved` and the name of the module after `crate::`",
     "memory": "`crate::proved::memory` before `Vec`, and in place of `std::alloc`: lists whose growth can fail",
     "inline": "`#[inline]` on each function without a hint, since a caller is another crate in Rust",
-    "track": "`#[track_caller]` on the functions that panic where what they require is broken, as requires.txt says",
+    "track": "`#[track_caller]` on the functions that panic where what they require is broken, as tests/requires.rs says",
     "const": "`const` on the functions that rustc takes with it: const.txt",
     "closed": "`(in crate::proved)` after the `pub` of functions that requires.txt closes, and of a `pub use` of them",
     "niche": "the field `niche` of the types below, and its only value in their literals, so that an `Option` of one takes no more room",
@@ -107,10 +110,12 @@ class Lists:
         self.asking = {}
         for line in self.read(root, "requires.txt"):
             kind, _, key = line.partition(": ")
-            if kind not in ("closed", "panics", "wraps"):
-                raise Refused(*self.lines[line], f"`{kind}` is not closed, panics or wraps")
+            if kind not in ("closed", "wraps"):
+                raise Refused(*self.lines[line], f"`{kind}` is not closed or wraps")
             self.asking[key] = kind
             self.lines[key] = self.lines[line]
+        for key in self.panicking(root):
+            self.asking[key] = "panics"
 
     def read(self, root, name):
         """The lines of a list, each with its place for a message."""
@@ -126,6 +131,17 @@ class Lists:
                 found.append(line)
             at += len(line) + 1
         return found
+
+    def panicking(self, root):
+        """The functions that panic where what they require is broken, each with its place: those that the tests call so."""
+        path = os.path.join(root, PANICS)
+        if not os.path.exists(path):
+            return
+        with open(path, encoding="utf-8") as file:
+            text = file.read()
+        for row in re.finditer(r'^    \w+, "(.+)":$', text, re.MULTILINE):
+            self.lines[row[1]] = (PANICS, text, row.start(1))
+            yield row[1]
 
     def first_unused(self):
         """The first line of which there is no function, as a refusal, or None."""
@@ -463,8 +479,8 @@ class Source:
     def is_closed(self, place, key):
         """Whether the list closes a function that asks something of its caller."""
         if key not in self.lists.asking:
-            name = os.path.join(LISTS, "requires.txt")
-            self.refuse(self.code[place].at, f"{key} requires something, and {name} does not say what a safe caller gets")
+            names = f"{os.path.join(LISTS, 'requires.txt')} nor {PANICS}"
+            self.refuse(self.code[place].at, f"{key} requires something, and neither {names} says what a safe caller gets")
         self.lists.used.add(key)
         return self.lists.asking[key] == "closed"
 
