@@ -102,6 +102,12 @@ class Tables(unittest.TestCase):
         self.assertIn("def moments_negate(moments: Any, out: Any = None) -> Any:", made)
         self.assertIn('"""Negates moments_add."""', made)
 
+    def test_a_call_of_durations_alone_must_have_a_row(self):
+        of_one = {"name": "whole", "type": "MuxanduDuration", "role": "in"}
+        self.add_calls({"muxandu_duration_halve": {"doc": "A half.", "parameters": [of_one], "result": "MuxanduDuration"}})
+        status, told = self.run_tool("write")
+        self.assertEqual((status, told.strip().split()[-1]), (1, "duration_halve"))
+
     def test_overloads_follow_the_items(self):
         calls = self.add_calls({})
         self.add_calls({"muxandu_days_from_dates": calls["muxandu_dates_from_days"]})
