@@ -70,7 +70,7 @@ class _Described(_Value):
 
     _kind: ClassVar[int]
 
-    def _shown(self) -> Any:
+    def _as_shown(self) -> Any:
         """The value as it is written."""
         return self
 
@@ -83,7 +83,7 @@ class _Described(_Value):
         [offset_hour]. A Timestamp is written in UTC. RefusedSyntax if it is none. RefusedNoText if
         the value lacks a component, or if the text has more than 64 bytes or one that is not
         ASCII."""
-        return _formats.format_value(self._kind, self._shown(), pattern)
+        return _formats.format_value(self._kind, self._as_shown(), pattern)
 
     @classmethod
     def parse(cls: type[_Any], text: Union[str, bytes], pattern: str) -> _Any:
@@ -105,7 +105,7 @@ class _Formatted(_Described):
     def strftime(self, pattern: str) -> str:
         """The text by a pattern of strftime, as datetime writes it in the C locale. A Timestamp is
         written in UTC. ValueError names a directive that no format description says."""
-        return _formats.strftime_value(self._kind, self._shown(), pattern)
+        return _formats.strftime_value(self._kind, self._as_shown(), pattern)
 
     @classmethod
     def strptime(cls: type[_Any], text: Union[str, bytes], pattern: str) -> _Any:
@@ -255,14 +255,14 @@ class UtcOffset(_Described, engine.UtcOffset):
         """The datetime.timezone of the offset, of less than a day."""
         return datetime.timezone(datetime.timedelta(seconds=self.whole_seconds()))
 
-    def _shown(self) -> OffsetDateTime:
+    def _as_shown(self) -> OffsetDateTime:
         return OffsetDateTime(1970, 1, 1, offset_seconds=self)
 
     def __reduce__(self) -> tuple[Any, ...]:
         return type(self), (self.whole_seconds(),)
 
     def __str__(self) -> str:
-        return str(self._shown()).rpartition(" ")[2]
+        return str(self._as_shown()).rpartition(" ")[2]
 
     def __repr__(self) -> str:
         return f"{type(self).__name__}({self.whole_seconds()})"
@@ -327,7 +327,7 @@ class Timestamp(_Formatted, engine.Timestamp):
         down."""
         return self.to_offset(0).to_datetime().astimezone(zone)
 
-    def _shown(self) -> OffsetDateTime:
+    def _as_shown(self) -> OffsetDateTime:
         return self.to_offset(0)
 
     @classmethod
