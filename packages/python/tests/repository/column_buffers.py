@@ -22,7 +22,7 @@ from pathlib import Path
 sys.path[:0] = [str(Path(__file__).resolve().parent)]
 
 import buffers  # noqa: E402
-from buffers import (
+from buffers import (  # noqa: E402
     DATE_TIMES,
     MOMENTS,
     ORDERS,
