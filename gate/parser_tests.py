@@ -8,7 +8,7 @@ import os
 import tempfile
 
 from shared.definitions import declarations, imports, module_of, words_of
-from shared.gate import GATE
+from shared.gate import GATE, write_text
 from shared.items import contracts, exports_of, first_sentence, implementations, public_items
 from shared.wrong import Wrong, is_in_function, put_body, read, right_bodies, unread_files, wrong_bodies
 
@@ -223,8 +223,7 @@ def crate_with(folder, **files):
         **files,
     }.items():
         os.makedirs(os.path.dirname(os.path.join(folder, name)), exist_ok=True)
-        with open(os.path.join(folder, name), "w", encoding="utf-8") as file:
-            file.write(text)
+        write_text(os.path.join(folder, name), text)
     return folder
 
 

@@ -5,7 +5,7 @@ A form that is neither in these lists nor plain Rust ends the tool with its file
 import os
 import re
 
-from shared.gate import REPOSITORY
+from shared.gate import REPOSITORY, read_text
 from shared.rattle_tokens import CLOSING, COMMENTS, Lexer, Refused
 
 # The libraries, each a module of the erased text, the package that has it, and the root of that text and its folder there.
@@ -122,8 +122,7 @@ class Lists:
         path = os.path.join(root, LISTS, name)
         if not os.path.exists(path):
             return []
-        with open(path, encoding="utf-8") as file:
-            text = file.read()
+        text = read_text(path)
         found, at = [], 0
         for line in text.split("\n"):
             if line and not line.startswith("#"):
@@ -137,8 +136,7 @@ class Lists:
         path = os.path.join(root, PANICS)
         if not os.path.exists(path):
             return
-        with open(path, encoding="utf-8") as file:
-            text = file.read()
+        text = read_text(path)
         for row in re.finditer(r'^    \w+, "(.+)":$', text, re.MULTILINE):
             self.lines[row[1]] = (PANICS, text, row.start(1))
             yield row[1]
@@ -711,8 +709,7 @@ def shim_names(root=REPOSITORY):
     path = os.path.join(root, MADE, "memory.rs")
     if not os.path.exists(path):
         return ()
-    with open(path, encoding="utf-8") as file:
-        return re.findall(r"^pub struct (\w+)", file.read(), re.MULTILINE)
+    return re.findall(r"^pub struct (\w+)", read_text(path), re.MULTILINE)
 
 
 def erase_all(root=REPOSITORY, const=None):
@@ -724,8 +721,7 @@ def erase_all(root=REPOSITORY, const=None):
     made, counts, keys, found, closed = {}, {}, [], [], {}
     for crate, path in sources(root):
         name = os.path.join("crates", crate, "src", path)
-        with open(os.path.join(root, name), encoding="utf-8") as file:
-            source = Source(name, file.read(), crate, lists)
+        source = Source(name, read_text(os.path.join(root, name)), crate, lists)
         closed.setdefault(crate, set()).update(source.erase(shim))
         found.append((crate, path, source))
     unused = lists.first_unused()
