@@ -12,7 +12,7 @@ import re
 import sys
 
 from shared.erasure import BY_HAND, FOLDER
-from shared.gate import REPOSITORY
+from shared.gate import REPOSITORY, read_text
 
 FOLDERS = ("src", os.path.join("src", "format_description"), os.path.join("src", "serde"))
 
@@ -44,8 +44,7 @@ def main():
         sys.exit(__doc__.split("\n\n")[1])
     count, rules = 0, []
     for name in files():
-        with open(os.path.join(REPOSITORY, name), encoding="utf-8") as file:
-            text = file.read()
+        text = read_text(os.path.join(REPOSITORY, name))
         count += text.count("\n")
         function = "no function"
         for number, line in enumerate(code(text), 1):

@@ -4,7 +4,7 @@ import ast
 import os
 import re
 
-from shared.gate import REPOSITORY
+from shared.gate import REPOSITORY, read_text
 
 # The files of a package that people write or read, and the folders that are left out.
 OF_PACKAGES = (".py", ".rs", ".js", ".ts", ".c", ".h")
@@ -70,5 +70,4 @@ def package_texts():
             is_script = name.endswith(".py") and "__init__.py" not in names
             if name.endswith(OF_PACKAGES) and name != "module.js" and not is_script:
                 path = os.path.join(folder, name)
-                with open(path, encoding="utf-8") as file:
-                    yield os.path.relpath(path, REPOSITORY), file.read()
+                yield os.path.relpath(path, REPOSITORY), read_text(path)

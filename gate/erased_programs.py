@@ -18,7 +18,7 @@ from shared.erasure import (
     shim_names,
     sources,
 )
-from shared.gate import GATE, REPOSITORY
+from shared.gate import GATE, REPOSITORY, read_text, write_text
 
 OWN = os.path.join(GATE, "erased_sources")
 
@@ -41,15 +41,13 @@ debug-assertions = true
 
 
 def read(*parts):
-    with open(os.path.join(*parts), encoding="utf-8") as file:
-        return file.read()
+    return read_text(os.path.join(*parts))
 
 
 def write(text, *parts):
     path = os.path.join(*parts)
     os.makedirs(os.path.dirname(path), exist_ok=True)
-    with open(path, "w", encoding="utf-8") as file:
-        file.write(text)
+    write_text(path, text)
 
 
 def copy_with_std(folder, more):

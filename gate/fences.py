@@ -9,7 +9,7 @@ import os
 import re
 from typing import NamedTuple
 
-from shared.gate import REPOSITORY
+from shared.gate import REPOSITORY, read_text
 
 PAGES = (
     "README.md",
@@ -87,8 +87,7 @@ def pages(root=REPOSITORY):
 
 
 def page_text(page, root=REPOSITORY):
-    with open(os.path.join(root, page), encoding="utf-8") as file:
-        return file.read()
+    return read_text(os.path.join(root, page))
 
 
 def fences(page, root=REPOSITORY):

@@ -8,7 +8,19 @@ import signal
 import subprocess
 import time
 
-from shared.gate import ARCHIVE, PROVED, REPOSITORY, SHARED_FOLDER, STARTERS, crates, has_proved, is_beside, program, wait_for
+from shared.gate import (
+    ARCHIVE,
+    PROVED,
+    REPOSITORY,
+    SHARED_FOLDER,
+    STARTERS,
+    crates,
+    has_proved,
+    is_beside,
+    program,
+    wait_for,
+    write_text,
+)
 from shared.version import version
 
 # Variables of whoever runs this step that a newcomer has not.
@@ -92,8 +104,7 @@ class FreshClone:
     def make(self):
         for name in ("home", "temporary files"):
             os.makedirs(os.path.join(self.place, name))
-        with open(os.path.join(self.place, "home", ".gitconfig"), "w", encoding="utf-8") as file:
-            file.write(IDENTITY)
+        write_text(os.path.join(self.place, "home", ".gitconfig"), IDENTITY)
         if os.path.exists(os.path.join(REPOSITORY, ".git")):
             self.clone()
         else:

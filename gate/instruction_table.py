@@ -2,7 +2,7 @@
 
 import os
 
-from shared.gate import GATE
+from shared.gate import GATE, write_text
 
 TABLE = os.path.join(GATE, "instructions.txt")
 HEAD = """\
@@ -73,6 +73,5 @@ def write(counts, names, reason, path=TABLE):
             changes.append(f"{name}: {f'{old[0]:.1f}' if old else 'no row'} before, {count:.1f} now")
             old = count, reason
         rows.append(f"{name}{SEPARATOR}{old[0]:.1f}{SEPARATOR}{old[1]}\n")
-    with open(path, "w", encoding="utf-8") as file:
-        file.write(HEAD + "".join(rows))
+    write_text(path, HEAD + "".join(rows))
     return changes + [f"{name}: no row now" for name in before if name not in names]

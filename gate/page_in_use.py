@@ -4,7 +4,7 @@ import os
 import time
 
 from browser import COMPLAINTS, Browser, Page
-from shared.gate import GATE
+from shared.gate import GATE, read_text
 
 CONTRAST = os.path.join(GATE, "page_checks", "contrast.js")
 
@@ -115,8 +115,7 @@ def use_now(browser, address):
 def look(browser, address, pictures):
     """Looks at the page, light and dark, wide and narrow, and writes pictures of it where a folder is named."""
     papers = set()
-    with open(CONTRAST, encoding="utf-8") as file:
-        contrast_of = file.read()
+    contrast_of = read_text(CONTRAST)
     for name, (width, is_dark) in LOOKS.items():
         for state, typed in STATES.items():
             page = Page(browser, address + typed.replace("+", "%2B"), width, is_dark)

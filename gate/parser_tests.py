@@ -8,7 +8,7 @@ import os
 import tempfile
 
 from shared.definitions import declarations, imports, module_of, words_of
-from shared.gate import GATE
+from shared.gate import GATE, write_text
 from shared.items import contracts, exports_of, first_sentence, implementations, public_items
 from shared.wrong import Wrong, is_in_function, put_body, read, right_bodies, unread_files, wrong_bodies
 
@@ -223,8 +223,7 @@ def crate_with(folder, **files):
         **files,
     }.items():
         os.makedirs(os.path.dirname(os.path.join(folder, name)), exist_ok=True)
-        with open(os.path.join(folder, name), "w", encoding="utf-8") as file:
-            file.write(text)
+        write_text(os.path.join(folder, name), text)
     return folder
 
 
@@ -387,23 +386,3 @@ def places_of_wrong_bodies_are_those_of_their_sources():
             sources = {"crates/one/src/lib.rt": "fn next { n + 1 }\nfn last { n + 1; return }\n"}
             fault = misplaced.fault_of_place(sources, "one", wrong_bodies(folder, parts=["wrong"])[0])
             assert fault == problem, f"{sorted(files)}: {fault}"
-
-
-CASES = (
-    items_are_those_that_the_root_passes_on,
-    items_have_their_docs_heads_and_clauses,
-    contracts_are_those_of_private_functions_too,
-    exports_are_found_with_their_clauses,
-    definitions_have_their_names_comments_and_lines,
-    definitions_are_told_from_lemmas,
-    imports_lead_to_their_modules,
-    wrong_bodies_are_read_as_they_are,
-    files_of_many_bodies_are_read_body_by_body,
-    files_without_bodies_have_none,
-    files_of_another_ending_are_named,
-    wrong_bodies_are_put_at_their_places,
-    wrong_bodies_without_a_place_are_named,
-    changes_of_wrong_bodies_are_in_their_function_or_not,
-    names_that_are_bare_are_listed,
-    places_of_wrong_bodies_are_those_of_their_sources,
-)

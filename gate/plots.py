@@ -3,7 +3,7 @@
 import os
 import re
 
-from shared.gate import REPOSITORY
+from shared.gate import REPOSITORY, read_text, write_text
 
 NAME = "counts_by_hour.svg"
 PAGE = os.path.join(REPOSITORY, "docs", "guide", NAME)
@@ -40,15 +40,13 @@ def in_both_colours(drawn):
 
 def drawn_in(folder):
     """The picture that a program has drawn in a folder."""
-    with open(os.path.join(folder, NAME), encoding="utf-8") as file:
-        return in_both_colours(file.read())
+    return in_both_colours(read_text(os.path.join(folder, NAME)))
 
 
 def compare(tally, folder):
     """Compares the picture that a program has drawn with that of the page, if the same matplotlib has drawn both."""
     case, made = f"docs/guide/{NAME} is as the program draws it", drawn_in(folder)
-    with open(PAGE, encoding="utf-8") as file:
-        standing = file.read()
+    standing = read_text(PAGE)
     versions = [re.search(r"with matplotlib ([\d.]+)\.", text)[1] for text in (standing, made)]
     if versions[0] != versions[1]:
         tally.skip(case, f"matplotlib {versions[0]} has drawn it, and {versions[1]} is installed")
@@ -59,5 +57,4 @@ def compare(tally, folder):
 def write(folder):
     """Writes the picture that a program has drawn to the page."""
     made = drawn_in(folder)
-    with open(PAGE, "w", encoding="utf-8") as file:
-        file.write(made)
+    write_text(PAGE, made)

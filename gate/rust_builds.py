@@ -10,12 +10,11 @@ gate/library has all cases tried. With CASE that one alone is. The last line is 
 import os
 import re
 import shutil
-import subprocess
 import sys
 import tempfile
 
-from shared.debian_crates import SOURCE, lacking, write
-from shared.gate import REPOSITORY, Tally
+from shared.debian_crates import SOURCE, lacking
+from shared.gate import REPOSITORY, Tally, run, write_text
 
 # The crates that features of the folder `time` need, and its tests.
 CRATES = ("quickcheck", "rand", "serde", "serde_derive", "serde_json")
@@ -123,23 +122,14 @@ class Package:
 
     def cargo(self, *words, folder=None, **variables):
         """Runs cargo in the folder of the package, or in another."""
-        return subprocess.run(
-            ["cargo", *words, "--offline"],
-            cwd=folder or self.folder,
-            env={**os.environ, "CARGO_TARGET_DIR": self.target, **variables},
-            stdin=subprocess.DEVNULL,
-            stdout=subprocess.PIPE,
-            stderr=subprocess.STDOUT,
-            encoding="utf-8",
-            errors="replace",
-            check=False,
-        )
+        variables.setdefault("CARGO_TARGET_DIR", self.target)
+        return run(["cargo", *words, "--offline"], folder or self.folder, **variables)
 
     def caller(self, name, program, manifest, path):
         """The folder of a program over a package at a path."""
         folder = self.place(name)
-        write(os.path.join(folder, "Cargo.toml"), manifest.format(path))
-        write(os.path.join(folder, "src", "main.rs"), program)
+        write_text(os.path.join(folder, "Cargo.toml"), manifest.format(path))
+        write_text(os.path.join(folder, "src", "main.rs"), program)
         return folder
 
 
@@ -174,9 +164,9 @@ def build_without_std(package):
 def build_in_place_of_time(package):
     """A library over `time` has this package by the manifest of a program alone, and its types are those of the program."""
     folder = package.caller("patched", CALLER, PATCHED, os.path.join(package.folder, "time"))
-    write(os.path.join(folder, "library", "Cargo.toml"), LIBRARY_MANIFEST)
-    write(os.path.join(folder, "library", "src", "lib.rs"), LIBRARY)
-    write(os.path.join(folder, ".cargo", "config.toml"), SOURCE)
+    write_text(os.path.join(folder, "library", "Cargo.toml"), LIBRARY_MANIFEST)
+    write_text(os.path.join(folder, "library", "src", "lib.rs"), LIBRARY)
+    write_text(os.path.join(folder, ".cargo", "config.toml"), SOURCE)
     ended = package.cargo("run", "--quiet", folder=folder)
     if (ended.returncode, ended.stdout) != (0, CALLED):
         return f"status {ended.returncode}, must print {CALLED!r}", ended.stdout
@@ -193,7 +183,7 @@ def build_each_feature(package):
     folder = os.path.join(package.place("features"), "rust")
     shutil.copytree(package.folder, folder, ignore=shutil.ignore_patterns("target"))
     folder = os.path.join(folder, "time")
-    write(os.path.join(folder, ".cargo", "config.toml"), SOURCE)
+    write_text(os.path.join(folder, ".cargo", "config.toml"), SOURCE)
     for feature in FEATURES:
         words = ["check", "--quiet", "--no-default-features", "--features", feature]
         ended = package.cargo(*words, folder=folder, RUSTFLAGS="-D warnings")

@@ -4,7 +4,7 @@ import difflib
 import os
 import sys
 
-from shared.gate import REPOSITORY
+from shared.gate import REPOSITORY, read_text, write_text
 
 
 def standing(name):
@@ -12,8 +12,7 @@ def standing(name):
     path = os.path.join(REPOSITORY, name)
     if not os.path.exists(path):
         return ""
-    with open(path, encoding="utf-8") as file:
-        return file.read()
+    return read_text(path)
 
 
 def end_all(made):
@@ -28,8 +27,7 @@ def end_all(made):
         if stands == text:
             continue
         if words == ["write"]:
-            with open(os.path.join(REPOSITORY, name), "w", encoding="utf-8") as file:
-                file.write(text)
+            write_text(os.path.join(REPOSITORY, name), text)
             continue
         lines = difflib.unified_diff(stands.split("\n"), text.split("\n"), name, "the sources", n=0, lineterm="")
         print("\n".join(list(lines)[:20]))

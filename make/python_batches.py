@@ -2,8 +2,8 @@
 
 import ast
 import re
-import sys
 
+import python_methods
 from shared import interface
 
 INTERFACE = interface.read()
@@ -32,7 +32,8 @@ WORDS = {
     "MuxanduMoment": ("OtherMoments", "two_columns({}, {})"),
 }
 
-# The result of each such call, more of it where it is for all rows, and where each row has a status.
+# The result of such a call, more of it where it is for all rows, and where each row has a status; else it is the comment of the
+# header.
 DOCS = {
     "date_times_from_moments": ("The date-time of each moment, at its own offset", ": items of DateTimeParts", ""),
     "moments_to_offset": ("The same instants at another offset, in seconds", "", ""),
@@ -131,8 +132,9 @@ def over_moments(name):
         else:
             numbers.append(code)
     outs = ["out", "statuses"] if is_each else ["out"]
-    said, of_all, of_each = DOCS[name.replace("each_moment", "moments")]
+    said, of_all, of_each = DOCS.get(name.replace("each_moment", "moments"), (None, None, None))
     told = f"{said}{of_each}, and the status of each." if is_each else f"{said}{of_all}."
+    told = python_methods.doc("", "", name, call["doc"]) if said is None else told
     result = "tuple[Any, Any]" if is_each else "Any"
     [written, *_] = items_of(call, "items out")
     given = ", ".join([f"_engine.{name}", columns, KINDS[written["type"]], *outs, *numbers])
@@ -145,9 +147,7 @@ def over_moments(name):
 def all_over_moments():
     """The functions of the calls over moments, each for all rows and with a status of each."""
     made = [form for name in DOCS for form in (name, name.replace("moments", "each_moment"))]
-    left = [name for name in CALLS if reads_moments(CALLS[name]) and name not in made]
-    if left:
-        sys.exit(f"make/python_calls: DOCS of make/python_batches.py has no row for {', '.join(left)}")
+    made += [name for name in CALLS if reads_moments(CALLS[name]) and name not in made]
     return "\n\n\n".join("\n".join(over_moments(name)) for name in made) + "\n"
 
 

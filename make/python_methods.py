@@ -9,36 +9,29 @@ import re
 # The structure that the values of each class hold.
 STRUCTURES = {"MuxanduTimestamp": "Timestamp", "MuxanduDateTime": "OffsetDateTime", "MuxanduDuration": "Duration"}
 
+# How the calls of a class begin.
+PREFIXES = {"Timestamp": "timestamp_", "OffsetDateTime": "date_time_"}
+
+# The methods of other names than their calls. `complete` adds each other call, which has its own name in its class.
 METHODS = {
     "Timestamp": {
-        "from_rfc3339": "timestamp_from_rfc3339",
-        "from_milliseconds": "timestamp_from_milliseconds",
         "_from_microseconds": "timestamp_from_microseconds",
         "_from_nanoseconds": "timestamp_from_nanoseconds",
         "as_milliseconds": "timestamp_to_milliseconds",
         "_as_microseconds": "timestamp_to_microseconds",
         "_as_nanoseconds": "timestamp_to_nanoseconds",
-        "saturating_add": "timestamp_saturating_add",
         "saturating_sub": "timestamp_saturating_subtract",
         "truncated_to": "timestamp_truncate",
         "with_part": "timestamp_replace",
         "to_offset": "date_time_from_timestamp",
-        "to_rfc3339": "timestamp_to_rfc3339",
-        "to_rfc3339_nanos": "timestamp_to_rfc3339_nanos",
     },
     "OffsetDateTime": {
-        "from_rfc3339": "date_time_from_rfc3339",
-        "from_rfc3339_front": "date_time_from_rfc3339_front",
-        "from_rfc3339_leap": "date_time_from_rfc3339_leap",
-        "from_local": "date_time_from_local",
         "saturating_add": "date_time_saturating_add",
         "saturating_sub": "date_time_saturating_subtract",
         "truncated_to": "date_time_truncate",
         "with_part": "date_time_replace",
-        "to_offset": "date_time_to_offset",
         "to_timestamp": "timestamp_from_date_time",
         "to_rfc3339": "date_time_to_rfc3339",
-        "to_rfc3339_digits": "date_time_to_rfc3339_digits",
         "day_number": "date_time_day",
     },
     "UtcDateTime": {
@@ -165,6 +158,19 @@ DOCS["PlainDateTime"] = {
     "Digits past the ninth of the fraction drop out. RefusedSyntax if the text has another form, else the class of the first part "
     "that is out of range, such as RefusedMonth.",
 }
+
+
+def complete(calls: dict) -> None:
+    """Adds the calls of an interface that no table has: each as a method of the class that it reads first, or else makes."""
+    tables = (OPERATORS, BY_THEMSELVES, FOR_DATABASES, OF_ONE_DESCRIPTION, *(rows.values() for rows in METHODS.values()))
+    known = {name for names in tables for name in names}
+    for name, call in calls.items():
+        places = {one["role"]: one["type"] for one in reversed(call["parameters"])}
+        first = next((one["type"] for one in call["parameters"][:1] if one["role"] == "in"), None)
+        kinds = [STRUCTURES.get(kind) for kind in (first, places.get("out"), call["result"])]
+        kind = next((kind for kind in kinds if kind in PREFIXES), None)
+        if kind and name not in known and places.keys().isdisjoint({"items in", "items out"}):
+            METHODS[kind][name.removeprefix(PREFIXES[kind])] = name
 
 
 def doc(kind: str, method: str, call: str, said: str) -> str:

@@ -26,6 +26,22 @@ def archive_of(path):
         yield os.path.join(copy, "dist", "lib", "libmuxandu.a")
 
 
+def add_words(parser):
+    """Gives a parser of words those that name a library."""
+    parser.add_argument("--archive", metavar="PATH", help="the archive of the library, which is else built")
+    parser.add_argument("--dist", metavar="FOLDER", help="the library as ./build-library lays it out")
+
+
+def library_of(words, folder):
+    """The path of the library as ./build-library lays it out: that of the words, or one in the folder."""
+    if words.dist:
+        return os.path.abspath(words.dist)
+    dist = os.path.join(folder, "dist")
+    with archive_of(words.archive) as archive:
+        lay_out(archive, dist)
+    return dist
+
+
 def lay_out(archive, folder):
     """Lays out that archive in a folder, as ./build-library does in dist/."""
     command = [os.path.join(REPOSITORY, "build-library"), "--archive", archive, folder]

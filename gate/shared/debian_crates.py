@@ -5,6 +5,8 @@ import shutil
 import subprocess
 import sys
 
+from shared.gate import write_text
+
 # Where Debian puts the sources of crates.
 REGISTRY = "/usr/share/cargo/registry"
 
@@ -15,12 +17,6 @@ replace-with = "debian"
 [source.debian]
 directory = "{REGISTRY}"
 """
-
-
-def write(path, text):
-    os.makedirs(os.path.dirname(path), exist_ok=True)
-    with open(path, "w", encoding="utf-8") as file:
-        file.write(text)
 
 
 def installed_versions(names):
@@ -46,9 +42,9 @@ def lacking(names):
 def build(folder, manifest, features, is_over_crates=True):
     """Has cargo build a release of the package in the folder, over Debian's crates if it is over any. The folder of its
     programs."""
-    write(os.path.join(folder, "Cargo.toml"), manifest)
+    write_text(os.path.join(folder, "Cargo.toml"), manifest)
     if is_over_crates:
-        write(os.path.join(folder, ".cargo", "config.toml"), SOURCE)
+        write_text(os.path.join(folder, ".cargo", "config.toml"), SOURCE)
     command = ["cargo", "build", "--release", "--offline", "--quiet", "--features", ",".join(features)]
     if shutil.which("cargo") is None or subprocess.run(command, cwd=folder, check=False).returncode != 0:
         sys.exit("cargo does not build the program")

@@ -5,7 +5,7 @@ A form that is neither in these lists nor plain Rust ends the tool with its file
 import os
 import re
 
-from shared.gate import REPOSITORY
+from shared.gate import REPOSITORY, read_text
 from shared.rattle_tokens import CLOSING, COMMENTS, Lexer, Refused
 
 # The libraries, each a module of the erased text, the package that has it, and the root of that text and its folder there.
@@ -26,6 +26,9 @@ MADE = os.path.join(FOLDER, "src", MODULE)
 ROOT = f"{MADE}.rs"
 BY_HAND = (ROOT, os.path.join(MADE, "memory.rs"))
 LISTS = os.path.join("make", "erased_lists")
+
+# The calls that break what a function requires: each panics.
+PANICS = os.path.join(FOLDER, "tests", "requires.rs")
 
 TAKEN_OUT = {
     "ghost use": "imports of names for clauses and proofs",
@@ -51,7 +54,7 @@ PUT_IN = {
     "module": "`proved` and the name of the module after `crate::`",
     "memory": "`crate::proved::memory` before `Vec`, and in place of `std::alloc`: lists whose growth can fail",
     "inline": "`#[inline]` on each function without a hint, since a caller is another crate in Rust",
-    "track": "`#[track_caller]` on the functions that panic where what they require is broken, as requires.txt says",
+    "track": "`#[track_caller]` on the functions that panic where what they require is broken, as tests/requires.rs says",
     "const": "`const` on the functions that rustc takes with it: const.txt",
     "closed": "`(in crate::proved)` after the `pub` of functions that requires.txt closes, and of a `pub use` of them",
     "niche": "the field `niche` of the types below, and its only value in their literals, so that an `Option` of one takes no more room",
@@ -107,18 +110,19 @@ class Lists:
         self.asking = {}
         for line in self.read(root, "requires.txt"):
             kind, _, key = line.partition(": ")
-            if kind not in ("closed", "panics", "wraps"):
-                raise Refused(*self.lines[line], f"`{kind}` is not closed, panics or wraps")
+            if kind not in ("closed", "wraps"):
+                raise Refused(*self.lines[line], f"`{kind}` is not closed or wraps")
             self.asking[key] = kind
             self.lines[key] = self.lines[line]
+        for key in self.panicking(root):
+            self.asking[key] = "panics"
 
     def read(self, root, name):
         """The lines of a list, each with its place for a message."""
         path = os.path.join(root, LISTS, name)
         if not os.path.exists(path):
             return []
-        with open(path, encoding="utf-8") as file:
-            text = file.read()
+        text = read_text(path)
         found, at = [], 0
         for line in text.split("\n"):
             if line and not line.startswith("#"):
@@ -126,6 +130,16 @@ class Lists:
                 found.append(line)
             at += len(line) + 1
         return found
+
+    def panicking(self, root):
+        """The functions that panic where what they require is broken, each with its place: those that the tests call so."""
+        path = os.path.join(root, PANICS)
+        if not os.path.exists(path):
+            return
+        text = read_text(path)
+        for row in re.finditer(r'^    \w+, "(.+)":$', text, re.MULTILINE):
+            self.lines[row[1]] = (PANICS, text, row.start(1))
+            yield row[1]
 
     def first_unused(self):
         """The first line of which there is no function, as a refusal, or None."""
@@ -463,8 +477,8 @@ class Source:
     def is_closed(self, place, key):
         """Whether the list closes a function that asks something of its caller."""
         if key not in self.lists.asking:
-            name = os.path.join(LISTS, "requires.txt")
-            self.refuse(self.code[place].at, f"{key} requires something, and {name} does not say what a safe caller gets")
+            names = f"{os.path.join(LISTS, 'requires.txt')} nor {PANICS}"
+            self.refuse(self.code[place].at, f"{key} requires something, and neither {names} says what a safe caller gets")
         self.lists.used.add(key)
         return self.lists.asking[key] == "closed"
 
@@ -695,8 +709,7 @@ def shim_names(root=REPOSITORY):
     path = os.path.join(root, MADE, "memory.rs")
     if not os.path.exists(path):
         return ()
-    with open(path, encoding="utf-8") as file:
-        return re.findall(r"^pub struct (\w+)", file.read(), re.MULTILINE)
+    return re.findall(r"^pub struct (\w+)", read_text(path), re.MULTILINE)
 
 
 def erase_all(root=REPOSITORY, const=None):
@@ -708,8 +721,7 @@ def erase_all(root=REPOSITORY, const=None):
     made, counts, keys, found, closed = {}, {}, [], [], {}
     for crate, path in sources(root):
         name = os.path.join("crates", crate, "src", path)
-        with open(os.path.join(root, name), encoding="utf-8") as file:
-            source = Source(name, file.read(), crate, lists)
+        source = Source(name, read_text(os.path.join(root, name)), crate, lists)
         closed.setdefault(crate, set()).update(source.erase(shim))
         found.append((crate, path, source))
     unused = lists.first_unused()

@@ -141,18 +141,38 @@ class Tally:
         sys.exit(0 if failed == 0 else 1)
 
 
-def rt(words, folder):
-    """Runs `rt` in a folder, and gives the ended process with all that it printed, in one text."""
+def read_text(path):
+    """The text of a file."""
+    with open(path, encoding="utf-8") as file:
+        return file.read()
+
+
+def write_text(path, text):
+    """Writes a file, and its folder if that is not there."""
+    os.makedirs(os.path.dirname(path) or ".", exist_ok=True)
+    with open(path, "w", encoding="utf-8") as file:
+        file.write(text)
+
+
+def run(words, folder=None, text=None, env=None, timeout=None, **variables):
+    """Runs a command on a text, with more variables, and gives the ended process with all that it printed, in one text."""
     return subprocess.run(
-        ["rt", *words],
+        [str(word) for word in words],
         cwd=folder,
-        stdin=subprocess.DEVNULL,
+        env={**(os.environ if env is None else env), **variables},
+        input=text or "",
         stdout=subprocess.PIPE,
         stderr=subprocess.STDOUT,
         encoding="utf-8",
         errors="replace",
+        timeout=timeout,
         check=False,
     )
+
+
+def rt(words, folder):
+    """Runs `rt` in a folder, and gives the ended process with all that it printed, in one text."""
+    return run(["rt", *words], folder)
 
 
 def is_beside():

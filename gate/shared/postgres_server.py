@@ -17,7 +17,8 @@ import subprocess
 import tempfile
 import time
 
-from shared.gate import REPOSITORY
+from shared import gate
+from shared.gate import REPOSITORY, read_text
 
 # The sources of the extension.
 SOURCE = os.path.join(REPOSITORY, "packages", "postgres")
@@ -65,19 +66,9 @@ def give_away(folder):
         os.chown(folder, user.pw_uid, user.pw_gid)
 
 
-def run(words, text="", **more):
-    """Runs a command on a text, and gives the ended process with all that it printed, in one text."""
-    return subprocess.run(
-        words,
-        input=text,
-        stdout=subprocess.PIPE,
-        stderr=subprocess.STDOUT,
-        encoding="utf-8",
-        errors="replace",
-        timeout=LONGEST,
-        check=False,
-        **more,
-    )
+def run(words, folder=None, text=None, **variables):
+    """Runs a command on a text, for at most LONGEST, and gives the ended process with all that it printed, in one text."""
+    return gate.run(words, folder, text, timeout=LONGEST, **variables)
 
 
 def link_all(source, copy, but=()):
@@ -116,7 +107,7 @@ class Server:
 
     def run(self, name, *words, text=""):
         """Runs a program of PostgreSQL, as the user of the server and in its folder."""
-        return run(self.command(name, *words), text, cwd=self.folder, env={**os.environ, **self.variables()})
+        return run(self.command(name, *words), self.folder, text, **self.variables())
 
     def variables(self):
         return {
@@ -141,8 +132,7 @@ class Server:
         options = " ".join([f"-k '{self.folder}' -p {self.port}", *words])
         ended = self.run("pg_ctl", "-w", "-D", self.data, "-l", os.path.join(self.folder, "log"), "-o", options, "start")
         if ended.returncode != 0:
-            with open(os.path.join(self.folder, "log"), encoding="utf-8") as file:
-                raise RuntimeError(ended.stdout + file.read())
+            raise RuntimeError(ended.stdout + read_text(os.path.join(self.folder, "log")))
         return self
 
     def is_running(self):
@@ -193,7 +183,7 @@ class Extension:
         self.servers = []
 
     def make(self, *words, **variables):
-        return run(["make", "-C", self.source, f"DIST={self.dist}", *words], env={**os.environ, **variables})
+        return run(["make", "-C", self.source, f"DIST={self.dist}", *words], **variables)
 
     def server(self, name, port=None):
         """A server that is not yet started. All are ended with the extension."""

@@ -8,7 +8,7 @@ import statistics
 import subprocess
 import time
 
-from shared.gate import SHARED
+from shared.gate import SHARED, read_text
 
 # The additions in a cycle from which on a processor is in its fast state. It is slow where another thread uses the same core.
 FAST = 3.0
@@ -17,8 +17,7 @@ FAST = 3.0
 def model():
     """The name that the system has for the processor."""
     try:
-        with open("/proc/cpuinfo", encoding="utf-8") as file:
-            found = re.search(r"^model name\s*:\s*(.+)$", file.read(), re.MULTILINE)
+        found = re.search(r"^model name\s*:\s*(.+)$", read_text("/proc/cpuinfo"), re.MULTILINE)
     except OSError:
         found = None
     return found[1] if found else platform.machine()

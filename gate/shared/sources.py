@@ -2,7 +2,7 @@
 
 import os
 
-from shared.gate import REPOSITORY
+from shared.gate import REPOSITORY, read_text
 
 
 def texts(*endings):
@@ -13,8 +13,7 @@ def texts(*endings):
         for name in sorted(names):
             if name.endswith(endings):
                 path = os.path.join(folder, name)
-                with open(path, encoding="utf-8") as file:
-                    found[os.path.relpath(path, REPOSITORY)] = file.read()
+                found[os.path.relpath(path, REPOSITORY)] = read_text(path)
     return found
 
 
@@ -25,5 +24,6 @@ def crate_of(path):
 
 def crates():
     """The names of the crates, in the order of crates.txt."""
-    with open(os.path.join(REPOSITORY, "crates.txt"), encoding="utf-8") as file:
-        return [line.split(":")[0].split()[0] for line in file.read().split("\n") if ":" in line]
+    return [
+        line.split(":")[0].split()[0] for line in read_text(os.path.join(REPOSITORY, "crates.txt")).split("\n") if ":" in line
+    ]

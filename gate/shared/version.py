@@ -3,7 +3,7 @@
 import os
 import re
 
-from shared.gate import REPOSITORY
+from shared.gate import REPOSITORY, read_text
 
 SOURCE = os.path.join("crates", "muxandu_c", "src", "version.rt")
 CONSTANT = re.compile(r"^pub const MUXANDU_VERSION: u32 = ([\d_]+);$", re.MULTILINE)
@@ -16,6 +16,5 @@ def version_text(number):
 
 def version():
     """The text of the version."""
-    with open(os.path.join(REPOSITORY, SOURCE), encoding="utf-8") as file:
-        [number] = CONSTANT.findall(file.read())
+    [number] = CONSTANT.findall(read_text(os.path.join(REPOSITORY, SOURCE)))
     return version_text(int(number))

@@ -4,6 +4,8 @@ import os
 import re
 from dataclasses import dataclass, field
 
+from shared.gate import read_text
+
 # The folders of a crate that have wrong bodies, and those with right bodies of another shape.
 FOLDERS = ("must-fail", "wrong")
 RIGHT_FOLDERS = ("right",)
@@ -70,8 +72,7 @@ def read_many(path, lines):
 
 def read(path):
     """The wrong bodies of a file: one of a file NAME.edit, all of a file NAME.edits."""
-    with open(path, encoding="utf-8") as text:
-        lines = text.read().split("\n")
+    lines = read_text(path).split("\n")
     if path.endswith(MANY):
         return read_many(path, lines)
     return [body_of(path, os.path.basename(path).removesuffix(ONE), lines)]
@@ -109,8 +110,7 @@ def put_body(folder, texts, wrong):
     for file, after, old, new in wrong.changes:
         if file not in changed:
             try:
-                with open(os.path.join(folder, file), encoding="utf-8") as source:
-                    changed[file] = source.read()
+                changed[file] = read_text(os.path.join(folder, file))
             except OSError:
                 return f"there is no file {file}"
         before, mark, text = changed[file].rpartition(after) if after else ("", "", changed[file])
@@ -139,8 +139,7 @@ def function_at(text, place):
 def is_in_function(folder, wrong):
     """Whether each change of a wrong body is within the function that it makes wrong, which no other function then sees."""
     for file, after, old, _ in wrong.changes:
-        with open(os.path.join(folder, file), encoding="utf-8") as source:
-            text = source.read()
+        text = read_text(os.path.join(folder, file))
         begin = text.find(old, text.find(after) + len(after))
         ends = (begin, begin + len(old) - 1)
         if any(function_at(text, place) != wrong.function.rpartition("::")[2] for place in ends):

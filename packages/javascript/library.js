@@ -154,9 +154,31 @@ function getBy(status, get) {
     return get(OUT);
 }
 
+const getNumber = (place) => view.getInt32(place, true);
+
+/** The calls that timestamps and date-times have alike, by their kind in the names of the calls. */
+function alike(kind, put, get) {
+    const [difference, truncate, read, write] = ["difference", "truncate", "from_rfc3339", "to_rfc3339"].map((name) => `muxandu_${kind}_${name}`);
+    const shift = (name) => {
+        const call = `muxandu_${kind}_${name}`;
+        return (at, length) => getBy(calls[call](put(FIRST, at), putDuration(SECOND, length), out), get);
+    };
+    return {
+        add: shift("add"),
+        subtract: shift("subtract"),
+        saturatingAdd: shift("saturating_add"),
+        saturatingSubtract: shift("saturating_subtract"),
+        difference: (later, earlier) => getBy(calls[difference](put(FIRST, later), put(SECOND, earlier), out), getDuration),
+        truncate: (at, unit) => getBy(calls[truncate](put(FIRST, at), unit, out), get),
+        read: (text) => getBy(calls[read](...putText(text), out), get),
+        rfc3339: (at) => textBy(calls[write], put(FIRST, at)),
+    };
+}
+
 /** The calls of timestamps, each of which is `{ seconds, nanosecond }`; durations are
  * nanoseconds. */
 export const timestamps = lasting({
+    ...alike("timestamp", putTimestamp, getTimestamp),
     /** Its parts in the memory, read before the call, which may change them. */
     checked(at) {
         const place = putTimestamp(FIRST, at), { nanosecond } = getTimestamp(FIRST);
@@ -164,30 +186,16 @@ export const timestamps = lasting({
         return { seconds: at.seconds, nanosecond };
     },
     compare: (one, other) => calls.muxandu_timestamp_compare(putTimestamp(FIRST, one), putTimestamp(SECOND, other)),
-    add: (at, nanoseconds) => shift(calls.muxandu_timestamp_add, at, nanoseconds),
-    subtract: (at, nanoseconds) => shift(calls.muxandu_timestamp_subtract, at, nanoseconds),
-    saturatingAdd: (at, nanoseconds) => shift(calls.muxandu_timestamp_saturating_add, at, nanoseconds),
-    saturatingSubtract: (at, nanoseconds) => shift(calls.muxandu_timestamp_saturating_subtract, at, nanoseconds),
-    difference(later, earlier) {
-        const places = [putTimestamp(FIRST, later), putTimestamp(SECOND, earlier)];
-        return getBy(calls.muxandu_timestamp_difference(...places, out), getDuration);
-    },
-    truncate: (at, unit) => getBy(calls.muxandu_timestamp_truncate(putTimestamp(FIRST, at), unit, out), getTimestamp),
     toClocks(at, offset) {
         const place = putTimestamp(FIRST, at);
         return getBy(calls.muxandu_date_time_from_timestamp(place, signed32(offset, "offsetSeconds"), out), getClocks);
     },
-    read: (text) => getBy(calls.muxandu_timestamp_from_rfc3339(...putText(text), out), getTimestamp),
-    rfc3339: (at) => textBy(calls.muxandu_timestamp_to_rfc3339, putTimestamp(FIRST, at)),
     rfc3339Nanos: (at) => textBy(calls.muxandu_timestamp_to_rfc3339_nanos, putTimestamp(FIRST, at)),
 });
 
-function shift(call, at, nanoseconds) {
-    return getBy(call(putTimestamp(FIRST, at), putDuration(SECOND, nanoseconds), out), getTimestamp);
-}
-
 /** The calls of date-times at an offset, in the same way. */
 export const clocks = lasting({
+    ...alike("date_time", putClocks, getClocks),
     /** Likewise. */
     checked(at) {
         const place = putClocks(FIRST, at), parts = getClocks(FIRST);
@@ -196,35 +204,20 @@ export const clocks = lasting({
     },
     compare(one, other) {
         const places = [putClocks(FIRST, one), putClocks(SECOND, other)];
-        return getBy(calls.muxandu_date_time_compare(...places, out), (place) => view.getInt32(place, true));
+        return getBy(calls.muxandu_date_time_compare(...places, out), getNumber);
     },
-    add: (at, nanoseconds) => movedClocks(calls.muxandu_date_time_add, at, nanoseconds),
-    subtract: (at, nanoseconds) => movedClocks(calls.muxandu_date_time_subtract, at, nanoseconds),
-    saturatingAdd: (at, nanoseconds) => movedClocks(calls.muxandu_date_time_saturating_add, at, nanoseconds),
-    saturatingSubtract: (at, nanoseconds) => movedClocks(calls.muxandu_date_time_saturating_subtract, at, nanoseconds),
-    difference(later, earlier) {
-        const places = [putClocks(FIRST, later), putClocks(SECOND, earlier)];
-        return getBy(calls.muxandu_date_time_difference(...places, out), getDuration);
-    },
-    truncate: (at, unit) => getBy(calls.muxandu_date_time_truncate(putClocks(FIRST, at), unit, out), getClocks),
     toOffset(at, offset) {
         const place = putClocks(FIRST, at);
         return getBy(calls.muxandu_date_time_to_offset(place, signed32(offset, "offsetSeconds"), out), getClocks);
     },
     toTimestamp: (at) => getBy(calls.muxandu_timestamp_from_date_time(putClocks(FIRST, at), out), getTimestamp),
-    read: (text) => getBy(calls.muxandu_date_time_from_rfc3339(...putText(text), out), getClocks),
     readLeap(text) {
         const parts = getBy(calls.muxandu_date_time_from_rfc3339_leap(...putText(text), out, BigInt(SIZE)), getClocks);
         return { parts, isLeap: memory[SIZE] === 1 };
     },
-    rfc3339: (at) => textBy(calls.muxandu_date_time_to_rfc3339, putClocks(FIRST, at)),
     text: (at) => textBy(calls.muxandu_date_time_text, putClocks(FIRST, at)),
-    day: (at) => getBy(calls.muxandu_date_time_day(putClocks(FIRST, at), out), (place) => view.getInt32(place, true)),
+    day: (at) => getBy(calls.muxandu_date_time_day(putClocks(FIRST, at), out), getNumber),
 });
-
-function movedClocks(call, at, nanoseconds) {
-    return getBy(call(putClocks(FIRST, at), putDuration(SECOND, nanoseconds), out), getClocks);
-}
 
 /** The calls of days, by their numbers. */
 export const days = lasting({

@@ -1,7 +1,7 @@
-import { Duration, nanosecondsOf } from "./duration.js";
-import { KNOWN, clocks, days, partNames, refuseType, textual } from "./library.js";
+import { KNOWN, clocks, days, partNames, textual } from "./library.js";
+import { HELD, momentClass } from "./moment.js";
 import { Refused, refuse } from "./refused.js";
-import { Timestamp, timestampOf, unitNumber } from "./timestamp.js";
+import { Timestamp, timestampOf } from "./timestamp.js";
 
 const MIDNIGHT_IN_UTC = { hour: 0, minute: 0, second: 0, nanosecond: 0, offsetSeconds: 0 };
 const NAMES = { year: 0, month: 0, day: 0, ...MIDNIGHT_IN_UTC };
@@ -12,36 +12,17 @@ function partsOver(others, parts) {
     return { ...others, ...parts };
 }
 
-/** The key of the parts, as in a timestamp. */
-const PARTS_OF_DATE_TIME = Symbol("parts");
-
 /** The date-time of parts that the library has given. */
-export let dateTimeOf;
-
-/** The parts of a date-time; other values throw. */
-const partsOfDateTime = (value) => value?.[PARTS_OF_DATE_TIME] ?? refuseType("the argument", "an OffsetDateTime", value);
+export const dateTimeOf = (parts) => new OffsetDateTime(KNOWN, parts);
 
 /** A date and a time of day at an offset from UTC. */
-export class OffsetDateTime {
-    static {
-        dateTimeOf = (parts) => {
-            const at = new OffsetDateTime(KNOWN);
-            at[PARTS_OF_DATE_TIME] = parts;
-            return at;
-        };
-    }
-
-    constructor(parts) {
-        if (parts === KNOWN) return;
-        this[PARTS_OF_DATE_TIME] = clocks.checked(partsOver(MIDNIGHT_IN_UTC, parts));
+export class OffsetDateTime extends momentClass(clocks, "an OffsetDateTime", dateTimeOf) {
+    constructor(parts, known) {
+        super(parts === KNOWN ? known : clocks.checked(partsOver(MIDNIGHT_IN_UTC, parts)));
     }
 
     static of(parts) {
         return new OffsetDateTime(parts);
-    }
-
-    static parse(text) {
-        return dateTimeOf(clocks.read(text));
     }
 
     static parseLeap(text) {
@@ -53,44 +34,40 @@ export class OffsetDateTime {
         return Timestamp.fromDate(date).toOffset(offsetSeconds);
     }
 
-    static compare(one, other) {
-        return clocks.compare(partsOfDateTime(one), partsOfDateTime(other));
-    }
-
     get year() {
-        return this[PARTS_OF_DATE_TIME].year;
+        return this[HELD].year;
     }
 
     get month() {
-        return this[PARTS_OF_DATE_TIME].month;
+        return this[HELD].month;
     }
 
     get day() {
-        return this[PARTS_OF_DATE_TIME].day;
+        return this[HELD].day;
     }
 
     get hour() {
-        return this[PARTS_OF_DATE_TIME].hour;
+        return this[HELD].hour;
     }
 
     get minute() {
-        return this[PARTS_OF_DATE_TIME].minute;
+        return this[HELD].minute;
     }
 
     get second() {
-        return this[PARTS_OF_DATE_TIME].second;
+        return this[HELD].second;
     }
 
     get nanosecond() {
-        return this[PARTS_OF_DATE_TIME].nanosecond;
+        return this[HELD].nanosecond;
     }
 
     get offsetSeconds() {
-        return this[PARTS_OF_DATE_TIME].offsetSeconds;
+        return this[HELD].offsetSeconds;
     }
 
     get dayNumber() {
-        return clocks.day(this[PARTS_OF_DATE_TIME]);
+        return clocks.day(this[HELD]);
     }
 
     get dayOfYear() {
@@ -110,56 +87,19 @@ export class OffsetDateTime {
     }
 
     with(parts) {
-        return new OffsetDateTime(partsOver(this[PARTS_OF_DATE_TIME], parts));
-    }
-
-    add(duration) {
-        return dateTimeOf(clocks.add(this[PARTS_OF_DATE_TIME], nanosecondsOf(duration)));
-    }
-
-    subtract(duration) {
-        return dateTimeOf(clocks.subtract(this[PARTS_OF_DATE_TIME], nanosecondsOf(duration)));
-    }
-
-    saturatingAdd(duration) {
-        return dateTimeOf(clocks.saturatingAdd(this[PARTS_OF_DATE_TIME], nanosecondsOf(duration)));
-    }
-
-    saturatingSubtract(duration) {
-        return dateTimeOf(clocks.saturatingSubtract(this[PARTS_OF_DATE_TIME], nanosecondsOf(duration)));
-    }
-
-    since(earlier) {
-        return new Duration(clocks.difference(this[PARTS_OF_DATE_TIME], partsOfDateTime(earlier)));
-    }
-
-    truncate(unit) {
-        return dateTimeOf(clocks.truncate(this[PARTS_OF_DATE_TIME], unitNumber(unit)));
-    }
-
-    /** Whether both are one instant. */
-    equals(other) {
-        return OffsetDateTime.compare(this, other) === 0;
+        return new OffsetDateTime(partsOver(this[HELD], parts));
     }
 
     toOffset(offsetSeconds) {
-        return dateTimeOf(clocks.toOffset(this[PARTS_OF_DATE_TIME], offsetSeconds));
+        return dateTimeOf(clocks.toOffset(this[HELD], offsetSeconds));
     }
 
     toTimestamp() {
-        return timestampOf(clocks.toTimestamp(this[PARTS_OF_DATE_TIME]));
+        return timestampOf(clocks.toTimestamp(this[HELD]));
     }
 
     toDate() {
         return this.toTimestamp().toDate();
-    }
-
-    toRfc3339() {
-        return clocks.rfc3339(this[PARTS_OF_DATE_TIME]);
-    }
-
-    toJSON() {
-        return this.toRfc3339();
     }
 
     /** The text of RFC 3339, or the library's own text if there is none. */
@@ -167,7 +107,7 @@ export class OffsetDateTime {
         try {
             return this.toRfc3339();
         } catch (error) {
-            if (error instanceof Refused && error.refusal === "NO_TEXT") return clocks.text(this[PARTS_OF_DATE_TIME]);
+            if (error instanceof Refused && error.refusal === "NO_TEXT") return clocks.text(this[HELD]);
             throw error;
         }
     }

@@ -1,39 +1,18 @@
-import { UNITS } from "./declared.js";
-import { Duration, nanosecondsOf } from "./duration.js";
 import { BILLION, KNOWN, refuseType, timestamps, toBigInt } from "./library.js";
+import { HELD, momentClass } from "./moment.js";
 import { dateTimeOf } from "./offset_date_time.js";
 import { refuse } from "./refused.js";
 
 // The milliseconds that a Date holds, of either sign.
 const MOST_OF_DATE = 8_640_000_000_000_000n;
 
-/** The number of a unit. */
-export function unitNumber(unit) {
-    return typeof unit === "string" && Object.hasOwn(UNITS, unit) ? UNITS[unit] : refuse("UNIT");
-}
-
-/** The key of the parts: code that compares objects finds them, and other code only by intent. */
-const PARTS_OF_TIMESTAMP = Symbol("parts");
-
 /** The timestamp of parts that the library has given. */
-export let timestampOf;
-
-/** The parts of a timestamp; other values throw. */
-const partsIn = (value) => value?.[PARTS_OF_TIMESTAMP] ?? refuseType("the argument", "a Timestamp", value);
+export const timestampOf = (parts) => new Timestamp(KNOWN, parts);
 
 /** An instant. */
-export class Timestamp {
-    static {
-        timestampOf = (parts) => {
-            const at = new Timestamp(KNOWN);
-            at[PARTS_OF_TIMESTAMP] = parts;
-            return at;
-        };
-    }
-
+export class Timestamp extends momentClass(timestamps, "a Timestamp", timestampOf) {
     constructor(seconds, nanosecond = 0) {
-        if (seconds === KNOWN) return;
-        this[PARTS_OF_TIMESTAMP] = timestamps.checked({ seconds: toBigInt(seconds, "seconds"), nanosecond });
+        super(seconds === KNOWN ? nanosecond : timestamps.checked({ seconds: toBigInt(seconds, "seconds"), nanosecond }));
     }
 
     static fromMilliseconds(milliseconds) {
@@ -60,20 +39,12 @@ export class Timestamp {
         return Timestamp.fromMilliseconds(Date.now());
     }
 
-    static parse(text) {
-        return timestampOf(timestamps.read(text));
-    }
-
-    static compare(one, other) {
-        return timestamps.compare(partsIn(one), partsIn(other));
-    }
-
     get seconds() {
-        return this[PARTS_OF_TIMESTAMP].seconds;
+        return this[HELD].seconds;
     }
 
     get nanosecond() {
-        return this[PARTS_OF_TIMESTAMP].nanosecond;
+        return this[HELD].nanosecond;
     }
 
     get milliseconds() {
@@ -88,36 +59,8 @@ export class Timestamp {
         return this.seconds * BILLION + BigInt(this.nanosecond);
     }
 
-    add(duration) {
-        return timestampOf(timestamps.add(this[PARTS_OF_TIMESTAMP], nanosecondsOf(duration)));
-    }
-
-    subtract(duration) {
-        return timestampOf(timestamps.subtract(this[PARTS_OF_TIMESTAMP], nanosecondsOf(duration)));
-    }
-
-    saturatingAdd(duration) {
-        return timestampOf(timestamps.saturatingAdd(this[PARTS_OF_TIMESTAMP], nanosecondsOf(duration)));
-    }
-
-    saturatingSubtract(duration) {
-        return timestampOf(timestamps.saturatingSubtract(this[PARTS_OF_TIMESTAMP], nanosecondsOf(duration)));
-    }
-
-    since(earlier) {
-        return new Duration(timestamps.difference(this[PARTS_OF_TIMESTAMP], partsIn(earlier)));
-    }
-
-    truncate(unit) {
-        return timestampOf(timestamps.truncate(this[PARTS_OF_TIMESTAMP], unitNumber(unit)));
-    }
-
-    equals(other) {
-        return Timestamp.compare(this, other) === 0;
-    }
-
     toOffset(offsetSeconds) {
-        return dateTimeOf(timestamps.toClocks(this[PARTS_OF_TIMESTAMP], offsetSeconds));
+        return dateTimeOf(timestamps.toClocks(this[HELD], offsetSeconds));
     }
 
     toDate() {
@@ -126,16 +69,8 @@ export class Timestamp {
         return new Date(Number(milliseconds));
     }
 
-    toRfc3339() {
-        return timestamps.rfc3339(this[PARTS_OF_TIMESTAMP]);
-    }
-
     toRfc3339Nanos() {
-        return timestamps.rfc3339Nanos(this[PARTS_OF_TIMESTAMP]);
-    }
-
-    toJSON() {
-        return this.toRfc3339();
+        return timestamps.rfc3339Nanos(this[HELD]);
     }
 
     toString() {

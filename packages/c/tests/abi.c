@@ -79,61 +79,31 @@ static void statuses_have_strings(void) {
     }
 }
 
-typedef MuxanduStatus Write(char *, size_t);
-
-static MuxanduStatus write_status_name(char *buffer, size_t room) {
-    return muxandu_status_name_z(MUXANDU_REFUSED_DAY_OF_MONTH, buffer, room);
-}
-
-static MuxanduStatus write_date(char *buffer, size_t room) {
-    return muxandu_date_to_rfc3339_z(date(2024, 2, 29), buffer, room);
-}
-
-static MuxanduStatus write_date_time(char *buffer, size_t room) {
-    return muxandu_date_time_to_rfc3339_z(date_time(2024, 2, 29, 1, 2, 3, 40000000, -3600), buffer, room);
-}
-
-static MuxanduStatus write_digits(char *buffer, size_t room) {
-    return muxandu_date_time_to_rfc3339_digits_z(date_time(2024, 2, 29, 1, 2, 3, 40000000, 0), 257, buffer, room);
-}
-
-static MuxanduStatus write_timestamp(char *buffer, size_t room) {
-    return muxandu_timestamp_to_rfc3339_z(stamp(-1, 500000000), buffer, room);
-}
-
-static MuxanduStatus write_nanos(char *buffer, size_t room) {
-    return muxandu_timestamp_to_rfc3339_nanos_z(stamp(-1, 500000000), buffer, room);
-}
-
-static MuxanduStatus write_clocks(char *buffer, size_t room) {
-    return muxandu_date_time_text_z(date_time(-1, 1, 2, 0, 0, 0, 50000000, -1), buffer, room);
-}
-
-static MuxanduStatus write_seconds(char *buffer, size_t room) {
-    return muxandu_timestamp_text_z(stamp(-1, 500000000), buffer, room);
-}
-
 /* A text with a byte 0 behind it, where there is room for both; else the buffer is as it was. */
-static void write_terminated(Write *text_of, const char *wanted) {
-    char text[64];
-    size_t size = strlen(wanted);
-    memset(text, '!', sizeof text);
-    CHECK(text_of(NULL, 0) == MUXANDU_REFUSED_BUFFER);
-    CHECK(text_of(text, 0) == MUXANDU_REFUSED_BUFFER && text[0] == '!');
-    CHECK(text_of(text, size) == MUXANDU_REFUSED_BUFFER && text[0] == '!' && text[size - 1] == '!');
-    CHECK(text_of(text, size + 1) == MUXANDU_OK && strcmp(text, wanted) == 0 && text[size + 1] == '!');
-}
+#define WRITE_TERMINATED(wanted, call, ...)                                                                            \
+    do {                                                                                                               \
+        char text[64];                                                                                                 \
+        size_t size = strlen(wanted);                                                                                  \
+        memset(text, '!', sizeof text);                                                                                \
+        CHECK(call(__VA_ARGS__, NULL, 0) == MUXANDU_REFUSED_BUFFER);                                                   \
+        CHECK(call(__VA_ARGS__, text, 0) == MUXANDU_REFUSED_BUFFER && text[0] == '!');                                 \
+        CHECK(call(__VA_ARGS__, text, size) == MUXANDU_REFUSED_BUFFER && text[0] == '!' && text[size - 1] == '!');     \
+        CHECK(call(__VA_ARGS__, text, size + 1) == MUXANDU_OK && strcmp(text, wanted) == 0 && text[size + 1] == '!');  \
+    } while (0)
 
 static void texts_are_terminated(void) {
+    const MuxanduDateTime at = date_time(2024, 2, 29, 1, 2, 3, 40000000, -3600),
+                          in_utc = date_time(2024, 2, 29, 1, 2, 3, 40000000, 0);
     char text[MUXANDU_TEXT_ROOM + 1] = "!";
-    write_terminated(write_status_name, "DAY_OF_MONTH");
-    write_terminated(write_date, "2024-02-29");
-    write_terminated(write_date_time, "2024-02-29T01:02:03.04-01:00");
-    write_terminated(write_digits, "2024-02-29T01:02:03.040000000Z");
-    write_terminated(write_timestamp, "1969-12-31T23:59:59.5Z");
-    write_terminated(write_nanos, "1969-12-31T23:59:59.500000000Z");
-    write_terminated(write_clocks, "-0001-01-02 0:00:00.05 -00:00:01");
-    write_terminated(write_seconds, "-0.5");
+    WRITE_TERMINATED("DAY_OF_MONTH", muxandu_status_name_z, MUXANDU_REFUSED_DAY_OF_MONTH);
+    WRITE_TERMINATED("2024-02-29", muxandu_date_to_rfc3339_z, date(2024, 2, 29));
+    WRITE_TERMINATED("2024-02-29T01:02:03.04-01:00", muxandu_date_time_to_rfc3339_z, at);
+    WRITE_TERMINATED("2024-02-29T01:02:03.040000000Z", muxandu_date_time_to_rfc3339_digits_z, in_utc, 257);
+    WRITE_TERMINATED("1969-12-31T23:59:59.5Z", muxandu_timestamp_to_rfc3339_z, stamp(-1, 500000000));
+    WRITE_TERMINATED("1969-12-31T23:59:59.500000000Z", muxandu_timestamp_to_rfc3339_nanos_z, stamp(-1, 500000000));
+    WRITE_TERMINATED("-0001-01-02 0:00:00.05 -00:00:01", muxandu_date_time_text_z,
+                     date_time(-1, 1, 2, 0, 0, 0, 50000000, -1));
+    WRITE_TERMINATED("-0.5", muxandu_timestamp_text_z, stamp(-1, 500000000));
     CHECK(muxandu_timestamp_text_z(stamp(LAST + 1, 0), text, sizeof text) == MUXANDU_REFUSED_TIMESTAMP);
     CHECK(text[0] == '!');
 }

@@ -200,71 +200,27 @@ static int is_to_tm(const Parts *parts, int weekday, int ordinal) {
     return wanted == MUXANDU_OK && memcmp(&to, &right, sizeof to) == 0;
 }
 
-static int tm_year(uint64_t point) {
-    Parts at = LEAP_DAY;
-    at.year = (int64_t)signed_of(point) + 1900;
-    return is_from_tm(&at);
-}
+/* The parts that are each number of 32 bits: the part, that number for it, and the call that takes it. */
+#define EACH_PART(each)                                                                                                \
+    each(tm_year, year, (int64_t)signed_of(point) + 1900,                                                              \
+         is_from_tm(&at)) each(tm_month, month, (int64_t)signed_of(point) + 1, is_from_tm(&at))                        \
+        each(tm_day, day, signed_of(point), is_from_tm(&at)) each(tm_hour, hour, signed_of(point), is_from_tm(&at))    \
+            each(tm_minute, minute, signed_of(point), is_from_tm(&at)) each(tm_second, second, signed_of(point),       \
+                                                                            is_from_tm(&at))                           \
+                each(tm_nanosecond, nanosecond, (uint32_t)point,                                                       \
+                     is_from_tm(&at)) each(tm_offset, offset_seconds, signed_of(point), is_from_tm(&at))               \
+                    each(date_time_year, year, signed_of(point), is_to_tm(&at, -1, 0))                                 \
+                        each(date_time_nanosecond, nanosecond, (uint32_t)point, is_to_tm(&at, LEAP_WEEKDAY, 60))       \
+                            each(date_time_offset, offset_seconds, signed_of(point), is_to_tm(&at, LEAP_WEEKDAY, 60))
+#define TRIED_PART(name, part, number, is_so)                                                                          \
+    static int name(uint64_t point) {                                                                                  \
+        Parts at = LEAP_DAY;                                                                                           \
+        at.part = number;                                                                                              \
+        return is_so;                                                                                                  \
+    }
+#define RANGE_OF_PART(name, part, number, is_so) {#name, (uint64_t)1 << 32, name},
 
-static int tm_month(uint64_t point) {
-    Parts at = LEAP_DAY;
-    at.month = (int64_t)signed_of(point) + 1;
-    return is_from_tm(&at);
-}
-
-static int tm_day(uint64_t point) {
-    Parts at = LEAP_DAY;
-    at.day = signed_of(point);
-    return is_from_tm(&at);
-}
-
-static int tm_hour(uint64_t point) {
-    Parts at = LEAP_DAY;
-    at.hour = signed_of(point);
-    return is_from_tm(&at);
-}
-
-static int tm_minute(uint64_t point) {
-    Parts at = LEAP_DAY;
-    at.minute = signed_of(point);
-    return is_from_tm(&at);
-}
-
-static int tm_second(uint64_t point) {
-    Parts at = LEAP_DAY;
-    at.second = signed_of(point);
-    return is_from_tm(&at);
-}
-
-static int tm_nanosecond(uint64_t point) {
-    Parts at = LEAP_DAY;
-    at.nanosecond = (uint32_t)point;
-    return is_from_tm(&at);
-}
-
-static int tm_offset(uint64_t point) {
-    Parts at = LEAP_DAY;
-    at.offset_seconds = signed_of(point);
-    return is_from_tm(&at);
-}
-
-static int date_time_year(uint64_t point) {
-    Parts at = LEAP_DAY;
-    at.year = signed_of(point);
-    return is_to_tm(&at, -1, 0);
-}
-
-static int date_time_nanosecond(uint64_t point) {
-    Parts at = LEAP_DAY;
-    at.nanosecond = (uint32_t)point;
-    return is_to_tm(&at, LEAP_WEEKDAY, 60);
-}
-
-static int date_time_offset(uint64_t point) {
-    Parts at = LEAP_DAY;
-    at.offset_seconds = signed_of(point);
-    return is_to_tm(&at, LEAP_WEEKDAY, 60);
-}
+EACH_PART(TRIED_PART)
 
 /* Each byte of a month with each of a day, in years of each kind and around the ends of the
  * range; in a struct tm also numbers that do not fit a byte. */
@@ -313,18 +269,7 @@ static const struct Range {
     {"timespec_nanoseconds", (uint64_t)5 << 32, timespec_nanoseconds},
     {"timestamp_seconds", (uint64_t)6 << 32, timestamp_seconds},
     {"timestamp_nanoseconds", (uint64_t)1 << 32, timestamp_nanoseconds},
-    {"tm_year", (uint64_t)1 << 32, tm_year},
-    {"tm_month", (uint64_t)1 << 32, tm_month},
-    {"tm_day", (uint64_t)1 << 32, tm_day},
-    {"tm_hour", (uint64_t)1 << 32, tm_hour},
-    {"tm_minute", (uint64_t)1 << 32, tm_minute},
-    {"tm_second", (uint64_t)1 << 32, tm_second},
-    {"tm_nanosecond", (uint64_t)1 << 32, tm_nanosecond},
-    {"tm_offset", (uint64_t)1 << 32, tm_offset},
-    {"date_time_year", (uint64_t)1 << 32, date_time_year},
-    {"date_time_nanosecond", (uint64_t)1 << 32, date_time_nanosecond},
-    {"date_time_offset", (uint64_t)1 << 32, date_time_offset},
-    {"months_with_days", (uint64_t)YEAR_COUNT << 20, months_with_days},
+    EACH_PART(RANGE_OF_PART){"months_with_days", (uint64_t)YEAR_COUNT << 20, months_with_days},
     {"times_of_day", (uint64_t)1 << 24, times_of_day},
     {"dates", COUNTER_DAYS, dates},
 };

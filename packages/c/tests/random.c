@@ -408,39 +408,51 @@ static uint32_t second_of(MuxanduDateTime date_time, int64_t *out) {
     return MUXANDU_OK;
 }
 
-static void compare_batches(uint32_t kind) {
-    size_t count = one_of(MOST_ITEMS + 1),
-           room = one_of(16) ? count + one_of((uint32_t)(MOST_ITEMS - count) + 1) : one_of(MOST_ITEMS + 1), item;
-    int64_t seconds[MOST_ITEMS];
-    int32_t days[MOST_ITEMS], offset = some_offset();
-    MuxanduDateTime date_times[MOST_ITEMS];
-    MuxanduDate dates[MOST_ITEMS];
+/* What batches are made of: the items, the offset and the place for results, and texts with their spans, one in so many of
+ * which lies outside the block. */
+static int64_t seconds[MOST_ITEMS], counts[MOST_ITEMS];
+static int32_t days[MOST_ITEMS], offset;
+static MuxanduDateTime date_times[MOST_ITEMS];
+static MuxanduDate dates[MOST_ITEMS];
+static char texts[MOST_ITEMS][REFERENCE_ROOM];
+static MuxanduSpan spans[MOST_ITEMS];
+static size_t count, room, statuses_room;
+
+static size_t some_room(void) {
+    return one_of(16) ? count + one_of(2) * one_of((uint32_t)(MOST_ITEMS - count) + 1) : one_of(MOST_ITEMS + 1);
+}
+
+static void fill_items(void) {
+    size_t item;
+    count = one_of(MOST_ITEMS + 1);
+    room = some_room();
+    statuses_room = some_room();
+    offset = some_offset();
     for (item = 0; item < MOST_ITEMS; item++) {
         seconds[item] = some_second();
         days[item] = some_day();
         date_times[item] = some_date_time();
         dates[item] = some_date();
     }
-    switch (kind) {
-    case 0:
-        COMPARE_BATCH(MuxanduDateTime, is_date_time, "date_times_from_seconds",
-                      muxandu_date_times_from_seconds(seconds, count, offset, ours, room),
-                      reference_date_time_from_timestamp(stamp(seconds[k], 0), offset, theirs + k));
-        break;
-    case 1:
-        COMPARE_BATCH(int64_t, same_number, "seconds_from_date_times",
-                      muxandu_seconds_from_date_times(date_times, count, ours, room),
-                      second_of(date_times[k], theirs + k));
-        break;
-    case 2:
-        COMPARE_BATCH(MuxanduDate, same_date, "dates_from_days", muxandu_dates_from_days(days, count, ours, room),
-                      reference_date_from_day(days[k], theirs + k));
-        break;
-    default:
-        COMPARE_BATCH(int32_t, same_number, "days_from_dates", muxandu_days_from_dates(dates, count, ours, room),
-                      reference_day_from_date(dates[k], theirs + k));
-        break;
+}
+
+static void fill_texts(uint32_t one_outside) {
+    size_t item;
+    count = one_of(MOST_ITEMS + 1);
+    room = some_room();
+    statuses_room = some_room();
+    for (item = 0; item < MOST_ITEMS; item++) {
+        spans[item].start = item * REFERENCE_ROOM;
+        spans[item].length = some_text(texts[item]);
+        if (one_of(one_outside) == 0)
+            spans[item].start = one_of(2) ? sizeof texts : sizeof texts + 1 + ((size_t)next() >> one_of(64));
     }
+}
+
+/* The error of a span that was moved, or 0. */
+static uint32_t refused_span(size_t k) {
+    if (spans[k].start == k * REFERENCE_ROOM) return MUXANDU_OK;
+    return spans[k].start == sizeof texts && spans[k].length == 0 ? MUXANDU_REFUSED_SYNTAX : MUXANDU_REFUSED_SPAN;
 }
 
 /* What each unit below the second counts as an instant, and back. */
@@ -467,32 +479,18 @@ static uint32_t count_of(uint32_t unit, MuxanduDateTime date_time, int64_t *out)
     return to_count(unit, at, out);
 }
 
-static void compare_batches_of_counts(uint32_t kind) {
-    static MuxanduBatch (*const shown[])(const int64_t *, size_t, int32_t, MuxanduDateTime *, size_t) = {
-        muxandu_date_times_from_milliseconds, muxandu_date_times_from_microseconds,
-        muxandu_date_times_from_nanoseconds};
-    static MuxanduBatch (*const counted_of[])(const MuxanduDateTime *, size_t, int64_t *, size_t) = {
-        muxandu_milliseconds_from_date_times, muxandu_microseconds_from_date_times,
-        muxandu_nanoseconds_from_date_times};
-    static const char *const names[] = {"date_times_from_milliseconds", "date_times_from_microseconds",
-                                        "date_times_from_nanoseconds",  "milliseconds_from_date_times",
-                                        "microseconds_from_date_times", "nanoseconds_from_date_times"};
-    size_t count = one_of(MOST_ITEMS + 1), room = one_of(16) ? count : one_of(MOST_ITEMS + 1), item;
-    uint32_t unit = kind % 3;
-    int64_t counts[MOST_ITEMS];
-    int32_t offset = one_of(8) ? (int32_t)one_of(7200) - 3600 : some_offset();
-    MuxanduDateTime date_times[MOST_ITEMS];
+static MuxanduBatch (*const SHOWN[])(const int64_t *, size_t, int32_t, MuxanduDateTime *, size_t) = {
+    muxandu_date_times_from_milliseconds, muxandu_date_times_from_microseconds, muxandu_date_times_from_nanoseconds};
+static MuxanduBatch (*const COUNTED_OF[])(const MuxanduDateTime *, size_t, int64_t *, size_t) = {
+    muxandu_milliseconds_from_date_times, muxandu_microseconds_from_date_times, muxandu_nanoseconds_from_date_times};
+
+static void fill_counts(uint32_t unit) {
+    size_t item;
+    fill_items();
+    if (one_of(8)) offset = (int32_t)one_of(7200) - 3600;
     for (item = 0; item < MOST_ITEMS; item++) {
         counts[item] = one_of(16) ? (int64_t)((uint64_t)some_second() * 1000 + one_of(1000)) : (int64_t)next();
-        date_times[item] = some_date_time();
         if (one_of(2) && unit == 2) date_times[item].year = 1678 + (int32_t)one_of(580);
-    }
-    if (kind < 3) {
-        COMPARE_BATCH(MuxanduDateTime, is_date_time, names[kind], shown[unit](counts, count, offset, ours, room),
-                      shown_at_count(unit, counts[k], offset, theirs + k));
-    } else {
-        COMPARE_BATCH(int64_t, same_number, names[kind], counted_of[unit](date_times, count, ours, room),
-                      count_of(unit, date_times[k], theirs + k));
     }
 }
 
@@ -519,74 +517,77 @@ static void compare_batches_of_counts(uint32_t kind) {
         tell(name, is_same);                                                                                           \
     } while (0)
 
-static void compare_each(uint32_t kind) {
-    size_t count = one_of(MOST_ITEMS + 1), room = one_of(16) ? count : one_of(MOST_ITEMS + 1), item;
-    size_t statuses_room = one_of(16) ? count : one_of(MOST_ITEMS + 1);
-    int64_t seconds[MOST_ITEMS];
-    int32_t offset = some_offset();
-    MuxanduDateTime date_times[MOST_ITEMS];
-    for (item = 0; item < MOST_ITEMS; item++) {
-        seconds[item] = some_second();
-        date_times[item] = some_date_time();
-    }
-    if (kind == 0) {
+/* A batch of any kind. */
+static void compare_batch(uint32_t kind) {
+    static const char *const shown[] = {"date_times_from_milliseconds", "date_times_from_microseconds",
+                                        "date_times_from_nanoseconds"},
+                             *const counted_of[] = {"milliseconds_from_date_times", "microseconds_from_date_times",
+                                                    "nanoseconds_from_date_times"};
+    const uint32_t unit = kind % 3;
+    if (kind < 6)
+        fill_counts(unit);
+    else if (kind < 12)
+        fill_items();
+    else
+        fill_texts(kind < 14 ? 64 : 16);
+    switch (kind) {
+    case 0:
+    case 1:
+    case 2:
+        COMPARE_BATCH(MuxanduDateTime, is_date_time, shown[unit], SHOWN[unit](counts, count, offset, ours, room),
+                      shown_at_count(unit, counts[k], offset, theirs + k));
+        break;
+    case 3:
+    case 4:
+    case 5:
+        COMPARE_BATCH(int64_t, same_number, counted_of[unit], COUNTED_OF[unit](date_times, count, ours, room),
+                      count_of(unit, date_times[k], theirs + k));
+        break;
+    case 6:
+        COMPARE_BATCH(MuxanduDateTime, is_date_time, "date_times_from_seconds",
+                      muxandu_date_times_from_seconds(seconds, count, offset, ours, room),
+                      reference_date_time_from_timestamp(stamp(seconds[k], 0), offset, theirs + k));
+        break;
+    case 7:
+        COMPARE_BATCH(int64_t, same_number, "seconds_from_date_times",
+                      muxandu_seconds_from_date_times(date_times, count, ours, room),
+                      second_of(date_times[k], theirs + k));
+        break;
+    case 8:
+        COMPARE_BATCH(MuxanduDate, same_date, "dates_from_days", muxandu_dates_from_days(days, count, ours, room),
+                      reference_date_from_day(days[k], theirs + k));
+        break;
+    case 9:
+        COMPARE_BATCH(int32_t, same_number, "days_from_dates", muxandu_days_from_dates(dates, count, ours, room),
+                      reference_day_from_date(dates[k], theirs + k));
+        break;
+    case 10:
         COMPARE_EACH(MuxanduDateTime, is_date_time, "date_times_from_each_second",
                      muxandu_date_times_from_each_second(seconds, count, offset, ours, room, statuses, statuses_room),
                      reference_date_time_from_timestamp(stamp(seconds[k], 0), offset, theirs + k));
-    } else {
+        break;
+    case 11:
         COMPARE_EACH(int64_t, same_number, "seconds_from_each_date_time",
                      muxandu_seconds_from_each_date_time(date_times, count, ours, room, statuses, statuses_room),
                      second_of(date_times[k], theirs + k));
+        break;
+    case 12:
+        COMPARE_BATCH(MuxanduTimestamp, same_stamp, "timestamps_from_rfc3339",
+                      muxandu_timestamps_from_rfc3339(texts[0], sizeof texts, spans, count, ours, room),
+                      refused_span(k) ? refused_span(k) : reference_timestamp_from_rfc3339(texts[k], theirs + k));
+        break;
+    case 13:
+        COMPARE_BATCH(MuxanduDateTime, is_date_time, "date_times_from_rfc3339",
+                      muxandu_date_times_from_rfc3339(texts[0], sizeof texts, spans, count, ours, room),
+                      refused_span(k) ? refused_span(k) : reference_date_time_from_rfc3339(texts[k], theirs + k));
+        break;
+    default:
+        COMPARE_EACH(MuxanduDateTime, is_date_time, "date_times_from_each_rfc3339",
+                     muxandu_date_times_from_each_rfc3339(texts[0], sizeof texts, spans, count, ours, room, statuses,
+                                                          statuses_room),
+                     refused_span(k) ? refused_span(k) : reference_date_time_from_rfc3339(texts[k], theirs + k));
+        break;
     }
-}
-
-static void compare_batch_of_texts(void) {
-    char texts[MOST_ITEMS][REFERENCE_ROOM];
-    MuxanduSpan spans[MOST_ITEMS];
-    size_t count = one_of(MOST_ITEMS + 1), room = one_of(16) ? count : one_of(MOST_ITEMS + 1), item;
-    for (item = 0; item < MOST_ITEMS; item++) {
-        spans[item].start = item * REFERENCE_ROOM;
-        spans[item].length = some_text(texts[item]);
-        if (one_of(64) == 0) spans[item].start = one_of(2) ? sizeof texts : (size_t)next() | (size_t)1 << 32;
-    }
-    COMPARE_BATCH(MuxanduTimestamp, same_stamp, "timestamps_from_rfc3339",
-                  muxandu_timestamps_from_rfc3339(texts[0], sizeof texts, spans, count, ours, room),
-                  spans[k].start != k * REFERENCE_ROOM
-                      ? (uint32_t)(spans[k].start == sizeof texts && spans[k].length == 0 ? MUXANDU_REFUSED_SYNTAX
-                                                                                          : MUXANDU_REFUSED_SPAN)
-                      : reference_timestamp_from_rfc3339(texts[k], theirs + k));
-}
-
-static void compare_batch_of_texts_at_offsets(void) {
-    char texts[MOST_ITEMS][REFERENCE_ROOM];
-    MuxanduSpan spans[MOST_ITEMS];
-    size_t count = one_of(MOST_ITEMS + 1), room = one_of(16) ? count : one_of(MOST_ITEMS + 1), item;
-    for (item = 0; item < MOST_ITEMS; item++) {
-        spans[item].start = item * REFERENCE_ROOM;
-        spans[item].length = some_text(texts[item]);
-        if (one_of(64) == 0) spans[item].start = sizeof texts + 1;
-    }
-    COMPARE_BATCH(MuxanduDateTime, is_date_time, "date_times_from_rfc3339",
-                  muxandu_date_times_from_rfc3339(texts[0], sizeof texts, spans, count, ours, room),
-                  spans[k].start == sizeof texts + 1 ? (uint32_t)MUXANDU_REFUSED_SPAN
-                                                     : reference_date_time_from_rfc3339(texts[k], theirs + k));
-}
-
-static void compare_each_text(void) {
-    char texts[MOST_ITEMS][REFERENCE_ROOM];
-    MuxanduSpan spans[MOST_ITEMS];
-    size_t count = one_of(MOST_ITEMS + 1), room = one_of(16) ? count : one_of(MOST_ITEMS + 1), item;
-    size_t statuses_room = one_of(16) ? count : one_of(MOST_ITEMS + 1);
-    for (item = 0; item < MOST_ITEMS; item++) {
-        spans[item].start = item * REFERENCE_ROOM;
-        spans[item].length = some_text(texts[item]);
-        if (one_of(16) == 0) spans[item].start = sizeof texts + 1;
-    }
-    COMPARE_EACH(
-        MuxanduDateTime, is_date_time, "date_times_from_each_rfc3339",
-        muxandu_date_times_from_each_rfc3339(texts[0], sizeof texts, spans, count, ours, room, statuses, statuses_room),
-        spans[k].start == sizeof texts + 1 ? (uint32_t)MUXANDU_REFUSED_SPAN
-                                           : reference_date_time_from_rfc3339(texts[k], theirs + k));
 }
 
 /* A date-time that has a text, mostly. */
@@ -598,15 +599,15 @@ static MuxanduDateTime some_written(void) {
 
 /* Texts written into one block, which is now and then too short for the last of them. */
 static void compare_block_of_texts(void) {
-    char texts[MOST_ITEMS * 36], wanted[MOST_ITEMS * 36], text[REFERENCE_ROOM];
-    MuxanduDateTime date_times[MOST_ITEMS];
-    MuxanduSpan spans[MOST_ITEMS], wanted_spans[MOST_ITEMS];
-    size_t count = one_of(MOST_ITEMS + 1), room = one_of(16) ? count : one_of(MOST_ITEMS + 1), start = 0, item;
-    size_t block = one_of(2) ? sizeof texts : one_of(sizeof texts + 1);
-    uint32_t status = room < count ? MUXANDU_REFUSED_BUFFER : MUXANDU_OK;
+    char written[MOST_ITEMS * 36], wanted[MOST_ITEMS * 36], text[REFERENCE_ROOM];
+    MuxanduSpan wanted_spans[MOST_ITEMS];
+    size_t block = one_of(2) ? sizeof written : one_of(sizeof written + 1), start = 0, item;
+    uint32_t status;
     MuxanduBatch done;
+    fill_items();
+    status = room < count ? MUXANDU_REFUSED_BUFFER : MUXANDU_OK;
     for (item = 0; item < MOST_ITEMS; item++) date_times[item] = some_written();
-    memset(texts, 'x', sizeof texts);
+    memset(written, 'x', sizeof written);
     memset(wanted, 'x', sizeof wanted);
     memset(spans, 7, sizeof spans);
     memset(wanted_spans, 7, sizeof wanted_spans);
@@ -624,9 +625,9 @@ static void compare_block_of_texts(void) {
         wanted_spans[item].length = length;
         start += length;
     }
-    done = muxandu_date_times_to_rfc3339(date_times, count, texts, block, spans, room);
+    done = muxandu_date_times_to_rfc3339(date_times, count, written, block, spans, room);
     tell("date_times_to_rfc3339", done.count == item && done.status == status &&
-                                      memcmp(texts, wanted, sizeof texts) == 0 &&
+                                      memcmp(written, wanted, sizeof written) == 0 &&
                                       memcmp(spans, wanted_spans, sizeof spans) == 0);
 }
 
@@ -639,26 +640,16 @@ static void compare_one(void) {
         return;
     }
     kind -= tried;
-    if (kind < 4) {
-        compare_batches(kind);
-    } else if (kind < 10) {
-        compare_texts(kind - 4);
-    } else if (kind < 16) {
-        compare_batches_of_counts(kind - 10);
-    } else if (kind < 18) {
-        compare_each(kind - 16);
-    } else if (kind < 20) {
-        compare_dates_as_texts(kind == 18);
+    if (kind < 15) {
+        compare_batch(kind);
+    } else if (kind < 21) {
+        compare_texts(kind - 15);
     } else if (kind < 23) {
-        compare_other_reading(kind - 20);
-    } else if (kind < 25) {
-        compare_reading(kind == 23);
-    } else if (kind == 25) {
-        compare_batch_of_texts();
-    } else if (kind == 26) {
-        compare_batch_of_texts_at_offsets();
-    } else if (kind == 27) {
-        compare_each_text();
+        compare_dates_as_texts(kind == 21);
+    } else if (kind < 26) {
+        compare_other_reading(kind - 23);
+    } else if (kind < 28) {
+        compare_reading(kind == 26);
     } else {
         compare_block_of_texts();
     }

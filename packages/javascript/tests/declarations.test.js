@@ -15,9 +15,11 @@ const sorted = (names) => [...names].sort();
 
 /** The names that a class has, those of its own calls after `static`. */
 function members(made) {
-    const own = Object.getOwnPropertyNames(made.prototype).filter((name) => name !== "constructor");
-    const statics = Object.getOwnPropertyNames(made).filter((name) => !["length", "name", "prototype"].includes(name));
-    return sorted([...own, ...statics.map((name) => `static ${name}`)]);
+    const classes = [made, Object.getPrototypeOf(made)].filter((each) => ![Function.prototype, RangeError].includes(each));
+    const own = classes.flatMap((each) => Object.getOwnPropertyNames(each.prototype)).filter((name) => name !== "constructor");
+    const statics = classes.flatMap((each) => Object.getOwnPropertyNames(each));
+    const named = statics.filter((name) => !["length", "name", "prototype"].includes(name));
+    return sorted([...own, ...named.map((name) => `static ${name}`)]);
 }
 
 /** Whether types.ts has a call or a property of that name. */

@@ -2416,12 +2416,6 @@ static PyMemberDef Duration_members[] = {
 };
 
 #define CALLS_OF_Timestamp \
-    {"from_rfc3339", FUNCTION(timestamp_from_rfc3339), METH_FASTCALL | METH_CLASS, \
-     "from_rfc3339($type, text, /)\n--\n\n" \
-     "The instant of a text of RFC 3339, as 1985-04-12T23:20:50.52Z or 1996-12-19T16:39:57-08:00, a str or bytes. Digits past the ninth of the fraction drop out. RefusedSyntax if the text has another form, else the class of the first part that is out of range, such as RefusedMonth."}, \
-    {"from_milliseconds", FUNCTION(timestamp_from_milliseconds), METH_FASTCALL | METH_CLASS, \
-     "from_milliseconds($type, milliseconds, /)\n--\n\n" \
-     "The instant of a number of milliseconds from 1970-01-01 0:00 UTC. RefusedTimestamp if out of range."}, \
     {"_from_microseconds", FUNCTION(timestamp_from_microseconds), METH_FASTCALL | METH_CLASS, \
      "_from_microseconds($type, microseconds, /)\n--\n\n" \
      "The instant of a number of microseconds from 1970-01-01 0:00 UTC. It is always in range."}, \
@@ -2437,9 +2431,6 @@ static PyMemberDef Duration_members[] = {
     {"_as_nanoseconds", FUNCTION(timestamp_to_nanoseconds), METH_FASTCALL, \
      "_as_nanoseconds($self, /)\n--\n\n" \
      "The nanoseconds from 1970-01-01 0:00 UTC. They fit in 64 bits from 1677-09-21 to 2262-04-11. Errors, in this order: those of the timestamp, RESULT if they do not fit."}, \
-    {"saturating_add", FUNCTION(timestamp_saturating_add), METH_FASTCALL, \
-     "saturating_add($self, duration, /)\n--\n\n" \
-     "The instant plus a Duration or a timedelta, or the end of the range. It never raises RefusedResult."}, \
     {"saturating_sub", FUNCTION(timestamp_saturating_subtract), METH_FASTCALL, \
      "saturating_sub($self, duration, /)\n--\n\n" \
      "The instant minus a Duration or a timedelta, or the end of the range. It never raises RefusedResult."}, \
@@ -2452,26 +2443,23 @@ static PyMemberDef Duration_members[] = {
     {"to_offset", FUNCTION(date_time_from_timestamp), METH_FASTCALL, \
      "to_offset($self, offset_seconds, /)\n--\n\n" \
      "The date-time of the instant at an offset, which is an integer of seconds or a UtcOffset. RefusedOffsetSeconds outside -93599 to 93599, RefusedResult if the year there is out of range."}, \
+    {"saturating_add", FUNCTION(timestamp_saturating_add), METH_FASTCALL, \
+     "saturating_add($self, duration, /)\n--\n\n" \
+     "The instant plus a Duration or a timedelta, or the end of the range. It never raises RefusedResult."}, \
+    {"from_milliseconds", FUNCTION(timestamp_from_milliseconds), METH_FASTCALL | METH_CLASS, \
+     "from_milliseconds($type, milliseconds, /)\n--\n\n" \
+     "The instant of a number of milliseconds from 1970-01-01 0:00 UTC. RefusedTimestamp if out of range."}, \
     {"to_rfc3339", FUNCTION(timestamp_to_rfc3339), METH_FASTCALL, \
      "to_rfc3339($self, /)\n--\n\n" \
      "The shortest text of RFC 3339 in UTC, such as 1985-04-12T23:20:50.52Z. RefusedNoText outside the years 0 to 9999."}, \
     {"to_rfc3339_nanos", FUNCTION(timestamp_to_rfc3339_nanos), METH_FASTCALL, \
      "to_rfc3339_nanos($self, /)\n--\n\n" \
-     "The text of RFC 3339 in UTC with nine digits of the fraction, such as 1985-04-12T23:20:50.520000000Z. Such texts sort by their instants. RefusedNoText outside the years 0 to 9999."},
+     "The text of RFC 3339 in UTC with nine digits of the fraction, such as 1985-04-12T23:20:50.520000000Z. Such texts sort by their instants. RefusedNoText outside the years 0 to 9999."}, \
+    {"from_rfc3339", FUNCTION(timestamp_from_rfc3339), METH_FASTCALL | METH_CLASS, \
+     "from_rfc3339($type, text, /)\n--\n\n" \
+     "The instant of a text of RFC 3339, as 1985-04-12T23:20:50.52Z or 1996-12-19T16:39:57-08:00, a str or bytes. Digits past the ninth of the fraction drop out. RefusedSyntax if the text has another form, else the class of the first part that is out of range, such as RefusedMonth."},
 
 #define CALLS_OF_OffsetDateTime \
-    {"from_rfc3339", FUNCTION(date_time_from_rfc3339), METH_FASTCALL | METH_CLASS, \
-     "from_rfc3339($type, text, /)\n--\n\n" \
-     "The date-time and its offset of a text of RFC 3339, as 1985-04-12T23:20:50.52Z or 1996-12-19T16:39:57-08:00, a str or bytes. Digits past the ninth of the fraction drop out. RefusedSyntax if the text has another form, else the class of the first part that is out of range, such as RefusedMonth."}, \
-    {"from_rfc3339_front", FUNCTION(date_time_from_rfc3339_front), METH_FASTCALL | METH_CLASS, \
-     "from_rfc3339_front($type, text, /)\n--\n\n" \
-     "The date-time at the front of a text, as from_rfc3339 reads it, and the number of its bytes."}, \
-    {"from_rfc3339_leap", FUNCTION(date_time_from_rfc3339_leap), METH_FASTCALL | METH_CLASS, \
-     "from_rfc3339_leap($type, text, /)\n--\n\n" \
-     "The date-time as from_rfc3339 reads it, and 0. It also reads a second of 60 at the end of a month in UTC, where a leap second can be: as the last nanosecond before the next month, and 1. RefusedSecond elsewhere."}, \
-    {"from_local", FUNCTION(date_time_from_local), METH_FASTCALL | METH_CLASS, \
-     "from_local($type, text, offset_seconds, /)\n--\n\n" \
-     "The date-time of a text of RFC 3339 with or without an offset, a str or bytes. A text without an offset has the offset of the caller, which is an integer of seconds or a UtcOffset. RefusedOffsetSeconds outside -93599 to 93599, else as from_rfc3339."}, \
     {"saturating_add", FUNCTION(date_time_saturating_add), METH_FASTCALL, \
      "saturating_add($self, duration, /)\n--\n\n" \
      "The date-time at the same offset plus a Duration or a timedelta, or the end of the range. It never raises RefusedResult."}, \
@@ -2484,21 +2472,33 @@ static PyMemberDef Duration_members[] = {
     {"with_part", FUNCTION(date_time_replace), METH_FASTCALL, \
      "with_part($self, part, value, /)\n--\n\n" \
      "The date-time with one Part replaced; a day of the year replaces the month and the day. RefusedUnit if it is no part, else the class of the part, such as RefusedHour."}, \
-    {"to_offset", FUNCTION(date_time_to_offset), METH_FASTCALL, \
-     "to_offset($self, offset_seconds, /)\n--\n\n" \
-     "The same instant at another offset, which is an integer of seconds or a UtcOffset. RefusedOffsetSeconds outside -93599 to 93599, RefusedResult if the year there is out of range."}, \
     {"to_timestamp", FUNCTION(timestamp_from_date_time), METH_FASTCALL, \
      "to_timestamp($self, /)\n--\n\n" \
      "The instant. RefusedResult outside the range of timestamps."}, \
     {"to_rfc3339", FUNCTION(date_time_to_rfc3339), METH_FASTCALL, \
      "to_rfc3339($self, /)\n--\n\n" \
      "The shortest text of RFC 3339, such as 1996-12-19T16:39:57-08:00. RefusedNoText outside the years 0 to 9999, and if the offset has seconds or is of 24 hours or more."}, \
+    {"day_number", FUNCTION(date_time_day), METH_FASTCALL, \
+     "day_number($self, /)\n--\n\n" \
+     "The days from 1970-01-01 to the date at its offset."}, \
+    {"to_offset", FUNCTION(date_time_to_offset), METH_FASTCALL, \
+     "to_offset($self, offset_seconds, /)\n--\n\n" \
+     "The same instant at another offset, which is an integer of seconds or a UtcOffset. RefusedOffsetSeconds outside -93599 to 93599, RefusedResult if the year there is out of range."}, \
     {"to_rfc3339_digits", FUNCTION(date_time_to_rfc3339_digits), METH_FASTCALL, \
      "to_rfc3339_digits($self, digits, /)\n--\n\n" \
      "The text of RFC 3339 with 0 to 9 digits of the fraction; it cuts further digits off. RefusedNoText as to_rfc3339."}, \
-    {"day_number", FUNCTION(date_time_day), METH_FASTCALL, \
-     "day_number($self, /)\n--\n\n" \
-     "The days from 1970-01-01 to the date at its offset."},
+    {"from_rfc3339", FUNCTION(date_time_from_rfc3339), METH_FASTCALL | METH_CLASS, \
+     "from_rfc3339($type, text, /)\n--\n\n" \
+     "The date-time and its offset of a text of RFC 3339, as 1985-04-12T23:20:50.52Z or 1996-12-19T16:39:57-08:00, a str or bytes. Digits past the ninth of the fraction drop out. RefusedSyntax if the text has another form, else the class of the first part that is out of range, such as RefusedMonth."}, \
+    {"from_rfc3339_front", FUNCTION(date_time_from_rfc3339_front), METH_FASTCALL | METH_CLASS, \
+     "from_rfc3339_front($type, text, /)\n--\n\n" \
+     "The date-time at the front of a text, as from_rfc3339 reads it, and the number of its bytes."}, \
+    {"from_rfc3339_leap", FUNCTION(date_time_from_rfc3339_leap), METH_FASTCALL | METH_CLASS, \
+     "from_rfc3339_leap($type, text, /)\n--\n\n" \
+     "The date-time as from_rfc3339 reads it, and 0. It also reads a second of 60 at the end of a month in UTC, where a leap second can be: as the last nanosecond before the next month, and 1. RefusedSecond elsewhere."}, \
+    {"from_local", FUNCTION(date_time_from_local), METH_FASTCALL | METH_CLASS, \
+     "from_local($type, text, offset_seconds, /)\n--\n\n" \
+     "The date-time of a text of RFC 3339 with or without an offset, a str or bytes. A text without an offset has the offset of the caller, which is an integer of seconds or a UtcOffset. RefusedOffsetSeconds outside -93599 to 93599, else as from_rfc3339."},
 
 #define CALLS_OF_UtcDateTime \
     {"saturating_add", FUNCTION(date_time_saturating_add), METH_FASTCALL, \

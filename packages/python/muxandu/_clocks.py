@@ -3,11 +3,11 @@
 from __future__ import annotations
 
 import datetime
-from typing import ClassVar, TypeVar, Union
+from typing import Any, Callable, ClassVar, TypeVar, Union
 
 from . import _extension as engine
 from . import _formats, _own_texts
-from ._values import _PARTS, Date, Time, Timestamp, _complete, _datetime, _format, _Formatted, _parts
+from ._values import _PARTS, Date, Time, Timestamp, _complete, _datetime, _Formatted, _parts
 
 _Plain = TypeVar("_Plain", bound="PlainDateTime")
 _Utc = TypeVar("_Utc", bound="UtcDateTime")
@@ -40,23 +40,6 @@ class PlainDateTime(_Formatted, engine.PlainDateTime):
         """The datetime.datetime with no offset that shows the same, to the microsecond, which is
         rounded down."""
         return _datetime(self, None)
-
-    def format(self, pattern: str) -> str:
-        """The text by a format description, such as [year]-[month]-[day] [hour]:[minute].
-        RefusedSyntax if it is none. RefusedNoText if the value lacks a component, or if the text
-        has more than 64 bytes or one that is not ASCII."""
-        return _formats.format_value(_formats.PLAIN_DATE_TIME, self, pattern)
-
-    @classmethod
-    def parse(cls: type[_Plain], text: Union[str, bytes], pattern: str) -> _Plain:
-        """The value of a text by a format description, such as [year]-[month]-[day]
-        [hour]:[minute]. RefusedSyntax, with the byte and the item, if the text has another form or
-        lacks a part. RefusedResult, with the part, if a part is out of range or contradicts
-        another."""
-        return cls(*_parts(_formats.parse_value(_formats.PLAIN_DATE_TIME, text, pattern), *_PARTS))
-
-    def __format__(self, form: str) -> str:
-        return _format(self, form)
 
 
 @_complete
@@ -93,28 +76,9 @@ class UtcDateTime(_Formatted, engine.UtcDateTime):
         down."""
         return _datetime(self, datetime.timezone.utc)
 
-    def format(self, pattern: str) -> str:
-        """The text by a format description, such as [year]-[month]-[day] [hour]:[minute].
-        RefusedSyntax if it is none. RefusedNoText if the value lacks a component, or if the text
-        has more than 64 bytes or one that is not ASCII."""
-        return _formats.format_value(_formats.OFFSET_DATE_TIME, self, pattern)
-
     @classmethod
-    def parse(cls: type[_Utc], text: Union[str, bytes], pattern: str) -> _Utc:
-        """The value of a text by a format description, such as [year]-[month]-[day]
-        [hour]:[minute], in UTC: a text without an offset has the offset 0. RefusedSyntax, with the
-        byte and the item, if the text has another form or lacks a part. RefusedResult, with the
-        part, if a part is out of range or contradicts another."""
-        return cls(*_parts(_formats.in_utc(_formats.parse_value, text, pattern), *_PARTS))
-
-    @classmethod
-    def strptime(cls: type[_Utc], text: Union[str, bytes], pattern: str) -> _Utc:
-        """The value of a text that strftime writes by the same pattern. Errors are those of parse
-        and of strftime."""
-        return cls(*_parts(_formats.in_utc(_formats.strptime_value, text, pattern), *_PARTS))
-
-    def __format__(self, form: str) -> str:
-        return _format(self, form)
+    def _read(cls: type[_Utc], read: Callable[..., Any], text: Union[str, bytes], pattern: str) -> _Utc:
+        return cls(*_parts(_formats.in_utc(read, text, pattern), *_PARTS))
 
 
 UtcDateTime.MIN, UtcDateTime.MAX, UtcDateTime.UNIX_EPOCH = Timestamp.MIN.to_utc(), Timestamp.MAX.to_utc(), UtcDateTime(1970, 1, 1)

@@ -23,7 +23,7 @@ _Date = TypeVar("_Date", bound="Date")
 _Time = TypeVar("_Time", bound="Time")
 _Offset = TypeVar("_Offset", bound="UtcOffset")
 _Length = TypeVar("_Length", bound="Duration")
-_Any = TypeVar("_Any", bound="_Formatted")
+_Any = TypeVar("_Any", bound="_Described")
 
 
 _Kind = TypeVar("_Kind")
@@ -59,29 +59,62 @@ class _Value:
     def __repr__(self) -> str:
         return f"{type(self).__name__}{self.__reduce__()[1]}"
 
+    def __format__(self, form: str) -> str:
+        return format(str(self), form)
 
-class _Formatted(_Value):
-    """A value that patterns of strftime write and read, by the number of its kind."""
+
+class _Described(_Value):
+    """A value that format descriptions write and read, by the number of its kind."""
 
     __slots__ = ()
 
     _kind: ClassVar[int]
 
+    def _as_shown(self) -> Any:
+        """The value as it is written."""
+        return self
+
+    @classmethod
+    def _read(cls: type[_Any], read: Callable[..., Any], text: Union[str, bytes], pattern: str) -> _Any:
+        return cls(*_parts(read(cls._kind, text, pattern), *cls._names))
+
+    def format(self, pattern: str) -> str:
+        """The text by a format description, such as [day]/[month]/[year], [hour]:[minute] or
+        [offset_hour]. A Timestamp is written in UTC. RefusedSyntax if it is none. RefusedNoText if
+        the value lacks a component, or if the text has more than 64 bytes or one that is not
+        ASCII."""
+        return _formats.format_value(self._kind, self._as_shown(), pattern)
+
+    @classmethod
+    def parse(cls: type[_Any], text: Union[str, bytes], pattern: str) -> _Any:
+        """The value of a text by a format description, as `format` takes it. For UtcDateTime and
+        Timestamp a text without an offset has the offset 0. RefusedSyntax, with the byte and the
+        item, if the text has another form or lacks a part. RefusedResult, with the part, if a part
+        is out of range or contradicts another."""
+        return cls._read(_formats.parse_value, text, pattern)
+
+
+class _Formatted(_Described):
+    """A value that patterns of strftime write and read too."""
+
+    __slots__ = ()
+
+    # The method that gives the value of Python's datetime, whose strftime writes it in an f-string.
+    _of_python: ClassVar[str] = "to_datetime"
+
     def strftime(self, pattern: str) -> str:
-        """The text by a pattern of strftime, as datetime writes it in the C locale. ValueError
-        names a directive that no format description says."""
-        return _formats.strftime_value(self._kind, self, pattern)
+        """The text by a pattern of strftime, as datetime writes it in the C locale. A Timestamp is
+        written in UTC. ValueError names a directive that no format description says."""
+        return _formats.strftime_value(self._kind, self._as_shown(), pattern)
 
     @classmethod
     def strptime(cls: type[_Any], text: Union[str, bytes], pattern: str) -> _Any:
         """The value of a text that strftime writes by the same pattern. Errors are those of parse
         and of strftime."""
-        return cls(*_parts(_formats.strptime_value(cls._kind, text, pattern), *cls._names))
+        return cls._read(_formats.strptime_value, text, pattern)
 
-
-def _format(value: Any, form: str) -> str:
-    """A value in a format: by `strftime` if the format has a %, else its text, padded."""
-    return str(value.to_datetime().strftime(form)) if "%" in form else format(str(value), form)
+    def __format__(self, form: str) -> str:
+        return str(getattr(self, self._of_python)().strftime(form)) if "%" in form else format(str(self), form)
 
 
 @_complete
@@ -180,20 +213,20 @@ class Duration(_Value, engine.Duration):
         fraction = f".{count % _SECOND:09}".rstrip("0") if count % _SECOND else ""
         return f"{'-' if self < Duration.ZERO else ''}{count // _SECOND}{fraction}s"
 
-    def __format__(self, form: str) -> str:
-        return format(str(self), form)
-
 
 def _is_length(value: object) -> bool:
     return isinstance(value, (Duration, datetime.timedelta))
 
 
 @_complete
-class UtcOffset(engine.UtcOffset):
+class UtcOffset(_Described, engine.UtcOffset):
     """An offset from UTC, -25:59:59 to 25:59:59. Calls take it in place of the seconds of an
     offset."""
 
     __slots__ = ()
+
+    _kind: ClassVar[int] = _formats.UTC_OFFSET
+    _names = ("offset_seconds",)
 
     UTC: ClassVar[UtcOffset]
 
@@ -222,39 +255,27 @@ class UtcOffset(engine.UtcOffset):
         """The datetime.timezone of the offset, of less than a day."""
         return datetime.timezone(datetime.timedelta(seconds=self.whole_seconds()))
 
-    def format(self, pattern: str) -> str:
-        """The text by a format description, such as [offset_hour]:[offset_minute]. RefusedSyntax if
-        it is none. RefusedNoText if the value lacks a component, or if the text has more than 64
-        bytes or one that is not ASCII."""
-        return _formats.format_value(_formats.UTC_OFFSET, OffsetDateTime(1970, 1, 1, offset_seconds=self), pattern)
-
-    @classmethod
-    def parse(cls: type[_Offset], text: Union[str, bytes], pattern: str) -> _Offset:
-        """The value of a text by a format description, such as [offset_hour]:[offset_minute].
-        RefusedSyntax, with the byte and the item, if the text has another form or lacks a part.
-        RefusedResult, with the part, if a part is out of range or contradicts another."""
-        return cls(*_parts(_formats.parse_value(_formats.UTC_OFFSET, text, pattern), "offset_seconds"))
+    def _as_shown(self) -> OffsetDateTime:
+        return OffsetDateTime(1970, 1, 1, offset_seconds=self)
 
     def __reduce__(self) -> tuple[Any, ...]:
         return type(self), (self.whole_seconds(),)
 
     def __str__(self) -> str:
-        return str(OffsetDateTime(1970, 1, 1, offset_seconds=self)).rpartition(" ")[2]
-
-    def __format__(self, form: str) -> str:
-        return format(str(self), form)
+        return str(self._as_shown()).rpartition(" ")[2]
 
     def __repr__(self) -> str:
         return f"{type(self).__name__}({self.whole_seconds()})"
 
 
 @_complete
-class Timestamp(_Value, engine.Timestamp):
+class Timestamp(_Formatted, engine.Timestamp):
     """An instant: a Unix second and a nanosecond of that second, before 1970 too. Its text is its
     signed decimal."""
 
     __slots__ = ()
 
+    _kind: ClassVar[int] = _formats.OFFSET_DATE_TIME
     _names = ("seconds", "nanoseconds")
 
     MIN: ClassVar[Timestamp]
@@ -306,32 +327,12 @@ class Timestamp(_Value, engine.Timestamp):
         down."""
         return self.to_offset(0).to_datetime().astimezone(zone)
 
-    def format(self, pattern: str) -> str:
-        """The text in UTC by a format description, such as [unix_timestamp]. RefusedSyntax if it is
-        none. RefusedNoText if the value lacks a component, or if the text has more than 64 bytes or
-        one that is not ASCII."""
-        return _formats.format_value(_formats.OFFSET_DATE_TIME, self.to_offset(0), pattern)
+    def _as_shown(self) -> OffsetDateTime:
+        return self.to_offset(0)
 
     @classmethod
-    def parse(cls: type[_Stamp], text: Union[str, bytes], pattern: str) -> _Stamp:
-        """The value of a text by a format description, such as [unix_timestamp]. RefusedSyntax,
-        with the byte and the item, if the text has another form or lacks a part. RefusedResult,
-        with the part, if a part is out of range or contradicts another."""
-        return cls(*_instant(_formats.in_utc(_formats.parse_value, text, pattern)))
-
-    def strftime(self, pattern: str) -> str:
-        """The text in UTC by a pattern of strftime, as datetime writes it in the C locale.
-        ValueError names a directive that no format description says."""
-        return _formats.strftime_value(_formats.OFFSET_DATE_TIME, self.to_offset(0), pattern)
-
-    @classmethod
-    def strptime(cls: type[_Stamp], text: Union[str, bytes], pattern: str) -> _Stamp:
-        """The value of a text that strftime writes by the same pattern. Errors are those of parse
-        and of strftime."""
-        return cls(*_instant(_formats.in_utc(_formats.strptime_value, text, pattern)))
-
-    def __format__(self, form: str) -> str:
-        return _format(self, form)
+    def _read(cls: type[_Stamp], read: Callable[..., Any], text: Union[str, bytes], pattern: str) -> _Stamp:
+        return cls(*_instant(_formats.in_utc(read, text, pattern)))
 
 
 def _instant(shown: Any) -> tuple[int, int]:
@@ -387,22 +388,6 @@ class OffsetDateTime(_Formatted, engine.OffsetDateTime):
             raise TypeError(f"the other value must be an OffsetDateTime, not {type(other).__name__}")
         return bool(self.__reduce__()[1] == other.__reduce__()[1])
 
-    def format(self, pattern: str) -> str:
-        """The text by a format description, such as [year]-[month]-[day] [offset_hour].
-        RefusedSyntax if it is none. RefusedNoText if the value lacks a component, or if the text
-        has more than 64 bytes or one that is not ASCII."""
-        return _formats.format_value(_formats.OFFSET_DATE_TIME, self, pattern)
-
-    @classmethod
-    def parse(cls: type[_Shown], text: Union[str, bytes], pattern: str) -> _Shown:
-        """The value of a text by a format description, such as [year]-[month]-[day] [offset_hour].
-        RefusedSyntax, with the byte and the item, if the text has another form or lacks a part.
-        RefusedResult, with the part, if a part is out of range or contradicts another."""
-        return cls(*_parts(_formats.parse_value(cls._kind, text, pattern), *cls._names))
-
-    def __format__(self, form: str) -> str:
-        return _format(self, form)
-
 
 def _datetime(shown: Any, zone: Union[datetime.tzinfo, None]) -> datetime.datetime:
     clock = (shown.hour, shown.minute, shown.second, shown.nanosecond // 1_000)
@@ -431,6 +416,7 @@ class Date(_Formatted, engine.Date):
     __slots__ = ()
 
     _kind: ClassVar[int] = _formats.DATE
+    _of_python: ClassVar[str] = "to_date"
     _names = ("year", "month", "day")
 
     MIN: ClassVar[Date]
@@ -508,24 +494,8 @@ class Date(_Formatted, engine.Date):
         """The ISO year, the ISO week and the day of the week, 0 for Monday."""
         return IsoWeekDate(*engine.week_date_from_day(self.day_number()))
 
-    def format(self, pattern: str) -> str:
-        """The text by a format description, such as [day]/[month]/[year]. RefusedSyntax if it is
-        none. RefusedNoText if the value lacks a component, or if the text has more than 64 bytes or
-        one that is not ASCII."""
-        return _formats.format_value(_formats.DATE, self, pattern)
-
-    @classmethod
-    def parse(cls: type[_Date], text: Union[str, bytes], pattern: str) -> _Date:
-        """The value of a text by a format description, such as [day]/[month]/[year]. RefusedSyntax,
-        with the byte and the item, if the text has another form or lacks a part. RefusedResult,
-        with the part, if a part is out of range or contradicts another."""
-        return cls(*_parts(_formats.parse_value(cls._kind, text, pattern), *cls._names))
-
     def __str__(self) -> str:
         return str(OffsetDateTime(self.year, self.month, self.day)).partition(" ")[0]
-
-    def __format__(self, form: str) -> str:
-        return self.to_date().strftime(form) if "%" in form else format(str(self), form)
 
 
 @_complete
@@ -535,6 +505,7 @@ class Time(_Formatted, engine.Time):
     __slots__ = ()
 
     _kind: ClassVar[int] = _formats.TIME
+    _of_python: ClassVar[str] = "to_time"
     _names = ("hour", "minute", "second", "nanosecond")
 
     MIDNIGHT: ClassVar[Time]
@@ -562,22 +533,6 @@ class Time(_Formatted, engine.Time):
     def to_time(self) -> datetime.time:
         """The datetime.time, to the microsecond, which is rounded down."""
         return datetime.time(self.hour, self.minute, self.second, self.nanosecond // 1_000)
-
-    def format(self, pattern: str) -> str:
-        """The text by a format description, such as [hour]:[minute]. RefusedSyntax if it is none.
-        RefusedNoText if the value lacks a component, or if the text has more than 64 bytes or one
-        that is not ASCII."""
-        return _formats.format_value(_formats.TIME, self, pattern)
-
-    @classmethod
-    def parse(cls: type[_Time], text: Union[str, bytes], pattern: str) -> _Time:
-        """The value of a text by a format description, such as [hour]:[minute]. RefusedSyntax, with
-        the byte and the item, if the text has another form or lacks a part. RefusedResult, with the
-        part, if a part is out of range or contradicts another."""
-        return cls(*_parts(_formats.parse_value(cls._kind, text, pattern), *cls._names))
-
-    def __format__(self, form: str) -> str:
-        return self.to_time().strftime(form) if "%" in form else format(str(self), form)
 
 
 def _minimum_and_maximum() -> None:

@@ -74,6 +74,7 @@ class Cases(unittest.TestCase):
         found = importlib.util.spec_from_file_location("python_methods", METHODS)
         cls.tables = importlib.util.module_from_spec(found)
         found.loader.exec_module(cls.tables)
+        cls.tables.complete({name.removeprefix("muxandu_"): call for name, call in cls.calls.items()})
         cls.methods = {
             call: getattr(CLASSES["Muxandu" + kind.removeprefix("Offset")], method)
             for kind in ("Timestamp", "OffsetDateTime")

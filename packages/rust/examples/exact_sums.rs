@@ -29,65 +29,41 @@ trait Exact: Copy + Debug {
     fn number(self) -> i128;
 }
 
-impl Exact for Date {
-    /// Days since 1970-01-01.
-    fn number(self) -> i128 {
-        let before = i64::from(self.year()) - 1;
-        let leap_years = before.div_euclid(4) - before.div_euclid(100) + before.div_euclid(400);
-        (before * 365 + leap_years + i64::from(self.ordinal()) - EPOCH).into()
-    }
+macro_rules! exact {
+    ($($Type:ident: $value:ident => $number:expr;)+) => {
+        $(
+            impl Exact for $Type {
+                fn number(self) -> i128 {
+                    let $value = self;
+                    i128::from($number)
+                }
+            }
+        )+
+    };
 }
 
-impl Exact for Time {
-    fn number(self) -> i128 {
-        let (hour, minute, second, nanosecond) = self.as_hms_nano();
+exact! {
+    // Days since 1970-01-01.
+    Date: date => {
+        let before = i64::from(date.year()) - 1;
+        let leap_years = before.div_euclid(4) - before.div_euclid(100) + before.div_euclid(400);
+        before * 365 + leap_years + i64::from(date.ordinal()) - EPOCH
+    };
+    Time: time => {
+        let (hour, minute, second, nanosecond) = time.as_hms_nano();
         let second = (i128::from(hour) * 60 + i128::from(minute)) * 60 + i128::from(second);
         second * SECOND + i128::from(nanosecond)
-    }
-}
-
-impl Exact for UtcOffset {
-    fn number(self) -> i128 {
-        let (hours, minutes, seconds) = self.as_hms();
-        (i128::from(hours) * 60 + i128::from(minutes)) * 60 + i128::from(seconds)
-    }
-}
-
-impl Exact for PlainDateTime {
-    fn number(self) -> i128 {
-        self.date().number() * DAY + self.time().number()
-    }
-}
-
-impl Exact for UtcDateTime {
-    fn number(self) -> i128 {
-        self.date().number() * DAY + self.time().number()
-    }
-}
-
-impl Exact for OffsetDateTime {
-    fn number(self) -> i128 {
-        let shown = self.date().number() * DAY + self.time().number();
-        shown - self.offset().number() * SECOND
-    }
-}
-
-impl Exact for Timestamp {
-    fn number(self) -> i128 {
-        i128::from(self.as_seconds()) * SECOND + i128::from(self.nanosecond())
-    }
-}
-
-impl Exact for SignedDuration {
-    fn number(self) -> i128 {
-        i128::from(self.whole_seconds()) * SECOND + i128::from(self.subsec_nanoseconds())
-    }
-}
-
-impl Exact for StdDuration {
-    fn number(self) -> i128 {
-        i128::from(self.as_secs()) * SECOND + i128::from(self.subsec_nanos())
-    }
+    };
+    UtcOffset: offset => {
+        let (hours, minutes, seconds) = offset.as_hms();
+        (i32::from(hours) * 60 + i32::from(minutes)) * 60 + i32::from(seconds)
+    };
+    PlainDateTime: at => at.date().number() * DAY + at.time().number();
+    UtcDateTime: at => at.date().number() * DAY + at.time().number();
+    OffsetDateTime: at => at.date().number() * DAY + at.time().number() - at.offset().number() * SECOND;
+    Timestamp: at => i128::from(at.as_seconds()) * SECOND + i128::from(at.nanosecond());
+    SignedDuration: length => i128::from(length.whole_seconds()) * SECOND + i128::from(length.subsec_nanoseconds());
+    StdDuration: length => i128::from(length.as_secs()) * SECOND + i128::from(length.subsec_nanos());
 }
 
 struct Random(u64);

@@ -1,8 +1,7 @@
 //! The clock of the machine, and conversions with std's `SystemTime`.
 #![cfg(feature = "std")]
 
-use core::cmp::Ordering;
-use core::ops::{Add, AddAssign, Sub, SubAssign};
+use core::ops::Sub;
 use std::time::{Instant, SystemTime};
 
 use crate::{OffsetDateTime, SignedDuration, Timestamp, UtcDateTime};
@@ -55,12 +54,7 @@ impl From<Timestamp> for SystemTime {
     #[track_caller]
     #[inline]
     fn from(at: Timestamp) -> SystemTime {
-        let duration = at - Timestamp::UNIX_EPOCH;
-        if duration.is_negative() {
-            SystemTime::UNIX_EPOCH - duration.unsigned_abs()
-        } else {
-            SystemTime::UNIX_EPOCH + duration.unsigned_abs()
-        }
+        SystemTime::UNIX_EPOCH + (at - Timestamp::UNIX_EPOCH)
     }
 }
 
@@ -94,37 +88,15 @@ macro_rules! of_system {
 
 of_system! { UtcDateTime OffsetDateTime }
 
-macro_rules! compared_with_system {
+compared! {
+    Timestamp, SystemTime: at, time => at == Timestamp::from(time), at.cmp(&Timestamp::from(time));
+    UtcDateTime, SystemTime: at, time => at == UtcDateTime::from(time), at.cmp(&UtcDateTime::from(time));
+    OffsetDateTime, SystemTime: at, time => at == OffsetDateTime::from(time), at.cmp(&OffsetDateTime::from(time));
+}
+
+macro_rules! differences {
     ($($Type:ident)+) => {
         $(
-            impl PartialEq<SystemTime> for $Type {
-                #[inline]
-                fn eq(&self, other: &SystemTime) -> bool {
-                    *self == $Type::from(*other)
-                }
-            }
-
-            impl PartialEq<$Type> for SystemTime {
-                #[inline]
-                fn eq(&self, other: &$Type) -> bool {
-                    $Type::from(*self) == *other
-                }
-            }
-
-            impl PartialOrd<SystemTime> for $Type {
-                #[inline]
-                fn partial_cmp(&self, other: &SystemTime) -> Option<Ordering> {
-                    self.partial_cmp(&$Type::from(*other))
-                }
-            }
-
-            impl PartialOrd<$Type> for SystemTime {
-                #[inline]
-                fn partial_cmp(&self, other: &$Type) -> Option<Ordering> {
-                    $Type::from(*self).partial_cmp(other)
-                }
-            }
-
             impl Sub<SystemTime> for $Type {
                 type Output = SignedDuration;
 
@@ -146,59 +118,26 @@ macro_rules! compared_with_system {
     };
 }
 
-compared_with_system! { Timestamp UtcDateTime OffsetDateTime }
+differences! { Timestamp UtcDateTime OffsetDateTime }
 
-/// Times of the machine's clocks, later or earlier.
-macro_rules! moved {
-    ($($Clock:ident)+) => {
-        $(
-            /// # Panics
-            ///
-            /// The clock does not hold the time.
-            impl Add<SignedDuration> for $Clock {
-                type Output = $Clock;
-
-                #[track_caller]
-                fn add(self, duration: SignedDuration) -> $Clock {
-                    if duration.is_negative() {
-                        self - duration.unsigned_abs()
-                    } else {
-                        self + duration.unsigned_abs()
-                    }
-                }
-            }
-
-            /// # Panics
-            ///
-            /// The clock does not hold the time.
-            impl Sub<SignedDuration> for $Clock {
-                type Output = $Clock;
-
-                #[track_caller]
-                fn sub(self, duration: SignedDuration) -> $Clock {
-                    if duration.is_negative() {
-                        self + duration.unsigned_abs()
-                    } else {
-                        self - duration.unsigned_abs()
-                    }
-                }
-            }
-
-            impl AddAssign<SignedDuration> for $Clock {
-                #[track_caller]
-                fn add_assign(&mut self, duration: SignedDuration) {
-                    *self = *self + duration;
-                }
-            }
-
-            impl SubAssign<SignedDuration> for $Clock {
-                #[track_caller]
-                fn sub_assign(&mut self, duration: SignedDuration) {
-                    *self = *self - duration;
-                }
-            }
-        )+
+/// A time of a clock of the machine, later by a duration of either sign.
+macro_rules! later {
+    ($time:expr, $is_back:expr, $size:expr) => {
+        if $is_back { $time - $size } else { $time + $size }
     };
 }
 
-moved! { SystemTime Instant }
+sums! {
+    /// # Panics
+    ///
+    /// The clock does not hold the time.
+    SystemTime, SignedDuration: self, duration =>
+        later!(self, duration.is_negative(), duration.unsigned_abs()),
+        later!(self, !duration.is_negative(), duration.unsigned_abs());
+    /// # Panics
+    ///
+    /// The clock does not hold the time.
+    Instant, SignedDuration: self, duration =>
+        later!(self, duration.is_negative(), duration.unsigned_abs()),
+        later!(self, !duration.is_negative(), duration.unsigned_abs());
+}

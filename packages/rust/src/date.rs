@@ -1,7 +1,5 @@
 //! Days by more of `time`'s names.
 
-use core::ops::{Add, AddAssign, Sub, SubAssign};
-
 use crate::{Date, PlainDateTime, RangeResult, SignedDuration, Time, Weekday};
 
 impl Date {
@@ -54,118 +52,62 @@ impl Date {
     pub const fn with_time(self, time: Time) -> PlainDateTime {
         PlainDateTime::new(self, time)
     }
+}
 
+/// The day at the time of day that a call of `Time` makes.
+macro_rules! with_parts {
+    ($($(#[$doc:meta])* $name:ident: $make:ident($($part:ident: $Part:ty),+);)+) => {
+        impl Date {
+            $(
+                $(#[$doc])*
+                #[inline]
+                pub fn $name(self, $($part: $Part),+) -> RangeResult<PlainDateTime> {
+                    Ok(self.with_time(Time::$make($($part),+)?))
+                }
+            )+
+        }
+    };
+}
+
+with_parts! {
     /// The day at an hour, a minute and a second.
     ///
     /// # Errors
     ///
     /// `hour`, `minute` or `second`.
-    #[inline]
-    pub fn with_hms(self, hour: u8, minute: u8, second: u8) -> RangeResult<PlainDateTime> {
-        Ok(self.with_time(Time::from_hms(hour, minute, second)?))
-    }
-
+    with_hms: from_hms(hour: u8, minute: u8, second: u8);
     /// The day at an hour, a minute, a second and a millisecond of it.
     ///
     /// # Errors
     ///
     /// `hour`, `minute`, `second` or `millisecond`.
-    #[inline]
-    pub fn with_hms_milli(
-        self,
-        hour: u8,
-        minute: u8,
-        second: u8,
-        millisecond: u16,
-    ) -> RangeResult<PlainDateTime> {
-        Ok(self.with_time(Time::from_hms_milli(hour, minute, second, millisecond)?))
-    }
-
+    with_hms_milli: from_hms_milli(hour: u8, minute: u8, second: u8, millisecond: u16);
     /// The day at an hour, a minute, a second and a microsecond of it.
     ///
     /// # Errors
     ///
     /// `hour`, `minute`, `second` or `microsecond`.
-    #[inline]
-    pub fn with_hms_micro(
-        self,
-        hour: u8,
-        minute: u8,
-        second: u8,
-        microsecond: u32,
-    ) -> RangeResult<PlainDateTime> {
-        Ok(self.with_time(Time::from_hms_micro(hour, minute, second, microsecond)?))
-    }
-
+    with_hms_micro: from_hms_micro(hour: u8, minute: u8, second: u8, microsecond: u32);
     /// The day at an hour, a minute, a second and a nanosecond of it.
     ///
     /// # Errors
     ///
     /// `hour`, `minute`, `second` or `nanosecond`.
-    #[inline]
-    pub fn with_hms_nano(
-        self,
-        hour: u8,
-        minute: u8,
-        second: u8,
-        nanosecond: u32,
-    ) -> RangeResult<PlainDateTime> {
-        Ok(self.with_time(Time::from_hms_nano(hour, minute, second, nanosecond)?))
-    }
+    with_hms_nano: from_hms_nano(hour: u8, minute: u8, second: u8, nanosecond: u32);
 }
 
-/// Sums with a type of durations, by the checked ones of that type.
-macro_rules! operators {
-    ($($Duration:ty: $checked_add:ident, $checked_sub:ident;)+) => {
-        $(
-            /// # Panics
-            ///
-            /// The range does not have the sum.
-            impl Add<$Duration> for Date {
-                type Output = Date;
+const NO_SUM: &str = "the sum is out of range: use `checked_add`";
+const NO_DIFFERENCE: &str = "the difference is out of range: use `checked_sub`";
 
-                #[track_caller]
-                #[inline]
-                fn add(self, duration: $Duration) -> Date {
-                    self.$checked_add(duration)
-                        .expect("the sum is out of range: use `checked_add`")
-                }
-            }
-
-            /// # Panics
-            ///
-            /// The range does not have the difference.
-            impl Sub<$Duration> for Date {
-                type Output = Date;
-
-                #[track_caller]
-                #[inline]
-                fn sub(self, duration: $Duration) -> Date {
-                    self.$checked_sub(duration)
-                        .expect("the difference is out of range: use `checked_sub`")
-                }
-            }
-
-            impl AddAssign<$Duration> for Date {
-                #[track_caller]
-                #[inline]
-                fn add_assign(&mut self, duration: $Duration) {
-                    *self = *self + duration;
-                }
-            }
-
-            impl SubAssign<$Duration> for Date {
-                #[track_caller]
-                #[inline]
-                fn sub_assign(&mut self, duration: $Duration) {
-                    *self = *self - duration;
-                }
-            }
-        )+
-    };
-}
-
-operators! {
-    SignedDuration: checked_add, checked_sub;
-    core::time::Duration: checked_add_std, checked_sub_std;
+sums! {
+    /// # Panics
+    ///
+    /// The range does not have the result.
+    Date, SignedDuration: self, duration =>
+        self.checked_add(duration).expect(NO_SUM), self.checked_sub(duration).expect(NO_DIFFERENCE);
+    /// # Panics
+    ///
+    /// The range does not have the result.
+    Date, core::time::Duration: self, duration =>
+        self.checked_add_std(duration).expect(NO_SUM), self.checked_sub_std(duration).expect(NO_DIFFERENCE);
 }

@@ -10,6 +10,32 @@ use crate::proved::{Component, Part, TextRefusal};
 
 pub use crate::proved::ComponentRange;
 
+/// The errors that another error has in its variants: that error of each, and each of it.
+macro_rules! kinds {
+    ($Whole:ident: $($(#[$on:meta])? $Kind:ident($Error:ty))+) => {
+        $(
+            $(#[$on])?
+            impl From<$Error> for $Whole {
+                fn from(refused: $Error) -> $Whole {
+                    $Whole::$Kind(refused)
+                }
+            }
+
+            $(#[$on])?
+            impl TryFrom<$Whole> for $Error {
+                type Error = DifferentVariant;
+
+                fn try_from(error: $Whole) -> Result<$Error, DifferentVariant> {
+                    match error {
+                        $Whole::$Kind(refused) => Ok(refused),
+                        _ => Err(DifferentVariant),
+                    }
+                }
+            }
+        )+
+    };
+}
+
 impl Hash for ComponentRange {
     fn hash<H: Hasher>(&self, state: &mut H) {
         (self.name(), self.is_conditional()).hash(state);
@@ -31,14 +57,6 @@ impl Hash for ConversionRange {
     fn hash<H: Hasher>(&self, _: &mut H) {}
 }
 
-impl fmt::Display for ConversionRange {
-    fn fmt(&self, f: &mut fmt::Formatter<'_>) -> fmt::Result {
-        f.write_str("the duration is out of the range of the other type")
-    }
-}
-
-impl core::error::Error for ConversionRange {}
-
 /// A text that names no month or no day of the week.
 ///
 /// ```
@@ -47,14 +65,6 @@ impl core::error::Error for ConversionRange {}
 /// ```
 #[derive(Clone, Copy, Debug, PartialEq, Eq, Hash)]
 pub struct InvalidVariant;
-
-impl fmt::Display for InvalidVariant {
-    fn fmt(&self, f: &mut fmt::Formatter<'_>) -> fmt::Result {
-        f.write_str("the text is not the English name of a month or of a day of the week")
-    }
-}
-
-impl core::error::Error for InvalidVariant {}
 
 /// Why a value is not written by a format.
 ///
@@ -118,23 +128,7 @@ impl core::error::Error for Format {
 }
 
 #[cfg(feature = "std")]
-impl From<std::io::Error> for Format {
-    fn from(error: std::io::Error) -> Format {
-        Format::StdIo(error)
-    }
-}
-
-#[cfg(feature = "std")]
-impl TryFrom<Format> for std::io::Error {
-    type Error = DifferentVariant;
-
-    fn try_from(error: Format) -> Result<std::io::Error, DifferentVariant> {
-        match error {
-            Format::StdIo(error) => Ok(error),
-            _ => Err(DifferentVariant),
-        }
-    }
-}
+kinds! { Format: StdIo(std::io::Error) }
 
 /// Why a text is not written as a description says.
 #[non_exhaustive]
@@ -191,22 +185,7 @@ impl core::error::Error for TryFromParsed {
     }
 }
 
-impl From<ComponentRange> for TryFromParsed {
-    fn from(refused: ComponentRange) -> TryFromParsed {
-        TryFromParsed::ComponentRange(refused)
-    }
-}
-
-impl TryFrom<TryFromParsed> for ComponentRange {
-    type Error = DifferentVariant;
-
-    fn try_from(refused: TryFromParsed) -> Result<ComponentRange, DifferentVariant> {
-        match refused {
-            TryFromParsed::ComponentRange(refused) => Ok(refused),
-            TryFromParsed::InsufficientInformation => Err(DifferentVariant),
-        }
-    }
-}
+kinds! { TryFromParsed: ComponentRange(ComponentRange) }
 
 /// Why a text is not read by a format.
 #[non_exhaustive]
@@ -242,30 +221,7 @@ impl core::error::Error for Parse {
     }
 }
 
-macro_rules! parse_kinds {
-    ($($Kind:ident)+) => {
-        $(
-            impl From<$Kind> for Parse {
-                fn from(refused: $Kind) -> Parse {
-                    Parse::$Kind(refused)
-                }
-            }
-
-            impl TryFrom<Parse> for $Kind {
-                type Error = DifferentVariant;
-
-                fn try_from(refused: Parse) -> Result<$Kind, DifferentVariant> {
-                    match refused {
-                        Parse::$Kind(refused) => Ok(refused),
-                        _ => Err(DifferentVariant),
-                    }
-                }
-            }
-        )+
-    };
-}
-
-parse_kinds! { TryFromParsed ParseFromDescription }
+kinds! { Parse: TryFromParsed(TryFromParsed) ParseFromDescription(ParseFromDescription) }
 
 /// The errors of texts of RFC 3339.
 impl From<TextRefusal> for Parse {
@@ -376,16 +332,6 @@ impl core::error::Error for InvalidFormatDescription {}
 #[derive(Clone, Copy, Debug, PartialEq, Eq, Hash)]
 pub struct IndeterminateOffset;
 
-#[cfg(feature = "local-offset")]
-impl fmt::Display for IndeterminateOffset {
-    fn fmt(&self, f: &mut fmt::Formatter<'_>) -> fmt::Result {
-        f.write_str("the offset of the machine's clock is not known: use an offset of your own")
-    }
-}
-
-#[cfg(feature = "local-offset")]
-impl core::error::Error for IndeterminateOffset {}
-
 /// The error of a conversion from an [`Error`] of another kind.
 ///
 /// ```
@@ -399,13 +345,30 @@ impl core::error::Error for IndeterminateOffset {}
 #[derive(Clone, Copy, Debug, PartialEq, Eq, Hash)]
 pub struct DifferentVariant;
 
-impl fmt::Display for DifferentVariant {
-    fn fmt(&self, f: &mut fmt::Formatter<'_>) -> fmt::Result {
-        f.write_str("the error is of another kind")
-    }
+/// Errors of one value, by their sentences.
+macro_rules! sentences {
+    ($($(#[$on:meta])? $Error:ident: $sentence:literal;)+) => {
+        $(
+            $(#[$on])?
+            impl fmt::Display for $Error {
+                fn fmt(&self, f: &mut fmt::Formatter<'_>) -> fmt::Result {
+                    f.write_str($sentence)
+                }
+            }
+
+            $(#[$on])?
+            impl core::error::Error for $Error {}
+        )+
+    };
 }
 
-impl core::error::Error for DifferentVariant {}
+sentences! {
+    ConversionRange: "the duration is out of the range of the other type";
+    DifferentVariant: "the error is of another kind";
+    #[cfg(feature = "local-offset")]
+    IndeterminateOffset: "the offset of the machine's clock is not known: use an offset of your own";
+    InvalidVariant: "the text is not the English name of a month or of a day of the week";
+}
 
 /// Any error of the crate.
 ///
@@ -460,28 +423,9 @@ impl TryFrom<Error> for Parse {
     }
 }
 
-macro_rules! kinds {
+macro_rules! all_kinds {
     ($($(#[$on:meta])? $Kind:ident)+) => {
-        $(
-            $(#[$on])?
-            impl From<$Kind> for Error {
-                fn from(refused: $Kind) -> Error {
-                    Error::$Kind(refused)
-                }
-            }
-
-            $(#[$on])?
-            impl TryFrom<Error> for $Kind {
-                type Error = DifferentVariant;
-
-                fn try_from(error: Error) -> Result<$Kind, DifferentVariant> {
-                    match error {
-                        Error::$Kind(refused) => Ok(refused),
-                        _ => Err(DifferentVariant),
-                    }
-                }
-            }
-        )+
+        kinds! { Error: $($(#[$on])? $Kind($Kind))+ }
 
         impl fmt::Display for Error {
             fn fmt(&self, f: &mut fmt::Formatter<'_>) -> fmt::Result {
@@ -503,7 +447,7 @@ macro_rules! kinds {
     };
 }
 
-kinds! {
+all_kinds! {
     ComponentRange ConversionRange DifferentVariant Format
     #[cfg(feature = "local-offset")]
     IndeterminateOffset

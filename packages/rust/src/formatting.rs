@@ -78,45 +78,31 @@ mod sealed {
         fn put_value(&self, value: Value, put: &mut Put<'_>) -> Result<usize, Format>;
     }
 
-    impl Sealed for BorrowedFormatItem<'_> {
-        fn put_value(&self, value: Value, put: &mut Put<'_>) -> Result<usize, Format> {
-            match self {
-                Self::Literal(literal) => put_all(put, literal),
-                Self::Component(component) => put_all(put, value.component(*component)?.as_bytes()),
-                Self::Compound(items) => items.put_value(value, put),
-                Self::Optional(item) => item.put_value(value, put),
-                Self::First(items) => {
-                    items.first().map_or(Ok(0), |item| item.put_value(value, put))
+    macro_rules! of_items {
+        ($($Item:ty)+) => {
+            $(
+                impl Sealed for $Item {
+                    fn put_value(&self, value: Value, put: &mut Put<'_>) -> Result<usize, Format> {
+                        match self {
+                            Self::Literal(literal) => put_all(put, literal),
+                            Self::Component(component) => put_all(put, value.component(*component)?.as_bytes()),
+                            Self::Compound(items) => items.put_value(value, put),
+                            Self::Optional(item) => item.put_value(value, put),
+                            Self::First(items) => items.first().map_or(Ok(0), |item| item.put_value(value, put)),
+                        }
+                    }
                 }
-            }
-        }
-    }
 
-    impl Sealed for OwnedFormatItem {
-        fn put_value(&self, value: Value, put: &mut Put<'_>) -> Result<usize, Format> {
-            match self {
-                Self::Literal(literal) => put_all(put, literal),
-                Self::Component(component) => put_all(put, value.component(*component)?.as_bytes()),
-                Self::Compound(items) => items.put_value(value, put),
-                Self::Optional(item) => item.put_value(value, put),
-                Self::First(items) => {
-                    items.first().map_or(Ok(0), |item| item.put_value(value, put))
+                impl Sealed for [$Item] {
+                    fn put_value(&self, value: Value, put: &mut Put<'_>) -> Result<usize, Format> {
+                        self.iter().try_fold(0, |count, item| Ok(count + item.put_value(value, put)?))
+                    }
                 }
-            }
-        }
+            )+
+        };
     }
 
-    impl Sealed for [BorrowedFormatItem<'_>] {
-        fn put_value(&self, value: Value, put: &mut Put<'_>) -> Result<usize, Format> {
-            self.iter().try_fold(0, |count, item| Ok(count + item.put_value(value, put)?))
-        }
-    }
-
-    impl Sealed for [OwnedFormatItem] {
-        fn put_value(&self, value: Value, put: &mut Put<'_>) -> Result<usize, Format> {
-            self.iter().try_fold(0, |count, item| Ok(count + item.put_value(value, put)?))
-        }
-    }
+    of_items! { BorrowedFormatItem<'_> OwnedFormatItem }
 
     impl<T: Deref<Target: Sealed>> Sealed for T {
         fn put_value(&self, value: Value, put: &mut Put<'_>) -> Result<usize, Format> {

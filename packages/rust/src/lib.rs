@@ -35,6 +35,9 @@ extern crate core as std;
 #[cfg(feature = "std")]
 extern crate std;
 
+#[macro_use]
+mod operators;
+
 mod clocks;
 mod date;
 mod defaults;

@@ -252,55 +252,34 @@ const fn only_value<T: Copy>(mut rest: Rest<'_>, value: T) -> Option<T> {
     if rest.is_at_end() { Some(value) } else { None }
 }
 
-#[must_use]
-pub const fn date(text: &str) -> Option<DateLiteral> {
-    let mut rest = Rest::new(text);
-    let date = some!(rest.date());
-    only_value(rest, date)
+/// The literal that is a whole text, by the parts that come one after another.
+macro_rules! whole_texts {
+    ($($name:ident: $Literal:ty, $($part:ident: $read:ident),+ => $literal:expr;)+) => {
+        $(
+            #[must_use]
+            pub const fn $name(text: &str) -> Option<$Literal> {
+                let mut rest = Rest::new(text);
+                $(let $part = some!(rest.$read());)+
+                only_value(rest, $literal)
+            }
+        )+
+    };
 }
 
-#[must_use]
-pub const fn time(text: &str) -> Option<TimeLiteral> {
-    let mut rest = Rest::new(text);
-    let time = some!(rest.time());
-    only_value(rest, time)
-}
-
-#[must_use]
-pub const fn offset(text: &str) -> Option<OffsetLiteral> {
-    let mut rest = Rest::new(text);
-    let offset = some!(rest.offset());
-    only_value(rest, offset)
-}
-
-#[must_use]
-pub const fn plain_literal(text: &str) -> Option<PlainLiteral> {
-    let mut rest = Rest::new(text);
-    let date = some!(rest.date());
-    let time = some!(rest.time());
-    only_value(rest, PlainLiteral { date, time })
+whole_texts! {
+    date: DateLiteral, date: date => date;
+    time: TimeLiteral, time: time => time;
+    offset: OffsetLiteral, offset: offset => offset;
+    plain_literal: PlainLiteral, date: date, time: time => PlainLiteral { date, time };
+    date_time: DateTimeLiteral, date: date, time: time, offset: offset
+        => DateTimeLiteral { plain: PlainLiteral { date, time }, offset };
+    timestamp: TimestampLiteral, timestamp: timestamp => timestamp;
 }
 
 /// The parts of the text that `Display` writes of an instant, in which UTC is `+00`.
 #[must_use]
 pub(crate) fn utc(text: &str) -> Option<UtcLiteral> {
     plain_literal(text.strip_suffix(AT_UTC)?).map(UtcLiteral)
-}
-
-#[must_use]
-pub const fn date_time(text: &str) -> Option<DateTimeLiteral> {
-    let mut rest = Rest::new(text);
-    let date = some!(rest.date());
-    let time = some!(rest.time());
-    let offset = some!(rest.offset());
-    only_value(rest, DateTimeLiteral { plain: PlainLiteral { date, time }, offset })
-}
-
-#[must_use]
-pub const fn timestamp(text: &str) -> Option<TimestampLiteral> {
-    let mut rest = Rest::new(text);
-    let timestamp = some!(rest.timestamp());
-    only_value(rest, timestamp)
 }
 
 /// The literal. Another form ends the compilation with the message.

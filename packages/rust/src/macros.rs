@@ -23,69 +23,44 @@ pub use crate::{date, datetime, format_description, offset, time, timestamp, utc
 /// A [`Date`](crate::Date): `date!(2024-02-29)`, `date!(2024-060)` or `date!(2024-W09-4)`.
 #[macro_export]
 macro_rules! date {
-    ($($token:tt)+) => {{
-        const LITERAL: $crate::Date = $crate::literal::of_form(
-            $crate::literal::date(::core::stringify!($($token)+)),
-            ::core::concat!("no date: ", ::core::stringify!($($token)+)),
-        )
-        .value();
-        LITERAL
-    }};
+    ($($token:tt)+) => {
+        $crate::__literal!(Date, date, "no date: ", ::core::stringify!($($token)+))
+    };
 }
 
 /// A [`Time`](crate::Time): `time!(1:02)`, `time!(1:02:03)` or `time!(1:02:03.004)`.
 #[macro_export]
 macro_rules! time {
-    ($($token:tt)+) => {{
-        const LITERAL: $crate::Time = $crate::literal::of_form(
-            $crate::literal::time(::core::stringify!($($token)+)),
-            ::core::concat!("no time of day: ", ::core::stringify!($($token)+)),
-        )
-        .value();
-        LITERAL
-    }};
+    ($($token:tt)+) => {
+        $crate::__literal!(Time, time, "no time of day: ", ::core::stringify!($($token)+))
+    };
 }
 
 /// A [`UtcOffset`](crate::UtcOffset): `offset!(UTC)`, `offset!(+1)`, `offset!(-1:30)` or
 /// `offset!(+1:02:03)`.
 #[macro_export]
 macro_rules! offset {
-    ($($token:tt)+) => {{
-        const LITERAL: $crate::UtcOffset = $crate::literal::of_form(
-            $crate::literal::offset(::core::stringify!($($token)+)),
-            ::core::concat!("no offset: ", ::core::stringify!($($token)+)),
-        )
-        .value();
-        LITERAL
-    }};
+    ($($token:tt)+) => {
+        $crate::__literal!(UtcOffset, offset, "no offset: ", ::core::stringify!($($token)+))
+    };
 }
 
 /// A [`Timestamp`](crate::Timestamp), in seconds: `timestamp!(1_546_398_245)` or
 /// `timestamp!(-0.5)`.
 #[macro_export]
 macro_rules! timestamp {
-    ($($token:tt)+) => {{
-        const LITERAL: $crate::Timestamp = $crate::literal::of_form(
-            $crate::literal::timestamp(::core::stringify!($($token)+)),
-            ::core::concat!("no timestamp: ", ::core::stringify!($($token)+)),
-        )
-        .value();
-        LITERAL
-    }};
+    ($($token:tt)+) => {
+        $crate::__literal!(Timestamp, timestamp, "no timestamp: ", ::core::stringify!($($token)+))
+    };
 }
 
 /// A [`UtcDateTime`](crate::UtcDateTime): `utc_datetime!(2024-02-29 1:02:03)`.
 #[macro_export]
 macro_rules! utc_datetime {
-    ($($token:tt)+) => {{
-        const LITERAL: $crate::UtcDateTime = $crate::literal::of_form(
-            $crate::literal::plain_literal(::core::stringify!($($token)+)),
-            ::core::concat!("no date and time of day: ", ::core::stringify!($($token)+)),
-        )
-        .in_utc()
-        .value();
-        LITERAL
-    }};
+    ($($token:tt)+) => {
+        $crate::__literal!(PlainDateTime, plain_literal, "no date and time of day: ", ::core::stringify!($($token)+))
+            .as_utc()
+    };
 }
 
 /// A [`PlainDateTime`](crate::PlainDateTime), `datetime!(2024-02-29 1:02:03)`, or with an offset an
@@ -113,14 +88,9 @@ macro_rules! __datetime_before_time {
 #[doc(hidden)]
 #[macro_export]
 macro_rules! __datetime_after_date {
-    (($text:expr)) => {{
-        const LITERAL: $crate::PlainDateTime = $crate::literal::of_form(
-            $crate::literal::plain_literal($text),
-            ::core::concat!("no date and time of day: ", $text),
-        )
-        .value();
-        LITERAL
-    }};
+    (($text:expr)) => {
+        $crate::__literal!(PlainDateTime, plain_literal, "no date and time of day: ", $text)
+    };
     (($text:expr) + $($rest:tt)+) => { $crate::__datetime_at_offset!($text) };
     (($text:expr) - $($rest:tt)+) => { $crate::__datetime_at_offset!($text) };
     (($text:expr) UTC) => { $crate::__datetime_at_offset!($text) };
@@ -131,10 +101,19 @@ macro_rules! __datetime_after_date {
 #[doc(hidden)]
 #[macro_export]
 macro_rules! __datetime_at_offset {
-    ($text:expr) => {{
-        const LITERAL: $crate::OffsetDateTime = $crate::literal::of_form(
-            $crate::literal::date_time($text),
-            ::core::concat!("no date, time of day and offset: ", $text),
+    ($text:expr) => {
+        $crate::__literal!(OffsetDateTime, date_time, "no date, time of day and offset: ", $text)
+    };
+}
+
+/// The value of a literal, by the function that reads it and the message of another form.
+#[doc(hidden)]
+#[macro_export]
+macro_rules! __literal {
+    ($Type:ident, $read:ident, $message:literal, $text:expr) => {{
+        const LITERAL: $crate::$Type = $crate::literal::of_form(
+            $crate::literal::$read($text),
+            ::core::concat!($message, $text),
         )
         .value();
         LITERAL

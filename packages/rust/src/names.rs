@@ -48,34 +48,6 @@ impl Month {
         self as usize - 1
     }
 
-    /// The month before, December before January.
-    #[must_use]
-    #[inline]
-    pub const fn previous(self) -> Month {
-        self.nth_prev(1)
-    }
-
-    /// The month after, January after December.
-    #[must_use]
-    #[inline]
-    pub const fn next(self) -> Month {
-        self.nth_next(1)
-    }
-
-    /// The month a number of months later.
-    #[must_use]
-    #[inline]
-    pub const fn nth_next(self, n: u8) -> Month {
-        MONTHS[ahead(self.place(), n, MONTHS.len())]
-    }
-
-    /// The month a number of months earlier.
-    #[must_use]
-    #[inline]
-    pub const fn nth_prev(self, n: u8) -> Month {
-        MONTHS[behind(self.place(), n, MONTHS.len())]
-    }
-
     /// How many days the month has in a year.
     #[must_use]
     #[inline]
@@ -85,32 +57,9 @@ impl Month {
 }
 
 impl Weekday {
-    /// The day before, Sunday before Monday.
-    #[must_use]
-    #[inline]
-    pub const fn previous(self) -> Weekday {
-        self.nth_prev(1)
-    }
-
-    /// The day after, Monday after Sunday.
-    #[must_use]
-    #[inline]
-    pub const fn next(self) -> Weekday {
-        self.nth_next(1)
-    }
-
-    /// The day a number of days later.
-    #[must_use]
-    #[inline]
-    pub const fn nth_next(self, n: u8) -> Weekday {
-        WEEKDAYS[ahead(self as usize, n, WEEKDAYS.len())]
-    }
-
-    /// The day a number of days earlier.
-    #[must_use]
-    #[inline]
-    pub const fn nth_prev(self, n: u8) -> Weekday {
-        WEEKDAYS[behind(self as usize, n, WEEKDAYS.len())]
+    /// The place in the week, from 0.
+    const fn place(self) -> usize {
+        self as usize
     }
 
     /// 1 for Monday to 7 for Sunday.
@@ -145,32 +94,58 @@ impl TryFrom<u8> for Month {
     }
 }
 
-/// Reads the English name.
-impl FromStr for Month {
-    type Err = InvalidVariant;
+macro_rules! named_values {
+    ($($Type:ident: $all:ident;)+) => {
+        $(
+            /// Reads the English name.
+            impl FromStr for $Type {
+                type Err = InvalidVariant;
 
-    fn from_str(text: &str) -> Result<Month, InvalidVariant> {
-        named(&MONTHS, Month::text, text)
-    }
+                fn from_str(text: &str) -> Result<$Type, InvalidVariant> {
+                    named(&$all, $Type::text, text)
+                }
+            }
+
+            impl Hash for $Type {
+                fn hash<H: Hasher>(&self, state: &mut H) {
+                    (*self as u8).hash(state);
+                }
+            }
+
+            impl $Type {
+                /// The one before, the last before the first.
+                #[must_use]
+                #[inline]
+                pub const fn previous(self) -> $Type {
+                    self.nth_prev(1)
+                }
+
+                /// The one after, the first after the last.
+                #[must_use]
+                #[inline]
+                pub const fn next(self) -> $Type {
+                    self.nth_next(1)
+                }
+
+                /// The one a number of places later.
+                #[must_use]
+                #[inline]
+                pub const fn nth_next(self, n: u8) -> $Type {
+                    $all[ahead(self.place(), n, $all.len())]
+                }
+
+                /// The one a number of places earlier.
+                #[must_use]
+                #[inline]
+                pub const fn nth_prev(self, n: u8) -> $Type {
+                    $all[behind(self.place(), n, $all.len())]
+                }
+            }
+        )+
+    };
 }
 
-/// Reads the English name.
-impl FromStr for Weekday {
-    type Err = InvalidVariant;
-
-    fn from_str(text: &str) -> Result<Weekday, InvalidVariant> {
-        named(&WEEKDAYS, Weekday::text, text)
-    }
-}
-
-impl Hash for Month {
-    fn hash<H: Hasher>(&self, state: &mut H) {
-        (*self as u8).hash(state);
-    }
-}
-
-impl Hash for Weekday {
-    fn hash<H: Hasher>(&self, state: &mut H) {
-        (*self as u8).hash(state);
-    }
+named_values! {
+    Month: MONTHS;
+    Weekday: WEEKDAYS;
 }

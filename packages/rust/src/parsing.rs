@@ -164,32 +164,41 @@ impl Parsed {
     }
 }
 
-macro_rules! numbers {
-    ($($name:ident $set_name:ident $with_name:ident: $Type:ty, $part:ident: $Part:ty;)+) => {
+macro_rules! parts {
+    ($($name:ident $set_name:ident $with_name:ident: $Type:ty, $part:ident;
+        $number:ident => $known:expr; $value:ident => $set:expr;)+) => {
         impl Parsed {
             $(
                 /// This part, if it is known.
                 #[must_use]
                 pub const fn $name(&self) -> Option<$Type> {
                     match self.parts.$part {
-                        Some(number) => Some(number as $Type),
+                        Some($number) => $known,
                         None => None,
                     }
                 }
 
                 /// Sets this part.
-                pub const fn $set_name(&mut self, value: $Type) -> Option<()> {
-                    self.parts.$part = Some(value as $Part);
+                pub const fn $set_name(&mut self, $value: $Type) -> Option<()> {
+                    self.parts.$part = Some($set);
                     Some(())
                 }
 
                 /// The same with this part.
                 #[must_use]
                 pub const fn $with_name(mut self, value: $Type) -> Option<Parsed> {
-                    self.parts.$part = Some(value as $Part);
+                    let _ = self.$set_name(value);
                     Some(self)
                 }
             )+
+        }
+    };
+}
+
+macro_rules! numbers {
+    ($($name:ident $set_name:ident $with_name:ident: $Type:ty, $part:ident: $Part:ty;)+) => {
+        parts! {
+            $($name $set_name $with_name: $Type, $part; number => Some(number as $Type); value => value as $Part;)+
         }
     };
 }
@@ -211,30 +220,9 @@ numbers! {
 
 macro_rules! not_zero {
     ($($name:ident $set_name:ident $with_name:ident: $Type:ty, $Number:ty, $part:ident;)+) => {
-        impl Parsed {
-            $(
-                /// This part, if it is known.
-                #[must_use]
-                pub const fn $name(&self) -> Option<$Type> {
-                    match self.parts.$part {
-                        Some(number) => <$Type>::new(number as $Number),
-                        None => None,
-                    }
-                }
-
-                /// Sets this part.
-                pub const fn $set_name(&mut self, value: $Type) -> Option<()> {
-                    self.parts.$part = Some(value.get() as u32);
-                    Some(())
-                }
-
-                /// The same with this part.
-                #[must_use]
-                pub const fn $with_name(mut self, value: $Type) -> Option<Parsed> {
-                    self.parts.$part = Some(value.get() as u32);
-                    Some(self)
-                }
-            )+
+        parts! {
+            $($name $set_name $with_name: $Type, $part;
+                number => <$Type>::new(number as $Number); value => value.get() as u32;)+
         }
     };
 }
@@ -244,6 +232,18 @@ not_zero! {
     ordinal set_ordinal with_ordinal: NonZeroU16, u16, ordinal;
     day set_day with_day: NonZeroU8, u8, day;
     hour_12 set_hour_12 with_hour_12: NonZeroU8, u8, hour_12;
+}
+
+parts! {
+    month set_month with_month: Month, month;
+        number => match Month::from_number(if number > 12 { 0 } else { number as u8 }) {
+            Ok(month) => Some(month),
+            Err(_) => None,
+        };
+        month => month as u32;
+    weekday set_weekday with_weekday: Weekday, weekday;
+        number => if number > 255 { None } else { Some(Weekday::Monday.nth_next(number as u8)) };
+        weekday => weekday.number_days_from_monday() as u32;
 }
 
 macro_rules! offset_parts {
@@ -286,49 +286,6 @@ offset_parts! {
     offset_second_signed set_offset_second_signed with_offset_second_signed: offset_second;
 }
 
-impl Parsed {
-    /// The month, if it is known.
-    #[must_use]
-    pub fn month(&self) -> Option<Month> {
-        self.parts.month.and_then(|number| Month::from_number(u8::try_from(number).ok()?).ok())
-    }
-
-    /// Sets the month.
-    pub const fn set_month(&mut self, month: Month) -> Option<()> {
-        self.parts.month = Some(month as u32);
-        Some(())
-    }
-
-    /// The same with the month.
-    #[must_use]
-    pub const fn with_month(mut self, month: Month) -> Option<Parsed> {
-        self.parts.month = Some(month as u32);
-        Some(self)
-    }
-
-    /// The day of the week, if it is known.
-    #[must_use]
-    pub fn weekday(&self) -> Option<Weekday> {
-        self.parts
-            .weekday
-            .and_then(|number| u8::try_from(number).ok())
-            .map(|number| Weekday::Monday.nth_next(number))
-    }
-
-    /// Sets the day of the week.
-    pub const fn set_weekday(&mut self, weekday: Weekday) -> Option<()> {
-        self.parts.weekday = Some(weekday.number_days_from_monday() as u32);
-        Some(())
-    }
-
-    /// The same with the day of the week.
-    #[must_use]
-    pub const fn with_weekday(mut self, weekday: Weekday) -> Option<Parsed> {
-        self.parts.weekday = Some(weekday.number_days_from_monday() as u32);
-        Some(self)
-    }
-}
-
 /// The part that an error names.
 const fn part_of(field: Field) -> Part {
     match field {
@@ -363,12 +320,25 @@ impl From<ValueRefusal> for TryFromParsed {
     }
 }
 
-impl TryFrom<Parsed> for Date {
-    type Error = TryFromParsed;
+macro_rules! of_parts {
+    ($($(#[$doc:meta])* $Type:ident: $parsed:ident => $value:expr;)+) => {
+        $(
+            impl TryFrom<Parsed> for $Type {
+                type Error = TryFromParsed;
 
+                $(#[$doc])*
+                fn try_from($parsed: Parsed) -> Result<$Type, TryFromParsed> {
+                    $value
+                }
+            }
+        )+
+    };
+}
+
+of_parts! {
     /// The date of the parts. Texts have wrong days of the week, as that of a cookie: it counts
     /// only where a week names the date.
-    fn try_from(parsed: Parsed) -> Result<Date, TryFromParsed> {
+    Date: parsed => {
         let mut parts = parsed.parts;
         if parts.year.is_some()
             && (parts.ordinal.is_some() || parts.month.is_some() && parts.day.is_some())
@@ -376,66 +346,25 @@ impl TryFrom<Parsed> for Date {
             parts.weekday = None;
         }
         Ok(parts.date()?)
-    }
-}
-
-impl TryFrom<Parsed> for Time {
-    type Error = TryFromParsed;
-
-    fn try_from(parsed: Parsed) -> Result<Time, TryFromParsed> {
-        Ok(parsed.parts.time()?)
-    }
-}
-
-impl TryFrom<Parsed> for UtcOffset {
-    type Error = TryFromParsed;
-
-    fn try_from(parsed: Parsed) -> Result<UtcOffset, TryFromParsed> {
-        Ok(parsed.parts.offset()?)
-    }
-}
-
-impl TryFrom<Parsed> for PlainDateTime {
-    type Error = TryFromParsed;
-
-    fn try_from(parsed: Parsed) -> Result<PlainDateTime, TryFromParsed> {
-        Ok(PlainDateTime::new(parsed.try_into()?, parsed.try_into()?))
-    }
-}
-
-impl TryFrom<Parsed> for OffsetDateTime {
-    type Error = TryFromParsed;
-
-    fn try_from(parsed: Parsed) -> Result<OffsetDateTime, TryFromParsed> {
-        match parsed.parts.utc_date_time() {
-            Ok(at) => Ok(at.into()),
-            Err(ValueRefusal::Missing(_)) => {
-                Ok(PlainDateTime::try_from(parsed)?.assume_offset(parsed.try_into()?))
-            }
-            Err(refusal) => Err(refusal.into()),
+    };
+    Time: parsed => Ok(parsed.parts.time()?);
+    UtcOffset: parsed => Ok(parsed.parts.offset()?);
+    PlainDateTime: parsed => Ok(PlainDateTime::new(parsed.try_into()?, parsed.try_into()?));
+    OffsetDateTime: parsed => match parsed.parts.utc_date_time() {
+        Ok(at) => Ok(at.into()),
+        Err(ValueRefusal::Missing(_)) => {
+            Ok(PlainDateTime::try_from(parsed)?.assume_offset(parsed.try_into()?))
         }
-    }
-}
-
-impl TryFrom<Parsed> for UtcDateTime {
-    type Error = TryFromParsed;
-
-    fn try_from(mut parsed: Parsed) -> Result<UtcDateTime, TryFromParsed> {
-        if parsed.parts.offset_hour.is_none() {
-            parsed.parts.offset_hour = Some(0);
-        }
+        Err(refusal) => Err(refusal.into()),
+    };
+    UtcDateTime: parsed => {
+        let mut parsed = parsed;
+        parsed.parts.offset_hour = parsed.parts.offset_hour.or(Some(0));
         OffsetDateTime::try_from(parsed)?
             .checked_to_utc()
             .ok_or(ComponentRange::of_part(Part::Year, true).into())
-    }
-}
-
-impl TryFrom<Parsed> for Timestamp {
-    type Error = TryFromParsed;
-
-    fn try_from(parsed: Parsed) -> Result<Timestamp, TryFromParsed> {
-        Ok(UtcDateTime::try_from(parsed)?.into())
-    }
+    };
+    Timestamp: parsed => Ok(UtcDateTime::try_from(parsed)?.into());
 }
 
 /// A form that reads a text: a description, or a format of
@@ -472,29 +401,25 @@ mod sealed {
         }
     }
 
-    impl Sealed for BorrowedFormatItem<'_> {
-        fn parse_into<'a>(&self, input: &'a [u8], parsed: &mut Parsed) -> Result<&'a [u8], Parse> {
-            Ok(self.read(parsed, input)?)
-        }
+    macro_rules! of_items {
+        ($($Item:ty)+) => {
+            $(
+                impl Sealed for $Item {
+                    fn parse_into<'a>(&self, input: &'a [u8], parsed: &mut Parsed) -> Result<&'a [u8], Parse> {
+                        Ok(self.read(parsed, input)?)
+                    }
+                }
+
+                impl Sealed for [$Item] {
+                    fn parse_into<'a>(&self, input: &'a [u8], parsed: &mut Parsed) -> Result<&'a [u8], Parse> {
+                        Ok(read_all(self, parsed, input)?)
+                    }
+                }
+            )+
+        };
     }
 
-    impl Sealed for OwnedFormatItem {
-        fn parse_into<'a>(&self, input: &'a [u8], parsed: &mut Parsed) -> Result<&'a [u8], Parse> {
-            Ok(self.read(parsed, input)?)
-        }
-    }
-
-    impl Sealed for [BorrowedFormatItem<'_>] {
-        fn parse_into<'a>(&self, input: &'a [u8], parsed: &mut Parsed) -> Result<&'a [u8], Parse> {
-            Ok(read_all(self, parsed, input)?)
-        }
-    }
-
-    impl Sealed for [OwnedFormatItem] {
-        fn parse_into<'a>(&self, input: &'a [u8], parsed: &mut Parsed) -> Result<&'a [u8], Parse> {
-            Ok(read_all(self, parsed, input)?)
-        }
-    }
+    of_items! { BorrowedFormatItem<'_> OwnedFormatItem }
 
     impl<T: Deref<Target: Sealed>> Sealed for T {
         fn parse_into<'a>(&self, input: &'a [u8], parsed: &mut Parsed) -> Result<&'a [u8], Parse> {

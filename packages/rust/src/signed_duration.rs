@@ -1,7 +1,6 @@
 //! Durations by more of `time`'s names: numbers with a point, comparisons with std's durations, and
 //! texts.
 
-use core::cmp::Ordering;
 use core::fmt;
 use core::ops::{Div, DivAssign, Mul, MulAssign};
 use core::str::FromStr;
@@ -165,30 +164,6 @@ impl SignedDuration {
     }
 }
 
-macro_rules! factors_assigned {
-    ($($Factor:ident)+) => {
-        $(
-            impl MulAssign<$Factor> for SignedDuration {
-                #[inline]
-                #[track_caller]
-                fn mul_assign(&mut self, factor: $Factor) {
-                    *self = *self * factor;
-                }
-            }
-
-            impl DivAssign<$Factor> for SignedDuration {
-                #[inline]
-                #[track_caller]
-                fn div_assign(&mut self, divisor: $Factor) {
-                    *self = *self / divisor;
-                }
-            }
-        )+
-    };
-}
-
-factors_assigned! { f32 f64 }
-
 /// Products and quotients with numbers that have a point: those of `as_seconds_f64`, as
 /// `seconds_f64` rounds them.
 macro_rules! fractional_factors {
@@ -223,68 +198,53 @@ macro_rules! fractional_factors {
                     SignedDuration::seconds_f64(self.as_seconds_f64() / f64::from(divisor))
                 }
             }
+
+            impl MulAssign<$Factor> for SignedDuration {
+                #[inline]
+                #[track_caller]
+                fn mul_assign(&mut self, factor: $Factor) {
+                    *self = *self * factor;
+                }
+            }
+
+            impl DivAssign<$Factor> for SignedDuration {
+                #[inline]
+                #[track_caller]
+                fn div_assign(&mut self, divisor: $Factor) {
+                    *self = *self / divisor;
+                }
+            }
         )+
     };
 }
 
 fractional_factors! { f32 f64 }
 
-/// How many times as long the first is.
-impl Div for SignedDuration {
-    type Output = f64;
+/// How many times as long the first of two lengths is, each by its seconds.
+macro_rules! ratios {
+    ($($First:ident / $Second:ident: $first_seconds:ident, $second_seconds:ident;)+) => {
+        $(
+            /// How many times as long the first is.
+            impl Div<$Second> for $First {
+                type Output = f64;
 
-    #[inline]
-    fn div(self, other: SignedDuration) -> f64 {
-        self.as_seconds_f64() / other.as_seconds_f64()
-    }
+                #[inline]
+                fn div(self, other: $Second) -> f64 {
+                    self.$first_seconds() / other.$second_seconds()
+                }
+            }
+        )+
+    };
 }
 
-/// How many times as long the first is.
-impl Div<Duration> for SignedDuration {
-    type Output = f64;
-
-    #[inline]
-    fn div(self, other: Duration) -> f64 {
-        self.as_seconds_f64() / other.as_secs_f64()
-    }
+ratios! {
+    SignedDuration / SignedDuration: as_seconds_f64, as_seconds_f64;
+    SignedDuration / Duration: as_seconds_f64, as_secs_f64;
+    Duration / SignedDuration: as_secs_f64, as_seconds_f64;
 }
 
-/// How many times as long the first is.
-impl Div<SignedDuration> for Duration {
-    type Output = f64;
-
-    #[inline]
-    fn div(self, other: SignedDuration) -> f64 {
-        self.as_secs_f64() / other.as_seconds_f64()
-    }
-}
-
-impl PartialEq<Duration> for SignedDuration {
-    #[inline]
-    fn eq(&self, other: &Duration) -> bool {
-        self.cmp_std(*other).is_eq()
-    }
-}
-
-impl PartialEq<SignedDuration> for Duration {
-    #[inline]
-    fn eq(&self, other: &SignedDuration) -> bool {
-        other == self
-    }
-}
-
-impl PartialOrd<Duration> for SignedDuration {
-    #[inline]
-    fn partial_cmp(&self, other: &Duration) -> Option<Ordering> {
-        Some(self.cmp_std(*other))
-    }
-}
-
-impl PartialOrd<SignedDuration> for Duration {
-    #[inline]
-    fn partial_cmp(&self, other: &SignedDuration) -> Option<Ordering> {
-        Some(other.cmp_std(*self).reverse())
-    }
+compared! {
+    SignedDuration, Duration: first, second => first.cmp_std(second).is_eq(), first.cmp_std(second);
 }
 
 /// The days, the hours, the minutes, the seconds and finer units, without those that are 0, as

@@ -1,5 +1,5 @@
-//! Calls that break what a public function requires: each panics, also in a release build. The names are those of
-//! make/erased_lists/requires.txt.
+//! Calls that break what a public function requires: each panics, also in a release build. make/erase reads the names here, and
+//! those of the other functions that require something in make/erased_lists/requires.txt.
 
 use muxandu::proved::*;
 use std::hint::black_box;

@@ -22,8 +22,21 @@ from pathlib import Path
 sys.path[:0] = [str(Path(__file__).resolve().parent)]
 
 import buffers  # noqa: E402
-from buffers import MOMENTS, ORDERS, ROOM, SPANS, STATUSES, DATE_TIMES, Place, calendar, columns, muxandu, numpy  # noqa: E402
-from buffers import known_moment, lie_over_each_other, moment_at, refusal_of_out, refusal_of_source  # noqa: E402
+from buffers import (  # noqa: E402
+    DATE_TIMES,
+    MOMENTS,
+    ORDERS,
+    ROOM,
+    SPANS,
+    STAMPS,
+    STATUSES,
+    Place,
+    calendar,
+    columns,
+    muxandu,
+    numpy,
+)  # noqa: E402
+from buffers import known_moment, moment_at, refusal_of_results, refusal_of_source  # noqa: E402
 
 # A block of so few rows that columns have several.
 muxandu._columns.BLOCK = 3
@@ -361,87 +374,7 @@ def gaps_of(column, rows):
     return gaps | column.masked
 
 
-# Judges.
-
-
-def memories_of(*places):
-    """The pieces of memory of places, each once, and their bytes."""
-    found = {id(place.memory): place.memory for place in places}
-    return list(found.values()), [bytes(memory) for memory in found.values()]
-
-
-def problem_of_memory(memories, before, written):
-    """Whether a call wrote to bytes that are not among those it has to write."""
-    for memory, whole in zip(memories, before):
-        kept = bytearray(memory)
-        for place, start in written:
-            if place.memory is memory:
-                kept[start : start + place.kind.size] = whole[start : start + place.kind.size]
-        if bytes(kept) != whole:
-            return "it wrote beside its items"
-    return None
-
-
-def problem_of_all(call, words, items, out, refused):
-    """What is wrong with a call that stops at the first item that fails, or None."""
-    memories, before = memories_of(out, *words.places)
-    good = items.index(None) if None in items else len(items)
-    try:
-        result, error = call(*words.given), None
-    except Exception as caught:  # noqa: BLE001
-        result, error = None, caught
-    if refused is None and out.count < len(items):
-        refused = muxandu.RefusedBuffer
-    if refused is not None:
-        if type(error) is not refused:
-            return f"must be a {refused.__name__}, not {error!r}"
-        return problem_of_memory(memories, before, [])
-    if good < len(items):
-        if not isinstance(error, muxandu.Refused) or error.count != good:
-            return f"item {good} must fail, not {error!r}"
-    elif error is not None or result is not words.given[-1]:
-        return f"must be converted, not {error!r}"
-    for item, start in zip(items[:good], out.starts):
-        if out.kind.read(out.memory, start) != item:
-            return f"must be {item}, not {out.kind.read(out.memory, start)}"
-    return problem_of_memory(memories, before, [(out, start) for start in out.starts[:good]])
-
-
-def problem_of_each(call, words, items, gaps, out, statuses, refused):
-    """The same of a call that continues, and has a status for each item."""
-    memories, before = memories_of(out, statuses, *words.places)
-    try:
-        result, error = call(*words.given), None
-    except Exception as caught:  # noqa: BLE001
-        result, error = None, caught
-    if refused is None and min(out.count, statuses.count) < len(items):
-        refused = muxandu.RefusedBuffer
-    if refused is not None:
-        if type(error) is not refused:
-            return f"must be a {refused.__name__}, not {error!r}"
-        return problem_of_memory(memories, before, [])
-    if error is not None or result[0] is not words.given[-2] or result[1] is not words.given[-1]:
-        return f"must be converted, not {error!r}"
-    written, was = [], before[[id(memory) for memory in memories].index(id(out.memory))]
-    for number, item in enumerate(items):
-        told = statuses.kind.read(statuses.memory, statuses.starts[number])[""]
-        wanted = "missing" if number in gaps else "an error" if item is None else "0"
-        if wanted != ("0" if told == 0 else "missing" if told == muxandu.MISSING else "an error"):
-            return f"the status of item {number} must be {wanted}, not {told}"
-        # The numbers of an item that fails are as before. The bytes between them are nobody's.
-        start = out.starts[number]
-        wanted = out.kind.read(was, start) if item is None else item
-        if out.kind.read(out.memory, start) != wanted:
-            return f"must be {wanted}, not {out.kind.read(out.memory, start)}"
-        written += [(statuses, statuses.starts[number]), (out, start)]
-    return problem_of_memory(memories, before, written)
-
-
-class Words:
-    """What a call gets, and the places that it reads."""
-
-    def __init__(self, given, *places):
-        self.given, self.places = given, places
+# Comparisons.
 
 
 def out_of(source, kinds, wanted, memories):
@@ -449,8 +382,17 @@ def out_of(source, kinds, wanted, memories):
     return Place(source, source.choice(kinds[wanted]), source.choice(memories), is_out=True)
 
 
-def count(problem, call, *told):
-    buffers.count(problem, call.__name__, *(place if isinstance(place, str) else place.told() for place in told))
+def judge(source, kinds, calls, words, memories, made, refused, answers, places, told=""):
+    """Makes one of two calls, that which stops or that which continues, and counts how it ended. `answers` gives the items and the
+    gaps that it must have, unless it is refused."""
+    call, each = calls
+    out, statuses = out_of(source, kinds, made, memories[:3]), None
+    if each and source.random() < 0.5:
+        call, statuses = each, out_of(source, kinds, STATUSES, memories)
+    refused = refused or refusal_of_results(out, made, statuses)
+    items, gaps = ([], set()) if refused else answers()
+    problem = buffers.judged(call, words, items, out, statuses, refused, gaps, places)
+    buffers.count(problem, call.__name__, told, *(place.told() for place in (*places, out, statuses) if place))
 
 
 def refusal_of_sources(sources, wanted):
@@ -464,7 +406,6 @@ def refusal_of_sources(sources, wanted):
 def compare_pair(source, kinds):
     """Calls of two columns."""
     call, each, second, made, plain = source.choice(PAIRS)
-    is_each = source.random() < 0.5
     memories = [bytearray(source.randbytes(ROOM)) for _ in range(4)]
     one = some_column(source, kinds, MOMENTS, memories[0])
     if numpy and second is DURATIONS and source.random() < 0.3:
@@ -482,29 +423,9 @@ def compare_pair(source, kinds):
         put(source, other, some_row if second is MOMENTS else some_length)
     if source.random() < 0.2 and one.count == other.count and second is MOMENTS:
         other = one
-    out = out_of(source, kinds, made, memories[:3])
     refused = refusal_of_sources((one, other), (MOMENTS, second))
-    if not is_each:
-        refused = refused or refusal_of_out(out, made)
-        items, _ = ([], set()) if refused else items_of_pair(one, other, plain)
-        count(
-            problem_of_all(call, Words([one.given, other.given, out.view], one, other), items, out, refused),
-            call,
-            one,
-            other,
-            out,
-        )
-        return
-    statuses = out_of(source, kinds, STATUSES, memories)
-    refused = refused or refusal_of_results(out, made, statuses)
-    items, gaps = ([], set()) if refused else items_of_pair(one, other, plain)
-    words = Words([one.given, other.given, out.view, statuses.view], one, other)
-    count(problem_of_each(each, words, items, gaps, out, statuses, refused), each, one, other, out, statuses)
-
-
-def refusal_of_results(out, made, statuses):
-    refused = refusal_of_out(out, made) or refusal_of_out(statuses, STATUSES)
-    return refused or (ValueError if lie_over_each_other(out, statuses) else None)
+    words, answers = [one.given, other.given], lambda: items_of_pair(one, other, plain)
+    judge(source, kinds, (call, each), words, memories, made, refused, answers, (one, other))
 
 
 def items_of_pair(one, other, plain):
@@ -517,26 +438,21 @@ def items_of_pair(one, other, plain):
 def compare_single(source, kinds):
     """Calls of one column and an argument."""
     call, each, word, plain = some_single(source)
-    is_each = source.random() < 0.5
     memories = [bytearray(source.randbytes(ROOM)) for _ in range(3)]
     one = some_column(source, kinds, MOMENTS, memories[0])
     put(source, one, some_row)
-    out = out_of(source, kinds, MOMENTS, memories[:2])
+
+    def answers():
+        rows = one.read()
+        gaps = gaps_of(one, rows)
+        return [None if number in gaps else plain(row) for number, row in enumerate(rows)], gaps
+
     refused = refusal_of_sources((one,), (MOMENTS,))
-    statuses = out_of(source, kinds, STATUSES, memories) if is_each else None
-    refused = refused or (refusal_of_results(out, MOMENTS, statuses) if is_each else refusal_of_out(out, MOMENTS))
-    rows = [] if refused else one.read()
-    gaps = gaps_of(one, rows)
-    items = [None if number in gaps else plain(row) for number, row in enumerate(rows)]
-    if not is_each:
-        problem = problem_of_all(call, Words([one.given, word, out.view], one), items, out, refused)
-        count(problem, call, one, str(word), out)
-        return
-    words = Words([one.given, word, out.view, statuses.view], one)
-    count(problem_of_each(each, words, items, gaps, out, statuses, refused), each, one, str(word), out, statuses)
+    judge(source, kinds, (call, each), [one.given, word], memories, MOMENTS, refused, answers, (one,), str(word))
 
 
 TEXT_CALLS = (
+    (muxandu.timestamps_from_rfc3339, None, STAMPS),
     (columns.moments_from_rfc3339, columns.moments_from_each_rfc3339, MOMENTS),
     (muxandu.date_times_from_rfc3339, muxandu.date_times_from_each_rfc3339, DATE_TIMES),
 )
@@ -545,13 +461,15 @@ TEXT_CALLS = (
 def text_and_item(source, made):
     """A text, and its row of a kind, or None for one that fails."""
     text, shown = buffers.text_and_meaning(source, DATE_TIMES)
-    return (text, shown if shown is None or made is DATE_TIMES else buffers.moment_of_date_time(shown))
+    if shown is None or made is DATE_TIMES:
+        return text, shown
+    moment = buffers.moment_of_date_time(shown)
+    return text, {name: moment[name] for name, _, _ in made[0]}
 
 
 def compare_texts(source, kinds):
     """Texts of a block by spans, which may overlap, or end outside the block."""
     call, each, made = source.choice(TEXT_CALLS)
-    is_each = source.random() < 0.6
     memories = [bytearray(source.randbytes(ROOM)) for _ in range(4)]
     spans = Place(source, source.choice(kinds[SPANS]), source.choice(memories[:2]))
     text, item = text_and_item(source, made)
@@ -566,39 +484,21 @@ def compare_texts(source, kinds):
         spans.kind.write(spans.memory, start, span)
     memories[0][at : at + len(text)] = text
     block = memories[0] if source.random() < 0.7 else bytes(memories[0])
-    out = out_of(source, kinds, made, memories[:3])
-    statuses = out_of(source, kinds, STATUSES, memories) if is_each else None
+
+    def answers():
+        said = [spans.kind.read(spans.memory, start) for start in spans.starts]
+        return [item if span == {"start": at, "length": len(text)} else None for span in said], set()
+
     refused = None if spans.count == 0 or spans.kind.is_exactly(SPANS) else TypeError
-    refused = refused or (refusal_of_results(out, made, statuses) if is_each else refusal_of_out(out, made))
-    said = [] if refused else [spans.kind.read(spans.memory, start) for start in spans.starts]
-    items = [item if span == {"start": at, "length": len(text)} else None for span in said]
-    holder = Column(None, spans.kind, memories[0], [])
-    told = f"{text} at {at}"
-    if not is_each:
-        problem = problem_of_all(call, Words([block, spans.view, out.view], spans, holder), items, out, refused)
-        count(problem, call, told, spans, out)
-        return
-    words = Words([block, spans.view, out.view, statuses.view], spans, holder)
-    count(problem_of_each(each, words, items, set(), out, statuses, refused), each, told, spans, out, statuses)
-
-
-def exact_kind(wanted):
-    """The kind that is wanted, as ctypes has it."""
-    if wanted[0][0][0] == "":
-        return buffers.kind_of_number(wanted[0][0][1], buffers.NATIVE)
-    fields = [(name, buffers.NUMBERS[form]) for name, form, _ in wanted[0]]
-    return buffers.kind_of_structure(fields, buffers.BASES[buffers.NATIVE], buffers.NATIVE)
+    places = (spans, Column(None, spans.kind, memories[0], []))
+    judge(source, kinds, (call, each), [block, spans.view], memories, made, refused, answers, places, f"{text} at {at}")
 
 
 def some_kinds(source, variety):
-    """Kinds of items for each that is wanted, two thirds of them as it is."""
-    wanted = (MOMENTS, DURATIONS, ORDERS, DATE_TIMES, SPANS, STATUSES)
-    kinds = {each: [buffers.some_kind(source, each) for _ in range(variety)] for each in wanted}
-    for each in wanted:
-        exact = [kind for kind in kinds[each] if kind.is_exactly(each)] + [exact_kind(each)]
-        kinds[each] += [source.choice(exact) for _ in range(2 * variety)]
-    kinds["exact"] = {each: exact_kind(each) for each in wanted}
-    return kinds
+    """Kinds of items for each that is wanted, and that which is exactly so."""
+    wanted = (MOMENTS, DURATIONS, ORDERS, DATE_TIMES, SPANS, STAMPS, STATUSES)
+    kinds = buffers.some_kinds(source, wanted, variety)
+    return kinds | {"exact": {each: buffers.exact_kind(each) for each in wanted}}
 
 
 COMPARISONS = (compare_pair, compare_pair, compare_single, compare_texts)

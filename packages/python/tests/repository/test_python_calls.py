@@ -74,22 +74,39 @@ class Tables(unittest.TestCase):
 
     def test_roles_say_what_a_call_writes(self):
         self.add_calls(CALLS)
-        status, said = self.run_tool("write")
-        self.assertEqual(status, 1)
-        self.assertRegex(said, r"METHODS and OPERATORS .* have no row for day_of_luck")
-        self.change("make/python_methods.py", "FOR_DATABASES = (\n", 'FOR_DATABASES = (\n    "day_of_luck",\n')
         self.assertEqual(self.run_tool("write"), (0, ""))
         made = (self.root / "packages/python/extension/calls.h").read_text(encoding="utf-8")
         body = " ".join(made.partition("PyObject *seconds_in_order(")[2].partition("\n}")[0].split())
         for place, is_written in ((0, 0), (2, 1), (4, 1)):
             self.assertIn(f"take_items(words + {place}, &word_{place}, {is_written})", body)
 
-    def test_a_call_over_moments_has_a_row(self):
+    def test_a_call_without_a_row_is_a_method_of_its_class(self):
         calls = self.add_calls({})
-        self.add_calls({"muxandu_moments_negate": calls["muxandu_date_times_from_moments"]})
-        status, said = self.run_tool("write")
-        self.assertEqual(status, 1)
-        self.assertRegex(said, r"DOCS of make/python_batches.py has no row for moments_negate")
+        self.add_calls({**CALLS, "muxandu_timestamp_mirror": calls["muxandu_timestamp_truncate"]})
+        self.assertEqual(self.run_tool("write"), (0, ""))
+        stub = (self.root / "packages/python/muxandu/_extension.pyi").read_text(encoding="utf-8")
+        lines = stub.partition("class _CallsOfTimestamp:")[2].partition("\n\n")[0]
+        self.assertIn("    @classmethod\n    def day_of_luck(cls: type[_S]) -> _S: ...", lines)
+        self.assertIn("    def mirror(self: _S, unit: SupportsIndex, /) -> _S: ...", lines)
+        made = (self.root / "packages/python/extension/calls.h").read_text(encoding="utf-8")
+        methods = made.partition("#define CALLS_OF_Timestamp")[2].partition("#define")[0]
+        self.assertIn('{"mirror", FUNCTION(timestamp_mirror), METH_FASTCALL,', methods)
+        self.assertIn('{"day_of_luck", FUNCTION(day_of_luck), METH_FASTCALL | METH_CLASS,', methods)
+
+    def test_a_call_over_moments_without_a_row_has_the_comment_of_the_header(self):
+        calls = self.add_calls({})
+        negate = {**calls["muxandu_date_times_from_moments"], "doc": "Negates `muxandu_moments_add`."}
+        self.add_calls({"muxandu_moments_negate": negate})
+        self.assertEqual(self.run_tool("write"), (0, ""))
+        made = (self.root / "packages/python/muxandu/columns.py").read_text(encoding="utf-8")
+        self.assertIn("def moments_negate(moments: Any, out: Any = None) -> Any:", made)
+        self.assertIn('"""Negates moments_add."""', made)
+
+    def test_a_call_of_durations_alone_must_have_a_row(self):
+        of_one = {"name": "whole", "type": "MuxanduDuration", "role": "in"}
+        self.add_calls({"muxandu_duration_halve": {"doc": "A half.", "parameters": [of_one], "result": "MuxanduDuration"}})
+        status, told = self.run_tool("write")
+        self.assertEqual((status, told.strip().split()[-1]), (1, "duration_halve"))
 
     def test_overloads_follow_the_items(self):
         calls = self.add_calls({})

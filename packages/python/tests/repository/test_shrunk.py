@@ -62,10 +62,10 @@ class Buffers(unittest.TestCase):
         self.try_all(buffers.compare_conversion)
 
     def test_each(self):
-        self.try_all(buffers.compare_each)
+        self.try_all(lambda source, kinds: buffers.compare_conversion(source, kinds, True))
 
     def test_texts(self):
-        self.try_all(buffers.compare_texts)
+        self.try_all(column_buffers.compare_texts, lambda source: column_buffers.some_kinds(source, VARIETY))
 
     def test_columns(self):
         for compare in set(column_buffers.COMPARISONS):
@@ -82,7 +82,7 @@ class Buffers(unittest.TestCase):
 
 def some_kinds(source):
     """Kinds of items for each that calls take, and that itself."""
-    return {each: [*(buffers.some_kind(source, each) for _ in range(VARIETY)), column_buffers.exact_kind(each)] for each in KINDS}
+    return {each: [*(buffers.some_kind(source, each) for _ in range(VARIETY)), buffers.exact_kind(each)] for each in KINDS}
 
 
 if __name__ == "__main__":
