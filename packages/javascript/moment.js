@@ -9,8 +9,10 @@ export const HELD = Symbol("parts");
 /** The number of a unit. */
 const unitNumber = (unit) => (typeof unit === "string" && Object.hasOwn(UNITS, unit) ? UNITS[unit] : refuse("UNIT"));
 
-/** A class of the members that timestamps and date-times have alike, by the calls of a kind: its type in errors, and the value
- * of parts that the library has given. */
+/**
+ * A class of the members that timestamps and date-times have alike.
+ * It takes the calls of a kind, its type in errors, and the function that makes a value of parts.
+ */
 export function momentClass(group, type, made) {
     const partsIn = (value) => (value instanceof Moment && value[HELD]) || refuseType("the argument", type, value);
     const moved = (call) =>
