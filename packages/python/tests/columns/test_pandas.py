@@ -3,6 +3,7 @@
 import datetime
 import io
 import pickle
+import threading
 import unittest
 from unittest import mock
 
@@ -163,6 +164,29 @@ class Columns(unittest.TestCase):
         self.assertEqual(pandas.util.hash_pandas_object(left["at"][1:2], index=False).tolist(), hashes[0][1:2])
         keys = left["at"].array._values_for_factorize()[0]
         self.assertTrue(MomentArray._from_factorized(keys, left["at"].array).equals(left["at"].array))
+
+    def test_threads_on_one_column(self):
+        """Eight threads compare, subtract, add and round one column at once, in several blocks: each has the results of one."""
+        rows = numpy.zeros(1_000, muxandu.pandas.ROW)
+        rows["seconds"], rows["nanoseconds"] = numpy.arange(1_000) * 7_919 % 5_003, numpy.arange(1_000)
+        rows["seconds"][::7] = muxandu.columns.NO_SECOND
+        at, found = pandas.Series(MomentArray(rows)), [None] * 8
+
+        def results():
+            later = (at + Duration(90_061, 5)).moment.floor("hour")
+            return [(at < at.iloc[500]).tolist(), (later - at).tolist(), (at == later).tolist(), later.moment.hour.tolist()]
+
+        def read(place):
+            found[place] = repr([results() for _ in range(5)])
+
+        with mock.patch.object(muxandu._blocks, "BLOCK", 64), mock.patch.object(muxandu._columns, "BLOCK", 64):
+            wanted = repr([results()] * 5)
+            threads = [threading.Thread(target=read, args=(place,)) for place in range(8)]
+            for thread in threads:
+                thread.start()
+            for thread in threads:
+                thread.join()
+        self.assertEqual(set(found), {wanted})
 
     def test_ends_of_columns(self):
         gaps, at = moments(None, None), moments("2024-01-01T00:00:00Z", None, "1970-01-01T00:00:00.5Z", "1970-01-01T00:00:00.25Z")
