@@ -494,11 +494,12 @@ class MomentArray(ExtensionArray):
         for block, lengths, statuses in by_blocks(DIFFERENCE, self._rows, earlier):
             if statuses is not None:
                 columns.first_error(statuses, block.start)
-            seconds, part = lengths["seconds"], counts[block]
-            if seconds.min() <= -_FIRST_LONG or seconds.max() >= _FIRST_LONG:
-                place = block.start + int((numpy.abs(seconds) >= _FIRST_LONG).argmax())
+            part = counts[block]
+            part[:] = lengths["seconds"]
+            if part.min() <= -_FIRST_LONG or part.max() >= _FIRST_LONG:
+                place = block.start + int((numpy.abs(part) >= _FIRST_LONG).argmax())
                 raise OverflowError(f"item {place} is more than 292 years: use columns.moments_difference")
-            numpy.multiply(seconds, 1_000_000_000, out=part)
+            part *= 1_000_000_000
             part += lengths["nanoseconds"]
             if statuses is not None:
                 part[statuses == MISSING] = _NO_LENGTH
