@@ -174,6 +174,7 @@ pub(crate) fn moment_truncate(at: MuxanduMoment, unit: u32) -> Result<MuxanduMom
 }
 
 // The same of each moment and each unit.
+#[inline(always)]
 fn truncated(at: MuxanduMoment, unit: u32) -> Result<MuxanduMoment, Refused>
     ensures { result ≡ moment_truncate unit at }
 {
