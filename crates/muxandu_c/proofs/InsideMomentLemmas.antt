@@ -200,22 +200,26 @@ truncate-inside v number u t h numbered low above below =
     ) (ap ok (same_moment (second-of t) (nanosecond-of t)))
 
 low-day : (s o : ℤ) (n : ℕ) → n ≤ 999_999_999 →
-    instant_of (local_multiple_below nanos_per_day (wall_at (shown_at (instant_of_parts s n) o) o)) ≡ instant_of_second (s -ℤ int_rem_euclid (s +ℤ o) (pos 86_400))
+    instant_of (local_multiple_below nanos_per_day (wall_at (shown_at (instant_of_parts s n) o) o))
+    ≡ instant_of_second (s -ℤ int_rem_euclid (s +ℤ o) (pos 86_400))
 unfolding wall_multiple_below instant_of
 low-day s o n h = omega (arith, signed_arith)
 
 low-hour : (s o : ℤ) (n : ℕ) → n ≤ 999_999_999 →
-    instant_of (local_multiple_below nanos_per_hour (wall_at (shown_at (instant_of_parts s n) o) o)) ≡ instant_of_second (s -ℤ int_rem_euclid (s +ℤ o) (pos 3_600))
+    instant_of (local_multiple_below nanos_per_hour (wall_at (shown_at (instant_of_parts s n) o) o))
+    ≡ instant_of_second (s -ℤ int_rem_euclid (s +ℤ o) (pos 3_600))
 unfolding wall_multiple_below instant_of
 low-hour s o n h = omega (arith, signed_arith)
 
 low-minute : (s o : ℤ) (n : ℕ) → n ≤ 999_999_999 →
-    instant_of (local_multiple_below nanos_per_minute (wall_at (shown_at (instant_of_parts s n) o) o)) ≡ instant_of_second (s -ℤ int_rem_euclid (s +ℤ o) (pos 60))
+    instant_of (local_multiple_below nanos_per_minute (wall_at (shown_at (instant_of_parts s n) o) o))
+    ≡ instant_of_second (s -ℤ int_rem_euclid (s +ℤ o) (pos 60))
 unfolding wall_multiple_below instant_of
 low-minute s o n h = omega (arith, signed_arith)
 
 low-second : (s o : ℤ) (n : ℕ) → n ≤ 999_999_999 →
-    instant_of (local_multiple_below nanos_per_second (wall_at (shown_at (instant_of_parts s n) o) o)) ≡ instant_of_second (s -ℤ int_rem_euclid (s +ℤ o) (pos 1))
+    instant_of (local_multiple_below nanos_per_second (wall_at (shown_at (instant_of_parts s n) o) o))
+    ≡ instant_of_second (s -ℤ int_rem_euclid (s +ℤ o) (pos 1))
 unfolding wall_multiple_below instant_of
 low-second s o n h = omega (arith, signed_arith)
 
@@ -335,12 +339,19 @@ pub difference-whole : (s t b : ℤ) (n m : ℕ) →
     duration_of_parts ((s -ℤ t) -ℤ b) ((pos n -ℤ pos m) +ℤ (b *ℤ pos 1_000_000_000)) ≡ instant_of_parts s n -ℤ instant_of_parts t m
 difference-whole s t b n m = omega (arith, signed_arith)
 
--- the parts of a difference have one sign after a second is taken from those above 0, or is added to those below 0
+-- parts of which none is below 0, and of which none is above 0
 
 abs-in : (n : ℤ) → neg_ℤ (pos 999_999_999) ≤ℤ n → n ≤ℤ pos 999_999_999 → unsigned_abs n ≤ 999_999_999
 abs-in (pos n) low high = omega (arith, signed_arith)
 abs-in (negsuc n) low high = omega (arith, signed_arith)
 
+high-parts : (s n : ℤ) → pos 0 ≤ℤ s → pos 0 ≤ℤ n → n ≤ℤ pos 999_999_999 → IsDurationParts s n
+high-parts s n second low high = record { in_range = abs-in n (omega (arith, signed_arith)) high; one_sign = inl (second, low) }
+
+low-parts : (s n : ℤ) → s ≤ℤ pos 0 → n ≤ℤ pos 0 → neg_ℤ (pos 999_999_999) ≤ℤ n → IsDurationParts s n
+low-parts s n second high low = record { in_range = abs-in n low (omega (arith, signed_arith)); one_sign = inr (second, high) }
+
+-- the parts of a difference have one sign after a second is taken from those above 0, or is added to those below 0
 pub one-sign : (s n a b : ℤ) → neg_ℤ (pos 1_000_000_000) <ℤ n → n <ℤ pos 1_000_000_000 →
     (pos 0 <ℤ s → n <ℤ pos 0 → a ≡ pos 1) → (s ≤ℤ pos 0 → a ≡ pos 0) → (pos 0 ≤ℤ n → a ≡ pos 0) →
     (s <ℤ pos 0 → pos 0 <ℤ n → b ≡ pos 1) → (pos 0 ≤ℤ s → b ≡ pos 0) → (n ≤ℤ pos 0 → b ≡ pos 0) →
@@ -350,20 +361,26 @@ one-sign s n a b low high one no_second no_part other no_other_second no_other_p
     (λ above. let e : b ≡ pos 0 = no_other_second (omega (arith, signed_arith)) in
     by_lt_z n (pos 0)
     (λ below. let f : a ≡ pos 1 = one above below in
-    record { in_range = abs-in (n +ℤ ((a -ℤ b) *ℤ pos 1_000_000_000)) (omega (arith, signed_arith)) (omega (arith, signed_arith)); one_sign = inl (omega (arith, signed_arith), omega (arith, signed_arith)) })
+    high-parts (s -ℤ (a -ℤ b)) (n +ℤ ((a -ℤ b) *ℤ pos 1_000_000_000))
+    (omega (arith, signed_arith)) (omega (arith, signed_arith)) (omega (arith, signed_arith)))
     (λ not_below. let f : a ≡ pos 0 = no_part (omega (arith, signed_arith)) in
-    record { in_range = abs-in (n +ℤ ((a -ℤ b) *ℤ pos 1_000_000_000)) (omega (arith, signed_arith)) (omega (arith, signed_arith)); one_sign = inl (omega (arith, signed_arith), omega (arith, signed_arith)) }))
+    high-parts (s -ℤ (a -ℤ b)) (n +ℤ ((a -ℤ b) *ℤ pos 1_000_000_000))
+    (omega (arith, signed_arith)) (omega (arith, signed_arith)) (omega (arith, signed_arith))))
     (λ not_above. let e : a ≡ pos 0 = no_second (omega (arith, signed_arith)) in
     by_lt_z s (pos 0)
     (λ below. by_lt_z (pos 0) n
     (λ more. let f : b ≡ pos 1 = other below more in
-    record { in_range = abs-in (n +ℤ ((a -ℤ b) *ℤ pos 1_000_000_000)) (omega (arith, signed_arith)) (omega (arith, signed_arith)); one_sign = inr (omega (arith, signed_arith), omega (arith, signed_arith)) })
+    low-parts (s -ℤ (a -ℤ b)) (n +ℤ ((a -ℤ b) *ℤ pos 1_000_000_000))
+    (omega (arith, signed_arith)) (omega (arith, signed_arith)) (omega (arith, signed_arith)))
     (λ not_more. let f : b ≡ pos 0 = no_other_part (omega (arith, signed_arith)) in
-    record { in_range = abs-in (n +ℤ ((a -ℤ b) *ℤ pos 1_000_000_000)) (omega (arith, signed_arith)) (omega (arith, signed_arith)); one_sign = inr (omega (arith, signed_arith), omega (arith, signed_arith)) }))
+    low-parts (s -ℤ (a -ℤ b)) (n +ℤ ((a -ℤ b) *ℤ pos 1_000_000_000))
+    (omega (arith, signed_arith)) (omega (arith, signed_arith)) (omega (arith, signed_arith))))
     (λ not_below. let f : b ≡ pos 0 = no_other_second (omega (arith, signed_arith)) in
     by_lt_z n (pos 0)
-    (λ less. record { in_range = abs-in (n +ℤ ((a -ℤ b) *ℤ pos 1_000_000_000)) (omega (arith, signed_arith)) (omega (arith, signed_arith)); one_sign = inr (omega (arith, signed_arith), omega (arith, signed_arith)) })
-    (λ not_less. record { in_range = abs-in (n +ℤ ((a -ℤ b) *ℤ pos 1_000_000_000)) (omega (arith, signed_arith)) (omega (arith, signed_arith)); one_sign = inl (omega (arith, signed_arith), omega (arith, signed_arith)) })))
+    (λ less. low-parts (s -ℤ (a -ℤ b)) (n +ℤ ((a -ℤ b) *ℤ pos 1_000_000_000))
+    (omega (arith, signed_arith)) (omega (arith, signed_arith)) (omega (arith, signed_arith)))
+    (λ not_less. high-parts (s -ℤ (a -ℤ b)) (n +ℤ ((a -ℤ b) *ℤ pos 1_000_000_000))
+    (omega (arith, signed_arith)) (omega (arith, signed_arith)) (omega (arith, signed_arith)))))
 
 pub one-apart : (a b : ℤ) → pos 0 ≤ℤ a → a ≤ℤ pos 1 → pos 0 ≤ℤ b → b ≤ℤ pos 1 →
     to_z w32 (of_z w32 (to_z w32 (of_z w32 a) -ℤ to_z w32 (of_z w32 b))) ≡ a -ℤ b
@@ -411,7 +428,8 @@ pub carried-range : (k : ℤ) → neg_ℤ (pos 1_000_000_000) <ℤ k → k <ℤ 
     (neg_ℤ (pos 1) ≤ℤ int_div_euclid k (pos nanos_per_second)) × (int_div_euclid k (pos nanos_per_second) ≤ℤ pos 1)
 carried-range k low high = (omega (arith, signed_arith), omega (arith, signed_arith))
 
-sum-second : (s w v : ℤ) (n : ℕ) → unix_seconds_of (instant_of_parts s n +ℤ duration_of_parts w v) ≡ (s +ℤ w) +ℤ int_div_euclid (pos n +ℤ v) (pos nanos_per_second)
+sum-second : (s w v : ℤ) (n : ℕ) →
+    unix_seconds_of (instant_of_parts s n +ℤ duration_of_parts w v) ≡ (s +ℤ w) +ℤ int_div_euclid (pos n +ℤ v) (pos nanos_per_second)
 sum-second s w v n = omega (arith, signed_arith)
 
 sum-nanosecond : (s w v : ℤ) (n r : ℕ) → pos r ≡ int_rem_euclid (pos n +ℤ v) (pos nanos_per_second) →

@@ -1,4 +1,4 @@
-//! Moments so far from the ends of the range that clocks at each offset can show their instants: few steps are left.
+//! Moments so far from the ends of the range that clocks at each offset can show their instants.
 ghost use Rattle.std.specs.Prelude.{◌≡◌, ◌↔◌, ◌+ℤ◌, ◌-ℤ◌, ◌*ℤ◌, ◌<ℤ◌, ◌≤ℤ◌, IsTrue, pos, neg_ℤ};
 ghost use Rattle.std.specs.Int.{int_div_euclid, int_rem_euclid};
 ghost use Rattle.std.specs.Ordering.{int_cmp};

@@ -320,8 +320,8 @@ class MomentArray(ExtensionArray):
         return self._ranks()
 
     def _values_for_factorize(self) -> tuple[Any, Any]:
-        """A number for each instant, and that of a gap. It is the same in each column: pandas merges
-        two columns by it, and Dask sends a row to a partition by its hash."""
+        """A number for each instant, and that of a gap, the same in each column. pandas merges two
+        columns by it, and Dask sends a row to a partition by its hash."""
         seconds, gaps = self._rows["seconds"].astype("complex128"), self.isna()
         seconds.imag = self._rows["nanoseconds"]
         seconds[gaps] = _NO_NUMBER
@@ -358,8 +358,8 @@ class MomentArray(ExtensionArray):
 
     def _pad_or_backfill(self, *, method: Any, limit: Any = None, limit_area: Any = None, copy: bool = True) -> MomentArray:
         """The column in which a gap has the row before it, for `pad`, or the row after it, at most
-        `limit` gaps in sequence. With a `limit_area` these are gaps between rows, for `inside`, or all
-        others, for `outside`."""
+        `limit` gaps in sequence. With a `limit_area` these are gaps between rows, for `inside`, or
+        all others, for `outside`."""
         known = ~self.isna()
         if known.all():
             return self.copy() if copy else self
