@@ -12,6 +12,7 @@ mod EachTextLemmas
 mod FieldSpanLemmas
 mod FrontTextLemmas
 mod FullTimeLemmas
+mod InsideMomentLemmas
 mod LocalTextLemmas
 mod MonthReplacedLemmas
 mod OrderLemmas

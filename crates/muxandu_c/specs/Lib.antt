@@ -16,6 +16,7 @@ pub mod FieldSpans
 pub mod Formats
 pub mod FrontTexts
 pub mod FullTimes
+pub mod InsideMoments
 pub mod LocalTexts
 pub mod Moments
 pub mod OffsetParts

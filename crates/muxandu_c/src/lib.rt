@@ -23,6 +23,7 @@ mod fronts;
 mod full_times;
 #[cfg(test)]
 mod group_tests;
+mod inside_moments;
 mod leap_texts;
 pub mod limits;
 mod local_batches;

@@ -12,6 +12,9 @@ ghost use Rattle.utc_times.specs.UnixTime.{instant_of_second};
 
 use crate::date_sums::date_add_months;
 use crate::date_times::date_time_from_timestamp;
+use crate::inside_moments::{
+    difference_inside, is_inside, is_short, later_by, order_inside, rounded_down,
+};
 use crate::parts::{
     checked_difference, checked_offset, checked_sum, duration_of, instant_of_date_time,
     read_date_time, read_duration, read_timestamp, seconds_of, shown_as_if_utc, sign, utc_in_unit,
@@ -153,7 +156,26 @@ fn instant_truncate(at: Timestamp, offset_seconds: i32, unit: u32) -> Result<Tim
 }
 
 // A moment rounded down to a unit, by its own clocks.
+#[tactic(auto, using(crate::proofs::InsideMomentLemmas::rounded_moments))]
+#[inline(always)]
 pub(crate) fn moment_truncate(at: MuxanduMoment, unit: u32) -> Result<MuxanduMoment, Refused>
+    ensures { result ≡ moment_truncate unit at }
+{
+    if is_inside(at) {
+        match unit {
+            1 => return Ok(rounded_down(at, 86_400)),
+            2 => return Ok(rounded_down(at, 3_600)),
+            3 => return Ok(rounded_down(at, 60)),
+            4 => return Ok(rounded_down(at, 1)),
+            _ => {}
+        }
+    }
+    truncated(at, unit)
+}
+
+// The same of each moment and each unit.
+#[inline(always)]
+fn truncated(at: MuxanduMoment, unit: u32) -> Result<MuxanduMoment, Refused>
     ensures { result ≡ moment_truncate unit at }
 {
     let instant = read_timestamp(timestamp_of_moment(at))?;
@@ -198,10 +220,26 @@ pub(crate) fn moment_add_months(at: MuxanduMoment, months: i32) -> Result<Muxand
 }
 
 // A moment plus a duration, at its offset.
+#[tactic(auto, using(crate::proofs::InsideMomentLemmas::inside_calls))]
+#[inline(always)]
 pub(crate) fn moment_add(
     at: MuxanduMoment,
     duration: MuxanduDuration,
 ) -> Result<MuxanduMoment, Refused>
+    ensures { result ≡ moment_add at duration }
+{
+    if is_inside(at) && is_short(duration) {
+        let sum = later_by(at, duration.seconds, duration.nanoseconds);
+        if is_inside(sum) {
+            return Ok(sum);
+        }
+    }
+    sum_of(at, duration)
+}
+
+// The same of each moment and each duration.
+#[inline(always)]
+fn sum_of(at: MuxanduMoment, duration: MuxanduDuration) -> Result<MuxanduMoment, Refused>
     ensures { result ≡ moment_add at duration }
 {
     let sum = checked_sum(read_moment(at)?, read_duration(duration)?)?;
@@ -209,10 +247,26 @@ pub(crate) fn moment_add(
 }
 
 // A moment minus a duration, at its offset.
+#[tactic(auto, using(crate::proofs::InsideMomentLemmas::inside_calls))]
+#[inline(always)]
 pub(crate) fn moment_subtract(
     at: MuxanduMoment,
     duration: MuxanduDuration,
 ) -> Result<MuxanduMoment, Refused>
+    ensures { result ≡ moment_subtract at duration }
+{
+    if is_inside(at) && is_short(duration) {
+        let less = later_by(at, -duration.seconds, -duration.nanoseconds);
+        if is_inside(less) {
+            return Ok(less);
+        }
+    }
+    less_of(at, duration)
+}
+
+// The same of each moment and each duration.
+#[inline(always)]
+fn less_of(at: MuxanduMoment, duration: MuxanduDuration) -> Result<MuxanduMoment, Refused>
     ensures { result ≡ moment_subtract at duration }
 {
     let less = checked_difference(read_moment(at)?, read_duration(duration)?)?;
@@ -220,7 +274,20 @@ pub(crate) fn moment_subtract(
 }
 
 // The order of two moments by their instants: -1, 0 or 1.
+#[tactic(auto, using(crate::proofs::InsideMomentLemmas::inside_calls))]
+#[inline(always)]
 pub(crate) fn moment_compare(first: MuxanduMoment, second: MuxanduMoment) -> Result<i32, Refused>
+    ensures { result ≡ moment_compare first second }
+{
+    if is_inside(first) && is_inside(second) {
+        return Ok(order_inside(first, second));
+    }
+    compared(first, second)
+}
+
+// The same of each two moments.
+#[inline(always)]
+fn compared(first: MuxanduMoment, second: MuxanduMoment) -> Result<i32, Refused>
     ensures { result ≡ moment_compare first second }
 {
     let at = read_moment(first)?;
@@ -228,7 +295,23 @@ pub(crate) fn moment_compare(first: MuxanduMoment, second: MuxanduMoment) -> Res
 }
 
 // The duration from the instant of the second moment to that of the first.
+#[tactic(auto, using(crate::proofs::InsideMomentLemmas::inside_calls))]
+#[inline(always)]
 pub(crate) fn moment_difference(
+    later: MuxanduMoment,
+    earlier: MuxanduMoment,
+) -> Result<MuxanduDuration, Refused>
+    ensures { result ≡ moment_difference later earlier }
+{
+    if is_inside(later) && is_inside(earlier) {
+        return Ok(difference_inside(later, earlier));
+    }
+    duration_between_moments(later, earlier)
+}
+
+// The same of each two moments.
+#[inline(always)]
+fn duration_between_moments(
     later: MuxanduMoment,
     earlier: MuxanduMoment,
 ) -> Result<MuxanduDuration, Refused>

@@ -19,7 +19,7 @@ from ._structures import MuxanduDateTime, MuxanduDuration, MuxanduMoment
 NO_SECOND = -(2**63)
 
 # The rows of a block. A call reads one item for all rows of a column from a buffer of so many.
-BLOCK = 4_096
+BLOCK = 16_384
 
 # A moment and a duration that each call rejects.
 _NO_MOMENT, _NO_DURATION = MuxanduMoment(NO_SECOND), MuxanduDuration(2**63 - 1, 2**31 - 1)

@@ -30,6 +30,7 @@ from . import (
     DateTimeParts,
     Duration,
     OffsetDateTime,
+    Refused,
     RefusedSyntax,
     RefusedTimestamp,
     Timestamp,
@@ -39,19 +40,22 @@ from . import (
     rfc3339_from_date_times,
 )
 from ._arrow_writes import ArrowMoments
+from ._blocks import COMPARE, DIFFERENCE, ROW, by_blocks, row_of
 from .columns import NO_SECOND
 from ._datetime64 import split, test_errors
 from ._missing import is_missing, places_of
 
 __all__ = ["MomentArray", "MomentDtype", "from_arrow", "from_block", "from_texts"]
 
-ROW = numpy.dtype(columns.MomentParts)
 _PARTS = ("year", "month", "day", "hour", "minute", "second", "nanosecond", "offset_seconds")
 _DAY = numpy.datetime64("1970-01-01", "D")
 _GAP = (NO_SECOND, 0, 0)
 
 # The whole seconds of the first lengths whose nanoseconds may not fit in 64 bits.
 _FIRST_LONG = 9_223_372_036
+
+# The number of a gap among those that pandas hashes.
+_NO_NUMBER = complex(float("nan"), 0.0)
 
 # The nanoseconds of NaT, and the rows of a block.
 _NO_LENGTH, _BLOCK = -(2**63), 131_072
@@ -120,11 +124,10 @@ def _rows_of_zoned(values: Any) -> Any:
     """The rows of a column of pandas with a time zone, each at the offset that its clocks have
     then."""
     index = pandas.DatetimeIndex(values)
-    instants, walls = index.tz_convert("UTC").tz_localize(None), index.tz_localize(None)
-    rows = _rows_of_datetime64(numpy.asarray(instants, "M8[ns]"))
+    instants, walls = (numpy.asarray(one.tz_localize(None)) for one in (index.tz_convert("UTC"), index))
+    rows = _rows_of_datetime64(instants)
     known = ~numpy.asarray(index.isna())
-    offsets = (walls - instants).asi8 // 1_000_000_000
-    rows["offset_seconds"][known] = offsets[known]
+    rows["offset_seconds"][known] = (walls - instants)[known].astype("m8[s]").astype("int64")
     return rows
 
 
@@ -140,14 +143,8 @@ def _read_own_texts(items: list[Any], rows: Any, statuses: Any) -> None:
     """Reads the texts that are no RFC 3339, but as `str` writes a date-time, and as to_csv writes a
     column."""
     for place in numpy.flatnonzero(statuses == RefusedSyntax.status):
-        rows[place] = _row_of(OffsetDateTime.from_text(items[place]))
+        rows[place] = row_of(OffsetDateTime.from_text(items[place]))
         statuses[place] = 0
-
-
-def _row_of(moment: OffsetDateTime) -> tuple[int, int, int]:
-    """The row of a date-time."""
-    at = moment.to_timestamp()
-    return at.seconds, at.nanoseconds, moment.offset_seconds
 
 
 def _rows_of_items(items: list[Any]) -> Any:
@@ -215,13 +212,23 @@ class MomentArray(ExtensionArray):
         return cls(_rows_of_items([None if is_missing(text) or text == "" else text for text in strings]))
 
     @classmethod
+    def _from_scalars(cls, scalars: Any, *, dtype: Any) -> MomentArray:
+        """The column of results of a call for each item. TypeError of any other than moments, such
+        as texts."""
+        items = list(scalars)
+        odd = {type(item).__name__ for item in items if not isinstance(item, OffsetDateTime) and not is_missing(item)}
+        if odd:
+            raise TypeError(f"an item must be an OffsetDateTime, not {', '.join(sorted(odd))}")
+        return cls._from_sequence(items)
+
+    @classmethod
     def _from_factorized(cls, values: Any, original: MomentArray) -> MomentArray:
-        places = original._firsts()
-        found, values = original._ranks()[places], numpy.asarray(values)
+        places, values = original._firsts(), numpy.asarray(values)
+        found, is_gap = original._values_for_factorize()[0][places], values != values
         order = numpy.argsort(found)
         at = numpy.searchsorted(found, values, sorter=order).clip(max=max(len(found) - 1, 0))
         rows = places[order][at] if len(found) else at
-        return original.take(numpy.where(values < 0, -1, rows), allow_fill=True)
+        return original.take(numpy.where(is_gap, -1, rows), allow_fill=True)
 
     @classmethod
     def _concat_same_type(cls, to_concat: Any) -> MomentArray:
@@ -312,8 +319,61 @@ class MomentArray(ExtensionArray):
     def _values_for_argsort(self) -> Any:
         return self._ranks()
 
-    def _values_for_factorize(self) -> tuple[Any, int]:
-        return self._ranks(), -1
+    def _values_for_factorize(self) -> tuple[Any, Any]:
+        """A number for each instant, and that of a gap, the same in each column. pandas merges two
+        columns by it, and Dask sends a row to a partition by its hash."""
+        seconds, gaps = self._rows["seconds"].astype("complex128"), self.isna()
+        seconds.imag = self._rows["nanoseconds"]
+        seconds[gaps] = _NO_NUMBER
+        return seconds, _NO_NUMBER
+
+    def _rank(
+        self, *, axis: int = 0, method: str = "average", na_option: str = "keep", ascending: bool = True, pct: bool = False
+    ) -> Any:
+        """The place of each instant in their order, from 1, as pandas has it of numbers."""
+        places, known = numpy.full(len(self), numpy.nan), ~self.isna()
+        places[known] = numpy.unique(self._ranks()[known], return_inverse=True)[1]
+        ranked = pandas.Series(places).rank(axis=axis, method=method, na_option=na_option, ascending=ascending, pct=pct)
+        return ranked.to_numpy()
+
+    def duplicated(self, keep: Any = "first") -> Any:
+        """Which rows repeat the instant, or the gap, of a row before; with keep="last" of a row
+        after, with keep=False of any other."""
+        return pandas.Series(self._ranks()).duplicated(keep).to_numpy()
+
+    def _accumulate(self, name: str, *, skipna: bool = True, **words: Any) -> MomentArray:
+        """The first instant up to each row, for `cummin`, or the last, for `cummax`."""
+        if name not in ("cummin", "cummax"):
+            raise NotImplementedError(f"a column of moments has no {name}")
+        gaps, ranks = self.isna(), self._ranks()
+        ends, behind = (numpy.maximum, -1) if name == "cummax" else (numpy.minimum, ranks.max(initial=-1) + 1)
+        ranks[gaps] = behind
+        before = numpy.append(behind, ends.accumulate(ranks))[:-1]
+        is_new = ends(ranks, before) != before
+        rows = numpy.maximum.accumulate(numpy.where(is_new, numpy.arange(len(self)), -1))
+        is_gap = gaps if skipna else numpy.logical_or.accumulate(gaps)
+        return self.take(numpy.where(is_gap, -1, rows), allow_fill=True)
+
+    # Gaps that are filled from other rows.
+
+    def _pad_or_backfill(self, *, method: Any, limit: Any = None, limit_area: Any = None, copy: bool = True) -> MomentArray:
+        """The column in which a gap has the row before it, for `pad`, or the row after it, at most
+        `limit` gaps in sequence. With a `limit_area` these are gaps between rows, for `inside`, or
+        all others, for `outside`."""
+        known = ~self.isna()
+        if known.all():
+            return self.copy() if copy else self
+        if method in ("backfill", "bfill"):
+            back = self[::-1]._pad_or_backfill(method="pad", limit=limit, limit_area=limit_area)
+            return back[::-1]
+        places = numpy.arange(len(self))
+        before = numpy.maximum.accumulate(numpy.where(known, places, -1))
+        if limit is not None:
+            before[places - before > limit] = -1
+        if limit_area is not None:
+            is_between = numpy.logical_or.accumulate(known) & numpy.logical_or.accumulate(known[::-1])[::-1]
+            before[~known & (is_between if limit_area == "outside" else ~is_between)] = -1
+        return self.take(before, allow_fill=True)
 
     def _firsts(self) -> Any:
         """The places of the first row of each instant."""
@@ -339,22 +399,12 @@ class MomentArray(ExtensionArray):
     def _comparison(self, other: Any, compare: Callable[..., Any]) -> Any:
         """How each row compares with another, or with one for all, with gaps masked."""
         found, gaps = numpy.zeros(len(self), bool), numpy.zeros(len(self), bool)
-        room = numpy.zeros(min(len(self), _BLOCK), "int32"), numpy.zeros(min(len(self), _BLOCK), "uint32")
-        for block, rows, others in self._blocks(other):
-            orders, statuses = (column[: len(rows)] for column in room)
-            columns.each_moment_compare(rows, others, orders, statuses)
-            columns.first_error(statuses, block.start)
+        for block, orders, statuses in by_blocks(COMPARE, self._rows, other):
+            if statuses is not None:
+                columns.first_error(statuses, block.start)
+                numpy.equal(statuses, MISSING, out=gaps[block])
             compare(orders, 0, out=found[block])
-            numpy.equal(statuses, MISSING, out=gaps[block])
         return pandas.arrays.BooleanArray(found, gaps)
-
-    def _blocks(self, other: Any) -> Any:
-        """The blocks of the column, each with its rows and the rows of another column there.
-
-        Results of a block stay in the cache of the processor."""
-        for start in range(0, len(self), _BLOCK):
-            block = slice(start, start + _BLOCK)
-            yield block, self._rows[block], other if isinstance(other, OffsetDateTime) else other[block]
 
     def _compare(self, other: Any, compare: Callable[..., Any]) -> Any:
         if isinstance(other, (pandas.Series, pandas.Index, pandas.DataFrame)):
@@ -395,17 +445,23 @@ class MomentArray(ExtensionArray):
 
     # Sums.
 
-    def _change(self, call: Callable[..., Any], *words: Any) -> MomentArray:
-        """The column that a call of `each` makes of this one. A gap stays a gap."""
-        rows, statuses = numpy.zeros(len(self), ROW), numpy.zeros(len(self), "uint32")
-        call(self._rows, *words, rows, statuses)
-        return MomentArray(_check(rows, statuses))
+    def _change(self, call: Callable[..., Any], each: Callable[..., Any], *words: Any) -> MomentArray:
+        """The column that a call makes of this one. Where a row fails, the call of `each` follows,
+        in which a gap stays a gap."""
+        rows = numpy.empty(len(self), ROW)
+        try:
+            call(self._rows, *words, rows)
+        except Refused:
+            statuses = numpy.zeros(len(self), "uint32")
+            each(self._rows, *words, rows, statuses)
+            _check(rows, statuses)
+        return MomentArray(rows)
 
     def _is_length(self, other: Any) -> bool:
         kind = getattr(getattr(other, "dtype", None), "kind", "")
         return isinstance(other, (Duration, datetime.timedelta, numpy.timedelta64)) or kind == "m"
 
-    def _sum(self, other: Any, call: Callable[..., Any]) -> Any:
+    def _sum(self, other: Any, *calls: Callable[..., Any]) -> Any:
         if isinstance(other, (pandas.Series, pandas.Index, pandas.DataFrame)):
             return NotImplemented
         if isinstance(other, numpy.timedelta64):
@@ -416,17 +472,17 @@ class MomentArray(ExtensionArray):
                 return NotImplemented
         elif not self._is_length(other):
             return NotImplemented
-        return self._change(call, numpy.asarray(other) if self._is_length(other) and is_list_like(other) else other)
+        return self._change(*calls, numpy.asarray(other) if self._is_length(other) and is_list_like(other) else other)
 
     def __add__(self, other: Any) -> Any:
-        return self._sum(other, columns.each_moment_add)
+        return self._sum(other, columns.moments_add, columns.each_moment_add)
 
     __radd__ = __add__
 
     def __sub__(self, other: Any) -> Any:
         if isinstance(other, (MomentArray, OffsetDateTime)):
             return self.since(other)
-        return self._sum(other, columns.each_moment_subtract)
+        return self._sum(other, columns.moments_subtract, columns.each_moment_subtract)
 
     def since(self, other: Any) -> Any:
         """The timedelta64 to each moment from the one of another column, or from one for all.
@@ -434,19 +490,18 @@ class MomentArray(ExtensionArray):
         earlier = other if isinstance(other, OffsetDateTime) else _rows_of(other)
         if not isinstance(other, OffsetDateTime) and len(earlier) != len(self):
             raise ValueError(f"columns must have one length, not {len(self)} and {len(earlier)}")
-        counts = numpy.zeros(len(self), "int64")
-        room = numpy.zeros(min(len(self), _BLOCK), columns.DurationParts), numpy.zeros(min(len(self), _BLOCK), "uint32")
-        for block, rows, others in self._blocks(earlier):
-            lengths, statuses = (column[: len(rows)] for column in room)
-            columns.each_moment_difference(rows, others, lengths, statuses)
-            columns.first_error(statuses, block.start)
-            seconds, part = lengths["seconds"], counts[block]
-            if seconds.min() <= -_FIRST_LONG or seconds.max() >= _FIRST_LONG:
-                place = block.start + int((numpy.abs(seconds) >= _FIRST_LONG).argmax())
+        counts = numpy.empty(len(self), "int64")
+        for block, lengths, statuses in by_blocks(DIFFERENCE, self._rows, earlier):
+            if statuses is not None:
+                columns.first_error(statuses, block.start)
+            part = counts[block]
+            part[:] = lengths["seconds"]
+            if part.min() <= -_FIRST_LONG or part.max() >= _FIRST_LONG:
+                place = block.start + int((numpy.abs(part) >= _FIRST_LONG).argmax())
                 raise OverflowError(f"item {place} is more than 292 years: use columns.moments_difference")
-            numpy.multiply(seconds, 1_000_000_000, out=part)
+            part *= 1_000_000_000
             part += lengths["nanoseconds"]
-            if statuses.any():
+            if statuses is not None:
                 part[statuses == MISSING] = _NO_LENGTH
         return pandas.array(counts.view("m8[ns]"), copy=False)
 
@@ -545,15 +600,15 @@ class MomentArray(ExtensionArray):
 
     def to_offset(self, offset_seconds: Any) -> MomentArray:
         """The same instants at another offset."""
-        return self._change(columns.each_moment_to_offset, offset_seconds)
+        return self._change(columns.moments_to_offset, columns.each_moment_to_offset, offset_seconds)
 
     def floor(self, unit: Union[str, Unit]) -> MomentArray:
         """Each moment, rounded down to a unit by its own clocks."""
-        return self._change(columns.each_moment_truncate, _unit(unit))
+        return self._change(columns.moments_truncate, columns.each_moment_truncate, _unit(unit))
 
     def add_months(self, months: int) -> MomentArray:
         """Each moment some months later, on the last day of a month that is shorter."""
-        return self._change(columns.each_moment_add_months, months)
+        return self._change(columns.moments_add_months, columns.each_moment_add_months, months)
 
 
 def _unit(unit: Union[str, Unit]) -> Unit:

@@ -3,6 +3,7 @@
 import datetime
 import io
 import pickle
+import threading
 import unittest
 from unittest import mock
 
@@ -100,7 +101,7 @@ class Columns(unittest.TestCase):
         self.assertEqual(at.nunique(), 3)
 
     def test_columns_of_many_blocks(self):
-        with mock.patch.object(muxandu.pandas, "_BLOCK", 2):
+        with mock.patch.object(muxandu._blocks, "BLOCK", 2), mock.patch.object(muxandu._columns, "BLOCK", 2):
             self.test_order_is_by_instant()
             self.test_sums_and_differences()
             at = moments("2024-01-01T00:00:00Z", *["1970-01-01T00:00:00Z"] * 3, None)
@@ -125,6 +126,67 @@ class Columns(unittest.TestCase):
             with self.assertRaises(RefusedNanosecond) as caught:
                 MomentArray(rows) < at.iloc[0]
             self.assertEqual(caught.exception.count, 3)
+
+    def test_rows_that_no_call_reads_in_place(self):
+        """Of every second row, of rows at an odd address, and of rows of which one is masked."""
+        at = moments(*TEXTS[:1], *TEXTS[2:]).array
+        odd = numpy.frombuffer(b"x" + at._rows.tobytes(), numpy.uint8)[1:].view(muxandu.pandas.ROW)
+        masked = numpy.ma.MaskedArray(at._rows, [False, True, False, False])
+        for rows, wanted, gaps in ((at._rows[::2], at[::2].copy(), 0), (odd, at, 0), (masked, at, 1)):
+            column = MomentArray(rows)
+            for first, second in ((column, wanted), (wanted, column), (column, column)):
+                self.assertEqual(int((first == second).isna().sum()), gaps)
+                self.assertTrue((first == second).all())
+                self.assertEqual(int(pandas.isna(first - second).sum()), gaps)
+            self.assertEqual(int((column < at[0]).isna().sum()), gaps)
+
+    def test_merges_and_hashes_are_by_instant(self):
+        """Of columns with another least instant each, at other offsets, and of years that nanoseconds of 64 bits do not have."""
+        left = pandas.DataFrame(
+            {"at": moments("2024-01-01T00:00:00Z", "2024-01-02T00:00:00+01:00", None, "0001-01-01T00:00:00Z")}
+        )
+        right = pandas.DataFrame(
+            {"at": moments("2024-01-01T23:00:00Z", "9999-01-01T00:00:00Z", None, "2023-12-31T23:00:00-01:00")}
+        )
+        near = [column.drop(3 - which) for which, column in enumerate((left, right.drop(1)))]
+        for one, other in ((left, right), (near[0], right.drop(1)), (left, right.iloc[3:]), (left.iloc[:1], right)):
+            found = one.assign(x=one.index).merge(other.assign(y=other.index), on="at")
+            pairs = {
+                (x, y)
+                for x, first in one["at"].items()
+                for y, second in other["at"].items()
+                if first is second or (first == second) is True
+            }
+            self.assertEqual(set(zip(found["x"], found["y"])), pairs)
+        hashes = [pandas.util.hash_pandas_object(column["at"], index=False).tolist() for column in (left, right)]
+        self.assertEqual((hashes[0][0], hashes[0][1], hashes[0][2]), (hashes[1][3], hashes[1][0], hashes[1][2]))
+        self.assertEqual(len({*hashes[0], *hashes[1]}), 5)
+        self.assertEqual(pandas.util.hash_pandas_object(left["at"][1:2], index=False).tolist(), hashes[0][1:2])
+        keys = left["at"].array._values_for_factorize()[0]
+        self.assertTrue(MomentArray._from_factorized(keys, left["at"].array).equals(left["at"].array))
+
+    def test_threads_on_one_column(self):
+        """Eight threads compare, subtract, add and round one column at once, in several blocks: each has the results of one."""
+        rows = numpy.zeros(1_000, muxandu.pandas.ROW)
+        rows["seconds"], rows["nanoseconds"] = numpy.arange(1_000) * 7_919 % 5_003, numpy.arange(1_000)
+        rows["seconds"][::7] = muxandu.columns.NO_SECOND
+        at, found = pandas.Series(MomentArray(rows)), [None] * 8
+
+        def results():
+            later = (at + Duration(90_061, 5)).moment.floor("hour")
+            return [(at < at.iloc[500]).tolist(), (later - at).tolist(), (at == later).tolist(), later.moment.hour.tolist()]
+
+        def read(place):
+            found[place] = repr([results() for _ in range(5)])
+
+        with mock.patch.object(muxandu._blocks, "BLOCK", 64), mock.patch.object(muxandu._columns, "BLOCK", 64):
+            wanted = repr([results()] * 5)
+            threads = [threading.Thread(target=read, args=(place,)) for place in range(8)]
+            for thread in threads:
+                thread.start()
+            for thread in threads:
+                thread.join()
+        self.assertEqual(set(found), {wanted})
 
     def test_ends_of_columns(self):
         gaps, at = moments(None, None), moments("2024-01-01T00:00:00Z", None, "1970-01-01T00:00:00.5Z", "1970-01-01T00:00:00.25Z")
@@ -242,6 +304,84 @@ class Columns(unittest.TestCase):
         texts = frame.iloc[:5].assign(at=frame["at"].iloc[:5].moment.to_rfc3339())
         read = pandas.read_json(io.StringIO(texts.to_json()), convert_dates=False)
         self.assertTrue(read["at"].astype("moment").equals(frame["at"].iloc[:5]))
+
+    def test_years_beyond_nanoseconds_with_a_zone(self):
+        """As pandas 2 has them, whose datetime64 has other units than nanoseconds."""
+        instants = numpy.array(["3000-07-01T00:30:00", "NaT", "1000-01-01T00:00:00"], "M8[s]")
+        index = mock.Mock(spec=["tz_convert", "tz_localize", "isna"])
+        index.isna.return_value = numpy.isnat(instants)
+        index.tz_convert.return_value.tz_localize.return_value = instants
+        index.tz_localize.return_value = instants + numpy.array([7_200, 0, 3_208], "m8[s]")
+        with mock.patch.object(pandas, "DatetimeIndex", return_value=index):
+            rows = muxandu.pandas._rows_of_zoned(None)
+        at = pandas.Series(MomentArray(rows)).moment
+        self.assertEqual(at.year.tolist(), [3_000, pandas.NA, 1_000])
+        self.assertEqual(at.offset_seconds.tolist(), [7_200, pandas.NA, 3_208])
+
+
+class MethodsOfPandas2(unittest.TestCase):
+    """The methods that pandas 2 asks an array for, called by name: an older pandas has no caller for them."""
+
+    NUMBERS = (5, None, 3, 3, None, 9, 1, None)
+
+    def setUp(self):
+        self.floats = pandas.Series(self.NUMBERS, dtype=float)
+        self.at = MomentArray._from_sequence(
+            [pandas.NA if n is None else Timestamp(n).to_offset(3_600 * n) for n in self.NUMBERS]
+        )
+
+    def same(self, column, floats):
+        seconds = [float("nan") if item is pandas.NA else float(item.to_timestamp().seconds) for item in column]
+        pandas.testing.assert_series_equal(pandas.Series(seconds), floats, check_names=False)
+
+    def test_gaps_are_filled(self):
+        for method in ("pad", "ffill", "backfill", "bfill"):
+            for limit in (None, 1, 2):
+                column = pandas.Series([1, None, None, 2, None, None, None])
+                wanted = column.fillna(method=method, limit=limit)
+                at = MomentArray._from_sequence([pandas.NA if pandas.isna(n) else Timestamp(int(n)).to_offset(0) for n in column])
+                self.same(at._pad_or_backfill(method=method, limit=limit), wanted)
+                self.same(
+                    at[::-1]._pad_or_backfill(method=method, limit=limit),
+                    column[::-1].fillna(method=method, limit=limit).reset_index(drop=True),
+                )
+            for area in ("inside", "outside"):
+                way = "backward" if method in ("backfill", "bfill") else "forward"
+                shown = pandas.Series([None, 1, None, None, 2, None, None])
+                wanted = shown.interpolate("pad" if way == "forward" else "bfill", limit_area=area, limit_direction=way)
+                at = MomentArray._from_sequence([pandas.NA if pandas.isna(n) else Timestamp(int(n)).to_offset(0) for n in shown])
+                self.same(at._pad_or_backfill(method=method, limit_area=area), wanted)
+        whole = self.at[[0, 2]]
+        self.assertIs(whole._pad_or_backfill(method="pad", copy=False), whole)
+        self.assertIsNot(whole._pad_or_backfill(method="pad")._rows, whole._rows)
+
+    def test_accumulated(self):
+        for name in ("cummin", "cummax"):
+            for skipna in (True, False):
+                self.same(self.at._accumulate(name, skipna=skipna), getattr(self.floats, name)(skipna=skipna))
+            self.assertEqual(len(self.at[:0]._accumulate(name)), 0)
+            gaps = self.at[[1, 4]]
+            self.assertEqual(gaps._accumulate(name).isna().tolist(), [True, True])
+        self.assertEqual(self.at._accumulate("cummin")[3], self.at[2])
+        self.assertRaises(NotImplementedError, self.at._accumulate, "cumsum")
+
+    def test_ranks_and_duplicates(self):
+        for method in ("average", "min", "max", "first", "dense"):
+            for option in ("keep", "top", "bottom"):
+                for words in ({}, {"ascending": False}, {"pct": True}):
+                    found = self.at._rank(method=method, na_option=option, **words)
+                    wanted = self.floats.rank(method=method, na_option=option, **words)
+                    self.assertTrue(pandas.Series(found).equals(wanted))
+                    self.assertTrue(pandas.Series(self.at).rank(method=method, na_option=option, **words).equals(wanted))
+        for keep in ("first", "last", False):
+            self.assertEqual(self.at.duplicated(keep=keep).tolist(), self.floats.duplicated(keep=keep).tolist())
+
+    def test_results_of_items(self):
+        self.assertTrue(MomentArray._from_scalars(list(self.at), dtype=self.at.dtype).equals(self.at))
+        for item in ("2024-01-01T00:00:00Z", 5, datetime.datetime(2024, 1, 1, tzinfo=datetime.timezone.utc)):
+            self.assertRaises(TypeError, MomentArray._from_scalars, [self.at[0], item], dtype=self.at.dtype)
+        self.assertEqual(self.at._reduce("max", keepdims=True).tolist(), [self.at[5]])
+        self.assertEqual(self.at.fillna(self.at[0]).isna().any(), False)
 
 
 if __name__ == "__main__":
