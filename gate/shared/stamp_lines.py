@@ -119,38 +119,39 @@ class LogLine:
 
 
 def log_lines(log, data, find=stamp_of):
-    """The lines of a log. Those before the first instant come before all instants. `find` has the stamp of a line."""
-    lines, instant = [], (0, 0)
-    for number, text in enumerate(re.findall(rb"[^\n]*\n|[^\n]+", data), 1):
+    """The lines of a log, one after another. Those before the first instant come before all instants. `find` has the stamp of a
+    line."""
+    instant = (0, 0)
+    for number, found in enumerate(re.finditer(rb"[^\n]*\n|[^\n]+", data), 1):
+        text = found[0]
         stamp = find((text[len(MARK) :] if number == 1 and text.startswith(MARK) else text).removesuffix(b"\n"))
         own = (1, stamp[0]) if isinstance(stamp, tuple) else instant
-        lines.append(LogLine(log, text, number, own, own < instant))
+        yield LogLine(log, text, number, own, own < instant)
         instant = own
-    return lines
 
 
-def text_of(lines):
+def text_of(texts):
     """The text of lines: one without a line feed gets one if another follows."""
-    texts = [line.text for line in lines]
     return b"".join(text if text.endswith(b"\n") else text + b"\n" for text in texts[:-1]) + b"".join(texts[-1:])
 
 
-def merge_of(logs, is_strict, find=stamp_of):
+def lines_in_order(logs, finds=None):
+    """The lines of logs in the order of their instants. `finds` has what finds the stamps of each log, if that is not RFC 3339."""
+    finds = finds or [stamp_of] * len(logs)
+    lines = (log_lines(log, data, find) for log, (data, find) in enumerate(zip(logs, finds)))
+    return heapq.merge(*lines, key=lambda line: line.instant)
+
+
+def merge_of(logs, is_strict, finds=None):
     """What `stamps merge` writes for logs, and the lines that it names on standard error, as numbers of logs and lines."""
-    merged = list(heapq.merge(*(log_lines(log, data, find) for log, data in enumerate(logs)), key=lambda line: line.instant))
-    backs = [line for line in merged if line.is_back]
-    if is_strict and backs:
-        return text_of(merged[: merged.index(backs[0])]), [(backs[0].log, backs[0].number)]
-    return text_of(merged), first_backs(merged)
-
-
-def first_backs(lines):
-    """The first line of each log that goes back, as numbers of logs and lines."""
-    firsts = {}
-    for line in lines:
+    texts, backs = [], {}
+    for line in lines_in_order(logs, finds):
+        if line.is_back and is_strict:
+            return text_of(texts), [(line.log, line.number)]
         if line.is_back:
-            firsts.setdefault(line.log, line.number)
-    return sorted(firsts.items())
+            backs.setdefault(line.log, line.number)
+        texts.append(line.text)
+    return text_of(texts), sorted(backs.items())
 
 
 UNITS = {"minute": 60, "hour": 3_600, "day": 86_400}
@@ -204,14 +205,16 @@ def count_of(words, data, is_ended=True, find=stamp_of):
 def cut_merge_of(logs, broken):
     """What `stamps merge` writes for logs if a read of this one fails after its bytes, and the lines that it names: all up to its
     last line, and that line too if it has the bytes that decide on it."""
-    tables = [log_lines(log, data) for log, data in enumerate(logs)]
-    if tables[broken] and not tables[broken][-1].text.endswith(b"\n") and len(tables[broken][-1].text) < 1_027:
-        tables[broken].pop()
-    if not tables[broken]:
-        return b"", []
-    merged = list(heapq.merge(*tables, key=lambda line: line.instant))
-    written = merged[: merged.index(tables[broken][-1]) + 1]
-    return text_of(written), first_backs(written)
+    rest = logs[broken].rpartition(b"\n")[2]
+    last = logs[broken].count(b"\n") + (len(rest) >= 1_027)
+    texts, backs = [], {}
+    for line in lines_in_order(logs) if last else ():
+        if line.is_back:
+            backs.setdefault(line.log, line.number)
+        texts.append(line.text)
+        if (line.log, line.number) == (broken, last):
+            break
+    return text_of(texts), sorted(backs.items())
 
 
 def result_of(words, data, find=stamp_of):
@@ -350,3 +353,17 @@ def lines_of(seed, count, is_ordered=False):
         if kind < 0.0003 and not is_ordered:
             lines[-1] = b"2024-06-30T12:00:00." + b"1" * rng.choice((1_002, 1_003, 1_004, 2_000)) + b"Z long stamp"
     return b"\n".join(lines) + (b"\n" if seed % 2 == 0 else b"")
+
+
+def place_log(name, offset, count):
+    """A log of so many lines in the order of time at an offset in minutes. One line in eight is of a stack trace."""
+    rng = random.Random(name)
+    instant = 1_709_188_200 * NANOS + rng.randrange(NANOS)
+    lines = []
+    for number in range(count):
+        if number and rng.random() < 0.125:
+            lines.append(b"    at %s.main(Main.java:%d)\n" % (name.encode(), number))
+            continue
+        instant += rng.choice((0, 0, 1, 1_000, 1_000_000, 1_000_000, 3_000_000, 10_000_000))
+        lines.append(text_at(instant, offset) + b" %s %d event\n" % (name.encode(), number))
+    return b"".join(lines)

@@ -2,10 +2,10 @@
 use Rattle.std.proofs.Common.{◌≡◌, ℕ, Bool, List, [], ◌∷◌, ◌++◌, take, Option, Result, Ok, Err, ℤ, refl, sym, ap, ◌∙◌, append_assoc, append-nil}
 use Rattle.line_devices.specs.LineLemmas.{ended_from-append, ended_from-line_feed, lines_of-parts, whole_lines_of-parts}
 use Rattle.line_devices.specs.LineParts.{ended_from, rest_from}
-use Rattle.line_devices.specs.Lines.{lines_of, unless_empty, whole_lines_of}
+use Rattle.line_devices.specs.Lines.{lines_of, unless_empty}
 use Rattle.line_counts.specs.Counting.{Counting}
-use Rattle.line_counts.specs.Counts.{Counted, bucket_at, count_by, count_end, count_input, count_line}
-use Rattle.line_counts.specs.Counts.{count_lines, count_open, outcome, fault_of, first_tally, then_on}
+use Rattle.line_counts.specs.Counts.{Counted, count_end, count_input, count_line}
+use Rattle.line_counts.specs.Counts.{count_lines, count_open, count_own, outcome, first_tally, then_on}
 use Rattle.line_counts.specs.declared.tallies.CountFault.{CountFault}
 use Rattle.line_counts.specs.declared.tallies.Tally.{Tally}
 
@@ -153,7 +153,7 @@ open_known c s taken text tally e =
 -- ---- the first bytes of a line
 
 pub count_line-by_head : (c : Counting) (s : Bool) (tally : Tally) (line : List ℕ)
-    → ((is_first : Bool) (line : List ℕ) → c.bucket is_first (take 1027 line) ≡ c.bucket is_first line)
+    → ((last : Option ℤ) (is_first : Bool) (line : List ℕ) → c.instant last is_first (take 1027 line) ≡ c.instant last is_first line)
     → count_line c s tally (take 1027 line) ≡ count_line c s tally line
 unfolding count_line
-count_line-by_head c s tally line by_head = ap (λ (z : Option ℤ). count_by c (fault_of s tally z) tally z) (by_head _ line)
+count_line-by_head c s tally line by_head = ap (count_own c s tally) (by_head _ _ line)

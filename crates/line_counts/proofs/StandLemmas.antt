@@ -1,6 +1,6 @@
 -- What was sent of an input, as more of it is taken in.
-use Rattle.std.proofs.Common.{◌≡◌, ◌≢◌, inl, inr, ℕ, ◌+◌, ◌≤◌, ◌<◌, Bool, true, false, List, [], ◌∷◌, ◌++◌, length, length-take, take, drop, Option}
-use Rattle.std.proofs.Common.{Result, Ok, Err, refl, sym, ap, subst, ◌∙◌, arith, append_assoc, append-nil, take-append-drop}
+use Rattle.std.proofs.Common.{◌≡◌, ◌≢◌, inl, inr, ℕ, ◌≤◌, ◌<◌, Bool, true, false, List, [], ◌∷◌, ◌++◌, length, length-take, take, drop, Option}
+use Rattle.std.proofs.Common.{Ok, ℤ, refl, sym, ap, subst, ◌∙◌, arith, append_assoc, append-nil, take-append-drop}
 use Rattle.std.specs.Io.KnownBytes.{Appends}
 use Rattle.std.proofs.lemmas.Bool.{cases_lt}
 use Rattle.std.proofs.lemmas.List.{get_or-take, take_all, take-append-le}
@@ -52,7 +52,7 @@ is_empty false head iff e = absurd cc
 
 -- how the head of a line decides
 abbrev pub ByHead : Counting → Type 0
-ByHead c = (is_first : Bool) (line : List ℕ) → c.bucket is_first (take 1027 line) ≡ c.bucket is_first line
+ByHead c = (last : Option ℤ) (is_first : Bool) (line : List ℕ) → c.instant last is_first (take 1027 line) ≡ c.instant last is_first line
 
 -- before anything is read
 pub stands_first : (c : Counting) (s : Bool) (base : Option (List ℕ)) (pending : List ℕ) (work : Work) → work.tally ≡ first_tally → work.head ≡ []

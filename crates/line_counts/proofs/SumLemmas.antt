@@ -1,14 +1,14 @@
 -- The rows of a bucket add up to the number of its lines.
 use Rattle.std.proofs.Common.{◌≡◌, ℕ, zero, suc, ◌+◌, ◌≤◌, Bool, true, false, cond, nat_eq, List, [], ◌∷◌, ◌++◌, length, length-append, Option, Some, None}
-use Rattle.std.proofs.Common.{Result, Ok, ℤ, refl, sym, ap, subst, ◌∙◌, arith}
+use Rattle.std.proofs.Common.{ℤ, refl, ap, ◌∙◌, arith}
 use Rattle.std.proofs.lemmas.Bool.Decides.{nat_tests}
 use Rattle.std.specs.Ordering.{int_eq}
 use Rattle.std.specs.Prelude.{int_lt, ⊤}
 use Rattle.line_devices.specs.Lines.{lines_of}
 use Rattle.line_counts.specs.Counting.{Counting}
-use Rattle.line_counts.specs.Counts.{Counted, bucket_at, count_end, count_input, count_line, count_lines}
-use Rattle.line_counts.specs.Counts.{outcome, empty_rows, ended_rows, first_tally, last_row, most}
-use Rattle.line_counts.specs.Counts.{one_more, row_after, rows_by, tally_by, then_on}
+use Rattle.line_counts.specs.Counts.{Counted, bucket_at, count_end, count_input, count_line, count_lines, instant_at}
+use Rattle.line_counts.specs.Counts.{empty_rows, ended_rows, first_tally, last_row, most}
+use Rattle.line_counts.specs.Counts.{one_more, row_after, rows_by, tally_at, tally_by}
 use Rattle.line_counts.specs.Laws.{lines_in, marks, one_if_in, row_marks, with_marks}
 use Rattle.line_counts.specs.declared.tallies.Row.{Row}
 use Rattle.line_counts.specs.declared.tallies.Tally.{Tally}
@@ -113,6 +113,11 @@ later : (tally : Tally) (own : Option ℤ) → nat_eq (tally_by tally own).lines
 later tally None = not_first tally.lines
 later tally (Some start) = not_first tally.lines
 
+-- the last instant stays
+last_kept : (tally : Tally) (bucket : Option ℤ) → (tally_by tally bucket).last ≡ tally.last
+last_kept tally None = refl
+last_kept tally (Some start) = refl
+
 -- no line is left
 ended-none : (c : Counting) (tally : Tally) → ended_lines c false tally [] ≡ count_end c tally
 unfolding count_lines
@@ -120,20 +125,24 @@ ended-none c tally = refl
 
 -- lines, after a tally
 all_add : (c : Counting) (bucket : ℤ) (tally : Tally) (lines : List (List ℕ)) (k : ℕ) → HasAtMost tally.row k → k + length lines ≤ most
-    → length (ended_lines (with_marks c bucket) false tally lines).text ≡ lines_of_row bucket tally.row + lines_in c bucket (nat_eq tally.lines 0) lines
+    → length (ended_lines (with_marks c bucket) false tally lines).text ≡ lines_of_row bucket tally.row
+    + lines_in c bucket tally.last (nat_eq tally.lines 0) lines
 unfolding count_line lines_in
 all_add c bucket tally [] k low high =
     let last = ap (λ (z : Counted). length z.text) (ended-none (with_marks c bucket) tally) ∙ length-last_row c bucket tally.row in omega (arith, last)
 all_add c bucket tally (line ∷ lines) k low high =
-    let own = c.bucket (nat_eq tally.lines 0) line in
-    let after = tally_by tally own in
-    let rows = rows_by (with_marks c bucket) tally.row own in
+    let own = instant_at c tally line in
+    let at = tally_at tally own in
+    let start = bucket_at c own in
+    let after = tally_by at start in
+    let rows = rows_by (with_marks c bucket) at.row start in
     let next : suc k ≤ most = omega (arith, high) in
     let whole = ap (λ (z : Counted). length z.text) (first_of (with_marks c bucket) false tally line lines)
     ∙ length-append rows (ended_lines (with_marks c bucket) false after lines).text in
-    let more = all_add c bucket after lines (suc k) (row_at_most tally own k low next) (omega (arith, high)) in
-    let rest = more ∙ ap (λ (z : Bool). lines_of_row bucket after.row + lines_in c bucket z lines) (later tally own) in
-    let first = line_adds c bucket tally own k low next in
+    let more = all_add c bucket after lines (suc k) (row_at_most at start k low next) (omega (arith, high)) in
+    let rest = more ∙ ap (λ (z : Bool). lines_of_row bucket after.row + lines_in c bucket after.last z lines) (later at start)
+    ∙ ap (λ (z : Option ℤ). lines_of_row bucket after.row + lines_in c bucket z false lines) (last_kept at start) in
+    let first = line_adds c bucket at start k low next in
     whole ∙ omega (arith, rest, first)
 
 input-lines : (c : Counting) (input : List ℕ) → count_input c false input ≡ ended_lines c false first_tally (lines_of input)
@@ -141,7 +150,7 @@ unfolding count_input
 input-lines c input = refl
 
 pub counts-add_up : (c : Counting) (bucket : ℤ) (input : List ℕ) → length (lines_of input) ≤ most
-    → length (count_input (with_marks c bucket) false input).text ≡ lines_in c bucket true (lines_of input)
+    → length (count_input (with_marks c bucket) false input).text ≡ lines_in c bucket None true (lines_of input)
 counts-add_up c bucket input few =
     let sum = ap (λ (z : Counted). length z.text) (input-lines (with_marks c bucket) input)
     ∙ all_add c bucket first_tally (lines_of input) 0 tt (omega (arith, few)) in

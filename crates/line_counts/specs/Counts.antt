@@ -1,9 +1,8 @@
 -- The rows of an input: a run of lines of one bucket has a row, and each bucket without lines before the next one.
 use Rattle.std.specs.Prelude.{ℕ, suc, zero, ◌+◌, ◌-◌, ◌^◌, ◌==◌, Bool, true, false, min, List, [], ◌∷◌, ◌++◌, if◌then◌else◌, ℤ, int_lt, Option}
 use Rattle.std.specs.Prelude.{Some, None, Result, Ok, Err}
-use Rattle.std.specs.Option.{option_or}
+use Rattle.std.specs.Option.{option_and_then, option_or}
 use Rattle.std.specs.Ordering.{int_eq}
-use Rattle.line_devices.specs.LineParts.{ended_from, rest_from}
 use Rattle.line_devices.specs.Lines.{lines_of, whole_lines_of}
 use Rattle.line_counts.specs.Counting.{Counting}
 use Rattle.line_counts.specs.declared.tallies.CountFault.{CountFault}
@@ -21,7 +20,7 @@ one_more count = min (count + 1) most
 
 -- the tally before the first line
 abbrev pub first_tally : Tally
-first_tally = record { lines = 0; row = None; back = None }
+first_tally = record { lines = 0; last = None; row = None; back = None }
 
 -- so many rows without lines at most, from a bucket on and before another
 unfoldable pub empty_rows : Counting → ℕ → ℤ → ℤ → List ℕ
@@ -75,13 +74,14 @@ back_of false line = None
 abbrev pub tally_after : Tally → ℤ → Tally
 tally_after tally start = record {
   lines = next_line tally;
+  last = tally.last;
   row = Some (row_after tally.row start);
   back = option_or tally.back (back_of (goes_back tally.row start) (next_line tally));
 }
 
 -- the tally after a line without a bucket
 abbrev pub tally_passed : Tally → Tally
-tally_passed tally = record { lines = next_line tally; row = tally.row; back = tally.back }
+tally_passed tally = record { lines = next_line tally; last = tally.last; row = tally.row; back = tally.back }
 
 -- the fault of a line if the run is strict: it has no bucket, or goes back
 abbrev pub fault_of : Bool → Tally → Option ℤ → Option CountFault
@@ -104,14 +104,28 @@ abbrev pub count_by : Counting → Option CountFault → Tally → Option ℤ �
 count_by counting (Some fault) tally bucket = outcome (last_row counting tally.row) (Err fault)
 count_by counting None tally bucket = outcome (rows_by counting tally.row bucket) (Ok (tally_by tally bucket))
 
--- the bucket of the next line
-abbrev pub bucket_at : Counting → Tally → List ℕ → Option ℤ
-bucket_at counting tally line = counting.bucket (tally.lines == 0) line
+-- the instant of the next line
+abbrev pub instant_at : Counting → Tally → List ℕ → Option ℤ
+instant_at counting tally line = counting.instant tally.last (tally.lines == 0) line
+
+-- the bucket of a line, by its instant
+abbrev pub bucket_at : Counting → Option ℤ → Option ℤ
+bucket_at counting own = option_and_then counting.bucket own
+
+-- the tally at a line of an instant, which is the last one from then on
+abbrev pub tally_at : Tally → Option ℤ → Tally
+tally_at tally own = record { lines = tally.lines; last = option_or own tally.last; row = tally.row; back = tally.back }
+
+-- a line, by its instant
+abbrev pub count_own : Counting → Bool → Tally → Option ℤ → Counted
+count_own counting is_strict tally own =
+    let at = tally_at tally own in
+    let bucket = bucket_at counting own in
+    count_by counting (fault_of is_strict at bucket) at bucket
 
 -- a line
 unfoldable pub count_line : Counting → Bool → Tally → List ℕ → Counted
-count_line counting is_strict tally line =
-    let bucket = bucket_at counting tally line in count_by counting (fault_of is_strict tally bucket) tally bucket
+count_line counting is_strict tally line = count_own counting is_strict tally (instant_at counting tally line)
 
 -- what follows a text
 abbrev pub then_on : List ℕ → Result Tally CountFault → (Tally → Counted) → Counted

@@ -1,9 +1,10 @@
 -- Laws of counts. A function of `src/laws.rt` proves each of them.
 use Rattle.std.specs.Prelude.{◌≡◌, ℕ, zero, suc, ◌+◌, ◌≤◌, Bool, true, false, List, [], ◌∷◌, length, if◌then◌else◌, ℤ, Option, Some, None}
+use Rattle.std.specs.Option.{option_or}
 use Rattle.std.specs.Ordering.{int_eq}
 use Rattle.line_devices.specs.Lines.{lines_of}
 use Rattle.line_counts.specs.Counting.{Counting}
-use Rattle.line_counts.specs.Counts.{count_input, most}
+use Rattle.line_counts.specs.Counts.{bucket_at, count_input, most}
 
 -- so many bytes
 unfoldable pub marks : ℕ → List ℕ
@@ -16,20 +17,22 @@ row_marks bucket start count = if int_eq start bucket then marks count else []
 
 -- the same count with such rows: its output has as many bytes as the rows of that bucket have lines together
 abbrev pub with_marks : Counting → ℤ → Counting
-with_marks counting bucket = record { bucket = counting.bucket; next = counting.next; row = row_marks bucket }
+with_marks counting bucket = record { instant = counting.instant; bucket = counting.bucket; next = counting.next; row = row_marks bucket }
 
 -- 1 for a line of a bucket, and 0 for another
 abbrev pub one_if_in : ℤ → Option ℤ → ℕ
 one_if_in bucket None = 0
 one_if_in bucket (Some start) = if int_eq start bucket then 1 else 0
 
--- the number of the lines of a bucket
-unfoldable pub lines_in : Counting → ℤ → Bool → List (List ℕ) → ℕ
-lines_in counting bucket is_first [] = 0
-lines_in counting bucket is_first (line ∷ lines) = one_if_in bucket (counting.bucket is_first line) + lines_in counting bucket false lines
+-- the number of the lines of a bucket, after lines of which this is the last instant
+unfoldable pub lines_in : Counting → ℤ → Option ℤ → Bool → List (List ℕ) → ℕ
+lines_in counting bucket last is_first [] = 0
+lines_in counting bucket last is_first (line ∷ lines) =
+    let own = counting.instant last is_first line in
+    one_if_in bucket (bucket_at counting own) + lines_in counting bucket (option_or own last) false lines
 
 -- the rows of a bucket have together as many lines as the input has in that bucket, whatever the order of the lines
 abbrev pub CountsAddUp : Type 0
 CountsAddUp =
     (counting : Counting) (bucket : ℤ) (input : List ℕ) → length (lines_of input) ≤ most
-    → length (count_input (with_marks counting bucket) false input).text ≡ lines_in counting bucket true (lines_of input)
+    → length (count_input (with_marks counting bucket) false input).text ≡ lines_in counting bucket None true (lines_of input)

@@ -3,7 +3,7 @@ use Rattle.std.specs.Prelude.{◌≡◌, ℕ, ◌-◌, ◌^◌, ◌≤◌, ◌�
 use Rattle.std.specs.Io.KnownBytes.{Appends, Consumes}
 use Rattle.line_devices.specs.Device.{Devices}
 use Rattle.line_counts.specs.Counting.{Counting}
-use Rattle.line_counts.specs.Counts.{count_input, count_open}
+use Rattle.line_counts.specs.Counts.{count_open}
 use Rattle.line_counts.specs.Progress.{Completes, Ends, Stands}
 use Rattle.line_counts.specs.declared.lines.Work.{Work}
 use Rattle.line_counts.specs.declared.tallies.CountFault.{CountFault}

@@ -3,7 +3,7 @@ ghost use Rattle.std.specs.Ordering.{int_eq};
 ghost use Rattle.std.specs.Prelude.{◌≡◌, ◌++◌, int_lt, Some};
 ghost use Rattle.line_devices.specs.Writing.{MarksFailure, SendsAll};
 ghost use Rattle.line_counts.specs.Counts.{back_of, bucket_at, count_line, empty_rows, ended_rows, fault_of, first_tally, goes_back, last_row, most};
-ghost use Rattle.line_counts.specs.Counts.{row_after, rows_by, tally_after, tally_by, tally_passed};
+ghost use Rattle.line_counts.specs.Counts.{row_after, rows_by, tally_after, tally_at, tally_by, tally_passed};
 ghost use Rattle.line_counts.specs.Progress.{Takes, mark_after};
 
 use crate::buckets::Buckets;
@@ -25,6 +25,8 @@ pub struct Row {
 pub struct Tally {
     /// Their number, at most 2^64 - 1.
     pub lines: u64,
+    /// The last of their instants.
+    pub last: Option<UtcDateTime>,
     /// The last row, which may grow.
     pub row: Option<Row>,
     /// The number of the first line whose bucket is before that of the row then.
@@ -61,6 +63,7 @@ impl Tally {
     {
         Tally {
             lines: 0,
+            last: None,
             row: None,
             back: None,
         }
@@ -81,7 +84,9 @@ pub(crate) fn take_line<B: Buckets, W: Sink>(
         tally.new (W.written writer.old) (W.written writer.new) pending.old pending.new }
     ensures mark { W.is_marked writer.new ≡ mark_after result (W.is_marked writer.old) }
 {
-    let bucket = buckets.bucket_of(tally.lines == 0, line);
+    let own = buckets.instant_of(tally.last, tally.lines == 0, line);
+    note(tally, &own);
+    let bucket = bucket_at(buckets, &own);
     if let Some(fault) = fault_of(is_strict, tally, &bucket) {
         send_last(buckets, writer, pending, tally)?;
         flush(writer, pending)?;
@@ -91,6 +96,25 @@ pub(crate) fn take_line<B: Buckets, W: Sink>(
     let after = tally_by(tally, &bucket);
     *tally = after;
     Ok(())
+}
+
+// Keeps the instant of a line as the last one, if it has one.
+fn note(tally: &mut Tally, own: &Option<UtcDateTime>)
+    ensures { tally.new ≡ tally_at tally.old own.now }
+{
+    if own.is_some() {
+        tally.last = *own;
+    }
+}
+
+// The bucket of a line, by its instant.
+fn bucket_at<B: Buckets>(buckets: &B, own: &Option<UtcDateTime>) -> Option<UtcDateTime>
+    ensures { result ≡ bucket_at (B.counting buckets.now) own.now }
+{
+    match own {
+        Some(at) => buckets.bucket_of(*at),
+        None => None,
+    }
 }
 
 // The fault of a line if the run is strict.
@@ -139,6 +163,7 @@ fn tally_after(tally: &Tally, start: UtcDateTime) -> Tally
     let number = tally.lines.saturating_add(1);
     Tally {
         lines: number,
+        last: tally.last,
         row: Some(row_after(&tally.row, start)),
         back: tally.back.or(back_of(goes_back(&tally.row, start), number)),
     }
@@ -157,6 +182,7 @@ fn tally_passed(tally: &Tally) -> Tally
 {
     Tally {
         lines: tally.lines.saturating_add(1),
+        last: tally.last,
         row: tally.row,
         back: tally.back,
     }

@@ -1,10 +1,11 @@
 -- The lines of a log have all its bytes.
-use Rattle.std.proofs.Common.{◌≡◌, ℕ, Bool, true, nat_eq, List, [], ◌∷◌, ◌++◌, map, ℤ, Option, refl, sym, ap, ◌∙◌, inl, inr, append_assoc}
+use Rattle.std.proofs.Common.{◌≡◌, ℕ, true, nat_eq, List, [], ◌∷◌, ◌++◌, map, refl, sym, ap, ◌∙◌, inl, inr, append_assoc}
 use Rattle.std.proofs.Common.{append-nil}
 use Rattle.std.proofs.lemmas.Bool.{cases_Bool, eqb-true}
 use Rattle.std.specs.List.{concat}
 use Rattle.line_devices.specs.LineParts.{ended_from, rest_from}
 use Rattle.line_merges.proofs.LineLemmas.{lines_from-parts}
+use Rattle.line_merges.specs.Instants.{LogInstants}
 use Rattle.line_merges.specs.Lines.{Line, line_at, line_text, lines_at, log_lines, first_place, place_after}
 use Rattle.line_merges.specs.declared.logs.Place.{Place}
 
@@ -25,7 +26,7 @@ pieces-joined piece (byte ∷ bytes) =
       | inr t ↦ rw t (pieces-joined (piece ++ byte ∷ []) bytes ∙ append_assoc piece (byte ∷ []) bytes)
     ]
 
-lines_at-joined : (instant : Bool → List ℕ → Option ℤ) (place : Place) (lines : List (List ℕ)) (rest : List ℕ)
+lines_at-joined : (instant : LogInstants) (place : Place) (lines : List (List ℕ)) (rest : List ℕ)
     → concat (map line_text (lines_at instant place lines rest)) ≡ concat (map fed lines) ++ rest
 unfolding lines_at
 lines_at-joined instant place [] [] = refl
@@ -34,7 +35,7 @@ lines_at-joined instant place (line ∷ lines) rest =
     ap (λ (z : List ℕ). fed line ++ z) (lines_at-joined instant (place_after place (line_at instant place line true)) lines rest)
     ∙ sym (append_assoc (fed line) (concat (map fed lines)) rest)
 
-pub lines-keep : (instant : Bool → List ℕ → Option ℤ) (log : List ℕ) → concat (map line_text (log_lines instant log)) ≡ log
+pub lines-keep : (instant : LogInstants) (log : List ℕ) → concat (map line_text (log_lines instant log)) ≡ log
 unfolding log_lines
 lines-keep instant log =
     ap (λ (z : List Line). concat (map line_text z)) (lines_from-parts instant first_place log)

@@ -6,6 +6,7 @@ use Rattle.std.proofs.lemmas.Bool.Decides.{nat_tests}
 use Rattle.std.proofs.lemmas.List.{take_all, take-append-le, drop_all}
 use Rattle.line_devices.specs.LineLemmas.{pieces_of-parts, take-line_feed, whole_lines_of-parts}
 use Rattle.line_devices.specs.LineParts.{HasNone, ended_from, rest_from}
+use Rattle.line_merges.specs.Instants.{LogInstants}
 use Rattle.line_merges.specs.LineFronts.{line_in, has_line_feed, behind_line, front_line}
 use Rattle.line_merges.specs.Lines.{Line, line_at, lines_at, lines_from, last_piece, place_after}
 use Rattle.line_merges.specs.declared.logs.Place.{Place}
@@ -182,28 +183,28 @@ last_piece-append [] piece = refl
 last_piece-append (x ∷ []) piece = refl
 last_piece-append (x ∷ y ∷ pieces) piece = last_piece-append (y ∷ pieces) piece
 
-pub lines_from-parts : (instant : Bool → List ℕ → Option ℤ) (place : Place) (bytes : List ℕ)
+pub lines_from-parts : (instant : LogInstants) (place : Place) (bytes : List ℕ)
     → lines_from instant place bytes ≡ lines_at instant place (ended_from [] bytes) (rest_from [] bytes)
 unfolding lines_from
 lines_from-parts instant place bytes =
     rw (whole_lines_of-parts bytes, pieces_of-parts bytes, last_piece-append (ended_from [] bytes) (rest_from [] bytes)) refl
 
 -- no bytes have no line
-pub lines_from-nil : (instant : Bool → List ℕ → Option ℤ) (place : Place) → lines_from instant place [] ≡ []
+pub lines_from-nil : (instant : LogInstants) (place : Place) → lines_from instant place [] ≡ []
 unfolding ended_from rest_from lines_at
 lines_from-nil instant place = lines_from-parts instant place []
 
-lines_at-rest : (instant : Bool → List ℕ → Option ℤ) (place : Place) (rest : List ℕ) → 0 < length rest
+lines_at-rest : (instant : LogInstants) (place : Place) (rest : List ℕ) → 0 < length rest
     → lines_at instant place [] rest ≡ line_at instant place rest false ∷ []
 unfolding lines_at
 lines_at-rest instant place [] some = absurd (omega (arith, some))
 lines_at-rest instant place (byte ∷ rest) some = refl
 
 -- the line of these bytes is the first of them
-abbrev pub first_line : (Bool → List ℕ → Option ℤ) → Place → List ℕ → Line
+abbrev pub first_line : LogInstants → Place → List ℕ → Line
 first_line instant place bytes = line_at instant place (line_in bytes) (has_line_feed bytes)
 
-pub lines_from-first : (instant : Bool → List ℕ → Option ℤ) (place : Place) (bytes : List ℕ) → 0 < length bytes
+pub lines_from-first : (instant : LogInstants) (place : Place) (bytes : List ℕ) → 0 < length bytes
     → lines_from instant place bytes ≡ first_line instant place bytes ∷ lines_from instant (place_after place (first_line instant place bytes))
     (behind_line bytes)
 unfolding lines_at

@@ -1,9 +1,10 @@
 -- The next line of a merge, whatever bytes are left.
-use Rattle.std.proofs.Common.{◌≡◌, ℕ, ◌<◌, Bool, true, false, List, [], ◌∷◌, ◌++◌, length, ℤ, Option, Some, None, refl, sym, ap}
+use Rattle.std.proofs.Common.{◌≡◌, ℕ, ◌<◌, Bool, true, false, List, [], ◌∷◌, ◌++◌, length, Option, Some, None, refl, sym, ap}
 use Rattle.std.proofs.Common.{subst, ◌∙◌, inl, inr, arith, append-nil, length-append}
 use Rattle.std.proofs.lemmas.Bool.{cases_Bool}
 use Rattle.line_merges.proofs.LineLemmas.{first_line, front_line-behind_line, lines_from-first, lines_from-nil, longer-ended}
 use Rattle.line_merges.specs.Choices.{IsNext}
+use Rattle.line_merges.specs.Instants.{LogInstants}
 use Rattle.line_merges.specs.LineFronts.{behind_line, front_line, has_line_feed}
 use Rattle.line_merges.specs.Lines.{Line, lines_from, place_after}
 use Rattle.line_merges.specs.Logs.{IsReady, place_behind}
@@ -13,7 +14,7 @@ use Rattle.line_merges.specs.declared.logs.Front.{Front}
 use Rattle.line_merges.specs.declared.logs.Place.{Place}
 
 -- the first line that is left of a log
-record HeadIs (instant : Bool → List ℕ → Option ℤ) (o : Option Front) (left : List ℕ) (line : Line) : Type 0 where
+record HeadIs (instant : LogInstants) (o : Option Front) (left : List ℕ) (line : Line) : Type 0 where
   front : Front
   is : o ≡ Some front
   has_line : front.has_line ≡ true
@@ -29,7 +30,7 @@ same_head a b xs ys e = cc
 no_line : (a : Line) (xs : List Line) → [] ≡ a ∷ xs → ⊥
 no_line a xs e = cc
 
-head-is : (instant : Bool → List ℕ → Option ℤ) (o : Option Front) (left : List ℕ) (line : Line) (rest : List Line)
+head-is : (instant : LogInstants) (o : Option Front) (left : List ℕ) (line : Line) (rest : List Line)
     → ((front : Front) → o ≡ Some front → IsReady instant front) → IsLeft o left → front_lines instant o left ≡ line ∷ rest → HeadIs instant o left line
 head-is instant None left line rest known is e = absurd (no_line line rest e)
 head-is instant (Some front) left line rest known is e =
@@ -55,7 +56,7 @@ head-is instant (Some front) left line rest known is e =
 same_front : (a b : Front) → ◌≡◌ {A = Option Front} (Some a) (Some b) → a ≡ b
 same_front a b e = cc
 
-module _ (instant : Bool → List ℕ → Option ℤ) (is_strict : Bool) (fronts : ℕ → Option Front) (lefts : ℕ → List ℕ) (k : ℕ)
+module _ (instant : ℕ → LogInstants) (is_strict : Bool) (fronts : ℕ → Option Front) (lefts : ℕ → List ℕ) (k : ℕ)
     (known : AreKnown instant is_strict fronts) (left : (j : ℕ) → IsLeft (fronts j) (lefts j)) (next : IsNext fronts k) where
   -- the bytes of the log that are left
   here : IsLeft (Some next.front) (lefts k)
@@ -64,33 +65,33 @@ module _ (instant : Bool → List ℕ → Option ℤ) (is_strict : Bool) (fronts
   pub next_some : 0 < length (lefts k)
   next_some = some_left next.front (lefts k) here.0 here.1 ((known k next.front next.has).0.line next.line)
 
-  pub next_instant : (first_line instant next.front.place (lefts k)).instant ≡ next.front.next
+  pub next_instant : (first_line (instant k) next.front.place (lefts k)).instant ≡ next.front.next
   next_instant = rw here.1 ((known k next.front next.has).0.next next.line here.0 here.2)
 
   -- it is the first of the lines that are left
-  pub next_lines : front_lines instant (fronts k) (lefts k) ≡ first_line instant next.front.place (lefts k)
-      ∷ lines_from instant (place_after next.front.place (first_line instant next.front.place (lefts k))) (behind_line (lefts k))
+  pub next_lines : front_lines (instant k) (fronts k) (lefts k) ≡ first_line (instant k) next.front.place (lefts k)
+      ∷ lines_from (instant k) (place_after next.front.place (first_line (instant k) next.front.place (lefts k))) (behind_line (lefts k))
   next_lines =
-      ap (λ (z : Option Front). front_lines instant z (lefts k)) next.has
-      ∙ lines_from-first instant next.front.place (lefts k) next_some
+      ap (λ (z : Option Front). front_lines (instant k) z (lefts k)) next.has
+      ∙ lines_from-first (instant k) next.front.place (lefts k) next_some
 
-  pub next_first : IsFirst (λ j. front_lines instant (fronts j) (lefts j)) k (first_line instant next.front.place (lefts k))
+  pub next_first : IsFirst (λ j. front_lines (instant j) (fronts j) (lefts j)) k (first_line (instant k) next.front.place (lefts k))
   next_first j other rest e =
-      let head = head-is instant (fronts j) (lefts j) other rest (λ front f. (known j front f).0) (left j) e in (
+      let head = head-is (instant j) (fronts j) (lefts j) other rest (λ front f. (known j front f).0) (left j) e in (
         rw (head.next, next_instant) (next.least j head.front head.is head.has_line),
         λ low. rw (head.next, next_instant) (next.first j head.front low head.is head.has_line),
       )
 
   -- the place after it
-  pub next_place : place_after next.front.place (first_line instant next.front.place (lefts k)) ≡ place_behind next.front
+  pub next_place : place_after next.front.place (first_line (instant k) next.front.place (lefts k)) ≡ place_behind next.front
   next_place = rw next_instant refl
 
-  pub next_forward : is_strict ≡ true → (first_line instant next.front.place (lefts k)).is_back ≡ false
+  pub next_forward : is_strict ≡ true → (first_line (instant k) next.front.place (lefts k)).is_back ≡ false
   next_forward strict = rw next_instant ((known k next.front next.has).1 strict next.line)
 
 -- bytes after those that were passed: a line feed ends the first line, or they are no more
 pub record IsAfter (bytes later : List ℕ) : Type 0 where
-  pub line : (instant : Bool → List ℕ → Option ℤ) (place : Place) → first_line instant place (bytes ++ later) ≡ first_line instant place bytes
+  pub line : (instant : LogInstants) (place : Place) → first_line instant place (bytes ++ later) ≡ first_line instant place bytes
   pub behind : behind_line (bytes ++ later) ≡ behind_line bytes ++ later
 
 pub after_feed : (bytes later : List ℕ) → has_line_feed bytes ≡ true → IsAfter bytes later

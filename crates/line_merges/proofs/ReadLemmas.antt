@@ -13,7 +13,7 @@ use Rattle.line_devices.specs.WritingLemmas.{Appends-append, Appends-flushed, Ap
 use Rattle.line_devices.specs.LineParts.{HasNone}
 use Rattle.line_merges.proofs.LineLemmas.{line_decided, line_in-found}
 use Rattle.line_merges.specs.Buffers.{Behind}
-use Rattle.line_merges.specs.Instants.{up_to}
+use Rattle.line_merges.specs.Instants.{LogInstants, up_to}
 use Rattle.line_merges.specs.LineFronts.{has_line_feed, line_in}
 use Rattle.line_merges.specs.Logs.{AppendsFront, Fails, FindsNext, IsAtEndAfter, IsEnough, IsReady, IsUnfailed, Reads, ReadsOn}
 use Rattle.line_merges.specs.declared.logs.Front.{Front}
@@ -149,10 +149,12 @@ future_is front future (inr (inl long)) more same = inr (inl (subst (λ (z : Lis
 future_is front future (inr (inr feed)) more same = inr (inr (sym (ap has_line_feed same) ∙ feed))
 
 -- the next line is known
-pub look_ready : (instant : Bool → List ℕ → Option ℤ) (old new : Front) (end : ℕ) (bytes : List ℕ) (own : Option ℤ) (is_empty : Bool)
-    → ((is_first : Bool) (line : List ℕ) → instant is_first (take 1027 line) ≡ instant is_first line) → IsEnough old → bytes ≡ old.buffer
+pub look_ready : (instant : LogInstants) (old new : Front) (end : ℕ) (bytes : List ℕ) (own : Option ℤ) (is_empty : Bool)
+    → ((last : Option ℤ) (is_first : Bool) (line : List ℕ) → instant last is_first (take 1027 line) ≡ instant last is_first line)
+    → IsEnough old → bytes ≡ old.buffer
     → end ≤ length bytes → HasNone 10 bytes 0 end → (end < length bytes → get_or bytes end 0 ≡ 10)
-    → own ≡ instant (nat_eq old.place.lines 0) (take end bytes) → is_empty ≡ nat_eq (length bytes) 0 → new.buffer ≡ old.buffer → new.is_ended ≡ old.is_ended
+    → own ≡ instant old.place.last (nat_eq old.place.lines 0) (take end bytes) → is_empty ≡ nat_eq (length bytes) 0 → new.buffer ≡ old.buffer
+    → new.is_ended ≡ old.is_ended
     → new.place ≡ old.place → new.has_line ≡ not is_empty → new.next ≡ up_to old.place.last own → IsReady instant new
 look_ready instant old new end bytes own is_empty by_head enough whole high none there is empty buffer ended place has next =
     let line : take end bytes ≡ line_in bytes = line_in-found bytes end high none there in
@@ -165,8 +167,8 @@ look_ready instant old new end bytes own is_empty by_head enough whole high none
             ∙ is_nil bytes is_empty empty (sym has ∙ none))) (ap has_line_feed (sym whole ∙ is_nil bytes is_empty empty (sym has ∙ none))),
       );
       next = λ some future more.
-          let first = instant (nat_eq old.place.lines 0) in
-          let decided = line_decided first bytes future (by_head (nat_eq old.place.lines 0)) (future_is old future enough (λ e. more (ended
+          let first = instant old.place.last (nat_eq old.place.lines 0) in
+          let decided = line_decided first bytes future (by_head old.place.last (nat_eq old.place.lines 0)) (future_is old future enough (λ e. more (ended
           ∙ e)) (sym whole)) in
           rw (here, place) (ap (up_to old.place.last) (decided ∙ (ap first (sym line) ∙ sym is)) ∙ sym next);
     }
@@ -218,7 +220,7 @@ fails_later Endless before between after pending text xs ys sent u h = (
   omega (arith, h.2, length-append xs ys),
 )
 
-pub finds_failed : (result : Result Unit LogFault) (fault : LogFault) (instant : Bool → List ℕ → Option ℤ) (old mid new : Front)
+pub finds_failed : (result : Result Unit LogFault) (fault : LogFault) (instant : LogInstants) (old mid new : Front)
     (before between after : Devices) (was_pending pending pending' : List ℕ) → mid.is_ended ≡ false → Finds old mid before between was_pending pending
     → has_line_feed mid.buffer ≡ false → IsErrAnd result (λ by. by ≡ fault)
     → (more : List ℕ) × Reads mid new between after more × ((more ≡ []) × Fails fault between after pending more)

@@ -1,5 +1,5 @@
 -- The beginning and the end of a merge.
-use Rattle.std.proofs.Common.{◌≡◌, ◌≢◌, ℕ, ◌+◌, ◌-◌, ◌^◌, ◌<◌, ◌≤◌, Bool, true, false, min, cond, List, [], ◌++◌, length, ℤ, Option, Some, None}
+use Rattle.std.proofs.Common.{◌≡◌, ◌≢◌, ℕ, ◌+◌, ◌-◌, ◌^◌, ◌<◌, ◌≤◌, Bool, true, false, min, cond, List, [], ◌++◌, length, Option, Some, None}
 use Rattle.std.proofs.Common.{Result, Ok, Err, refl, sym, ap, subst, ◌∙◌, inl, inr, arith, append-nil, length-append}
 use Rattle.std.specs.Io.KnownBytes.{Appends}
 use Rattle.std.specs.Option.{option_map, option_or}
@@ -16,7 +16,7 @@ use Rattle.line_merges.proofs.StateLemmas.{at_each}
 use Rattle.line_merges.proofs.StepLemmas.{buffer_of, still_left, still_read}
 use Rattle.line_merges.proofs.TextLemmas.{merge_text-more}
 use Rattle.line_merges.specs.Choices.{HaveEnded, IsNext}
-use Rattle.line_merges.specs.Instants.{is_before}
+use Rattle.line_merges.specs.Instants.{LogInstants, is_before}
 use Rattle.line_merges.specs.Lines.{Line, first_back, first_place, lines_from, log_lines}
 use Rattle.line_merges.specs.Merges.{IsMerge, merge_text, text_from}
 use Rattle.line_merges.specs.Runs.{AreRead, Ends, IsCut, IsDone, IsMerged, IsNew, IsRead, LogState, Merges, Output}
@@ -25,14 +25,14 @@ use Rattle.line_merges.specs.declared.logs.Front.{Front}
 use Rattle.line_merges.specs.declared.merges.MergeFault.{MergeFault}
 use Rattle.line_merges.specs.declared.merges.MergeFault.TheVariants.{Write, Endless}
 
-pub sends_cut : (result : Result Bool MergeFault) (instant : Bool → List ℕ → Option ℤ) (is_strict : Bool) (k : ℕ) (first old new : ℕ → Option LogState)
+pub sends_cut : (result : Result Bool MergeFault) (instant : ℕ → LogInstants) (is_strict : Bool) (k : ℕ) (first old new : ℕ → Option LogState)
     (before between after : Output) (was_pending pending : List ℕ) (is_open : Bool) (Q : MergeFault → Type 0) → IsErrAnd result Q
     → (Stands instant is_strict first old before between was_pending is_open → IsErrAnd result (λ fault. IsCut fault instant is_strict first new before after))
     → SendsNext result instant is_strict k first old new before between after was_pending pending is_open
 sends_cut (Ok done) instant is_strict k first old new before between after was_pending pending is_open Q by h = absurd by
 sends_cut (Err fault) instant is_strict k first old new before between after was_pending pending is_open Q by h = h
 
-pub finds_cut : (result : Result Unit MergeFault) (instant : Bool → List ℕ → Option ℤ) (is_strict : Bool) (k : ℕ) (first old new : ℕ → Option LogState)
+pub finds_cut : (result : Result Unit MergeFault) (instant : ℕ → LogInstants) (is_strict : Bool) (k : ℕ) (first old new : ℕ → Option LogState)
     (before between after : Output) (was_pending pending : List ℕ) (is_open : Bool) (Q : MergeFault → Type 0) → IsErrAnd result Q
     → (Stands instant is_strict first old before between was_pending is_open → IsErrAnd result (λ fault. IsCut fault instant is_strict first new before after))
     → FindsLine result instant is_strict k first old new before between after was_pending pending is_open
@@ -80,13 +80,13 @@ IsNext-same fronts others k same h = record {
 }
 
 -- before anything is read
-new_lines : (instant : Bool → List ℕ → Option ℤ) (log : Option LogState) (left : List ℕ) → IsNew log → IsLeft (option_map (λ (s : LogState). s.front) log) left
+new_lines : (instant : LogInstants) (log : Option LogState) (left : List ℕ) → IsNew log → IsLeft (option_map (λ (s : LogState). s.front) log) left
     → front_lines instant (option_map (λ (s : LogState). s.front) log) left ≡ log_lines instant left
 unfolding log_lines
 new_lines instant None left new is = sym (ap (lines_from instant first_place) is ∙ lines_from-nil instant first_place)
 new_lines instant (Some log) left new is = ap (λ z. lines_from instant z left) new.3
 
-new_passed : (instant : Bool → List ℕ → Option ℤ) (log : Option LogState) → IsNew log → HasPassed instant log log []
+new_passed : (instant : LogInstants) (log : Option LogState) → IsNew log → HasPassed instant log log []
 unfolding log_lines
 new_passed instant None new = refl
 new_passed instant (Some log) new = record {
@@ -96,16 +96,16 @@ new_passed instant (Some log) new = record {
   back = λ left is. rw new.3 refl;
 }
 
-pub stands_first : (instant : Bool → List ℕ → Option ℤ) (is_strict : Bool) (first : ℕ → Option LogState) (before : Output) (pending : List ℕ)
+pub stands_first : (instant : ℕ → LogInstants) (is_strict : Bool) (first : ℕ → Option LogState) (before : Output) (pending : List ℕ)
     → ((k : ℕ) → IsNew (first k)) → before.has_failed ≡ false → pending ≡ [] → Stands instant is_strict first first before before pending false
 unfolding text_from
 stands_first instant is_strict first before pending new unmarked none = record {
   passed = λ k. [];
   out = [];
   leads = λ lefts is more merge.
-      IsMerge-same (λ k. front_lines instant (fronts_of first k) (lefts k)) (λ k. log_lines instant (lefts k)) more
-      (λ k. new_lines instant (first k) (lefts k) (new k) (is k)) merge;
-  logs = λ k. new_passed instant (first k) (new k);
+      IsMerge-same (λ k. front_lines (instant k) (fronts_of first k) (lefts k)) (λ k. log_lines (instant k) (lefts k)) more
+      (λ k. new_lines (instant k) (first k) (lefts k) (new k) (is k)) merge;
+  logs = λ k. new_passed (instant k) (first k) (new k);
   sent = rw none (Sends-nothing before.written []);
   unended = refl;
   forward = λ strict. All-nil (λ (line : ℕ × Line). line.1.is_back ≡ false);
@@ -120,13 +120,13 @@ or_none (Some a) = refl
 no_front : (front : Front) → ◌≡◌ {A = Option Front} None (Some front) → ⊥
 no_front front e = cc
 
-ended_left : (instant : Bool → List ℕ → Option ℤ) (log : Option LogState)
+ended_left : (instant : LogInstants) (log : Option LogState)
     → ((front : Front) → option_map (λ (s : LogState). s.front) log ≡ Some front → (front.buffer ≡ []) × (front.is_ended ≡ true))
     → IsLeft (option_map (λ (s : LogState). s.front) log) []
 ended_left instant None is = refl
 ended_left instant (Some log) is = let ended = is log.front refl in ([], rw ended.0 refl, λ _. refl)
 
-ended_read : (instant : Bool → List ℕ → Option ℤ) (first log : Option LogState) (passed : List ℕ)
+ended_read : (instant : LogInstants) (first log : Option LogState) (passed : List ℕ)
     → ((front : Front) → option_map (λ (s : LogState). s.front) log ≡ Some front → (front.buffer ≡ []) × (front.is_ended ≡ true))
     → HasPassed instant first log passed → IsRead first log (passed ++ []) × IsDone instant first log (passed ++ [])
 unfolding first_back
@@ -140,29 +140,29 @@ ended_read instant (Some first) (Some log) passed is h =
     ∙ or_none log.front.place.back) in
     (rw ended.0 at h.consumed, (h.end ended.1, h.unfailed, sym back))
 
-no_lines : (instant : Bool → List ℕ → Option ℤ) (front : Option Front) → front_lines instant front [] ≡ []
+no_lines : (instant : LogInstants) (front : Option Front) → front_lines instant front [] ≡ []
 no_lines instant None = refl
 no_lines instant (Some front) = lines_from-nil instant front.place
 
-module _ (instant : Bool → List ℕ → Option ℤ) (is_strict : Bool) (first now : ℕ → Option LogState) (before at : Output) (pending : List ℕ) (is_open : Bool)
+module _ (instant : ℕ → LogInstants) (is_strict : Bool) (first now : ℕ → Option LogState) (before at : Output) (pending : List ℕ) (is_open : Bool)
     (h : Stands instant is_strict first now before at pending is_open) where
   module _ (known : AreKnown instant is_strict (fronts_of now)) (ended : HaveEnded (fronts_of now)) where
     is_ended : (k : ℕ) (front : Front) → fronts_of now k ≡ Some front → (front.buffer ≡ []) × (front.is_ended ≡ true)
     is_ended k front e = (known k front e).0.none (ended k front e)
 
     all_lefts : (k : ℕ) → IsLeft (fronts_of now k) []
-    all_lefts k = ended_left instant (now k) (is_ended k)
+    all_lefts k = ended_left (instant k) (now k) (is_ended k)
 
     all_merge : Merges instant (λ k. h.passed k ++ []) h.out
-    all_merge = rw append-nil at (h.leads (λ k. []) all_lefts [] (λ k. no_lines instant (fronts_of now k)))
+    all_merge = rw append-nil at (h.leads (λ k. []) all_lefts [] (λ k. no_lines (instant k) (fronts_of now k)))
 
     pub stands_end : (after : Output) → Appends at.written after.written pending → after.has_failed ≡ at.has_failed
         → IsMerged instant is_strict first now before after
     stands_end after written mark = record {
       bytes = λ k. h.passed k ++ [];
       out = h.out;
-      read = λ k. (ended_read instant (first k) (now k) (h.passed k) (is_ended k) (h.logs k)).0;
-      done = λ k. (ended_read instant (first k) (now k) (h.passed k) (is_ended k) (h.logs k)).1;
+      read = λ k. (ended_read (instant k) (first k) (now k) (h.passed k) (is_ended k) (h.logs k)).0;
+      done = λ k. (ended_read (instant k) (first k) (now k) (h.passed k) (is_ended k) (h.logs k)).1;
       merge = all_merge;
       written = Appends-flushed before.written at.written after.written pending (merge_text h.out) h.sent written;
       forward = h.forward;
@@ -174,8 +174,8 @@ module _ (instant : Bool → List ℕ → Option ℤ) (is_strict : Bool) (first 
     buffers : ℕ → List ℕ
     buffers j = buffer_of (now j)
 
-    more : (out : List (ℕ × Line)) × IsMerge (λ j. front_lines instant (fronts_of now j) (buffers j)) out
-    more = merge_exists n (λ j. front_lines instant (fronts_of now j) (buffers j)) (λ j high. rw (past j high) refl)
+    more : (out : List (ℕ × Line)) × IsMerge (λ j. front_lines (instant j) (fronts_of now j) (buffers j)) out
+    more = merge_exists n (λ j. front_lines (instant j) (fronts_of now j) (buffers j)) (λ j high. rw (past j high) refl)
 
     more_merge : Merges instant (λ j. h.passed j ++ buffers j) (h.out ++ more.0)
     unfolding buffers
@@ -183,7 +183,7 @@ module _ (instant : Bool → List ℕ → Option ℤ) (is_strict : Bool) (first 
 
     more_read : AreRead first now (λ j. h.passed j ++ buffers j)
     unfolding buffers
-    more_read j = still_read instant (first j) (now j) (h.passed j) (h.logs j)
+    more_read j = still_read (instant j) (first j) (now j) (h.passed j) (h.logs j)
 
     -- a write failed
     pub stands_cut : (result : Result Unit MergeFault) (after : Output) → IsErrAnd result (λ fault. fault ≡ Write)
@@ -217,14 +217,14 @@ module _ (instant : Bool → List ℕ → Option ℤ) (is_strict : Bool) (first 
       long = inr (omega (arith, long, length-append h.out more.0));
     }
 
-pub ends_cut : (result : Result Unit MergeFault) (fault : MergeFault) (instant : Bool → List ℕ → Option ℤ) (is_strict : Bool) (first now : ℕ → Option LogState)
+pub ends_cut : (result : Result Unit MergeFault) (fault : MergeFault) (instant : ℕ → LogInstants) (is_strict : Bool) (first now : ℕ → Option LogState)
     (before after : Output) → IsErrAnd result (λ by. by ≡ fault) → IsCut fault instant is_strict first now before after
     → Ends result instant is_strict first now before after
 ends_cut (Ok done) fault instant is_strict first now before after by h = absurd by
 ends_cut (Err e) fault instant is_strict first now before after by h = rw by h
 
 -- the lines that are known
-known_is : (instant : Bool → List ℕ → Option ℤ) (is_strict : Bool) (o : Option Front) (front : Front) → IsKnown instant is_strict o → o ≡ Some front
+known_is : (instant : LogInstants) (is_strict : Bool) (o : Option Front) (front : Front) → IsKnown instant is_strict o → o ≡ Some front
     → IsKnown instant is_strict (Some front)
 known_is instant is_strict o front h e = subst (IsKnown instant is_strict) e h
 
@@ -232,23 +232,24 @@ same_front : (was now : Option LogState) (front : Front) → now ≡ was → opt
     → option_map (λ (s : LogState). s.front) was ≡ Some front
 same_front was now front same e = ap (option_map (λ (s : LogState). s.front)) (sym same) ∙ e
 
-pub known_more : (instant : Bool → List ℕ → Option ℤ) (is_strict : Bool) (was now : ℕ → Option LogState) (k : ℕ) → ((j : ℕ) → j ≢ k → now j ≡ was j)
-    → IsKnown instant is_strict (fronts_of now k) → ((j : ℕ) (front : Front) → j < k → fronts_of was j ≡ Some front → IsKnown instant is_strict (Some front))
-    → (j : ℕ) (front : Front) → j < k + 1 → fronts_of now j ≡ Some front → IsKnown instant is_strict (Some front)
+pub known_more : (instant : ℕ → LogInstants) (is_strict : Bool) (was now : ℕ → Option LogState) (k : ℕ) → ((j : ℕ) → j ≢ k → now j ≡ was j)
+    → IsKnown (instant k) is_strict (fronts_of now k)
+    → ((j : ℕ) (front : Front) → j < k → fronts_of was j ≡ Some front → IsKnown (instant j) is_strict (Some front))
+    → (j : ℕ) (front : Front) → j < k + 1 → fronts_of now j ≡ Some front → IsKnown (instant j) is_strict (Some front)
 known_more instant is_strict was now k others here known =
-    at_each (λ j. (front : Front) → j < k + 1 → fronts_of now j ≡ Some front → IsKnown instant is_strict (Some front)) k
-    (λ front low e. known_is instant is_strict (fronts_of now k) front here e)
+    at_each (λ j. (front : Front) → j < k + 1 → fronts_of now j ≡ Some front → IsKnown (instant j) is_strict (Some front)) k
+    (λ front low e. known_is (instant k) is_strict (fronts_of now k) front here e)
     (λ j other front low e. known j front (omega (arith, other, low)) (same_front (was j) (now j) front (others j other) e))
 
-pub known_all : (instant : Bool → List ℕ → Option ℤ) (is_strict : Bool) (was now : ℕ → Option LogState) (k : ℕ) → ((j : ℕ) → j ≢ k → now j ≡ was j)
-    → IsKnown instant is_strict (fronts_of now k) → AreKnown instant is_strict (fronts_of was) → AreKnown instant is_strict (fronts_of now)
+pub known_all : (instant : ℕ → LogInstants) (is_strict : Bool) (was now : ℕ → Option LogState) (k : ℕ) → ((j : ℕ) → j ≢ k → now j ≡ was j)
+    → IsKnown (instant k) is_strict (fronts_of now k) → AreKnown instant is_strict (fronts_of was) → AreKnown instant is_strict (fronts_of now)
 known_all instant is_strict was now k others here known =
-    at_each (λ j. (front : Front) → fronts_of now j ≡ Some front → IsKnown instant is_strict (Some front)) k
-    (λ front e. known_is instant is_strict (fronts_of now k) front here e)
+    at_each (λ j. (front : Front) → fronts_of now j ≡ Some front → IsKnown (instant j) is_strict (Some front)) k
+    (λ front e. known_is (instant k) is_strict (fronts_of now k) front here e)
     (λ j other front e. known j front (same_front (was j) (now j) front (others j other) e))
 
-pub known_start : (instant : Bool → List ℕ → Option ℤ) (is_strict : Bool) (now : ℕ → Option LogState) (n k : ℕ) → ((j : ℕ) → n ≤ j → now j ≡ None) → n ≤ k
-    → ((j : ℕ) (front : Front) → j < k → fronts_of now j ≡ Some front → IsKnown instant is_strict (Some front)) → AreKnown instant is_strict (fronts_of now)
+pub known_start : (instant : ℕ → LogInstants) (is_strict : Bool) (now : ℕ → Option LogState) (n k : ℕ) → ((j : ℕ) → n ≤ j → now j ≡ None) → n ≤ k
+    → ((j : ℕ) (front : Front) → j < k → fronts_of now j ≡ Some front → IsKnown (instant j) is_strict (Some front)) → AreKnown instant is_strict (fronts_of now)
 known_start instant is_strict now n k past high known j front e =
     elim (cases_lt j n) [
       | inl low ↦ known j front (omega (arith, low, high)) e

@@ -1,5 +1,5 @@
 -- The steps of a merge.
-use Rattle.std.proofs.Common.{◌≡◌, ◌≢◌, ℕ, ◌+◌, ◌-◌, ◌^◌, ◌<◌, ◌≤◌, Bool, true, false, min, not, List, [], ◌∷◌, ◌++◌, length, ℤ, Option, Some, None}
+use Rattle.std.proofs.Common.{◌≡◌, ◌≢◌, ℕ, ◌+◌, ◌-◌, ◌^◌, ◌<◌, ◌≤◌, Bool, true, false, min, not, List, [], ◌∷◌, ◌++◌, length, Option, Some, None}
 use Rattle.std.proofs.Common.{Result, Ok, Err, refl, sym, ap, subst, ◌∙◌, inl, inr, arith, append_assoc, append-nil, length-append}
 use Rattle.std.specs.Io.KnownBytes.{Appends, Consumes}
 use Rattle.std.specs.Option.{option_map, option_or}
@@ -19,7 +19,7 @@ use Rattle.line_merges.proofs.ReadLemmas.{Sends-pending, at_end_later, fails_lat
 use Rattle.line_merges.proofs.StateLemmas.{at_each, put, put-other, put-same}
 use Rattle.line_merges.proofs.TextLemmas.{NoneBack-line, merge_text-line, merge_text-more, open_after-line}
 use Rattle.line_merges.specs.Choices.{IsNext}
-use Rattle.line_merges.specs.Instants.{is_before}
+use Rattle.line_merges.specs.Instants.{LogInstants, is_before}
 use Rattle.line_merges.specs.Laws.{own_lines}
 use Rattle.line_merges.specs.LineFronts.{behind_line, feed_if, front_line, has_line_feed}
 use Rattle.line_merges.specs.Lines.{Line, back_of, first_back, lines_from, log_lines, place_after}
@@ -44,7 +44,7 @@ pub still_left : (log : Option LogState) → IsLeft (option_map (λ (s : LogStat
 still_left None = refl
 still_left (Some log) = ([], sym (append-nil log.front.buffer), λ _. refl)
 
-pub still_read : (instant : Bool → List ℕ → Option ℤ) (first now : Option LogState) (passed : List ℕ) → HasPassed instant first now passed
+pub still_read : (instant : LogInstants) (first now : Option LogState) (passed : List ℕ) → HasPassed instant first now passed
     → IsRead first now (passed ++ buffer_of now)
 still_read instant None None passed h = ap (λ (z : List ℕ). z ++ []) h
 still_read instant None (Some now) passed h = absurd h
@@ -52,7 +52,7 @@ still_read instant (Some first) None passed h = absurd h
 still_read instant (Some first) (Some now) passed h = h.consumed
 
 -- a log that was read on
-more_read : (instant : Bool → List ℕ → Option ℤ) (first was now : Option LogState) (old new : LogState) (passed more : List ℕ) → was ≡ Some old → now ≡ Some new
+more_read : (instant : LogInstants) (first was now : Option LogState) (old new : LogState) (passed more : List ℕ) → was ≡ Some old → now ≡ Some new
     → HasPassed instant first was passed → Consumes old.left new.left more → IsRead first now (passed ++ (old.front.buffer ++ more))
 more_read instant None was now old new passed more e f h k = absurd (subst (λ (z : Option LogState). HasPassed instant None z passed) e h)
 more_read instant (Some first) was now old new passed more e f h k =
@@ -61,7 +61,7 @@ more_read instant (Some first) was now old new passed more e f h k =
     (rw (← append_assoc passed old.front.buffer more) (Consumes-append first.left old.left new.left (passed ++ old.front.buffer) more passed_so.consumed k))
 
 -- bytes without a line feed are no line that one ends
-lines_unended : (instant : Bool → List ℕ → Option ℤ) (place : Place) (bytes : List ℕ) → has_line_feed bytes ≡ false
+lines_unended : (instant : LogInstants) (place : Place) (bytes : List ℕ) → has_line_feed bytes ≡ false
     → All (λ line. line.is_ended ≡ false) (lines_from instant place bytes)
 lines_unended instant place [] none = rw (lines_from-nil instant place) (All-nil (λ (line : Line). line.is_ended ≡ false))
 lines_unended instant place (byte ∷ bytes) none =
@@ -92,7 +92,7 @@ end_found first old new xs more was is h k ended still end e =
       | inr f ↦ at_end_later first old new xs h (end f e)
     ]
 
-found_passed : (instant : Bool → List ℕ → Option ℤ) (first was now : Option LogState) (old new : LogState) (passed more : List ℕ) → was ≡ Some old
+found_passed : (instant : LogInstants) (first was now : Option LogState) (old new : LogState) (passed more : List ℕ) → was ≡ Some old
     → now ≡ Some new
     → HasPassed instant first was passed → Consumes old.left new.left more → (old.front.is_ended ≡ true → more ≡ []) → new.has_failed ≡ old.has_failed
     → new.front.buffer ≡ old.front.buffer ++ more → new.front.place ≡ old.front.place
@@ -112,7 +112,7 @@ found_passed instant (Some first) was now old new passed more e f h k none mark 
     } in
     subst (λ (z : Option LogState). HasPassed instant (Some first) z passed) (sym f) is
 
-same_place : (instant : Bool → List ℕ → Option ℤ) (was now : Option LogState) (old new : LogState) (left : List ℕ) → was ≡ Some old → now ≡ Some new
+same_place : (instant : LogInstants) (was now : Option LogState) (old new : LogState) (left : List ℕ) → was ≡ Some old → now ≡ Some new
     → new.front.place ≡ old.front.place
     → front_lines instant (option_map (λ (s : LogState). s.front) now) left ≡ front_lines instant (option_map (λ (s : LogState). s.front) was) left
 same_place instant was now old new left e f place = rw (e, f, place) refl
@@ -158,11 +158,11 @@ passed_after old new more left is_ended before after pending pending' p is =
       ap (λ (z : List ℕ). z ++ is.0) (sym rest) ∙ sym is.1,
     )
 
-place_passed : (instant : Bool → List ℕ → Option ℤ) (front : Front) (bytes : List ℕ) → (first_line instant front.place bytes).instant ≡ front.next
+place_passed : (instant : LogInstants) (front : Front) (bytes : List ℕ) → (first_line instant front.place bytes).instant ≡ front.next
     → place_after front.place (first_line instant front.place bytes) ≡ place_behind front
 place_passed instant front bytes next = rw next refl
 
-lines_passed : (instant : Bool → List ℕ → Option ℤ) (old new : LogState) (more left : List ℕ) (is_ended : Bool) (before after : Devices)
+lines_passed : (instant : LogInstants) (old new : LogState) (more left : List ℕ) (is_ended : Bool) (before after : Devices)
     (pending pending' : List ℕ)
     → Passed is_ended old.front new.front before after pending pending' more → 0 < length (old.front.buffer ++ more)
     → (first_line instant old.front.place (old.front.buffer ++ more)).instant ≡ old.front.next → (is : IsLeft (Some new.front) left)
@@ -180,7 +180,7 @@ lines_passed instant old new more left is_ended before after pending pending' p 
     ∙ (ap (λ (z : List ℕ). line ∷ lines_from instant (place_after old.front.place line) z) (a.1.behind ∙ a.2)
     ∙ ap (λ (z : Place). line ∷ lines_from instant z left) place)))
 
-first_passed : (instant : Bool → List ℕ → Option ℤ) (old new : LogState) (more left : List ℕ) (is_ended : Bool) (before after : Devices)
+first_passed : (instant : LogInstants) (old new : LogState) (more left : List ℕ) (is_ended : Bool) (before after : Devices)
     (pending pending' : List ℕ)
     → Passed is_ended old.front new.front before after pending pending' more → (is : IsLeft (Some new.front) left) → (front : Front) (bytes : List ℕ)
     → front ≡ old.front → bytes ≡ front_line (old.front.buffer ++ more) ++ left
@@ -190,7 +190,7 @@ first_passed instant old new more left is_ended before after pending pending' p 
     ap (λ (z : Front). first_line instant z.place bytes) f
     ∙ (ap (first_line instant old.front.place) (e ∙ a.0) ∙ a.1.line instant old.front.place)
 
-back_passed : (instant : Bool → List ℕ → Option ℤ) (old new : LogState) (passed more left : List ℕ) (is_ended : Bool) (before after : Devices)
+back_passed : (instant : LogInstants) (old new : LogState) (passed more left : List ℕ) (is_ended : Bool) (before after : Devices)
     (pending pending' : List ℕ)
     → Passed is_ended old.front new.front before after pending pending' more → 0 < length (old.front.buffer ++ more)
     → (first_line instant old.front.place (old.front.buffer ++ more)).instant ≡ old.front.next → (old.front.is_ended ≡ true → more ≡ [])
@@ -212,7 +212,7 @@ back_passed instant old new passed more left is_ended before after pending pendi
     ∙ ap (λ (z : Option ℕ). option_or z (first_back (lines_from instant new.front.place left))) place)))
 
 -- a log of which a line was passed
-line_passed : (instant : Bool → List ℕ → Option ℤ) (first was now : Option LogState) (old new : LogState) (passed more : List ℕ) (is_ended : Bool)
+line_passed : (instant : LogInstants) (first was now : Option LogState) (old new : LogState) (passed more : List ℕ) (is_ended : Bool)
     (before after : Devices) (pending pending' : List ℕ) → was ≡ Some old → now ≡ Some new → before.left ≡ old.left → after.left ≡ new.left
     → HasPassed instant first was passed → Consumes old.left new.left more → (old.front.is_ended ≡ true → more ≡ []) → new.has_failed ≡ old.has_failed
     → Passed is_ended old.front new.front before after pending pending' more → 0 < length (old.front.buffer ++ more)
@@ -235,7 +235,7 @@ line_passed instant (Some first) was now old new passed more is_ended before aft
     } in
     subst (λ (z : Option LogState). HasPassed instant (Some first) z (passed ++ front_line all)) (sym f) is
 
-module _ (instant : Bool → List ℕ → Option ℤ) (is_strict : Bool) (first was now : ℕ → Option LogState) (before between : Output) (pending : List ℕ)
+module _ (instant : ℕ → LogInstants) (is_strict : Bool) (first was now : ℕ → Option LogState) (before between : Output) (pending : List ℕ)
     (is_open : Bool) (h : Stands instant is_strict first was before between pending is_open) (n k : ℕ) (past : (j : ℕ) → n ≤ j → was j ≡ None)
     (old new : LogState) (old_is : was k ≡ Some old) (new_is : now k ≡ Some new) (others : (j : ℕ) → j ≢ k → now j ≡ was j)
     (more : List ℕ) (consumed : Consumes old.left new.left more) (none_more : old.front.is_ended ≡ true → more ≡ []) where
@@ -264,12 +264,12 @@ module _ (instant : Bool → List ℕ → Option ℤ) (is_strict : Bool) (first 
   unfolding bytes
   all_read =
       at_each (λ j. IsRead (first j) (now j) (h.passed j ++ lefts j)) k
-      (rw lefts_here (more_read instant (first k) (was k) (now k) old new (h.passed k) more old_is new_is (h.logs k) consumed))
-      (λ j other. rw (lefts_other j other, others j other) (still_read instant (first j) (was j) (h.passed j) (h.logs j)))
+      (rw lefts_here (more_read (instant k) (first k) (was k) (now k) old new (h.passed k) more old_is new_is (h.logs k) consumed))
+      (λ j other. rw (lefts_other j other, others j other) (still_read (instant j) (first j) (was j) (h.passed j) (h.logs j)))
 
   -- the lines that are left
   pub lines : ℕ → List Line
-  lines j = front_lines instant (fronts_of was j) (lefts j)
+  lines j = front_lines (instant j) (fronts_of was j) (lefts j)
 
   lines_past : (j : ℕ) → n ≤ j → lines j ≡ []
   unfolding lines
@@ -285,7 +285,7 @@ module _ (instant : Bool → List ℕ → Option ℤ) (is_strict : Bool) (first 
   rest_merge = h.leads lefts all_left rest (merge_exists n lines lines_past).1
 
   -- the lines of the log that are left
-  pub rest_taken : own_lines k rest ≡ lines_from instant old.front.place (old.front.buffer ++ more)
+  pub rest_taken : own_lines k rest ≡ lines_from (instant k) old.front.place (old.front.buffer ++ more)
   unfolding rest lines
   rest_taken =
       merges-keep lines (merge_exists n lines lines_past).0 (merge_exists n lines lines_past).1 k
@@ -342,7 +342,7 @@ module _ (instant : Bool → List ℕ → Option ℤ) (is_strict : Bool) (first 
       (fails_later fault (devices old.left before.written old.has_failed between.has_failed)
       (devices old.left between.written old.has_failed between.has_failed)
       (devices new.left after.written new.has_failed after.has_failed) pending (merge_text h.out) [] more h.sent (record { read = refl; write = refl }) fails)
-      (λ _. rw rest_taken (lines_unended instant old.front.place (old.front.buffer ++ more) none))
+      (λ _. rw rest_taken (lines_unended (instant k) old.front.place (old.front.buffer ++ more) none))
 
   -- the writer failed then
   pub find_stop_cut : (result : Result Unit MergeFault) (mid after : Output) (pending' : List ℕ) → IsErrAnd result (λ fault. fault ≡ merge.Write)
@@ -378,12 +378,12 @@ module _ (instant : Bool → List ℕ → Option ℤ) (is_strict : Bool) (first 
             (rw old_is (found_left old new more (later k) buffer none_more (λ t. (ended t).0) (rw new_is at (left k))))
             (λ j other. rw (others j other) at (left j)))
             out
-            (IsMerge-same (λ j. front_lines instant (fronts_of now j) (later j)) (λ j. front_lines instant (fronts_of was j) (later j)) out
-            (at_each (λ j. front_lines instant (fronts_of now j) (later j) ≡ front_lines instant (fronts_of was j) (later j)) k
-            (same_place instant (was k) (now k) old new (later k) old_is new_is place) (λ j other. rw (others j other) refl)) merge);
+            (IsMerge-same (λ j. front_lines (instant j) (fronts_of now j) (later j)) (λ j. front_lines (instant j) (fronts_of was j) (later j)) out
+            (at_each (λ j. front_lines (instant j) (fronts_of now j) (later j) ≡ front_lines (instant j) (fronts_of was j) (later j)) k
+            (same_place (instant k) (was k) (now k) old new (later k) old_is new_is place) (λ j other. rw (others j other) refl)) merge);
         logs =
-            at_each (λ j. HasPassed instant (first j) (now j) (h.passed j)) k
-            (found_passed instant (first k) (was k) (now k) old new (h.passed k) more old_is new_is
+            at_each (λ j. HasPassed (instant j) (first j) (now j) (h.passed j)) k
+            (found_passed (instant k) (first k) (was k) (now k) old new (h.passed k) more old_is new_is
             (h.logs k) consumed none_more unfailed buffer place ended end)
             (λ j other. rw (others j other) (h.logs j));
         sent = Sends-pending before.written between.written after.written pending pending' (merge_text h.out) h.sent sent;
@@ -395,14 +395,14 @@ module _ (instant : Bool → List ℕ → Option ℤ) (is_strict : Bool) (first 
     )
 
     -- it is earlier than the one before it
-    pub find_back : (over : Output) (number : ℕ) → is_strict ≡ true → IsReady instant new.front → new.front.has_line ≡ true
+    pub find_back : (over : Output) (number : ℕ) → is_strict ≡ true → IsReady (instant k) new.front → new.front.has_line ≡ true
         → is_before new.front.next new.front.place.last ≡ true → number ≡ min (new.front.place.lines + 1) (2 ^ 64 - 1)
         → Appends after.written over.written pending'
         → over.has_failed ≡ after.has_failed → IsCut (merge.Back k number) instant is_strict first now before over
     find_back over number strict ready some earlier is written same =
         let left : List ℕ = old.front.buffer ++ more in
         let here : 0 < length left = subst (λ (z : List ℕ). 0 < length z) buffer (ready.line some) in
-        let line = first_line instant old.front.place left in
+        let line = first_line (instant k) old.front.place left in
         let next : line.instant ≡ new.front.next =
         rw (place, buffer, append-nil left) at (ready.next some [] (λ _. refl)) in (
           strict,
@@ -411,13 +411,13 @@ module _ (instant : Bool → List ℕ → Option ℤ) (is_strict : Bool) (first 
             out = h.out;
             rest = rest;
             line = line;
-            lines = lines_from instant (place_after old.front.place line) (behind_line left);
+            lines = lines_from (instant k) (place_after old.front.place line) (behind_line left);
             read = all_read;
             merge = rest_merge;
             written = Appends-flushed before.written after.written over.written pending' (merge_text h.out)
                 (Sends-pending before.written between.written after.written pending pending' (merge_text h.out) h.sent sent) written;
             forward = h.forward strict;
-            next = rest_taken ∙ lines_from-first instant old.front.place left here;
+            next = rest_taken ∙ lines_from-first (instant k) old.front.place left here;
             back = rw (next, ← place) earlier;
             number_is = rw (← place) (sym is);
             no_write_failed = same ∙ (mark ∙ h.unfailed);
@@ -435,9 +435,9 @@ module _ (instant : Bool → List ℕ → Option ℤ) (is_strict : Bool) (first 
     all_bytes = old.front.buffer ++ more
 
     pub line : Line
-    line = first_line instant old.front.place all_bytes
+    line = first_line (instant k) old.front.place all_bytes
 
-    line_is : first_line instant next.front.place (lefts k) ≡ line
+    line_is : first_line (instant k) next.front.place (lefts k) ≡ line
     unfolding line all_bytes
     line_is = rw (front_is, lefts_here) refl
 
@@ -454,16 +454,16 @@ module _ (instant : Bool → List ℕ → Option ℤ) (is_strict : Bool) (first 
     line_forward strict = rw (front_is, lefts_here) at (next_forward instant is_strict (fronts_of was) lefts k known all_left next strict)
 
     later_lines : List Line
-    later_lines = lines_from instant (place_after old.front.place line) (behind_line all_bytes)
+    later_lines = lines_from (instant k) (place_after old.front.place line) (behind_line all_bytes)
 
     lines_are : lines k ≡ line ∷ later_lines
     unfolding lines line all_bytes later_lines
-    lines_are = ap (front_lines instant (fronts_of was k)) lefts_here
+    lines_are = ap (front_lines (instant k) (fronts_of was k)) lefts_here
         ∙ rw (front_is, lefts_here) at (next_lines instant is_strict (fronts_of was) lefts k known all_left next)
 
     line_first : IsFirst lines k line
     unfolding lines
-    line_first = subst (IsFirst (λ j. front_lines instant (fronts_of was j) (lefts j)) k) line_is (next_first instant is_strict
+    line_first = subst (IsFirst (λ j. front_lines (instant j) (fronts_of was j) (lefts j)) k) line_is (next_first instant is_strict
         (fronts_of was) lefts k known all_left next)
 
     begun : List (ℕ × Line)
@@ -530,7 +530,7 @@ module _ (instant : Bool → List ℕ → Option ℤ) (is_strict : Bool) (first 
           (λ is. rw pass_taken (no_more (none is)))
         where
           no_more : has_line_feed (old.front.buffer ++ more) ≡ false → All (λ (z : Line). z.is_ended ≡ false) later_lines
-          no_more f = rw ((ended-none [] (old.front.buffer ++ more) f).behind, lines_from-nil instant (place_after old.front.place line)) (All-nil (λ
+          no_more f = rw ((ended-none [] (old.front.buffer ++ more) f).behind, lines_from-nil (instant k) (place_after old.front.place line)) (All-nil (λ
               (z : Line). z.is_ended ≡ false))
 
       -- whatever bytes are left after it, the merge goes on from them
@@ -549,32 +549,34 @@ module _ (instant : Bool → List ℕ → Option ℤ) (is_strict : Bool) (first 
           let lefts_are : (j : ℕ) → IsLeft (fronts_of was j) (before_lefts j) =
           at_each (λ j. IsLeft (fronts_of was j) (before_lefts j)) k (rw (same, old_is) was_left)
           (λ j other. rw (others_same j other, ← others j other) (left j)) in
-          let first_is : first_line instant next.front.place (before_lefts k) ≡ line =
-          first_passed instant old new more (later k) is_ended _ _ pending' pending'' p here next.front (before_lefts k) front_is same in
+          let first_is : first_line (instant k) next.front.place (before_lefts k) ≡ line =
+          first_passed (instant k) old new more (later k) is_ended _ _ pending' pending'' p here next.front (before_lefts k) front_is same in
           let begins = next_lines instant is_strict (fronts_of was) before_lefts k known lefts_are next in
-          let is_first : IsFirst (λ j. front_lines instant (fronts_of was j) (before_lefts j)) k line =
-          subst (IsFirst (λ j. front_lines instant (fronts_of was j) (before_lefts j)) k) first_is (next_first instant is_strict
+          let is_first : IsFirst (λ j. front_lines (instant j) (fronts_of was j) (before_lefts j)) k line =
+          subst (IsFirst (λ j. front_lines (instant j) (fronts_of was j) (before_lefts j)) k) first_is (next_first instant is_strict
           (fronts_of was) before_lefts k known lefts_are next) in
-          let rest_lines = lines_passed instant old new more (later k) is_ended _ _ pending' pending'' p some_bytes line_instant here in
-          let all_lines : front_lines instant (fronts_of was k) (before_lefts k) ≡ line ∷ lines_from instant new.front.place (later k) =
-          ap (front_lines instant (fronts_of was k)) same ∙ (ap (λ (z : Option LogState). front_lines instant (option_map (λ (s : LogState). s.front) z)
+          let rest_lines = lines_passed (instant k) old new more (later k) is_ended _ _ pending' pending'' p some_bytes line_instant here in
+          let all_lines : front_lines (instant k) (fronts_of was k) (before_lefts k) ≡ line ∷ lines_from (instant k) new.front.place (later k) =
+          ap (front_lines (instant k) (fronts_of was k)) same ∙ (ap (λ (z : Option LogState). front_lines (instant k) (option_map (λ (s : LogState). s.front) z)
           (text ++ later k)) old_is ∙ rest_lines) in
-          let now_lines : front_lines instant (fronts_of now k) (later k) ≡ lines_from instant new.front.place (later k) =
-          ap (λ (z : Option LogState). front_lines instant (option_map (λ (s : LogState). s.front) z) (later k)) new_is in
-          let behind_all : IsMerge (behind (λ j. front_lines instant (fronts_of was j) (before_lefts j)) k) out =
-          IsMerge-same (λ j. front_lines instant (fronts_of now j) (later j)) (behind (λ j. front_lines instant (fronts_of was j) (before_lefts j)) k) out
-          (at_each (λ j. front_lines instant (fronts_of now j) (later j) ≡ behind (λ j. front_lines instant (fronts_of was j) (before_lefts j)) k j) k
-          (now_lines ∙ sym (behind-rest (λ j. front_lines instant (fronts_of was j) (before_lefts j)) k line _ all_lines))
-          (λ j other. rw (others j other) (ap (front_lines instant (fronts_of was j)) (sym (others_same j other))
-          ∙ sym (behind-other (λ j. front_lines instant (fronts_of was j) (before_lefts j)) j k other)))) merge in
-          let whole = h.leads before_lefts lefts_are ((k, line) ∷ out) (lines_from instant new.front.place (later k), all_lines, is_first, behind_all) in
+          let now_lines : front_lines (instant k) (fronts_of now k) (later k) ≡ lines_from (instant k) new.front.place (later k) =
+          ap (λ (z : Option LogState). front_lines (instant k) (option_map (λ (s : LogState). s.front) z) (later k)) new_is in
+          let behind_all : IsMerge (behind (λ j. front_lines (instant j) (fronts_of was j) (before_lefts j)) k) out =
+          IsMerge-same (λ j. front_lines (instant j) (fronts_of now j) (later j))
+          (behind (λ j. front_lines (instant j) (fronts_of was j) (before_lefts j)) k) out
+          (at_each (λ j. front_lines (instant j) (fronts_of now j) (later j) ≡ behind (λ j. front_lines (instant j) (fronts_of was j) (before_lefts j)) k j) k
+          (now_lines ∙ sym (behind-rest (λ j. front_lines (instant j) (fronts_of was j) (before_lefts j)) k line _ all_lines))
+          (λ j other. rw (others j other) (ap (front_lines (instant j) (fronts_of was j)) (sym (others_same j other))
+          ∙ sym (behind-other (λ j. front_lines (instant j) (fronts_of was j) (before_lefts j)) j k other)))) merge in
+          let whole = h.leads before_lefts lefts_are ((k, line) ∷ out) (lines_from (instant k) new.front.place (later k), all_lines, is_first, behind_all) in
           rw (append_assoc h.out ((k, line) ∷ []) out)
-          (IsMerge-same (λ j. log_lines instant (h.passed j ++ before_lefts j)) (λ j. log_lines instant (put k (h.passed k ++ text) h.passed j ++ later j))
+          (IsMerge-same (λ j. log_lines (instant j) (h.passed j ++ before_lefts j))
+          (λ j. log_lines (instant j) (put k (h.passed k ++ text) h.passed j ++ later j))
           (h.out ++ (k, line) ∷ out)
-          (at_each (λ j. log_lines instant (h.passed j ++ before_lefts j) ≡ log_lines instant (put k (h.passed k ++ text) h.passed j ++ later j)) k
-          (ap (log_lines instant) (ap (λ (z : List ℕ). h.passed k ++ z) same
+          (at_each (λ j. log_lines (instant j) (h.passed j ++ before_lefts j) ≡ log_lines (instant j) (put k (h.passed k ++ text) h.passed j ++ later j)) k
+          (ap (log_lines (instant k)) (ap (λ (z : List ℕ). h.passed k ++ z) same
           ∙ (sym (append_assoc (h.passed k) text (later k)) ∙ ap (λ (z : List ℕ). z ++ later k) (sym (put-same k (h.passed k ++ text) h.passed)))))
-          (λ j other. ap (log_lines instant) (ap (λ (z : List ℕ). h.passed j ++ z) (others_same j other)
+          (λ j other. ap (log_lines (instant j)) (ap (λ (z : List ℕ). h.passed j ++ z) (others_same j other)
           ∙ ap (λ (z : List ℕ). z ++ later j) (sym (put-other k (h.passed k ++ text) h.passed j other))))) whole)
 
       -- it was sent
@@ -589,9 +591,9 @@ module _ (instant : Bool → List ℕ → Option ℤ) (is_strict : Bool) (first 
           out = h.out ++ (k, line) ∷ [];
           leads = pass_leads after pending'' is_ended p;
           logs =
-              at_each (λ j. HasPassed instant (first j) (now j) (put k (h.passed k ++ front_line all_bytes) h.passed j)) k
+              at_each (λ j. HasPassed (instant j) (first j) (now j) (put k (h.passed k ++ front_line all_bytes) h.passed j)) k
               (rw (put-same k (h.passed k ++ front_line all_bytes) h.passed)
-              (line_passed instant (first k) (was k) (now k) old new (h.passed k) more is_ended _ _ pending' pending'' old_is new_is refl refl
+              (line_passed (instant k) (first k) (was k) (now k) old new (h.passed k) more is_ended _ _ pending' pending'' old_is new_is refl refl
               (h.logs k) consumed
               none_more p.unfailed.read p some_bytes line_instant))
               (λ j other. rw (put-other k (h.passed k ++ front_line all_bytes) h.passed j other, others j other) (h.logs j));

@@ -1,5 +1,5 @@
 -- The order of lines by their instants.
-use Rattle.std.specs.Prelude.{Bool, true, false, ℤ, int_lt, Option, Some, None}
+use Rattle.std.specs.Prelude.{ℕ, Bool, true, false, List, ℤ, int_lt, Option, Some, None}
 
 -- whether an instant is before another: lines before the first instant of their log are before all others
 abbrev pub is_before : Option ℤ → Option ℤ → Bool
@@ -11,3 +11,7 @@ is_before (Some first) (Some second) = int_lt first second
 abbrev pub up_to : Option ℤ → Option ℤ → Option ℤ
 up_to last None = last
 up_to last (Some own) = Some own
+
+-- the instant of a line of a log, if it has one: by the last instant before it, by whether it is the first line, and by its bytes
+abbrev pub LogInstants : Type 0
+LogInstants = Option ℤ → Bool → List ℕ → Option ℤ

@@ -1,7 +1,7 @@
 -- Laws of merges. A function of `src/laws.rt` proves each of them.
-use Rattle.std.specs.Prelude.{◌≡◌, ℕ, ◌<◌, ◌==◌, Bool, true, false, ⊤, List, [], ◌∷◌, map, ℤ, Option, if◌then◌else◌}
+use Rattle.std.specs.Prelude.{◌≡◌, ℕ, ◌<◌, ◌==◌, true, false, ⊤, List, [], ◌∷◌, map, if◌then◌else◌}
 use Rattle.std.specs.List.{concat}
-use Rattle.line_merges.specs.Instants.{is_before}
+use Rattle.line_merges.specs.Instants.{LogInstants, is_before}
 use Rattle.line_merges.specs.Lines.{Line, line_text, log_lines}
 use Rattle.line_merges.specs.Merges.{IsMerge}
 
@@ -53,4 +53,4 @@ MergesKeepTogether =
 
 -- the lines of a log have all its bytes
 abbrev pub LinesKeepBytes : Type 0
-LinesKeepBytes = (instant : Bool → List ℕ → Option ℤ) (log : List ℕ) → concat (map line_text (log_lines instant log)) ≡ log
+LinesKeepBytes = (instant : LogInstants) (log : List ℕ) → concat (map line_text (log_lines instant log)) ≡ log

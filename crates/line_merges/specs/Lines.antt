@@ -2,7 +2,7 @@
 use Rattle.std.specs.Prelude.{ℕ, ◌+◌, ◌-◌, ◌^◌, ◌==◌, Bool, true, false, min, List, [], ◌∷◌, ◌++◌, ℤ, Option, Some, None, if◌then◌else◌}
 use Rattle.std.specs.Option.{option_or}
 use Rattle.line_devices.specs.Lines.{pieces_of, whole_lines_of}
-use Rattle.line_merges.specs.Instants.{is_before, up_to}
+use Rattle.line_merges.specs.Instants.{LogInstants, is_before, up_to}
 use Rattle.line_merges.specs.LineFronts.{feed_if}
 use Rattle.line_merges.specs.declared.logs.Place.{Place}
 
@@ -24,11 +24,11 @@ abbrev pub first_place : Place
 first_place = record { lines = 0; last = None; back = None }
 
 -- the instant up to a line at a place
-abbrev pub instant_at : (Bool → List ℕ → Option ℤ) → Place → List ℕ → Option ℤ
-instant_at instant place bytes = up_to place.last (instant (place.lines == 0) bytes)
+abbrev pub instant_at : LogInstants → Place → List ℕ → Option ℤ
+instant_at instant place bytes = up_to place.last (instant place.last (place.lines == 0) bytes)
 
 -- the line of these bytes at a place
-abbrev pub line_at : (Bool → List ℕ → Option ℤ) → Place → List ℕ → Bool → Line
+abbrev pub line_at : LogInstants → Place → List ℕ → Bool → Line
 line_at instant place bytes is_ended = record {
   number = min (place.lines + 1) (2 ^ 64 - 1);
   instant = instant_at instant place bytes;
@@ -51,7 +51,7 @@ abbrev pub place_after : Place → Line → Place
 place_after place line = record { lines = line.number; last = line.instant; back = option_or place.back (back_of line) }
 
 -- lines from a place on, that a line feed ends, and the bytes after the last line feed
-unfoldable pub lines_at : (Bool → List ℕ → Option ℤ) → Place → List (List ℕ) → List ℕ → List Line
+unfoldable pub lines_at : LogInstants → Place → List (List ℕ) → List ℕ → List Line
 lines_at instant place [] [] = []
 lines_at instant place [] (byte ∷ rest) = line_at instant place (byte ∷ rest) false ∷ []
 lines_at instant place (bytes ∷ lines) rest =
@@ -64,9 +64,9 @@ last_piece (piece ∷ []) = piece
 last_piece (piece ∷ next ∷ pieces) = last_piece (next ∷ pieces)
 
 -- the lines of bytes from a place on
-unfoldable pub lines_from : (Bool → List ℕ → Option ℤ) → Place → List ℕ → List Line
+unfoldable pub lines_from : LogInstants → Place → List ℕ → List Line
 lines_from instant place bytes = lines_at instant place (whole_lines_of bytes) (last_piece (pieces_of bytes))
 
 -- the lines of a log
-unfoldable pub log_lines : (Bool → List ℕ → Option ℤ) → List ℕ → List Line
+unfoldable pub log_lines : LogInstants → List ℕ → List Line
 log_lines instant log = lines_from instant first_place log

@@ -1,11 +1,11 @@
 -- A log that is read line by line.
-use Rattle.std.specs.Prelude.{◌≡◌, ◌⊎◌, ℕ, ◌+◌, ◌-◌, ◌^◌, ◌<◌, ◌≤◌, Bool, true, false, min, List, [], ◌++◌, length, ℤ, Option, Some, None, if◌then◌else◌}
+use Rattle.std.specs.Prelude.{◌≡◌, ◌⊎◌, ℕ, ◌+◌, ◌-◌, ◌^◌, ◌<◌, ◌≤◌, Bool, true, false, min, List, [], ◌++◌, length, Option, Some, None, if◌then◌else◌}
 use Rattle.std.specs.Prelude.{Result, IfSome, MatchResult}
 use Rattle.std.specs.Option.{option_or}
 use Rattle.std.specs.Io.KnownBytes.{Appends, Consumes}
 use Rattle.line_devices.specs.Device.{Devices}
 use Rattle.line_devices.specs.Writing.{AppendsBeginning, Sends}
-use Rattle.line_merges.specs.Instants.{is_before}
+use Rattle.line_merges.specs.Instants.{LogInstants, is_before}
 use Rattle.line_merges.specs.LineFronts.{front_line, has_line_feed, line_in}
 use Rattle.line_merges.specs.Lines.{instant_at}
 use Rattle.line_merges.specs.declared.logs.Front.{Front}
@@ -18,7 +18,7 @@ abbrev pub IsEnough : Front → Type 0
 IsEnough front = (front.is_ended ≡ true) ⊎ ((1027 ≤ length front.buffer) ⊎ (has_line_feed front.buffer ≡ true))
 
 -- the next line is known, whatever bytes follow: none follow if the log is at its end
-pub record IsReady (instant : Bool → List ℕ → Option ℤ) (front : Front) : Type 0 where
+pub record IsReady (instant : LogInstants) (front : Front) : Type 0 where
   pub line : front.has_line ≡ true → 0 < length front.buffer
   pub none : front.has_line ≡ false → (front.buffer ≡ []) × (front.is_ended ≡ true)
   pub next : front.has_line ≡ true → (future : List ℕ) → (front.is_ended ≡ true → future ≡ [])
@@ -65,7 +65,7 @@ ReadsOn result old new before after was_pending pending =
     (λ fault. (more ≡ []) × Fails fault before after was_pending more)
 
 -- as many reads as the next line needs
-abbrev pub FindsNext : Result Unit LogFault → (Bool → List ℕ → Option ℤ) → Front → Front → Devices → Devices → List ℕ → List ℕ → Type 0
+abbrev pub FindsNext : Result Unit LogFault → LogInstants → Front → Front → Devices → Devices → List ℕ → List ℕ → Type 0
 FindsNext result instant old new before after was_pending pending =
     (more : List ℕ) × Reads old new before after more
     × MatchResult result

@@ -1,9 +1,10 @@
 -- The merge of logs by a program that reads them in turn.
-use Rattle.std.specs.Prelude.{◌≡◌, ◌⊎◌, ℕ, ◌-◌, ◌^◌, ◌≤◌, Bool, true, false, List, [], ◌∷◌, ◌++◌, All, length, ℤ, ⊤}
+use Rattle.std.specs.Prelude.{◌≡◌, ◌⊎◌, ℕ, ◌-◌, ◌^◌, ◌≤◌, Bool, true, false, List, [], ◌∷◌, ◌++◌, All, length, ⊤}
 use Rattle.std.specs.Prelude.{Option, Some, None, Result, Ok, Err, slice_get}
 use Rattle.std.specs.Option.{option_map}
 use Rattle.std.specs.Io.KnownBytes.{Appends, Consumes}
 use Rattle.line_devices.specs.Writing.{AppendsBeginning}
+use Rattle.line_merges.specs.Instants.{LogInstants}
 use Rattle.line_merges.specs.Laws.{own_lines}
 use Rattle.line_merges.specs.Lines.{Line, first_back, first_place, log_lines}
 use Rattle.line_merges.specs.Logs.{AppendsFront, IsAtEndAfter}
@@ -53,7 +54,7 @@ abbrev pub AreRead : (ℕ → Option LogState) → (ℕ → Option LogState) →
 AreRead old new bytes = (k : ℕ) → IsRead (old k) (new k) (bytes k)
 
 -- a log was read to its end, no read of it failed, and its first line that goes back is known
-abbrev pub IsDone : (Bool → List ℕ → Option ℤ) → Option LogState → Option LogState → List ℕ → Type 0
+abbrev pub IsDone : LogInstants → Option LogState → Option LogState → List ℕ → Type 0
 IsDone instant None None bytes = ⊤
 IsDone instant None (Some new) bytes = ⊥
 IsDone instant (Some old) None bytes = ⊥
@@ -70,51 +71,51 @@ abbrev pub NoneBack : List (ℕ × Line) → Type 0
 NoneBack out = All (λ line. line.1.is_back ≡ false) out
 
 -- these lines are the merge of these bytes
-abbrev pub Merges : (Bool → List ℕ → Option ℤ) → (ℕ → List ℕ) → List (ℕ × Line) → Type 0
-Merges instant bytes out = IsMerge (λ k. log_lines instant (bytes k)) out
+abbrev pub Merges : (ℕ → LogInstants) → (ℕ → List ℕ) → List (ℕ × Line) → Type 0
+Merges instants bytes out = IsMerge (λ k. log_lines (instants k) (bytes k)) out
 
 -- all of each log was read, and exactly their merge was written. If the merge is strict, no line is earlier than the one before in its log
-pub record IsMerged (instant : Bool → List ℕ → Option ℤ) (is_strict : Bool) (old new : ℕ → Option LogState) (before after : Output) : Type 0 where
+pub record IsMerged (instants : ℕ → LogInstants) (is_strict : Bool) (old new : ℕ → Option LogState) (before after : Output) : Type 0 where
   pub bytes : ℕ → List ℕ
   pub out : List (ℕ × Line)
   pub read : AreRead old new bytes
-  pub done : (k : ℕ) → IsDone instant (old k) (new k) (bytes k)
-  pub merge : Merges instant bytes out
+  pub done : (k : ℕ) → IsDone (instants k) (old k) (new k) (bytes k)
+  pub merge : Merges instants bytes out
   pub written : Appends before.written after.written (merge_text out)
   pub forward : is_strict ≡ true → NoneBack out
   pub no_write_failed : after.has_failed ≡ false
 
 -- a read of a log failed. Exactly the lines of the merge up to its last line, which may not be whole, were written
-pub record IsCutByRead (k : ℕ) (instant : Bool → List ℕ → Option ℤ) (old new : ℕ → Option LogState) (before after : Output) : Type 0 where
+pub record IsCutByRead (k : ℕ) (instants : ℕ → LogInstants) (old new : ℕ → Option LogState) (before after : Output) : Type 0 where
   pub bytes : ℕ → List ℕ
   pub out : List (ℕ × Line)
   pub rest : List (ℕ × Line)
   pub read : AreRead old new bytes
-  pub merge : Merges instant bytes (out ++ rest)
+  pub merge : Merges instants bytes (out ++ rest)
   pub written : Appends before.written after.written (merge_text out)
   pub last : All (λ line. line.is_ended ≡ false) (own_lines k rest)
   pub read_failed : HasFailed true (new k)
   pub no_write_failed : after.has_failed ≡ false
 
 -- a write failed: a beginning of the merge of the bytes that were read was written, and not all
-pub record IsCutByWrite (instant : Bool → List ℕ → Option ℤ) (old new : ℕ → Option LogState) (before after : Output) : Type 0 where
+pub record IsCutByWrite (instants : ℕ → LogInstants) (old new : ℕ → Option LogState) (before after : Output) : Type 0 where
   pub bytes : ℕ → List ℕ
   pub out : List (ℕ × Line)
   pub read : AreRead old new bytes
-  pub merge : Merges instant bytes out
+  pub merge : Merges instants bytes out
   pub written : AppendsBeginning before.written after.written (merge_text out)
   pub write_failed : after.has_failed ≡ true
 
 -- the next line of a log is earlier than the one before it. Exactly the lines of the merge up to a line before that were written, and
 -- none of them is earlier than the one before in its log
-pub record IsCutByBack (k number : ℕ) (instant : Bool → List ℕ → Option ℤ) (old new : ℕ → Option LogState) (before after : Output) : Type 0 where
+pub record IsCutByBack (k number : ℕ) (instants : ℕ → LogInstants) (old new : ℕ → Option LogState) (before after : Output) : Type 0 where
   pub bytes : ℕ → List ℕ
   pub out : List (ℕ × Line)
   pub rest : List (ℕ × Line)
   pub line : Line
   pub lines : List Line
   pub read : AreRead old new bytes
-  pub merge : Merges instant bytes (out ++ rest)
+  pub merge : Merges instants bytes (out ++ rest)
   pub written : Appends before.written after.written (merge_text out)
   pub forward : NoneBack out
   pub next : own_lines k rest ≡ line ∷ lines
@@ -123,22 +124,22 @@ pub record IsCutByBack (k number : ℕ) (instant : Bool → List ℕ → Option 
   pub no_write_failed : after.has_failed ≡ false
 
 -- a log has 2^64 - 1 bytes at least, or the merge so many lines: some of it was written
-pub record IsEndless (instant : Bool → List ℕ → Option ℤ) (old new : ℕ → Option LogState) (before after : Output) : Type 0 where
+pub record IsEndless (instants : ℕ → LogInstants) (old new : ℕ → Option LogState) (before after : Output) : Type 0 where
   pub bytes : ℕ → List ℕ
   pub out : List (ℕ × Line)
   pub read : AreRead old new bytes
-  pub merge : Merges instant bytes out
+  pub merge : Merges instants bytes out
   pub written : AppendsFront before.written after.written (merge_text out)
   pub long : ((k : ℕ) × (2 ^ 64 - 1 ≤ length (bytes k))) ⊎ (2 ^ 64 - 1 ≤ length out)
 
 -- the end of a merge, by the fault that ended it
-abbrev pub IsCut : MergeFault → (Bool → List ℕ → Option ℤ) → Bool → (ℕ → Option LogState) → (ℕ → Option LogState) → Output → Output → Type 0
-IsCut (Read k) instant is_strict old new before after = IsCutByRead k instant old new before after
-IsCut Write instant is_strict old new before after = IsCutByWrite instant old new before after
-IsCut (Back k number) instant is_strict old new before after = (is_strict ≡ true) × IsCutByBack k number instant old new before after
-IsCut Endless instant is_strict old new before after = IsEndless instant old new before after
+abbrev pub IsCut : MergeFault → (ℕ → LogInstants) → Bool → (ℕ → Option LogState) → (ℕ → Option LogState) → Output → Output → Type 0
+IsCut (Read k) instants is_strict old new before after = IsCutByRead k instants old new before after
+IsCut Write instants is_strict old new before after = IsCutByWrite instants old new before after
+IsCut (Back k number) instants is_strict old new before after = (is_strict ≡ true) × IsCutByBack k number instants old new before after
+IsCut Endless instants is_strict old new before after = IsEndless instants old new before after
 
-abbrev pub Ends : Result Unit MergeFault → (Bool → List ℕ → Option ℤ) → Bool → (ℕ → Option LogState) → (ℕ → Option LogState) → Output → Output
+abbrev pub Ends : Result Unit MergeFault → (ℕ → LogInstants) → Bool → (ℕ → Option LogState) → (ℕ → Option LogState) → Output → Output
     → Type 0
-Ends (Ok done) instant is_strict old new before after = IsMerged instant is_strict old new before after
-Ends (Err fault) instant is_strict old new before after = IsCut fault instant is_strict old new before after
+Ends (Ok done) instants is_strict old new before after = IsMerged instants is_strict old new before after
+Ends (Err fault) instants is_strict old new before after = IsCut fault instants is_strict old new before after

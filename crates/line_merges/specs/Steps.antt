@@ -1,10 +1,10 @@
 -- The logs and the writer between two lines of a merge.
-use Rattle.std.specs.Prelude.{◌≡◌, ℕ, ◌+◌, ◌-◌, ◌^◌, ◌&&◌, min, if◌then◌else◌, Bool, true, false, not, List, [], ◌∷◌, ◌++◌, length, ℤ, Option, Some}
+use Rattle.std.specs.Prelude.{◌≡◌, ℕ, ◌+◌, ◌-◌, ◌^◌, ◌&&◌, min, if◌then◌else◌, Bool, true, false, not, List, [], ◌∷◌, ◌++◌, length, Option, Some}
 use Rattle.std.specs.Prelude.{None, Result, Ok, Err}
 use Rattle.std.specs.Option.{option_map, option_or}
 use Rattle.std.specs.Io.KnownBytes.{Consumes}
 use Rattle.line_devices.specs.Writing.{Sends}
-use Rattle.line_merges.specs.Instants.{is_before}
+use Rattle.line_merges.specs.Instants.{LogInstants, is_before}
 use Rattle.line_merges.specs.Lines.{Line, first_back, lines_from, log_lines}
 use Rattle.line_merges.specs.Logs.{IsAtEndAfter, IsReady}
 use Rattle.line_merges.specs.Merges.{IsMerge, merge_text}
@@ -25,25 +25,25 @@ IsLeft None left = left ≡ []
 IsLeft (Some front) left = (future : List ℕ) × (left ≡ front.buffer ++ future) × (front.is_ended ≡ true → future ≡ [])
 
 -- the lines that are left of a log
-abbrev pub front_lines : (Bool → List ℕ → Option ℤ) → Option Front → List ℕ → List Line
+abbrev pub front_lines : LogInstants → Option Front → List ℕ → List Line
 front_lines instant None left = []
 front_lines instant (Some front) left = lines_from instant front.place left
 
 -- whatever bytes are left, a merge of the lines that are left continues the merge
-abbrev pub Leads : (Bool → List ℕ → Option ℤ) → (ℕ → Option Front) → (ℕ → List ℕ) → List (ℕ × Line) → Type 0
-Leads instant fronts passed out =
+abbrev pub Leads : (ℕ → LogInstants) → (ℕ → Option Front) → (ℕ → List ℕ) → List (ℕ × Line) → Type 0
+Leads instants fronts passed out =
     (lefts : ℕ → List ℕ) → ((k : ℕ) → IsLeft (fronts k) (lefts k)) → (more : List (ℕ × Line))
-    → IsMerge (λ k. front_lines instant (fronts k) (lefts k)) more → IsMerge (λ k. log_lines instant (passed k ++ lefts k)) (out ++ more)
+    → IsMerge (λ k. front_lines (instants k) (fronts k) (lefts k)) more → IsMerge (λ k. log_lines (instants k) (passed k ++ lefts k)) (out ++ more)
 
 -- a log of which these bytes were passed
-pub record IsPassed (instant : Bool → List ℕ → Option ℤ) (old new : LogState) (passed : List ℕ) : Type 0 where
+pub record IsPassed (instant : LogInstants) (old new : LogState) (passed : List ℕ) : Type 0 where
   pub consumed : Consumes old.left new.left (passed ++ new.front.buffer)
   pub end : new.front.is_ended ≡ true → IsAtEndAfter old.left new.left
   pub unfailed : new.has_failed ≡ false
   pub back : (left : List ℕ) → IsLeft (Some new.front) left
       → first_back (log_lines instant (passed ++ left)) ≡ option_or new.front.place.back (first_back (lines_from instant new.front.place left))
 
-abbrev pub HasPassed : (Bool → List ℕ → Option ℤ) → Option LogState → Option LogState → List ℕ → Type 0
+abbrev pub HasPassed : LogInstants → Option LogState → Option LogState → List ℕ → Type 0
 HasPassed instant None None passed = passed ≡ []
 HasPassed instant None (Some new) passed = ⊥
 HasPassed instant (Some old) None passed = ⊥
@@ -55,26 +55,26 @@ is_open_after is_open [] = is_open
 is_open_after is_open (line ∷ more) = is_open_after (not line.1.is_ended) more
 
 -- the lines so far were sent
-pub record Stands (instant : Bool → List ℕ → Option ℤ) (is_strict : Bool) (first now : ℕ → Option LogState) (before after : Output)
+pub record Stands (instants : ℕ → LogInstants) (is_strict : Bool) (first now : ℕ → Option LogState) (before after : Output)
     (pending : List ℕ) (is_open : Bool) : Type 0 where
   pub passed : ℕ → List ℕ
   pub out : List (ℕ × Line)
-  pub leads : Leads instant (fronts_of now) passed out
-  pub logs : (k : ℕ) → HasPassed instant (first k) (now k) (passed k)
+  pub leads : Leads instants (fronts_of now) passed out
+  pub logs : (k : ℕ) → HasPassed (instants k) (first k) (now k) (passed k)
   pub sent : Sends before.written after.written pending (merge_text out)
   pub unended : is_open ≡ is_open_after false out
   pub forward : is_strict ≡ true → NoneBack out
   pub unfailed : after.has_failed ≡ false
 
 -- the next line of a log is known, and if the merge is strict it is not earlier than the one before
-abbrev pub IsKnown : (Bool → List ℕ → Option ℤ) → Bool → Option Front → Type 0
+abbrev pub IsKnown : LogInstants → Bool → Option Front → Type 0
 IsKnown instant is_strict None = ⊥
 IsKnown instant is_strict (Some front) =
     IsReady instant front × (is_strict ≡ true → front.has_line ≡ true → is_before front.next front.place.last ≡ false)
 
 -- the next line of each log is known
-abbrev pub AreKnown : (Bool → List ℕ → Option ℤ) → Bool → (ℕ → Option Front) → Type 0
-AreKnown instant is_strict fronts = (k : ℕ) (front : Front) → fronts k ≡ Some front → IsKnown instant is_strict (Some front)
+abbrev pub AreKnown : (ℕ → LogInstants) → Bool → (ℕ → Option Front) → Type 0
+AreKnown instants is_strict fronts = (k : ℕ) (front : Front) → fronts k ≡ Some front → IsKnown (instants k) is_strict (Some front)
 
 -- the number of the next line, if the merge is strict and the line is earlier than the one before
 abbrev pub back_line : Bool → Front → Option ℕ
@@ -88,20 +88,20 @@ fault_at k log.Write = Write
 fault_at k log.Endless = Endless
 
 -- the next line of a log was sent
-abbrev pub SendsNext : Result Bool MergeFault → (Bool → List ℕ → Option ℤ) → Bool → ℕ → (ℕ → Option LogState) → (ℕ → Option LogState)
+abbrev pub SendsNext : Result Bool MergeFault → (ℕ → LogInstants) → Bool → ℕ → (ℕ → Option LogState) → (ℕ → Option LogState)
     → (ℕ → Option LogState) → Output → Output → Output → List ℕ → List ℕ → Bool → Type 0
-SendsNext (Ok is_ended) instant is_strict k first old new before between after was_pending pending is_open =
-    (was : Stands instant is_strict first old before between was_pending is_open)
-    → (now : Stands instant is_strict first new before after pending (not is_ended)) × (length now.out ≡ length was.out + 1)
-SendsNext (Err fault) instant is_strict k first old new before between after was_pending pending is_open =
-    Stands instant is_strict first old before between was_pending is_open → IsCut fault instant is_strict first new before after
+SendsNext (Ok is_ended) instants is_strict k first old new before between after was_pending pending is_open =
+    (was : Stands instants is_strict first old before between was_pending is_open)
+    → (now : Stands instants is_strict first new before after pending (not is_ended)) × (length now.out ≡ length was.out + 1)
+SendsNext (Err fault) instants is_strict k first old new before between after was_pending pending is_open =
+    Stands instants is_strict first old before between was_pending is_open → IsCut fault instants is_strict first new before after
 
 -- the next line of a log was found
-abbrev pub FindsLine : Result Unit MergeFault → (Bool → List ℕ → Option ℤ) → Bool → ℕ → (ℕ → Option LogState) → (ℕ → Option LogState)
+abbrev pub FindsLine : Result Unit MergeFault → (ℕ → LogInstants) → Bool → ℕ → (ℕ → Option LogState) → (ℕ → Option LogState)
     → (ℕ → Option LogState) → Output → Output → Output → List ℕ → List ℕ → Bool → Type 0
-FindsLine (Ok done) instant is_strict k first old new before between after was_pending pending is_open =
-    ((was : Stands instant is_strict first old before between was_pending is_open)
-    → (now : Stands instant is_strict first new before after pending is_open) × (length now.out ≡ length was.out))
-    × IsKnown instant is_strict (fronts_of new k)
-FindsLine (Err fault) instant is_strict k first old new before between after was_pending pending is_open =
-    Stands instant is_strict first old before between was_pending is_open → IsCut fault instant is_strict first new before after
+FindsLine (Ok done) instants is_strict k first old new before between after was_pending pending is_open =
+    ((was : Stands instants is_strict first old before between was_pending is_open)
+    → (now : Stands instants is_strict first new before after pending is_open) × (length now.out ≡ length was.out))
+    × IsKnown (instants k) is_strict (fronts_of new k)
+FindsLine (Err fault) instants is_strict k first old new before between after was_pending pending is_open =
+    Stands instants is_strict first old before between was_pending is_open → IsCut fault instants is_strict first new before after

@@ -1,23 +1,30 @@
 //! The instants of lines.
 ghost use Rattle.std.specs.Prelude.{◌≡◌, ℕ, ℤ, Bool, List, Option, take};
-ghost use Rattle.line_merges.specs.Instants.{is_before, up_to};
+ghost use Rattle.line_merges.specs.Instants.{LogInstants, is_before, up_to};
 
 /// The most bytes of a line that decide on its instant.
 pub const LONGEST_HEAD: usize = 1_027;
 
 /// Tells the instants of lines.
 pub trait Instants {
-    /// The instant of a line, if it has one. The first argument says whether the line is the first
-    /// of its log.
-    ghost instant: { Self → Bool → List ℕ → Option ℤ };
+    /// The instants of the lines of the log with a number.
+    ghost instant: { Self → ℕ → LogInstants };
 
-    /// Returns the instant of a line, as a number that grows with time.
-    fn instant_of(&self, is_first: bool, line: &[u8]) -> Option<i128>
-        ensures { result ≡ instant self.now is_first line.now };
+    /// Returns the instant of a line, as a number that grows with time: by the number of its log,
+    /// the last instant before it there, and whether it is the first line.
+    fn instant_of(
+        &self,
+        log: usize,
+        last: Option<i128>,
+        is_first: bool,
+        line: &[u8],
+    ) -> Option<i128>
+        ensures { result ≡ instant self.now log last is_first line.now };
 
     /// The first 1,027 bytes of a line decide on its instant.
-    ghost by_head: { (instants : Self) (is_first : Bool) (line : List ℕ)
-        → instant instants is_first (take 1027 line) ≡ instant instants is_first line };
+    ghost by_head: { (instants : Self) (log : ℕ) (last : Option ℤ) (is_first : Bool) (line : List ℕ)
+        → instant instants log last is_first (take 1027 line)
+        ≡ instant instants log last is_first line };
 }
 
 /// Returns whether an instant is before another. Without an instant a line is before all that have

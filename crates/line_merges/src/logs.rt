@@ -166,15 +166,16 @@ fn front_of(bytes: &[u8]) -> (usize, bool)
     }
 }
 
-/// Reads until the next line of a log is known, and its instant.
+/// Reads until the next line of the log with this number is known, and its instant.
 pub(crate) fn find_next<I: Instants, R: Source, W: Sink>(
     instants: &I,
+    log: usize,
     reader: &mut R,
     front: &mut Front,
     writer: &mut W,
     pending: &mut Pending,
 ) -> Result<(), LogFault>
-    ensures { FindsNext result (I.instant instants.now) front.old front.new
+    ensures { FindsNext result (I.instant instants.now log) front.old front.new
         (devices (R.left reader.old) (W.written writer.old)
         (R.is_marked reader.old) (W.is_marked writer.old))
         (devices (R.left reader.new) (W.written writer.new)
@@ -183,7 +184,7 @@ pub(crate) fn find_next<I: Instants, R: Source, W: Sink>(
     'reads: while needs_more(front) {
         read_on(reader, front, writer, pending)?;
     }
-    look(instants, front);
+    look(instants, log, front);
     Ok(())
 }
 
@@ -201,16 +202,16 @@ fn needs_more(front: &Front) -> bool
 }
 
 // Finds the next line in the bytes that were read, and its instant.
-fn look<I: Instants>(instants: &I, front: &mut Front)
+fn look<I: Instants>(instants: &I, log: usize, front: &mut Front)
     requires { IsEnough front.old }
-    ensures ready { IsReady (I.instant instants.now) front.new }
+    ensures ready { IsReady (I.instant instants.now log) front.new }
     ensures buffer { front.new.buffer ≡ front.old.buffer }
     ensures ended { front.new.is_ended ≡ front.old.is_ended }
     ensures place { front.new.place ≡ front.old.place }
 {
     let bytes = front.buffer.bytes();
     let end = place_of(b'\n', bytes, 0);
-    let own = instants.instant_of(front.place.lines == 0, &bytes[..end]);
+    let own = instants.instant_of(log, front.place.last, front.place.lines == 0, &bytes[..end]);
     let is_empty = bytes.is_empty();
     front.has_line = !is_empty;
     front.next = up_to(front.place.last, own);

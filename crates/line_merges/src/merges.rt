@@ -1,7 +1,8 @@
 //! The merge of logs.
-ghost use Rattle.std.specs.Prelude.{◌≡◌, ◌≢◌, ◌<◌, ◌++◌, ℕ, Bool, false, List, length, ℤ, Option};
+ghost use Rattle.std.specs.Prelude.{◌≡◌, ◌≢◌, ◌<◌, ◌++◌, ℕ, Bool, false, length, Option};
 ghost use Rattle.line_devices.specs.Writing.{MarksFailure, SendsAll};
 ghost use Rattle.line_merges.specs.Choices.{IsNext};
+ghost use Rattle.line_merges.specs.Instants.{LogInstants};
 ghost use Rattle.line_merges.specs.LineFronts.{feed_if};
 ghost use Rattle.line_merges.specs.Runs.{AreNew, Ends, LogState, Output, log_states, output};
 ghost use Rattle.line_merges.specs.Steps.{AreKnown, FindsLine, SendsNext, back_line, fault_at, fronts_of};
@@ -86,11 +87,11 @@ fn pass<R: Source, W: Sink>(
     pending: &mut Pending,
 ) -> Result<bool, MergeFault>
     requires { k < length logs.old }
-    ensures sends { (instant : Bool → List ℕ → Option ℤ) (is_strict : Bool)
+    ensures sends { (instants : ℕ → LogInstants) (is_strict : Bool)
         (first : ℕ → Option LogState) (before : Output)
-        → AreKnown instant is_strict (fronts_of (log_states R.left R.is_marked logs.old))
+        → AreKnown instants is_strict (fronts_of (log_states R.left R.is_marked logs.old))
         → IsNext (fronts_of (log_states R.left R.is_marked logs.old)) k
-        → SendsNext result instant is_strict k first
+        → SendsNext result instants is_strict k first
         (log_states R.left R.is_marked logs.old) (log_states R.left R.is_marked logs.new)
         before (output (W.written writer.old) (W.is_marked writer.old))
         (output (W.written writer.new) (W.is_marked writer.new))
@@ -142,7 +143,14 @@ fn find<I: Instants, R: Source, W: Sink>(
         ≡ log_states R.left R.is_marked logs.old j }
 {
     let log = &mut logs[k];
-    match find_next(instants, &mut log.reader, &mut log.front, writer, pending) {
+    match find_next(
+        instants,
+        k,
+        &mut log.reader,
+        &mut log.front,
+        writer,
+        pending,
+    ) {
         Ok(()) => {}
         Err(fault) => return Err(fault_at(k, fault)),
     }

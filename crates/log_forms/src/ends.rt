@@ -19,8 +19,10 @@ pub(crate) fn is_apart(is_whole: bool, has_fraction: bool, rest: &[u8]) -> bool
     }
 }
 
-// Whether a byte after a date-time continues it: a digit, a letter, or one of `+`, `-`, `.` and `:`.
-fn continues(byte: u8) -> bool
+/// Whether a byte after a date-time continues it: a digit, a letter, or one of `+`, `-`, `.` and
+/// `:`.
+#[inline(always)]
+pub fn continues(byte: u8) -> bool
     ensures { result ≡ continues byte }
 {
     byte.is_ascii_alphanumeric() || byte == b'+' || byte == b'-' || byte == b'.' || byte == b':'

@@ -19,6 +19,7 @@ mod years;
 mod zone_words;
 
 pub use choice::{READERS, choose, reader_form, reader_key, reader_place};
+pub use ends::continues;
 pub use field_names::field_name;
 pub use form::{Form, Items, MOST_ITEMS, named_form, own_form};
 pub use instants::Assumed;

@@ -17,7 +17,8 @@ use Rattle.rfc3339.specs.declared.refusal.Component.{Component}
 use Rattle.rfc3339.specs.declared.refusal.TextRefusal.{TextRefusal}
 use Rattle.rfc3339.specs.declared.refusal.TextRefusal.TheVariants.{Syntax, OutOfRange}
 use Rattle.stamps.specs.Laws.{HasStamp, IsBoundary}
-use Rattle.stamps.specs.LineStamps.{continues, ended_stamp, ends, front_stamp, is_continued, longest_stamp, opens_bracket, stamp, stamp_of}
+use Rattle.log_forms.specs.Ends.{continues}
+use Rattle.stamps.specs.LineStamps.{ended_stamp, ends, front_stamp, is_continued, longest_stamp, opens_bracket, stamp, stamp_of}
 use Rattle.stamps.specs.declared.decide.Stamp.{Stamp}
 
 -- ---- the byte behind a date-time

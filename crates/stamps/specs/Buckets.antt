@@ -1,5 +1,5 @@
 -- The buckets of lines: minutes, hours or days of the local clock at an offset.
-use Rattle.std.specs.Prelude.{ℕ, Bool, List, ◌++◌, codes, decimal, ℤ, pos, ◌+ℤ◌, Option}
+use Rattle.std.specs.Prelude.{ℕ, List, ◌++◌, codes, decimal, ℤ, pos, ◌+ℤ◌, Option}
 use Rattle.std.specs.Option.{option_and_then}
 use Rattle.calendar_values.specs.Clock.{nanos_per_day, nanos_per_hour, nanos_per_minute}
 use Rattle.plain_times.specs.Sums.{nearest_wall_clock, wall_clock_if_any}
@@ -28,10 +28,6 @@ start_of clock wall = wall_clock_if_any (instant_of (local_multiple_below (unit_
 unfoldable pub bucket_of : Clock → ℤ → Option ℤ
 bucket_of clock i = option_and_then (start_of clock) (wall_clock_if_any (shown_at i clock.offset))
 
--- the bucket of a line, if it has a stamp
-abbrev pub line_bucket : ClockBuckets → Bool → List ℕ → Option ℤ
-line_bucket buckets is_first line = option_and_then (bucket_of buckets.clock) (line_instant buckets.reader is_first line)
-
 -- the bucket after a bucket
 abbrev pub next_bucket : Clock → ℤ → ℤ
 next_bucket clock start = nearest_wall_clock (start +ℤ pos (unit_nanos clock.unit))
@@ -42,4 +38,9 @@ row_text clock start count = text_or_unix (text_in (At clock.offset) start) star
 
 -- how lines are counted
 abbrev pub counting : ClockBuckets → Counting
-counting buckets = record { bucket = line_bucket buckets; next = next_bucket buckets.clock; row = row_text buckets.clock }
+counting buckets = record {
+  instant = line_instant buckets.reader;
+  bucket = bucket_of buckets.clock;
+  next = next_bucket buckets.clock;
+  row = row_text buckets.clock;
+}

@@ -16,7 +16,8 @@ use Rattle.rfc3339.specs.declared.parts.Parts.{Parts}
 use Rattle.rfc3339.specs.declared.refusal.Component.{Component}
 use Rattle.rfc3339.specs.declared.refusal.TextRefusal.TheVariants.{Syntax, OutOfRange}
 use Rattle.stamps.specs.Decisions.{is_earlier, last_of, reading, rewritten}
-use Rattle.stamps.specs.LineStamps.{byte_order_mark, continues, longest_stamp, opens_bracket, stamp_of}
+use Rattle.log_forms.specs.Ends.{continues}
+use Rattle.stamps.specs.LineStamps.{byte_order_mark, longest_stamp, opens_bracket, stamp_of}
 use Rattle.stamps.specs.Readers.{IsOfOneLine, line_stamp}
 use Rattle.stamps.specs.Runs.{input_run, output_of}
 use Rattle.stamps.specs.Runs as runs

@@ -1,16 +1,19 @@
 -- The first bytes of a line decide on its instant.
-use Rattle.std.proofs.Common.{◌≡◌, ℕ, ◌≤◌, Bool, true, false, nat_eq, List, ◌++◌, length, take, drop, refl, sym, ap, ◌∙◌, inl, inr, arith, length-take}
+use Rattle.std.proofs.Common.{◌≡◌, ℕ, ◌≤◌, Bool, true, false, nat_eq, List, ◌++◌, length, take, drop, sym, ap, ◌∙◌, inl, inr, arith, length-take}
 use Rattle.std.proofs.Common.{take-append-drop}
 use Rattle.std.proofs.lemmas.Bool.{cases_lt}
 use Rattle.std.proofs.lemmas.List.{length-drop, take_all, take-append-le, drop-append-le}
 use Rattle.std.specs.Cmp.Lexicographic.{pointwise}
-use Rattle.std.specs.Prelude.{◌&&◌, ℤ, Option, None}
+use Rattle.std.specs.Prelude.{◌&&◌, ℤ, Option, slice_get}
 use Rattle.log_forms.specs.WithinLemmas.{stamp_at-longer}
 use Rattle.log_forms.specs.Years.{assumed_after}
 use Rattle.rfc3339.specs.Reading.{front_at}
-use Rattle.stamps.specs.LineInstants.{line_instant, stamp_instant}
+use Rattle.std.specs.Option.{option_and_then}
+use Rattle.plain_times.specs.Sums.{wall_clock_if_any}
+use Rattle.stamps.specs.LineInstants.{line_instant, log_instant, reader_or, stamp_instant}
 use Rattle.stamps.specs.LineStamps.{byte_order_mark, front_stamp, has_mark, mark_length, stamp_of}
 use Rattle.stamps.specs.Readers.{formed_at, line_stamp, plain_at, stamp_behind}
+use Rattle.stamps.specs.declared.instants.StampInstants.{StampInstants}
 use Rattle.stamps.specs.declared.readers.Reader.{Reader}
 use Rattle.stamps.specs.declared.readers.Reader.TheVariants.{Plain, Formed}
 
@@ -45,14 +48,19 @@ line_stamp-longer reader last is_first line part long =
     ∙ ap (stamp_behind reader last before) (drop-append-le before line part (omega (arith, long, short)))
     ∙ behind-longer reader last before text part most
 
-pub line_instant-by_head : (reader : Reader) (is_first : Bool) (line : List ℕ)
-    → line_instant reader is_first (take 1027 line) ≡ line_instant reader is_first line
+pub line_instant-by_head : (reader : Reader) (last : Option ℤ) (is_first : Bool) (line : List ℕ)
+    → line_instant reader last is_first (take 1027 line) ≡ line_instant reader last is_first line
 unfolding line_instant
-line_instant-by_head reader is_first line =
+line_instant-by_head reader last is_first line =
     elim (cases_lt 1027 (length line)) [
       | inl more ↦
           let long : 1027 ≤ length (take 1027 line) = omega (arith, more, length-take 1027 line) in
-          let whole = ap stamp_instant (sym (line_stamp-longer reader None is_first (take 1027 line) (drop 1027 line) long)) in
+          let whole = ap stamp_instant (sym (line_stamp-longer reader last is_first (take 1027 line) (drop 1027 line) long)) in
           rw (take-append-drop 1027 line) at whole
-      | inr all ↦ ap (line_instant reader is_first) (take_all 1027 line all)
+      | inr all ↦ ap (line_instant reader last is_first) (take_all 1027 line all)
     ]
+
+pub log_instant-by_head : (instants : StampInstants) (log : ℕ) (last : Option ℤ) (is_first : Bool) (line : List ℕ)
+    → log_instant instants log last is_first (take 1027 line) ≡ log_instant instants log last is_first line
+log_instant-by_head instants log last is_first line =
+    line_instant-by_head (reader_or instants.reader (slice_get instants.chosen.items log)) (option_and_then wall_clock_if_any last) is_first line

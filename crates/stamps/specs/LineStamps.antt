@@ -1,10 +1,10 @@
 -- The stamp of a line.
 use Rattle.std.specs.Prelude.{ℕ, ◌-◌, ◌==◌, ◌&&◌, ◌||◌, Bool, true, false, not, nat_eq, nat_lt}
-use Rattle.std.specs.Prelude.{List, [], ◌∷◌, drop, length, slice_get, take, if◌then◌else◌, ℤ, Option, Some, None}
+use Rattle.std.specs.Prelude.{List, [], ◌∷◌, length, slice_get, take, if◌then◌else◌, ℤ, Option, Some, None}
 use Rattle.std.specs.Prelude.{Result, Err}
-use Rattle.std.specs.Char.{is_ascii_alphanumeric}
 use Rattle.std.specs.List.{starts_with}
 use Rattle.std.specs.Result.{result_map_both}
+use Rattle.log_forms.specs.Ends.{continues}
 use Rattle.offset_times.specs.Local.{Local, instant_of}
 use Rattle.rfc3339.specs.Meaning.{meaning}
 use Rattle.rfc3339.specs.Reading.{front_at}
@@ -33,10 +33,6 @@ longest_stamp = 1023
 -- the most bytes of a line that decide on it: a byte order mark, the longest stamp, and the byte after it
 abbrev pub longest_head : ℕ
 longest_head = 1027
-
--- whether a byte could continue a date-time: a digit, a letter, or one of `+`, `-`, `.`, `:`
-abbrev pub continues : ℕ → Bool
-continues byte = is_ascii_alphanumeric byte || (byte == 43) || (byte == 45) || (byte == 46) || (byte == 58)
 
 -- whether the byte after a date-time, if there is one, continues it
 abbrev pub is_continued : Option ℕ → Bool

@@ -50,6 +50,17 @@ step_after step.Word word = kind_of word
 step_after step.List word = kind_of word
 step_after step.Value word = kind_of word
 
+-- the misuse of an option that is given twice
+abbrev pub twice_of : Step → ReadingMisuse
+twice_of step.Form = misuse.FormTwice
+twice_of step.At = misuse.AtTwice
+twice_of step.Offset = misuse.OffsetTwice
+twice_of step.Year = misuse.YearTwice
+twice_of step.Word = misuse.YearTwice
+twice_of step.List = misuse.YearTwice
+twice_of step.Value = misuse.YearTwice
+twice_of step.File = misuse.YearTwice
+
 -- ---- their values
 
 -- a place and its text of at most 255 bytes
@@ -185,3 +196,7 @@ reading_text misuse.Year = codes "the year has another form: write its four digi
 reading_text misuse.LacksOffset = codes "the form has no offset: add one, as --offset +05:30"
 reading_text misuse.LacksYear = codes "the form has no year: add the first one, as --year 2024"
 reading_text misuse.LacksBoth = codes "the form has no offset and no year: add them, as --offset +05:30 --year 2024"
+reading_text misuse.FormTwice = codes "--form is given twice: leave one out"
+reading_text misuse.AtTwice = codes "--at is given twice: leave one out"
+reading_text misuse.OffsetTwice = codes "--offset is given twice: leave one out"
+reading_text misuse.YearTwice = codes "--year is given twice: leave one out"

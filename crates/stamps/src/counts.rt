@@ -1,6 +1,6 @@
 //! The count of lines by the local clock.
 ghost use Rattle.std.specs.Prelude.{◌≡◌, ◌≤◌, pos, length};
-ghost use Rattle.stamps.specs.Buckets.{bucket_of, line_bucket, next_bucket, row_text, unit_nanos};
+ghost use Rattle.stamps.specs.Buckets.{bucket_of, next_bucket, row_text, unit_nanos};
 ghost use Rattle.stamps.specs.CountFaults.{count_status};
 ghost use Rattle.stamps.specs.LineInstants.{line_instant};
 ghost use Rattle.stamps.specs.Notes.{text_or_unix};
@@ -10,6 +10,7 @@ ghost use Rattle.offset_times.specs.Local.{local_multiple_below};
 
 use crate::files::{is_compressed, is_dashes};
 use crate::finding::{Cause, Finding};
+use crate::first_lines::{Given, reader_chosen};
 use crate::inputs::print_heading;
 use crate::readers::{Reader, line_stamp};
 use crate::sources::{FAILED, Input, clear_progress, say, say_compressed, say_unwritten};
@@ -55,12 +56,21 @@ pub struct ClockBuckets {
 
 impl Buckets for ClockBuckets {
     ghost use Rattle.stamps.specs.Buckets.{counting};
-    ghost use Rattle.stamps.specs.BucketLemmas.{line_bucket-by_head};
+    ghost use Rattle.stamps.specs.BucketLemmas.{counting-by_head};
 
     ghost counting = { counting };
 
-    fn bucket_of(&self, is_first: bool, line: &[u8]) -> Option<UtcDateTime> {
-        crate::counts::line_bucket(self, is_first, line)
+    fn instant_of(
+        &self,
+        last: Option<UtcDateTime>,
+        is_first: bool,
+        line: &[u8],
+    ) -> Option<UtcDateTime> {
+        crate::counts::line_instant(&self.reader, last, is_first, line)
+    }
+
+    fn bucket_of(&self, at: UtcDateTime) -> Option<UtcDateTime> {
+        crate::counts::bucket_of(&self.clock, at)
     }
 
     fn next(&self, start: UtcDateTime) -> UtcDateTime {
@@ -71,25 +81,20 @@ impl Buckets for ClockBuckets {
         crate::counts::row_text(&self.clock, start, count)
     }
 
-    ghost by_head = { line_bucket-by_head };
+    ghost by_head = { counting-by_head };
 }
 
-// The bucket of a line, if it has a stamp.
-fn line_bucket(buckets: &ClockBuckets, is_first: bool, line: &[u8]) -> Option<UtcDateTime>
-    ensures { result ≡ line_bucket buckets.now is_first line.now }
-{
-    match line_instant(&buckets.reader, is_first, line) {
-        Some(at) => bucket_of(&buckets.clock, at),
-        None => None,
-    }
-}
-
-// The instant of a line, if it has a stamp.
+// The instant of a line, if it has a stamp, by the last one before it.
 #[tactic(auto, unfolding(crate::specs::LineInstants::line_instant))]
-fn line_instant(reader: &Reader, is_first: bool, line: &[u8]) -> Option<UtcDateTime>
-    ensures { result ≡ line_instant reader.now is_first line.now }
+fn line_instant(
+    reader: &Reader,
+    last: Option<UtcDateTime>,
+    is_first: bool,
+    line: &[u8],
+) -> Option<UtcDateTime>
+    ensures { result ≡ line_instant reader.now last is_first line.now }
 {
-    match line_stamp(reader, None, is_first, line) {
+    match line_stamp(reader, last, is_first, line) {
         Ok(stamp) => Some(stamp.instant),
         Err(_) => None,
     }
@@ -162,6 +167,7 @@ pub fn run(
     rt: &HostRuntime,
     buckets: &ClockBuckets,
     is_strict: bool,
+    given: Given<'_>,
     words: &[String],
     files: &[String],
 ) -> u8 {
@@ -176,7 +182,7 @@ pub fn run(
         }
     }
     if names.is_empty() {
-        return run_input(rt, buckets, is_strict, "-", "");
+        return run_input(rt, buckets, is_strict, given, "-", "");
     }
     let mut status = 0;
     for name in names {
@@ -186,7 +192,7 @@ pub fn run(
                 return printed;
             }
         }
-        let ended = run_input(rt, buckets, is_strict, name, name);
+        let ended = run_input(rt, buckets, is_strict, given, name, name);
         if ended != 0 {
             status = ended;
         }
@@ -202,11 +208,27 @@ fn run_input(
     rt: &HostRuntime,
     buckets: &ClockBuckets,
     is_strict: bool,
+    given: Given<'_>,
     name: &str,
     said: &str,
 ) -> u8 {
-    let Some(input) = Input::open(rt, name, true) else {
+    let Some(mut input) = Input::open(rt, name, true) else {
         return FAILED;
+    };
+    let own = match reader_chosen(rt, given, said, &mut input) {
+        Ok(own) => own,
+        Err(status) => return status,
+    };
+    let other = match own {
+        Some(reader) => Some(ClockBuckets {
+            clock: buckets.clock,
+            reader,
+        }),
+        None => None,
+    };
+    let buckets = match &other {
+        Some(other) => other,
+        None => buckets,
     };
     let shows_progress = input.shows_progress();
     let mut writer = Device::new(rt.stdout());

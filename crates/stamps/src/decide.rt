@@ -6,7 +6,7 @@ ghost use Rattle.rfc3339.specs.declared.refusal.TextRefusal.TheVariants.{Syntax}
 ghost use Rattle.stamps.specs.Decisions.{as_it_is, cause_of, check_line, decision_by, decision_of, finding_at_end, first_state, gap_after, gap_line};
 ghost use Rattle.stamps.specs.Decisions.{as_note, going_on, stop_if};
 ghost use Rattle.stamps.specs.Decisions.{goes_on, is_earlier, last_of, rewritten, state_after, state_by};
-ghost use Rattle.stamps.specs.LineStamps.{continues, ends, front_stamp, has_mark, is_continued};
+ghost use Rattle.stamps.specs.LineStamps.{ends, front_stamp, has_mark, is_continued};
 ghost use Rattle.stamps.specs.LineStamps.{opens_bracket, stamp, stamp_of};
 
 use crate::finding::{Cause, Finding};
@@ -15,6 +15,7 @@ use crate::readers::{LineRefusal, LineStamp, line_stamp};
 use crate::style::text_in;
 use crate::task::{Action, Style, Task};
 use calendar_values::{SignedDuration, Text};
+use log_forms::continues;
 use rfc3339::{TextRefusal, parse_rfc3339_front, syntax_fault};
 use utc_times::UtcDateTime;
 
@@ -84,11 +85,10 @@ pub fn decide(task: &Task, state: &mut State, line: &[u8]) -> Decision
     ensures decision { result ≡ decision_of task.now state.old line.now }
     ensures state { state.new ≡ state_after task.now state.old line.now }
 {
+    let last = state.last;
     let stamp = line_stamp(&task.reader, state.last, state.lines == 0, line);
-    let after = state_by(&task.action, state, &stamp);
-    let decision = decision_by(&task.action, state.last, &after, &stamp);
-    *state = after;
-    decision
+    *state = state_by(&task.action, state, &stamp);
+    decision_by(&task.action, last, state, &stamp)
 }
 
 /// The finding at the end of the input, if there is one.
@@ -242,14 +242,6 @@ fn is_continued(next: Option<u8>) -> bool
         Some(byte) => continues(byte),
         None => false,
     }
-}
-
-// Whether a date-time could go on with the byte.
-#[inline(always)]
-fn continues(byte: u8) -> bool
-    ensures { result ≡ continues byte }
-{
-    byte.is_ascii_alphanumeric() || byte == b'+' || byte == b'-' || byte == b'.' || byte == b':'
 }
 
 // Whether the byte behind a date-time opens a bracket.

@@ -2,34 +2,15 @@
 ghost use Rattle.std.specs.Prelude.{◌≡◌, false};
 ghost use Rattle.line_devices.specs.Device.{has_failed};
 
-use crate::choosing::{chosen, chosen_reader};
 use crate::files::{is_compressed, is_dashes};
-use crate::readers::{Reader, mark_length};
-use crate::reading::reading_line;
+use crate::first_lines::{Given, reader_chosen};
 use crate::sources::{
     FAILED, Input, clear_progress, print_line, say, say_compressed, say_unwritten,
 };
 use crate::stamps::{StampFault, stamps, status_of};
 use crate::task::{Action, Task};
 use line_devices::devices::{Device, Sink, Source};
-use line_devices::places::place_of;
-use log_forms::{Place, form_name, reader_form, reader_key, reader_place};
-use std::alloc::AllocError;
 use std::io::Write;
-
-// The most of the first lines by which a form is chosen.
-const MOST_LINES: usize = 16;
-
-/// How stamps are read, as far as words say it, where the first lines of a log choose their form.
-#[derive(Clone, Copy)]
-pub struct Given<'a> {
-    /// Whether they do.
-    pub chooses: bool,
-    /// The value of `--offset`.
-    pub offset: Option<&'a [u8]>,
-    /// The value of `--year`.
-    pub year: Option<&'a [u8]>,
-}
 
 /// Does the task on the files, or on standard input where there are none, and returns the exit
 /// status. The words are those before the files.
@@ -131,26 +112,17 @@ fn run_input<T: Write>(
     let Some(mut input) = Input::open(rt, name, true) else {
         return FAILED;
     };
-    let mut other = None;
-    if given.chooses {
-        let Ok(number) = number_of(rt, &mut input) else {
-            say(rt, said, "no memory is left");
-            return FAILED;
-        };
-        if let Some(number) = number {
-            say_choice(rt, said, number);
-            other = match chosen_reader(number, given.offset, given.year) {
-                Ok(reader) => Some(Task {
-                    action: task.action,
-                    reader,
-                }),
-                Err(misuse) => {
-                    say(rt, said, reading_line(misuse));
-                    return FAILED;
-                }
-            };
-        }
-    }
+    let own = match reader_chosen(rt, given, said, &mut input) {
+        Ok(own) => own,
+        Err(status) => return status,
+    };
+    let other = match own {
+        Some(reader) => Some(Task {
+            action: task.action,
+            reader,
+        }),
+        None => None,
+    };
     let task = match &other {
         Some(other) => other,
         None => task,
@@ -167,44 +139,4 @@ fn run_input<T: Write>(
         Err(StampFault::Found(found)) => say(rt, said, found.text().as_str()),
     }
     status_of(&ended, tells(task) && writer.has_written())
-}
-
-// The number of the form and the place that the first lines of an input choose, if they choose another than RFC 3339 at the front.
-fn number_of(rt: &HostRuntime, input: &mut Input<'_>) -> Result<Option<usize>, AllocError> {
-    let head = input.first_bytes()?;
-    let head = &head[mark_length(true, head)..];
-    let mut lines = Vec::new(rt.alloc());
-    let mut place = 0;
-    for _ in 0..MOST_LINES {
-        if place >= head.len() {
-            break;
-        }
-        let end = place_of(b'\n', head, place);
-        if end >= head.len() {
-            if lines.is_empty() {
-                lines.push(&head[place..])?;
-            }
-            break;
-        }
-        if end > place {
-            lines.push(&head[place..end])?;
-        }
-        place = end + 1;
-    }
-    Ok(chosen(lines.as_slice()))
-}
-
-// Says which form and place were chosen.
-fn say_choice(rt: &HostRuntime, said: &str, number: usize) {
-    let form = form_name(reader_form(number));
-    let key = reader_key(number);
-    let line = match reader_place(number) {
-        Place::Front => format!(in rt.alloc(); "{form} at front"),
-        Place::Field(field) => format!(in rt.alloc(); "{form} at field:{field}"),
-        Place::After => format!(in rt.alloc(); "{form} at after:{key}"),
-        Place::Json => format!(in rt.alloc(); "{form} at json:{key}"),
-    };
-    if let Ok(line) = line {
-        say(rt, said, line.as_str());
-    }
 }

@@ -8,6 +8,7 @@ mod decide;
 mod durations;
 mod files;
 mod finding;
+mod first_lines;
 mod inputs;
 mod instants;
 mod laws;
@@ -25,11 +26,10 @@ mod usage;
 use arguments::{Misuse, Request, misuse_line, request_of};
 use counts::ClockBuckets;
 use files::{files_of, is_dashes, is_option};
-use inputs::Given;
-use instants::StampInstants;
+use first_lines::Given;
 use log_forms::{FORMS, form_name, sample_of};
 use readers::Reader;
-use reading::{ReadingMisuse, Step, needs_lines_before, reader_of, reading_line, step_after};
+use reading::{ReadingMisuse, Step, reader_of, reading_line, step_after, twice_of};
 use sources::{FAILED, print_line, say};
 use std::alloc::AllocError;
 use std::process::ExitCode;
@@ -65,6 +65,19 @@ struct Asked {
 }
 
 impl Asked {
+    // Keeps the value of an option, and returns whether it is the first one.
+    fn keep(&mut self, option: Step, word: String) -> bool {
+        let value = match option {
+            Step::Form => &mut self.form,
+            Step::At => &mut self.at,
+            Step::Offset => &mut self.offset,
+            _ => &mut self.year,
+        };
+        let is_first = value.is_none();
+        *value = Some(word);
+        is_first
+    }
+
     // Whether they say anything.
     fn is_any(&self) -> bool {
         self.form.is_some() || self.at.is_some() || self.offset.is_some() || self.year.is_some()
@@ -96,13 +109,14 @@ fn sort(rt: &HostRuntime, given: Vec<String>) -> Result<Sorted, AllocError> {
     for word in given.into_iter().skip(1) {
         let before = step;
         step = step_after(before, word.as_bytes());
-        match (step, before) {
-            (Step::Value, Step::Form) => asked.form = Some(word),
-            (Step::Value, Step::At) => asked.at = Some(word),
-            (Step::Value, Step::Offset) => asked.offset = Some(word),
-            (Step::Value, _) => asked.year = Some(word),
-            (Step::List, _) => lists = true,
-            (Step::Word | Step::File, _) => words.push(word)?,
+        match step {
+            Step::Value => {
+                if !asked.keep(before, word) {
+                    return Ok(Sorted::Misuse(reading_line(twice_of(before))));
+                }
+            }
+            Step::List => lists = true,
+            Step::Word | Step::File => words.push(word)?,
             _ => {}
         }
     }
@@ -180,7 +194,7 @@ fn obey(rt: &HostRuntime, given: &[String], asked: &Asked) -> ExitCode {
         Ok(request) => match reader_asked(asked) {
             Ok(reader) => run(
                 rt,
-                &job_of(request, reader),
+                job_of(request, reader),
                 choice_of(asked),
                 &given[..count],
                 &given[count..],
@@ -217,7 +231,7 @@ fn report_misuse(rt: &HostRuntime, text: &str) -> ExitCode {
 enum Job {
     Work(Task),
     Count(ClockBuckets, bool),
-    Merge(StampInstants, bool),
+    Merge(Reader, bool),
     Nothing,
 }
 
@@ -227,14 +241,14 @@ fn job_of(request: Request, reader: Reader) -> Job {
         Request::Help | Request::Version => Job::Nothing,
         Request::Work(action) => Job::Work(Task { action, reader }),
         Request::Count(clock, is_strict) => Job::Count(ClockBuckets { clock, reader }, is_strict),
-        Request::Merge(is_strict) => Job::Merge(StampInstants { reader }, is_strict),
+        Request::Merge(is_strict) => Job::Merge(reader, is_strict),
     }
 }
 
 // Does the job on the files. The words are those before them.
 fn run(
     rt: &HostRuntime,
-    job: &Job,
+    job: Job,
     given: Given<'_>,
     words: &[String],
     files: &[String],
@@ -250,21 +264,10 @@ fn run(
             );
         }
     }
-    let needs_lines = match job {
-        Job::Count(buckets, _) => needs_lines_before(&buckets.reader),
-        Job::Merge(instants, _) => needs_lines_before(&instants.reader),
-        Job::Nothing | Job::Work(_) => false,
-    };
-    if needs_lines {
-        return report_misuse(
-            rt,
-            "the form has no year: count and merge take forms with a year alone",
-        );
-    }
     ExitCode::from(match job {
         Job::Nothing => 0,
-        Job::Work(task) => inputs::run(rt, task, given, words, files),
-        Job::Count(buckets, is_strict) => counts::run(rt, buckets, *is_strict, words, files),
-        Job::Merge(instants, is_strict) => merges::run(rt, instants, *is_strict, words, files),
+        Job::Work(task) => inputs::run(rt, &task, given, words, files),
+        Job::Count(buckets, is_strict) => counts::run(rt, &buckets, is_strict, given, words, files),
+        Job::Merge(reader, is_strict) => merges::run(rt, reader, is_strict, given, words, files),
     })
 }

@@ -4,7 +4,9 @@ ghost use Rattle.stamps.specs.MergeFaults.{merge_status};
 
 use crate::files::{is_compressed, is_dashes};
 use crate::finding::{Cause, Finding};
+use crate::first_lines::{Given, reader_chosen};
 use crate::instants::StampInstants;
+use crate::readers::Reader;
 use crate::sources::{FAILED, Input, clear_progress, say, say_compressed, say_unwritten};
 use line_devices::devices::Device;
 use line_merges::merges::{MergeFault, add, merge};
@@ -14,8 +16,9 @@ use std::alloc::AllocError;
 /// The words are those before the files.
 pub fn run(
     rt: &HostRuntime,
-    instants: &StampInstants,
+    reader: Reader,
     is_strict: bool,
+    given: Given<'_>,
     words: &[String],
     files: &[String],
 ) -> u8 {
@@ -38,20 +41,29 @@ pub fn run(
     } else {
         names
     };
+    let mut instants = StampInstants {
+        reader,
+        chosen: Vec::new(rt.alloc()),
+    };
     let mut logs = Vec::new(rt.alloc());
     let mut shows_progress = false;
     'opens: for name in opened {
-        let Some(input) = Input::open(rt, name, !shows_progress) else {
+        let Some(mut input) = Input::open(rt, name, !shows_progress) else {
             return FAILED;
         };
+        let said = if names.is_empty() { "" } else { name };
+        let own = match reader_chosen(rt, given, said, &mut input) {
+            Ok(own) => own,
+            Err(status) => return status,
+        };
         shows_progress |= input.shows_progress();
-        if add(&mut logs, Device::new(input)).is_err() {
+        if instants.chosen.push(own).is_err() || add(&mut logs, Device::new(input)).is_err() {
             say(rt, "", "no memory is left");
             return FAILED;
         }
     }
     let mut writer = Device::new(rt.stdout());
-    let ended = merge(instants, is_strict, logs.as_mut_slice(), &mut writer);
+    let ended = merge(&instants, is_strict, logs.as_mut_slice(), &mut writer);
     if shows_progress {
         clear_progress(rt);
     }

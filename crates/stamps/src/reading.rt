@@ -3,7 +3,7 @@ ghost use Rattle.std.specs.Prelude.{◌≡◌, ◌≤◌, drop, length, option_m
 ghost use Rattle.stamps.specs.Reading.{needs_lines_before};
 ghost use Rattle.stamps.specs.Reading.{form_asked, is_front, kind_of, offset_asked, place_asked, place_text, plain_reader};
 ghost use Rattle.stamps.specs.Reading.{reader_of, reader_with, reading_text};
-ghost use Rattle.stamps.specs.Reading.{step_after, whole_reader, year_asked, year_of};
+ghost use Rattle.stamps.specs.Reading.{step_after, twice_of, whole_reader, year_asked, year_of};
 
 use crate::arguments::is;
 use crate::files::is_dashes;
@@ -89,6 +89,26 @@ pub enum ReadingMisuse {
     LacksYear,
     /// The form has neither, and none is given.
     LacksBoth,
+    /// `--form` is given twice.
+    FormTwice,
+    /// `--at` is given twice.
+    AtTwice,
+    /// `--offset` is given twice.
+    OffsetTwice,
+    /// `--year` is given twice.
+    YearTwice,
+}
+
+/// The misuse of an option that is given twice.
+pub fn twice_of(option: Step) -> ReadingMisuse
+    ensures { result ≡ twice_of option }
+{
+    match option {
+        Step::Form => ReadingMisuse::FormTwice,
+        Step::At => ReadingMisuse::AtTwice,
+        Step::Offset => ReadingMisuse::OffsetTwice,
+        Step::Year | Step::Word | Step::List | Step::Value | Step::File => ReadingMisuse::YearTwice,
+    }
 }
 
 /// The reader of the values of `--form`, `--at`, `--offset` and `--year`, as far as they are given.
@@ -322,5 +342,9 @@ pub fn reading_line(misuse: ReadingMisuse) -> &'static str
         ReadingMisuse::LacksYear => "the form has no year: add the first one, as --year 2024",
         ReadingMisuse::LacksBoth =>
             "the form has no offset and no year: add them, as --offset +05:30 --year 2024",
+        ReadingMisuse::FormTwice => "--form is given twice: leave one out",
+        ReadingMisuse::AtTwice => "--at is given twice: leave one out",
+        ReadingMisuse::OffsetTwice => "--offset is given twice: leave one out",
+        ReadingMisuse::YearTwice => "--year is given twice: leave one out",
     }
 }

@@ -18,7 +18,7 @@ pub const PIPE_CLOSED: u8 = 141;
 // A file with more bytes than these shows its progress.
 const LARGE: u64 = 100_000_000;
 
-// The most bytes of a read of the first bytes, and the most such reads.
+// The most bytes of a read of the first bytes, with which they are enough, and the most such reads.
 const BLOCK: usize = 65_536;
 
 const MOST_READS: usize = 16;
@@ -80,8 +80,9 @@ impl<'a> Input<'a> {
         }
     }
 
-    /// Reads on until a line ends, and returns the bytes that were read. Later reads return them
-    /// once more, and then the fault of a read that failed. Fails if no memory is left.
+    /// Reads on until a line ends, or a block is full, and returns the bytes that were read. Later
+    /// reads return them once more, and then the fault of a read that failed. Fails if no memory is
+    /// left.
     pub fn first_bytes(&mut self) -> Result<&[u8], AllocError> {
         for _ in 0..MOST_READS {
             let mut block = [0u8; BLOCK];
@@ -97,7 +98,7 @@ impl<'a> Input<'a> {
             }
             let bytes = &block[..count];
             self.head.extend_from_slice(bytes)?;
-            if bytes.contains(&b'\n') {
+            if bytes.contains(&b'\n') || self.head.len() >= BLOCK {
                 break;
             }
         }
@@ -144,6 +145,10 @@ impl Read for Input<'_> {
         };
         buffer[..count].copy_from_slice(&rest[..count]);
         self.served += count;
+        if self.served >= self.head.len() {
+            self.head = Vec::new(self.rt.alloc());
+            self.served = 0;
+        }
         Ok(count)
     }
 }

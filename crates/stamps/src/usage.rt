@@ -20,6 +20,6 @@ With --form FORM stamps have a form by its name, or by a description, as [day]/[
 With --at PLACE they are at front, field:N, after:TEXT or json:NAME.
 With --offset OFFSET those without an offset have this one, as +05:30 or Z.
 With --year YEAR the first of those without a year has this one.
-The words count and merge take no form without a year.
+Without --form and --at the first lines of each FILE choose both.
 Without a FILE, or for the FILE -, stamps reads standard input.
 The status is 0, or 1 for a gap or a line at fault, or 2 for an error.";

@@ -1,6 +1,6 @@
 //! Where a stamp ends: an offset or a word for a zone that a form does not read is never left out.
 use crate::tests::{is_absent, is_read};
-use log_forms::FormName;
+use log_forms::{FormName, continues};
 
 // 2024-02-29T12:00:00 one hour ahead of UTC.
 const NOON: i128 = 1_709_204_400_000_000_000;
@@ -83,6 +83,14 @@ fn letters_and_digits(rt: HostRuntime) {
     is_absent(&rt, FormName::Unix, b"17091882000");
     is_absent(&rt, FormName::Unix, b"170918820");
     is_read(&rt, FormName::Unix, b"1709204400[x]", 0, 10, NOON);
+}
+
+#[test]
+fn bytes_that_continue(rt: HostRuntime) {
+    let letters = continues(b'Z') && continues(b'a') && continues(b'0');
+    let signs = continues(b'+') && continues(b'-') && continues(b'.') && continues(b':');
+    assert!(rt; letters && signs);
+    assert!(rt; !continues(b' ') && !continues(b',') && !continues(b'[') && !continues(b'_'));
 }
 
 #[test]

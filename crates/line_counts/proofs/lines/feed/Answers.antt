@@ -1,4 +1,4 @@
-use Rattle.std.proofs.Common.{arith, refl, ◌∙◌, ◌++◌, take, append-nil}
+use Rattle.std.proofs.Common.{arith, ◌∙◌, ◌++◌, take}
 use Rattle.std.proofs.lemmas.Result.{err_from_is_err_and}
 use Rattle.std.proofs.lemmas.List.{take_all, length-drop}
 use Rattle.line_counts.proofs.BlockLemmas.{between-end, front_joined, rest_joined}

@@ -1,6 +1,5 @@
-use Rattle.std.proofs.Common.{◌≡◌, ◌+◌, ◌-◌, suc, false, true, arith, refl, sym, ◌∙◌}
+use Rattle.std.proofs.Common.{◌≡◌, ◌+◌, ◌-◌, suc, arith, refl, sym, ◌∙◌}
 use Rattle.std.proofs.lemmas.Result.{err_from_is_err_and}
-use Rattle.std.specs.Prelude.{int_lt}
 use Rattle.line_counts.specs.Counts.{most}
 use Rattle.line_counts.proofs.RowLemmas.{rows_cut, rows_end, rows_first, rows_next, rows_over}
 use Rattle.line_counts.proofs.tallies.send_empty.Goals as goal

@@ -11,6 +11,7 @@ reads-preserved g c =
 
 pub returns-in_err-read_on : goal.returns-in_err-read_on
 returns-in_err-read_on g c =
-    finds_failed c.from_residual.result _ (g.I.Instants.instant c.args.instants.now) c.args.front.now c.reads.front c.read_on.new.front _ _ _ c.args.pending.now
+    finds_failed c.from_residual.result _ (g.I.Instants.instant c.args.instants.now c.args.log)
+    c.args.front.now c.reads.front c.read_on.new.front _ _ _ c.args.pending.now
     c.reads.pending c.read_on.new.pending (c.needs_more.ensures.more c.reads-test.true).0 c.reads.invariant
     (c.needs_more.ensures.more c.reads-test.true).2 c.from_residual.ensures.1 c.in_err-read_on.ensures

@@ -12,7 +12,7 @@ invariant-firsts g l =
     let at = output (g.W.Sink.written l.writer) (g.W.Sink.is_marked l.writer) in
     record {
       stands : Stands instant l.is_strict (states l.fn.logs) (states l.logs) before at l.pending false;
-      known : (j : ℕ) (front : Front) → j < l.k → fronts_of (states l.logs) j ≡ Some front → IsKnown instant l.is_strict (Some front);
+      known : (j : ℕ) (front : Front) → j < l.k → fronts_of (states l.logs) j ≡ Some front → IsKnown (instant j) l.is_strict (Some front);
     }
 
 abbrev pub invariant-lines : goal.invariant-lines
