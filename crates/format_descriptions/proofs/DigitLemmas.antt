@@ -1,5 +1,6 @@
 -- Digits, one after another.
-use Rattle.std.proofs.Common.{◌≡◌, ℕ, suc, zero, ◌+◌, ◌-◌, ◌*◌, ◌/◌, ◌%◌, ◌<◌, ◌≤◌, ◌^◌, decimal, List, [], ◌∷◌, ◌++◌, Option, Some, None, refl, sym, append_assoc, arith}
+use Rattle.std.proofs.Common.{◌≡◌, ℕ, suc, zero, ◌+◌, ◌-◌, ◌*◌, ◌/◌, ◌%◌, ◌<◌, ◌≤◌, ◌^◌}
+use Rattle.std.proofs.Common.{decimal, List, [], ◌∷◌, ◌++◌, Option, Some, None, refl, sym, append_assoc, arith}
 use Rattle.calendar_values.specs.Digits.{last_digits}
 use Rattle.rfc3339.specs.Reading.{◌>>=◌, digit_at}
 use Rattle.std.proofs.lemmas.Fmt.{decimal_step_wide}

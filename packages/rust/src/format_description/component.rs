@@ -29,6 +29,7 @@ pub enum Component {
     End(modifier::End),
 }
 
+#[inline(always)]
 const fn padding(padding: modifier::Padding) -> proved::Padding {
     match padding {
         modifier::Padding::Zero => proved::Padding::Zero,
@@ -37,14 +38,17 @@ const fn padding(padding: modifier::Padding) -> proved::Padding {
     }
 }
 
+#[inline(always)]
 const fn sign(is_mandatory: bool) -> proved::Sign {
     if is_mandatory { proved::Sign::Mandatory } else { proved::Sign::Automatic }
 }
 
+#[inline(always)]
 const fn read_case(is_sensitive: bool) -> proved::ReadCase {
     if is_sensitive { proved::ReadCase::Same } else { proved::ReadCase::Any }
 }
 
+#[inline(always)]
 const fn year(year: modifier::Year) -> proved::Component {
     let base =
         if year.iso_week_based { proved::YearBase::IsoWeek } else { proved::YearBase::Calendar };
@@ -60,6 +64,7 @@ const fn year(year: modifier::Year) -> proved::Component {
     }
 }
 
+#[inline(always)]
 const fn month(month: modifier::Month) -> proved::Component {
     let case = read_case(month.case_sensitive);
     match month.repr {
@@ -69,6 +74,7 @@ const fn month(month: modifier::Month) -> proved::Component {
     }
 }
 
+#[inline(always)]
 const fn weekday(weekday: modifier::Weekday) -> proved::Component {
     let case = read_case(weekday.case_sensitive);
     let count = if weekday.one_indexed {
@@ -92,6 +98,7 @@ const fn weekday(weekday: modifier::Weekday) -> proved::Component {
 
 impl Component {
     /// The component as the proved functions have it.
+    #[inline(always)]
     pub(crate) const fn to_proved(self) -> proved::Component {
         match self {
             Component::Day(it) => proved::Component::Day(padding(it.padding)),
