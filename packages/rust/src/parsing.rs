@@ -45,7 +45,28 @@ impl Default for Parsed {
     }
 }
 
+/// The component that a text does not begin with, or none for a literal. It is small, so that a
+/// result of each item fits in two registers.
+#[derive(Clone, Copy)]
+struct Fault(Option<Component>);
+
+impl From<Fault> for ParseFromDescription {
+    fn from(fault: Fault) -> ParseFromDescription {
+        match fault.0 {
+            Some(component) => ParseFromDescription::InvalidComponent(component.name()),
+            None => ParseFromDescription::InvalidLiteral,
+        }
+    }
+}
+
 impl Parsed {
+    /// Reads a component, and gives what follows it.
+    #[inline(never)]
+    fn read<'a>(&mut self, input: &'a [u8], component: Component) -> Result<&'a [u8], Fault> {
+        proved::parse_component_into(component.to_proved(), input, &mut self.parts)
+            .ok_or(Fault(Some(component)))
+    }
+
     /// No part is known.
     #[must_use]
     pub const fn new() -> Parsed {
@@ -62,8 +83,7 @@ impl Parsed {
         input: &'a [u8],
         component: Component,
     ) -> Result<&'a [u8], ParseFromDescription> {
-        proved::parse_component_into(component.to_proved(), input, &mut self.parts)
-            .ok_or_else(|| ParseFromDescription::InvalidComponent(component.name()))
+        Ok(self.read(input, component)?)
     }
 
     /// Returns the bytes after these.
@@ -81,21 +101,17 @@ impl Parsed {
 
 /// The two kinds of items.
 trait Read {
-    fn read<'a>(
-        &self,
-        parsed: &mut Parsed,
-        input: &'a [u8],
-    ) -> Result<&'a [u8], ParseFromDescription>;
+    fn read<'a>(&self, parsed: &mut Parsed, input: &'a [u8]) -> Result<&'a [u8], Fault>;
 }
 
 macro_rules! read {
     ($($Item:ty)+) => {
         $(impl Read for $Item {
             #[inline(always)]
-            fn read<'a>(&self, parsed: &mut Parsed, input: &'a [u8]) -> Result<&'a [u8], ParseFromDescription> {
+            fn read<'a>(&self, parsed: &mut Parsed, input: &'a [u8]) -> Result<&'a [u8], Fault> {
                 match self {
                     Self::Literal(literal) => after_bytes(literal, input),
-                    Self::Component(component) => parsed.parse_component(input, *component),
+                    Self::Component(component) => parsed.read(input, *component),
                     Self::Compound(items) => read_all(items, parsed, input),
                     Self::Optional(item) => Ok(read_one(&**item, parsed, input).unwrap_or(input)),
                     Self::First(items) => read_first(items, parsed, input),
@@ -109,20 +125,16 @@ read! { BorrowedFormatItem<'_> OwnedFormatItem }
 
 /// The rest of a text after a literal. Most have one byte, which needs no call to compare.
 #[inline(always)]
-fn after_bytes<'a>(literal: &[u8], input: &'a [u8]) -> Result<&'a [u8], ParseFromDescription> {
+fn after_bytes<'a>(literal: &[u8], input: &'a [u8]) -> Result<&'a [u8], Fault> {
     match (literal, input) {
         ([byte], [first, rest @ ..]) if byte == first => Ok(rest),
-        _ => Parsed::parse_literal(input, literal),
+        _ => input.strip_prefix(literal).ok_or(Fault(None)),
     }
 }
 
 /// Reads an item of an item.
 #[inline(never)]
-fn read_one<'a>(
-    item: &impl Read,
-    parsed: &mut Parsed,
-    input: &'a [u8],
-) -> Result<&'a [u8], ParseFromDescription> {
+fn read_one<'a>(item: &impl Read, parsed: &mut Parsed, input: &'a [u8]) -> Result<&'a [u8], Fault> {
     item.read(parsed, input)
 }
 
@@ -132,7 +144,7 @@ fn read_first<'a>(
     items: &[impl Read],
     parsed: &mut Parsed,
     input: &'a [u8],
-) -> Result<&'a [u8], ParseFromDescription> {
+) -> Result<&'a [u8], Fault> {
     let mut fault = None;
     for item in items {
         match item.read(parsed, input) {
@@ -149,7 +161,7 @@ fn read_on<'a>(
     items: &[impl Read],
     parsed: &mut Parsed,
     input: &'a [u8],
-) -> Result<&'a [u8], ParseFromDescription> {
+) -> Result<&'a [u8], Fault> {
     let mut rest = input;
     for item in items {
         rest = item.read(parsed, rest)?;
@@ -163,7 +175,7 @@ fn read_all<'a>(
     items: &[impl Read],
     parsed: &mut Parsed,
     input: &'a [u8],
-) -> Result<&'a [u8], ParseFromDescription> {
+) -> Result<&'a [u8], Fault> {
     let before = *parsed;
     let read = read_on(items, parsed, input);
     if read.is_err() {
@@ -183,7 +195,7 @@ impl Parsed {
         input: &'a [u8],
         item: &BorrowedFormatItem<'_>,
     ) -> Result<&'a [u8], ParseFromDescription> {
-        item.read(self, input)
+        Ok(item.read(self, input)?)
     }
 
     /// Reads items at the front of a text, and returns what follows them. An error changes nothing.
@@ -196,7 +208,7 @@ impl Parsed {
         input: &'a [u8],
         items: &[BorrowedFormatItem<'_>],
     ) -> Result<&'a [u8], ParseFromDescription> {
-        read_all(items, self, input)
+        Ok(read_all(items, self, input)?)
     }
 }
 
@@ -525,25 +537,25 @@ mod sealed {
 
     impl Sealed for BorrowedFormatItem<'_> {
         fn parse_into<'a>(&self, input: &'a [u8], parsed: &mut Parsed) -> Result<&'a [u8], Parse> {
-            Ok(self.read(parsed, input)?)
+            Ok(self.read(parsed, input).map_err(ParseFromDescription::from)?)
         }
     }
 
     impl Sealed for OwnedFormatItem {
         fn parse_into<'a>(&self, input: &'a [u8], parsed: &mut Parsed) -> Result<&'a [u8], Parse> {
-            Ok(self.read(parsed, input)?)
+            Ok(self.read(parsed, input).map_err(ParseFromDescription::from)?)
         }
     }
 
     impl Sealed for [BorrowedFormatItem<'_>] {
         fn parse_into<'a>(&self, input: &'a [u8], parsed: &mut Parsed) -> Result<&'a [u8], Parse> {
-            Ok(read_on(self, parsed, input)?)
+            Ok(read_on(self, parsed, input).map_err(ParseFromDescription::from)?)
         }
     }
 
     impl Sealed for [OwnedFormatItem] {
         fn parse_into<'a>(&self, input: &'a [u8], parsed: &mut Parsed) -> Result<&'a [u8], Parse> {
-            Ok(read_on(self, parsed, input)?)
+            Ok(read_on(self, parsed, input).map_err(ParseFromDescription::from)?)
         }
     }
 
