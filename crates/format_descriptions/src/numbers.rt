@@ -29,6 +29,7 @@ pub(crate) fn put_two(padding: Padding, number: u8, text: &mut Text)
 
 // Adds a number of at most three digits.
 #[tactic(auto, unfolding(crate::specs::Written::three_text, calendar_values::specs::Digits::last_digits))]
+#[inline(never)]
 pub(crate) fn put_three(padding: Padding, number: u16, text: &mut Text)
     requires number { number < 1_000 }
     requires room { length text.old ≤ 42 }

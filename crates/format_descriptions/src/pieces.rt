@@ -20,6 +20,7 @@ use calendar_values::{Date, Text, Time, UtcOffset};
 // Adds the text of a component of a date, a time of day and an offset, and returns whether it did. It does not where the
 // component cannot write the value.
 #[tactic(auto, unfolding(crate::specs::Written::component_text))]
+#[inline(always)]
 pub(crate) fn put_component(
     component: Component,
     date: Date,
@@ -45,6 +46,7 @@ pub(crate) fn put_component(
 
 // Adds the text of a component of a date, a time of day and an offset, if each value has one.
 #[tactic(auto, unfolding(crate::specs::Written::component_text))]
+#[inline(never)]
 fn put_number(component: Component, date: Date, time: Time, offset: UtcOffset, text: &mut Text)
     requires whole { is_partial component ≡ false }
     requires room { length text.old ≤ 32 }
@@ -186,6 +188,7 @@ fn put_year(sign: Sign, padding: Padding, year: i32, text: &mut Text)
 
 // Adds the sign of the year, and its six digits.
 #[tactic(auto, unfolding(crate::specs::Written::six_text), using(std::proofs::Common::append_assoc))]
+#[inline(never)]
 fn put_six(year: i32, text: &mut Text)
     requires year { IsYear year }
     requires room { length text.old ≤ 32 }
@@ -197,6 +200,7 @@ fn put_six(year: i32, text: &mut Text)
 
 // Adds the sign of the year, and the year without its last two digits.
 #[tactic(auto, unfolding(crate::specs::Written::century_text), using(std::proofs::Common::append_assoc))]
+#[inline(never)]
 fn put_century(sign: Sign, padding: Padding, year: i32, text: &mut Text)
     requires year { IsYear year }
     requires room { length text.old ≤ 32 }
@@ -207,6 +211,7 @@ fn put_century(sign: Sign, padding: Padding, year: i32, text: &mut Text)
 }
 
 // The week of a day by each rule.
+#[inline(never)]
 fn week_by(rule: WeekRule, date: Date) -> u8
     ensures value { result ≡ week_by rule date }
     ensures in_range { result < 100 }

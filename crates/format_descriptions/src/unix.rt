@@ -15,6 +15,7 @@ use offset_times::OffsetDateTime;
 
 // What a Unix timestamp counts, rounded down.
 #[tactic(auto, unfolding(crate::specs::Written::unix_count))]
+#[inline(never)]
 pub(crate) fn unix_count(
     precision: UnixPrecision,
     date: Date,
@@ -114,6 +115,7 @@ fn by_ten_thousand(number: u128) -> (u64, u32)
 
 // Adds the sign and the digits of a Unix timestamp.
 #[tactic(auto, unfolding(crate::specs::Written::unix_text))]
+#[inline(never)]
 pub(crate) fn put_unix(sign: Sign, count: i128, text: &mut Text)
     requires count { unsigned_abs count < 10 ^ 23 }
     requires room { length text.old ≤ 32 }

@@ -143,6 +143,7 @@ pub fn format_component(
 /// assert_eq!(rt; (is_added, text.as_bytes() == b"March05".as_slice()), (true, true));
 /// ```
 #[tactic(auto, using(crate::proofs::ItemLemmas::unwritable))]
+#[inline(always)]
 pub fn format_component_into(
     component: Component,
     date: Date,

@@ -100,6 +100,15 @@ fn put_all(put: &mut impl Put, bytes: &[u8]) -> Result<usize, Format> {
     Ok(bytes.len())
 }
 
+/// Writes a literal. Most have one byte, which needs no call to copy.
+#[inline(always)]
+fn put_literal(put: &mut impl Put, literal: &[u8]) -> Result<usize, Format> {
+    match literal {
+        &[byte] => put_all(put, &[byte]),
+        _ => put_all(put, literal),
+    }
+}
+
 mod sealed {
     use super::*;
 
@@ -121,7 +130,7 @@ mod sealed {
                     #[inline(always)]
                     fn put_value(&self, value: Value, put: &mut impl Put) -> Result<usize, Format> {
                         match self {
-                            Self::Literal(literal) => put_all(put, literal),
+                            Self::Literal(literal) => put_literal(put, literal),
                             Self::Component(component) => value.put_component(*component, put),
                             Self::Compound(items) => items.put_value(value, put),
                             Self::Optional(item) => put_items(core::slice::from_ref(&**item), value, put),

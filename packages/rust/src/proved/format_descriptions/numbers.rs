@@ -37,7 +37,7 @@ pub(crate) fn put_two(padding: Padding, number: u8, text: &mut Text) {
 /// ```
 ///
 /// [docs/proofs/STATEMENT.md](crate::proved#contracts) explains the words.
-#[inline]
+#[inline(never)]
 pub(crate) fn put_three(padding: Padding, number: u16, text: &mut Text) {
     match padding {
         Padding::Zero => text.push_bytes(&[

@@ -24,7 +24,7 @@ use crate::proved::calendar_values::{Date, Text, Time, UtcOffset};
 /// ```
 ///
 /// [docs/proofs/STATEMENT.md](crate::proved#contracts) explains the words.
-#[inline]
+#[inline(always)]
 pub(crate) fn put_component(
     component: Component,
     date: Date,
@@ -52,7 +52,7 @@ pub(crate) fn put_component(
 /// ```
 ///
 /// [docs/proofs/STATEMENT.md](crate::proved#contracts) explains the words.
-#[inline]
+#[inline(never)]
 fn put_number(component: Component, date: Date, time: Time, offset: UtcOffset, text: &mut Text) {
     match component {
         Component::Year(base, sign, padding, _) => {
@@ -233,7 +233,7 @@ fn put_year(sign: Sign, padding: Padding, year: i32, text: &mut Text) {
 /// ```
 ///
 /// [docs/proofs/STATEMENT.md](crate::proved#contracts) explains the words.
-#[inline]
+#[inline(never)]
 fn put_six(year: i32, text: &mut Text) {
     put_year_sign(Sign::Mandatory, year, text);
     put_six_digits(year.unsigned_abs(), text);
@@ -249,7 +249,7 @@ fn put_six(year: i32, text: &mut Text) {
 /// ```
 ///
 /// [docs/proofs/STATEMENT.md](crate::proved#contracts) explains the words.
-#[inline]
+#[inline(never)]
 fn put_century(sign: Sign, padding: Padding, year: i32, text: &mut Text) {
     put_year_sign(sign, year, text);
     put_century_digits(padding, year.unsigned_abs() / 100, text);
@@ -264,7 +264,7 @@ fn put_century(sign: Sign, padding: Padding, year: i32, text: &mut Text) {
 /// ```
 ///
 /// [docs/proofs/STATEMENT.md](crate::proved#contracts) explains the words.
-#[inline]
+#[inline(never)]
 const fn week_by(rule: WeekRule, date: Date) -> u8 {
     match rule {
         WeekRule::Iso => date.iso_week(),

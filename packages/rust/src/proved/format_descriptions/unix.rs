@@ -14,7 +14,7 @@ use crate::proved::offset_times::OffsetDateTime;
 /// ```
 ///
 /// [docs/proofs/STATEMENT.md](crate::proved#contracts) explains the words.
-#[inline]
+#[inline(never)]
 pub(crate) const fn unix_count(
     precision: UnixPrecision,
     date: Date,
@@ -160,7 +160,7 @@ const fn by_ten_thousand(number: u128) -> (u64, u32) {
 /// ```
 ///
 /// [docs/proofs/STATEMENT.md](crate::proved#contracts) explains the words.
-#[inline]
+#[inline(never)]
 pub(crate) fn put_unix(sign: Sign, count: i128, text: &mut Text) {
     if count < 0 {
         text.push(b'-');

@@ -198,7 +198,7 @@ pub fn format_component(
 /// ```
 ///
 /// [docs/proofs/STATEMENT.md](crate::proved#contracts) explains the words.
-#[inline]
+#[inline(always)]
 pub fn format_component_into(
     component: Component,
     date: Date,
