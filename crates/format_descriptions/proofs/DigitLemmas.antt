@@ -1,5 +1,6 @@
 -- Digits, one after another.
-use Rattle.std.proofs.Common.{◌≡◌, ℕ, suc, zero, ◌+◌, ◌-◌, ◌*◌, ◌/◌, ◌%◌, ◌<◌, ◌≤◌, ◌^◌, decimal, List, [], ◌∷◌, ◌++◌, Some, None, refl, append_assoc, arith}
+use Rattle.std.proofs.Common.{◌≡◌, ℕ, suc, zero, ◌+◌, ◌-◌, ◌*◌, ◌/◌, ◌%◌, ◌<◌, ◌≤◌, ◌^◌}
+use Rattle.std.proofs.Common.{decimal, List, [], ◌∷◌, ◌++◌, Option, Some, None, refl, sym, append_assoc, arith}
 use Rattle.calendar_values.specs.Digits.{last_digits}
 use Rattle.rfc3339.specs.Reading.{◌>>=◌, digit_at}
 use Rattle.std.proofs.lemmas.Fmt.{decimal_step_wide}
@@ -13,12 +14,45 @@ pub pushed_digits : (old first middle text : List ℕ) (n : ℕ) → first ≡ o
 unfolding last_digits
 pushed_digits old first middle text n e f g = rw (g, f, e) (simp append_assoc (grind arith))
 
+-- a number, and the digits after it
+abbrev pub counted_on : ℕ → Option (ℕ × List ℕ) → Option (ℕ × List ℕ)
+counted_on n None = None
+counted_on n (Some more) = Some (n + more.0, more.1)
+
+counted_on-zero : (read : Option (ℕ × List ℕ)) → counted_on 0 read ≡ read
+counted_on-zero None = refl
+counted_on-zero (Some more) = let same : 0 + more.0 ≡ more.0 = omega arith in rw same refl
+
+counted_on-add : (n d : ℕ) (read : Option (ℕ × List ℕ)) → counted_on n (read >>= λ more. Some (d + more.0, more.1)) ≡ counted_on (n + d) read
+counted_on-add n d None = refl
+counted_on-add n d (Some more) = let same : n + (d + more.0) ≡ n + d + more.0 = omega arith in rw same refl
+
+-- before the first digit
+pub counted_first : (count unit : ℕ) (text : List ℕ) → counted_on 0 (counted_at count unit text) ≡ counted_at count unit text
+counted_first count unit text = counted_on-zero (counted_at count unit text)
+
 -- a digit, and then the others
-pub counted_next : (count unit : ℕ) (text : List ℕ) → 0 < count
-    → counted_at count unit text ≡ (digit_at text >>= λ digit. counted_at (count - 1) (unit / 10) digit.1 >>= λ more. Some (digit.0 * unit + more.0, more.1))
+pub counted_next : (count unit n digit : ℕ) (text rest : List ℕ) (all : Option (ℕ × List ℕ)) → 0 < count → Some (digit, rest) ≡ digit_at text
+    → counted_on n (counted_at count unit text) ≡ all → counted_on (n + digit * unit) (counted_at (count - 1) (unit / 10) rest) ≡ all
 unfolding counted_at
-counted_next zero unit text some = absurd (omega (arith, some))
-counted_next (suc count) unit text some = let same : suc count - 1 ≡ count = omega arith in rw same refl
+counted_next zero unit n digit text rest all some is so = absurd (omega (arith, some))
+counted_next (suc count) unit n digit text rest all some is so =
+    let same : suc count - 1 ≡ count = omega arith in
+    rw (same, ← counted_on-add n (digit * unit) (counted_at count (unit / 10) rest)) (rw (← is) at so)
+
+-- no digit where there must be one
+pub counted_none : (count unit n : ℕ) (text : List ℕ) (all : Option (ℕ × List ℕ)) → 0 < count → None ≡ digit_at text
+    → counted_on n (counted_at count unit text) ≡ all → all ≡ None
+unfolding counted_at
+counted_none zero unit n text all some is so = absurd (omega (arith, some))
+counted_none (suc count) unit n text all some is so = sym (rw (← is) at so)
+
+-- behind the last digit
+pub counted_last : (count unit n : ℕ) (text : List ℕ) (all : Option (ℕ × List ℕ)) → count ≡ 0
+    → counted_on n (counted_at count unit text) ≡ all → all ≡ Some (n, text)
+unfolding counted_at
+counted_last zero unit n text all none so = let same : n + 0 ≡ n = omega arith in sym (rw same at so)
+counted_last (suc count) unit n text all none so = absurd (omega (arith, none))
 
 -- a number of more than four digits ends in its last four
 pub decimal_four : (n : ℕ) → 10_000 ≤ n → n < 10 ^ 64 → decimal n ≡ decimal (n / 10_000) ++ last_digits 4 n

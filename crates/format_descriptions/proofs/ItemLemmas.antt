@@ -1,12 +1,11 @@
 -- Items written one after another, and their groups.
-use Rattle.std.proofs.Common.{◌≡◌, ℕ, zero, suc, ◌+◌, ◌-◌, ◌==◌, ◌<◌, ℤ, unsigned_abs, true, false, List, [], ◌∷◌, ◌++◌, length}
+use Rattle.std.proofs.Common.{◌≡◌, ℕ, zero, suc, ◌+◌, ◌-◌, ◌==◌, ℤ, unsigned_abs, true, false, List, [], ◌∷◌, ◌++◌, length}
 use Rattle.std.proofs.Common.{drop, min}
 use Rattle.std.proofs.Common.{append_assoc, append-nil}
 use Rattle.std.proofs.Common.{length-append, sym, ap, refl, ◌∙◌, arith, inl, inr, Some, None}
 use Rattle.std.proofs.lemmas.Bool.{cases_order}
 use Rattle.std.specs.Prelude.{IsAscii}
 use Rattle.std.proofs.lemmas.List.{get_or-append-add, get_or_append_left, get_or_past}
-use Rattle.calendar_values.specs.Digits.{text_capacity}
 use Rattle.format_descriptions.specs.Groups.{size_of, is_other, written_from}
 use Rattle.format_descriptions.specs.Written.{flat_text, item_text, Fits, no_text, offset_word_text, is_year_since, year_since_text}
 use Rattle.format_descriptions.specs.declared.modifiers.UtcWord.{UtcWord}
@@ -75,13 +74,8 @@ IsAscii-left xs ys h = λ i. elim (cases_order i (length xs)) [
 ]
 
 -- a piece that is not ASCII
-pub not_ascii : (old piece others all : List ℕ) → ¬ IsAscii piece → (old ++ piece) ++ others ≡ all → ¬ Fits all
-not_ascii old piece others all other so fits = other (IsAscii-right old piece (IsAscii-left (old ++ piece) others (rw so fits.1)))
-
--- a piece for which there is no room
-pub no_room : (old piece others all : List ℕ) → text_capacity < length old + length piece → (old ++ piece) ++ others ≡ all → ¬ Fits all
-no_room old piece others all more so fits =
-    omega (arith, ap (length {A = ℕ}) so, length-append (old ++ piece) others, length-append old piece, fits.0)
+pub unwritable : (old piece : List ℕ) → ¬ IsAscii piece → ¬ Fits (old ++ piece)
+unwritable old piece other fits = other (IsAscii-right old piece fits.1)
 
 -- a group that does not fit
 pub group_unfit : (old own others all : List ℕ) → ¬ Fits (old ++ own) → (old ++ own) ++ others ≡ all → ¬ Fits all

@@ -18,6 +18,7 @@ mod DateTimeLemmas
 mod CaseLemmas
 mod DirectLemmas
 mod DirectValueLemmas
+mod CountedLemmas
 mod SpelledLemmas
 mod DecimalLemmas
 mod DescriptionLemmas

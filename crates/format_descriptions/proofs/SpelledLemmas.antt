@@ -12,8 +12,8 @@ use Rattle.rfc3339.specs.Reading.{digit_at, two_digits_at, year_at}
 use Rattle.format_descriptions.specs.Modifiers.{utc_word}
 use Rattle.format_descriptions.specs.Read.{Front, component_at, agrees, with_part, part_given, item_at, going_on, read_from, at_end, items_at}
 use Rattle.format_descriptions.specs.Reading.{digit_more, unsigned, with_sign, nothing, half_of, two_at, three_at, three_digits_at, four_at, more_at, sign_at}
-use Rattle.format_descriptions.specs.Reading.{year_after, hours_after, signed_year_at, signed_hours_at, month_at, weekday_at, period_at, word_at, letter_at}
-use Rattle.format_descriptions.specs.Spelled.{is_fixed, is_bare, are_no_digit, are_separate, IsText, sign_text, first_hour, spelling, IsNumber, Spells}
+use Rattle.format_descriptions.specs.Reading.{year_after, hours_after, signed_year_at, signed_hours_at, six_at, counted_at, fraction_at, month_at, weekday_at, period_at, word_at, letter_at}
+use Rattle.format_descriptions.specs.Spelled.{is_fixed, is_bare, are_no_digit, are_separate, IsText, sign_text, first_hour, spelling, IsNumber, unit_digits, HasDigits, Spells}
 use Rattle.format_descriptions.specs.Written.{period_text}
 use Rattle.format_descriptions.specs.declared.component.Component.{Component}
 use Rattle.format_descriptions.specs.declared.component.Component.TheVariants.{Year, YearCentury, YearLastTwo, Month, MonthName, Day, Ordinal}
@@ -28,8 +28,10 @@ use Rattle.format_descriptions.specs.declared.modifiers.Case.{Case}
 use Rattle.format_descriptions.specs.declared.modifiers.Padding.TheVariants.{Zero, Space, Bare}
 use Rattle.format_descriptions.specs.declared.modifiers.ReadCase.TheVariants.{Same, Any}
 use Rattle.format_descriptions.specs.declared.modifiers.Sign.TheVariants.{Automatic, Mandatory}
+use Rattle.format_descriptions.specs.declared.modifiers.SubsecondDigits.TheVariants.{OneOrMore, One, Two, Three, Four, Five, Six, Seven, Eight, Nine}
 use Rattle.format_descriptions.specs.declared.modifiers.YearRange.TheVariants.{Standard, Extended}
 use Rattle.format_descriptions.specs.declared.parts.Parts.{Parts}
+use Rattle.format_descriptions.proofs.CountedLemmas.{digit-takes, AreUnits, counted-takes, counted-again}
 use Rattle.format_descriptions.proofs.CaseLemmas.{word-spelled, month-named, weekday-named}
 use Rattle.format_descriptions.proofs.NameAgainLemmas.{month-again, weekday-again, period-again}
 use Rattle.format_descriptions.proofs.NumberAgainLemmas.{three_digits-again}
@@ -53,11 +55,6 @@ unfolding two_at
 two-spelled text n rest h =
     let u = unsigned-takes (two_digits_at text) n rest h in
     let t = two_takes text n.1 rest u.1 in (t.parts, (u.0, t.fits))
-
-digit-takes : (text : List ℕ) (digit : ℕ) (rest : List ℕ) → digit_at text ≡ Some (digit, rest) → (text ≡ (48 + digit) ∷ rest) × (digit < 10)
-unfolding digit_at
-digit-takes [] digit rest h = absurd cc
-digit-takes (first ∷ text) digit rest h = (grind (arith, nat_tests), grind (arith, nat_tests))
 
 three-takes : (text : List ℕ) (n : ℕ) (rest : List ℕ) → three_digits_at text ≡ Some (n, rest) → Takes text (last_digits 3 n) rest n 1_000
 unfolding three_digits_at last_digits
@@ -158,10 +155,61 @@ word-on word text (Some more) n rest e h =
       sym (ap (λ (z : (Bool × ℕ) × List ℕ). z.0) pair),
     )
 
+-- so many digits of a fraction, and six digits after a sign
+counted-spelled : (count : ℕ) (text : List ℕ) (n : Bool × ℕ) (rest : List ℕ) → AreUnits count 100_000_000
+    → unsigned (counted_at count 100_000_000 text) ≡ Some (n, rest)
+    → (text ≡ unit_digits count 100_000_000 n.1 ++ rest) × ((n.0 ≡ false) × HasDigits count 100_000_000 n.1)
+counted-spelled count text n rest units h =
+    let u = unsigned-takes (counted_at count 100_000_000 text) n rest h in
+    let t = counted-takes count 100_000_000 text n.1 rest units u.1 in (t.digits, (u.0, t.all))
+
+-- the nine units of a fraction
+units_1 : AreUnits 1 100_000_000
+units_1 = (omega arith, omega arith)
+
+units_2 : AreUnits 2 100_000_000
+units_2 = (omega arith, (omega arith, omega arith))
+
+units_3 : AreUnits 3 100_000_000
+units_3 = (omega arith, (omega arith, (omega arith, omega arith)))
+
+units_4 : AreUnits 4 100_000_000
+units_4 = (omega arith, (omega arith, (omega arith, (omega arith, omega arith))))
+
+units_5 : AreUnits 5 100_000_000
+units_5 = (omega arith, (omega arith, (omega arith, (omega arith, (omega arith, omega arith)))))
+
+units_6 : AreUnits 6 100_000_000
+units_6 = (omega arith, (omega arith, (omega arith, (omega arith, (omega arith, (omega arith, omega arith))))))
+
+units_7 : AreUnits 7 100_000_000
+units_7 = (omega arith, (omega arith, (omega arith, (omega arith, (omega arith, (omega arith, (omega arith, omega arith)))))))
+
+units_8 : AreUnits 8 100_000_000
+units_8 = (omega arith, (omega arith, (omega arith, (omega arith, (omega arith, (omega arith, (omega arith, (omega arith, omega arith))))))))
+
+units_9 : AreUnits 9 100_000_000
+units_9 = (omega arith, (omega arith, (omega arith, (omega arith, (omega arith, (omega arith, (omega arith, (omega arith, (omega arith, omega arith)))))))))
+
+six_units : AreUnits 6 100_000
+six_units = (omega arith, (omega arith, (omega arith, (omega arith, (omega arith, (omega arith, omega arith))))))
+
+six-spelled : (text : List ℕ) (n : Bool × ℕ) (rest : List ℕ) → six_at text ≡ Some (n, rest)
+    → (text ≡ sign_text n.0 ++ unit_digits 6 100_000 n.1 ++ rest) × HasDigits 6 100_000 n.1
+unfolding six_at
+six-spelled text n rest h =
+    let found = bind_some _ _ _ h in
+    let s = with_sign-takes found.0.0 _ n rest found.2 in
+    let t = counted-takes 6 100_000 found.0.1 n.1 rest six_units s.1 in
+    let digits : text ≡ sign_text n.0 ++ (unit_digits 6 100_000 n.1 ++ rest) =
+    rw s.0 (sign-takes text found.0.0 found.0.1 found.1 ∙ ap (λ (z : List ℕ). sign_text found.0.0 ++ z) t.digits)
+    in
+    (digits ∙ sym (append_assoc (sign_text n.0) (unit_digits 6 100_000 n.1) rest), t.all)
+
 -- a component
 component-spelled : (c : Component) (text : List ℕ) (n : Bool × ℕ) (rest : List ℕ) → IsTrue (is_fixed c) → component_at c text ≡ Some (n, rest)
     → (text ≡ spelling c n ++ rest) × IsNumber c n
-unfolding component_at
+unfolding component_at fraction_at
 component-spelled (Year base Mandatory Zero Standard) text n rest fixed h = year-spelled text n rest h
 component-spelled (Year base Mandatory Zero Extended) text n rest fixed h = absurd cc
 component-spelled (Year base Mandatory Space range) text n rest fixed h = absurd cc
@@ -212,7 +260,16 @@ component-spelled (WeekdayName form Any) text n rest fixed h = absurd cc
 component-spelled (WeekdayNumber start count) text n rest fixed h = absurd cc
 component-spelled (Period case Same) text n rest fixed h = period-spelled case text n rest h
 component-spelled (Period case Any) text n rest fixed h = absurd cc
-component-spelled (Subsecond digits) text n rest fixed h = absurd cc
+component-spelled (Subsecond One) text n rest fixed h = counted-spelled 1 text n rest units_1 h
+component-spelled (Subsecond Two) text n rest fixed h = counted-spelled 2 text n rest units_2 h
+component-spelled (Subsecond Three) text n rest fixed h = counted-spelled 3 text n rest units_3 h
+component-spelled (Subsecond Four) text n rest fixed h = counted-spelled 4 text n rest units_4 h
+component-spelled (Subsecond Five) text n rest fixed h = counted-spelled 5 text n rest units_5 h
+component-spelled (Subsecond Six) text n rest fixed h = counted-spelled 6 text n rest units_6 h
+component-spelled (Subsecond Seven) text n rest fixed h = counted-spelled 7 text n rest units_7 h
+component-spelled (Subsecond Eight) text n rest fixed h = counted-spelled 8 text n rest units_8 h
+component-spelled (Subsecond Nine) text n rest fixed h = counted-spelled 9 text n rest units_9 h
+component-spelled (Subsecond OneOrMore) text n rest fixed h = absurd cc
 component-spelled (OffsetHour Mandatory Zero) text n rest fixed h = hours-spelled text n rest h
 component-spelled (OffsetHour Mandatory Space) text n rest fixed h = absurd cc
 component-spelled (OffsetHour Mandatory Bare) text n rest fixed h = absurd cc
@@ -225,7 +282,7 @@ component-spelled IgnoreDigits text n rest fixed h = absurd cc
 component-spelled (OffsetWord word Same) text n rest fixed h = word-on (utc_word word) text _ n rest refl h
 component-spelled (OffsetWord word Any) text n rest fixed h = absurd cc
 component-spelled (YearSince first) text n rest fixed h = absurd cc
-component-spelled (YearSix base) text n rest fixed h = absurd cc
+component-spelled (YearSix base) text n rest fixed h = six-spelled text n rest h
 component-spelled (HourFraction digits) text n rest fixed h = absurd cc
 component-spelled (MinuteFraction digits) text n rest fixed h = absurd cc
 
@@ -263,8 +320,21 @@ unfolding word_at letter_at
 word-read [] rest = refl
 word-read (letter ∷ word) rest = let same : nat_eq letter letter ≡ true = grind (arith, nat_tests) in rw same (word-read word rest)
 
+counted-read : (count : ℕ) (n : Bool × ℕ) (rest : List ℕ) → (n.0 ≡ false) × HasDigits count 100_000_000 n.1
+    → unsigned (counted_at count 100_000_000 (unit_digits count 100_000_000 n.1 ++ rest)) ≡ Some (n, rest)
+counted-read count n rest is = rw (counted-again count 100_000_000 n.1 rest is.1) (ap (λ (b : Bool). Some ((b, n.1), rest)) (sym is.0))
+
+six-read : (n : Bool × ℕ) (rest : List ℕ) → HasDigits 6 100_000 n.1 → six_at (sign_text n.0 ++ unit_digits 6 100_000 n.1 ++ rest) ≡ Some (n, rest)
+unfolding six_at
+six-read n rest is =
+    rw (
+      append_assoc (sign_text n.0) (unit_digits 6 100_000 n.1) rest,
+      sign-again n.0 (unit_digits 6 100_000 n.1 ++ rest),
+      counted-again 6 100_000 n.1 rest is,
+    ) refl
+
 component-read : (c : Component) (n : Bool × ℕ) (rest : List ℕ) → IsTrue (is_fixed c) → IsNumber c n → component_at c (spelling c n ++ rest) ≡ Some (n, rest)
-unfolding component_at
+unfolding component_at fraction_at
 component-read (Year base Mandatory Zero Standard) n rest fixed is = year-read n rest is
 component-read (Year base Mandatory Zero Extended) n rest fixed is = absurd cc
 component-read (Year base Mandatory Space range) n rest fixed is = absurd cc
@@ -314,7 +384,16 @@ component-read (WeekdayNumber start count) n rest fixed is = absurd cc
 component-read (Period case Same) n rest fixed is =
     period-read case n.0 rest ∙ ap (λ (k : ℕ). Some ((n.0, k), rest)) (sym is)
 component-read (Period case Any) n rest fixed is = absurd cc
-component-read (Subsecond digits) n rest fixed is = absurd cc
+component-read (Subsecond One) n rest fixed is = counted-read 1 n rest is
+component-read (Subsecond Two) n rest fixed is = counted-read 2 n rest is
+component-read (Subsecond Three) n rest fixed is = counted-read 3 n rest is
+component-read (Subsecond Four) n rest fixed is = counted-read 4 n rest is
+component-read (Subsecond Five) n rest fixed is = counted-read 5 n rest is
+component-read (Subsecond Six) n rest fixed is = counted-read 6 n rest is
+component-read (Subsecond Seven) n rest fixed is = counted-read 7 n rest is
+component-read (Subsecond Eight) n rest fixed is = counted-read 8 n rest is
+component-read (Subsecond Nine) n rest fixed is = counted-read 9 n rest is
+component-read (Subsecond OneOrMore) n rest fixed is = absurd cc
 component-read (OffsetHour Mandatory Zero) n rest fixed is = hours-read n rest is
 component-read (OffsetHour Mandatory Space) n rest fixed is = absurd cc
 component-read (OffsetHour Mandatory Bare) n rest fixed is = absurd cc
@@ -328,7 +407,7 @@ component-read (OffsetWord word Same) n rest fixed is =
     rw (word-read (utc_word word) rest) (ap (λ (k : Bool × ℕ). Some (k, rest)) (sym is))
 component-read (OffsetWord word Any) n rest fixed is = absurd cc
 component-read (YearSince first) n rest fixed is = absurd cc
-component-read (YearSix base) n rest fixed is = absurd cc
+component-read (YearSix base) n rest fixed is = six-read n rest is
 component-read (HourFraction digits) n rest fixed is = absurd cc
 component-read (MinuteFraction digits) n rest fixed is = absurd cc
 

@@ -1,20 +1,21 @@
 -- Texts that descriptions spell: each component spells a number by its digits, its sign or its name.
 use Rattle.std.specs.Char.{is_ascii_digit}
-use Rattle.std.specs.Prelude.{◌≡◌, ℕ, ◌+◌, ◌<◌, ◌≤◌, ◌⊎◌, ◌&&◌, ◌||◌, not, Bool, true, false, List, [], ◌∷◌, ◌++◌, codes, Ok, IsTrue}
+use Rattle.std.specs.Prelude.{◌≡◌, ℕ, zero, suc, ◌+◌, ◌/◌, ◌%◌, ◌<◌, ◌≤◌, ◌⊎◌, ◌&&◌, ◌||◌, not, Bool, true, false, List, [], ◌∷◌, ◌++◌, codes, Ok, IsTrue}
 use Rattle.calendar_values.specs.Digits.{last_digits}
-use Rattle.format_descriptions.specs.Modifiers.{utc_word}
+use Rattle.format_descriptions.specs.Modifiers.{utc_word, digit_count}
 use Rattle.format_descriptions.specs.Names.{name_of_month, name_of_weekday}
 use Rattle.format_descriptions.specs.Read.{items_at, agrees, with_part}
 use Rattle.format_descriptions.specs.Written.{name_in_form, period_text}
 use Rattle.format_descriptions.specs.declared.component.Component.{Component}
 use Rattle.format_descriptions.specs.declared.component.Component.TheVariants.{Year, YearLastTwo, Month, MonthName, Day, Ordinal}
 use Rattle.format_descriptions.specs.declared.component.Component.TheVariants.{WeekdayName, WeekNumber, Hour, Hour12, Period, Minute}
-use Rattle.format_descriptions.specs.declared.component.Component.TheVariants.{Second, OffsetHour, OffsetMinute, OffsetSecond, OffsetWord}
+use Rattle.format_descriptions.specs.declared.component.Component.TheVariants.{Second, Subsecond, OffsetHour, OffsetMinute, OffsetSecond, OffsetWord, YearSix}
 use Rattle.format_descriptions.specs.declared.item.Item.{Item}
 use Rattle.format_descriptions.specs.declared.item.Item.TheVariants.{Byte, Part, Optional, First, Or}
 use Rattle.format_descriptions.specs.declared.modifiers.Padding.TheVariants.{Zero, Bare}
 use Rattle.format_descriptions.specs.declared.modifiers.ReadCase.TheVariants.{Same}
 use Rattle.format_descriptions.specs.declared.modifiers.Sign.TheVariants.{Mandatory}
+use Rattle.format_descriptions.specs.declared.modifiers.SubsecondDigits.TheVariants.{One, Two, Three, Four, Five, Six, Seven, Eight, Nine}
 use Rattle.format_descriptions.specs.declared.modifiers.YearRange.TheVariants.{Standard}
 use Rattle.format_descriptions.specs.declared.parts.Parts.{Parts}
 
@@ -37,6 +38,16 @@ is_fixed (WeekdayName form Same) = true
 is_fixed (Period case Same) = true
 is_fixed (OffsetHour Mandatory Zero) = true
 is_fixed (OffsetWord word Same) = true
+is_fixed (Subsecond One) = true
+is_fixed (Subsecond Two) = true
+is_fixed (Subsecond Three) = true
+is_fixed (Subsecond Four) = true
+is_fixed (Subsecond Five) = true
+is_fixed (Subsecond Six) = true
+is_fixed (Subsecond Seven) = true
+is_fixed (Subsecond Eight) = true
+is_fixed (Subsecond Nine) = true
+is_fixed (YearSix base) = true
 is_fixed component = false
 
 -- the component is a number of one digit or two
@@ -81,6 +92,16 @@ abbrev pub first_hour : Bool → ℕ
 first_hour true = 12
 first_hour false = 0
 
+-- the digits of a number, the first of which counts this unit, each other a tenth of the unit before
+abbrev pub unit_digits : ℕ → ℕ → ℕ → List ℕ
+unit_digits zero unit n = []
+unit_digits (suc count) unit n = (48 + n / unit) ∷ unit_digits count (unit / 10) (n % unit)
+
+-- these digits are all that the number has
+abbrev pub HasDigits : ℕ → ℕ → ℕ → Type 0
+HasDigits zero unit n = n ≡ 0
+HasDigits (suc count) unit n = (n / unit < 10) × HasDigits count (unit / 10) (n % unit)
+
 -- the text of a number
 abbrev pub spelling : Component → Bool × ℕ → List ℕ
 spelling (Year base sign padding range) n = sign_text n.0 ++ last_digits 4 n.1
@@ -100,6 +121,8 @@ spelling (WeekdayName form case) n = name_in_form form (name_of_weekday n.1)
 spelling (Period case read) n = period_text case (first_hour n.0)
 spelling (OffsetHour sign padding) n = sign_text n.0 ++ last_digits 2 n.1
 spelling (OffsetWord word case) n = utc_word word
+spelling (Subsecond digits) n = unit_digits (digit_count digits) 100_000_000 n.1
+spelling (YearSix base) n = sign_text n.0 ++ unit_digits 6 100_000 n.1
 spelling component n = []
 
 -- the component has a text for the number
@@ -120,6 +143,8 @@ IsNumber (MonthName form case) n = (n.0 ≡ false) × (1 ≤ n.1) × (n.1 ≤ 12
 IsNumber (WeekdayName form case) n = (n.0 ≡ false) × (n.1 < 7)
 IsNumber (Period case read) n = n.1 ≡ 0
 IsNumber (OffsetHour sign padding) n = n.1 < 100
+IsNumber (Subsecond digits) n = (n.0 ≡ false) × HasDigits (digit_count digits) 100_000_000 n.1
+IsNumber (YearSix base) n = HasDigits 6 100_000 n.1
 IsNumber component n = n ≡ (false, 0)
 
 -- the text of a number: where a component has one digit or two, one is enough below 10

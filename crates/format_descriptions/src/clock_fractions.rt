@@ -12,6 +12,7 @@ use crate::{Parts, SubsecondDigits};
 use calendar_values::Time;
 
 // The billionths of the hour, rounded down.
+#[inline(never)]
 pub(crate) fn hour_fraction(time: Time) -> u32
     ensures value { result ≡ time % nanos_per_hour / 3_600 }
     ensures below { result < 1_000_000_000 }
@@ -22,6 +23,7 @@ pub(crate) fn hour_fraction(time: Time) -> u32
 }
 
 // The billionths of the minute, rounded down.
+#[inline(never)]
 pub(crate) fn minute_fraction(time: Time) -> u32
     ensures value { result ≡ time % nanos_per_minute / 60 }
     ensures below { result < 1_000_000_000 }

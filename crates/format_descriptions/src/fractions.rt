@@ -24,7 +24,6 @@ pub(crate) fn fraction(digits: SubsecondDigits, text: &[u8]) -> Option<(u32, &[u
 }
 
 // So many digits: the first counts so many units, each other a tenth of the one before.
-#[tactic(auto, using(crate::proofs::DigitLemmas::counted_next))]
 pub(crate) fn read_digits(count: u8, unit: u32, text: &[u8]) -> Option<(u32, &[u8])>
     requires { unit ≤ 100_000_000 }
     ensures value { option_map (λ read. (read.0, read.1.now)) result
@@ -32,16 +31,20 @@ pub(crate) fn read_digits(count: u8, unit: u32, text: &[u8]) -> Option<(u32, &[u
     ensures below { IfSome result (λ read. read.0 ≤ 10 * unit) }
     ensures shorter { IfSome result (λ read. length read.1.now ≤ length text.now) }
 {
-    if count == 0 {
-        return Some((0, text));
+    let mut rest = text;
+    let mut left = count;
+    let mut unit = unit;
+    let mut number = 0;
+    while left > 0 {
+        let Some((digit, more)) = digit(rest) else {
+            return None;
+        };
+        number += digit * unit;
+        unit /= 10;
+        left -= 1;
+        rest = more;
     }
-    let Some((digit, rest)) = digit(text) else {
-        return None;
-    };
-    let Some((more, rest)) = read_digits(count - 1, unit / 10, rest) else {
-        return None;
-    };
-    Some((digit * unit + more, rest))
+    Some((number, rest))
 }
 
 // All the digits that there are, those past the ninth dropped.

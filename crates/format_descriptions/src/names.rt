@@ -1,49 +1,67 @@
 //! Names of months, of days of the week and of halves of the day.
-ghost use Rattle.std.specs.Prelude.{◌≡◌, ◌≤◌, length, IsAscii};
-ghost use Rattle.calendar_values.specs.Month.{month_number};
-ghost use Rattle.calendar_values.specs.Weekday.{weekday_number};
+ghost use Rattle.std.specs.Prelude.{◌≡◌, ◌≤◌, ◌<◌, length, IsAscii};
 ghost use Rattle.format_descriptions.specs.Names.{name_of_month, name_of_weekday};
 ghost use Rattle.format_descriptions.specs.Written.{name_in_form, period_text};
 
 use crate::{Case, NameForm};
-use calendar_values::{Month, Text, Weekday};
 
-// The name of a month.
-pub(crate) fn month_name(form: NameForm, month: Month) -> Text
-    ensures text { result ≡ name_in_form form (name_of_month (month_number month)) }
+// The letters of the name of a month, by its number.
+#[tactic(auto, unfolding(crate::specs::Names::month_of_number))]
+pub(crate) fn month_word(form: NameForm, month: u8) -> &'static [u8]
+    requires { (1 ≤ month) × (month ≤ 12) }
+    ensures text { result.now ≡ name_in_form form (name_of_month month) }
+    ensures ascii { IsAscii result.now }
+    ensures length { length result.now ≤ 9 }
 {
-    name_in_form(form, month.text())
+    let name: &'static [u8] = match month {
+        1 => b"January",
+        2 => b"February",
+        3 => b"March",
+        4 => b"April",
+        5 => b"May",
+        6 => b"June",
+        7 => b"July",
+        8 => b"August",
+        9 => b"September",
+        10 => b"October",
+        11 => b"November",
+        _ => b"December",
+    };
+    name_in_form(form, name)
 }
 
-// The name of a day of the week.
-pub(crate) fn weekday_name(form: NameForm, weekday: Weekday) -> Text
-    ensures text { result ≡ name_in_form form (name_of_weekday (weekday_number weekday)) }
+// The letters of the name of a day of the week, by its number, 0 for Monday.
+#[tactic(auto, unfolding(crate::specs::Names::weekday_of_number))]
+pub(crate) fn weekday_word(form: NameForm, weekday: u8) -> &'static [u8]
+    requires { weekday < 7 }
+    ensures text { result.now ≡ name_in_form form (name_of_weekday weekday) }
+    ensures ascii { IsAscii result.now }
+    ensures length { length result.now ≤ 9 }
 {
-    name_in_form(form, weekday.text())
+    let name: &'static [u8] = match weekday {
+        0 => b"Monday",
+        1 => b"Tuesday",
+        2 => b"Wednesday",
+        3 => b"Thursday",
+        4 => b"Friday",
+        5 => b"Saturday",
+        _ => b"Sunday",
+    };
+    name_in_form(form, name)
 }
 
 // A name, or its first three letters.
-fn name_in_form(form: NameForm, name: Text) -> Text
-    ensures text { result ≡ name_in_form form name }
+fn name_in_form(form: NameForm, name: &'static [u8]) -> &'static [u8]
+    requires ascii { IsAscii name.now }
+    requires length { length name.now ≤ 9 }
+    ensures text { result.now ≡ name_in_form form name.now }
+    ensures ascii { IsAscii result.now }
+    ensures length { length result.now ≤ 9 }
 {
     match form {
         NameForm::Long => name,
-        NameForm::Short => {
-            let bytes = name.as_bytes();
-            let mut text = Text::new();
-            text.push_bytes(&bytes[..bytes.len().min(3)]);
-            text
-        }
+        NameForm::Short => &name[..name.len().min(3)],
     }
-}
-
-// The text of the half of the day.
-pub(crate) fn period_text(case: Case, hour: u8) -> Text
-    ensures text { result ≡ period_text case hour }
-{
-    let mut text = Text::new();
-    text.push_bytes(period_word(case, hour));
-    text
 }
 
 // The word for the half of the day.

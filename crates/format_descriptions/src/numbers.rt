@@ -1,6 +1,6 @@
 //! Numbers written with their padding.
-ghost use Rattle.std.specs.Prelude.{◌≡◌, ◌≤◌, ◌<◌, ◌++◌, ◌∷◌, decimal, length, take};
-ghost use Rattle.calendar_values.specs.Digits.{last_digits, fraction_digits};
+ghost use Rattle.std.specs.Prelude.{◌≡◌, ◌≤◌, ◌<◌, ◌++◌, length, take};
+ghost use Rattle.calendar_values.specs.Digits.{last_digits};
 ghost use Rattle.format_descriptions.specs.Modifiers.{digit_count};
 ghost use Rattle.calendar_values.specs.Texts.{year_digits};
 ghost use Rattle.format_descriptions.specs.Written.{two_text, three_text, four_text, century_digits, subsecond_text};
@@ -8,14 +8,13 @@ ghost use Rattle.format_descriptions.specs.Written.{two_text, three_text, four_t
 use crate::{Padding, SubsecondDigits};
 use calendar_values::Text;
 
-// A number of at most two digits.
+// Adds a number of at most two digits.
 #[tactic(auto, unfolding(crate::specs::Written::two_text))]
-pub(crate) fn two_text(padding: Padding, number: u8) -> Text
-    requires { number < 100 }
-    ensures text { result ≡ two_text padding number }
-    ensures length { length result ≤ 21 }
+pub(crate) fn put_two(padding: Padding, number: u8, text: &mut Text)
+    requires number { number < 100 }
+    requires room { length text.old ≤ 43 }
+    ensures { text.new ≡ text.old ++ two_text padding number }
 {
-    let mut text = Text::new();
     match padding {
         Padding::Zero => text.push_two_digits(number),
         Padding::Space => {
@@ -26,17 +25,16 @@ pub(crate) fn two_text(padding: Padding, number: u8) -> Text
         }
         Padding::Bare => text.push_decimal(number as u64),
     }
-    text
 }
 
-// A number of at most three digits.
+// Adds a number of at most three digits.
 #[tactic(auto, unfolding(crate::specs::Written::three_text, calendar_values::specs::Digits::last_digits))]
-pub(crate) fn three_text(padding: Padding, number: u16) -> Text
-    requires { number < 1_000 }
-    ensures text { result ≡ three_text padding number }
-    ensures length { length result ≤ 22 }
+#[inline(never)]
+pub(crate) fn put_three(padding: Padding, number: u16, text: &mut Text)
+    requires number { number < 1_000 }
+    requires room { length text.old ≤ 42 }
+    ensures { text.new ≡ text.old ++ three_text padding number }
 {
-    let mut text = Text::new();
     match padding {
         Padding::Zero => text.push_bytes(&[
             b'0' + (number / 100 % 10) as u8,
@@ -53,125 +51,91 @@ pub(crate) fn three_text(padding: Padding, number: u16) -> Text
         }
         Padding::Bare => text.push_decimal(number as u64),
     }
-    text
 }
 
-// A number of four digits, or of more where it has more.
+// Adds a number of four digits, or of more where it has more.
 #[tactic(auto, unfolding(crate::specs::Written::four_text, calendar_values::specs::Texts::year_digits))]
-pub(crate) fn four_text(padding: Padding, number: u32) -> Text
-    ensures text { result ≡ four_text padding number }
-    ensures length { length result ≤ 42 }
+pub(crate) fn put_four(padding: Padding, number: u32, text: &mut Text)
+    requires room { length text.old ≤ 41 }
+    ensures { text.new ≡ text.old ++ four_text padding number }
 {
     match padding {
-        Padding::Zero => year_digits(number),
+        Padding::Zero => put_year_digits(number, text),
         Padding::Space => {
             if number < 1_000 {
-                after_space(three_text(Padding::Space, number as u16))
+                text.push(b' ');
+                put_three(Padding::Space, number as u16, text);
             } else {
-                year_digits(number)
+                put_year_digits(number, text);
             }
         }
         Padding::Bare => {
             if number < 1_000 {
-                decimal(number)
+                text.push_decimal(number as u64);
             } else {
-                year_digits(number)
+                put_year_digits(number, text);
             }
         }
     }
 }
 
-// A text after a space.
-fn after_space(text: Text) -> Text
-    requires room { length text ≤ 41 }
-    ensures text { result ≡ 32 ∷ text }
-{
-    let mut spaced = Text::new();
-    spaced.push(b' ');
-    spaced.push_bytes(text.as_bytes());
-    spaced
-}
-
-// The digits of a year, at least four.
+// Adds the digits of a year, at least four.
 #[tactic(auto, unfolding(calendar_values::specs::Texts::year_digits))]
-fn year_digits(year: u32) -> Text
-    ensures text { result ≡ year_digits year }
-    ensures length { length result ≤ 20 }
+fn put_year_digits(year: u32, text: &mut Text)
+    requires room { length text.old ≤ 42 }
+    ensures { text.new ≡ text.old ++ year_digits year }
 {
-    let mut text = Text::new();
     if year < 10_000 {
         text.push_four_digits(year);
     } else {
         text.push_decimal(year as u64);
     }
-    text
 }
 
-// The last six digits of a number.
+// Adds the last six digits of a number.
 #[tactic(auto, unfolding(calendar_values::specs::Digits::last_digits))]
-pub(crate) fn six_digits(number: u32) -> Text
-    ensures text { result ≡ last_digits 6 number }
-    ensures length { length result ≡ 6 }
+pub(crate) fn put_six_digits(number: u32, text: &mut Text)
+    requires room { length text.old ≤ 42 }
+    ensures { text.new ≡ text.old ++ last_digits 6 number }
 {
-    let mut text = Text::new();
     text.push_four_digits(number / 100);
     text.push_two_digits((number % 100) as u8);
-    text
 }
 
-// A number without padding.
-pub(crate) fn decimal(number: u32) -> Text
-    ensures text { result ≡ decimal number }
-    ensures length { length result ≤ 20 }
-{
-    let mut text = Text::new();
-    text.push_decimal(number as u64);
-    text
-}
-
-// A number of two digits, or of more where it has more.
+// Adds a number of two digits, or of more where it has more.
 #[tactic(auto, unfolding(crate::specs::Written::century_digits))]
-pub(crate) fn century_digits(padding: Padding, number: u32) -> Text
-    ensures text { result ≡ century_digits padding number }
-    ensures length { length result ≤ 21 }
+pub(crate) fn put_century_digits(padding: Padding, number: u32, text: &mut Text)
+    requires room { length text.old ≤ 42 }
+    ensures { text.new ≡ text.old ++ century_digits padding number }
 {
     if number < 100 {
-        two_text(padding, number as u8)
+        put_two(padding, number as u8, text);
     } else {
-        decimal(number)
+        text.push_decimal(number as u64);
     }
 }
 
-// The digits of a fraction.
+// Adds the digits of a fraction.
 #[tactic(auto, unfolding(crate::specs::Written::subsecond_text))]
-pub(crate) fn subsecond_text(digits: SubsecondDigits, nanosecond: u32) -> Text
-    ensures text { result ≡ subsecond_text digits nanosecond }
+pub(crate) fn put_subsecond(digits: SubsecondDigits, nanosecond: u32, text: &mut Text)
+    requires room { length text.old ≤ 42 }
+    ensures { text.new ≡ text.old ++ subsecond_text digits nanosecond }
 {
     let count = digits.count();
     if count == 0 {
-        fraction_digits(nanosecond)
+        text.push_fraction(nanosecond);
     } else {
-        first_digits(count, nanosecond)
+        put_first_digits(count, nanosecond, text);
     }
 }
 
-// As many digits as the fraction takes.
-fn fraction_digits(nanosecond: u32) -> Text
-    ensures text { result ≡ fraction_digits 9 nanosecond }
-{
-    let mut text = Text::new();
-    text.push_fraction(nanosecond);
-    text
-}
-
-// The first digits of the nine.
-fn first_digits(count: u8, nanosecond: u32) -> Text
-    ensures text { result ≡ take count (last_digits 9 nanosecond) }
+// Adds the first digits of the nine.
+fn put_first_digits(count: u8, nanosecond: u32, text: &mut Text)
+    requires room { length text.old ≤ 42 }
+    ensures { text.new ≡ text.old ++ take count (last_digits 9 nanosecond) }
 {
     let nine = nine_digits(nanosecond);
-    let mut text = Text::new();
     text.push_bytes(&nine.as_bytes()[..(count as usize).min(9)]);
-    text
 }
 
 // The last nine digits of a number.

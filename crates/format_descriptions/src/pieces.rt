@@ -1,5 +1,6 @@
 //! The text of each component.
-ghost use Rattle.std.specs.Prelude.{◌≡◌, ◌==◌, ◌≤◌, ◌<◌, ◌/◌, ◌%◌, ◌++◌, length, unsigned_abs, SomeIff, IsAscii, false};
+ghost use Rattle.std.specs.Prelude.{◌≡◌, ◌==◌, ◌≤◌, ◌<◌, ◌/◌, ◌%◌, ◌++◌, length, unsigned_abs, IsAscii, false};
+ghost use Rattle.std.specs.Bool.{OnTrue, OnFalse};
 ghost use Rattle.calendar_values.specs.Range.{IsYear};
 ghost use Rattle.format_descriptions.specs.declared.modifiers.YearBase.TheVariants.{Calendar};
 ghost use Rattle.format_descriptions.specs.Written.{year_by, year_sign, year_text, century_text, six_text, week_by, weekday_number_by};
@@ -8,79 +9,113 @@ ghost use Rattle.format_descriptions.specs.Written.{hour_12, offset_hour_text, c
 ghost use Rattle.format_descriptions.specs.Written.{offset_word_text, is_year_since, year_since_text};
 
 use crate::clock_fractions::{hour_fraction, minute_fraction};
-use crate::names::{month_name, period_text, weekday_name};
+use crate::names::{month_word, period_word, weekday_word};
 use crate::numbers::{
-    century_digits, decimal, four_text, six_digits, subsecond_text, three_text, two_text,
+    put_century_digits, put_four, put_six_digits, put_subsecond, put_three, put_two,
 };
-use crate::unix::{unix_count, unix_text};
+use crate::unix::{put_unix, unix_count};
 use crate::{Component, Padding, Sign, UtcWord, WeekRule, WeekStart, WeekdayCount, YearBase};
 use calendar_values::{Date, Text, Time, UtcOffset};
 
-// The text of a component of a date, a time of day and an offset, if each value has one.
+// Adds the text of a component of a date, a time of day and an offset, and returns whether it did. It does not where the
+// component cannot write the value.
 #[tactic(auto, unfolding(crate::specs::Written::component_text))]
-pub(crate) fn component_text(
+#[inline(always)]
+pub(crate) fn put_component(
     component: Component,
     date: Date,
     time: Time,
     offset: UtcOffset,
-) -> Text
-    requires { is_partial component ≡ false }
-    ensures text { result ≡ component_text component date time offset }
+    text: &mut Text,
+) -> bool
+    requires room { length text.old ≤ 32 }
+    ensures text { OnTrue result
+        (text.new ≡ text.old ++ component_text component date time offset) }
+    ensures none { OnFalse result (¬ IsAscii (component_text component date time offset)) }
+    ensures unchanged { OnFalse result (text.new ≡ text.old) }
 {
     match component {
-        Component::Year(base, sign, padding, _) => { year_text(sign, padding, year_by(base, date)) }
+        Component::OffsetWord(word, _) => put_offset_word(word, offset, text),
+        Component::YearSince(first) => put_year_since(first, date, text),
+        _ => {
+            put_number(component, date, time, offset, text);
+            true
+        }
+    }
+}
+
+// Adds the text of a component of a date, a time of day and an offset, if each value has one.
+#[tactic(auto, unfolding(crate::specs::Written::component_text))]
+#[inline(never)]
+fn put_number(component: Component, date: Date, time: Time, offset: UtcOffset, text: &mut Text)
+    requires whole { is_partial component ≡ false }
+    requires room { length text.old ≤ 32 }
+    ensures { text.new ≡ text.old ++ component_text component date time offset }
+{
+    match component {
+        Component::Year(base, sign, padding, _) => {
+            put_year(sign, padding, year_by(base, date), text)
+        }
         Component::YearCentury(base, sign, padding, _) => {
-            century_text(sign, padding, year_by(base, date))
+            put_century(sign, padding, year_by(base, date), text)
         }
         Component::YearLastTwo(base, padding) => {
-            two_text(padding, (year_by(base, date).unsigned_abs() % 100) as u8)
+            put_two(
+                padding,
+                (year_by(base, date).unsigned_abs() % 100) as u8,
+                text,
+            )
         }
-        Component::Month(padding) => two_text(padding, u8::from(date.month())),
-        Component::MonthName(form, _) => month_name(form, date.month()),
-        Component::Day(padding) => two_text(padding, date.day()),
-        Component::Ordinal(padding) => three_text(padding, date.ordinal()),
-        Component::WeekdayName(form, _) => weekday_name(form, date.weekday()),
+        Component::Month(padding) => put_two(padding, u8::from(date.month()), text),
+        Component::MonthName(form, _) => {
+            text.push_bytes(month_word(form, u8::from(date.month())))
+        }
+        Component::Day(padding) => put_two(padding, date.day(), text),
+        Component::Ordinal(padding) => put_three(padding, date.ordinal(), text),
+        Component::WeekdayName(form, _) | Component::IgnoreWeekday(form, _) => {
+            text.push_bytes(weekday_word(form, date.weekday().number_days_from_monday()))
+        }
         Component::WeekdayNumber(start, count) => {
             let weekday = date.weekday().number_days_from_monday();
-            decimal(weekday_number_by(start, count, weekday) as u32)
+            text.push_decimal(weekday_number_by(start, count, weekday) as u64);
         }
-        Component::WeekNumber(rule, padding) => two_text(padding, week_by(rule, date)),
-        Component::Hour(padding) => two_text(padding, time.hour()),
-        Component::Hour12(padding) => two_text(padding, hour_12(time.hour())),
-        Component::Period(case, _) => period_text(case, time.hour()),
-        Component::Minute(padding) => two_text(padding, time.minute()),
-        Component::Second(padding) => two_text(padding, time.second()),
-        Component::Subsecond(digits) => subsecond_text(digits, time.nanosecond()),
-        Component::OffsetHour(sign, padding) => offset_hour_text(sign, padding, offset),
-        Component::OffsetMinute(padding) => two_text(padding, offset_numbers(offset).1),
-        Component::OffsetSecond(padding) => two_text(padding, offset_numbers(offset).2),
+        Component::WeekNumber(rule, padding) => put_two(padding, week_by(rule, date), text),
+        Component::Hour(padding) => put_two(padding, time.hour(), text),
+        Component::Hour12(padding) => put_two(padding, hour_12(time.hour()), text),
+        Component::Period(case, _) => text.push_bytes(period_word(case, time.hour())),
+        Component::Minute(padding) => put_two(padding, time.minute(), text),
+        Component::Second(padding) => put_two(padding, time.second(), text),
+        Component::Subsecond(digits) => put_subsecond(digits, time.nanosecond(), text),
+        Component::OffsetHour(sign, padding) => put_offset_hour(sign, padding, offset, text),
+        Component::OffsetMinute(padding) => put_two(padding, offset_numbers(offset).1, text),
+        Component::OffsetSecond(padding) => put_two(padding, offset_numbers(offset).2, text),
         Component::UnixTimestamp(precision, sign) => {
-            unix_text(sign, unix_count(precision, date, time, offset))
+            put_unix(sign, unix_count(precision, date, time, offset), text)
         }
-        Component::IgnoreWeekday(form, _) => weekday_name(form, date.weekday()),
-        Component::YearSix(base) => six_text(year_by(base, date)),
-        Component::HourFraction(digits) => subsecond_text(digits, hour_fraction(time)),
-        Component::MinuteFraction(digits) => subsecond_text(digits, minute_fraction(time)),
+        Component::YearSix(base) => put_six(year_by(base, date), text),
+        Component::HourFraction(digits) => put_subsecond(digits, hour_fraction(time), text),
+        Component::MinuteFraction(digits) => put_subsecond(digits, minute_fraction(time), text),
         Component::Ignore(_)
         | Component::End
         | Component::IgnoreDigits
         | Component::OffsetWord(_, _)
-        | Component::YearSince(_) => Text::new(),
+        | Component::YearSince(_) => (),
     }
 }
 
-// A word for UTC. None of another offset.
+// Adds a word for UTC, and returns whether it did: no other offset has one.
 #[tactic(auto, unfolding(crate::specs::Written::offset_word_text))]
-pub(crate) fn offset_word_text(word: UtcWord, offset: UtcOffset) -> Option<Text>
-    ensures text { let text = offset_word_text word offset in
-        SomeIff result (IsAscii text) text }
+fn put_offset_word(word: UtcWord, offset: UtcOffset, text: &mut Text) -> bool
+    requires room { length text.old ≤ 32 }
+    ensures text { OnTrue result (text.new ≡ text.old ++ offset_word_text word offset) }
+    ensures none { OnFalse result (¬ IsAscii (offset_word_text word offset)) }
+    ensures unchanged { OnFalse result (text.new ≡ text.old) }
 {
     if !is_zero(offset) {
-        return None;
+        return false;
     }
-    let mut text = Text::new();
     text.push_bytes(word.letters());
-    Some(seen(text))
+    true
 }
 
 // Whether the offset is 0.
@@ -90,17 +125,22 @@ fn is_zero(offset: UtcOffset) -> bool
     offset.whole_seconds().unsigned_abs() == 0
 }
 
-// The last two digits of a year of the hundred years from this one on. None of another year.
+// Adds the last two digits of a year of the hundred years from this one on, and returns whether it did: no other year has
+// them.
 #[tactic(auto, unfolding(crate::specs::Written::year_since_text))]
-pub(crate) fn year_since_text(first: u16, date: Date) -> Option<Text>
-    ensures text { let text = year_since_text first (year_by Calendar date) in
-        SomeIff result (IsAscii text) text }
+fn put_year_since(first: u16, date: Date, text: &mut Text) -> bool
+    requires room { length text.old ≤ 32 }
+    ensures text { OnTrue result
+        (text.new ≡ text.old ++ year_since_text first (year_by Calendar date)) }
+    ensures none { OnFalse result (¬ IsAscii (year_since_text first (year_by Calendar date))) }
+    ensures unchanged { OnFalse result (text.new ≡ text.old) }
 {
     let year = date.year();
     if !is_year_since(first, year) {
-        return None;
+        return false;
     }
-    Some(seen(two_text(Padding::Zero, (year.unsigned_abs() % 100) as u8)))
+    put_two(Padding::Zero, (year.unsigned_abs() % 100) as u8, text);
+    true
 }
 
 // Whether the year is one of the hundred years from this one on.
@@ -109,15 +149,6 @@ fn is_year_since(first: u16, year: i32) -> bool
 {
     let first = first as i32;
     (year >= first) & (year < first + 100)
-}
-
-// The same text, of which a caller then knows that it is ASCII.
-pub(crate) fn seen(text: Text) -> Text
-    ensures text { result ≡ text }
-    ensures ascii { IsAscii text }
-{
-    let _bytes = text.as_bytes();
-    text
 }
 
 // The year of the calendar, or that of the ISO week.
@@ -131,57 +162,56 @@ fn year_by(base: YearBase, date: Date) -> i32
     }
 }
 
-// The sign of a year.
-fn year_sign(sign: Sign, year: i32) -> Text
-    ensures text { result ≡ year_sign sign year }
-    ensures length { length result ≤ 1 }
+// Adds the sign of a year.
+fn put_year_sign(sign: Sign, year: i32, text: &mut Text)
+    requires room { length text.old ≤ 32 }
+    ensures text { text.new ≡ text.old ++ year_sign sign year }
+    ensures length { length text.new ≤ 33 }
 {
-    let mut text = Text::new();
     if year < 0 {
         text.push(b'-');
     } else if sign.is_mandatory() | (year > 9_999) {
         text.push(b'+');
     }
-    text
 }
 
-// The year with its sign.
-#[tactic(auto, unfolding(crate::specs::Written::year_text))]
-fn year_text(sign: Sign, padding: Padding, year: i32) -> Text
+// Adds the year with its sign.
+#[tactic(auto, unfolding(crate::specs::Written::year_text), using(std::proofs::Common::append_assoc))]
+fn put_year(sign: Sign, padding: Padding, year: i32, text: &mut Text)
     requires year { IsYear year }
-    ensures text { result ≡ year_text sign padding year }
+    requires room { length text.old ≤ 32 }
+    ensures { text.new ≡ text.old ++ year_text sign padding year }
 {
-    let digits = four_text(padding, year.unsigned_abs());
-    let mut text = year_sign(sign, year);
-    text.push_bytes(digits.as_bytes());
-    text
+    put_year_sign(sign, year, text);
+    put_four(padding, year.unsigned_abs(), text);
 }
 
-// The sign of the year, and its six digits.
-#[tactic(auto, unfolding(crate::specs::Written::six_text))]
-fn six_text(year: i32) -> Text
+// Adds the sign of the year, and its six digits.
+#[tactic(auto, unfolding(crate::specs::Written::six_text), using(std::proofs::Common::append_assoc))]
+#[inline(never)]
+fn put_six(year: i32, text: &mut Text)
     requires year { IsYear year }
-    ensures text { result ≡ six_text year }
+    requires room { length text.old ≤ 32 }
+    ensures { text.new ≡ text.old ++ six_text year }
 {
-    let digits = six_digits(year.unsigned_abs());
-    let mut text = year_sign(Sign::Mandatory, year);
-    text.push_bytes(digits.as_bytes());
-    text
+    put_year_sign(Sign::Mandatory, year, text);
+    put_six_digits(year.unsigned_abs(), text);
 }
 
-// The sign of the year, and the year without its last two digits.
-#[tactic(auto, unfolding(crate::specs::Written::century_text))]
-fn century_text(sign: Sign, padding: Padding, year: i32) -> Text
+// Adds the sign of the year, and the year without its last two digits.
+#[tactic(auto, unfolding(crate::specs::Written::century_text), using(std::proofs::Common::append_assoc))]
+#[inline(never)]
+fn put_century(sign: Sign, padding: Padding, year: i32, text: &mut Text)
     requires year { IsYear year }
-    ensures text { result ≡ century_text sign padding year }
+    requires room { length text.old ≤ 32 }
+    ensures { text.new ≡ text.old ++ century_text sign padding year }
 {
-    let digits = century_digits(padding, year.unsigned_abs() / 100);
-    let mut text = year_sign(sign, year);
-    text.push_bytes(digits.as_bytes());
-    text
+    put_year_sign(sign, year, text);
+    put_century_digits(padding, year.unsigned_abs() / 100, text);
 }
 
 // The week of a day by each rule.
+#[inline(never)]
 fn week_by(rule: WeekRule, date: Date) -> u8
     ensures value { result ≡ week_by rule date }
     ensures in_range { result < 100 }
@@ -212,20 +242,18 @@ pub(crate) fn hour_12(hour: u8) -> u8
     if past == 0 { 12 } else { past }
 }
 
-// The sign and the hours of an offset.
-#[tactic(auto, unfolding(crate::specs::Written::offset_hour_text))]
-fn offset_hour_text(sign: Sign, padding: Padding, offset: UtcOffset) -> Text
-    ensures text { result ≡ offset_hour_text sign padding offset }
+// Adds the sign and the hours of an offset.
+#[tactic(auto, unfolding(crate::specs::Written::offset_hour_text), using(std::proofs::Common::append_assoc))]
+fn put_offset_hour(sign: Sign, padding: Padding, offset: UtcOffset, text: &mut Text)
+    requires room { length text.old ≤ 32 }
+    ensures { text.new ≡ text.old ++ offset_hour_text sign padding offset }
 {
-    let hours = two_text(padding, offset_numbers(offset).0);
-    let mut text = Text::new();
     if offset.is_negative() {
         text.push(b'-');
     } else if sign.is_mandatory() {
         text.push(b'+');
     }
-    text.push_bytes(hours.as_bytes());
-    text
+    put_two(padding, offset_numbers(offset).0, text);
 }
 
 // The hours, the minutes and the seconds of an offset, without its sign.

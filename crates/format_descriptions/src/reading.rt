@@ -1,5 +1,6 @@
 //! Numbers, names and signs, read from the front of a text.
-ghost use Rattle.std.specs.Prelude.{◌≡◌, ◌+◌, ◌*◌, ◌≤◌, ◌<◌, length, option_map, IfSome, Some};
+ghost use Rattle.std.specs.Prelude.{◌≡◌, ◌+◌, ◌-◌, ◌*◌, ◌≤◌, ◌<◌, length, option_map, IfSome, Some};
+ghost use Rattle.std.specs.Int.{IsInRange};
 ghost use Rattle.rfc3339.specs.Reading.{digit_at, two_digits_at, mark_at, year_at};
 ghost use Rattle.format_descriptions.specs.Reading.{two_at, three_digits_at, three_at, four_at, more_at};
 ghost use Rattle.format_descriptions.specs.Reading.{sign_at, is_letter, letter_at, word_at, digit_more};
@@ -121,15 +122,30 @@ fn three_digits(text: &[u8]) -> Option<(u32, &[u8])>
 }
 
 // Two digits.
-#[tactic(auto, unfolding(rfc3339::specs::Reading::two_digits_at))]
+#[tactic(auto, unfolding(rfc3339::specs::Reading::two_digits_at, rfc3339::specs::Reading::digit_at))]
 pub(crate) fn two_digits(text: &[u8]) -> Option<(u32, &[u8])>
     ensures value { option_map (λ read. (read.0, read.1.now)) result ≡ two_digits_at text.now }
     ensures below { IfSome result (λ read. read.0 < 100) }
     ensures shorter { IfSome result (λ read. length read.1.now ≤ length text.now) }
 {
-    let (tens, text) = digit(text)?;
-    let (units, text) = digit(text)?;
-    Some((tens * 10 + units, text))
+    let [tens, units, rest @ ..] = text else {
+        return None;
+    };
+    if tens.is_ascii_digit() & units.is_ascii_digit() {
+        Some((number(*tens, *units), rest))
+    } else {
+        None
+    }
+}
+
+// The number of two digits.
+fn number(tens: u8, units: u8) -> u32
+    requires tens { IsInRange 48 57 tens }
+    requires units { IsInRange 48 57 units }
+    ensures value { result ≡ (tens - 48) * 10 + (units - 48) }
+    ensures below { result < 100 }
+{
+    ((tens - b'0') * 10 + (units - b'0')) as u32
 }
 
 // A digit.

@@ -15,6 +15,7 @@ use offset_times::OffsetDateTime;
 
 // What a Unix timestamp counts, rounded down.
 #[tactic(auto, unfolding(crate::specs::Written::unix_count))]
+#[inline(never)]
 pub(crate) fn unix_count(
     precision: UnixPrecision,
     date: Date,
@@ -112,26 +113,26 @@ fn by_ten_thousand(number: u128) -> (u64, u32)
     (quotient, (left % 10_000) as u32)
 }
 
-// The sign and the digits of a Unix timestamp.
+// Adds the sign and the digits of a Unix timestamp.
 #[tactic(auto, unfolding(crate::specs::Written::unix_text))]
-pub(crate) fn unix_text(sign: Sign, count: i128) -> Text
-    requires { unsigned_abs count < 10 ^ 23 }
-    ensures text { result ≡ unix_text sign count }
+#[inline(never)]
+pub(crate) fn put_unix(sign: Sign, count: i128, text: &mut Text)
+    requires count { unsigned_abs count < 10 ^ 23 }
+    requires room { length text.old ≤ 32 }
+    ensures { text.new ≡ text.old ++ unix_text sign count }
 {
-    let mut text = Text::new();
     if count < 0 {
         text.push(b'-');
     } else if sign.is_mandatory() {
         text.push(b'+');
     }
-    push_long_decimal(&mut text, count.unsigned_abs());
-    text
+    push_long_decimal(text, count.unsigned_abs());
 }
 
 // Adds a number of up to 23 digits.
 #[tactic(auto, using(crate::proofs::DigitLemmas::pushed_decimal))]
 fn push_long_decimal(text: &mut Text, number: u128)
-    requires room { length text.old ≤ 1 }
+    requires room { length text.old ≤ 40 }
     requires below { number < 10 ^ 23 }
     ensures { text.new ≡ text.old ++ decimal number }
 {

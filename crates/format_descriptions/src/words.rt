@@ -2,10 +2,9 @@
 ghost use Rattle.std.specs.Prelude.{◌≡◌, ◌≤◌, length, option_map, IfSome};
 ghost use Rattle.format_descriptions.specs.Reading.{month_at, weekday_at, weekday_number_at, period_at};
 
-use crate::names::{month_name, period_word, weekday_name};
+use crate::names::{month_word, period_word, weekday_word};
 use crate::reading::{after_word, digit};
 use crate::{Case, NameForm, ReadCase, WeekStart, WeekdayCount};
-use calendar_values::{Month, Weekday};
 
 // The name of a month up to this one.
 #[tactic(auto, using(crate::proofs::NameLemmas::month_next))]
@@ -19,10 +18,7 @@ pub(crate) fn month(form: NameForm, case: ReadCase, last: u8, text: &[u8]) -> Op
     if last == 0 {
         return None;
     }
-    let Ok(name) = Month::from_number(last) else {
-        return None;
-    };
-    match after_word(case, month_name(form, name).as_bytes(), text) {
+    match after_word(case, month_word(form, last), text) {
         Some(rest) => Some((last as u32, rest)),
         None => month(form, case, last - 1, text),
     }
@@ -40,8 +36,7 @@ pub(crate) fn weekday(form: NameForm, case: ReadCase, end: u8, text: &[u8]) -> O
     if end == 0 {
         return None;
     }
-    let name = Weekday::of_number(end - 1);
-    match after_word(case, weekday_name(form, name).as_bytes(), text) {
+    match after_word(case, weekday_word(form, end - 1), text) {
         Some(rest) => Some(((end - 1) as u32, rest)),
         None => weekday(form, case, end - 1, text),
     }

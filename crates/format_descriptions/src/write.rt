@@ -1,10 +1,11 @@
 //! Texts written by descriptions.
-ghost use Rattle.std.specs.Prelude.{◌≡◌, ◌≤◌, ◌∷◌, ◌++◌, [], length, SomeIff, IsAscii};
+ghost use Rattle.std.specs.Prelude.{◌≡◌, ◌≤◌, ◌∷◌, ◌++◌, [], length, SomeIff, IsTrue, IsAscii};
+ghost use Rattle.std.specs.Bool.{OnTrue, OnFalse};
 ghost use Rattle.format_descriptions.specs.Groups.{written_from};
 ghost use Rattle.format_descriptions.specs.Written.{component_text, item_text, items_text, flat_text, described_text, Fits};
 
 use crate::item::{behind, is_other, size_of};
-use crate::pieces::{component_text, offset_word_text, seen, year_since_text};
+use crate::pieces::put_component;
 use crate::{Component, Item};
 use calendar_values::{Date, Text, Time, UtcOffset};
 use offset_times::OffsetDateTime;
@@ -66,13 +67,9 @@ fn write_items(
         }
         count -= 1;
         let Some(size) = size_of(*item) else {
-            let Some(piece) = item_text(*item, date, time, offset) else {
-                return None;
-            };
-            if text.as_bytes().len() + piece.as_bytes().len() > 64 {
+            if !put_item(*item, date, time, offset, &mut text) {
                 return None;
             }
-            text.push_bytes(piece.as_bytes());
             items = others;
             continue;
         };
@@ -88,16 +85,18 @@ fn write_items(
     Some(text)
 }
 
-// The text of an item. None of a byte that is not ASCII, and of a value that the component cannot write.
+// Adds the text of an item, and returns whether it did. It does not where the byte is not ASCII, the component cannot write
+// the value, or the text would have more than 64 bytes.
 #[tactic(auto, unfolding(crate::specs::Written::item_text))]
-fn item_text(item: Item, date: Date, time: Time, offset: UtcOffset) -> Option<Text>
-    ensures text { let text = item_text item date time offset in
-        SomeIff result (IsAscii text) text }
+fn put_item(item: Item, date: Date, time: Time, offset: UtcOffset, text: &mut Text) -> bool
+    ensures text { let all = text.old ++ item_text item date time offset in
+        OnTrue result (Fits all × (text.new ≡ all)) }
+    ensures none { OnFalse result (¬ Fits (text.old ++ item_text item date time offset)) }
 {
     match item {
-        Item::Byte(byte) => byte_text(byte),
-        Item::Part(component) => format_component(component, date, time, offset),
-        Item::Optional(_) | Item::First(_) | Item::Or(_) => Some(seen(Text::new())),
+        Item::Byte(byte) => put_byte(byte, text),
+        Item::Part(component) => format_component_into(component, date, time, offset, text),
+        Item::Optional(_) | Item::First(_) | Item::Or(_) => put_nothing(text),
     }
 }
 
@@ -121,21 +120,89 @@ pub fn format_component(
     ensures text { let text = component_text component date time offset in
         SomeIff result (IsAscii text) text }
 {
-    match component {
-        Component::OffsetWord(word, _) => offset_word_text(word, offset),
-        Component::YearSince(first) => year_since_text(first, date),
-        _ => Some(seen(component_text(component, date, time, offset))),
+    let mut text = Text::new();
+    if put_component(component, date, time, offset, &mut text) {
+        // For the proof alone: the bytes of a text are ASCII.
+        let _bytes = text.as_bytes();
+        Some(text)
+    } else {
+        None
     }
 }
 
-// A byte by itself.
-fn byte_text(byte: u8) -> Option<Text>
-    ensures { SomeIff result (IsAscii (byte ∷ [])) (byte ∷ []) }
+/// Adds the text of a component of a date, a time of day and an offset to a text, and returns
+/// whether it did. It does not where the component cannot write the value, or where the text would
+/// have more than 64 bytes: then the text stays as it is.
+///
+/// ```
+/// use format_descriptions::{Component, Padding, format_component_into};
+/// let date = Date::from_calendar_date(2024, Month::March, 5)?;
+/// let day = Component::Day(Padding::Zero);
+/// let mut text = Month::March.text();
+/// let is_added = format_component_into(day, date, Time::MIDNIGHT, UtcOffset::UTC, &mut text);
+/// assert_eq!(rt; (is_added, text.as_bytes() == b"March05".as_slice()), (true, true));
+/// ```
+#[tactic(auto, using(crate::proofs::ItemLemmas::unwritable))]
+#[inline(always)]
+pub fn format_component_into(
+    component: Component,
+    date: Date,
+    time: Time,
+    offset: UtcOffset,
+    text: &mut Text,
+) -> bool
+    ensures text { let all = text.old ++ component_text component date time offset in
+        OnTrue result (Fits all × (text.new ≡ all)) }
+    ensures none { OnFalse result
+        (¬ Fits (text.old ++ component_text component date time offset)) }
+    ensures unchanged { OnFalse result (text.new ≡ text.old) }
 {
-    if byte >= 128 {
-        return None;
+    if text.as_bytes().len() <= 32 {
+        if !put_component(component, date, time, offset, text) {
+            return false;
+        }
+        // For the proof alone: the bytes of a text are ASCII, and not too many.
+        let _bytes = text.as_bytes();
+        return true;
     }
-    let mut text = Text::new();
+    let mut piece = Text::new();
+    if !put_component(component, date, time, offset, &mut piece) {
+        return false;
+    }
+    push_text(piece.as_bytes(), text)
+}
+
+// Adds bytes, and returns whether it did: not where there would be more than 64.
+fn push_text(bytes: &[u8], text: &mut Text) -> bool
+    requires { IsAscii bytes.now }
+    ensures text { let all = text.old ++ bytes.now in OnTrue result (Fits all × (text.new ≡ all)) }
+    ensures none { OnFalse result (¬ Fits (text.old ++ bytes.now)) }
+    ensures unchanged { OnFalse result (text.new ≡ text.old) }
+{
+    if text.as_bytes().len() + bytes.len() > 64 {
+        return false;
+    }
+    text.push_bytes(bytes);
+    true
+}
+
+// Adds a byte, and returns whether it did.
+fn put_byte(byte: u8, text: &mut Text) -> bool
+    ensures text { let all = text.old ++ byte ∷ [] in OnTrue result (Fits all × (text.new ≡ all)) }
+    ensures none { OnFalse result (¬ Fits (text.old ++ byte ∷ [])) }
+{
+    if (byte >= 128) | (text.as_bytes().len() >= 64) {
+        return false;
+    }
     text.push(byte);
-    Some(seen(text))
+    true
+}
+
+// Adds nothing, which it can.
+fn put_nothing(text: &Text) -> bool
+    ensures fits { Fits (text.now ++ []) }
+    ensures always { IsTrue result }
+{
+    let _bytes = text.as_bytes();
+    true
 }

@@ -9,6 +9,7 @@ use std::io;
 use crate::error::Format;
 use crate::format_description::well_known::{Rfc2822, Rfc3339};
 use crate::format_description::{BorrowedFormatItem, Component, OwnedFormatItem};
+use crate::formatting::sealed::Put;
 use crate::proved::format_descriptions::{self as proved, Item};
 use crate::{Date, OffsetDateTime, PlainDateTime, Text, Time, Timestamp, UtcDateTime, UtcOffset};
 
@@ -33,14 +34,25 @@ pub struct Value {
 }
 
 impl Value {
+    /// Writes a component.
+    #[inline(always)]
+    fn put_component(self, component: Component, put: &mut impl Put) -> Result<usize, Format> {
+        let Value { date: Some(date), time: Some(time), offset: Some(offset) } = self else {
+            return put_all(put, self.component(component)?.as_bytes());
+        };
+        let mut text = Text::new();
+        if !proved::format_component_into(component.to_proved(), date, time, offset, &mut text) {
+            return Err(Format::InsufficientTypeInformation);
+        }
+        put_all(put, text.as_bytes())
+    }
+
+    /// The text of a component of a value that lacks a date, a time of day or an offset.
+    #[inline(never)]
     fn component(self, component: Component) -> Result<Text, Format> {
-        let component = component.to_proved();
-        let items = [Item::Part(component)];
+        let items = [Item::Part(component.to_proved())];
         let Value { date, time, offset } = self;
         match (date, time, offset) {
-            (Some(date), Some(time), Some(offset)) => {
-                proved::format_component(component, date, time, offset)
-            }
             (Some(date), Some(time), None) => {
                 proved::format_plain(&items, PlainDateTime::new(date, time)).ok()
             }
@@ -62,56 +74,99 @@ impl Value {
     }
 }
 
-/// Takes bytes that are written.
-pub type Put<'a> = dyn FnMut(&[u8]) -> Result<(), Format> + 'a;
+impl Put for Vec<u8> {
+    #[inline]
+    fn put_bytes(&mut self, bytes: &[u8]) -> Result<(), Format> {
+        self.extend_from_slice(bytes);
+        Ok(())
+    }
+}
 
-fn put_all(put: &mut Put<'_>, bytes: &[u8]) -> Result<usize, Format> {
-    put(bytes)?;
+/// A writer, as one that takes bytes.
+#[cfg(feature = "std")]
+struct Output<'a, W: ?Sized>(&'a mut W);
+
+#[cfg(feature = "std")]
+impl<W: io::Write + ?Sized> Put for Output<'_, W> {
+    #[inline]
+    fn put_bytes(&mut self, bytes: &[u8]) -> Result<(), Format> {
+        self.0.write_all(bytes).map_err(Format::StdIo)
+    }
+}
+
+#[inline]
+fn put_all(put: &mut impl Put, bytes: &[u8]) -> Result<usize, Format> {
+    put.put_bytes(bytes)?;
     Ok(bytes.len())
+}
+
+/// Writes a literal. Most have one byte, which needs no call to copy.
+#[inline(always)]
+fn put_literal(put: &mut impl Put, literal: &[u8]) -> Result<usize, Format> {
+    match literal {
+        &[byte] => put_all(put, &[byte]),
+        _ => put_all(put, literal),
+    }
 }
 
 mod sealed {
     use super::*;
 
-    pub trait Sealed {
-        /// Writes a value, and gives the count of the bytes.
-        fn put_value(&self, value: Value, put: &mut Put<'_>) -> Result<usize, Format>;
+    /// Takes bytes that are written.
+    pub trait Put {
+        /// Takes these bytes.
+        fn put_bytes(&mut self, bytes: &[u8]) -> Result<(), Format>;
     }
 
-    macro_rules! of_items {
+    pub trait Sealed {
+        /// Writes a value, and gives the count of the bytes.
+        fn put_value(&self, value: Value, put: &mut impl Put) -> Result<usize, Format>;
+    }
+
+    macro_rules! written {
         ($($Item:ty)+) => {
             $(
                 impl Sealed for $Item {
-                    fn put_value(&self, value: Value, put: &mut Put<'_>) -> Result<usize, Format> {
+                    #[inline(always)]
+                    fn put_value(&self, value: Value, put: &mut impl Put) -> Result<usize, Format> {
                         match self {
-                            Self::Literal(literal) => put_all(put, literal),
-                            Self::Component(component) => put_all(put, value.component(*component)?.as_bytes()),
+                            Self::Literal(literal) => put_literal(put, literal),
+                            Self::Component(component) => value.put_component(*component, put),
                             Self::Compound(items) => items.put_value(value, put),
-                            Self::Optional(item) => item.put_value(value, put),
-                            Self::First(items) => items.first().map_or(Ok(0), |item| item.put_value(value, put)),
+                            Self::Optional(item) => put_items(core::slice::from_ref(&**item), value, put),
+                            Self::First(items) => put_items(&items[..items.len().min(1)], value, put),
                         }
                     }
                 }
 
                 impl Sealed for [$Item] {
-                    fn put_value(&self, value: Value, put: &mut Put<'_>) -> Result<usize, Format> {
-                        self.iter().try_fold(0, |count, item| Ok(count + item.put_value(value, put)?))
+                    fn put_value(&self, value: Value, put: &mut impl Put) -> Result<usize, Format> {
+                        put_items(self, value, put)
                     }
                 }
             )+
         };
     }
 
-    of_items! { BorrowedFormatItem<'_> OwnedFormatItem }
+    written! { BorrowedFormatItem<'_> OwnedFormatItem }
+
+    #[inline(never)]
+    fn put_items(items: &[impl Sealed], value: Value, put: &mut impl Put) -> Result<usize, Format> {
+        let mut count = 0;
+        for item in items {
+            count += item.put_value(value, put)?;
+        }
+        Ok(count)
+    }
 
     impl<T: Deref<Target: Sealed>> Sealed for T {
-        fn put_value(&self, value: Value, put: &mut Put<'_>) -> Result<usize, Format> {
+        fn put_value(&self, value: Value, put: &mut impl Put) -> Result<usize, Format> {
             self.deref().put_value(value, put)
         }
     }
 
     impl Sealed for Rfc3339 {
-        fn put_value(&self, value: Value, put: &mut Put<'_>) -> Result<usize, Format> {
+        fn put_value(&self, value: Value, put: &mut impl Put) -> Result<usize, Format> {
             let at = value.date_time()?;
             match at.to_rfc3339() {
                 Some(text) => put_all(put, text.as_bytes()),
@@ -125,7 +180,7 @@ mod sealed {
     }
 
     impl Sealed for Rfc2822 {
-        fn put_value(&self, value: Value, put: &mut Put<'_>) -> Result<usize, Format> {
+        fn put_value(&self, value: Value, put: &mut impl Put) -> Result<usize, Format> {
             let at = value.date_time()?;
             if !(1900..10_000).contains(&at.year()) {
                 return Err(Format::InvalidComponent("year"));
@@ -145,10 +200,7 @@ pub(crate) const RFC_2822: &[BorrowedFormatItem<'static>] = crate::macros::forma
 
 fn text_of(format: &(impl Formattable + ?Sized), value: Value) -> Result<String, Format> {
     let mut bytes = Vec::with_capacity(64);
-    format.put_value(value, &mut |more| {
-        bytes.extend_from_slice(more);
-        Ok(())
-    })?;
+    format.put_value(value, &mut bytes)?;
     Ok(match String::from_utf8(bytes) {
         Ok(text) => text,
         Err(error) => String::from_utf8_lossy(error.as_bytes()).into_owned(),
@@ -161,7 +213,7 @@ fn write_to(
     format: &(impl Formattable + ?Sized),
     value: Value,
 ) -> Result<usize, Format> {
-    format.put_value(value, &mut |bytes| output.write_all(bytes).map_err(Format::StdIo))
+    format.put_value(value, &mut Output(output))
 }
 
 macro_rules! formatted {

@@ -45,7 +45,28 @@ impl Default for Parsed {
     }
 }
 
+/// The component that a text does not begin with, or none for a literal. It is small, so that a
+/// result of each item fits in two registers.
+#[derive(Clone, Copy)]
+struct Fault(Option<Component>);
+
+impl From<Fault> for ParseFromDescription {
+    fn from(fault: Fault) -> ParseFromDescription {
+        match fault.0 {
+            Some(component) => ParseFromDescription::InvalidComponent(component.name()),
+            None => ParseFromDescription::InvalidLiteral,
+        }
+    }
+}
+
 impl Parsed {
+    /// Reads a component, and gives what follows it.
+    #[inline(never)]
+    fn read<'a>(&mut self, input: &'a [u8], component: Component) -> Result<&'a [u8], Fault> {
+        proved::parse_component_into(component.to_proved(), input, &mut self.parts)
+            .ok_or(Fault(Some(component)))
+    }
+
     /// No part is known.
     #[must_use]
     pub const fn new() -> Parsed {
@@ -62,8 +83,7 @@ impl Parsed {
         input: &'a [u8],
         component: Component,
     ) -> Result<&'a [u8], ParseFromDescription> {
-        proved::parse_component_into(component.to_proved(), input, &mut self.parts)
-            .ok_or(ParseFromDescription::InvalidComponent(component.name()))
+        Ok(self.read(input, component)?)
     }
 
     /// Returns the bytes after these.
@@ -81,32 +101,20 @@ impl Parsed {
 
 /// The two kinds of items.
 trait Read {
-    fn read<'a>(
-        &self,
-        parsed: &mut Parsed,
-        input: &'a [u8],
-    ) -> Result<&'a [u8], ParseFromDescription>;
+    fn read<'a>(&self, parsed: &mut Parsed, input: &'a [u8]) -> Result<&'a [u8], Fault>;
 }
 
 macro_rules! read {
     ($($Item:ty)+) => {
         $(impl Read for $Item {
-            fn read<'a>(&self, parsed: &mut Parsed, input: &'a [u8]) -> Result<&'a [u8], ParseFromDescription> {
+            #[inline(always)]
+            fn read<'a>(&self, parsed: &mut Parsed, input: &'a [u8]) -> Result<&'a [u8], Fault> {
                 match self {
-                    Self::Literal(literal) => Parsed::parse_literal(input, literal),
-                    Self::Component(component) => parsed.parse_component(input, *component),
+                    Self::Literal(literal) => after_bytes(literal, input),
+                    Self::Component(component) => parsed.read(input, *component),
                     Self::Compound(items) => read_all(items, parsed, input),
-                    Self::Optional(item) => Ok(item.read(parsed, input).unwrap_or(input)),
-                    Self::First(items) => {
-                        let mut fault = None;
-                        for item in items.iter() {
-                            match item.read(parsed, input) {
-                                Ok(rest) => return Ok(rest),
-                                Err(error) => fault = fault.or(Some(error)),
-                            }
-                        }
-                        fault.map_or(Ok(input), Err)
-                    }
+                    Self::Optional(item) => Ok(read_one(&**item, parsed, input).unwrap_or(input)),
+                    Self::First(items) => read_first(items, parsed, input),
                 }
             }
         })+
@@ -115,25 +123,65 @@ macro_rules! read {
 
 read! { BorrowedFormatItem<'_> OwnedFormatItem }
 
+/// The rest of a text after a literal. Most have one byte, which needs no call to compare.
+#[inline(always)]
+fn after_bytes<'a>(literal: &[u8], input: &'a [u8]) -> Result<&'a [u8], Fault> {
+    match (literal, input) {
+        ([byte], [first, rest @ ..]) if byte == first => Ok(rest),
+        _ => input.strip_prefix(literal).ok_or(Fault(None)),
+    }
+}
+
+/// Reads an item of an item.
+#[inline(never)]
+fn read_one<'a>(item: &impl Read, parsed: &mut Parsed, input: &'a [u8]) -> Result<&'a [u8], Fault> {
+    item.read(parsed, input)
+}
+
+/// Reads the first of the items that the text has.
+#[inline(never)]
+fn read_first<'a>(
+    items: &[impl Read],
+    parsed: &mut Parsed,
+    input: &'a [u8],
+) -> Result<&'a [u8], Fault> {
+    let mut fault = None;
+    for item in items {
+        match item.read(parsed, input) {
+            Ok(rest) => return Ok(rest),
+            Err(error) => fault = fault.or(Some(error)),
+        }
+    }
+    fault.map_or(Ok(input), Err)
+}
+
+/// Reads items in turn. After an error the parts are those up to it.
+#[inline]
+fn read_on<'a>(
+    items: &[impl Read],
+    parsed: &mut Parsed,
+    input: &'a [u8],
+) -> Result<&'a [u8], Fault> {
+    let mut rest = input;
+    for item in items {
+        rest = item.read(parsed, rest)?;
+    }
+    Ok(rest)
+}
+
+/// Reads items in turn. An error changes nothing.
+#[inline(never)]
 fn read_all<'a>(
     items: &[impl Read],
     parsed: &mut Parsed,
     input: &'a [u8],
-) -> Result<&'a [u8], ParseFromDescription> {
-    if let [item] = items {
-        return item.read(parsed, input);
+) -> Result<&'a [u8], Fault> {
+    let before = *parsed;
+    let read = read_on(items, parsed, input);
+    if read.is_err() {
+        *parsed = before;
     }
-    let (before, mut rest) = (*parsed, input);
-    for item in items {
-        match item.read(parsed, rest) {
-            Ok(more) => rest = more,
-            Err(error) => {
-                *parsed = before;
-                return Err(error);
-            }
-        }
-    }
-    Ok(rest)
+    read
 }
 
 impl Parsed {
@@ -147,7 +195,7 @@ impl Parsed {
         input: &'a [u8],
         item: &BorrowedFormatItem<'_>,
     ) -> Result<&'a [u8], ParseFromDescription> {
-        item.read(self, input)
+        Ok(item.read(self, input)?)
     }
 
     /// Reads items at the front of a text, and returns what follows them. An error changes nothing.
@@ -160,7 +208,7 @@ impl Parsed {
         input: &'a [u8],
         items: &[BorrowedFormatItem<'_>],
     ) -> Result<&'a [u8], ParseFromDescription> {
-        read_all(items, self, input)
+        Ok(read_all(items, self, input)?)
     }
 }
 
@@ -320,13 +368,34 @@ impl From<ValueRefusal> for TryFromParsed {
     }
 }
 
+impl Parsed {
+    /// The date of the parts. Texts have wrong days of the week, as that of a cookie: it counts
+    /// only where a week names the date.
+    #[inline]
+    fn date(&self) -> Result<Date, ValueRefusal> {
+        let parts = &self.parts;
+        let is_named = parts.year.is_some()
+            && (parts.ordinal.is_some() || parts.month.is_some() && parts.day.is_some());
+        if is_named && parts.weekday.is_some() {
+            Parts { weekday: None, ..*parts }.date()
+        } else {
+            parts.date()
+        }
+    }
+
+    /// The date and the time of day of the parts.
+    #[inline]
+    fn plain_date_time(&self) -> Result<PlainDateTime, ValueRefusal> {
+        Ok(PlainDateTime::new(self.date()?, self.parts.time()?))
+    }
+}
+
 macro_rules! of_parts {
-    ($($(#[$doc:meta])* $Type:ident: $parsed:ident => $value:expr;)+) => {
+    ($($Type:ident: $parsed:ident => $value:expr;)+) => {
         $(
             impl TryFrom<Parsed> for $Type {
                 type Error = TryFromParsed;
 
-                $(#[$doc])*
                 fn try_from($parsed: Parsed) -> Result<$Type, TryFromParsed> {
                     $value
                 }
@@ -336,24 +405,14 @@ macro_rules! of_parts {
 }
 
 of_parts! {
-    /// The date of the parts. Texts have wrong days of the week, as that of a cookie: it counts
-    /// only where a week names the date.
-    Date: parsed => {
-        let mut parts = parsed.parts;
-        if parts.year.is_some()
-            && (parts.ordinal.is_some() || parts.month.is_some() && parts.day.is_some())
-        {
-            parts.weekday = None;
-        }
-        Ok(parts.date()?)
-    };
+    Date: parsed => Ok(parsed.date()?);
     Time: parsed => Ok(parsed.parts.time()?);
     UtcOffset: parsed => Ok(parsed.parts.offset()?);
-    PlainDateTime: parsed => Ok(PlainDateTime::new(parsed.try_into()?, parsed.try_into()?));
+    PlainDateTime: parsed => Ok(parsed.plain_date_time()?);
     OffsetDateTime: parsed => match parsed.parts.utc_date_time() {
         Ok(at) => Ok(at.into()),
         Err(ValueRefusal::Missing(_)) => {
-            Ok(PlainDateTime::try_from(parsed)?.assume_offset(parsed.try_into()?))
+            Ok(parsed.plain_date_time()?.assume_offset(parsed.parts.offset()?))
         }
         Err(refusal) => Err(refusal.into()),
     };
@@ -383,16 +442,17 @@ mod sealed {
     use super::*;
 
     pub trait Sealed {
-        /// Reads the front of a text, and gives what follows.
+        /// Reads the front of a text, and gives what follows. After an error some parts may be
+        /// known.
         fn parse_into<'a>(&self, input: &'a [u8], parsed: &mut Parsed) -> Result<&'a [u8], Parse>;
 
-        /// Reads a whole text.
-        fn parse(&self, input: &[u8]) -> Result<Parsed, Parse> {
-            let mut parsed = Parsed::new();
-            if !self.parse_into(input, &mut parsed)?.is_empty() {
+        /// Reads a whole text into parts of which none is known yet.
+        #[inline]
+        fn parse_whole(&self, input: &[u8], parsed: &mut Parsed) -> Result<(), Parse> {
+            if !self.parse_into(input, parsed)?.is_empty() {
                 return Err(Parse::UnexpectedTrailingCharacters);
             }
-            Ok(parsed)
+            Ok(())
         }
 
         /// Reads a whole text that has a date, a time of day and an offset.
@@ -406,13 +466,13 @@ mod sealed {
             $(
                 impl Sealed for $Item {
                     fn parse_into<'a>(&self, input: &'a [u8], parsed: &mut Parsed) -> Result<&'a [u8], Parse> {
-                        Ok(self.read(parsed, input)?)
+                        Ok(self.read(parsed, input).map_err(ParseFromDescription::from)?)
                     }
                 }
 
                 impl Sealed for [$Item] {
                     fn parse_into<'a>(&self, input: &'a [u8], parsed: &mut Parsed) -> Result<&'a [u8], Parse> {
-                        Ok(read_all(self, parsed, input)?)
+                        Ok(read_on(self, parsed, input).map_err(ParseFromDescription::from)?)
                     }
                 }
             )+
@@ -490,7 +550,9 @@ fn parse_as<T>(description: &(impl sealed::Sealed + ?Sized), input: &[u8]) -> Re
 where
     T: TryFrom<Parsed, Error: Into<Parse>>,
 {
-    description.parse(input)?.try_into().map_err(Into::into)
+    let mut parsed = Parsed::new();
+    description.parse_whole(input, &mut parsed)?;
+    parsed.try_into().map_err(Into::into)
 }
 
 macro_rules! parsed {
@@ -519,7 +581,9 @@ macro_rules! parsed {
                     description: &(impl Parsable + ?Sized),
                     defaults: Parsed,
                 ) -> Result<$Type, Parse> {
-                    Ok(sealed::Sealed::parse(description, input)?.over(defaults).try_into()?)
+                    let mut parsed = Parsed::new();
+                    sealed::Sealed::parse_whole(description, input, &mut parsed)?;
+                    Ok(parsed.over(defaults).try_into()?)
                 }
             }
         )+

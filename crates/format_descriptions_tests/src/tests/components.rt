@@ -1,9 +1,9 @@
 //! Components by themselves: the rows are those of the documentation of `time`.
 use super::is;
-use calendar_values::{Date, Month, Time, UtcOffset};
+use calendar_values::{Date, Month, Text, Time, UtcOffset};
 use format_descriptions::{
-    Component, NameForm, Padding, Parts, ReadCase, format_component, parse_component,
-    parse_component_into,
+    Component, NameForm, Padding, Parts, ReadCase, format_component, format_component_into,
+    parse_component, parse_component_into,
 };
 use std::test::Fail;
 
@@ -55,4 +55,24 @@ fn components_are_read_in_place(rt: HostRuntime) {
     is(&rt, (parts.day, left), (Some(2), Some(1)));
     let left = parse_component_into(day, b"03", &mut parts).map(|rest| rest.len());
     is(&rt, (parts.day, left), (Some(2), None));
+}
+
+#[test]
+fn components_are_written_in_place(rt: HostRuntime) -> Result<(), Fail> {
+    let date = Date::from_calendar_date(2020, Month::September, 2)?;
+    let name = Component::MonthName(NameForm::Long, ReadCase::Same);
+    let mut text = Text::new();
+    for n in 0..8 {
+        let is_added = format_component_into(
+            name,
+            date,
+            Time::MIDNIGHT,
+            UtcOffset::UTC,
+            &mut text,
+        );
+        is(&rt, is_added, n < 7);
+    }
+    is(&rt, text.as_bytes().len(), 63);
+    is(&rt, text.as_bytes().ends_with(b"SeptemberSeptember"), true);
+    Ok(())
 }

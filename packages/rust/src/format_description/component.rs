@@ -51,6 +51,7 @@ components! {
 macro_rules! paired {
     ($($to:ident, $back:ident: modifier::$Ours:ident { $($ours:ident = $theirs:ident),+ } proved::$Theirs:ident;)+) => {
         $(
+            #[inline(always)]
             const fn $to(ours: modifier::$Ours) -> proved::$Theirs {
                 match ours {
                     $(modifier::$Ours::$ours => proved::$Theirs::$theirs,)+
@@ -79,6 +80,7 @@ paired! {
 macro_rules! conditions {
     ($($to:ident, $back:ident: proved::$Theirs:ident, $holds:ident or $fails:ident;)+) => {
         $(
+            #[inline(always)]
             const fn $to(holds: bool) -> proved::$Theirs {
                 if holds { proved::$Theirs::$holds } else { proved::$Theirs::$fails }
             }
@@ -100,6 +102,7 @@ conditions! {
 
 impl Component {
     /// The component as the proved functions have it.
+    #[inline(always)]
     pub(crate) const fn to_proved(self) -> Proved {
         match self {
             Component::Day(it) => Proved::Day(padding(it.padding)),

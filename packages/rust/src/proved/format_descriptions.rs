@@ -61,4 +61,4 @@ pub use parts::Parts;
 pub use read::{parse, parse_component, parse_component_into, parse_front};
 pub use value_refusal::{Field, ValueRefusal};
 pub use well_known::{format_rfc2822, parse_rfc2822, parse_rfc3339};
-pub use write::{format, format_component, format_date_time};
+pub use write::{format, format_component, format_component_into, format_date_time};

@@ -30,7 +30,7 @@ loop-item-preserved-in_default-size_of t c =
     let front : c.loop-item.items.now ≡ c.in-Some.item.now ∷ c.in-Some.others.now = search rules in
     let place : c.loop-item.count ≡ suc (c.loop-item.count - 1) = omega (arith, c.if-count-eq0.false) in
     let plain : None ≡ size_of c.in-Some.item.now = search rules in
-    let is : Some (c.in-Some-item_at.read, c.in-Some-item_at.more.now) ≡ item_at c.in-Some.item.now c.loop-item.rest.now c.loop-item.parts =
+    let is : Some (c.item_at.new.parts, c.in-Some-item_at.more.now) ≡ item_at c.in-Some.item.now c.loop-item.rest.now c.loop-item.parts =
     search rules
     in
     record {
@@ -71,7 +71,7 @@ loop-item-preserved t c =
     let head : Some c.in-Some-size_of.size ≡ size_of c.in-Some.item.now = search rules in
     let group :
     try_group c.in-Some.item.now c.in-Some-size_of.size (λ s n f t q. read_from c.in-Some.others.now s n f t q) (c.loop-item.count - 1) c.match-fault-2.fault
-    c.loop-item.rest.now c.loop-item.parts ≡ read_from c.args.items.now 0 c.args.count None c.args.text.now c.args.parts =
+    c.loop-item.rest.now c.loop-item.parts ≡ read_from c.args.items.now 0 c.args.count None c.args.text.now c.args.parts.now =
     elim c.match-fault-2.branch [
       | in-None+else-is_other w ↦
           let own : is_other c.in-Some.item.now ≡ false = search rules in
@@ -88,7 +88,7 @@ loop-item-preserved t c =
     in
     elim c.match-front.branch [
       | in-Ok w ↦
-          let is : Ok (w.in-Ok.read, w.in-Ok.more.now) ≡ read_from c.in-Some.others.now 0
+          let is : Ok (c.front.new.parts, w.in-Ok.more.now) ≡ read_from c.in-Some.others.now 0
           (min c.in-Some-size_of.size (c.loop-item.count - 1)) None c.loop-item.rest.now c.loop-item.parts =
           search rules
           in

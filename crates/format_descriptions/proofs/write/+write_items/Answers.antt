@@ -1,7 +1,6 @@
-use Rattle.std.proofs.Common.{rules, ◌≡◌, ◌-◌, ◌∷◌, None, Some, suc, true, false, length, arith, refl, ap, ℕ}
-use Rattle.std.proofs.lemmas.Str.{IsAscii-append}
+use Rattle.std.proofs.Common.{rules, ◌≡◌, ◌-◌, ◌∷◌, None, Some, suc, true, false, length, arith, refl}
 use Rattle.format_descriptions.specs.Groups.{size_of, is_other}
-use Rattle.format_descriptions.proofs.ItemLemmas.{goes_on, group_goes_on, other_goes_on, not_ascii, no_room, group_unfit, all_written, count_written}
+use Rattle.format_descriptions.proofs.ItemLemmas.{goes_on, group_goes_on, other_goes_on, group_unfit, all_written, count_written}
 use Rattle.format_descriptions.proofs.write.+write_items.Goals.{then-not-is_other+in-Some-write_items, else-not-is_other}
 use Rattle.format_descriptions.proofs.write.+write_items.Goals as goal
 
@@ -10,32 +9,15 @@ returns-then-count-eq0 t c =
     let all = count_written c.loop-item.items.now _ c.args.date c.args.time c.args.offset c.loop-item.text _ c.if-count-eq0.true c.loop-item.invariant.text in
     record { text = ((rw (← all) c.loop-item.invariant.room, rw (← all) c.loop-item.invariant.ascii), all) }
 
-pub returns-in_default-item_text : goal.returns-in_default-item_text
-returns-in_default-item_text t c =
+pub returns-then-not-put_item : goal.returns-then-not-put_item
+returns-then-not-put_item t c =
     let front : c.loop-item.items.now ≡ c.in-Some.item.now ∷ c.in-Some.others.now = search rules in
     let place : c.loop-item.count ≡ suc (c.loop-item.count - 1) = omega (arith, c.if-count-eq0.false) in
     let plain : None ≡ size_of c.in-Some.item.now = search rules in
     record {
-      text = not_ascii c.loop-item.text _ _ _ c.in_default-item_text.ensures.text
+      text = group_unfit c.loop-item.text _ _ _ c.if-not-put_item.ensures.none
           (goes_on c.in-Some.item.now _ _ _ _ c.args.date c.args.time c.args.offset c.loop-item.text _ _ front place plain c.loop-item.invariant.text
           refl);
-    }
-
-pub returns-then-as_bytes-gt64 : goal.returns-then-as_bytes-gt64
-returns-then-as_bytes-gt64 t c =
-    let front : c.loop-item.items.now ≡ c.in-Some.item.now ∷ c.in-Some.others.now = search rules in
-    let place : c.loop-item.count ≡ suc (c.loop-item.count - 1) = omega (arith, c.if-count-eq0.false) in
-    let plain : None ≡ size_of c.in-Some.item.now = search rules in
-    record {
-      text = no_room c.loop-item.text c.in-Some-item_text.piece _ _
-          (omega (
-            arith,
-            c.if-as_bytes-gt64.true,
-            ap (length {A = ℕ}) c.as_bytes.ensures.value,
-            ap (length {A = ℕ}) c.as_bytes-in_default-size_of.ensures.value,
-          ))
-          (goes_on c.in-Some.item.now _ _ _ _ c.args.date c.args.time c.args.offset c.loop-item.text _ _ front place plain c.loop-item.invariant.text
-          c.in-Some-item_text.ensures.text.1);
     }
 
 pub loop-item-preserved-in_default-size_of : goal.loop-item-preserved-in_default-size_of
@@ -43,23 +25,14 @@ loop-item-preserved-in_default-size_of t c =
     let front : c.loop-item.items.now ≡ c.in-Some.item.now ∷ c.in-Some.others.now = search rules in
     let place : c.loop-item.count ≡ suc (c.loop-item.count - 1) = omega (arith, c.if-count-eq0.false) in
     let plain : None ≡ size_of c.in-Some.item.now = search rules in
+    let added = c.if-not-put_item.ensures.text in
     record {
       text =
-          rw (c.push_bytes.ensures.value, c.as_bytes-in_default-size_of-2.ensures.value)
+          rw added.1
           (goes_on c.in-Some.item.now _ _ _ _ c.args.date c.args.time c.args.offset c.loop-item.text _ _ front place plain c.loop-item.invariant.text
-          c.in-Some-item_text.ensures.text.1);
-      room =
-          omega (
-            arith,
-            c.if-as_bytes-gt64.false,
-            c.push_bytes.ensures.length,
-            ap (length {A = ℕ}) c.as_bytes.ensures.value,
-            ap (length {A = ℕ}) c.as_bytes-in_default-size_of.ensures.value,
-            ap (length {A = ℕ}) c.as_bytes-in_default-size_of-2.ensures.value,
-          );
-      ascii =
-          rw c.push_bytes.ensures.value
-          (IsAscii-append _ _ c.loop-item.invariant.ascii c.as_bytes-in_default-size_of-2.ensures.ascii);
+          refl);
+      room = rw added.1 added.0.0;
+      ascii = rw added.1 added.0.1;
       fewer = search rules;
     }
 

@@ -14,7 +14,7 @@ use crate::proved::calendar_values::Time;
 /// ```
 ///
 /// [docs/proofs/STATEMENT.md](crate::proved#contracts) explains the words.
-#[inline]
+#[inline(never)]
 pub(crate) const fn hour_fraction(time: Time) -> u32 {
     let (_, minute, second, nanosecond) = time.as_hms_nano();
     let seconds = minute as u64 * 60 + second as u64;
@@ -30,7 +30,7 @@ pub(crate) const fn hour_fraction(time: Time) -> u32 {
 /// ```
 ///
 /// [docs/proofs/STATEMENT.md](crate::proved#contracts) explains the words.
-#[inline]
+#[inline(never)]
 pub(crate) const fn minute_fraction(time: Time) -> u32 {
     let (_, _, second, nanosecond) = time.as_hms_nano();
     ((second as u64 * 1_000_000_000 + nanosecond as u64) / 60) as u32

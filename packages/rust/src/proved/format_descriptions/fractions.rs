@@ -38,16 +38,20 @@ pub(crate) fn fraction(digits: SubsecondDigits, text: &[u8]) -> Option<(u32, &[u
 /// [docs/proofs/STATEMENT.md](crate::proved#contracts) explains the words.
 #[inline]
 pub(crate) fn read_digits(count: u8, unit: u32, text: &[u8]) -> Option<(u32, &[u8])> {
-    if count == 0 {
-        return Some((0, text));
+    let mut rest = text;
+    let mut left = count;
+    let mut unit = unit;
+    let mut number = 0;
+    while left > 0 {
+        let Some((digit, more)) = digit(rest) else {
+            return None;
+        };
+        number += digit * unit;
+        unit /= 10;
+        left -= 1;
+        rest = more;
     }
-    let Some((digit, rest)) = digit(text) else {
-        return None;
-    };
-    let Some((more, rest)) = read_digits(count - 1, unit / 10, rest) else {
-        return None;
-    };
-    Some((digit * unit + more, rest))
+    Some((number, rest))
 }
 
 // All the digits that there are, those past the ninth dropped.

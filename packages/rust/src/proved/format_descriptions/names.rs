@@ -1,68 +1,80 @@
 // Made by make/erase of crates/format_descriptions/src/names.rt. Do not edit.
 //! Names of months, of days of the week and of halves of the day.
 use crate::proved::format_descriptions::{Case, NameForm};
-use crate::proved::calendar_values::{Month, Text, Weekday};
 
-// The name of a month.
+// The letters of the name of a month, by its number.
 /// # Contract
 ///
 /// ```text
-/// ensures text { result ≡ name_in_form form (name_of_month (month_number month)) }
+/// requires { (1 ≤ month) × (month ≤ 12) }
+/// ensures text { result.now ≡ name_in_form form (name_of_month month) }
+/// ensures ascii { IsAscii result.now }
+/// ensures length { length result.now ≤ 9 }
 /// ```
 ///
 /// [docs/proofs/STATEMENT.md](crate::proved#contracts) explains the words.
 #[inline]
-pub(crate) fn month_name(form: NameForm, month: Month) -> Text {
-    name_in_form(form, month.text())
+pub(crate) fn month_word(form: NameForm, month: u8) -> &'static [u8] {
+    let name: &'static [u8] = match month {
+        1 => b"January",
+        2 => b"February",
+        3 => b"March",
+        4 => b"April",
+        5 => b"May",
+        6 => b"June",
+        7 => b"July",
+        8 => b"August",
+        9 => b"September",
+        10 => b"October",
+        11 => b"November",
+        _ => b"December",
+    };
+    name_in_form(form, name)
 }
 
-// The name of a day of the week.
+// The letters of the name of a day of the week, by its number, 0 for Monday.
 /// # Contract
 ///
 /// ```text
-/// ensures text { result ≡ name_in_form form (name_of_weekday (weekday_number weekday)) }
+/// requires { weekday < 7 }
+/// ensures text { result.now ≡ name_in_form form (name_of_weekday weekday) }
+/// ensures ascii { IsAscii result.now }
+/// ensures length { length result.now ≤ 9 }
 /// ```
 ///
 /// [docs/proofs/STATEMENT.md](crate::proved#contracts) explains the words.
 #[inline]
-pub(crate) fn weekday_name(form: NameForm, weekday: Weekday) -> Text {
-    name_in_form(form, weekday.text())
+pub(crate) fn weekday_word(form: NameForm, weekday: u8) -> &'static [u8] {
+    let name: &'static [u8] = match weekday {
+        0 => b"Monday",
+        1 => b"Tuesday",
+        2 => b"Wednesday",
+        3 => b"Thursday",
+        4 => b"Friday",
+        5 => b"Saturday",
+        _ => b"Sunday",
+    };
+    name_in_form(form, name)
 }
 
 // A name, or its first three letters.
 /// # Contract
 ///
 /// ```text
-/// ensures text { result ≡ name_in_form form name }
+/// requires ascii { IsAscii name.now }
+/// requires length { length name.now ≤ 9 }
+/// ensures text { result.now ≡ name_in_form form name.now }
+/// ensures ascii { IsAscii result.now }
+/// ensures length { length result.now ≤ 9 }
 /// ```
 ///
 /// [docs/proofs/STATEMENT.md](crate::proved#contracts) explains the words.
 #[inline]
-fn name_in_form(form: NameForm, name: Text) -> Text {
+fn name_in_form(form: NameForm, name: &'static [u8]) -> &'static [u8] {
     match form {
         NameForm::Long => name,
-        NameForm::Short => {
-            let bytes = name.as_bytes();
-            let mut text = Text::new();
-            text.push_bytes(&bytes[..bytes.len().min(3)]);
-            text
-        }
+        NameForm::Short => &name[..name.len().min(3)],
     }
-}
-
-// The text of the half of the day.
-/// # Contract
-///
-/// ```text
-/// ensures text { result ≡ period_text case hour }
-/// ```
-///
-/// [docs/proofs/STATEMENT.md](crate::proved#contracts) explains the words.
-#[inline]
-pub(crate) fn period_text(case: Case, hour: u8) -> Text {
-    let mut text = Text::new();
-    text.push_bytes(period_word(case, hour));
-    text
 }
 
 // The word for the half of the day.

@@ -3,19 +3,18 @@
 use crate::proved::format_descriptions::{Padding, SubsecondDigits};
 use crate::proved::calendar_values::Text;
 
-// A number of at most two digits.
+// Adds a number of at most two digits.
 /// # Contract
 ///
 /// ```text
-/// requires { number < 100 }
-/// ensures text { result ≡ two_text padding number }
-/// ensures length { length result ≤ 21 }
+/// requires number { number < 100 }
+/// requires room { length text.old ≤ 43 }
+/// ensures { text.new ≡ text.old ++ two_text padding number }
 /// ```
 ///
 /// [docs/proofs/STATEMENT.md](crate::proved#contracts) explains the words.
 #[inline]
-pub(crate) fn two_text(padding: Padding, number: u8) -> Text {
-    let mut text = Text::new();
+pub(crate) fn put_two(padding: Padding, number: u8, text: &mut Text) {
     match padding {
         Padding::Zero => text.push_two_digits(number),
         Padding::Space => {
@@ -26,22 +25,20 @@ pub(crate) fn two_text(padding: Padding, number: u8) -> Text {
         }
         Padding::Bare => text.push_decimal(number as u64),
     }
-    text
 }
 
-// A number of at most three digits.
+// Adds a number of at most three digits.
 /// # Contract
 ///
 /// ```text
-/// requires { number < 1_000 }
-/// ensures text { result ≡ three_text padding number }
-/// ensures length { length result ≤ 22 }
+/// requires number { number < 1_000 }
+/// requires room { length text.old ≤ 42 }
+/// ensures { text.new ≡ text.old ++ three_text padding number }
 /// ```
 ///
 /// [docs/proofs/STATEMENT.md](crate::proved#contracts) explains the words.
-#[inline]
-pub(crate) fn three_text(padding: Padding, number: u16) -> Text {
-    let mut text = Text::new();
+#[inline(never)]
+pub(crate) fn put_three(padding: Padding, number: u16, text: &mut Text) {
     match padding {
         Padding::Zero => text.push_bytes(&[
             b'0' + (number / 100 % 10) as u8,
@@ -58,174 +55,122 @@ pub(crate) fn three_text(padding: Padding, number: u16) -> Text {
         }
         Padding::Bare => text.push_decimal(number as u64),
     }
-    text
 }
 
-// A number of four digits, or of more where it has more.
+// Adds a number of four digits, or of more where it has more.
 /// # Contract
 ///
 /// ```text
-/// ensures text { result ≡ four_text padding number }
-/// ensures length { length result ≤ 42 }
+/// requires room { length text.old ≤ 41 }
+/// ensures { text.new ≡ text.old ++ four_text padding number }
 /// ```
 ///
 /// [docs/proofs/STATEMENT.md](crate::proved#contracts) explains the words.
 #[inline]
-pub(crate) fn four_text(padding: Padding, number: u32) -> Text {
+pub(crate) fn put_four(padding: Padding, number: u32, text: &mut Text) {
     match padding {
-        Padding::Zero => year_digits(number),
+        Padding::Zero => put_year_digits(number, text),
         Padding::Space => {
             if number < 1_000 {
-                after_space(three_text(Padding::Space, number as u16))
+                text.push(b' ');
+                put_three(Padding::Space, number as u16, text);
             } else {
-                year_digits(number)
+                put_year_digits(number, text);
             }
         }
         Padding::Bare => {
             if number < 1_000 {
-                decimal(number)
+                text.push_decimal(number as u64);
             } else {
-                year_digits(number)
+                put_year_digits(number, text);
             }
         }
     }
 }
 
-// A text after a space.
+// Adds the digits of a year, at least four.
 /// # Contract
 ///
 /// ```text
-/// requires room { length text ≤ 41 }
-/// ensures text { result ≡ 32 ∷ text }
+/// requires room { length text.old ≤ 42 }
+/// ensures { text.new ≡ text.old ++ year_digits year }
 /// ```
 ///
 /// [docs/proofs/STATEMENT.md](crate::proved#contracts) explains the words.
 #[inline]
-fn after_space(text: Text) -> Text {
-    let mut spaced = Text::new();
-    spaced.push(b' ');
-    spaced.push_bytes(text.as_bytes());
-    spaced
-}
-
-// The digits of a year, at least four.
-/// # Contract
-///
-/// ```text
-/// ensures text { result ≡ year_digits year }
-/// ensures length { length result ≤ 20 }
-/// ```
-///
-/// [docs/proofs/STATEMENT.md](crate::proved#contracts) explains the words.
-#[inline]
-fn year_digits(year: u32) -> Text {
-    let mut text = Text::new();
+fn put_year_digits(year: u32, text: &mut Text) {
     if year < 10_000 {
         text.push_four_digits(year);
     } else {
         text.push_decimal(year as u64);
     }
-    text
 }
 
-// The last six digits of a number.
+// Adds the last six digits of a number.
 /// # Contract
 ///
 /// ```text
-/// ensures text { result ≡ last_digits 6 number }
-/// ensures length { length result ≡ 6 }
+/// requires room { length text.old ≤ 42 }
+/// ensures { text.new ≡ text.old ++ last_digits 6 number }
 /// ```
 ///
 /// [docs/proofs/STATEMENT.md](crate::proved#contracts) explains the words.
 #[inline]
-pub(crate) fn six_digits(number: u32) -> Text {
-    let mut text = Text::new();
+pub(crate) fn put_six_digits(number: u32, text: &mut Text) {
     text.push_four_digits(number / 100);
     text.push_two_digits((number % 100) as u8);
-    text
 }
 
-// A number without padding.
+// Adds a number of two digits, or of more where it has more.
 /// # Contract
 ///
 /// ```text
-/// ensures text { result ≡ decimal number }
-/// ensures length { length result ≤ 20 }
+/// requires room { length text.old ≤ 42 }
+/// ensures { text.new ≡ text.old ++ century_digits padding number }
 /// ```
 ///
 /// [docs/proofs/STATEMENT.md](crate::proved#contracts) explains the words.
 #[inline]
-pub(crate) const fn decimal(number: u32) -> Text {
-    let mut text = Text::new();
-    text.push_decimal(number as u64);
-    text
-}
-
-// A number of two digits, or of more where it has more.
-/// # Contract
-///
-/// ```text
-/// ensures text { result ≡ century_digits padding number }
-/// ensures length { length result ≤ 21 }
-/// ```
-///
-/// [docs/proofs/STATEMENT.md](crate::proved#contracts) explains the words.
-#[inline]
-pub(crate) fn century_digits(padding: Padding, number: u32) -> Text {
+pub(crate) fn put_century_digits(padding: Padding, number: u32, text: &mut Text) {
     if number < 100 {
-        two_text(padding, number as u8)
+        put_two(padding, number as u8, text);
     } else {
-        decimal(number)
+        text.push_decimal(number as u64);
     }
 }
 
-// The digits of a fraction.
+// Adds the digits of a fraction.
 /// # Contract
 ///
 /// ```text
-/// ensures text { result ≡ subsecond_text digits nanosecond }
+/// requires room { length text.old ≤ 42 }
+/// ensures { text.new ≡ text.old ++ subsecond_text digits nanosecond }
 /// ```
 ///
 /// [docs/proofs/STATEMENT.md](crate::proved#contracts) explains the words.
 #[inline]
-pub(crate) fn subsecond_text(digits: SubsecondDigits, nanosecond: u32) -> Text {
+pub(crate) fn put_subsecond(digits: SubsecondDigits, nanosecond: u32, text: &mut Text) {
     let count = digits.count();
     if count == 0 {
-        fraction_digits(nanosecond)
+        text.push_fraction(nanosecond);
     } else {
-        first_digits(count, nanosecond)
+        put_first_digits(count, nanosecond, text);
     }
 }
 
-// As many digits as the fraction takes.
+// Adds the first digits of the nine.
 /// # Contract
 ///
 /// ```text
-/// ensures text { result ≡ fraction_digits 9 nanosecond }
+/// requires room { length text.old ≤ 42 }
+/// ensures { text.new ≡ text.old ++ take count (last_digits 9 nanosecond) }
 /// ```
 ///
 /// [docs/proofs/STATEMENT.md](crate::proved#contracts) explains the words.
 #[inline]
-fn fraction_digits(nanosecond: u32) -> Text {
-    let mut text = Text::new();
-    text.push_fraction(nanosecond);
-    text
-}
-
-// The first digits of the nine.
-/// # Contract
-///
-/// ```text
-/// ensures text { result ≡ take count (last_digits 9 nanosecond) }
-/// ```
-///
-/// [docs/proofs/STATEMENT.md](crate::proved#contracts) explains the words.
-#[inline]
-fn first_digits(count: u8, nanosecond: u32) -> Text {
+fn put_first_digits(count: u8, nanosecond: u32, text: &mut Text) {
     let nine = nine_digits(nanosecond);
-    let mut text = Text::new();
     text.push_bytes(&nine.as_bytes()[..(count as usize).min(9)]);
-    text
 }
 
 // The last nine digits of a number.

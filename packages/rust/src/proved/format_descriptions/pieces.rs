@@ -1,91 +1,124 @@
 // Made by make/erase of crates/format_descriptions/src/pieces.rt. Do not edit.
 //! The text of each component.
 use crate::proved::format_descriptions::clock_fractions::{hour_fraction, minute_fraction};
-use crate::proved::format_descriptions::names::{month_name, period_text, weekday_name};
+use crate::proved::format_descriptions::names::{month_word, period_word, weekday_word};
 use crate::proved::format_descriptions::numbers::{
-    century_digits, decimal, four_text, six_digits, subsecond_text, three_text, two_text,
+    put_century_digits, put_four, put_six_digits, put_subsecond, put_three, put_two,
 };
-use crate::proved::format_descriptions::unix::{unix_count, unix_text};
+use crate::proved::format_descriptions::unix::{put_unix, unix_count};
 use crate::proved::format_descriptions::{
     Component, Padding, Sign, UtcWord, WeekRule, WeekStart, WeekdayCount, YearBase,
 };
 use crate::proved::calendar_values::{Date, Text, Time, UtcOffset};
 
-// The text of a component of a date, a time of day and an offset, if each value has one.
+// Adds the text of a component of a date, a time of day and an offset, and returns whether it did. It does not where the
+// component cannot write the value.
 /// # Contract
 ///
 /// ```text
-/// requires { is_partial component ≡ false }
-/// ensures text { result ≡ component_text component date time offset }
+/// requires room { length text.old ≤ 32 }
+/// ensures text { OnTrue result
+///     (text.new ≡ text.old ++ component_text component date time offset) }
+/// ensures none { OnFalse result (¬ IsAscii (component_text component date time offset)) }
+/// ensures unchanged { OnFalse result (text.new ≡ text.old) }
 /// ```
 ///
 /// [docs/proofs/STATEMENT.md](crate::proved#contracts) explains the words.
-#[inline]
-pub(crate) fn component_text(
+#[inline(always)]
+pub(crate) fn put_component(
     component: Component,
     date: Date,
     time: Time,
     offset: UtcOffset,
-) -> Text {
+    text: &mut Text,
+) -> bool {
     match component {
-        Component::Year(base, sign, padding, _) => year_text(sign, padding, year_by(base, date)),
+        Component::OffsetWord(word, _) => put_offset_word(word, offset, text),
+        Component::YearSince(first) => put_year_since(first, date, text),
+        _ => {
+            put_number(component, date, time, offset, text);
+            true
+        }
+    }
+}
+
+// Adds the text of a component of a date, a time of day and an offset, if each value has one.
+/// # Contract
+///
+/// ```text
+/// requires whole { is_partial component ≡ false }
+/// requires room { length text.old ≤ 32 }
+/// ensures { text.new ≡ text.old ++ component_text component date time offset }
+/// ```
+///
+/// [docs/proofs/STATEMENT.md](crate::proved#contracts) explains the words.
+#[inline(never)]
+fn put_number(component: Component, date: Date, time: Time, offset: UtcOffset, text: &mut Text) {
+    match component {
+        Component::Year(base, sign, padding, _) => {
+            put_year(sign, padding, year_by(base, date), text)
+        }
         Component::YearCentury(base, sign, padding, _) => {
-            century_text(sign, padding, year_by(base, date))
+            put_century(sign, padding, year_by(base, date), text)
         }
-        Component::YearLastTwo(base, padding) => {
-            two_text(padding, (year_by(base, date).unsigned_abs() % 100) as u8)
+        Component::YearLastTwo(base, padding) => put_two(
+            padding,
+            (year_by(base, date).unsigned_abs() % 100) as u8,
+            text,
+        ),
+        Component::Month(padding) => put_two(padding, u8::from(date.month()), text),
+        Component::MonthName(form, _) => text.push_bytes(month_word(form, u8::from(date.month()))),
+        Component::Day(padding) => put_two(padding, date.day(), text),
+        Component::Ordinal(padding) => put_three(padding, date.ordinal(), text),
+        Component::WeekdayName(form, _) | Component::IgnoreWeekday(form, _) => {
+            text.push_bytes(weekday_word(form, date.weekday().number_days_from_monday()))
         }
-        Component::Month(padding) => two_text(padding, u8::from(date.month())),
-        Component::MonthName(form, _) => month_name(form, date.month()),
-        Component::Day(padding) => two_text(padding, date.day()),
-        Component::Ordinal(padding) => three_text(padding, date.ordinal()),
-        Component::WeekdayName(form, _) => weekday_name(form, date.weekday()),
         Component::WeekdayNumber(start, count) => {
             let weekday = date.weekday().number_days_from_monday();
-            decimal(weekday_number_by(start, count, weekday) as u32)
+            text.push_decimal(weekday_number_by(start, count, weekday) as u64);
         }
-        Component::WeekNumber(rule, padding) => two_text(padding, week_by(rule, date)),
-        Component::Hour(padding) => two_text(padding, time.hour()),
-        Component::Hour12(padding) => two_text(padding, hour_12(time.hour())),
-        Component::Period(case, _) => period_text(case, time.hour()),
-        Component::Minute(padding) => two_text(padding, time.minute()),
-        Component::Second(padding) => two_text(padding, time.second()),
-        Component::Subsecond(digits) => subsecond_text(digits, time.nanosecond()),
-        Component::OffsetHour(sign, padding) => offset_hour_text(sign, padding, offset),
-        Component::OffsetMinute(padding) => two_text(padding, offset_numbers(offset).1),
-        Component::OffsetSecond(padding) => two_text(padding, offset_numbers(offset).2),
+        Component::WeekNumber(rule, padding) => put_two(padding, week_by(rule, date), text),
+        Component::Hour(padding) => put_two(padding, time.hour(), text),
+        Component::Hour12(padding) => put_two(padding, hour_12(time.hour()), text),
+        Component::Period(case, _) => text.push_bytes(period_word(case, time.hour())),
+        Component::Minute(padding) => put_two(padding, time.minute(), text),
+        Component::Second(padding) => put_two(padding, time.second(), text),
+        Component::Subsecond(digits) => put_subsecond(digits, time.nanosecond(), text),
+        Component::OffsetHour(sign, padding) => put_offset_hour(sign, padding, offset, text),
+        Component::OffsetMinute(padding) => put_two(padding, offset_numbers(offset).1, text),
+        Component::OffsetSecond(padding) => put_two(padding, offset_numbers(offset).2, text),
         Component::UnixTimestamp(precision, sign) => {
-            unix_text(sign, unix_count(precision, date, time, offset))
+            put_unix(sign, unix_count(precision, date, time, offset), text)
         }
-        Component::IgnoreWeekday(form, _) => weekday_name(form, date.weekday()),
-        Component::YearSix(base) => six_text(year_by(base, date)),
-        Component::HourFraction(digits) => subsecond_text(digits, hour_fraction(time)),
-        Component::MinuteFraction(digits) => subsecond_text(digits, minute_fraction(time)),
+        Component::YearSix(base) => put_six(year_by(base, date), text),
+        Component::HourFraction(digits) => put_subsecond(digits, hour_fraction(time), text),
+        Component::MinuteFraction(digits) => put_subsecond(digits, minute_fraction(time), text),
         Component::Ignore(_)
         | Component::End
         | Component::IgnoreDigits
         | Component::OffsetWord(_, _)
-        | Component::YearSince(_) => Text::new(),
+        | Component::YearSince(_) => (),
     }
 }
 
-// A word for UTC. None of another offset.
+// Adds a word for UTC, and returns whether it did: no other offset has one.
 /// # Contract
 ///
 /// ```text
-/// ensures text { let text = offset_word_text word offset in
-///     SomeIff result (IsAscii text) text }
+/// requires room { length text.old ≤ 32 }
+/// ensures text { OnTrue result (text.new ≡ text.old ++ offset_word_text word offset) }
+/// ensures none { OnFalse result (¬ IsAscii (offset_word_text word offset)) }
+/// ensures unchanged { OnFalse result (text.new ≡ text.old) }
 /// ```
 ///
 /// [docs/proofs/STATEMENT.md](crate::proved#contracts) explains the words.
 #[inline]
-pub(crate) fn offset_word_text(word: UtcWord, offset: UtcOffset) -> Option<Text> {
+fn put_offset_word(word: UtcWord, offset: UtcOffset, text: &mut Text) -> bool {
     if !is_zero(offset) {
-        return None;
+        return false;
     }
-    let mut text = Text::new();
     text.push_bytes(word.letters());
-    Some(seen(text))
+    true
 }
 
 // Whether the offset is 0.
@@ -101,25 +134,27 @@ const fn is_zero(offset: UtcOffset) -> bool {
     offset.whole_seconds().unsigned_abs() == 0
 }
 
-// The last two digits of a year of the hundred years from this one on. None of another year.
+// Adds the last two digits of a year of the hundred years from this one on, and returns whether it did: no other year has
+// them.
 /// # Contract
 ///
 /// ```text
-/// ensures text { let text = year_since_text first (year_by Calendar date) in
-///     SomeIff result (IsAscii text) text }
+/// requires room { length text.old ≤ 32 }
+/// ensures text { OnTrue result
+///     (text.new ≡ text.old ++ year_since_text first (year_by Calendar date)) }
+/// ensures none { OnFalse result (¬ IsAscii (year_since_text first (year_by Calendar date))) }
+/// ensures unchanged { OnFalse result (text.new ≡ text.old) }
 /// ```
 ///
 /// [docs/proofs/STATEMENT.md](crate::proved#contracts) explains the words.
 #[inline]
-pub(crate) fn year_since_text(first: u16, date: Date) -> Option<Text> {
+fn put_year_since(first: u16, date: Date, text: &mut Text) -> bool {
     let year = date.year();
     if !is_year_since(first, year) {
-        return None;
+        return false;
     }
-    Some(seen(two_text(
-        Padding::Zero,
-        (year.unsigned_abs() % 100) as u8,
-    )))
+    put_two(Padding::Zero, (year.unsigned_abs() % 100) as u8, text);
+    true
 }
 
 // Whether the year is one of the hundred years from this one on.
@@ -134,21 +169,6 @@ pub(crate) fn year_since_text(first: u16, date: Date) -> Option<Text> {
 const fn is_year_since(first: u16, year: i32) -> bool {
     let first = first as i32;
     (year >= first) & (year < first + 100)
-}
-
-// The same text, of which a caller then knows that it is ASCII.
-/// # Contract
-///
-/// ```text
-/// ensures text { result ≡ text }
-/// ensures ascii { IsAscii text }
-/// ```
-///
-/// [docs/proofs/STATEMENT.md](crate::proved#contracts) explains the words.
-#[inline]
-pub(crate) fn seen(text: Text) -> Text {
-    let _bytes = text.as_bytes();
-    text
 }
 
 // The year of the calendar, or that of the ISO week.
@@ -168,75 +188,71 @@ const fn year_by(base: YearBase, date: Date) -> i32 {
     }
 }
 
-// The sign of a year.
+// Adds the sign of a year.
 /// # Contract
 ///
 /// ```text
-/// ensures text { result ≡ year_sign sign year }
-/// ensures length { length result ≤ 1 }
+/// requires room { length text.old ≤ 32 }
+/// ensures text { text.new ≡ text.old ++ year_sign sign year }
+/// ensures length { length text.new ≤ 33 }
 /// ```
 ///
 /// [docs/proofs/STATEMENT.md](crate::proved#contracts) explains the words.
 #[inline]
-const fn year_sign(sign: Sign, year: i32) -> Text {
-    let mut text = Text::new();
+const fn put_year_sign(sign: Sign, year: i32, text: &mut Text) {
     if year < 0 {
         text.push(b'-');
     } else if sign.is_mandatory() | (year > 9_999) {
         text.push(b'+');
     }
-    text
 }
 
-// The year with its sign.
+// Adds the year with its sign.
 /// # Contract
 ///
 /// ```text
 /// requires year { IsYear year }
-/// ensures text { result ≡ year_text sign padding year }
+/// requires room { length text.old ≤ 32 }
+/// ensures { text.new ≡ text.old ++ year_text sign padding year }
 /// ```
 ///
 /// [docs/proofs/STATEMENT.md](crate::proved#contracts) explains the words.
 #[inline]
-fn year_text(sign: Sign, padding: Padding, year: i32) -> Text {
-    let digits = four_text(padding, year.unsigned_abs());
-    let mut text = year_sign(sign, year);
-    text.push_bytes(digits.as_bytes());
-    text
+fn put_year(sign: Sign, padding: Padding, year: i32, text: &mut Text) {
+    put_year_sign(sign, year, text);
+    put_four(padding, year.unsigned_abs(), text);
 }
 
-// The sign of the year, and its six digits.
+// Adds the sign of the year, and its six digits.
 /// # Contract
 ///
 /// ```text
 /// requires year { IsYear year }
-/// ensures text { result ≡ six_text year }
+/// requires room { length text.old ≤ 32 }
+/// ensures { text.new ≡ text.old ++ six_text year }
 /// ```
 ///
 /// [docs/proofs/STATEMENT.md](crate::proved#contracts) explains the words.
-#[inline]
-fn six_text(year: i32) -> Text {
-    let digits = six_digits(year.unsigned_abs());
-    let mut text = year_sign(Sign::Mandatory, year);
-    text.push_bytes(digits.as_bytes());
-    text
+#[inline(never)]
+fn put_six(year: i32, text: &mut Text) {
+    put_year_sign(Sign::Mandatory, year, text);
+    put_six_digits(year.unsigned_abs(), text);
 }
 
-// The sign of the year, and the year without its last two digits.
+// Adds the sign of the year, and the year without its last two digits.
 /// # Contract
 ///
 /// ```text
 /// requires year { IsYear year }
-/// ensures text { result ≡ century_text sign padding year }
+/// requires room { length text.old ≤ 32 }
+/// ensures { text.new ≡ text.old ++ century_text sign padding year }
 /// ```
 ///
 /// [docs/proofs/STATEMENT.md](crate::proved#contracts) explains the words.
-#[inline]
-fn century_text(sign: Sign, padding: Padding, year: i32) -> Text {
-    let digits = century_digits(padding, year.unsigned_abs() / 100);
-    let mut text = year_sign(sign, year);
-    text.push_bytes(digits.as_bytes());
-    text
+#[inline(never)]
+fn put_century(sign: Sign, padding: Padding, year: i32, text: &mut Text) {
+    put_year_sign(sign, year, text);
+    put_century_digits(padding, year.unsigned_abs() / 100, text);
 }
 
 // The week of a day by each rule.
@@ -248,7 +264,7 @@ fn century_text(sign: Sign, padding: Padding, year: i32) -> Text {
 /// ```
 ///
 /// [docs/proofs/STATEMENT.md](crate::proved#contracts) explains the words.
-#[inline]
+#[inline(never)]
 const fn week_by(rule: WeekRule, date: Date) -> u8 {
     match rule {
         WeekRule::Iso => date.iso_week(),
@@ -286,25 +302,23 @@ pub(crate) const fn hour_12(hour: u8) -> u8 {
     if past == 0 { 12 } else { past }
 }
 
-// The sign and the hours of an offset.
+// Adds the sign and the hours of an offset.
 /// # Contract
 ///
 /// ```text
-/// ensures text { result ≡ offset_hour_text sign padding offset }
+/// requires room { length text.old ≤ 32 }
+/// ensures { text.new ≡ text.old ++ offset_hour_text sign padding offset }
 /// ```
 ///
 /// [docs/proofs/STATEMENT.md](crate::proved#contracts) explains the words.
 #[inline]
-fn offset_hour_text(sign: Sign, padding: Padding, offset: UtcOffset) -> Text {
-    let hours = two_text(padding, offset_numbers(offset).0);
-    let mut text = Text::new();
+fn put_offset_hour(sign: Sign, padding: Padding, offset: UtcOffset, text: &mut Text) {
     if offset.is_negative() {
         text.push(b'-');
     } else if sign.is_mandatory() {
         text.push(b'+');
     }
-    text.push_bytes(hours.as_bytes());
-    text
+    put_two(padding, offset_numbers(offset).0, text);
 }
 
 // The hours, the minutes and the seconds of an offset, without its sign.

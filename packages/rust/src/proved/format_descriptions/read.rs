@@ -2,8 +2,10 @@
 //! Texts read by descriptions.
 use crate::proved::format_descriptions::clock_fractions::{hour_fraction_at, minute_fraction_at};
 use crate::proved::format_descriptions::fields::component_at;
+use crate::proved::format_descriptions::fractions::fraction;
 use crate::proved::format_descriptions::item::{behind, fault_after, is_other, size_of};
-use crate::proved::format_descriptions::reading::after_mark;
+use crate::proved::format_descriptions::parts::fits;
+use crate::proved::format_descriptions::reading::{after_mark, two};
 use crate::proved::format_descriptions::unix::unix_at;
 use crate::proved::format_descriptions::{Component, Item, Parts, Sign, UnixPrecision};
 
@@ -35,8 +37,9 @@ use crate::proved::format_descriptions::{Component, Item, Parts, Sign, UnixPreci
 /// [docs/proofs/STATEMENT.md](crate::proved#contracts) explains the words.
 #[inline]
 pub fn parse(items: &[Item], text: &[u8]) -> Result<Parts, usize> {
-    match front(items, items.len(), text, Parts::none()) {
-        Ok((parts, rest)) => {
+    let mut parts = Parts::none();
+    match front(items, items.len(), text, &mut parts) {
+        Ok(rest) => {
             if rest.is_empty() {
                 Ok(parts)
             } else {
@@ -73,20 +76,21 @@ pub fn parse(items: &[Item], text: &[u8]) -> Result<Parts, usize> {
 /// [docs/proofs/STATEMENT.md](crate::proved#contracts) explains the words.
 #[inline]
 pub fn parse_front(items: &[Item], text: &[u8]) -> Result<(Parts, usize), usize> {
-    match front(items, items.len(), text, Parts::none()) {
-        Ok((parts, rest)) => Ok((parts, text.len() - rest.len())),
+    let mut parts = Parts::none();
+    match front(items, items.len(), text, &mut parts) {
+        Ok(rest) => Ok((parts, text.len() - rest.len())),
         Err(left) => Err(text.len() - left),
     }
 }
 
-// The first items, from the front of a text, and what follows them. Else how many bytes are left from the item on that
-// cannot be read.
+// Reads the first items at the front of a text into the parts, and returns what follows them. Else how many bytes are left
+// from the item on that cannot be read: then the parts are those of the items before it, or of a group.
 /// # Contract
 ///
 /// ```text
-/// ensures value { result_map_both (λ read. (read.0, read.1.now)) (λ left. left) result
-///     ≡ read_from items.now 0 count None text.now parts }
-/// ensures shorter { IfOk result (λ read. length read.1.now ≤ length text.now) }
+/// ensures value { result_map_both (λ rest. (parts.new, rest.now)) (λ left. left) result
+///     ≡ read_from items.now 0 count None text.now parts.old }
+/// ensures shorter { IfOk result (λ rest. length rest.now ≤ length text.now) }
 /// ensures left { IfErr result (λ left. left ≤ length text.now) }
 /// ```
 ///
@@ -96,13 +100,12 @@ fn front<'a>(
     items: &[Item],
     count: usize,
     text: &'a [u8],
-    parts: Parts,
-) -> Result<(Parts, &'a [u8]), usize> {
+    parts: &mut Parts,
+) -> Result<&'a [u8], usize> {
     let mut items = items;
     let mut count = count;
     let mut fault = None;
     let mut rest = text;
-    let mut parts = parts;
     while let Some((item, others)) = items.split_first() {
         if count == 0 {
             return front_end(fault, rest, parts);
@@ -112,10 +115,9 @@ fn front<'a>(
             if let Some(left) = fault {
                 return Err(left);
             }
-            let Some((read, more)) = item_at(*item, rest, parts) else {
+            let Some(more) = item_at(*item, rest, parts) else {
                 return Err(rest.len());
             };
-            parts = read;
             rest = more;
             items = others;
             continue;
@@ -134,13 +136,16 @@ fn front<'a>(
                 }
             }
         }
+        let before = *parts;
         match front(others, size.min(count), rest, parts) {
-            Ok((read, more)) => {
-                parts = read;
+            Ok(more) => {
                 rest = more;
                 fault = None;
             }
-            Err(left) => fault = fault_after(*item, fault, left),
+            Err(left) => {
+                *parts = before;
+                fault = fault_after(*item, fault, left);
+            }
         }
         items = behind(size, others);
         count = count.saturating_sub(size);
@@ -148,46 +153,44 @@ fn front<'a>(
     front_end(fault, rest, parts)
 }
 
-// The end of the items, behind a fault or behind none.
+// The end of the items, behind a fault or behind none. The parts are those that were read.
 /// # Contract
 ///
 /// ```text
-/// ensures value { result_map_both (λ read. (read.0, read.1.now)) (λ left. left) result
-///     ≡ read_end fault text.now parts }
-/// ensures shorter { IfOk result (λ read. length read.1.now ≤ length text.now) }
+/// ensures value { result_map_both (λ rest. (parts.now, rest.now)) (λ left. left) result
+///     ≡ read_end fault text.now parts.now }
+/// ensures shorter { IfOk result (λ rest. length rest.now ≤ length text.now) }
 /// ```
 ///
 /// [docs/proofs/STATEMENT.md](crate::proved#contracts) explains the words.
 #[inline]
-const fn front_end(
+const fn front_end<'a>(
     fault: Option<usize>,
-    text: &[u8],
-    parts: Parts,
-) -> Result<(Parts, &[u8]), usize> {
+    text: &'a [u8],
+    parts: &Parts,
+) -> Result<&'a [u8], usize> {
     match fault {
-        None => Ok((parts, text)),
+        None => Ok(text),
         Some(left) => Err(left),
     }
 }
 
-// An item, with the parts so far, and what follows it.
+// Reads an item into the parts, and returns what follows it.
 /// # Contract
 ///
 /// ```text
-/// ensures value { option_map (λ read. (read.0, read.1.now)) result ≡ item_at item text.now parts }
-/// ensures shorter { IfSome result (λ read. length read.1.now ≤ length text.now) }
+/// ensures value { option_map (λ rest. (parts.new, rest.now)) result
+///     ≡ item_at item text.now parts.old }
+/// ensures shorter { IfSome result (λ rest. length rest.now ≤ length text.now) }
 /// ```
 ///
 /// [docs/proofs/STATEMENT.md](crate::proved#contracts) explains the words.
 #[inline]
-fn item_at(item: Item, text: &[u8], parts: Parts) -> Option<(Parts, &[u8])> {
+fn item_at<'a>(item: Item, text: &'a [u8], parts: &mut Parts) -> Option<&'a [u8]> {
     match item {
-        Item::Byte(byte) => {
-            let rest = after_mark(byte, text)?;
-            Some((parts, rest))
-        }
-        Item::Optional(_) | Item::First(_) | Item::Or(_) => Some((parts, text)),
-        Item::Part(component) => parse_component(component, text, parts),
+        Item::Byte(byte) => after_mark(byte, text),
+        Item::Optional(_) | Item::First(_) | Item::Or(_) => Some(text),
+        Item::Part(component) => parse_component_into(component, text, parts),
     }
 }
 
@@ -255,6 +258,62 @@ pub fn parse_component_into<'a>(
     parts: &mut Parts,
 ) -> Option<&'a [u8]> {
     match component {
+        Component::Month(padding) => {
+            let (number, rest) = two(padding, text)?;
+            if !fits(parts.month, number) {
+                return None;
+            }
+            parts.month = Some(number);
+            Some(rest)
+        }
+        Component::Day(padding) => {
+            let (number, rest) = two(padding, text)?;
+            if !fits(parts.day, number) {
+                return None;
+            }
+            parts.day = Some(number);
+            Some(rest)
+        }
+        Component::Hour(padding) => {
+            let (number, rest) = two(padding, text)?;
+            if !fits(parts.hour, number) {
+                return None;
+            }
+            parts.hour = Some(number);
+            Some(rest)
+        }
+        Component::Minute(padding) => {
+            let (number, rest) = two(padding, text)?;
+            if !fits(parts.minute, number) {
+                return None;
+            }
+            parts.minute = Some(number);
+            Some(rest)
+        }
+        Component::Second(padding) => {
+            let (number, rest) = two(padding, text)?;
+            if !fits(parts.second, number) {
+                return None;
+            }
+            parts.second = Some(number);
+            Some(rest)
+        }
+        Component::OffsetMinute(padding) => {
+            let (number, rest) = two(padding, text)?;
+            if !fits(parts.offset_minute, number) {
+                return None;
+            }
+            parts.offset_minute = Some(number);
+            Some(rest)
+        }
+        Component::Subsecond(digits) => {
+            let (number, rest) = fraction(digits, text)?;
+            if !fits(parts.nanosecond, number) {
+                return None;
+            }
+            parts.nanosecond = Some(number);
+            Some(rest)
+        }
         Component::UnixTimestamp(precision, sign) => unix_part_at(precision, sign, text, parts),
         Component::HourFraction(digits) => hour_fraction_at(digits, text, parts),
         Component::MinuteFraction(digits) => minute_fraction_at(digits, text, parts),

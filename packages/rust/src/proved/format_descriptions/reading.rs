@@ -163,10 +163,31 @@ fn three_digits(text: &[u8]) -> Option<(u32, &[u8])> {
 ///
 /// [docs/proofs/STATEMENT.md](crate::proved#contracts) explains the words.
 #[inline]
-pub(crate) fn two_digits(text: &[u8]) -> Option<(u32, &[u8])> {
-    let (tens, text) = digit(text)?;
-    let (units, text) = digit(text)?;
-    Some((tens * 10 + units, text))
+pub(crate) const fn two_digits(text: &[u8]) -> Option<(u32, &[u8])> {
+    let [tens, units, rest @ ..] = text else {
+        return None;
+    };
+    if tens.is_ascii_digit() & units.is_ascii_digit() {
+        Some((number(*tens, *units), rest))
+    } else {
+        None
+    }
+}
+
+// The number of two digits.
+/// # Contract
+///
+/// ```text
+/// requires tens { IsInRange 48 57 tens }
+/// requires units { IsInRange 48 57 units }
+/// ensures value { result ≡ (tens - 48) * 10 + (units - 48) }
+/// ensures below { result < 100 }
+/// ```
+///
+/// [docs/proofs/STATEMENT.md](crate::proved#contracts) explains the words.
+#[inline]
+const fn number(tens: u8, units: u8) -> u32 {
+    ((tens - b'0') * 10 + (units - b'0')) as u32
 }
 
 // A digit.

@@ -14,7 +14,7 @@ use crate::proved::offset_times::OffsetDateTime;
 /// ```
 ///
 /// [docs/proofs/STATEMENT.md](crate::proved#contracts) explains the words.
-#[inline]
+#[inline(never)]
 pub(crate) const fn unix_count(
     precision: UnixPrecision,
     date: Date,
@@ -150,32 +150,31 @@ const fn by_ten_thousand(number: u128) -> (u64, u32) {
     (quotient, (left % 10_000) as u32)
 }
 
-// The sign and the digits of a Unix timestamp.
+// Adds the sign and the digits of a Unix timestamp.
 /// # Contract
 ///
 /// ```text
-/// requires { unsigned_abs count < 10 ^ 23 }
-/// ensures text { result ≡ unix_text sign count }
+/// requires count { unsigned_abs count < 10 ^ 23 }
+/// requires room { length text.old ≤ 32 }
+/// ensures { text.new ≡ text.old ++ unix_text sign count }
 /// ```
 ///
 /// [docs/proofs/STATEMENT.md](crate::proved#contracts) explains the words.
-#[inline]
-pub(crate) fn unix_text(sign: Sign, count: i128) -> Text {
-    let mut text = Text::new();
+#[inline(never)]
+pub(crate) fn put_unix(sign: Sign, count: i128, text: &mut Text) {
     if count < 0 {
         text.push(b'-');
     } else if sign.is_mandatory() {
         text.push(b'+');
     }
-    push_long_decimal(&mut text, count.unsigned_abs());
-    text
+    push_long_decimal(text, count.unsigned_abs());
 }
 
 // Adds a number of up to 23 digits.
 /// # Contract
 ///
 /// ```text
-/// requires room { length text.old ≤ 1 }
+/// requires room { length text.old ≤ 40 }
 /// requires below { number < 10 ^ 23 }
 /// ensures { text.new ≡ text.old ++ decimal number }
 /// ```

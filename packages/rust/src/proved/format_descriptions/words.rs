@@ -1,9 +1,8 @@
 // Made by make/erase of crates/format_descriptions/src/words.rt. Do not edit.
 //! Names, read from the front of a text.
-use crate::proved::format_descriptions::names::{month_name, period_word, weekday_name};
+use crate::proved::format_descriptions::names::{month_word, period_word, weekday_word};
 use crate::proved::format_descriptions::reading::{after_word, digit};
 use crate::proved::format_descriptions::{Case, NameForm, ReadCase, WeekStart, WeekdayCount};
-use crate::proved::calendar_values::{Month, Weekday};
 
 // The name of a month up to this one.
 /// # Contract
@@ -22,10 +21,7 @@ pub(crate) fn month(form: NameForm, case: ReadCase, last: u8, text: &[u8]) -> Op
     if last == 0 {
         return None;
     }
-    let Ok(name) = Month::from_number(last) else {
-        return None;
-    };
-    match after_word(case, month_name(form, name).as_bytes(), text) {
+    match after_word(case, month_word(form, last), text) {
         Some(rest) => Some((last as u32, rest)),
         None => month(form, case, last - 1, text),
     }
@@ -53,8 +49,7 @@ pub(crate) fn weekday(
     if end == 0 {
         return None;
     }
-    let name = Weekday::of_number(end - 1);
-    match after_word(case, weekday_name(form, name).as_bytes(), text) {
+    match after_word(case, weekday_word(form, end - 1), text) {
         Some(rest) => Some(((end - 1) as u32, rest)),
         None => weekday(form, case, end - 1, text),
     }

@@ -1,9 +1,7 @@
 // Made by make/erase of crates/format_descriptions/src/write.rt. Do not edit.
 //! Texts written by descriptions.
 use crate::proved::format_descriptions::item::{behind, is_other, size_of};
-use crate::proved::format_descriptions::pieces::{
-    component_text, offset_word_text, seen, year_since_text,
-};
+use crate::proved::format_descriptions::pieces::put_component;
 use crate::proved::format_descriptions::{Component, Item};
 use crate::proved::calendar_values::{Date, Text, Time, UtcOffset};
 use crate::proved::offset_times::OffsetDateTime;
@@ -93,13 +91,9 @@ fn write_items(
         }
         count -= 1;
         let Some(size) = size_of(*item) else {
-            let Some(piece) = item_text(*item, date, time, offset) else {
-                return None;
-            };
-            if text.as_bytes().len() + piece.as_bytes().len() > 64 {
+            if !put_item(*item, date, time, offset, &mut text) {
                 return None;
             }
-            text.push_bytes(piece.as_bytes());
             items = others;
             continue;
         };
@@ -116,21 +110,23 @@ fn write_items(
     Some(text)
 }
 
-// The text of an item. None of a byte that is not ASCII, and of a value that the component cannot write.
+// Adds the text of an item, and returns whether it did. It does not where the byte is not ASCII, the component cannot write
+// the value, or the text would have more than 64 bytes.
 /// # Contract
 ///
 /// ```text
-/// ensures text { let text = item_text item date time offset in
-///     SomeIff result (IsAscii text) text }
+/// ensures text { let all = text.old ++ item_text item date time offset in
+///     OnTrue result (Fits all × (text.new ≡ all)) }
+/// ensures none { OnFalse result (¬ Fits (text.old ++ item_text item date time offset)) }
 /// ```
 ///
 /// [docs/proofs/STATEMENT.md](crate::proved#contracts) explains the words.
 #[inline]
-fn item_text(item: Item, date: Date, time: Time, offset: UtcOffset) -> Option<Text> {
+fn put_item(item: Item, date: Date, time: Time, offset: UtcOffset, text: &mut Text) -> bool {
     match item {
-        Item::Byte(byte) => byte_text(byte),
-        Item::Part(component) => format_component(component, date, time, offset),
-        Item::Optional(_) | Item::First(_) | Item::Or(_) => Some(seen(Text::new())),
+        Item::Byte(byte) => put_byte(byte, text),
+        Item::Part(component) => format_component_into(component, date, time, offset, text),
+        Item::Optional(_) | Item::First(_) | Item::Or(_) => put_nothing(text),
     }
 }
 
@@ -164,27 +160,116 @@ pub fn format_component(
     time: Time,
     offset: UtcOffset,
 ) -> Option<Text> {
-    match component {
-        Component::OffsetWord(word, _) => offset_word_text(word, offset),
-        Component::YearSince(first) => year_since_text(first, date),
-        _ => Some(seen(component_text(component, date, time, offset))),
+    let mut text = Text::new();
+    if put_component(component, date, time, offset, &mut text) {
+        // For the proof alone: the bytes of a text are ASCII.
+        let _bytes = text.as_bytes();
+        Some(text)
+    } else {
+        None
     }
 }
 
-// A byte by itself.
+/// Adds the text of a component of a date, a time of day and an offset to a text, and returns
+/// whether it did. It does not where the component cannot write the value, or where the text would
+/// have more than 64 bytes: then the text stays as it is.
+///
+/// ```
+/// # use muxandu::proved::*;
+/// # fn main() -> Result<(), Box<dyn std::error::Error>> {
+/// use format_descriptions::{Component, Padding, format_component_into};
+/// let date = Date::from_calendar_date(2024, Month::March, 5)?;
+/// let day = Component::Day(Padding::Zero);
+/// let mut text = Month::March.text();
+/// let is_added = format_component_into(day, date, Time::MIDNIGHT, UtcOffset::UTC, &mut text);
+/// assert_eq!((is_added, text.as_bytes() == b"March05".as_slice()), (true, true));
+/// # Ok(())
+/// # }
+/// ```
+///
 /// # Contract
 ///
 /// ```text
-/// ensures { SomeIff result (IsAscii (byte ∷ [])) (byte ∷ []) }
+/// ensures text { let all = text.old ++ component_text component date time offset in
+///     OnTrue result (Fits all × (text.new ≡ all)) }
+/// ensures none { OnFalse result
+///     (¬ Fits (text.old ++ component_text component date time offset)) }
+/// ensures unchanged { OnFalse result (text.new ≡ text.old) }
+/// ```
+///
+/// [docs/proofs/STATEMENT.md](crate::proved#contracts) explains the words.
+#[inline(always)]
+pub fn format_component_into(
+    component: Component,
+    date: Date,
+    time: Time,
+    offset: UtcOffset,
+    text: &mut Text,
+) -> bool {
+    if text.as_bytes().len() <= 32 {
+        if !put_component(component, date, time, offset, text) {
+            return false;
+        }
+        // For the proof alone: the bytes of a text are ASCII, and not too many.
+        let _bytes = text.as_bytes();
+        return true;
+    }
+    let mut piece = Text::new();
+    if !put_component(component, date, time, offset, &mut piece) {
+        return false;
+    }
+    push_text(piece.as_bytes(), text)
+}
+
+// Adds bytes, and returns whether it did: not where there would be more than 64.
+/// # Contract
+///
+/// ```text
+/// requires { IsAscii bytes.now }
+/// ensures text { let all = text.old ++ bytes.now in OnTrue result (Fits all × (text.new ≡ all)) }
+/// ensures none { OnFalse result (¬ Fits (text.old ++ bytes.now)) }
+/// ensures unchanged { OnFalse result (text.new ≡ text.old) }
 /// ```
 ///
 /// [docs/proofs/STATEMENT.md](crate::proved#contracts) explains the words.
 #[inline]
-fn byte_text(byte: u8) -> Option<Text> {
-    if byte >= 128 {
-        return None;
+fn push_text(bytes: &[u8], text: &mut Text) -> bool {
+    if text.as_bytes().len() + bytes.len() > 64 {
+        return false;
     }
-    let mut text = Text::new();
+    text.push_bytes(bytes);
+    true
+}
+
+// Adds a byte, and returns whether it did.
+/// # Contract
+///
+/// ```text
+/// ensures text { let all = text.old ++ byte ∷ [] in OnTrue result (Fits all × (text.new ≡ all)) }
+/// ensures none { OnFalse result (¬ Fits (text.old ++ byte ∷ [])) }
+/// ```
+///
+/// [docs/proofs/STATEMENT.md](crate::proved#contracts) explains the words.
+#[inline]
+fn put_byte(byte: u8, text: &mut Text) -> bool {
+    if (byte >= 128) | (text.as_bytes().len() >= 64) {
+        return false;
+    }
     text.push(byte);
-    Some(seen(text))
+    true
+}
+
+// Adds nothing, which it can.
+/// # Contract
+///
+/// ```text
+/// ensures fits { Fits (text.now ++ []) }
+/// ensures always { IsTrue result }
+/// ```
+///
+/// [docs/proofs/STATEMENT.md](crate::proved#contracts) explains the words.
+#[inline]
+fn put_nothing(text: &Text) -> bool {
+    let _bytes = text.as_bytes();
+    true
 }
