@@ -111,6 +111,20 @@ pub fn next_working_day(date: Date) -> Option<Date>
     days_after(date, days_to_a_working_day(date))
 }
 
+/// The same by the day of the week alone. None past the range.
+pub fn working_day_after(date: Date) -> Option<Date>
+    ensures later { IfSome result (λ next. date <ℤ next) }
+    ensures soon { IfSome result (λ next. next ≤ℤ (date +ℤ pos 3)) }
+    ensures working { IfSome result (λ next. weekday_of next < 5) }
+{
+    let days = match date.weekday() {
+        Weekday::Friday => 3,
+        Weekday::Saturday => 2,
+        _ => 1,
+    };
+    date.checked_add_days(days)
+}
+
 /// The same day of the week, a week later, or None past the range.
 pub fn a_week_later(date: Date) -> Option<Date>
     ensures later { IfSome result (λ later. later ≡ date +ℤ pos 7) }

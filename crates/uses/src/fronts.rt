@@ -10,7 +10,7 @@ ghost use Rattle.rfc3339.specs.Reading.{reading_of};
 ghost use Rattle.rfc3339.specs.Texts.{HasText, digits_text};
 ghost use Rattle.rfc3339.specs.declared.parts.Parts.{Parts};
 
-use calendar_values::Text;
+use calendar_values::{Text, UtcOffset};
 use offset_times::OffsetDateTime;
 use rfc3339::{
     TextRefusal, parse_rfc3339_front, parse_rfc3339_leap, syntax_fault, to_rfc3339_digits,
@@ -143,4 +143,17 @@ pub fn timestamp_of_leap(text: &[u8]) -> Option<Timestamp>
 {
     let (at, _) = parse_rfc3339_leap(text).ok()?;
     at.checked_to_timestamp()
+}
+
+/// The instant of a text whose second may be 60, as clocks at an offset have it, and whether the
+/// second was 60. None if the text is no date-time, or the date there is out of range.
+pub fn carried(text: &[u8], offset: UtcOffset) -> Option<(OffsetDateTime, bool)>
+    ensures instant { IfSome result (λ both. (p : Parts) × IsDateTime text.now p ×
+        (instant_of both.0 ≡ instant_of (value_of (stand_in p)))) }
+    ensures leap { IfSome result (λ both. both.1 ≡ true → IsLastOfMonth (instant_of both.0)) }
+{
+    let Ok((at, is_leap)) = parse_rfc3339_leap(text) else {
+        return None;
+    };
+    Some((at.checked_to_offset(offset)?, is_leap))
 }

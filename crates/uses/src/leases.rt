@@ -26,3 +26,12 @@ pub fn minutes_around(at: OffsetDateTime, minutes: u32) -> Option<(OffsetDateTim
     let margin = SignedDuration::minutes(i64::from(minutes));
     Some((at.checked_sub(margin)?, at.checked_add(margin)?))
 }
+
+/// The instant of a warning: some minutes before the lease expires, at its offset. None before the
+/// range.
+pub fn warn_at(expires: OffsetDateTime, minutes: u32) -> Option<OffsetDateTime>
+    ensures { IfSome result (λ at.
+        instant_of at ≡ instant_of expires -ℤ pos (minutes * nanos_per_minute)) }
+{
+    expires.checked_sub(SignedDuration::minutes(i64::from(minutes)))
+}

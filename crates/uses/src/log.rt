@@ -98,6 +98,15 @@ pub fn take_in(log: &mut Vec<Timestamp>, other: &[Timestamp]) -> Result<(), Allo
     logs::merge(log, other)
 }
 
+/// Adds the entries of another log, and puts all in order; an instant of both stays twice.
+pub fn gather(log: &mut Vec<Timestamp>, other: &[Timestamp]) -> Result<(), AllocError>
+    ensures in_order { OnOk result (IsSorted int_cmp log.new.items) }
+    ensures same_entries { OnOk result (IsPermutation (log.old.items ++ other.now) log.new.items) }
+{
+    log.extend_from_slice(other)?;
+    log.sort()
+}
+
 /// Whether an instant is after every entry of a log in order.
 pub fn is_news(log: &[Timestamp], at: Timestamp) -> bool
     requires { IsSorted int_cmp log.now }

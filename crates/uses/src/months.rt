@@ -45,6 +45,16 @@ pub fn a_year_later(date: Date) -> Option<Date>
     }
 }
 
+/// The same, by the number of days of that month. Refused `year` past the range.
+pub fn same_day_next_year(date: Date) -> Result<Date, ComponentRange>
+    ensures year { IfOk result (λ later. year_of later ≡ year_of date +ℤ pos 1) }
+    ensures month { IfOk result (λ later. month_of later ≡ month_of date) }
+{
+    let year = date.year() + 1;
+    let day = date.day().min(days_in_month(year, date.month()));
+    Date::from_calendar_date(year, date.month(), day)
+}
+
 /// The first day of the next month. None in the last month of the range.
 pub fn next_month(date: Date) -> Option<Date>
     ensures month { IfSome result (λ first. month_index first ≡ month_index date +ℤ pos 1) }

@@ -28,6 +28,15 @@ pub fn next_hour(at: UtcDateTime) -> Option<UtcDateTime>
     Some(at.truncate_to_hour().checked_add(SignedDuration::hours(1))?)
 }
 
+/// The same by the constant of an hour. None past the range.
+pub fn hour_after(at: UtcDateTime) -> Option<UtcDateTime>
+    ensures whole { IfSome result (λ next. wall_multiple_below nanos_per_hour next ≡ next) }
+    ensures later { IfSome result (λ next. at <ℤ next) }
+    ensures soon { IfSome result (λ next. next ≤ℤ (at +ℤ pos nanos_per_hour)) }
+{
+    at.truncate_to_hour().checked_add(SignedDuration::HOUR)
+}
+
 /// The hour that a sale is reported under where it was made: on the same date, in the same hour, at
 /// its first nanosecond.
 pub fn hour_there(sale: OffsetDateTime) -> OffsetDateTime

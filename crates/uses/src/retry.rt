@@ -50,6 +50,15 @@ pub fn pause(attempts: u32) -> SignedDuration
     SignedDuration::seconds(i64::from((1_u32 << attempts.min(31)).min(3_600)))
 }
 
+/// When to try again: 1, 2, 4 seconds later, and so on, and never more than an hour.
+pub fn next_try(failed: Timestamp, attempts: u32) -> Timestamp
+    ensures never_before { failed ≤ℤ result }
+    ensures within_an_hour { result ≤ℤ (failed +ℤ pos nanos_per_hour) }
+{
+    let seconds = (1_u32 << attempts.min(12)).min(3_600);
+    failed.saturating_add(SignedDuration::seconds(i64::from(seconds)))
+}
+
 /// When to try again, after a pause that has its bound from a function of its own.
 pub fn after_pause(failed: UtcDateTime, attempts: u32) -> UtcDateTime
     ensures never_before { failed ≤ℤ result }

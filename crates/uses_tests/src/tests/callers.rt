@@ -718,6 +718,39 @@ fn leases_are_called(rt: HostRuntime) -> Result<(), Fail> {
     let (begin, end) = leases::minutes_around(local(0, 1)?, 2).ok_or("around")?;
     is(&rt, begin, local(-120, 1)?);
     is(&rt, end, local(120, 1)?);
+    let warning = leases::warn_at(local(3_600, 1)?, 15);
+    is(&rt, warning, Some(local(2_700, 1)?));
+    Ok(())
+}
+
+#[test]
+fn hours_and_attempts_follow(rt: HostRuntime) -> Result<(), Fail> {
+    is(&rt, reports::hour_after(utc(3_700)?), Some(utc(7_200)?));
+    let epoch = Timestamp::UNIX_EPOCH;
+    is(&rt, retry::next_try(epoch, 5), Timestamp::from_seconds(32)?);
+    let hour = Timestamp::from_seconds(3_600)?;
+    is(&rt, retry::next_try(epoch, 99), hour);
+    Ok(())
+}
+
+#[test]
+fn logs_are_gathered(rt: HostRuntime) -> Result<(), Fail> {
+    let epoch = Timestamp::UNIX_EPOCH;
+    let mut log = [epoch, Timestamp::MAX].to_vec(rt.alloc())?;
+    log::gather(&mut log, &[Timestamp::MIN, epoch])?;
+    let all = [Timestamp::MIN, epoch, epoch, Timestamp::MAX];
+    assert_eq!(rt; log.as_slice(), all.as_slice());
+    Ok(())
+}
+
+#[test]
+fn leap_seconds_are_carried(rt: HostRuntime) -> Result<(), Fail> {
+    let west = UtcOffset::from_hms(-8, 0, 0)?;
+    let leap = b"1990-12-31T23:59:60Z";
+    let (there, is_leap) = fronts::carried(leap, west).ok_or("no date")?;
+    is(&rt, is_leap, true);
+    is(&rt, there.to_hms_nano(), (15, 59, 59, 999_999_999));
+    is(&rt, there.day(), 31);
     Ok(())
 }
 

@@ -111,3 +111,15 @@ fn last_days_are_called(rt: HostRuntime) -> Result<(), Fail> {
     is(&rt, billing::period_end(at), Ok(end));
     Ok(())
 }
+
+#[test]
+fn working_days_and_next_years_are_called(rt: HostRuntime) -> Result<(), Fail> {
+    let leap_day = Date::from_calendar_date(2024, Month::February, 29)?;
+    let friday = Date::from_calendar_date(2024, Month::March, 1)?;
+    let monday = Date::from_calendar_date(2024, Month::March, 4)?;
+    is(&rt, days::working_day_after(leap_day), Some(friday));
+    is(&rt, days::working_day_after(friday), Some(monday));
+    let next = Date::from_calendar_date(2025, Month::February, 28)?;
+    is(&rt, months::same_day_next_year(leap_day), Ok(next));
+    Ok(())
+}
