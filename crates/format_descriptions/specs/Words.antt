@@ -180,3 +180,4 @@ pub use Rattle.format_descriptions.specs.Written.{year_sign}
 unfoldable pub use Rattle.format_descriptions.specs.Written.{century_digits, century_text, component_text, flat_text, four_text, hour_12, item_text}
 unfoldable pub use Rattle.format_descriptions.specs.Written.{offset_hour_text, offset_word_text, period_text, six_text, subsecond_text, three_text}
 unfoldable pub use Rattle.format_descriptions.specs.Written.{two_text, unix_count, weekday_number_by, year_since_text}
+pub use Rattle.std.specs.Bool.{OnFalse, OnTrue}
