@@ -55,13 +55,13 @@ pub(crate) fn order_inside(first: MuxanduMoment, second: MuxanduMoment) -> i32
     requires second { IsInside second }
     ensures { result ≡ sign_of (int_cmp (instant_of_moment first) (instant_of_moment second)) }
 {
-    sign_of_number(apart(first, second))
+    sign_of_number(time_apart(first, second))
 }
 
 // A number with the sign of the time between two instants: the seconds, or the nanoseconds where these are equal.
 #[tactic(auto, using(crate::proofs::InsideMomentLemmas::signs_apart))]
 #[inline(always)]
-fn apart(first: MuxanduMoment, second: MuxanduMoment) -> i64
+fn time_apart(first: MuxanduMoment, second: MuxanduMoment) -> i64
     requires first { IsInside first }
     requires second { IsInside second }
     ensures { int_cmp result (pos 0)

@@ -170,12 +170,12 @@ pub(crate) fn moment_truncate(at: MuxanduMoment, unit: u32) -> Result<MuxanduMom
             _ => {}
         }
     }
-    truncated(at, unit)
+    multiple_below(at, unit)
 }
 
 // The same of each moment and each unit.
 #[inline(always)]
-fn truncated(at: MuxanduMoment, unit: u32) -> Result<MuxanduMoment, Refused>
+fn multiple_below(at: MuxanduMoment, unit: u32) -> Result<MuxanduMoment, Refused>
     ensures { result ≡ moment_truncate unit at }
 {
     let instant = read_timestamp(timestamp_of_moment(at))?;
@@ -282,12 +282,12 @@ pub(crate) fn moment_compare(first: MuxanduMoment, second: MuxanduMoment) -> Res
     if is_inside(first) && is_inside(second) {
         return Ok(order_inside(first, second));
     }
-    compared(first, second)
+    order_of(first, second)
 }
 
 // The same of each two moments.
 #[inline(always)]
-fn compared(first: MuxanduMoment, second: MuxanduMoment) -> Result<i32, Refused>
+fn order_of(first: MuxanduMoment, second: MuxanduMoment) -> Result<i32, Refused>
     ensures { result ≡ moment_compare first second }
 {
     let at = read_moment(first)?;
