@@ -55,6 +55,19 @@ pub fn same_day_next_year(date: Date) -> Result<Date, ComponentRange>
     Date::from_calendar_date(year, date.month(), day)
 }
 
+/// The same. None past the range.
+pub fn next_anniversary(date: Date) -> Option<Date>
+    ensures year { IfSome result (λ later. year_of later ≡ year_of date +ℤ pos 1) }
+    ensures month { IfSome result (λ later. month_of later ≡ month_of date) }
+{
+    let year = date.year() + 1;
+    let day = date.day().min(days_in_month(year, date.month()));
+    match Date::from_calendar_date(year, date.month(), day) {
+        Ok(later) => Some(later),
+        Err(_) => None,
+    }
+}
+
 /// The first day of the next month. None in the last month of the range.
 pub fn next_month(date: Date) -> Option<Date>
     ensures month { IfSome result (λ first. month_index first ≡ month_index date +ℤ pos 1) }

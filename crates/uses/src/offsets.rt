@@ -117,6 +117,16 @@ pub fn at_seconds(at: Timestamp, seconds: i32) -> Option<OffsetDateTime>
     Some(at.checked_to_offset(offset)?)
 }
 
+/// The same in one function.
+pub fn at_offset_seconds(at: Timestamp, seconds: i32) -> Option<OffsetDateTime>
+    ensures { IfSome result (λ shown. shown ≡ local_at at seconds) }
+{
+    let Ok(offset) = UtcOffset::from_whole_seconds(seconds) else {
+        return None;
+    };
+    at.checked_to_offset(offset)
+}
+
 /// The date-time at another offset, and back at its own: itself, exactly if clocks at the other
 /// offset show a date of the range.
 pub fn there_and_back(at: OffsetDateTime, offset: UtcOffset) -> Option<OffsetDateTime>

@@ -9,6 +9,7 @@ ghost use Rattle.offset_times.specs.Local.{instant_of};
 
 use calendar_values::SignedDuration;
 use offset_times::OffsetDateTime;
+use stamp_times::Timestamp;
 use std::time::Duration;
 
 /// Whether the work has taken as long as it may.
@@ -132,4 +133,14 @@ pub fn left_until(now: OffsetDateTime, deadline: OffsetDateTime) -> SignedDurati
     ensures not_negative { pos 0 ≤ℤ result }
 {
     (deadline - now).max(SignedDuration::ZERO)
+}
+
+/// The time left of a limit: none once the work has taken it all.
+pub fn left_of(started: Timestamp, limit: SignedDuration, now: Timestamp) -> SignedDuration
+    ensures not_negative { pos 0 ≤ℤ result }
+    ensures after { limit ≤ℤ (now -ℤ started) → result ≡ pos 0 }
+{
+    limit
+        .saturating_sub(now - started)
+        .max(SignedDuration::ZERO)
 }

@@ -730,6 +730,9 @@ fn hours_and_attempts_follow(rt: HostRuntime) -> Result<(), Fail> {
     is(&rt, retry::next_try(epoch, 5), Timestamp::from_seconds(32)?);
     let hour = Timestamp::from_seconds(3_600)?;
     is(&rt, retry::next_try(epoch, 99), hour);
+    let limit = SignedDuration::seconds(4_000);
+    let left = timeouts::left_of(epoch, limit, hour);
+    is(&rt, left, SignedDuration::seconds(400));
     Ok(())
 }
 
@@ -760,6 +763,8 @@ fn offsets_are_crossed(rt: HostRuntime) -> Result<(), Fail> {
     let at = local(0, 1)?;
     is(&rt, offsets::there_and_back(at, east), Some(at));
     let there = offsets::across(Timestamp::UNIX_EPOCH, UtcOffset::UTC, east);
+    is(&rt, there, Some(local(0, 2)?));
+    let there = offsets::at_offset_seconds(Timestamp::UNIX_EPOCH, 7_200);
     is(&rt, there, Some(local(0, 2)?));
     Ok(())
 }

@@ -121,5 +121,6 @@ fn working_days_and_next_years_are_called(rt: HostRuntime) -> Result<(), Fail> {
     is(&rt, days::working_day_after(friday), Some(monday));
     let next = Date::from_calendar_date(2025, Month::February, 28)?;
     is(&rt, months::same_day_next_year(leap_day), Ok(next));
+    is(&rt, months::next_anniversary(leap_day), Some(next));
     Ok(())
 }
