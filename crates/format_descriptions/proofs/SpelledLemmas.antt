@@ -12,8 +12,10 @@ use Rattle.rfc3339.specs.Reading.{digit_at, two_digits_at, year_at}
 use Rattle.format_descriptions.specs.Modifiers.{utc_word}
 use Rattle.format_descriptions.specs.Read.{Front, component_at, agrees, with_part, part_given, item_at, going_on, read_from, at_end, items_at}
 use Rattle.format_descriptions.specs.Reading.{digit_more, unsigned, with_sign, nothing, half_of, two_at, three_at, three_digits_at, four_at, more_at, sign_at}
-use Rattle.format_descriptions.specs.Reading.{year_after, hours_after, signed_year_at, signed_hours_at, six_at, counted_at, fraction_at, month_at, weekday_at, period_at, word_at, letter_at}
-use Rattle.format_descriptions.specs.Spelled.{is_fixed, is_bare, are_no_digit, are_separate, IsText, sign_text, first_hour, spelling, IsNumber, unit_digits, HasDigits, Spells}
+use Rattle.format_descriptions.specs.Reading.{year_after, hours_after, signed_year_at, signed_hours_at, six_at, counted_at}
+use Rattle.format_descriptions.specs.Reading.{fraction_at, month_at, weekday_at, period_at, word_at, letter_at}
+use Rattle.format_descriptions.specs.Spelled.{is_fixed, is_bare, are_no_digit, are_separate, IsText, sign_text}
+use Rattle.format_descriptions.specs.Spelled.{first_hour, spelling, IsNumber, unit_digits, HasDigits, Spells}
 use Rattle.format_descriptions.specs.Written.{period_text}
 use Rattle.format_descriptions.specs.declared.component.Component.{Component}
 use Rattle.format_descriptions.specs.declared.component.Component.TheVariants.{Year, YearCentury, YearLastTwo, Month, MonthName, Day, Ordinal}

@@ -63,13 +63,7 @@ fn components_are_written_in_place(rt: HostRuntime) -> Result<(), Fail> {
     let name = Component::MonthName(NameForm::Long, ReadCase::Same);
     let mut text = Text::new();
     for n in 0..8 {
-        let is_added = format_component_into(
-            name,
-            date,
-            Time::MIDNIGHT,
-            UtcOffset::UTC,
-            &mut text,
-        );
+        let is_added = format_component_into(name, date, Time::MIDNIGHT, UtcOffset::UTC, &mut text);
         is(&rt, is_added, n < 7);
     }
     is(&rt, text.as_bytes().len(), 63);
