@@ -147,7 +147,7 @@ pub fn timestamp_of_leap(text: &[u8]) -> Option<Timestamp>
 
 /// The instant of a text whose second may be 60, as clocks at an offset have it, and whether the
 /// second was 60. None if the text is no date-time, or the date there is out of range.
-pub fn carried(text: &[u8], offset: UtcOffset) -> Option<(OffsetDateTime, bool)>
+pub fn leap_date_time_at(text: &[u8], offset: UtcOffset) -> Option<(OffsetDateTime, bool)>
     ensures instant { IfSome result (λ both. (p : Parts) × IsDateTime text.now p ×
         (instant_of both.0 ≡ instant_of (value_of (stand_in p)))) }
     ensures leap { IfSome result (λ both. both.1 ≡ true → IsLastOfMonth (instant_of both.0)) }

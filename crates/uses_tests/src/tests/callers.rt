@@ -747,10 +747,10 @@ fn logs_are_gathered(rt: HostRuntime) -> Result<(), Fail> {
 }
 
 #[test]
-fn leap_seconds_are_carried(rt: HostRuntime) -> Result<(), Fail> {
+fn leap_seconds_are_read_at_an_offset(rt: HostRuntime) -> Result<(), Fail> {
     let west = UtcOffset::from_hms(-8, 0, 0)?;
     let leap = b"1990-12-31T23:59:60Z";
-    let (there, is_leap) = fronts::carried(leap, west).ok_or("no date")?;
+    let (there, is_leap) = fronts::leap_date_time_at(leap, west).ok_or("no date")?;
     is(&rt, is_leap, true);
     is(&rt, there.to_hms_nano(), (15, 59, 59, 999_999_999));
     is(&rt, there.day(), 31);
