@@ -5,17 +5,16 @@ use core::num::NonZeroU16;
 pub use crate::proved::format_descriptions::SubsecondDigits;
 
 /// The filler before a number that has fewer digits than its width.
-// The numbers are those of the proved enumeration, so that the one becomes the other without a step.
 #[non_exhaustive]
 #[derive(Clone, Copy, Debug, Default, PartialEq, Eq)]
 pub enum Padding {
     /// Spaces.
-    Space = 1,
+    Space,
     /// Zeros.
     #[default]
-    Zero = 0,
+    Zero,
     /// Nothing.
-    None = 2,
+    None,
 }
 
 /// How a month is written.
