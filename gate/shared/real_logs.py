@@ -62,13 +62,7 @@ KINDS = (
         (),
         "2024-02-29T06:30:00.123456789Z",
     ),
-    Kind(
-        "MySQL 8",
-        "2024-02-29T06:30:00.123456Z 0 [System] [MY-010116] starting",
-        PLAIN,
-        (),
-        "2024-02-29T06:30:00.123456000Z",
-    ),
+    Kind("MySQL 8", "2024-02-29T06:30:00.123456Z 0 [System] [MY-010116] starting", PLAIN, (), "2024-02-29T06:30:00.123456000Z"),
     Kind(
         "GitHub Actions",
         "2024-02-29T06:30:00.1234567Z ##[group]Run actions/checkout",
@@ -146,13 +140,7 @@ KINDS = (
         (),
         "2018-07-02T22:23:00.186641000Z",
     ),
-    Kind(
-        "Go, `log`",
-        "2009/11/10 23:00:00 hello",
-        "nginx-error at front",
-        OFFSET,
-        "2009-11-10T17:30:00.000000000Z",
-    ),
+    Kind("Go, `log`", "2009/11/10 23:00:00 hello", "nginx-error at front", OFFSET, "2009-11-10T17:30:00.000000000Z"),
     Kind(
         "Go, `slog`",
         '{"time":"2024-02-29T06:30:00.123456789Z","level":"INFO","msg":"hello"}',
@@ -161,11 +149,7 @@ KINDS = (
         "2024-02-29T06:30:00.123456789Z",
     ),
     Kind(
-        "zap",
-        '{"level":"info","ts":1709188200.1234567,"msg":"hello"}',
-        "unix at json:ts",
-        (),
-        "2024-02-29T06:30:00.123456700Z",
+        "zap", '{"level":"info","ts":1709188200.1234567,"msg":"hello"}', "unix at json:ts", (), "2024-02-29T06:30:00.123456700Z"
     ),
     Kind(
         "pino",
@@ -174,13 +158,7 @@ KINDS = (
         (),
         "2024-02-29T06:30:00.123000000Z",
     ),
-    Kind(
-        "Squid",
-        "1286536308.779 180 192.168.0.224 TCP_MISS/200 411 GET",
-        "unix at front",
-        (),
-        "2010-10-08T11:11:48.779000000Z",
-    ),
+    Kind("Squid", "1286536308.779 180 192.168.0.224 TCP_MISS/200 411 GET", "unix at front", (), "2010-10-08T11:11:48.779000000Z"),
     Kind("auditd", "type=SYSCALL msg=audit(1364481363.243:24287): arch=c000003e", "", (), ""),
     Kind(
         "HAProxy",
@@ -197,24 +175,8 @@ KINDS = (
         "2024-02-29T06:30:00.123000000Z",
     ),
     Kind(
-        "mail of RFC 2822",
-        "Thu, 29 Feb 2024 12:00:00 +0530 delivered",
-        "rfc2822 at front",
-        (),
-        "2024-02-29T06:30:00.000000000Z",
+        "mail of RFC 2822", "Thu, 29 Feb 2024 12:00:00 +0530 delivered", "rfc2822 at front", (), "2024-02-29T06:30:00.000000000Z"
     ),
-    Kind(
-        "`git log --date=iso`",
-        "2024-02-29 12:00:00 +0530 commit",
-        "git at front",
-        (),
-        "2024-02-29T06:30:00.000000000Z",
-    ),
-    Kind(
-        "`date -u`",
-        "Thu Feb 29 06:30:00 UTC 2024 hello",
-        "date at front",
-        (),
-        "2024-02-29T06:30:00.000000000Z",
-    ),
+    Kind("`git log --date=iso`", "2024-02-29 12:00:00 +0530 commit", "git at front", (), "2024-02-29T06:30:00.000000000Z"),
+    Kind("`date -u`", "Thu Feb 29 06:30:00 UTC 2024 hello", "date at front", (), "2024-02-29T06:30:00.000000000Z"),
 )
