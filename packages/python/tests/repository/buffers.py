@@ -436,9 +436,12 @@ def judged(call, words, items, out, statuses=None, refused=None, gaps=(), read=(
             wanted = "missing" if number in gaps else "an error" if item is None else "0"
             if wanted != ("0" if told == 0 else "missing" if told == muxandu.MISSING else "an error"):
                 return f"the status of item {number} must be {wanted}, not {told}"
-        if item is not None and out.kind.read(out.memory, out.starts[number]) != item:
-            return f"must be {item}, not {out.kind.read(out.memory, out.starts[number])}"
-        for place in results if item is not None else results[1:]:
+        # The numbers of an item that fails are as before. The bytes between them are nobody's.
+        start, was = out.starts[number], before[[memory is out.memory for memory in memories].index(True)]
+        item = out.kind.read(was, start) if item is None else item
+        if out.kind.read(out.memory, start) != item:
+            return f"must be {item}, not {out.kind.read(out.memory, start)}"
+        for place in results:
             start, which = place.starts[number], [memory is place.memory for memory in memories].index(True)
             kept[which][start : start + place.kind.size] = before[which][start : start + place.kind.size]
     return None if [bytes(memory) for memory in kept] == before else "it wrote beside its items"
