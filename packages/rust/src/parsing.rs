@@ -455,6 +455,13 @@ mod sealed {
             Ok(())
         }
 
+        /// Returns the parts of a whole text. Crates call it on a description, as `cookie` does.
+        fn parse(&self, input: &[u8]) -> Result<Parsed, Parse> {
+            let mut parsed = Parsed::new();
+            self.parse_whole(input, &mut parsed)?;
+            Ok(parsed)
+        }
+
         /// Reads a whole text that has a date, a time of day and an offset.
         fn parse_offset_date_time(&self, input: &[u8]) -> Result<OffsetDateTime, Parse> {
             parse_as(self, input)

@@ -9,7 +9,7 @@ use muxandu::format_description::parse_owned;
 use muxandu::format_description::well_known::{Rfc2822, Rfc3339};
 use muxandu::format_description::{BorrowedFormatItem, Component, OwnedFormatItem, modifier};
 use muxandu::macros::{date, datetime, format_description, offset, time, utc_datetime};
-use muxandu::parsing::Parsed;
+use muxandu::parsing::{Parsable, Parsed};
 use muxandu::{
     Date, Month, OffsetDateTime, PlainDateTime, Time, Timestamp, UtcDateTime, UtcOffset, Weekday,
 };
@@ -328,6 +328,19 @@ fn defaults_stand_for_parts_that_a_text_lacks() {
         Timestamp::parse_with_defaults(b"1709164800", second, Parsed::new()),
         Ok(datetime!(2024-02-29 0:00 UTC).into())
     );
+}
+
+#[test]
+fn parts_are_read_from_a_whole_text() {
+    fn parts(text: &str, format: &impl Parsable) -> Result<Parsed, Parse> {
+        format.parse(text.as_bytes())
+    }
+    let parsed = parts("29.02.24", &format_description!("[day].[month].[year repr:last_two]"));
+    let parsed = parsed.expect("a date of two digits");
+    assert_eq!((parsed.year(), parsed.year_last_two()), (None, Some(24)));
+    assert!(parts("00:00Z", &Rfc3339).is_err());
+    let longer = parts("29!", &format_description!("[day]"));
+    assert_eq!(longer.err(), Some(Parse::UnexpectedTrailingCharacters));
 }
 
 #[test]
