@@ -404,10 +404,11 @@ def refusal_of_results(out, made, statuses=None):
     return refused or (ValueError if lie_over_each_other(out, statuses) else None)
 
 
-def judged(call, words, items, out, statuses=None, refused=None, gaps=(), read=()):
+def judged(call, words, items, out, statuses=None, refused=None, gaps=(), read=(), keeps_bytes=True):
     """Makes a call, and says what is wrong with how it ended. `items` is what each item must become, or None for one that fails.
     With statuses the call continues after such an item, and has a status for each, which says of gaps that they are missing.
-    `read` are the places that it reads."""
+    `read` are the places that it reads. An item that fails keeps its bytes, or else its numbers: the bytes between those of a
+    column's row are nobody's."""
     results = (out,) if statuses is None else (out, statuses)
     memories = list({id(place.memory): place.memory for place in (*results, *read)}.values())
     before = [bytes(memory) for memory in memories]
@@ -436,12 +437,11 @@ def judged(call, words, items, out, statuses=None, refused=None, gaps=(), read=(
             wanted = "missing" if number in gaps else "an error" if item is None else "0"
             if wanted != ("0" if told == 0 else "missing" if told == muxandu.MISSING else "an error"):
                 return f"the status of item {number} must be {wanted}, not {told}"
-        # The numbers of an item that fails are as before. The bytes between them are nobody's.
         start, was = out.starts[number], before[[memory is out.memory for memory in memories].index(True)]
-        item = out.kind.read(was, start) if item is None else item
-        if out.kind.read(out.memory, start) != item:
-            return f"must be {item}, not {out.kind.read(out.memory, start)}"
-        for place in results:
+        wanted = out.kind.read(was, start) if item is None else item
+        if out.kind.read(out.memory, start) != wanted:
+            return f"must be {wanted}, not {out.kind.read(out.memory, start)}"
+        for place in results[1:] if item is None and keeps_bytes else results:
             start, which = place.starts[number], [memory is place.memory for memory in memories].index(True)
             kept[which][start : start + place.kind.size] = before[which][start : start + place.kind.size]
     return None if [bytes(memory) for memory in kept] == before else "it wrote beside its items"

@@ -391,7 +391,7 @@ def judge(source, kinds, calls, words, memories, made, refused, answers, places,
         call, statuses = each, out_of(source, kinds, STATUSES, memories)
     refused = refused or refusal_of_results(out, made, statuses)
     items, gaps = ([], set()) if refused else answers()
-    problem = buffers.judged(call, words, items, out, statuses, refused, gaps, places)
+    problem = buffers.judged(call, words, items, out, statuses, refused, gaps, places, keeps_bytes=False)
     buffers.count(problem, call.__name__, told, *(place.told() for place in (*places, out, statuses) if place))
 
 
