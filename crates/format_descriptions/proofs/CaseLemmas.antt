@@ -1,5 +1,5 @@
 -- What is read in the case that is written is read in any case.
-use Rattle.std.proofs.Common.{◌≡◌, ap, sym, ℕ, zero, suc, ◌≤◌, ◌==◌, List, [], ◌∷◌, ◌++◌, refl, arith, Bool, true, false, Option, Some, None}
+use Rattle.std.proofs.Common.{◌≡◌, ℕ, zero, suc, ◌==◌, List, [], ◌∷◌, ◌++◌, refl, arith, Bool, true, false, Option, Some, None}
 use Rattle.std.proofs.Common.{Ok, Err, inl, inr, length}
 use Rattle.std.specs.Prelude.{IsTrue}
 use Rattle.std.specs.Char.{to_ascii_lowercase}
@@ -8,11 +8,10 @@ use Rattle.std.proofs.lemmas.Bool.Decides.{nat_tests}
 use Rattle.rfc3339.specs.Reading.{◌>>=◌}
 use Rattle.format_descriptions.specs.Groups.{has_no_group}
 use Rattle.format_descriptions.specs.Modifiers.{utc_word}
-use Rattle.format_descriptions.specs.Names.{name_of_month, name_of_weekday}
 use Rattle.format_descriptions.specs.Read.{component_at, agrees, with_part, part_given, part_at, item_at, going_on, Front, read_from, at_end, items_at}
-use Rattle.format_descriptions.specs.Reading.{letter_at, word_at, named, half_of, month_at, weekday_at, period_at, unsigned, nothing}
+use Rattle.format_descriptions.specs.Reading.{letter_at, word_at, half_of, month_at, weekday_at, period_at, unsigned, nothing}
 use Rattle.format_descriptions.specs.CaseLaws.{in_any_case, items_in_any_case}
-use Rattle.format_descriptions.specs.Written.{name_in_form, period_text}
+use Rattle.format_descriptions.specs.Written.{period_text}
 use Rattle.format_descriptions.specs.declared.component.Component.{Component}
 use Rattle.format_descriptions.specs.declared.component.Component.TheVariants.{Year, YearCentury, YearLastTwo, Month, MonthName, Day, Ordinal}
 use Rattle.format_descriptions.specs.declared.component.Component.TheVariants.{WeekdayName, WeekdayNumber, WeekNumber, Hour, Hour12, Period, Minute}
@@ -27,6 +26,7 @@ use Rattle.format_descriptions.specs.declared.modifiers.NameForm.{NameForm}
 use Rattle.format_descriptions.specs.declared.modifiers.ReadCase.TheVariants.{Same, Any}
 use Rattle.format_descriptions.specs.declared.parts.Parts.{Parts}
 use Rattle.format_descriptions.proofs.NameAgainLemmas.{month-again, weekday-again, period-again}
+use Rattle.format_descriptions.proofs.NameReadLemmas.{month-named, weekday-named}
 
 -- a letter in its case is at the front of the text, and so is a word
 letter-spelled : (letter : ℕ) (text rest : List ℕ) → letter_at Same letter text ≡ Some rest → text ≡ letter ∷ rest
@@ -49,53 +49,15 @@ unfolding word_at
 word-spelled [] text rest h = cc
 word-spelled (letter ∷ word) text rest h = word-on letter word text rest (letter_at Same letter text) refl (λ t r e. word-spelled word t r e) h
 
--- a name that is read is at the front of the text
-pub record IsNamed (first last n : ℕ) (name text rest : List ℕ) : Type 0 where
-  pub low : first ≤ n
-  pub high : n ≤ last
-  pub spelled : text ≡ name ++ rest
-
-month-on : (form : NameForm) (k n : ℕ) (text rest : List ℕ) (o : Option (List ℕ)) → word_at Same (name_in_form form (name_of_month (suc k))) text ≡ o
-    → (month_at form Same k text ≡ Some (n, rest) → IsNamed 1 k n (name_in_form form (name_of_month n)) text rest)
-    → named (suc k) (month_at form Same k text) o ≡ Some (n, rest) → IsNamed 1 (suc k) n (name_in_form form (name_of_month n)) text rest
-month-on form k n text rest None e others h =
-    let got = others h in record { low = got.low; high = omega (arith, got.high); spelled = got.spelled }
-month-on form k n text rest (Some more) e others h =
-    let pair : (suc k, more) ≡ (n, rest) = cc in
-    let number : n ≡ suc k = sym (ap (λ (z : ℕ × List ℕ). z.0) pair) in
-    let behind : rest ≡ more = sym (ap (λ (z : ℕ × List ℕ). z.1) pair) in
-    rw (number, behind) (record { low = omega arith; high = omega arith; spelled = word-spelled _ text more e })
-
-pub month-named : (form : NameForm) (k n : ℕ) (text rest : List ℕ) → month_at form Same k text ≡ Some (n, rest)
-    → IsNamed 1 k n (name_in_form form (name_of_month n)) text rest
-unfolding month_at
-month-named form zero n text rest h = absurd cc
-month-named form (suc k) n text rest h = month-on form k n text rest _ refl (month-named form k n text rest) h
-
 month-any : (form : NameForm) (text : List ℕ) (q : ℕ × List ℕ) → month_at form Same 12 text ≡ Some q → month_at form Any 12 text ≡ Some q
 month-any form text q h =
-    let got = month-named form 12 q.0 text q.1 h in rw got.spelled (month-again form Any q.0 q.1 got.low got.high)
-
-weekday-on : (form : NameForm) (k n : ℕ) (text rest : List ℕ) (o : Option (List ℕ)) → word_at Same (name_in_form form (name_of_weekday k)) text ≡ o
-    → (weekday_at form Same k text ≡ Some (n, rest) → IsNamed 1 k (suc n) (name_in_form form (name_of_weekday n)) text rest)
-    → named k (weekday_at form Same k text) o ≡ Some (n, rest) → IsNamed 1 (suc k) (suc n) (name_in_form form (name_of_weekday n)) text rest
-weekday-on form k n text rest None e others h =
-    let got = others h in record { low = got.low; high = omega (arith, got.high); spelled = got.spelled }
-weekday-on form k n text rest (Some more) e others h =
-    let pair : (k, more) ≡ (n, rest) = cc in
-    let number : n ≡ k = sym (ap (λ (z : ℕ × List ℕ). z.0) pair) in
-    let behind : rest ≡ more = sym (ap (λ (z : ℕ × List ℕ). z.1) pair) in
-    rw (number, behind) (record { low = omega arith; high = omega arith; spelled = word-spelled _ text more e })
-
-pub weekday-named : (form : NameForm) (k n : ℕ) (text rest : List ℕ) → weekday_at form Same k text ≡ Some (n, rest)
-    → IsNamed 1 k (suc n) (name_in_form form (name_of_weekday n)) text rest
-unfolding weekday_at
-weekday-named form zero n text rest h = absurd cc
-weekday-named form (suc k) n text rest h = weekday-on form k n text rest _ refl (weekday-named form k n text rest) h
+    let got = month-named form Same 12 q.0 text q.1 h in
+    rw (word-spelled _ text q.1 got.name_read) (month-again form Any q.0 q.1 got.low got.high)
 
 weekday-any : (form : NameForm) (text : List ℕ) (q : ℕ × List ℕ) → weekday_at form Same 7 text ≡ Some q → weekday_at form Any 7 text ≡ Some q
 weekday-any form text q h =
-    let got = weekday-named form 7 q.0 text q.1 h in rw got.spelled (weekday-again form Any q.0 q.1 (omega (arith, got.high)))
+    let got = weekday-named form Same 7 q.0 text q.1 h in
+    rw (word-spelled _ text q.1 got.name_read) (weekday-again form Any q.0 q.1 (omega (arith, got.high)))
 
 half-any : (case : Case) (text : List ℕ) (a b : Option (List ℕ)) (q : (Bool × ℕ) × List ℕ) → word_at Same (period_text case 0) text ≡ a
     → word_at Same (period_text case 12) text ≡ b → half_of a b ≡ Some q → period_at case Any text ≡ Some q

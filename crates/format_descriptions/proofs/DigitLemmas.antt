@@ -3,7 +3,7 @@ use Rattle.std.proofs.Common.{◌≡◌, ℕ, suc, zero, ◌+◌, ◌-◌, ◌*�
 use Rattle.std.proofs.Common.{decimal, List, [], ◌∷◌, ◌++◌, Option, Some, None, refl, sym, append_assoc, arith}
 use Rattle.calendar_values.specs.Digits.{last_digits}
 use Rattle.rfc3339.specs.Reading.{◌>>=◌, digit_at}
-use Rattle.std.proofs.lemmas.Fmt.{decimal_step_wide}
+use Rattle.std.proofs.lemmas.Fmt.{decimal_digit, decimal_step_wide}
 use Rattle.std.proofs.Math.Nat.{mul-le-mul_right, mul-le-mul, one-le-pow, pow-le-pow_right, le-mul_of_pos_right}
 use Rattle.std.proofs.Common.{pow-suc}
 use Rattle.format_descriptions.specs.Reading.{counted_at, digits_on}
@@ -114,3 +114,12 @@ last_four n =
 pub pushed_decimal : (old middle text : List ℕ) (n : ℕ) → 10_000 ≤ n → n < 10 ^ 64 → middle ≡ old ++ decimal (n / 10_000)
     → text ≡ middle ++ last_digits 4 (n % 10_000) → text ≡ old ++ decimal n
 pushed_decimal old middle text n high low e f = rw (f, e, last_four n, decimal_four n high low) (append_assoc old (decimal (n / 10_000)) (last_digits 4 n))
+
+-- a number of one digit, and one of two
+pub decimal-two : (n : ℕ) → 10 ≤ n → n < 100 → decimal n ≡ last_digits 2 n
+unfolding last_digits
+decimal-two n high low =
+    let tens : n / 10 % 10 ≡ n / 10 = omega arith in
+    rw (decimal_step_wide n high (omega arith), decimal_digit (n / 10) (omega arith), tens) refl
+
+pub ruleset short_decimals = (decimal_digit, decimal-two)

@@ -37,7 +37,7 @@ going_on-then : (text : List ℕ) (f g : Parts × List ℕ → Front) (next : Pa
 going_on-then text f g next None same = refl
 going_on-then text f g next (Some read) same = same read
 
-flat_at-append : (first second : List Item) (text : List ℕ) (p : Parts)
+pub flat_at-append : (first second : List Item) (text : List ℕ) (p : Parts)
     → flat_at (first ++ second) text p ≡ then_read (λ read. flat_at second read.1 read.0) (flat_at first text p)
 unfolding flat_at
 flat_at-append [] second text p = refl

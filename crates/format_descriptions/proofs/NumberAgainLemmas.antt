@@ -129,7 +129,7 @@ unfolding counted_at last_digits
 six_digits-again n rest low = grind (arith, nat_tests, digit_again)
 
 -- digits, and no other digit behind them
-digits_apart : (unit : ℕ) (digits rest : List ℕ) → list_all is_ascii_digit digits ≡ true → digit_at rest ≡ None
+pub digits_apart : (unit : ℕ) (digits rest : List ℕ) → list_all is_ascii_digit digits ≡ true → digit_at rest ≡ None
     → digits_at unit (digits ++ rest) ≡ (fraction_value unit digits, rest)
 unfolding digits_at fraction_value
 digits_apart unit [] rest all apart = digits_at-none unit rest apart
@@ -138,7 +138,7 @@ digits_apart unit (first ∷ digits) rest all apart =
     rw (both.0, digits_apart (unit / 10) digits rest both.1 apart) refl
 
 -- a first digit is seen
-first_seen : (digits rest : List ℕ) → 0 < length digits → list_all is_ascii_digit digits ≡ true
+pub first_seen : (digits rest : List ℕ) → 0 < length digits → list_all is_ascii_digit digits ≡ true
     → fraction_of (digits ++ rest) (digit_at (digits ++ rest)) ≡ Some (digits_at 100_000_000 (digits ++ rest))
 unfolding digit_at
 first_seen [] rest some all = absurd (omega (arith, some))

@@ -1,13 +1,14 @@
 -- Items read one after another, and their groups.
 use Rattle.std.proofs.Common.{◌≡◌, ℕ, zero, suc, ◌-◌, true, false, List, [], ◌∷◌, length, drop, min, refl, sym, Option, Some, None, Ok, Err}
-use Rattle.std.proofs.Common.{◌≤◌, arith}
+use Rattle.std.proofs.Common.{◌≤◌, ◌<◌, arith}
 use Rattle.std.specs.Prelude.{IfSome}
 use Rattle.format_descriptions.specs.Groups.{size_of, is_other, fault_after}
-use Rattle.format_descriptions.specs.Read.{Front, Reader, item_at, read_from, read_end, read_instead, try_group}
+use Rattle.format_descriptions.specs.Read.{Front, Reader, item_at, front_of, read_from, read_end, read_instead, try_group}
 use Rattle.format_descriptions.specs.declared.item.Item.{Item}
 use Rattle.format_descriptions.specs.declared.item.Item.TheVariants.{Byte, Part, Optional, First, Or}
 use Rattle.format_descriptions.specs.declared.parts.Parts.{Parts}
 use Rattle.format_descriptions.proofs.GroupLemmas.{read_from-drop}
+use Rattle.rfc3339.specs.Reading.{mark_at}
 
 -- the end of the items, and that of those which are taken
 pub read_ends : (items : List Item) (count : ℕ) (fault : Option ℕ) (text : List ℕ) (p : Parts) (all : Front) → count ≡ 0
@@ -94,3 +95,35 @@ fault_after-within (Part component) fault left most before within = before
 fault_after-within (Optional size) fault left most before within = before
 fault_after-within (First size) fault left most before within = within
 fault_after-within (Or size) fault left most before within = before
+
+-- a group whose first item is a byte that the text does not begin with
+pub byte_fails : (byte : ℕ) (items others : List Item) (count : ℕ) (text : List ℕ) (p : Parts) → items ≡ Byte byte ∷ others → 0 < count
+    → mark_at byte text ≡ None → read_from items 0 count None text p ≡ Err (length text)
+unfolding read_from item_at
+byte_fails byte items others zero text p front some none = absurd (omega (arith, some))
+byte_fails byte items others (suc n) text p front some none = rw (front, none) refl
+
+-- all items: one that is no head is read at once, and then the others
+pub all_none : (items : List Item) (text : List ℕ) (p : Parts) (all : Front) → length items ≡ 0 → front_of items text p ≡ all → all ≡ Ok (p, text)
+all_none items text p all none so = read_none items (length items) None text p all none so
+
+pub all_on : (item : Item) (items others : List Item) (text rest : List ℕ) (p q : Parts) (all : Front) → items ≡ item ∷ others → None ≡ size_of item
+    → Some (q, rest) ≡ item_at item text p → front_of items text p ≡ all → front_of others rest q ≡ all
+all_on item items others text rest p q all front plain is so =
+    read_on item items others (length items) (length others) None text rest p q all front (rw front refl) refl plain is so
+
+pub all_stops : (item : Item) (items others : List Item) (text : List ℕ) (p : Parts) (all : Front) → items ≡ item ∷ others → None ≡ size_of item
+    → None ≡ item_at item text p → front_of items text p ≡ all → all ≡ Err (length text)
+all_stops item items others text p all front plain is so =
+    read_stops item items others (length items) (length others) None text p all front (rw front refl) refl plain is so
+
+-- a byte is read at once
+pub byte_on : (byte : ℕ) (items others : List Item) (text rest : List ℕ) (p : Parts) (all : Front) → items ≡ Byte byte ∷ others
+    → Some rest ≡ mark_at byte text → front_of items text p ≡ all → front_of others rest p ≡ all
+unfolding item_at
+byte_on byte items others text rest p all front is so = all_on (Byte byte) items others text rest p p all front refl (rw (← is) refl) so
+
+pub byte_stops : (byte : ℕ) (items others : List Item) (text : List ℕ) (p : Parts) (all : Front) → items ≡ Byte byte ∷ others
+    → None ≡ mark_at byte text → front_of items text p ≡ all → all ≡ Err (length text)
+unfolding item_at
+byte_stops byte items others text p all front is so = all_stops (Byte byte) items others text p all front refl (rw (← is) refl) so

@@ -166,7 +166,7 @@ source_by version room left depth several item count others text (Some size) =
 abbrev pub last_end : Bool → List ℕ
 last_end several = if several then codes "]" else []
 
--- the text with items, of which `count` are taken after those to skip, in so many groups
+-- the text with items, of which `count` are taken after those to skip, in this number of groups
 unfoldable pub source_from : DescriptionVersion → ℕ → ℕ → Bool → List Item → ℕ → ℕ → List ℕ → Result (List ℕ) SourceFault
 source_from version room depth several [] skip count text = with_piece room 0 text (last_end several)
 source_from version room depth several (item ∷ items) (suc skip) count text = source_from version room depth several items skip count text

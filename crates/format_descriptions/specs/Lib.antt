@@ -11,6 +11,7 @@ pub mod Laws
 pub mod Reading
 pub mod PartTests
 pub mod Read
+pub mod PartPlaces
 pub mod RoundTrips
 pub mod Kinds
 pub mod Iso8601
@@ -23,7 +24,11 @@ pub mod DateTimeValues
 pub mod ValueLaws
 pub mod DirectReading
 pub mod CaseLaws
+pub mod SpelledPieces
 pub mod Spelled
+pub mod Choices
+pub mod SeparateChoices
+pub mod PlaceLaws
 pub mod KnownLemmas
 pub mod DescriptionComponents
 pub mod DescriptionSteps

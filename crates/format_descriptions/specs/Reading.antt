@@ -222,7 +222,7 @@ year_since_at first text = two_digits_at text >>= λ n. Some (year_since first n
 unfoldable pub six_at : List ℕ → Option ((Bool × ℕ) × List ℕ)
 six_at text = sign_at text >>= λ found. with_sign found.0 (counted_at 6 100_000 found.1)
 
--- a number that counts units, each of so many of another unit
+-- a number that counts units, each of this number of another unit
 abbrev pub in_unit : ℕ → Option (ℕ × List ℕ) → Option (ℕ × List ℕ)
 in_unit unit read = read >>= λ r. Some (r.0 * unit, r.1)
 

@@ -55,9 +55,9 @@ pub use Rattle.std.specs.List.Sorted.{IsStableByKey, IsStrictlySortedBy}
 pub use Rattle.std.specs.Ordering.{as_partial_cmp, int_cmp, int_eq, nat_cmp, on}
 pub use Rattle.std.specs.Prelude.{All, Bool, Contains, Err, IfErr, IfNone, IfOk, IfSome, IsAscii, IsNone, IsOk, IsPermutation, IsSome, IsSorted}
 pub use Rattle.std.specs.Prelude.{IsSortedByKey, IsTrue, List, MatchResult, None, Ok, OkIff, OnErr, OnOk, Some, SomeIff, [], codes, decimal, drop}
-pub use Rattle.std.specs.Prelude.{false, if◌then◌else◌, int_div, is_ok, length, map, min, nat_lt, neg_ℤ, negsuc, not, option_map, pos, take, true}
-pub use Rattle.std.specs.Prelude.{unsigned_abs, vec_capacity, vec_len, ℕ, ℤ, ⊤, ◌%◌, ◌&&◌, ◌*ℤ◌, ◌*◌, ◌++◌, ◌+ℤ◌, ◌+◌, ◌-ℤ◌, ◌-◌, ◌/◌, ◌<ℤ◌, ◌<◌}
-pub use Rattle.std.specs.Prelude.{◌==◌, ◌^◌, ◌||◌, ◌↔◌, ◌∷◌, ◌≡◌, ◌≢◌, ◌≤ℤ◌, ◌≤◌, ◌⊎◌}
+pub use Rattle.std.specs.Prelude.{false, if◌then◌else◌, int_div, is_ok, is_some, length, map, min, nat_lt, neg_ℤ, negsuc, not, option_map, pos, take}
+pub use Rattle.std.specs.Prelude.{true, unsigned_abs, vec_capacity, vec_len, ℕ, ℤ, ⊤, ◌%◌, ◌&&◌, ◌*ℤ◌, ◌*◌, ◌++◌, ◌+ℤ◌, ◌+◌, ◌-ℤ◌, ◌-◌, ◌/◌, ◌<ℤ◌}
+pub use Rattle.std.specs.Prelude.{◌<◌, ◌==◌, ◌^◌, ◌||◌, ◌↔◌, ◌∷◌, ◌≡◌, ◌≢◌, ◌≤ℤ◌, ◌≤◌, ◌⊎◌}
 pub use Rattle.std.specs.Result.{result_map_both}
 pub use Rattle.calendar_values.specs.declared.month.Month.TheVariants.{April, August, December, February, January, July, June, March, May, November}
 pub use Rattle.calendar_values.specs.declared.month.Month.TheVariants.{October, September}
@@ -84,7 +84,7 @@ pub use Rattle.stamp_times.specs.Counter.{reply_of_instant}
 pub use Rattle.stamp_times.specs.Instants.{instant_of_microseconds, instant_of_milliseconds, instant_of_parts, unix_microseconds_of}
 pub use Rattle.stamp_times.specs.Instants.{unix_milliseconds_of, unix_nanosecond_of}
 unfoldable pub use Rattle.stamp_times.specs.Instants.{hashed_instant}
-pub use Rattle.stamp_times.specs.Logs.{ContainsByKey}
+pub use Rattle.stamp_times.specs.Logs.{ContainsByKey, first_by_key, last_by_key}
 unfoldable pub use Rattle.stamp_times.specs.Numbered.{month_numbered, weekday_numbered}
 pub use Rattle.stamp_times.specs.Refusals.{timestamp_outcome}
 unfoldable pub use Rattle.stamp_times.specs.Refusals.{timestamp_of_parts}
@@ -164,6 +164,8 @@ pub use Rattle.format_descriptions.specs.Modifiers.{reads_any_case, unix_digits,
 pub use Rattle.format_descriptions.specs.Names.{name_of_month, name_of_weekday}
 pub use Rattle.format_descriptions.specs.OffsetValues.{HasOffsetParts, or_false, tells_offset}
 unfoldable pub use Rattle.format_descriptions.specs.OffsetValues.{offset_at, offset_of_parts}
+pub use Rattle.format_descriptions.specs.PartPlaces.{is_component}
+unfoldable pub use Rattle.format_descriptions.specs.PartPlaces.{has_part, last_place, part_place, place_of_item}
 pub use Rattle.format_descriptions.specs.PartTests.{fits, fits_choice, fits_signed, signed}
 pub use Rattle.format_descriptions.specs.Read.{front_of, items_at, no_parts, read_end}
 unfoldable pub use Rattle.format_descriptions.specs.Read.{agrees, component_at, item_at, read_from, with_part}

@@ -80,7 +80,7 @@ pub(crate) fn minute_fraction_at<'a>(
     Some(rest)
 }
 
-// The minute, the second and the nanosecond after so many nanoseconds.
+// The minute, the second and the nanosecond after this number of nanoseconds.
 fn parts_of(nanoseconds: u64) -> (u32, u32, u32)
     requires { nanoseconds ≤ 3_600_000_000_000 }
     ensures { result

@@ -21,11 +21,11 @@ impl Parts {
     /// let parts = format_descriptions::parse(&items, b"15");
     /// assert_eq!(rt; parts.map(|parts| parts.time()), Ok(Ok(Time::from_hms(15, 0, 0)?)));
     /// ```
-    pub fn time(self) -> Result<Time, ValueRefusal>
-        ensures equation { result ≡ time_of_parts self }
-        ensures value { IfOk result (λ clock. HasTimeParts self clock) }
-        ensures only { (clock : ℕ) → IsClock clock → IsTrue (tells_time self) →
-            HasTimeParts self clock → result ≡ Ok clock }
+    pub fn time(&self) -> Result<Time, ValueRefusal>
+        ensures equation { result ≡ time_of_parts self.now }
+        ensures value { IfOk result (λ clock. HasTimeParts self.now clock) }
+        ensures only { (clock : ℕ) → IsClock clock → IsTrue (tells_time self.now) →
+            HasTimeParts self.now clock → result ≡ Ok clock }
     {
         named_time(self)
     }
@@ -33,8 +33,8 @@ impl Parts {
 
 // The same.
 #[tactic(auto, unfolding(crate::specs::ClockValues::time_of_parts))]
-fn named_time(parts: Parts) -> Result<Time, ValueRefusal>
-    ensures { result ≡ time_of_parts parts }
+fn named_time(parts: &Parts) -> Result<Time, ValueRefusal>
+    ensures { result ≡ time_of_parts parts.now }
 {
     match parts.hour {
         Some(hour) => clock_at(parts, hour),
@@ -50,8 +50,8 @@ fn named_time(parts: Parts) -> Result<Time, ValueRefusal>
 
 // The time of day of an hour of a clock of 12 hours.
 #[tactic(auto, unfolding(crate::specs::ClockValues::clock_of_half))]
-fn clock_of_half(parts: Parts, hour: u32, is_afternoon: bool) -> Result<Time, ValueRefusal>
-    ensures { result ≡ clock_of_half parts hour is_afternoon }
+fn clock_of_half(parts: &Parts, hour: u32, is_afternoon: bool) -> Result<Time, ValueRefusal>
+    ensures { result ≡ clock_of_half parts.now hour is_afternoon }
 {
     if hour == 0 || hour > 12 {
         return Err(ValueRefusal::Wrong(Field::Hour12));
@@ -66,8 +66,8 @@ fn clock_of_half(parts: Parts, hour: u32, is_afternoon: bool) -> Result<Time, Va
 
 // The time of day of an hour.
 #[tactic(auto, unfolding(crate::specs::ClockValues::clock_at))]
-fn clock_at(parts: Parts, hour: u32) -> Result<Time, ValueRefusal>
-    ensures { result ≡ clock_at parts hour }
+fn clock_at(parts: &Parts, hour: u32) -> Result<Time, ValueRefusal>
+    ensures { result ≡ clock_at parts.now hour }
 {
     let minute = or_zero(parts.minute);
     let second = or_zero(parts.second);

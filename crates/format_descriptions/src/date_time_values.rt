@@ -26,11 +26,11 @@ impl Parts {
     /// let wall = PlainDateTime::new(Date::UNIX_EPOCH, Time::MIDNIGHT);
     /// assert_eq!(rt; parts.map(|parts| parts.plain_date_time()), Ok(Ok(wall)));
     /// ```
-    pub fn plain_date_time(self) -> Result<PlainDateTime, ValueRefusal>
-        ensures equation { result ≡ plain_of_parts self }
-        ensures value { IfOk result (λ wall. HasPlainParts self wall) }
-        ensures only { (wall : ℤ) → IsWallClock wall → IsTrue (tells_date self) →
-            IsTrue (tells_time self) → HasPlainParts self wall → result ≡ Ok wall }
+    pub fn plain_date_time(&self) -> Result<PlainDateTime, ValueRefusal>
+        ensures equation { result ≡ plain_of_parts self.now }
+        ensures value { IfOk result (λ wall. HasPlainParts self.now wall) }
+        ensures only { (wall : ℤ) → IsWallClock wall → IsTrue (tells_date self.now) →
+            IsTrue (tells_time self.now) → HasPlainParts self.now wall → result ≡ Ok wall }
     {
         named_plain(self)
     }
@@ -43,12 +43,12 @@ impl Parts {
     /// let epoch = OffsetDateTime::UNIX_EPOCH;
     /// assert_eq!(rt; parts.map(|parts| parts.offset_date_time()), Ok(Ok(epoch)));
     /// ```
-    pub fn offset_date_time(self) -> Result<OffsetDateTime, ValueRefusal>
-        ensures equation { result ≡ local_of_parts self }
-        ensures value { IfOk result (λ at. HasLocalParts self at) }
-        ensures only { (at : Local) → IsLocal at → IsTrue (tells_date self) →
-            IsTrue (tells_time self) → IsTrue (tells_offset self) → HasLocalParts self at →
-            result ≡ Ok at }
+    pub fn offset_date_time(&self) -> Result<OffsetDateTime, ValueRefusal>
+        ensures equation { result ≡ local_of_parts self.now }
+        ensures value { IfOk result (λ at. HasLocalParts self.now at) }
+        ensures only { (at : Local) → IsLocal at → IsTrue (tells_date self.now) →
+            IsTrue (tells_time self.now) → IsTrue (tells_offset self.now) →
+            HasLocalParts self.now at → result ≡ Ok at }
     {
         named_local(self)
     }
@@ -64,17 +64,17 @@ impl Parts {
     /// let is_last = read.map(|read| read.map(|(at, is_leap)| (at.nanosecond(), is_leap)));
     /// assert_eq!(rt; is_last, Ok(Ok((999_999_999, true))));
     /// ```
-    pub fn leap_date_time(self) -> Result<(OffsetDateTime, bool), ValueRefusal>
-        ensures equation { result ≡ leap_of_parts self }
-        ensures value { IfOk result (λ read. HasLocalParts (leap_parts self) read.0) }
-        ensures mark { IfOk result (λ read. read.1 ≡ is_sixty self.second) }
+    pub fn leap_date_time(&self) -> Result<(OffsetDateTime, bool), ValueRefusal>
+        ensures equation { result ≡ leap_of_parts self.now }
+        ensures value { IfOk result (λ read. HasLocalParts (leap_parts self.now) read.0) }
+        ensures mark { IfOk result (λ read. read.1 ≡ is_sixty self.now.second) }
         ensures marked { IfOk result (λ read. read.1 ≡ true →
             IsLeapStandIn (instant_of read.0)) }
-        ensures only { (at : Local) → IsLocal at → IsTrue (tells_date self) →
-            IsTrue (tells_time self) → IsTrue (tells_offset self) →
-            HasLocalParts (leap_parts self) at →
-            (is_sixty self.second ≡ true → IsLeapStandIn (instant_of at)) →
-            result ≡ Ok (at, is_sixty self.second) }
+        ensures only { (at : Local) → IsLocal at → IsTrue (tells_date self.now) →
+            IsTrue (tells_time self.now) → IsTrue (tells_offset self.now) →
+            HasLocalParts (leap_parts self.now) at →
+            (is_sixty self.now.second ≡ true → IsLeapStandIn (instant_of at)) →
+            result ≡ Ok (at, is_sixty self.now.second) }
     {
         named_leap(self)
     }
@@ -82,9 +82,9 @@ impl Parts {
 
 // The wall clock.
 #[tactic(auto, unfolding(crate::specs::DateTimeValues::plain_of_parts), using(calendar_values::specs::WallClockLemmas::wall_clock_parts))]
-fn named_plain(parts: Parts) -> Result<PlainDateTime, ValueRefusal>
-    ensures equation { result ≡ plain_of_parts parts }
-    ensures value { IfOk result (λ wall. HasPlainParts parts wall) }
+fn named_plain(parts: &Parts) -> Result<PlainDateTime, ValueRefusal>
+    ensures equation { result ≡ plain_of_parts parts.now }
+    ensures value { IfOk result (λ wall. HasPlainParts parts.now wall) }
 {
     match parts.date() {
         Ok(date) => match parts.time() {
@@ -101,9 +101,9 @@ fn named_plain(parts: Parts) -> Result<PlainDateTime, ValueRefusal>
 
 // The date-time.
 #[tactic(auto, unfolding(crate::specs::DateTimeValues::local_of_parts))]
-fn named_local(parts: Parts) -> Result<OffsetDateTime, ValueRefusal>
-    ensures equation { result ≡ local_of_parts parts }
-    ensures value { IfOk result (λ at. HasLocalParts parts at) }
+fn named_local(parts: &Parts) -> Result<OffsetDateTime, ValueRefusal>
+    ensures equation { result ≡ local_of_parts parts.now }
+    ensures value { IfOk result (λ at. HasLocalParts parts.now at) }
 {
     match parts.plain_date_time() {
         Ok(wall) => match parts.offset() {
@@ -116,14 +116,14 @@ fn named_local(parts: Parts) -> Result<OffsetDateTime, ValueRefusal>
 
 // The date-time, whose second may be 60, with the mark.
 #[tactic(auto, unfolding(crate::specs::DateTimeValues::leap_of_parts))]
-fn named_leap(parts: Parts) -> Result<(OffsetDateTime, bool), ValueRefusal>
-    ensures equation { result ≡ leap_of_parts parts }
-    ensures value { IfOk result (λ read. HasLocalParts (leap_parts parts) read.0) }
-    ensures mark { IfOk result (λ read. read.1 ≡ is_sixty parts.second) }
+fn named_leap(parts: &Parts) -> Result<(OffsetDateTime, bool), ValueRefusal>
+    ensures equation { result ≡ leap_of_parts parts.now }
+    ensures value { IfOk result (λ read. HasLocalParts (leap_parts parts.now) read.0) }
+    ensures mark { IfOk result (λ read. read.1 ≡ is_sixty parts.now.second) }
     ensures marked { IfOk result (λ read. read.1 ≡ true → IsLeapStandIn (instant_of read.0)) }
 {
     let is_leap = is_sixty(parts.second);
-    match with_last_nanosecond(is_leap, parts).offset_date_time() {
+    match with_last_nanosecond(is_leap, *parts).offset_date_time() {
         Ok(at) => with_mark(is_leap, at),
         Err(refusal) => Err(refusal),
     }

@@ -11,29 +11,29 @@ use crate::description_steps::{DescriptionVersion, Place, Step, fault_at_end, st
 use crate::description_words::{is_white_space, is_word_at};
 use crate::{DescriptionFault, Item};
 
-// Where the next byte stands: in a description, or between those of a group.
+// The place of the next byte: in a description, or between those of a group.
 #[derive(Clone, Copy)]
 pub(crate) enum Spot {
     // In a description.
     Inside(Place),
-    // In the word of a group, or directly behind it.
+    // In the word of a group, or directly after it.
     GroupWord,
-    // Behind white space that follows the word of a group, or behind one of its descriptions, if it had one.
+    // After white space that follows the word of a group, or after one of its descriptions, if it had one.
     BetweenGroups(bool),
 }
 
-// Where the next byte of a description stands, and the groups that are open there.
+// The place of the next byte of a description, and the groups that are open there.
 #[derive(Clone, Copy)]
 pub(crate) struct State {
     // The groups that are open, in binary: 1, and then 0 for each that is optional and 1 for each of several.
     pub(crate) groups: u64,
     // How many bytes are left from the `[` of the outermost of them on.
     pub(crate) outer: usize,
-    // Where the byte stands.
+    // The place of the byte.
     pub(crate) spot: Spot,
 }
 
-// The state behind a byte, and the item that ends with it, or a fault and how many bytes are left from it on.
+// The state after a byte, and the item that ends with it, or a fault and how many bytes are left from it on.
 pub(crate) type GroupStep = Result<(State, Option<Item>), (DescriptionFault, usize)>;
 
 // The front of a text.
@@ -157,7 +157,7 @@ fn inside(
     }
 }
 
-// A byte of the word of a group, or the one behind it.
+// A byte of the word of a group, or the one after it.
 #[tactic(auto, unfolding(crate::specs::DescriptionGroups::in_group_word))]
 fn in_group_word(state: State, first: u8, text: &[u8]) -> GroupStep
     ensures { result ≡ in_group_word state first text.now }
@@ -183,7 +183,7 @@ fn head_of(is_first: bool, has_group: bool) -> Item
     }
 }
 
-// A byte behind the word of a group, or behind one of its descriptions.
+// A byte after the word of a group, or after one of its descriptions.
 #[tactic(auto, unfolding(crate::specs::DescriptionGroups::between_groups))]
 fn between_groups(state: State, has_group: bool, first: u8, text: &[u8]) -> GroupStep
     ensures { result ≡ between_groups state has_group first text.now }
@@ -269,7 +269,7 @@ fn group_size(version: DescriptionVersion, groups: u64, state: State, text: &[u8
     size
 }
 
-// An item behind which a state follows: the head of a group has the size of what follows.
+// An item before a state: the head of a group has the size of what follows.
 fn set_size(version: DescriptionVersion, item: Item, next: State, rest: &[u8]) -> Item
     ensures { result ≡ item_of_size item (group_size version next.groups next rest.now) }
 {

@@ -19,18 +19,18 @@ pub enum DescriptionVersion {
     Two,
 }
 
-// Where the next byte of a description stands. The number is that of the bytes left from a `[` on.
+// The place of the next byte of a description. The number is that of the bytes left from a `[` on.
 #[derive(Clone, Copy)]
 pub(crate) enum Place {
     // Outside of brackets.
     Outside,
-    // Directly behind a backslash of version 2.
+    // Directly after a backslash of version 2.
     Escaped,
-    // Directly behind a `[`.
+    // Directly after a `[`.
     Opened(usize),
     // Behind white space that follows a `[`.
     Unnamed(usize),
-    // In a word of a component, or directly behind one.
+    // In a word of a component, or directly after one.
     InWord(usize, Name, Modifiers),
     // Behind white space that follows a word.
     BetweenWords(usize, Name, Modifiers),
@@ -70,7 +70,7 @@ fn outside(version: DescriptionVersion, first: u8, text: &[u8]) -> Step
     }
 }
 
-// A byte behind a backslash.
+// A byte after a backslash.
 #[tactic(auto, unfolding(crate::specs::DescriptionSteps::escaped))]
 fn escaped(first: u8, text: &[u8]) -> Step
     ensures { result ≡ escaped first text.now }
@@ -82,7 +82,7 @@ fn escaped(first: u8, text: &[u8]) -> Step
     }
 }
 
-// A byte behind a `[`.
+// A byte after a `[`.
 #[tactic(auto, unfolding(crate::specs::DescriptionSteps::open_bracket))]
 fn open_bracket(version: DescriptionVersion, bracket: usize, first: u8, text: &[u8]) -> Step
     ensures { result ≡ open_bracket version bracket first text.now }
@@ -116,7 +116,7 @@ fn begin_name(bracket: usize, first: u8, text: &[u8]) -> Step
     }
 }
 
-// A byte of a word, or the one behind it.
+// A byte of a word, or the one after it.
 #[tactic(auto, unfolding(crate::specs::DescriptionSteps::in_word))]
 fn in_word(bracket: usize, name: Name, modifiers: Modifiers, first: u8, text: &[u8]) -> Step
     ensures { result ≡ in_word bracket name modifiers first text.now }
@@ -134,7 +134,7 @@ fn in_word(bracket: usize, name: Name, modifiers: Modifiers, first: u8, text: &[
     }
 }
 
-// A byte behind white space that follows a word.
+// A byte after white space that follows a word.
 #[tactic(auto, unfolding(crate::specs::DescriptionSteps::between_words))]
 fn between_words(bracket: usize, name: Name, modifiers: Modifiers, first: u8, text: &[u8]) -> Step
     ensures { result ≡ between_words bracket name modifiers first text.now }
@@ -180,7 +180,7 @@ pub(crate) fn fault_at_end(place: Place) -> Option<(DescriptionFault, usize)>
     }
 }
 
-// Whether a `]` stands in a text.
+// Whether a text has a `]`.
 #[tactic(auto, unfolding(crate::specs::DescriptionSteps::is_closed))]
 fn is_closed(text: &[u8]) -> bool
     ensures { result ≡ is_closed text.now }

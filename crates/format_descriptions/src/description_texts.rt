@@ -56,7 +56,7 @@ fn refusal(items: &[Item], fault: (ItemFault, usize)) -> ItemRefusal
     }
 }
 
-// Puts the text of the first items, which are in so many groups.
+// Puts the text of the first items, which are in this number of groups.
 fn put_items(
     version: DescriptionVersion,
     depth: u8,
@@ -139,7 +139,7 @@ fn put_item(
     }
 }
 
-// Puts the text before a group of this size, of so many items at most, after the `]` of several groups.
+// Puts the text before a group of this size, of this number of items at most, after the `]` of several groups.
 fn put_opening(
     depth: u8,
     several: bool,
@@ -256,7 +256,7 @@ fn end_of_several(several: bool, item: Item) -> &'static [u8]
     }
 }
 
-// The fault of a group of this size, of so many items at most.
+// The fault of a group of this size, of this number of items at most.
 fn group_fault(depth: u8, several: bool, item: Item, size: usize, count: usize) -> Option<ItemFault>
     ensures fault { result ≡ group_fault depth several item size count }
     ensures fits { IfNone result ((size ≤ count) × (depth ≤ 31)) }

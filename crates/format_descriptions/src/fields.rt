@@ -29,11 +29,11 @@ pub(crate) fn component_at(component: Component, text: &[u8]) -> Option<((bool, 
             unsigned(number, rest)
         }
         Component::MonthName(form, case) => {
-            let (number, rest) = month(form, case, 12, text)?;
+            let (number, rest) = month(form, case, text)?;
             unsigned(number, rest)
         }
         Component::WeekdayName(form, case) | Component::IgnoreWeekday(form, case) => {
-            let (number, rest) = weekday(form, case, 7, text)?;
+            let (number, rest) = weekday(form, case, text)?;
             unsigned(number, rest)
         }
         Component::WeekdayNumber(start, count) => {
@@ -86,7 +86,8 @@ fn unsigned(number: u32, rest: &[u8]) -> Option<((bool, u32), &[u8])>
 
 // A year: four digits without a sign, or a sign and four digits or more.
 #[tactic(auto, unfolding(crate::specs::Reading::signed_year_at))]
-fn signed_year(
+#[inline(always)]
+pub(crate) fn signed_year(
     sign_given: Sign,
     padding: Padding,
     range: YearRange,
@@ -156,7 +157,12 @@ fn signed_century(
 
 // The sign and the hours of an offset.
 #[tactic(auto, unfolding(crate::specs::Reading::signed_hours_at))]
-fn signed_hours(sign_given: Sign, padding: Padding, text: &[u8]) -> Option<((bool, u32), &[u8])>
+#[inline(always)]
+pub(crate) fn signed_hours(
+    sign_given: Sign,
+    padding: Padding,
+    text: &[u8],
+) -> Option<((bool, u32), &[u8])>
     ensures value { option_map (λ read. (read.0, read.1.now)) result
         ≡ signed_hours_at sign_given padding text.now }
     ensures below { IfSome result (λ read. read.0.1 ≤ 1_000_000_000) }
@@ -209,7 +215,7 @@ fn year_since(first: u16, text: &[u8]) -> Option<(u32, &[u8])>
     Some((first + (last_two + 100 - first % 100) % 100, rest))
 }
 
-// What follows so many bytes.
+// What follows this number of bytes.
 fn skip_bytes(count: u16, text: &[u8]) -> Option<&[u8]>
     ensures value { option_map (λ rest. rest.now) result ≡ ignored_at count text.now }
     ensures shorter { IfSome result (λ read. length read.now ≤ length text.now) }

@@ -26,9 +26,9 @@ impl Parts {
     /// let parts = format_descriptions::parse(&[Item::Part(count)], b"-1");
     /// assert_eq!(rt; parts.map(|parts| parts.timestamp()), Ok(Ok(Timestamp::new(-1, 0)?)));
     /// ```
-    pub fn timestamp(self) -> Result<Timestamp, ValueRefusal>
-        ensures equation { result ≡ instant_of_counts self }
-        ensures value { IfOk result (λ instant. HasInstantParts self instant) }
+    pub fn timestamp(&self) -> Result<Timestamp, ValueRefusal>
+        ensures equation { result ≡ instant_of_counts self.now }
+        ensures value { IfOk result (λ instant. HasInstantParts self.now instant) }
     {
         named_instant(self)
     }
@@ -42,9 +42,9 @@ impl Parts {
     /// let at = UtcDateTime::from_unix_timestamp(-1)?;
     /// assert_eq!(rt; parts.map(|parts| parts.utc_date_time()), Ok(Ok(at)));
     /// ```
-    pub fn utc_date_time(self) -> Result<UtcDateTime, ValueRefusal>
-        ensures equation { result ≡ instant_of_counts self }
-        ensures value { IfOk result (λ instant. HasInstantParts self instant) }
+    pub fn utc_date_time(&self) -> Result<UtcDateTime, ValueRefusal>
+        ensures equation { result ≡ instant_of_counts self.now }
+        ensures value { IfOk result (λ instant. HasInstantParts self.now instant) }
     {
         match self.timestamp() {
             Ok(at) => Ok(UtcDateTime::from(at)),
@@ -55,8 +55,8 @@ impl Parts {
 
 // The same.
 #[tactic(auto, unfolding(crate::specs::InstantValues::instant_of_counts))]
-fn named_instant(parts: Parts) -> Result<Timestamp, ValueRefusal>
-    ensures { result ≡ instant_of_counts parts }
+fn named_instant(parts: &Parts) -> Result<Timestamp, ValueRefusal>
+    ensures { result ≡ instant_of_counts parts.now }
 {
     if parts.unix_nanosecond.is_some() {
         let count = or_no_count(parts.unix_nanosecond);
@@ -112,16 +112,16 @@ fn or_no_count(known: Option<i128>) -> i128
     }
 }
 
-// The instant of a count of a unit, and of nanoseconds behind it.
+// The instant of a count of a unit, and of further nanoseconds.
 #[tactic(auto, unfolding(crate::specs::InstantValues::counted_instant))]
 fn counted_instant(
-    parts: Parts,
+    parts: &Parts,
     wrong: Field,
     precision: UnixPrecision,
     more: u32,
     count: i128,
 ) -> Result<Timestamp, ValueRefusal>
-    ensures { result ≡ counted_instant parts wrong precision more count }
+    ensures { result ≡ counted_instant parts.now wrong precision more count }
 {
     if count < -99_999_999_999_999_999_999_999 || count > 99_999_999_999_999_999_999_999 {
         return Err(ValueRefusal::Wrong(wrong));
@@ -155,9 +155,9 @@ fn later(nanoseconds: i128, more: u32) -> i128
     nanoseconds + more as i128
 }
 
-// The instant of so many nanoseconds, if each count is that of it.
-fn instant_at(parts: Parts, wrong: Field, nanoseconds: i128) -> Result<Timestamp, ValueRefusal>
-    ensures { result ≡ instant_at parts wrong nanoseconds }
+// The instant of this number of nanoseconds, if each count is that of it.
+fn instant_at(parts: &Parts, wrong: Field, nanoseconds: i128) -> Result<Timestamp, ValueRefusal>
+    ensures { result ≡ instant_at parts.now wrong nanoseconds }
 {
     match timestamp_of(nanoseconds) {
         Ok(at) => match wrong_instant(parts, at) {
@@ -168,7 +168,7 @@ fn instant_at(parts: Parts, wrong: Field, nanoseconds: i128) -> Result<Timestamp
     }
 }
 
-// The instant of so many nanoseconds.
+// The instant of this number of nanoseconds.
 #[tactic(auto, unfolding(utc_times::specs::UnixTime::instant_or_refusal))]
 fn timestamp_of(nanoseconds: i128) -> Result<Timestamp, ComponentRange>
     ensures { Gives result (instant_outcome (codes "nanoseconds") nanoseconds) }
@@ -187,8 +187,8 @@ fn timestamp_of(nanoseconds: i128) -> Result<Timestamp, ComponentRange>
 
 // The first count that is not that of this instant.
 #[tactic(auto, unfolding(crate::specs::InstantValues::wrong_instant))]
-fn wrong_instant(parts: Parts, at: Timestamp) -> Option<Field>
-    ensures { result ≡ wrong_instant parts at }
+fn wrong_instant(parts: &Parts, at: Timestamp) -> Option<Field>
+    ensures { result ≡ wrong_instant parts.now at }
 {
     if !fits_count(parts.unix_second, at.as_seconds() as i128) {
         return Some(Field::UnixSecond);

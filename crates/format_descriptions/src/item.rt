@@ -45,7 +45,7 @@ pub(crate) fn is_other(item: Item) -> bool
     }
 }
 
-// The fault that waits for another group, behind one that could not be read.
+// The fault that waits for another group, after one that could not be read.
 pub(crate) fn fault_after(item: Item, earlier: Option<usize>, left: usize) -> Option<usize>
     ensures { result ≡ fault_after item earlier left }
 {
@@ -55,7 +55,7 @@ pub(crate) fn fault_after(item: Item, earlier: Option<usize>, left: usize) -> Op
     }
 }
 
-// The items behind so many.
+// The items after this number of them.
 pub(crate) fn behind(count: usize, items: &[Item]) -> &[Item]
     ensures items { result.now ≡ drop count items.now }
     ensures shorter { length result.now ≤ length items.now }

@@ -1,9 +1,12 @@
 //! Laws of descriptions. Each function here proves a law, and does nothing when it is called.
 ghost use Rattle.format_descriptions.specs.CaseLaws.{AnyCaseReadsTheSame};
+ghost use Rattle.format_descriptions.specs.Choices.{TextsSpellChoices, FirstChoicesAreTaken};
 ghost use Rattle.format_descriptions.specs.DescriptionLaws.{WrittenDescriptionsReadBack};
 ghost use Rattle.format_descriptions.specs.DirectReading.{Rfc3339IsADescription};
 ghost use Rattle.format_descriptions.specs.Laws.{DisplaysAreDescriptions, FixedTextsAreDescriptions};
+ghost use Rattle.format_descriptions.specs.PlaceLaws.{PlacesAreThoseOfTheChoice};
 ghost use Rattle.format_descriptions.specs.RoundTrips.{WrittenTextsReadBack, EqualTextsHaveEqualParts};
+ghost use Rattle.format_descriptions.specs.SeparateChoices.{SeparateChoicesAreRead};
 ghost use Rattle.format_descriptions.specs.Spelled.{TextsAreReadAsSpelled};
 ghost use Rattle.format_descriptions.specs.ValueLaws.{WrittenValuesAreNamed};
 ghost use Rattle.format_descriptions.specs.WellKnown.{WellKnownAreClear};
@@ -42,11 +45,42 @@ pub fn equal_texts_have_equal_parts()
     ensures { EqualTextsHaveEqualParts }
 {}
 
-/// A description reads a text exactly if the text spells it: each byte, and a number for each
-/// component, in its digits, its sign or its name. Each component has one width, or it has one
-/// digit or two, and a byte that is no digit follows, or nothing.
+/// A description without groups reads a text only if the text spells it. The text has each byte,
+/// and a number for each component: its digits with a sign and padding, or a word. A description
+/// reads each text that spells it, if no digit follows a component that reads all digits. The last
+/// digits of a number write it, if it has no more digits.
 pub fn texts_are_read_as_spelled()
     ensures { TextsAreReadAsSpelled }
+{}
+
+/// A description reads a text only if the text spells a choice of its items, which has no groups. A
+/// choice has an optional group or leaves it out. It has one of a first group and the groups in its
+/// place. The items that a description writes are a choice too.
+pub fn texts_spell_choices()
+    ensures { TextsSpellChoices }
+{}
+
+/// A description reads what the choice reads that it takes. It takes each group that reads the text
+/// at its place. So it leaves an optional group out only if the text does not have its items there.
+/// It takes another group only if the text has none of those before it. All parts are those of the
+/// choice.
+pub fn first_choices_are_taken()
+    ensures { FirstChoicesAreTaken }
+{}
+
+/// A description reads a text that spells a separate choice of its items, with the parts that the
+/// text spells. In such a choice no digit follows a component that reads all digits. Each group
+/// that it leaves out or replaces begins with other bytes than the items that follow.
+pub fn separate_choices_are_read()
+    ensures { SeparateChoicesAreRead }
+{}
+
+/// The place that `part_place` returns is that of the component that gives the part, in the choice
+/// that the reading takes. The items before it read the text up to this place, and have no such
+/// part. The component reads a number there, whose text has the length. Each part that is read has
+/// a place.
+pub fn places_are_those_of_the_choice()
+    ensures { PlacesAreThoseOfTheChoice }
 {}
 
 /// The description of RFC 3339 reads a text as `rfc3339::parse_rfc3339` does: as the same value, or

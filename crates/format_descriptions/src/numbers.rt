@@ -1,5 +1,5 @@
 //! Numbers written with their padding.
-ghost use Rattle.std.specs.Prelude.{◌≡◌, ◌≤◌, ◌<◌, ◌++◌, length, take};
+ghost use Rattle.std.specs.Prelude.{◌≡◌, ◌≤◌, ◌<◌, ◌++◌, decimal, length, take};
 ghost use Rattle.calendar_values.specs.Digits.{last_digits};
 ghost use Rattle.format_descriptions.specs.Modifiers.{digit_count};
 ghost use Rattle.calendar_values.specs.Texts.{year_digits};
@@ -21,9 +21,24 @@ pub(crate) fn put_two(padding: Padding, number: u8, text: &mut Text)
             if number < 10 {
                 text.push(b' ');
             }
-            text.push_decimal(number as u64);
+            put_short_decimal(number, text);
         }
-        Padding::Bare => text.push_decimal(number as u64),
+        Padding::Bare => put_short_decimal(number, text),
+    }
+}
+
+// Adds a number of one or two digits, with no zero in front.
+#[tactic(auto, using(crate::proofs::DigitLemmas::short_decimals))]
+#[inline(never)]
+fn put_short_decimal(number: u8, text: &mut Text)
+    requires number { number < 100 }
+    requires room { length text.old ≤ 44 }
+    ensures { text.new ≡ text.old ++ decimal number }
+{
+    if number < 10 {
+        text.push(b'0' + number);
+    } else {
+        text.push_two_digits(number);
     }
 }
 

@@ -20,11 +20,11 @@ impl Parts {
     /// let parts = format_descriptions::parse(&items, b"-05");
     /// assert_eq!(rt; parts.map(|parts| parts.offset()), Ok(Ok(UtcOffset::from_hms(-5, 0, 0)?)));
     /// ```
-    pub fn offset(self) -> Result<UtcOffset, ValueRefusal>
-        ensures equation { result ≡ offset_of_parts self }
-        ensures value { IfOk result (λ offset. HasOffsetParts self offset) }
-        ensures only { (offset : ℤ) → IsOffset offset → IsTrue (tells_offset self) →
-            HasOffsetParts self offset → result ≡ Ok offset }
+    pub fn offset(&self) -> Result<UtcOffset, ValueRefusal>
+        ensures equation { result ≡ offset_of_parts self.now }
+        ensures value { IfOk result (λ offset. HasOffsetParts self.now offset) }
+        ensures only { (offset : ℤ) → IsOffset offset → IsTrue (tells_offset self.now) →
+            HasOffsetParts self.now offset → result ≡ Ok offset }
     {
         named_offset(self)
     }
@@ -32,8 +32,8 @@ impl Parts {
 
 // The same.
 #[tactic(auto, unfolding(crate::specs::OffsetValues::offset_of_parts))]
-fn named_offset(parts: Parts) -> Result<UtcOffset, ValueRefusal>
-    ensures { result ≡ offset_of_parts parts }
+fn named_offset(parts: &Parts) -> Result<UtcOffset, ValueRefusal>
+    ensures { result ≡ offset_of_parts parts.now }
 {
     match parts.offset_hour {
         Some(hour) => offset_at(parts, hour),
@@ -41,10 +41,10 @@ fn named_offset(parts: Parts) -> Result<UtcOffset, ValueRefusal>
     }
 }
 
-// The offset of so many hours.
+// The offset of this number of hours.
 #[tactic(auto, unfolding(crate::specs::OffsetValues::offset_at))]
-fn offset_at(parts: Parts, hour: u32) -> Result<UtcOffset, ValueRefusal>
-    ensures { result ≡ offset_at parts hour }
+fn offset_at(parts: &Parts, hour: u32) -> Result<UtcOffset, ValueRefusal>
+    ensures { result ≡ offset_at parts.now hour }
 {
     let minute = or_zero(parts.offset_minute);
     let second = or_zero(parts.offset_second);

@@ -46,7 +46,7 @@ pub(crate) fn put_component(
 
 // Adds the text of a component of a date, a time of day and an offset, if each value has one.
 #[tactic(auto, unfolding(crate::specs::Written::component_text))]
-#[inline(never)]
+#[inline(always)]
 fn put_number(component: Component, date: Date, time: Time, offset: UtcOffset, text: &mut Text)
     requires whole { is_partial component ≡ false }
     requires room { length text.old ≤ 32 }

@@ -9,7 +9,22 @@ use crate::{Padding, ReadCase, YearRange};
 
 // A number of two digits, or of one, by its padding.
 #[tactic(auto, unfolding(crate::specs::Reading::two_at))]
+#[inline(always)]
 pub(crate) fn two(padding: Padding, text: &[u8]) -> Option<(u32, &[u8])>
+    ensures value { option_map (λ read. (read.0, read.1.now)) result ≡ two_at padding text.now }
+    ensures below { IfSome result (λ read. read.0 < 100) }
+    ensures shorter { IfSome result (λ read. length read.1.now ≤ length text.now) }
+{
+    match padding {
+        Padding::Zero => two_digits(text),
+        Padding::Space | Padding::Bare => two_padded(padding, text),
+    }
+}
+
+// The same of any padding.
+#[tactic(auto, unfolding(crate::specs::Reading::two_at))]
+#[inline(never)]
+fn two_padded(padding: Padding, text: &[u8]) -> Option<(u32, &[u8])>
     ensures value { option_map (λ read. (read.0, read.1.now)) result ≡ two_at padding text.now }
     ensures below { IfSome result (λ read. read.0 < 100) }
     ensures shorter { IfSome result (λ read. length read.1.now ≤ length text.now) }
@@ -63,7 +78,21 @@ fn digit_more(number: u32, text: &[u8]) -> (u32, &[u8])
 
 // A number of four digits, or of fewer, by its padding.
 #[tactic(auto, unfolding(crate::specs::Reading::four_at))]
+#[inline(always)]
 pub(crate) fn four(padding: Padding, text: &[u8]) -> Option<(u32, &[u8])>
+    ensures value { option_map (λ read. (read.0, read.1.now)) result ≡ four_at padding text.now }
+    ensures below { IfSome result (λ read. read.0 < 10_000) }
+    ensures shorter { IfSome result (λ read. length read.1.now ≤ length text.now) }
+{
+    match padding {
+        Padding::Zero => year(text),
+        Padding::Space | Padding::Bare => four_padded(padding, text),
+    }
+}
+
+// The same of any padding.
+#[tactic(auto, unfolding(crate::specs::Reading::four_at, crate::specs::Reading::three_at, crate::specs::Reading::two_at))]
+fn four_padded(padding: Padding, text: &[u8]) -> Option<(u32, &[u8])>
     ensures value { option_map (λ read. (read.0, read.1.now)) result ≡ four_at padding text.now }
     ensures below { IfSome result (λ read. read.0 < 10_000) }
     ensures shorter { IfSome result (λ read. length read.1.now ≤ length text.now) }
@@ -75,8 +104,10 @@ pub(crate) fn four(padding: Padding, text: &[u8]) -> Option<(u32, &[u8])>
             None => year(text),
         },
         Padding::Bare => {
-            let (first, rest) = three(Padding::Bare, text)?;
-            Some(digit_more(first, rest))
+            let (one, rest) = digit(text)?;
+            let (two, rest) = digit_more(one, rest);
+            let (three, rest) = digit_more(two, rest);
+            Some(digit_more(three, rest))
         }
     }
 }
@@ -145,7 +176,7 @@ fn number(tens: u8, units: u8) -> u32
     ensures value { result ≡ (tens - 48) * 10 + (units - 48) }
     ensures below { result < 100 }
 {
-    ((tens - b'0') * 10 + (units - b'0')) as u32
+    tens as u32 * 10 + units as u32 - 528
 }
 
 // A digit.
@@ -183,13 +214,16 @@ pub(crate) fn after_word<'a>(case: ReadCase, word: &[u8], text: &'a [u8]) -> Opt
     ensures value { option_map (λ rest. rest.now) result ≡ word_at case word.now text.now }
     ensures shorter { IfSome result (λ read. length read.now ≤ length text.now) }
 {
-    let Some((letter, word)) = word.split_first() else {
-        return Some(text);
-    };
-    let Some(rest) = after_letter(case, *letter, text) else {
-        return None;
-    };
-    after_word(case, word, rest)
+    let mut word = word;
+    let mut rest = text;
+    while let Some((letter, letters)) = word.split_first() {
+        let Some(more) = after_letter(case, *letter, rest) else {
+            return None;
+        };
+        word = letters;
+        rest = more;
+    }
+    Some(rest)
 }
 
 // What follows a letter.

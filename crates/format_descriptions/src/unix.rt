@@ -169,7 +169,7 @@ pub(crate) fn unix_at(sign_given: Sign, most: u8, text: &[u8]) -> Option<((bool,
     }
 }
 
-// A number of one to so many digits.
+// A number of at least one digit, and of this number of digits at most.
 #[tactic(auto, unfolding(crate::specs::Reading::decimal_at), using(crate::proofs::DigitLemmas::first_room))]
 fn decimal_at(most: u8, text: &[u8]) -> Option<(u128, &[u8])>
     requires { (1 ≤ most) × (most ≤ 23) }
@@ -181,7 +181,7 @@ fn decimal_at(most: u8, text: &[u8]) -> Option<(u128, &[u8])>
     Some(digits_on(most - 1, first as u128, rest))
 }
 
-// Up to so many digits behind those of a number.
+// Up to this number of digits after those of a number.
 #[tactic(auto, unfolding(crate::specs::Reading::digits_on), using(crate::proofs::DigitLemmas::room_next, crate::proofs::DigitLemmas::room_below, crate::proofs::DigitLemmas::no_more_digits))]
 fn digits_on(count: u8, number: u128, text: &[u8]) -> (u128, &[u8])
     requires room { (number + 1) * 10 ^ count ≤ 10 ^ 23 }

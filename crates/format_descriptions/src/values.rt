@@ -1,7 +1,7 @@
 //! The dates that the parts of a text name.
-ghost use Rattle.std.specs.Prelude.{◌≡◌, ℤ, ◌<◌, ◌≤◌, IfOk, IsTrue, Ok};
-ghost use Rattle.calendar_values.specs.Calendar.{year_start};
-ghost use Rattle.calendar_values.specs.Range.{IsDay, IsYear};
+ghost use Rattle.std.specs.Prelude.{◌≡◌, ℤ, ◌<◌, ◌≤◌, ◌==◌, ◌||◌, if◌then◌else◌, nat_lt, is_some, IfOk, IsTrue, Ok, Err};
+ghost use Rattle.calendar_values.specs.Calendar.{year_start, is_leap_year, days_in_month, day_of_calendar_date};
+ghost use Rattle.calendar_values.specs.Range.{IsDay, IsYear, first_year, is_outside, last_year};
 ghost use Rattle.calendar_values.specs.Weeks.{weekday_of};
 ghost use Rattle.format_descriptions.specs.Values.{year_known, calendar_year, iso_year, wrong_year};
 ghost use Rattle.format_descriptions.specs.Values.{wrong_day, wrong_week, wrong_date, day_with};
@@ -10,6 +10,7 @@ ghost use Rattle.format_descriptions.specs.Values.{day_in_iso_year, day_in_year,
 ghost use Rattle.format_descriptions.specs.Values.{tells_date, HasDateParts};
 ghost use Rattle.format_descriptions.specs.declared.value_refusal.Field.TheVariants.{Year, YearCentury, YearLastTwo};
 ghost use Rattle.format_descriptions.specs.declared.value_refusal.Field.TheVariants.{IsoYear, IsoYearCentury, IsoYearLastTwo};
+ghost use Rattle.format_descriptions.specs.declared.value_refusal.ValueRefusal.TheVariants.{Wrong};
 
 use crate::clock_values::or_zero;
 use crate::parts::{fits, fits_choice, fits_signed, signed};
@@ -29,19 +30,67 @@ impl Parts {
     /// let parts = format_descriptions::parse(&items, b"29!");
     /// assert_eq!(rt; parts.map(|parts| parts.date().is_err()), Ok(true));
     /// ```
-    pub fn date(self) -> Result<Date, ValueRefusal>
-        ensures equation { result ≡ date_of_parts self }
-        ensures value { IfOk result (λ day. HasDateParts self day) }
-        ensures only { (day : ℤ) → IsDay day → IsTrue (tells_date self) →
-            HasDateParts self day → result ≡ Ok day }
+    pub fn date(&self) -> Result<Date, ValueRefusal>
+        ensures equation { result ≡ date_of_parts self.now }
+        ensures value { IfOk result (λ day. HasDateParts self.now day) }
+        ensures only { (day : ℤ) → IsDay day → IsTrue (tells_date self.now) →
+            HasDateParts self.now day → result ≡ Ok day }
     {
         named_date(self)
     }
 }
 
-// The same.
+// The same. Most parts are a year, a month and a day alone: these contradict no other.
+#[tactic(auto, using(crate::proofs::PlainDateLemmas::plain_date_of))]
+fn named_date(parts: &Parts) -> Result<Date, ValueRefusal>
+    ensures { result ≡ date_of_parts parts.now }
+{
+    match (parts.year, parts.month, parts.day) {
+        (Some(year), Some(month), Some(day)) if !has_other_parts(parts) => {
+            plain_date(year, month, day)
+        }
+        _ => date_of_all(*parts),
+    }
+}
+
+// Whether a part of a date is known other than the year, the month and the day.
+fn has_other_parts(parts: &Parts) -> bool
+    ensures { let p = parts.now in result ≡ (((((((((((is_some p.ordinal || is_some p.weekday)
+        || is_some p.iso_week) || is_some p.sunday_week) || is_some p.monday_week)
+        || is_some p.year_century) || is_some p.is_before_zero) || is_some p.year_last_two)
+        || is_some p.iso_year) || is_some p.iso_year_century) || is_some p.is_iso_before_zero)
+        || is_some p.iso_year_last_two) }
+{
+    parts.ordinal.is_some()
+        | parts.weekday.is_some()
+        | parts.iso_week.is_some()
+        | parts.sunday_week.is_some()
+        | parts.monday_week.is_some()
+        | parts.year_century.is_some()
+        | parts.is_before_zero.is_some()
+        | parts.year_last_two.is_some()
+        | parts.iso_year.is_some()
+        | parts.iso_year_century.is_some()
+        | parts.is_iso_before_zero.is_some()
+        | parts.iso_year_last_two.is_some()
+}
+
+// The date of a year, a month and a day.
+fn plain_date(year: i32, month: u32, day: u32) -> Result<Date, ValueRefusal>
+    ensures { result ≡ (if is_outside first_year last_year year then Err (Wrong Year)
+        else (if month == 0 || nat_lt 12 month then Err (Wrong Field.Month)
+        else (if day == 0 || nat_lt (days_in_month (is_leap_year year) month) day
+        then Err (Wrong Field.Day) else Ok (day_of_calendar_date year month day)))) }
+{
+    if year < -999_999 || year > 999_999 {
+        return Err(ValueRefusal::Wrong(Field::Year));
+    }
+    calendar_date(year, month, day)
+}
+
+// The date of the parts.
 #[tactic(auto, unfolding(crate::specs::Values::date_of_parts))]
-fn named_date(parts: Parts) -> Result<Date, ValueRefusal>
+fn date_of_all(parts: Parts) -> Result<Date, ValueRefusal>
     ensures { result ≡ date_of_parts parts }
 {
     let Some(year) = calendar_year(parts) else {
@@ -161,10 +210,24 @@ fn day_in_iso_year(parts: Parts, missing: Field) -> Result<Date, ValueRefusal>
 }
 
 // The date of a month and a day of it.
-#[tactic(auto, unfolding(crate::specs::Values::month_day), using(crate::proofs::DateLemmas::most_of_month))]
+#[tactic(auto, using(crate::proofs::PlainDateLemmas::month_days))]
 fn month_day(parts: Parts, year: i32, month: u32, day: u32) -> Result<Date, ValueRefusal>
     requires { IsYear year }
     ensures { result ≡ month_day parts year month day }
+{
+    match calendar_date(year, month, day) {
+        Ok(date) => date_with(parts, date),
+        Err(refusal) => Err(refusal),
+    }
+}
+
+// The date of a year, a month and a day.
+#[tactic(auto, using(crate::proofs::DateLemmas::most_of_month))]
+fn calendar_date(year: i32, month: u32, day: u32) -> Result<Date, ValueRefusal>
+    requires { IsYear year }
+    ensures { result ≡ (if month == 0 || nat_lt 12 month then Err (Wrong Field.Month)
+        else (if day == 0 || nat_lt (days_in_month (is_leap_year year) month) day
+        then Err (Wrong Field.Day) else Ok (day_of_calendar_date year month day))) }
 {
     if month == 0 || month > 12 {
         return Err(ValueRefusal::Wrong(Field::Month));
@@ -176,7 +239,7 @@ fn month_day(parts: Parts, year: i32, month: u32, day: u32) -> Result<Date, Valu
         return Err(ValueRefusal::Wrong(Field::Day));
     }
     match Date::from_calendar_date(year, name, day as u8) {
-        Ok(date) => date_with(parts, date),
+        Ok(date) => Ok(date),
         Err(_) => Err(ValueRefusal::Wrong(Field::Day)),
     }
 }

@@ -1,14 +1,64 @@
 //! Names, read from the front of a text.
-ghost use Rattle.std.specs.Prelude.{◌≡◌, ◌≤◌, length, option_map, IfSome};
+ghost use Rattle.std.specs.Prelude.{◌≡◌, ◌≤◌, ◌<◌, length, option_map, IfSome};
 ghost use Rattle.format_descriptions.specs.Reading.{month_at, weekday_at, weekday_number_at, period_at};
 
 use crate::names::{month_word, period_word, weekday_word};
 use crate::reading::{after_word, digit};
 use crate::{Case, NameForm, ReadCase, WeekStart, WeekdayCount};
 
+// The name of a month. Its third letter, and one before it, tell which name alone it can be.
+#[tactic(auto, using(crate::proofs::LikelyNameLemmas::likely_month))]
+#[inline(never)]
+pub(crate) fn month(form: NameForm, case: ReadCase, text: &[u8]) -> Option<(u32, &[u8])>
+    ensures value { option_map (λ read. (read.0, read.1.now)) result
+        ≡ month_at form case 12 text.now }
+    ensures below { IfSome result (λ read. read.0 ≤ 12) }
+    ensures shorter { IfSome result (λ read. length read.1.now ≤ length text.now) }
+{
+    let likely = likely_month(text);
+    match after_word(case, month_word(form, likely), text) {
+        Some(rest) => Some((likely as u32, rest)),
+        None => month_up_to(form, case, 12, text),
+    }
+}
+
+// The only month whose name can begin so.
+fn likely_month(text: &[u8]) -> u8
+    ensures { (1 ≤ result) × (result ≤ 12) }
+{
+    let [first, second, third, ..] = text else {
+        return 1;
+    };
+    match third.to_ascii_lowercase() {
+        b'b' => 2,
+        b'r' => {
+            if first.to_ascii_lowercase() == b'm' {
+                3
+            } else {
+                4
+            }
+        }
+        b'y' => 5,
+        b'l' => 7,
+        b'g' => 8,
+        b'p' => 9,
+        b't' => 10,
+        b'v' => 11,
+        b'c' => 12,
+        _ => {
+            if second.to_ascii_lowercase() == b'u' {
+                6
+            } else {
+                1
+            }
+        }
+    }
+}
+
 // The name of a month up to this one.
 #[tactic(auto, using(crate::proofs::NameLemmas::month_next))]
-pub(crate) fn month(form: NameForm, case: ReadCase, last: u8, text: &[u8]) -> Option<(u32, &[u8])>
+#[inline(never)]
+fn month_up_to(form: NameForm, case: ReadCase, last: u8, text: &[u8]) -> Option<(u32, &[u8])>
     requires { last ≤ 12 }
     ensures value { option_map (λ read. (read.0, read.1.now)) result
         ≡ month_at form case last text.now }
@@ -20,13 +70,53 @@ pub(crate) fn month(form: NameForm, case: ReadCase, last: u8, text: &[u8]) -> Op
     }
     match after_word(case, month_word(form, last), text) {
         Some(rest) => Some((last as u32, rest)),
-        None => month(form, case, last - 1, text),
+        None => month_up_to(form, case, last - 1, text),
+    }
+}
+
+// The name of a day of the week. Its second and its third letter tell which name alone it can be.
+#[tactic(auto, using(crate::proofs::LikelyNameLemmas::likely_weekday))]
+#[inline(never)]
+pub(crate) fn weekday(form: NameForm, case: ReadCase, text: &[u8]) -> Option<(u32, &[u8])>
+    ensures value { option_map (λ read. (read.0, read.1.now)) result
+        ≡ weekday_at form case 7 text.now }
+    ensures below { IfSome result (λ read. read.0 ≤ 7) }
+    ensures shorter { IfSome result (λ read. length read.1.now ≤ length text.now) }
+{
+    let likely = likely_weekday(text);
+    match after_word(case, weekday_word(form, likely), text) {
+        Some(rest) => Some((likely as u32, rest)),
+        None => weekday_before(form, case, 7, text),
+    }
+}
+
+// The only day of the week whose name can begin so.
+fn likely_weekday(text: &[u8]) -> u8
+    ensures { result < 7 }
+{
+    let [_, second, third, ..] = text else {
+        return 0;
+    };
+    match third.to_ascii_lowercase() {
+        b'e' => 1,
+        b'd' => 2,
+        b'u' => 3,
+        b'i' => 4,
+        b't' => 5,
+        _ => {
+            if second.to_ascii_lowercase() == b'u' {
+                6
+            } else {
+                0
+            }
+        }
     }
 }
 
 // The name of a day of the week before this one.
 #[tactic(auto, using(crate::proofs::NameLemmas::weekday_next))]
-pub(crate) fn weekday(form: NameForm, case: ReadCase, end: u8, text: &[u8]) -> Option<(u32, &[u8])>
+#[inline(never)]
+fn weekday_before(form: NameForm, case: ReadCase, end: u8, text: &[u8]) -> Option<(u32, &[u8])>
     requires { end ≤ 7 }
     ensures value { option_map (λ read. (read.0, read.1.now)) result
         ≡ weekday_at form case end text.now }
@@ -38,7 +128,7 @@ pub(crate) fn weekday(form: NameForm, case: ReadCase, end: u8, text: &[u8]) -> O
     }
     match after_word(case, weekday_word(form, end - 1), text) {
         Some(rest) => Some(((end - 1) as u32, rest)),
-        None => weekday(form, case, end - 1, text),
+        None => weekday_before(form, case, end - 1, text),
     }
 }
 

@@ -13,6 +13,7 @@ mod kinds;
 mod leap_seconds;
 mod logs;
 mod offsets;
+mod part_places;
 mod parts;
 mod texts;
 mod unix;
@@ -20,7 +21,7 @@ mod weeks;
 mod well_known;
 mod written_descriptions;
 
-// Ends the test unless what is shown is what is wanted.
+// Ends the test unless the two values are equal.
 fn is<T: Copy + PartialEq + Debug>(rt: &impl Abort, shown: T, wanted: T) {
     assert_eq!(rt; shown, wanted);
 }

@@ -2,8 +2,8 @@
 use super::is;
 use calendar_values::{Date, Month, Text, Time, UtcOffset};
 use format_descriptions::{
-    Component, NameForm, Padding, Parts, ReadCase, format_component, format_component_into,
-    parse_component, parse_component_into,
+    Component, Item, NameForm, Padding, Parts, ReadCase, format_component, format_component_into,
+    parse_component, parse_component_into, parse_front_into, parse_into,
 };
 use std::test::Fail;
 
@@ -55,6 +55,40 @@ fn components_are_read_in_place(rt: HostRuntime) {
     is(&rt, (parts.day, left), (Some(2), Some(1)));
     let left = parse_component_into(day, b"03", &mut parts).map(|rest| rest.len());
     is(&rt, (parts.day, left), (Some(2), None));
+}
+
+#[test]
+fn items_are_read_in_place(rt: HostRuntime) {
+    let items = [
+        Item::Part(Component::Day(Padding::Zero)),
+        Item::Byte(b'/'),
+        Item::Part(Component::Month(Padding::Zero)),
+    ];
+    let mut parts = Parts::none();
+    let left = parse_front_into(&items, b"29/02/2024", &mut parts).map(|rest| rest.len());
+    is(
+        &rt,
+        (parts.day, parts.month, left),
+        (Some(29), Some(2), Ok(5)),
+    );
+    let left = parse_front_into(&items, b"29/03", &mut parts).map(|rest| rest.len());
+    is(&rt, (parts.day, parts.month, left), (None, None, Err(3)));
+}
+
+#[test]
+fn texts_are_read_into_parts(rt: HostRuntime) {
+    let day = Item::Part(Component::Day(Padding::Zero));
+    let month = Item::Part(Component::Month(Padding::Zero));
+    let items = [day, Item::Byte(b'.'), month];
+    let mut parts = Parts::none();
+    is(&rt, parse_into(&items, b"29.02", &mut parts), Ok(()));
+    is(&rt, (parts.day, parts.month), (Some(29), Some(2)));
+    // The same parts again, and then another day.
+    is(&rt, parse_into(&items, b"29.02", &mut parts), Ok(()));
+    is(&rt, parse_into(&items, b"28.02", &mut parts), Err(0));
+    is(&rt, (parts.day, parts.month), (None, None));
+    is(&rt, parse_into(&items, b"29.02!", &mut parts), Err(5));
+    is(&rt, (parts.day, parts.month), (None, None));
 }
 
 #[test]

@@ -20,7 +20,7 @@ const OFFSET: Item = Item::Part(Component::OffsetHour(Sign::Mandatory, Padding::
 
 const COLON: Item = Item::Byte(b':');
 
-// An hour and a minute, perhaps a second, and behind it perhaps a fraction.
+// An hour and a minute, perhaps a second, and perhaps a fraction of it.
 const CLOCK: [Item; 9] = [
     HOUR,
     COLON,

@@ -64,6 +64,51 @@ returns-then-not-is_other-clause-value t c =
     let own : is_other c.in-Some.item.now ≡ false = search rules in
     sym (read_fault c.in-Some.item.now _ _ _ _ _ _ _ _ _ front place c.in-Some-fault-2.is own c.loop-item.invariant.same)
 
+pub loop-item-preserved-then-fails_at_once : goal.loop-item-preserved-then-fails_at_once
+loop-item-preserved-then-fails_at_once t c =
+    let front : c.loop-item.items.now ≡ c.in-Some.item.now ∷ c.in-Some.others.now = search rules in
+    let place : c.loop-item.count ≡ suc (c.loop-item.count - 1) = omega (arith, c.if-count-eq0.false) in
+    let head : Some c.in-Some-size_of.size ≡ size_of c.in-Some.item.now = search rules in
+    let group :
+    try_group c.in-Some.item.now c.in-Some-size_of.size (λ s n f t q. read_from c.in-Some.others.now s n f t q) (c.loop-item.count - 1) c.match-fault-2.fault
+    c.loop-item.rest.now c.loop-item.parts ≡ read_from c.args.items.now 0 c.args.count None c.args.text.now c.args.parts.now =
+    elim c.match-fault-2.branch [
+      | in-None+else-is_other w ↦
+          let own : is_other c.in-Some.item.now ≡ false = search rules in
+          rw w.fault-is (tried_first c.in-Some.item.now _ _ _ _ _ _ _ _ _ front place w.in-None.is head own c.loop-item.invariant.same)
+      | in-Some-fault-2+else-not-is_other w ↦
+          let other : is_other c.in-Some.item.now ≡ true = search rules in
+          rw w.fault-is (tried_instead c.in-Some.item.now _ _ _ _ _ _ _ _ _ _ front place w.in-Some-fault-2.is head other c.loop-item.invariant.same)
+    ]
+    in
+    let before : IfSome c.match-fault-2.fault (λ left. left ≤ length c.args.text.now) = elim c.match-fault-2.branch [
+      | in-None+else-is_other w ↦ rw w.fault-is c.loop-item.invariant.left
+      | in-Some-fault-2+else-not-is_other w ↦ rw w.fault-is (rw w.in-Some-fault-2.is at c.loop-item.invariant.left)
+    ]
+    in
+    let fails : read_from c.in-Some.others.now 0 c.min.result None c.loop-item.rest.now c.loop-item.parts ≡ Err (length c.loop-item.rest.now) =
+    c.fails_at_once.ensures c.if-fails_at_once.true c.loop-item.parts
+    in
+    let is : Err (length c.loop-item.rest.now) ≡ read_from c.in-Some.others.now 0 (min c.in-Some-size_of.size (c.loop-item.count - 1)) None
+    c.loop-item.rest.now c.loop-item.parts =
+    sym (rw c.min.ensures at fails)
+    in
+    record {
+      same =
+          rw (
+            c.behind-items-then-fails_at_once.ensures.items,
+            c.saturating_sub-count-then-fails_at_once.ensures,
+            c.fault_after-fault.ensures,
+          )
+          (group_fault c.in-Some.item.now _ _ _ _ _ _ _ _ is group);
+      shorter = c.loop-item.invariant.shorter;
+      left =
+          rw c.fault_after-fault.ensures
+          (fault_after-within c.in-Some.item.now c.match-fault-2.fault (length c.loop-item.rest.now) (length c.args.text.now) before
+          c.loop-item.invariant.shorter);
+      fewer = search rules;
+    }
+
 pub loop-item-preserved : goal.loop-item-preserved
 loop-item-preserved t c =
     let front : c.loop-item.items.now ≡ c.in-Some.item.now ∷ c.in-Some.others.now = search rules in
@@ -113,13 +158,13 @@ loop-item-preserved t c =
                   w.fault-is,
                   w.rest-is,
                   w.parts-is,
-                  w.fault_after-fault.ensures,
+                  w.fault_after-fault-in-Err.ensures,
                 )
                 (group_fault c.in-Some.item.now _ _ _ _ _ _ _ _ is group);
             shorter = search rules;
             left =
                 rw w.fault-is
-                (rw w.fault_after-fault.ensures
+                (rw w.fault_after-fault-in-Err.ensures
                 (fault_after-within c.in-Some.item.now c.match-fault-2.fault w.in-Err.left (length c.args.text.now) before
                 (omega (arith, w.in-Err.ensures.left, c.loop-item.invariant.shorter))));
             fewer = search rules;

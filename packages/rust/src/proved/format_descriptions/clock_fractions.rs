@@ -94,7 +94,7 @@ pub(crate) fn minute_fraction_at<'a>(
     Some(rest)
 }
 
-// The minute, the second and the nanosecond after so many nanoseconds.
+// The minute, the second and the nanosecond after this number of nanoseconds.
 /// # Contract
 ///
 /// ```text

@@ -25,15 +25,15 @@ impl Parts {
     /// # Contract
     ///
     /// ```text
-    /// ensures equation { result ≡ time_of_parts self }
-    /// ensures value { IfOk result (λ clock. HasTimeParts self clock) }
-    /// ensures only { (clock : ℕ) → IsClock clock → IsTrue (tells_time self) →
-    ///     HasTimeParts self clock → result ≡ Ok clock }
+    /// ensures equation { result ≡ time_of_parts self.now }
+    /// ensures value { IfOk result (λ clock. HasTimeParts self.now clock) }
+    /// ensures only { (clock : ℕ) → IsClock clock → IsTrue (tells_time self.now) →
+    ///     HasTimeParts self.now clock → result ≡ Ok clock }
     /// ```
     ///
     /// [docs/proofs/STATEMENT.md](crate::proved#contracts) explains the words.
     #[inline]
-    pub const fn time(self) -> Result<Time, ValueRefusal> {
+    pub const fn time(&self) -> Result<Time, ValueRefusal> {
         named_time(self)
     }
 }
@@ -42,12 +42,12 @@ impl Parts {
 /// # Contract
 ///
 /// ```text
-/// ensures { result ≡ time_of_parts parts }
+/// ensures { result ≡ time_of_parts parts.now }
 /// ```
 ///
 /// [docs/proofs/STATEMENT.md](crate::proved#contracts) explains the words.
 #[inline]
-const fn named_time(parts: Parts) -> Result<Time, ValueRefusal> {
+const fn named_time(parts: &Parts) -> Result<Time, ValueRefusal> {
     match parts.hour {
         Some(hour) => clock_at(parts, hour),
         None => match parts.hour_12 {
@@ -64,12 +64,12 @@ const fn named_time(parts: Parts) -> Result<Time, ValueRefusal> {
 /// # Contract
 ///
 /// ```text
-/// ensures { result ≡ clock_of_half parts hour is_afternoon }
+/// ensures { result ≡ clock_of_half parts.now hour is_afternoon }
 /// ```
 ///
 /// [docs/proofs/STATEMENT.md](crate::proved#contracts) explains the words.
 #[inline]
-const fn clock_of_half(parts: Parts, hour: u32, is_afternoon: bool) -> Result<Time, ValueRefusal> {
+const fn clock_of_half(parts: &Parts, hour: u32, is_afternoon: bool) -> Result<Time, ValueRefusal> {
     if hour == 0 || hour > 12 {
         return Err(ValueRefusal::Wrong(Field::Hour12));
     }
@@ -85,12 +85,12 @@ const fn clock_of_half(parts: Parts, hour: u32, is_afternoon: bool) -> Result<Ti
 /// # Contract
 ///
 /// ```text
-/// ensures { result ≡ clock_at parts hour }
+/// ensures { result ≡ clock_at parts.now hour }
 /// ```
 ///
 /// [docs/proofs/STATEMENT.md](crate::proved#contracts) explains the words.
 #[inline]
-const fn clock_at(parts: Parts, hour: u32) -> Result<Time, ValueRefusal> {
+const fn clock_at(parts: &Parts, hour: u32) -> Result<Time, ValueRefusal> {
     let minute = or_zero(parts.minute);
     let second = or_zero(parts.second);
     let nanosecond = or_zero(parts.nanosecond);

@@ -22,15 +22,15 @@ impl Parts {
     /// # Contract
     ///
     /// ```text
-    /// ensures equation { result ≡ plain_of_parts self }
-    /// ensures value { IfOk result (λ wall. HasPlainParts self wall) }
-    /// ensures only { (wall : ℤ) → IsWallClock wall → IsTrue (tells_date self) →
-    ///     IsTrue (tells_time self) → HasPlainParts self wall → result ≡ Ok wall }
+    /// ensures equation { result ≡ plain_of_parts self.now }
+    /// ensures value { IfOk result (λ wall. HasPlainParts self.now wall) }
+    /// ensures only { (wall : ℤ) → IsWallClock wall → IsTrue (tells_date self.now) →
+    ///     IsTrue (tells_time self.now) → HasPlainParts self.now wall → result ≡ Ok wall }
     /// ```
     ///
     /// [docs/proofs/STATEMENT.md](crate::proved#contracts) explains the words.
     #[inline]
-    pub fn plain_date_time(self) -> Result<PlainDateTime, ValueRefusal> {
+    pub fn plain_date_time(&self) -> Result<PlainDateTime, ValueRefusal> {
         named_plain(self)
     }
 
@@ -50,16 +50,16 @@ impl Parts {
     /// # Contract
     ///
     /// ```text
-    /// ensures equation { result ≡ local_of_parts self }
-    /// ensures value { IfOk result (λ at. HasLocalParts self at) }
-    /// ensures only { (at : Local) → IsLocal at → IsTrue (tells_date self) →
-    ///     IsTrue (tells_time self) → IsTrue (tells_offset self) → HasLocalParts self at →
-    ///     result ≡ Ok at }
+    /// ensures equation { result ≡ local_of_parts self.now }
+    /// ensures value { IfOk result (λ at. HasLocalParts self.now at) }
+    /// ensures only { (at : Local) → IsLocal at → IsTrue (tells_date self.now) →
+    ///     IsTrue (tells_time self.now) → IsTrue (tells_offset self.now) →
+    ///     HasLocalParts self.now at → result ≡ Ok at }
     /// ```
     ///
     /// [docs/proofs/STATEMENT.md](crate::proved#contracts) explains the words.
     #[inline]
-    pub fn offset_date_time(self) -> Result<OffsetDateTime, ValueRefusal> {
+    pub fn offset_date_time(&self) -> Result<OffsetDateTime, ValueRefusal> {
         named_local(self)
     }
 
@@ -82,21 +82,21 @@ impl Parts {
     /// # Contract
     ///
     /// ```text
-    /// ensures equation { result ≡ leap_of_parts self }
-    /// ensures value { IfOk result (λ read. HasLocalParts (leap_parts self) read.0) }
-    /// ensures mark { IfOk result (λ read. read.1 ≡ is_sixty self.second) }
+    /// ensures equation { result ≡ leap_of_parts self.now }
+    /// ensures value { IfOk result (λ read. HasLocalParts (leap_parts self.now) read.0) }
+    /// ensures mark { IfOk result (λ read. read.1 ≡ is_sixty self.now.second) }
     /// ensures marked { IfOk result (λ read. read.1 ≡ true →
     ///     IsLeapStandIn (instant_of read.0)) }
-    /// ensures only { (at : Local) → IsLocal at → IsTrue (tells_date self) →
-    ///     IsTrue (tells_time self) → IsTrue (tells_offset self) →
-    ///     HasLocalParts (leap_parts self) at →
-    ///     (is_sixty self.second ≡ true → IsLeapStandIn (instant_of at)) →
-    ///     result ≡ Ok (at, is_sixty self.second) }
+    /// ensures only { (at : Local) → IsLocal at → IsTrue (tells_date self.now) →
+    ///     IsTrue (tells_time self.now) → IsTrue (tells_offset self.now) →
+    ///     HasLocalParts (leap_parts self.now) at →
+    ///     (is_sixty self.now.second ≡ true → IsLeapStandIn (instant_of at)) →
+    ///     result ≡ Ok (at, is_sixty self.now.second) }
     /// ```
     ///
     /// [docs/proofs/STATEMENT.md](crate::proved#contracts) explains the words.
     #[inline]
-    pub fn leap_date_time(self) -> Result<(OffsetDateTime, bool), ValueRefusal> {
+    pub fn leap_date_time(&self) -> Result<(OffsetDateTime, bool), ValueRefusal> {
         named_leap(self)
     }
 }
@@ -105,13 +105,13 @@ impl Parts {
 /// # Contract
 ///
 /// ```text
-/// ensures equation { result ≡ plain_of_parts parts }
-/// ensures value { IfOk result (λ wall. HasPlainParts parts wall) }
+/// ensures equation { result ≡ plain_of_parts parts.now }
+/// ensures value { IfOk result (λ wall. HasPlainParts parts.now wall) }
 /// ```
 ///
 /// [docs/proofs/STATEMENT.md](crate::proved#contracts) explains the words.
 #[inline]
-fn named_plain(parts: Parts) -> Result<PlainDateTime, ValueRefusal> {
+fn named_plain(parts: &Parts) -> Result<PlainDateTime, ValueRefusal> {
     match parts.date() {
         Ok(date) => match parts.time() {
             Ok(time) => {
@@ -129,13 +129,13 @@ fn named_plain(parts: Parts) -> Result<PlainDateTime, ValueRefusal> {
 /// # Contract
 ///
 /// ```text
-/// ensures equation { result ≡ local_of_parts parts }
-/// ensures value { IfOk result (λ at. HasLocalParts parts at) }
+/// ensures equation { result ≡ local_of_parts parts.now }
+/// ensures value { IfOk result (λ at. HasLocalParts parts.now at) }
 /// ```
 ///
 /// [docs/proofs/STATEMENT.md](crate::proved#contracts) explains the words.
 #[inline]
-fn named_local(parts: Parts) -> Result<OffsetDateTime, ValueRefusal> {
+fn named_local(parts: &Parts) -> Result<OffsetDateTime, ValueRefusal> {
     match parts.plain_date_time() {
         Ok(wall) => match parts.offset() {
             Ok(offset) => Ok(wall.assume_offset(offset)),
@@ -149,17 +149,17 @@ fn named_local(parts: Parts) -> Result<OffsetDateTime, ValueRefusal> {
 /// # Contract
 ///
 /// ```text
-/// ensures equation { result ≡ leap_of_parts parts }
-/// ensures value { IfOk result (λ read. HasLocalParts (leap_parts parts) read.0) }
-/// ensures mark { IfOk result (λ read. read.1 ≡ is_sixty parts.second) }
+/// ensures equation { result ≡ leap_of_parts parts.now }
+/// ensures value { IfOk result (λ read. HasLocalParts (leap_parts parts.now) read.0) }
+/// ensures mark { IfOk result (λ read. read.1 ≡ is_sixty parts.now.second) }
 /// ensures marked { IfOk result (λ read. read.1 ≡ true → IsLeapStandIn (instant_of read.0)) }
 /// ```
 ///
 /// [docs/proofs/STATEMENT.md](crate::proved#contracts) explains the words.
 #[inline]
-fn named_leap(parts: Parts) -> Result<(OffsetDateTime, bool), ValueRefusal> {
+fn named_leap(parts: &Parts) -> Result<(OffsetDateTime, bool), ValueRefusal> {
     let is_leap = is_sixty(parts.second);
-    match with_last_nanosecond(is_leap, parts).offset_date_time() {
+    match with_last_nanosecond(is_leap, *parts).offset_date_time() {
         Ok(at) => with_mark(is_leap, at),
         Err(refusal) => Err(refusal),
     }

@@ -6,29 +6,29 @@ use crate::proved::format_descriptions::description_steps::{
 use crate::proved::format_descriptions::description_words::{is_white_space, is_word_at};
 use crate::proved::format_descriptions::{DescriptionFault, Item};
 
-// Where the next byte stands: in a description, or between those of a group.
+// The place of the next byte: in a description, or between those of a group.
 #[derive(Clone, Copy)]
 pub(crate) enum Spot {
     // In a description.
     Inside(Place),
-    // In the word of a group, or directly behind it.
+    // In the word of a group, or directly after it.
     GroupWord,
-    // Behind white space that follows the word of a group, or behind one of its descriptions, if it had one.
+    // After white space that follows the word of a group, or after one of its descriptions, if it had one.
     BetweenGroups(bool),
 }
 
-// Where the next byte of a description stands, and the groups that are open there.
+// The place of the next byte of a description, and the groups that are open there.
 #[derive(Clone, Copy)]
 pub(crate) struct State {
     // The groups that are open, in binary: 1, and then 0 for each that is optional and 1 for each of several.
     pub(crate) groups: u64,
     // How many bytes are left from the `[` of the outermost of them on.
     pub(crate) outer: usize,
-    // Where the byte stands.
+    // The place of the byte.
     pub(crate) spot: Spot,
 }
 
-// The state behind a byte, and the item that ends with it, or a fault and how many bytes are left from it on.
+// The state after a byte, and the item that ends with it, or a fault and how many bytes are left from it on.
 pub(crate) type GroupStep = Result<(State, Option<Item>), (DescriptionFault, usize)>;
 
 // The front of a text.
@@ -197,7 +197,7 @@ const fn inside(
     }
 }
 
-// A byte of the word of a group, or the one behind it.
+// A byte of the word of a group, or the one after it.
 /// # Contract
 ///
 /// ```text
@@ -234,7 +234,7 @@ const fn head_of(is_first: bool, has_group: bool) -> Item {
     }
 }
 
-// A byte behind the word of a group, or behind one of its descriptions.
+// A byte after the word of a group, or after one of its descriptions.
 /// # Contract
 ///
 /// ```text
@@ -353,7 +353,7 @@ const fn group_size(version: DescriptionVersion, groups: u64, state: State, text
     size
 }
 
-// An item behind which a state follows: the head of a group has the size of what follows.
+// An item before a state: the head of a group has the size of what follows.
 /// # Contract
 ///
 /// ```text

@@ -15,18 +15,18 @@ pub enum DescriptionVersion {
     Two,
 }
 
-// Where the next byte of a description stands. The number is that of the bytes left from a `[` on.
+// The place of the next byte of a description. The number is that of the bytes left from a `[` on.
 #[derive(Clone, Copy)]
 pub(crate) enum Place {
     // Outside of brackets.
     Outside,
-    // Directly behind a backslash of version 2.
+    // Directly after a backslash of version 2.
     Escaped,
-    // Directly behind a `[`.
+    // Directly after a `[`.
     Opened(usize),
     // Behind white space that follows a `[`.
     Unnamed(usize),
-    // In a word of a component, or directly behind one.
+    // In a word of a component, or directly after one.
     InWord(usize, Name, Modifiers),
     // Behind white space that follows a word.
     BetweenWords(usize, Name, Modifiers),
@@ -81,7 +81,7 @@ const fn outside(version: DescriptionVersion, first: u8, text: &[u8]) -> Step {
     }
 }
 
-// A byte behind a backslash.
+// A byte after a backslash.
 /// # Contract
 ///
 /// ```text
@@ -98,7 +98,7 @@ const fn escaped(first: u8, text: &[u8]) -> Step {
     }
 }
 
-// A byte behind a `[`.
+// A byte after a `[`.
 /// # Contract
 ///
 /// ```text
@@ -142,7 +142,7 @@ const fn begin_name(bracket: usize, first: u8, text: &[u8]) -> Step {
     }
 }
 
-// A byte of a word, or the one behind it.
+// A byte of a word, or the one after it.
 /// # Contract
 ///
 /// ```text
@@ -165,7 +165,7 @@ const fn in_word(bracket: usize, name: Name, modifiers: Modifiers, first: u8, te
     }
 }
 
-// A byte behind white space that follows a word.
+// A byte after white space that follows a word.
 /// # Contract
 ///
 /// ```text
@@ -232,7 +232,7 @@ pub(crate) const fn fault_at_end(place: Place) -> Option<(DescriptionFault, usiz
     }
 }
 
-// Whether a `]` stands in a text.
+// Whether a text has a `]`.
 /// # Contract
 ///
 /// ```text

@@ -66,7 +66,7 @@ const fn refusal(items: &[Item], fault: (ItemFault, usize)) -> ItemRefusal {
     }
 }
 
-// Puts the text of the first items, which are in so many groups.
+// Puts the text of the first items, which are in this number of groups.
 /// # Contract
 ///
 /// ```text
@@ -161,7 +161,7 @@ fn put_item(
     }
 }
 
-// Puts the text before a group of this size, of so many items at most, after the `]` of several groups.
+// Puts the text before a group of this size, of this number of items at most, after the `]` of several groups.
 /// # Contract
 ///
 /// ```text
@@ -319,7 +319,7 @@ const fn end_of_several(several: bool, item: Item) -> &'static [u8] {
     }
 }
 
-// The fault of a group of this size, of so many items at most.
+// The fault of a group of this size, of this number of items at most.
 /// # Contract
 ///
 /// ```text

@@ -31,11 +31,11 @@ pub(crate) fn component_at(component: Component, text: &[u8]) -> Option<((bool, 
             unsigned(number, rest)
         }
         Component::MonthName(form, case) => {
-            let (number, rest) = month(form, case, 12, text)?;
+            let (number, rest) = month(form, case, text)?;
             unsigned(number, rest)
         }
         Component::WeekdayName(form, case) | Component::IgnoreWeekday(form, case) => {
-            let (number, rest) = weekday(form, case, 7, text)?;
+            let (number, rest) = weekday(form, case, text)?;
             unsigned(number, rest)
         }
         Component::WeekdayNumber(start, count) => {
@@ -103,8 +103,8 @@ const fn unsigned(number: u32, rest: &[u8]) -> Option<((bool, u32), &[u8])> {
 /// ```
 ///
 /// [docs/proofs/STATEMENT.md](crate::proved#contracts) explains the words.
-#[inline]
-fn signed_year(
+#[inline(always)]
+pub(crate) fn signed_year(
     sign_given: Sign,
     padding: Padding,
     range: YearRange,
@@ -188,8 +188,12 @@ fn signed_century(
 /// ```
 ///
 /// [docs/proofs/STATEMENT.md](crate::proved#contracts) explains the words.
-#[inline]
-fn signed_hours(sign_given: Sign, padding: Padding, text: &[u8]) -> Option<((bool, u32), &[u8])> {
+#[inline(always)]
+pub(crate) fn signed_hours(
+    sign_given: Sign,
+    padding: Padding,
+    text: &[u8],
+) -> Option<((bool, u32), &[u8])> {
     match sign(text) {
         Some((is_negative, digits)) => {
             let (number, rest) = two(padding, digits)?;
@@ -253,7 +257,7 @@ fn year_since(first: u16, text: &[u8]) -> Option<(u32, &[u8])> {
     Some((first + (last_two + 100 - first % 100) % 100, rest))
 }
 
-// What follows so many bytes.
+// What follows this number of bytes.
 /// # Contract
 ///
 /// ```text

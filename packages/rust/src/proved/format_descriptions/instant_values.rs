@@ -28,13 +28,13 @@ impl Parts {
     /// # Contract
     ///
     /// ```text
-    /// ensures equation { result ≡ instant_of_counts self }
-    /// ensures value { IfOk result (λ instant. HasInstantParts self instant) }
+    /// ensures equation { result ≡ instant_of_counts self.now }
+    /// ensures value { IfOk result (λ instant. HasInstantParts self.now instant) }
     /// ```
     ///
     /// [docs/proofs/STATEMENT.md](crate::proved#contracts) explains the words.
     #[inline]
-    pub const fn timestamp(self) -> Result<Timestamp, ValueRefusal> {
+    pub const fn timestamp(&self) -> Result<Timestamp, ValueRefusal> {
         named_instant(self)
     }
 
@@ -55,13 +55,13 @@ impl Parts {
     /// # Contract
     ///
     /// ```text
-    /// ensures equation { result ≡ instant_of_counts self }
-    /// ensures value { IfOk result (λ instant. HasInstantParts self instant) }
+    /// ensures equation { result ≡ instant_of_counts self.now }
+    /// ensures value { IfOk result (λ instant. HasInstantParts self.now instant) }
     /// ```
     ///
     /// [docs/proofs/STATEMENT.md](crate::proved#contracts) explains the words.
     #[inline]
-    pub fn utc_date_time(self) -> Result<UtcDateTime, ValueRefusal> {
+    pub fn utc_date_time(&self) -> Result<UtcDateTime, ValueRefusal> {
         match self.timestamp() {
             Ok(at) => Ok(UtcDateTime::from(at)),
             Err(refusal) => Err(refusal),
@@ -73,12 +73,12 @@ impl Parts {
 /// # Contract
 ///
 /// ```text
-/// ensures { result ≡ instant_of_counts parts }
+/// ensures { result ≡ instant_of_counts parts.now }
 /// ```
 ///
 /// [docs/proofs/STATEMENT.md](crate::proved#contracts) explains the words.
 #[inline]
-const fn named_instant(parts: Parts) -> Result<Timestamp, ValueRefusal> {
+const fn named_instant(parts: &Parts) -> Result<Timestamp, ValueRefusal> {
     if parts.unix_nanosecond.is_some() {
         let count = or_no_count(parts.unix_nanosecond);
         return counted_instant(
@@ -139,17 +139,17 @@ const fn or_no_count(known: Option<i128>) -> i128 {
     }
 }
 
-// The instant of a count of a unit, and of nanoseconds behind it.
+// The instant of a count of a unit, and of further nanoseconds.
 /// # Contract
 ///
 /// ```text
-/// ensures { result ≡ counted_instant parts wrong precision more count }
+/// ensures { result ≡ counted_instant parts.now wrong precision more count }
 /// ```
 ///
 /// [docs/proofs/STATEMENT.md](crate::proved#contracts) explains the words.
 #[inline]
 const fn counted_instant(
-    parts: Parts,
+    parts: &Parts,
     wrong: Field,
     precision: UnixPrecision,
     more: u32,
@@ -199,17 +199,17 @@ const fn later(nanoseconds: i128, more: u32) -> i128 {
     nanoseconds + more as i128
 }
 
-// The instant of so many nanoseconds, if each count is that of it.
+// The instant of this number of nanoseconds, if each count is that of it.
 /// # Contract
 ///
 /// ```text
-/// ensures { result ≡ instant_at parts wrong nanoseconds }
+/// ensures { result ≡ instant_at parts.now wrong nanoseconds }
 /// ```
 ///
 /// [docs/proofs/STATEMENT.md](crate::proved#contracts) explains the words.
 #[inline]
 const fn instant_at(
-    parts: Parts,
+    parts: &Parts,
     wrong: Field,
     nanoseconds: i128,
 ) -> Result<Timestamp, ValueRefusal> {
@@ -222,7 +222,7 @@ const fn instant_at(
     }
 }
 
-// The instant of so many nanoseconds.
+// The instant of this number of nanoseconds.
 /// # Contract
 ///
 /// ```text
@@ -247,12 +247,12 @@ const fn timestamp_of(nanoseconds: i128) -> Result<Timestamp, ComponentRange> {
 /// # Contract
 ///
 /// ```text
-/// ensures { result ≡ wrong_instant parts at }
+/// ensures { result ≡ wrong_instant parts.now at }
 /// ```
 ///
 /// [docs/proofs/STATEMENT.md](crate::proved#contracts) explains the words.
 #[inline]
-const fn wrong_instant(parts: Parts, at: Timestamp) -> Option<Field> {
+const fn wrong_instant(parts: &Parts, at: Timestamp) -> Option<Field> {
     if !fits_count(parts.unix_second, at.as_seconds() as i128) {
         return Some(Field::UnixSecond);
     }

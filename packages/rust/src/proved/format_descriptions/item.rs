@@ -55,7 +55,7 @@ pub(crate) const fn is_other(item: Item) -> bool {
     }
 }
 
-// The fault that waits for another group, behind one that could not be read.
+// The fault that waits for another group, after one that could not be read.
 /// # Contract
 ///
 /// ```text
@@ -71,7 +71,7 @@ pub(crate) const fn fault_after(item: Item, earlier: Option<usize>, left: usize)
     }
 }
 
-// The items behind so many.
+// The items after this number of them.
 /// # Contract
 ///
 /// ```text

@@ -21,9 +21,28 @@ pub(crate) fn put_two(padding: Padding, number: u8, text: &mut Text) {
             if number < 10 {
                 text.push(b' ');
             }
-            text.push_decimal(number as u64);
+            put_short_decimal(number, text);
         }
-        Padding::Bare => text.push_decimal(number as u64),
+        Padding::Bare => put_short_decimal(number, text),
+    }
+}
+
+// Adds a number of one or two digits, with no zero in front.
+/// # Contract
+///
+/// ```text
+/// requires number { number < 100 }
+/// requires room { length text.old ≤ 44 }
+/// ensures { text.new ≡ text.old ++ decimal number }
+/// ```
+///
+/// [docs/proofs/STATEMENT.md](crate::proved#contracts) explains the words.
+#[inline(never)]
+fn put_short_decimal(number: u8, text: &mut Text) {
+    if number < 10 {
+        text.push(b'0' + number);
+    } else {
+        text.push_two_digits(number);
     }
 }
 

@@ -24,15 +24,15 @@ impl Parts {
     /// # Contract
     ///
     /// ```text
-    /// ensures equation { result ≡ offset_of_parts self }
-    /// ensures value { IfOk result (λ offset. HasOffsetParts self offset) }
-    /// ensures only { (offset : ℤ) → IsOffset offset → IsTrue (tells_offset self) →
-    ///     HasOffsetParts self offset → result ≡ Ok offset }
+    /// ensures equation { result ≡ offset_of_parts self.now }
+    /// ensures value { IfOk result (λ offset. HasOffsetParts self.now offset) }
+    /// ensures only { (offset : ℤ) → IsOffset offset → IsTrue (tells_offset self.now) →
+    ///     HasOffsetParts self.now offset → result ≡ Ok offset }
     /// ```
     ///
     /// [docs/proofs/STATEMENT.md](crate::proved#contracts) explains the words.
     #[inline]
-    pub const fn offset(self) -> Result<UtcOffset, ValueRefusal> {
+    pub const fn offset(&self) -> Result<UtcOffset, ValueRefusal> {
         named_offset(self)
     }
 }
@@ -41,28 +41,28 @@ impl Parts {
 /// # Contract
 ///
 /// ```text
-/// ensures { result ≡ offset_of_parts parts }
+/// ensures { result ≡ offset_of_parts parts.now }
 /// ```
 ///
 /// [docs/proofs/STATEMENT.md](crate::proved#contracts) explains the words.
 #[inline]
-const fn named_offset(parts: Parts) -> Result<UtcOffset, ValueRefusal> {
+const fn named_offset(parts: &Parts) -> Result<UtcOffset, ValueRefusal> {
     match parts.offset_hour {
         Some(hour) => offset_at(parts, hour),
         None => Err(ValueRefusal::Missing(Field::OffsetHour)),
     }
 }
 
-// The offset of so many hours.
+// The offset of this number of hours.
 /// # Contract
 ///
 /// ```text
-/// ensures { result ≡ offset_at parts hour }
+/// ensures { result ≡ offset_at parts.now hour }
 /// ```
 ///
 /// [docs/proofs/STATEMENT.md](crate::proved#contracts) explains the words.
 #[inline]
-const fn offset_at(parts: Parts, hour: u32) -> Result<UtcOffset, ValueRefusal> {
+const fn offset_at(parts: &Parts, hour: u32) -> Result<UtcOffset, ValueRefusal> {
     let minute = or_zero(parts.offset_minute);
     let second = or_zero(parts.offset_second);
     if hour > 25 {

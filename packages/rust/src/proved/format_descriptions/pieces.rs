@@ -52,7 +52,7 @@ pub(crate) fn put_component(
 /// ```
 ///
 /// [docs/proofs/STATEMENT.md](crate::proved#contracts) explains the words.
-#[inline(never)]
+#[inline(always)]
 fn put_number(component: Component, date: Date, time: Time, offset: UtcOffset, text: &mut Text) {
     match component {
         Component::Year(base, sign, padding, _) => {

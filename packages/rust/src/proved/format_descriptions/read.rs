@@ -1,13 +1,14 @@
 // Made by make/erase of crates/format_descriptions/src/read.rt. Do not edit.
 //! Texts read by descriptions.
 use crate::proved::format_descriptions::clock_fractions::{hour_fraction_at, minute_fraction_at};
-use crate::proved::format_descriptions::fields::component_at;
+use crate::proved::format_descriptions::fields::{component_at, signed_hours, signed_year};
 use crate::proved::format_descriptions::fractions::fraction;
 use crate::proved::format_descriptions::item::{behind, fault_after, is_other, size_of};
-use crate::proved::format_descriptions::parts::fits;
+use crate::proved::format_descriptions::parts::{fits, fits_choice, fits_signed, signed};
 use crate::proved::format_descriptions::reading::{after_mark, two};
 use crate::proved::format_descriptions::unix::unix_at;
-use crate::proved::format_descriptions::{Component, Item, Parts, Sign, UnixPrecision};
+use crate::proved::format_descriptions::words::{month, weekday};
+use crate::proved::format_descriptions::{Component, Item, Parts, Sign, UnixPrecision, YearBase};
 
 /// The parts of a text that is written as the items say, to its end. Else the place, counted from
 /// 0, where the item begins that cannot be read or contradicts a part before it, or where more
@@ -38,15 +39,54 @@ use crate::proved::format_descriptions::{Component, Item, Parts, Sign, UnixPreci
 #[inline]
 pub fn parse(items: &[Item], text: &[u8]) -> Result<Parts, usize> {
     let mut parts = Parts::none();
-    match front(items, items.len(), text, &mut parts) {
+    match parse_into(items, text, &mut parts) {
+        Ok(()) => Ok(parts),
+        Err(place) => Err(place),
+    }
+}
+
+/// Reads a text that is written as the items say, to its end, into these parts, with which no
+/// component may disagree. Else returns the place, as `parse` does: then no part is known.
+///
+/// ```
+/// # use muxandu::proved::*;
+/// # fn main() -> Result<(), Box<dyn std::error::Error>> {
+/// use format_descriptions::{Component, Item, Padding, Parts, parse_into};
+/// let items = [Item::Part(Component::Day(Padding::Zero)), Item::Byte(b'!')];
+/// let mut parts = Parts::none();
+/// assert_eq!(parse_into(&items, b"29!", &mut parts), Ok(()));
+/// assert_eq!(parts.day, Some(29));
+/// assert_eq!(parse_into(&items, b"28!", &mut parts), Err(0));
+/// assert_eq!(parts.day, None);
+/// # Ok(())
+/// # }
+/// ```
+///
+/// # Contract
+///
+/// ```text
+/// ensures reading { result_map_both (λ done. parts.new) (λ place. place) result
+///     ≡ result_map_both (λ p. p) (λ left. length text.now - left)
+///     (items_at items.now text.now parts.old) }
+/// ensures refused { IfErr result (λ place. parts.new ≡ no_parts) }
+/// ```
+///
+/// [docs/proofs/STATEMENT.md](crate::proved#contracts) explains the words.
+#[inline]
+pub fn parse_into(items: &[Item], text: &[u8], parts: &mut Parts) -> Result<(), usize> {
+    match front_of(items, text, parts) {
         Ok(rest) => {
             if rest.is_empty() {
-                Ok(parts)
+                Ok(())
             } else {
+                *parts = Parts::none();
                 Err(text.len() - rest.len())
             }
         }
-        Err(left) => Err(text.len() - left),
+        Err(left) => {
+            *parts = Parts::none();
+            Err(text.len() - left)
+        }
     }
 }
 
@@ -77,10 +117,89 @@ pub fn parse(items: &[Item], text: &[u8]) -> Result<Parts, usize> {
 #[inline]
 pub fn parse_front(items: &[Item], text: &[u8]) -> Result<(Parts, usize), usize> {
     let mut parts = Parts::none();
-    match front(items, items.len(), text, &mut parts) {
+    match front_of(items, text, &mut parts) {
         Ok(rest) => Ok((parts, text.len() - rest.len())),
         Err(left) => Err(text.len() - left),
     }
+}
+
+/// Reads items at the front of a text into the parts, and returns the bytes after them. Else the
+/// place, counted from 0, where the item begins that cannot be read or contradicts a part: then no
+/// part is known.
+///
+/// ```
+/// # use muxandu::proved::*;
+/// # fn main() -> Result<(), Box<dyn std::error::Error>> {
+/// use format_descriptions::{Component, Item, Padding, Parts, parse_front_into};
+/// let items = [Item::Part(Component::Day(Padding::Zero))];
+/// let mut parts = Parts::none();
+/// let rest = parse_front_into(&items, b"29 February", &mut parts);
+/// assert_eq!((parts.day, rest.map(|rest| rest.len())), (Some(29), Ok(9)));
+/// # Ok(())
+/// # }
+/// ```
+///
+/// # Contract
+///
+/// ```text
+/// ensures reading { result_map_both (λ rest. (parts.new, rest.now)) (λ place. place) result
+///     ≡ result_map_both (λ read. read) (λ left. length text.now - left)
+///     (front_of items.now text.now parts.old) }
+/// ensures refused { IfErr result (λ place. parts.new ≡ no_parts) }
+/// ensures shorter { IfOk result (λ rest. length rest.now ≤ length text.now) }
+/// ```
+///
+/// [docs/proofs/STATEMENT.md](crate::proved#contracts) explains the words.
+#[inline]
+pub fn parse_front_into<'a>(
+    items: &[Item],
+    text: &'a [u8],
+    parts: &mut Parts,
+) -> Result<&'a [u8], usize> {
+    match front_of(items, text, parts) {
+        Ok(rest) => Ok(rest),
+        Err(left) => {
+            *parts = Parts::none();
+            Err(text.len() - left)
+        }
+    }
+}
+
+// Reads all items at the front of a text into the parts, and returns what follows them. Else how many bytes are left from the
+// item on that cannot be read. Up to the first group no item can be left out, so the loop needs neither a count nor a fault.
+/// # Contract
+///
+/// ```text
+/// ensures value { result_map_both (λ rest. (parts.new, rest.now)) (λ left. left) result
+///     ≡ front_of items.now text.now parts.old }
+/// ensures shorter { IfOk result (λ rest. length rest.now ≤ length text.now) }
+/// ensures left { IfErr result (λ left. left ≤ length text.now) }
+/// ```
+///
+/// [docs/proofs/STATEMENT.md](crate::proved#contracts) explains the words.
+#[inline(always)]
+fn front_of<'a>(items: &[Item], text: &'a [u8], parts: &mut Parts) -> Result<&'a [u8], usize> {
+    let mut items = items;
+    let mut rest = text;
+    while let Some((item, others)) = items.split_first() {
+        if let Item::Byte(byte) = item {
+            let Some(more) = after_mark(*byte, rest) else {
+                return Err(rest.len());
+            };
+            rest = more;
+            items = others;
+            continue;
+        }
+        if size_of(*item).is_some() {
+            return front(items, items.len(), rest, parts);
+        }
+        let Some(more) = item_at(item, rest, parts) else {
+            return Err(rest.len());
+        };
+        rest = more;
+        items = others;
+    }
+    Ok(rest)
 }
 
 // Reads the first items at the front of a text into the parts, and returns what follows them. Else how many bytes are left
@@ -115,7 +234,7 @@ fn front<'a>(
             if let Some(left) = fault {
                 return Err(left);
             }
-            let Some(more) = item_at(*item, rest, parts) else {
+            let Some(more) = item_at(item, rest, parts) else {
                 return Err(rest.len());
             };
             rest = more;
@@ -136,6 +255,12 @@ fn front<'a>(
                 }
             }
         }
+        if fails_at_once(others, size.min(count), rest) {
+            fault = fault_after(*item, fault, rest.len());
+            items = behind(size, others);
+            count = count.saturating_sub(size);
+            continue;
+        }
         let before = *parts;
         match front(others, size.min(count), rest, parts) {
             Ok(more) => {
@@ -153,7 +278,24 @@ fn front<'a>(
     front_end(fault, rest, parts)
 }
 
-// The end of the items, behind a fault or behind none. The parts are those that were read.
+// Whether the first of these items is a byte that the text does not begin with: no part is read then.
+/// # Contract
+///
+/// ```text
+/// ensures { IsTrue result → (parts : Parts) →
+///     read_from items.now 0 count None text.now parts ≡ Err (length text.now) }
+/// ```
+///
+/// [docs/proofs/STATEMENT.md](crate::proved#contracts) explains the words.
+#[inline(always)]
+const fn fails_at_once(items: &[Item], count: usize, text: &[u8]) -> bool {
+    match items.split_first() {
+        Some((Item::Byte(byte), _)) if count > 0 => after_mark(*byte, text).is_none(),
+        _ => false,
+    }
+}
+
+// The end of the items, after a fault or after none. The parts are those that were read.
 /// # Contract
 ///
 /// ```text
@@ -180,17 +322,17 @@ const fn front_end<'a>(
 ///
 /// ```text
 /// ensures value { option_map (λ rest. (parts.new, rest.now)) result
-///     ≡ item_at item text.now parts.old }
+///     ≡ item_at item.now text.now parts.old }
 /// ensures shorter { IfSome result (λ rest. length rest.now ≤ length text.now) }
 /// ```
 ///
 /// [docs/proofs/STATEMENT.md](crate::proved#contracts) explains the words.
-#[inline]
-fn item_at<'a>(item: Item, text: &'a [u8], parts: &mut Parts) -> Option<&'a [u8]> {
+#[inline(always)]
+fn item_at<'a>(item: &Item, text: &'a [u8], parts: &mut Parts) -> Option<&'a [u8]> {
     match item {
-        Item::Byte(byte) => after_mark(byte, text),
+        Item::Byte(byte) => after_mark(*byte, text),
         Item::Optional(_) | Item::First(_) | Item::Or(_) => Some(text),
-        Item::Part(component) => parse_component_into(component, text, parts),
+        Item::Part(component) => component_into(component, text, parts),
     }
 }
 
@@ -251,15 +393,52 @@ pub fn parse_component(component: Component, text: &[u8], parts: Parts) -> Optio
 /// ```
 ///
 /// [docs/proofs/STATEMENT.md](crate::proved#contracts) explains the words.
-#[inline]
+#[inline(always)]
 pub fn parse_component_into<'a>(
     component: Component,
     text: &'a [u8],
     parts: &mut Parts,
 ) -> Option<&'a [u8]> {
-    match component {
+    component_into(&component, text, parts)
+}
+
+// The same of a component that stays in its place.
+/// # Contract
+///
+/// ```text
+/// ensures value { option_map (λ rest. (parts.new, rest.now)) result
+///     ≡ part_at component.now text.now parts.old }
+/// ensures unchanged { IfNone result (parts.new ≡ parts.old) }
+/// ensures shorter { IfSome result (λ rest. length rest.now ≤ length text.now) }
+/// ```
+///
+/// [docs/proofs/STATEMENT.md](crate::proved#contracts) explains the words.
+#[inline(always)]
+fn component_into<'a>(
+    component: &Component,
+    text: &'a [u8],
+    parts: &mut Parts,
+) -> Option<&'a [u8]> {
+    match *component {
+        Component::Year(YearBase::Calendar, sign, padding, range) => {
+            let ((is_negative, number), rest) = signed_year(sign, padding, range, text)?;
+            let year = signed(is_negative, number);
+            if !fits_signed(parts.year, year) {
+                return None;
+            }
+            parts.year = Some(year);
+            Some(rest)
+        }
         Component::Month(padding) => {
             let (number, rest) = two(padding, text)?;
+            if !fits(parts.month, number) {
+                return None;
+            }
+            parts.month = Some(number);
+            Some(rest)
+        }
+        Component::MonthName(form, case) => {
+            let (number, rest) = month(form, case, text)?;
             if !fits(parts.month, number) {
                 return None;
             }
@@ -272,6 +451,14 @@ pub fn parse_component_into<'a>(
                 return None;
             }
             parts.day = Some(number);
+            Some(rest)
+        }
+        Component::WeekdayName(form, case) => {
+            let (number, rest) = weekday(form, case, text)?;
+            if !fits(parts.weekday, number) {
+                return None;
+            }
+            parts.weekday = Some(number);
             Some(rest)
         }
         Component::Hour(padding) => {
@@ -298,6 +485,18 @@ pub fn parse_component_into<'a>(
             parts.second = Some(number);
             Some(rest)
         }
+        Component::OffsetHour(sign, padding) => {
+            let ((is_west, number), rest) = signed_hours(sign, padding, text)?;
+            if !fits_choice(parts.is_west, is_west) {
+                return None;
+            }
+            if !fits(parts.offset_hour, number) {
+                return None;
+            }
+            parts.is_west = Some(is_west);
+            parts.offset_hour = Some(number);
+            Some(rest)
+        }
         Component::OffsetMinute(padding) => {
             let (number, rest) = two(padding, text)?;
             if !fits(parts.offset_minute, number) {
@@ -314,6 +513,24 @@ pub fn parse_component_into<'a>(
             parts.nanosecond = Some(number);
             Some(rest)
         }
+        _ => other_part_at(*component, text, parts),
+    }
+}
+
+// The same of each component.
+/// # Contract
+///
+/// ```text
+/// ensures value { option_map (λ rest. (parts.new, rest.now)) result
+///     ≡ part_at component text.now parts.old }
+/// ensures unchanged { IfNone result (parts.new ≡ parts.old) }
+/// ensures shorter { IfSome result (λ rest. length rest.now ≤ length text.now) }
+/// ```
+///
+/// [docs/proofs/STATEMENT.md](crate::proved#contracts) explains the words.
+#[inline(never)]
+fn other_part_at<'a>(component: Component, text: &'a [u8], parts: &mut Parts) -> Option<&'a [u8]> {
+    match component {
         Component::UnixTimestamp(precision, sign) => unix_part_at(precision, sign, text, parts),
         Component::HourFraction(digits) => hour_fraction_at(digits, text, parts),
         Component::MinuteFraction(digits) => minute_fraction_at(digits, text, parts),

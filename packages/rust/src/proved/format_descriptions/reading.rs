@@ -12,8 +12,26 @@ use crate::proved::format_descriptions::{Padding, ReadCase, YearRange};
 /// ```
 ///
 /// [docs/proofs/STATEMENT.md](crate::proved#contracts) explains the words.
-#[inline]
+#[inline(always)]
 pub(crate) fn two(padding: Padding, text: &[u8]) -> Option<(u32, &[u8])> {
+    match padding {
+        Padding::Zero => two_digits(text),
+        Padding::Space | Padding::Bare => two_padded(padding, text),
+    }
+}
+
+// The same of any padding.
+/// # Contract
+///
+/// ```text
+/// ensures value { option_map (λ read. (read.0, read.1.now)) result ≡ two_at padding text.now }
+/// ensures below { IfSome result (λ read. read.0 < 100) }
+/// ensures shorter { IfSome result (λ read. length read.1.now ≤ length text.now) }
+/// ```
+///
+/// [docs/proofs/STATEMENT.md](crate::proved#contracts) explains the words.
+#[inline(never)]
+fn two_padded(padding: Padding, text: &[u8]) -> Option<(u32, &[u8])> {
     match padding {
         Padding::Zero => two_digits(text),
         Padding::Space => match after_mark(b' ', text) {
@@ -82,8 +100,26 @@ fn digit_more(number: u32, text: &[u8]) -> (u32, &[u8]) {
 /// ```
 ///
 /// [docs/proofs/STATEMENT.md](crate::proved#contracts) explains the words.
-#[inline]
+#[inline(always)]
 pub(crate) fn four(padding: Padding, text: &[u8]) -> Option<(u32, &[u8])> {
+    match padding {
+        Padding::Zero => year(text),
+        Padding::Space | Padding::Bare => four_padded(padding, text),
+    }
+}
+
+// The same of any padding.
+/// # Contract
+///
+/// ```text
+/// ensures value { option_map (λ read. (read.0, read.1.now)) result ≡ four_at padding text.now }
+/// ensures below { IfSome result (λ read. read.0 < 10_000) }
+/// ensures shorter { IfSome result (λ read. length read.1.now ≤ length text.now) }
+/// ```
+///
+/// [docs/proofs/STATEMENT.md](crate::proved#contracts) explains the words.
+#[inline]
+fn four_padded(padding: Padding, text: &[u8]) -> Option<(u32, &[u8])> {
     match padding {
         Padding::Zero => year(text),
         Padding::Space => match after_mark(b' ', text) {
@@ -91,8 +127,10 @@ pub(crate) fn four(padding: Padding, text: &[u8]) -> Option<(u32, &[u8])> {
             None => year(text),
         },
         Padding::Bare => {
-            let (first, rest) = three(Padding::Bare, text)?;
-            Some(digit_more(first, rest))
+            let (one, rest) = digit(text)?;
+            let (two, rest) = digit_more(one, rest);
+            let (three, rest) = digit_more(two, rest);
+            Some(digit_more(three, rest))
         }
     }
 }
@@ -187,7 +225,7 @@ pub(crate) const fn two_digits(text: &[u8]) -> Option<(u32, &[u8])> {
 /// [docs/proofs/STATEMENT.md](crate::proved#contracts) explains the words.
 #[inline]
 const fn number(tens: u8, units: u8) -> u32 {
-    ((tens - b'0') * 10 + (units - b'0')) as u32
+    tens as u32 * 10 + units as u32 - 528
 }
 
 // A digit.
@@ -240,13 +278,16 @@ pub(crate) fn sign(text: &[u8]) -> Option<(bool, &[u8])> {
 /// [docs/proofs/STATEMENT.md](crate::proved#contracts) explains the words.
 #[inline]
 pub(crate) fn after_word<'a>(case: ReadCase, word: &[u8], text: &'a [u8]) -> Option<&'a [u8]> {
-    let Some((letter, word)) = word.split_first() else {
-        return Some(text);
-    };
-    let Some(rest) = after_letter(case, *letter, text) else {
-        return None;
-    };
-    after_word(case, word, rest)
+    let mut word = word;
+    let mut rest = text;
+    while let Some((letter, letters)) = word.split_first() {
+        let Some(more) = after_letter(case, *letter, rest) else {
+            return None;
+        };
+        word = letters;
+        rest = more;
+    }
+    Some(rest)
 }
 
 // What follows a letter.

@@ -220,7 +220,7 @@ pub(crate) fn unix_at(sign_given: Sign, most: u8, text: &[u8]) -> Option<((bool,
     }
 }
 
-// A number of one to so many digits.
+// A number of at least one digit, and of this number of digits at most.
 /// # Contract
 ///
 /// ```text
@@ -237,7 +237,7 @@ fn decimal_at(most: u8, text: &[u8]) -> Option<(u128, &[u8])> {
     Some(digits_on(most - 1, first as u128, rest))
 }
 
-// Up to so many digits behind those of a number.
+// Up to this number of digits after those of a number.
 /// # Contract
 ///
 /// ```text

@@ -26,20 +26,85 @@ impl Parts {
     /// # Contract
     ///
     /// ```text
-    /// ensures equation { result ≡ date_of_parts self }
-    /// ensures value { IfOk result (λ day. HasDateParts self day) }
-    /// ensures only { (day : ℤ) → IsDay day → IsTrue (tells_date self) →
-    ///     HasDateParts self day → result ≡ Ok day }
+    /// ensures equation { result ≡ date_of_parts self.now }
+    /// ensures value { IfOk result (λ day. HasDateParts self.now day) }
+    /// ensures only { (day : ℤ) → IsDay day → IsTrue (tells_date self.now) →
+    ///     HasDateParts self.now day → result ≡ Ok day }
     /// ```
     ///
     /// [docs/proofs/STATEMENT.md](crate::proved#contracts) explains the words.
     #[inline]
-    pub fn date(self) -> Result<Date, ValueRefusal> {
+    pub fn date(&self) -> Result<Date, ValueRefusal> {
         named_date(self)
     }
 }
 
-// The same.
+// The same. Most parts are a year, a month and a day alone: these contradict no other.
+/// # Contract
+///
+/// ```text
+/// ensures { result ≡ date_of_parts parts.now }
+/// ```
+///
+/// [docs/proofs/STATEMENT.md](crate::proved#contracts) explains the words.
+#[inline]
+fn named_date(parts: &Parts) -> Result<Date, ValueRefusal> {
+    match (parts.year, parts.month, parts.day) {
+        (Some(year), Some(month), Some(day)) if !has_other_parts(parts) => {
+            plain_date(year, month, day)
+        }
+        _ => date_of_all(*parts),
+    }
+}
+
+// Whether a part of a date is known other than the year, the month and the day.
+/// # Contract
+///
+/// ```text
+/// ensures { let p = parts.now in result ≡ (((((((((((is_some p.ordinal || is_some p.weekday)
+///     || is_some p.iso_week) || is_some p.sunday_week) || is_some p.monday_week)
+///     || is_some p.year_century) || is_some p.is_before_zero) || is_some p.year_last_two)
+///     || is_some p.iso_year) || is_some p.iso_year_century) || is_some p.is_iso_before_zero)
+///     || is_some p.iso_year_last_two) }
+/// ```
+///
+/// [docs/proofs/STATEMENT.md](crate::proved#contracts) explains the words.
+#[inline]
+const fn has_other_parts(parts: &Parts) -> bool {
+    parts.ordinal.is_some()
+        | parts.weekday.is_some()
+        | parts.iso_week.is_some()
+        | parts.sunday_week.is_some()
+        | parts.monday_week.is_some()
+        | parts.year_century.is_some()
+        | parts.is_before_zero.is_some()
+        | parts.year_last_two.is_some()
+        | parts.iso_year.is_some()
+        | parts.iso_year_century.is_some()
+        | parts.is_iso_before_zero.is_some()
+        | parts.iso_year_last_two.is_some()
+}
+
+// The date of a year, a month and a day.
+/// # Contract
+///
+/// ```text
+/// ensures { result ≡ (if is_outside first_year last_year year then Err (Wrong Year)
+///     else (if month == 0 || nat_lt 12 month then Err (Wrong Field.Month)
+///     else (if day == 0 || nat_lt (days_in_month (is_leap_year year) month) day
+///     then Err (Wrong Field.Day) else Ok (day_of_calendar_date year month day)))) }
+/// ```
+///
+/// [docs/proofs/STATEMENT.md](crate::proved#contracts) explains the words.
+#[inline]
+const fn plain_date(year: i32, month: u32, day: u32) -> Result<Date, ValueRefusal> {
+    if year < -999_999 || year > 999_999 {
+        return Err(ValueRefusal::Wrong(Field::Year));
+    }
+    calendar_date(year, month, day)
+}
+
+// The date of the parts.
 /// # Contract
 ///
 /// ```text
@@ -48,7 +113,7 @@ impl Parts {
 ///
 /// [docs/proofs/STATEMENT.md](crate::proved#contracts) explains the words.
 #[inline]
-fn named_date(parts: Parts) -> Result<Date, ValueRefusal> {
+fn date_of_all(parts: Parts) -> Result<Date, ValueRefusal> {
     let Some(year) = calendar_year(parts) else {
         return day_in_iso_year(parts, Field::Year);
     };
@@ -205,6 +270,25 @@ fn day_in_iso_year(parts: Parts, missing: Field) -> Result<Date, ValueRefusal> {
 /// [docs/proofs/STATEMENT.md](crate::proved#contracts) explains the words.
 #[inline]
 fn month_day(parts: Parts, year: i32, month: u32, day: u32) -> Result<Date, ValueRefusal> {
+    match calendar_date(year, month, day) {
+        Ok(date) => date_with(parts, date),
+        Err(refusal) => Err(refusal),
+    }
+}
+
+// The date of a year, a month and a day.
+/// # Contract
+///
+/// ```text
+/// requires { IsYear year }
+/// ensures { result ≡ (if month == 0 || nat_lt 12 month then Err (Wrong Field.Month)
+///     else (if day == 0 || nat_lt (days_in_month (is_leap_year year) month) day
+///     then Err (Wrong Field.Day) else Ok (day_of_calendar_date year month day))) }
+/// ```
+///
+/// [docs/proofs/STATEMENT.md](crate::proved#contracts) explains the words.
+#[inline]
+const fn calendar_date(year: i32, month: u32, day: u32) -> Result<Date, ValueRefusal> {
     if month == 0 || month > 12 {
         return Err(ValueRefusal::Wrong(Field::Month));
     }
@@ -215,7 +299,7 @@ fn month_day(parts: Parts, year: i32, month: u32, day: u32) -> Result<Date, Valu
         return Err(ValueRefusal::Wrong(Field::Day));
     }
     match Date::from_calendar_date(year, name, day as u8) {
-        Ok(date) => date_with(parts, date),
+        Ok(date) => Ok(date),
         Err(_) => Err(ValueRefusal::Wrong(Field::Day)),
     }
 }

@@ -4,6 +4,65 @@ use crate::proved::format_descriptions::names::{month_word, period_word, weekday
 use crate::proved::format_descriptions::reading::{after_word, digit};
 use crate::proved::format_descriptions::{Case, NameForm, ReadCase, WeekStart, WeekdayCount};
 
+// The name of a month. Its third letter, and one before it, tell which name alone it can be.
+/// # Contract
+///
+/// ```text
+/// ensures value { option_map (λ read. (read.0, read.1.now)) result
+///     ≡ month_at form case 12 text.now }
+/// ensures below { IfSome result (λ read. read.0 ≤ 12) }
+/// ensures shorter { IfSome result (λ read. length read.1.now ≤ length text.now) }
+/// ```
+///
+/// [docs/proofs/STATEMENT.md](crate::proved#contracts) explains the words.
+#[inline(never)]
+pub(crate) fn month(form: NameForm, case: ReadCase, text: &[u8]) -> Option<(u32, &[u8])> {
+    let likely = likely_month(text);
+    match after_word(case, month_word(form, likely), text) {
+        Some(rest) => Some((likely as u32, rest)),
+        None => month_up_to(form, case, 12, text),
+    }
+}
+
+// The only month whose name can begin so.
+/// # Contract
+///
+/// ```text
+/// ensures { (1 ≤ result) × (result ≤ 12) }
+/// ```
+///
+/// [docs/proofs/STATEMENT.md](crate::proved#contracts) explains the words.
+#[inline]
+const fn likely_month(text: &[u8]) -> u8 {
+    let [first, second, third, ..] = text else {
+        return 1;
+    };
+    match third.to_ascii_lowercase() {
+        b'b' => 2,
+        b'r' => {
+            if first.to_ascii_lowercase() == b'm' {
+                3
+            } else {
+                4
+            }
+        }
+        b'y' => 5,
+        b'l' => 7,
+        b'g' => 8,
+        b'p' => 9,
+        b't' => 10,
+        b'v' => 11,
+        b'c' => 12,
+        _ => {
+            if second.to_ascii_lowercase() == b'u' {
+                6
+            } else {
+                1
+            }
+        }
+    }
+}
+
 // The name of a month up to this one.
 /// # Contract
 ///
@@ -16,14 +75,63 @@ use crate::proved::format_descriptions::{Case, NameForm, ReadCase, WeekStart, We
 /// ```
 ///
 /// [docs/proofs/STATEMENT.md](crate::proved#contracts) explains the words.
-#[inline]
-pub(crate) fn month(form: NameForm, case: ReadCase, last: u8, text: &[u8]) -> Option<(u32, &[u8])> {
+#[inline(never)]
+fn month_up_to(form: NameForm, case: ReadCase, last: u8, text: &[u8]) -> Option<(u32, &[u8])> {
     if last == 0 {
         return None;
     }
     match after_word(case, month_word(form, last), text) {
         Some(rest) => Some((last as u32, rest)),
-        None => month(form, case, last - 1, text),
+        None => month_up_to(form, case, last - 1, text),
+    }
+}
+
+// The name of a day of the week. Its second and its third letter tell which name alone it can be.
+/// # Contract
+///
+/// ```text
+/// ensures value { option_map (λ read. (read.0, read.1.now)) result
+///     ≡ weekday_at form case 7 text.now }
+/// ensures below { IfSome result (λ read. read.0 ≤ 7) }
+/// ensures shorter { IfSome result (λ read. length read.1.now ≤ length text.now) }
+/// ```
+///
+/// [docs/proofs/STATEMENT.md](crate::proved#contracts) explains the words.
+#[inline(never)]
+pub(crate) fn weekday(form: NameForm, case: ReadCase, text: &[u8]) -> Option<(u32, &[u8])> {
+    let likely = likely_weekday(text);
+    match after_word(case, weekday_word(form, likely), text) {
+        Some(rest) => Some((likely as u32, rest)),
+        None => weekday_before(form, case, 7, text),
+    }
+}
+
+// The only day of the week whose name can begin so.
+/// # Contract
+///
+/// ```text
+/// ensures { result < 7 }
+/// ```
+///
+/// [docs/proofs/STATEMENT.md](crate::proved#contracts) explains the words.
+#[inline]
+const fn likely_weekday(text: &[u8]) -> u8 {
+    let [_, second, third, ..] = text else {
+        return 0;
+    };
+    match third.to_ascii_lowercase() {
+        b'e' => 1,
+        b'd' => 2,
+        b'u' => 3,
+        b'i' => 4,
+        b't' => 5,
+        _ => {
+            if second.to_ascii_lowercase() == b'u' {
+                6
+            } else {
+                0
+            }
+        }
     }
 }
 
@@ -39,19 +147,14 @@ pub(crate) fn month(form: NameForm, case: ReadCase, last: u8, text: &[u8]) -> Op
 /// ```
 ///
 /// [docs/proofs/STATEMENT.md](crate::proved#contracts) explains the words.
-#[inline]
-pub(crate) fn weekday(
-    form: NameForm,
-    case: ReadCase,
-    end: u8,
-    text: &[u8],
-) -> Option<(u32, &[u8])> {
+#[inline(never)]
+fn weekday_before(form: NameForm, case: ReadCase, end: u8, text: &[u8]) -> Option<(u32, &[u8])> {
     if end == 0 {
         return None;
     }
     match after_word(case, weekday_word(form, end - 1), text) {
         Some(rest) => Some(((end - 1) as u32, rest)),
-        None => weekday(form, case, end - 1, text),
+        None => weekday_before(form, case, end - 1, text),
     }
 }
 

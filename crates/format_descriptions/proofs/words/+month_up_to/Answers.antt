@@ -1,6 +1,6 @@
 use Rattle.std.proofs.Common.{refl}
 use Rattle.format_descriptions.specs.Reading.{month_at}
-use Rattle.format_descriptions.proofs.words.+month.Goals as goal
+use Rattle.format_descriptions.proofs.words.+month_up_to.Goals as goal
 
 pub returns-then-last-eq0-clause-value : goal.returns-then-last-eq0-clause-value
 unfolding month_at

@@ -1,6 +1,6 @@
 use Rattle.std.proofs.Common.{refl}
 use Rattle.format_descriptions.specs.Reading.{weekday_at}
-use Rattle.format_descriptions.proofs.words.+weekday.Goals as goal
+use Rattle.format_descriptions.proofs.words.+weekday_before.Goals as goal
 
 pub returns-then-end-eq0-clause-value : goal.returns-then-end-eq0-clause-value
 unfolding weekday_at
