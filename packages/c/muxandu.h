@@ -198,7 +198,7 @@ typedef MUXANDU_ENUM(MuxanduReason) {
     MUXANDU_REASON_NO_FIRST = 16,
     /* A group of more items than the description, or the group around it, has. */
     MUXANDU_REASON_PAST_END = 17,
-    /* The year. */
+    /* The year, -999999 to 999999. */
     MUXANDU_REASON_YEAR = 18,
     /* The year without its last two digits. */
     MUXANDU_REASON_YEAR_CENTURY = 19,
@@ -210,45 +210,45 @@ typedef MUXANDU_ENUM(MuxanduReason) {
     MUXANDU_REASON_ISO_YEAR_CENTURY = 22,
     /* The last two digits of the year of the ISO week. */
     MUXANDU_REASON_ISO_YEAR_LAST_TWO = 23,
-    /* The month. */
+    /* The month, 1 to 12. */
     MUXANDU_REASON_MONTH = 24,
-    /* The day of the month. */
+    /* The day of the month, 1 to 31. */
     MUXANDU_REASON_DAY = 25,
-    /* The day of the year. */
+    /* The day of the year, 1 to 366. */
     MUXANDU_REASON_ORDINAL = 26,
     /* The day of the week. */
     MUXANDU_REASON_WEEKDAY = 27,
-    /* The ISO week. */
+    /* The ISO week, 1 to 53. */
     MUXANDU_REASON_ISO_WEEK = 28,
-    /* The week by the Sundays of the year. */
+    /* The week by the Sundays of the year, 0 to 53. */
     MUXANDU_REASON_SUNDAY_WEEK = 29,
-    /* The week by the Mondays of the year. */
+    /* The week by the Mondays of the year, 0 to 53. */
     MUXANDU_REASON_MONDAY_WEEK = 30,
-    /* The hour of the day. */
+    /* The hour of the day, 0 to 23. */
     MUXANDU_REASON_HOUR = 31,
-    /* The hour on a clock of 12 hours. */
+    /* The hour on a clock of 12 hours, 1 to 12. */
     MUXANDU_REASON_HOUR12 = 32,
     /* The half of the day. */
     MUXANDU_REASON_PERIOD = 33,
-    /* The minute. */
+    /* The minute, 0 to 59. */
     MUXANDU_REASON_MINUTE = 34,
-    /* The second. */
+    /* The second, 0 to 59. */
     MUXANDU_REASON_SECOND = 35,
     /* The fraction of the second. */
     MUXANDU_REASON_SUBSECOND = 36,
-    /* The hours of the offset. */
+    /* The hours of the offset, -25 to 25. */
     MUXANDU_REASON_OFFSET_HOUR = 37,
-    /* The minutes of the offset. */
+    /* The minutes of the offset, 0 to 59. */
     MUXANDU_REASON_OFFSET_MINUTE = 38,
-    /* The seconds of the offset. */
+    /* The seconds of the offset, 0 to 59. */
     MUXANDU_REASON_OFFSET_SECOND = 39,
-    /* The Unix time in seconds. */
+    /* The Unix time in seconds, -31619087596800 to 31494784780799. */
     MUXANDU_REASON_UNIX_SECOND = 40,
-    /* The Unix time in milliseconds. */
+    /* The Unix time in milliseconds, -31619087596800000 to 31494784780799999. */
     MUXANDU_REASON_UNIX_MILLISECOND = 41,
-    /* The Unix time in microseconds. */
+    /* The Unix time in microseconds, -31619087596800000000 to 31494784780799999999. */
     MUXANDU_REASON_UNIX_MICROSECOND = 42,
-    /* The Unix time in nanoseconds. */
+    /* The Unix time in nanoseconds, -31619087596800000000000 to 31494784780799999999999. */
     MUXANDU_REASON_UNIX_NANOSECOND = 43
 } MuxanduReason;
 
@@ -796,8 +796,8 @@ MuxanduOutcome muxandu_description_parse(uint32_t version, const char *MUXANDU_R
 /* Writes the text of items as a description in version 1 or 2 of its language to the front of
  * 'buffer'. 'size' is its length. muxandu_description_parse reads it back as the same items.
  * Errors, in this order: UNIT if the version is neither 1 nor 2. UNIT if a number is no item, or
- * for more than 128 items. NO_TEXT or BUFFER, with the index of the item and the reason. The
- * call can change 'buffer' then. */
+ * for more than 128 items. NO_TEXT or BUFFER, with the index of the item and the reason. After
+ * UNIT the call writes nothing. After the other errors it can have changed 'buffer'. */
 MuxanduOutcome muxandu_description_text(uint32_t version, const MuxanduItem *MUXANDU_RESTRICT items,
                                         size_t items_count, char *MUXANDU_RESTRICT buffer,
                                         size_t buffer_count);
@@ -1314,7 +1314,9 @@ MuxanduStatus muxandu_offset_to_parts(int32_t offset_seconds, MuxanduOffset *out
  * UNIT if a number is no item, or for more than 128 items. SYNTAX with the index of the byte
  * where the item begins that the text lacks. UNIT if 'kind' is none. SYNTAX with a part as the
  * reason, without which the text names no one value. RESULT with the first part that is out of
- * range, or that is not a part of the value. */
+ * range, or that is not a part of the value. Its place is the byte where the item of the part
+ * begins, or the length of the text if no item gives the part. If the other parts contradict a
+ * Unix timestamp, the reason is the finest timestamp of the text. */
 MuxanduOutcome muxandu_parse_items(MuxanduKind kind, const MuxanduItem *MUXANDU_RESTRICT items,
                                    size_t items_count, const char *MUXANDU_RESTRICT text,
                                    size_t text_count, MuxanduDateTime *MUXANDU_RESTRICT out);

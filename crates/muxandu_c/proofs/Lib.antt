@@ -5,6 +5,8 @@ mod CarriedDurationLemmas
 mod ClockLemmas
 pub mod DateTimeBatchLemmas
 mod DayDigitLemmas
+mod DescriptionFitLemmas
+mod DescriptionItemLemmas
 pub mod DescriptionLemmas
 mod DigitTextLemmas
 mod EachBatchLemmas

@@ -39,7 +39,7 @@ described_in (Some v) text = items_or_fault text (items_of_description v 128 tex
 abbrev pub described_items : ℕ → List ℕ → Result (List Item) Fault
 described_items version text = described_in (version_numbered version) text
 
--- the number of the items, if there is room for so many
+-- the number of the items, if there is room for all of them
 abbrev pub size_in_room : ℕ → ℕ → Result ℕ Fault
 size_in_room room size =
     if nat_lt room size then Err (record { place = size; refused = refused.Buffer; reason = 0 }) else Ok size
@@ -100,7 +100,7 @@ abbrev pub source_in : Option DescriptionVersion → ℕ → List MuxanduItem �
 source_in None room numbers = Err (fault_of refused.Unit)
 source_in (Some v) room numbers = then_with (as_fault (items_of numbers)) (λ items. source_of_items v room items)
 
--- the text of the items of numbers, in so many bytes at most
+-- the text of the items of numbers, in at most this number of bytes
 abbrev pub source_of : ℕ → ℕ → List MuxanduItem → Result (List ℕ) Fault
 source_of version room numbers = source_in (version_numbered version) room numbers
 

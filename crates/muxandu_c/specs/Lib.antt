@@ -5,6 +5,7 @@ pub mod DateSums
 pub mod DateTexts
 pub mod DateTimeBatches
 pub mod DescriptionItems
+pub mod DescriptionLaws
 pub mod DescriptionModifiers
 pub mod DescriptionReasons
 pub mod Descriptions

@@ -29,7 +29,7 @@ abbrev pub size_of : {A E : Type 0} → Result (List A) E → Result ℕ E
 size_of (Ok values) = Ok (length values)
 size_of (Err fault) = Err fault
 
--- the result of a call that writes so many items or bytes
+-- the result of a call that writes this number of items or bytes
 abbrev pub outcome_of : Result ℕ Fault → MuxanduOutcome
 outcome_of (Ok size) = record { size = size; status = 0; reason = 0 }
 outcome_of (Err fault) = record { size = fault.place; status = status_number fault.refused; reason = fault.reason }

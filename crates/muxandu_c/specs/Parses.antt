@@ -1,15 +1,19 @@
 -- The date-time of a text by a description.
-use Rattle.std.specs.Prelude.{ℕ, ◌+◌, ◌-◌, ℤ, pos, ◌==◌, List, length, take, drop, nat_lt, Option, Some, None, Result, Ok, Err, if◌then◌else◌}
+use Rattle.std.specs.Prelude.{ℕ, ◌+◌, ◌-◌, ℤ, pos, ◌==◌, ◌||◌, Bool, if◌then◌else◌, nat_lt, is_some, List, length, take, drop}
+use Rattle.std.specs.Prelude.{Option, Some, None, Result, Ok, Err}
 use Rattle.std.specs.Ordering.{int_eq}
 use Rattle.calendar_values.specs.WallClock.{wall_clock}
 use Rattle.offset_times.specs.Local.{Local, wall_at, shown_at}
 use Rattle.format_descriptions.specs.ClockValues.{time_of_parts}
 use Rattle.format_descriptions.specs.InstantValues.{instant_of_counts}
 use Rattle.format_descriptions.specs.OffsetValues.{offset_of_parts}
+use Rattle.format_descriptions.specs.PartPlaces.{part_place}
 use Rattle.format_descriptions.specs.Read.{items_at, no_parts}
 use Rattle.format_descriptions.specs.Values.{date_of_parts}
 use Rattle.format_descriptions.specs.declared.item.Item.{Item}
+use Rattle.format_descriptions.specs.declared.part_places.PartPlace.{PartPlace}
 use Rattle.format_descriptions.specs.declared.parts.Parts.{Parts}
+use Rattle.format_descriptions.specs.declared.value_refusal.Field.{Field}
 use Rattle.format_descriptions.specs.declared.value_refusal.Field.TheVariants as field
 use Rattle.format_descriptions.specs.declared.value_refusal.ValueRefusal.{ValueRefusal}
 use Rattle.format_descriptions.specs.declared.value_refusal.ValueRefusal.TheVariants.{Missing, Wrong}
@@ -78,15 +82,26 @@ with_rest p v = record p {
   nanosecond = number_or p.nanosecond v.nanosecond;
 }
 
--- a date-time of this wall clock
-abbrev pub agreeing_value : ℤ → Local → Value
-agreeing_value wall at = if int_eq at.wall wall then Ok (date_time_parts at) else Err (Wrong field.UnixSecond)
+-- parts have a Unix timestamp, of any precision
+abbrev pub has_count : Parts → Bool
+has_count p = is_some p.unix_second || (is_some p.unix_millisecond || (is_some p.unix_microsecond || is_some p.unix_nanosecond))
+
+-- the Unix timestamp that names the instant of parts: the finest that they have
+unfoldable pub finest_count : Parts → Field
+finest_count p =
+    if is_some p.unix_nanosecond then field.UnixNanosecond
+    else (if is_some p.unix_microsecond then field.UnixMicrosecond
+    else (if is_some p.unix_millisecond then field.UnixMillisecond else field.UnixSecond))
+
+-- a date-time of this wall clock, or the error of the Unix timestamp that names another
+abbrev pub agreeing_value : Parts → ℤ → Local → Value
+agreeing_value p wall at = if int_eq at.wall wall then Ok (date_time_parts at) else Err (Wrong (finest_count p))
 
 -- the date-time of a wall clock, if all parts are those of it
 abbrev pub whole_value : Parts → ℤ → ℤ → Value
 whole_value whole wall o =
     then_with (date_of_parts whole) (λ day. then_with (time_of_parts whole) (λ clock.
-    agreeing_value wall (wall_at (wall_clock day clock) o)))
+    agreeing_value whole wall (wall_at (wall_clock day clock) o)))
 
 abbrev pub shown_value : Parts → ℤ → ℤ → Value
 shown_value p wall o = whole_value (with_rest p (date_time_parts (wall_at wall o))) wall o
@@ -109,36 +124,60 @@ zoned_value p = value_by_counts p (instant_of_counts p)
 
 -- ---- by the kind of value
 
-abbrev pub value_fault : ValueRefusal → Fault
-value_fault (Missing part) = record { place = 0; refused = refused.Syntax; reason = reason_of_field part }
-value_fault (Wrong part) = record { place = 0; refused = refused.Result; reason = reason_of_field part }
-
-abbrev pub value_or_fault : Value → Result MuxanduDateTime Fault
-value_or_fault (Ok v) = Ok v
-value_or_fault (Err refusal) = Err (value_fault refusal)
-
-unfoldable pub value_by_kind : ℕ → Parts → Result MuxanduDateTime Fault
+-- the date-time of parts, if the kind is one
+unfoldable pub value_by_kind : ℕ → Parts → Option Value
 value_by_kind kind p =
-    if kind == 1 then value_or_fault (zoned_value p)
-    else (if kind == 2 then value_or_fault (plain_value p)
-    else (if kind == 3 then value_or_fault (date_value p)
-    else (if kind == 4 then value_or_fault (time_value p)
-    else (if kind == 5 then value_or_fault (utc_offset_value p)
-    else Err (fault_of refused.Unit)))))
+    if kind == 1 then Some (zoned_value p)
+    else (if kind == 2 then Some (plain_value p)
+    else (if kind == 3 then Some (date_value p)
+    else (if kind == 4 then Some (time_value p)
+    else (if kind == 5 then Some (utc_offset_value p)
+    else None))))
 
 -- ---- of a text
+
+-- the place of a part in a text, or the length of a text that has no such part
+abbrev pub place_or_end : List ℕ → Option PartPlace → ℕ
+place_or_end text None = length text
+place_or_end text (Some at) = at.place
+
+-- the error of parts that are no value: the part at fault, its error, and its place in the text
+abbrev pub part_at_fault : ValueRefusal → Field
+part_at_fault (Missing part) = part
+part_at_fault (Wrong part) = part
+
+abbrev pub refused_value : ValueRefusal → Refused
+refused_value (Missing part) = refused.Syntax
+refused_value (Wrong part) = refused.Result
+
+abbrev pub place_of_fault : List Item → List ℕ → ValueRefusal → ℕ
+place_of_fault items text (Missing part) = 0
+place_of_fault items text (Wrong part) = place_or_end text (part_place items text part)
+
+abbrev pub value_fault : List Item → List ℕ → ValueRefusal → Fault
+value_fault items text refusal = record {
+  place = place_of_fault items text refusal;
+  refused = refused_value refusal;
+  reason = reason_of_field (part_at_fault refusal);
+}
+
+-- the date-time of parts, or the error
+abbrev pub value_or_fault : List Item → List ℕ → Option Value → Result MuxanduDateTime Fault
+value_or_fault items text None = Err (fault_of refused.Unit)
+value_or_fault items text (Some (Ok v)) = Ok v
+value_or_fault items text (Some (Err refusal)) = Err (value_fault items text refusal)
 
 -- a text that is not written so, by how many bytes are left from the fault on
 abbrev pub syntax_fault : List ℕ → ℕ → Fault
 syntax_fault text left = record { place = length text - left; refused = refused.Syntax; reason = 0 }
 
-abbrev pub value_of_reading : ℕ → List ℕ → Result Parts ℕ → Result MuxanduDateTime Fault
-value_of_reading kind text (Ok p) = value_by_kind kind p
-value_of_reading kind text (Err left) = Err (syntax_fault text left)
+abbrev pub value_of_reading : ℕ → List Item → List ℕ → Result Parts ℕ → Result MuxanduDateTime Fault
+value_of_reading kind items text (Ok p) = value_or_fault items text (value_by_kind kind p)
+value_of_reading kind items text (Err left) = Err (syntax_fault text left)
 
 -- the date-time of a text, by items, by their numbers, and by the text of a description
 abbrev pub value_of_text : ℕ → List Item → List ℕ → Result MuxanduDateTime Fault
-value_of_text kind items text = value_of_reading kind text (items_at items text no_parts)
+value_of_text kind items text = value_of_reading kind items text (items_at items text no_parts)
 
 abbrev pub parsed_by : ℕ → List MuxanduItem → List ℕ → Result MuxanduDateTime Fault
 parsed_by kind numbers text = then_with (as_fault (items_of numbers)) (λ items. value_of_text kind items text)

@@ -1,9 +1,10 @@
 //! Format descriptions: their texts, and their items.
-ghost use Rattle.std.specs.Prelude.{◌≡◌, ◌≤◌, ◌++◌, length, take, drop, map, IfOk, Ok, Err};
+ghost use Rattle.std.specs.Prelude.{◌≡◌, ◌≢◌, ◌≤◌, ◌++◌, length, take, drop, map, IfErr, IfOk, Ok, Err};
 ghost use Rattle.muxandu_c.specs.DescriptionItems.{numbers_of_item};
 ghost use Rattle.muxandu_c.specs.Descriptions.{version_numbered, described_items, numbered_in_room, numbers_over};
 ghost use Rattle.muxandu_c.specs.Descriptions.{item_or_refused, items_of, source_of, source_of_items, refused_items};
 ghost use Rattle.muxandu_c.specs.Outcomes.{outcome_of, size_of};
+ghost use Rattle.muxandu_c.specs.declared.refused.Refused.TheVariants as refused;
 
 use crate::batches::{Conversion, fill};
 use crate::description_items::{MuxanduItem, item_of, numbers_of_item};
@@ -111,7 +112,7 @@ pub extern "C" fn muxandu_description_parse(
         outcome_of (numbered_in_room (length items.old) (described_items version text.now)) }
     ensures written { items.new ≡ numbers_over (described_items version text.now) items.old }
 {
-    let mut room = [Item::Byte(b' '); MUXANDU_DESCRIPTION_ROOM];
+    let mut room = [Item::Byte(0); MUXANDU_DESCRIPTION_ROOM];
     match read_description(version, text, &mut room) {
         Ok(count) => {
             if items.len() < count {
@@ -131,8 +132,8 @@ pub extern "C" fn muxandu_description_parse(
 /// Writes the text of items as a description in version 1 or 2 of its language to the front of
 /// `buffer`. `size` is its length. muxandu_description_parse reads it back as the same items.
 /// Errors, in this order: UNIT if the version is neither 1 nor 2. UNIT if a number is no item, or
-/// for more than 128 items. NO_TEXT or BUFFER, with the index of the item and the reason. The call
-/// can change `buffer` then.
+/// for more than 128 items. NO_TEXT or BUFFER, with the index of the item and the reason. After
+/// UNIT the call writes nothing. After the other errors it can have changed `buffer`.
 #[unsafe(no_mangle)]
 pub extern "C" fn muxandu_description_text(
     version: u32,
@@ -143,6 +144,8 @@ pub extern "C" fn muxandu_description_text(
         outcome_of (size_of (source_of version (length buffer.old) items.now)) }
     ensures written { IfOk (source_of version (length buffer.old) items.now)
         (λ text. buffer.new ≡ text ++ drop (length text) buffer.old) }
+    ensures unit { IfErr (source_of version (length buffer.old) items.now)
+        (λ fault. fault.refused ≡ refused.Unit → buffer.new ≡ buffer.old) }
 {
     outcome_of(write_source(version, items, buffer))
 }
@@ -152,11 +155,13 @@ fn write_source(version: u32, items: &[MuxanduItem], buffer: &mut [u8]) -> Resul
     ensures size { result ≡ size_of (source_of version (length buffer.old) items.now) }
     ensures written { IfOk (source_of version (length buffer.old) items.now)
         (λ text. buffer.new ≡ text ++ drop (length text) buffer.old) }
+    ensures unit { IfErr (source_of version (length buffer.old) items.now)
+        (λ fault. fault.refused ≡ refused.Unit → buffer.new ≡ buffer.old) }
 {
     let Some(version) = version_numbered(version) else {
         return Err(plain_fault(Refused::Unit));
     };
-    let mut room = [Item::Byte(b' '); MUXANDU_DESCRIPTION_ROOM];
+    let mut room = [Item::Byte(0); MUXANDU_DESCRIPTION_ROOM];
     match read_items(items, &mut room) {
         Ok(count) => write_items(version, &room[..count], buffer),
         Err(refused) => Err(plain_fault(refused)),
@@ -171,6 +176,8 @@ fn write_items(
     ensures size { result ≡ size_of (source_of_items version (length buffer.old) items.now) }
     ensures written { IfOk (source_of_items version (length buffer.old) items.now)
         (λ text. buffer.new ≡ text ++ drop (length text) buffer.old) }
+    ensures no_unit { IfErr (source_of_items version (length buffer.old) items.now)
+        (λ fault. fault.refused ≢ refused.Unit) }
 {
     match write_description(version, items, buffer) {
         Ok(size) => Ok(size),
@@ -184,7 +191,8 @@ fn write_items(
 
 // The error of items that have no text.
 fn refused_items(fault: ItemFault) -> Refused
-    ensures { result ≡ refused_items fault }
+    ensures value { result ≡ refused_items fault }
+    ensures no_unit { result ≢ refused.Unit }
 {
     match fault {
         ItemFault::NoRoom => Refused::Buffer,

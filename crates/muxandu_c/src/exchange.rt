@@ -143,7 +143,7 @@ pub extern "C" fn muxandu_timestamp_to_rfc3339_nanos(
     put_text(timestamp_to_rfc3339_nanos(at), buffer, size)
 }
 
-// The date-time of a text of any form, byte by byte. It stands apart, since vector lanes read most texts.
+// The date-time of a text of any form, byte by byte. It is not in line, since vector lanes read most texts.
 #[inline(never)]
 fn read_any_text(text: &[u8]) -> Result<OffsetDateTime, Refused>
     ensures spelled { (p : Parts) → IsDateTime text.now p → result ≡ read_parts p }

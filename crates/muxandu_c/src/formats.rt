@@ -117,7 +117,7 @@ fn formatted_by(
 ) -> Result<Text, Refused>
     ensures { result ≡ formatted_by kind numbers.now date_time }
 {
-    let mut room = [Item::Byte(b' '); MUXANDU_DESCRIPTION_ROOM];
+    let mut room = [Item::Byte(0); MUXANDU_DESCRIPTION_ROOM];
     let count = read_items(numbers, &mut room)?;
     text_of_value(kind, &room[..count], date_time)
 }
@@ -155,7 +155,7 @@ fn formatted_text(
 ) -> Result<Text, Refused>
     ensures { result ≡ formatted_text kind description.now date_time }
 {
-    let mut room = [Item::Byte(b' '); MUXANDU_DESCRIPTION_ROOM];
+    let mut room = [Item::Byte(0); MUXANDU_DESCRIPTION_ROOM];
     match read_description(2, description, &mut room) {
         Ok(count) => text_of_value(kind, &room[..count], date_time),
         Err(fault) => Err(fault.refused),
@@ -210,7 +210,7 @@ pub extern "C" fn muxandu_format_all(
         (with_items items.now (with_room spans.old date_times.now)))
         ++ drop result.count spans.old }
 {
-    let mut room = [Item::Byte(b' '); MUXANDU_DESCRIPTION_ROOM];
+    let mut room = [Item::Byte(0); MUXANDU_DESCRIPTION_ROOM];
     match read_items(items, &mut room) {
         Ok(count) => {
             if spans.len() < date_times.len() {
@@ -256,7 +256,7 @@ fn fill_formats(
     }
 }
 
-// Puts the text of a date-time behind so many bytes of a block, if there is room, and says how long it is.
+// Puts the text of a date-time after this number of bytes of a block, if there is room, and returns its length.
 fn write_format_at(
     kind: u32,
     items: &[Item],

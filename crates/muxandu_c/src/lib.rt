@@ -24,6 +24,7 @@ mod full_times;
 #[cfg(test)]
 mod group_tests;
 mod inside_moments;
+mod laws;
 mod leap_texts;
 pub mod limits;
 mod local_batches;

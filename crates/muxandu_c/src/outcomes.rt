@@ -39,7 +39,7 @@ pub(crate) fn plain_fault(refused: Refused) -> Fault
     }
 }
 
-// The result of a call that writes so many items or bytes.
+// The result of a call that writes this number of items or bytes.
 pub(crate) fn outcome_of(answer: Result<usize, Fault>) -> MuxanduOutcome
     ensures { result ≡ outcome_of answer }
 {

@@ -13,17 +13,22 @@ use crate::descriptions::{MUXANDU_DESCRIPTION_ROOM, read_description, read_items
 use crate::each_batches::convert_each;
 use crate::formats::MuxanduKind;
 use crate::outcomes::{Fault, MuxanduOutcome, outcome_of, plain_fault};
-use crate::parsed_values::value_by_kind;
+use crate::parsed_values::{refused_value, value_by_kind, value_fault};
 use crate::refused::{MuxanduStatus, Refused};
 use crate::values::{MuxanduBatch, MuxanduDateTime, MuxanduSpan};
-use format_descriptions::{Item, parse};
+use format_descriptions::{Item, Parts, parse_into};
 
 // The date-time of a text.
 fn value_of_text(kind: u32, items: &[Item], text: &[u8]) -> Result<MuxanduDateTime, Fault>
     ensures { result ≡ value_of_text kind items.now text.now }
 {
-    match parse(items, text) {
-        Ok(parts) => value_by_kind(kind, parts),
+    let mut parts = Parts::none();
+    match parse_into(items, text, &mut parts) {
+        Ok(()) => match value_by_kind(kind, &parts) {
+            Some(Ok(date_time)) => Ok(date_time),
+            Some(Err(refusal)) => Err(value_fault(items, text, refusal)),
+            None => Err(plain_fault(Refused::Unit)),
+        },
         Err(place) => Err(Fault {
             place,
             refused: Refused::Syntax,
@@ -36,7 +41,7 @@ fn value_of_text(kind: u32, items: &[Item], text: &[u8]) -> Result<MuxanduDateTi
 fn parsed_by(kind: u32, numbers: &[MuxanduItem], text: &[u8]) -> Result<MuxanduDateTime, Fault>
     ensures { result ≡ parsed_by kind numbers.now text.now }
 {
-    let mut room = [Item::Byte(b' '); MUXANDU_DESCRIPTION_ROOM];
+    let mut room = [Item::Byte(0); MUXANDU_DESCRIPTION_ROOM];
     match read_items(numbers, &mut room) {
         Ok(count) => value_of_text(kind, &room[..count], text),
         Err(refused) => Err(plain_fault(refused)),
@@ -47,7 +52,7 @@ fn parsed_by(kind: u32, numbers: &[MuxanduItem], text: &[u8]) -> Result<MuxanduD
 fn parsed_text(kind: u32, description: &[u8], text: &[u8]) -> Result<MuxanduDateTime, Fault>
     ensures { result ≡ parsed_text kind description.now text.now }
 {
-    let mut room = [Item::Byte(b' '); MUXANDU_DESCRIPTION_ROOM];
+    let mut room = [Item::Byte(0); MUXANDU_DESCRIPTION_ROOM];
     match read_description(2, description, &mut room) {
         Ok(count) => value_of_text(kind, &room[..count], text),
         Err(fault) => Err(fault),
@@ -78,7 +83,9 @@ fn put_value(
 /// a number is no item, or for more than 128 items. SYNTAX with the index of the byte where the
 /// item begins that the text lacks. UNIT if `kind` is none. SYNTAX with a part as the reason,
 /// without which the text names no one value. RESULT with the first part that is out of range, or
-/// that is not a part of the value.
+/// that is not a part of the value. Its place is the byte where the item of the part begins, or the
+/// length of the text if no item gives the part. If the other parts contradict a Unix timestamp,
+/// the reason is the finest timestamp of the text.
 #[unsafe(no_mangle)]
 pub extern "C" fn muxandu_parse_items(
     kind: MuxanduKind,
@@ -141,13 +148,18 @@ fn read_at(
     read_text(kind, items, &texts[span.start..span.start + span.length])
 }
 
-// The date-time of a text, or its error alone.
+// The date-time of a text, or its error alone, for which the place of a part is not sought.
 fn read_text(kind: u32, items: &[Item], text: &[u8]) -> Result<MuxanduDateTime, Refused>
     ensures { result ≡ read_by kind items.now text.now }
 {
-    match value_of_text(kind, items, text) {
-        Ok(date_time) => Ok(date_time),
-        Err(fault) => Err(fault.refused),
+    let mut parts = Parts::none();
+    match parse_into(items, text, &mut parts) {
+        Ok(()) => match value_by_kind(kind, &parts) {
+            Some(Ok(date_time)) => Ok(date_time),
+            Some(Err(refusal)) => Err(refused_value(refusal)),
+            None => Err(Refused::Unit),
+        },
+        Err(_) => Err(Refused::Syntax),
     }
 }
 
@@ -170,7 +182,7 @@ pub extern "C" fn muxandu_parse_all(
     ensures written { out.new ≡ values_of (read_in kind items.now texts.now)
         (with_items items.now (with_room out.old spans.now)) ++ drop result.count out.old }
 {
-    let mut room = [Item::Byte(b' '); MUXANDU_DESCRIPTION_ROOM];
+    let mut room = [Item::Byte(0); MUXANDU_DESCRIPTION_ROOM];
     match read_items(items, &mut room) {
         Ok(count) => {
             if out.len() < spans.len() {
@@ -224,7 +236,7 @@ pub extern "C" fn muxandu_parse_each(
         statuses.new ≡ status_of_each (read_in kind items.now texts.now) (with_items items.now gone)
         ++ drop (length (with_items items.now gone)) statuses.old }
 {
-    let mut room = [Item::Byte(b' '); MUXANDU_DESCRIPTION_ROOM];
+    let mut room = [Item::Byte(0); MUXANDU_DESCRIPTION_ROOM];
     match read_items(items, &mut room) {
         Ok(count) => read_each(kind, &room[..count], texts, spans, out, statuses),
         Err(refused) => stop_at(0, refused),

@@ -212,7 +212,7 @@ pub(crate) fn seconds_of(offset_seconds: i32) -> SignedDuration
     SignedDuration::seconds(offset_seconds as i64)
 }
 
-// What clocks at an offset of so many seconds show at an instant, as clocks in UTC show it, if the range has
+// What clocks at an offset of this number of seconds show at an instant, as clocks in UTC show it, if the range has
 // it.
 #[inline(always)]
 pub(crate) fn shown_as_if_utc(at: Timestamp, offset_seconds: i32) -> Result<Timestamp, Refused>

@@ -45,7 +45,7 @@ pub enum Reason {
     NoFirst = 16,
     /// A group of more items than the description, or the group around it, has.
     PastEnd = 17,
-    /// The year.
+    /// The year, -999999 to 999999.
     Year = 18,
     /// The year without its last two digits.
     YearCentury = 19,
@@ -57,45 +57,47 @@ pub enum Reason {
     IsoYearCentury = 22,
     /// The last two digits of the year of the ISO week.
     IsoYearLastTwo = 23,
-    /// The month.
+    /// The month, 1 to 12.
     Month = 24,
-    /// The day of the month.
+    /// The day of the month, 1 to 31.
     Day = 25,
-    /// The day of the year.
+    /// The day of the year, 1 to 366.
     Ordinal = 26,
     /// The day of the week.
     Weekday = 27,
-    /// The ISO week.
+    /// The ISO week, 1 to 53.
     IsoWeek = 28,
-    /// The week by the Sundays of the year.
+    /// The week by the Sundays of the year, 0 to 53.
     SundayWeek = 29,
-    /// The week by the Mondays of the year.
+    /// The week by the Mondays of the year, 0 to 53.
     MondayWeek = 30,
-    /// The hour of the day.
+    /// The hour of the day, 0 to 23.
     Hour = 31,
-    /// The hour on a clock of 12 hours.
+    /// The hour on a clock of 12 hours, 1 to 12.
     Hour12 = 32,
     /// The half of the day.
     Period = 33,
-    /// The minute.
+    /// The minute, 0 to 59.
     Minute = 34,
-    /// The second.
+    /// The second, 0 to 59.
     Second = 35,
     /// The fraction of the second.
     Subsecond = 36,
-    /// The hours of the offset.
+    /// The hours of the offset, -25 to 25.
     OffsetHour = 37,
-    /// The minutes of the offset.
+    /// The minutes of the offset, 0 to 59.
     OffsetMinute = 38,
-    /// The seconds of the offset.
+    /// The seconds of the offset, 0 to 59.
     OffsetSecond = 39,
-    /// The Unix time in seconds.
+    /// The Unix time in seconds, -31619087596800 to 31494784780799.
     UnixSecond = 40,
-    /// The Unix time in milliseconds.
+    /// The Unix time in milliseconds, -31619087596800000 to 31494784780799999.
     UnixMillisecond = 41,
-    /// The Unix time in microseconds.
+    /// The Unix time in microseconds, -31619087596800000000 to
+    /// 31494784780799999999.
     UnixMicrosecond = 42,
-    /// The Unix time in nanoseconds.
+    /// The Unix time in nanoseconds, -31619087596800000000000 to
+    /// 31494784780799999999999.
     UnixNanosecond = 43,
 }
 

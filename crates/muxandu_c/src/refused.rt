@@ -70,7 +70,7 @@ pub enum Refused {
 impl From<ComponentRange> for Refused {
     ghost from_gives = { λ refusal refused. refused ≡ refused_part refusal };
 
-    // It stands apart, since few calls refuse.
+    // It is not in line, since few calls refuse.
     #[inline(never)]
     fn from(refusal: ComponentRange) -> Refused {
         match refusal.part() {

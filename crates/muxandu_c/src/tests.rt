@@ -2,7 +2,7 @@ use crate::values::{MuxanduDate, MuxanduDateTime, MuxanduDuration, MuxanduTimest
 use std::fmt::Debug;
 use std::process::Abort;
 
-// Ends the test unless what is shown is what is wanted.
+// Ends the test unless the two values are equal.
 fn is<T: Copy + PartialEq + Debug>(rt: &impl Abort, shown: T, wanted: T) {
     assert_eq!(rt; shown, wanted);
 }

@@ -65,7 +65,7 @@ fn fill_texts(
     }
 }
 
-// Puts the text of a date-time behind so many bytes of a block, if there is room, and says how long it is.
+// Puts the text of a date-time after this number of bytes of a block, if there is room, and returns its length.
 pub(crate) fn write_text_at(
     date_time: MuxanduDateTime,
     block: &mut [u8],

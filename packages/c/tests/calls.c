@@ -259,7 +259,7 @@ static void descriptions_read(void) {
     CHECK(muxandu_description_parse(2, DAY_FORM, strlen(DAY_FORM), items, 8).size == 5);
     CHECK(is_outcome(muxandu_parse_items(MUXANDU_KIND_DATE, items, 5, "2024-2-29", 9, &out), 5, MUXANDU_REFUSED_SYNTAX,
                      0));
-    CHECK(is_outcome(muxandu_parse_items(MUXANDU_KIND_DATE, items, 5, "2023-02-29", 10, &out), 0,
+    CHECK(is_outcome(muxandu_parse_items(MUXANDU_KIND_DATE, items, 5, "2023-02-29", 10, &out), 8,
                      MUXANDU_REFUSED_RESULT, MUXANDU_REASON_DAY));
     CHECK(is_outcome(muxandu_parse_items(MUXANDU_KIND_TIME, items, 5, "2023-02-28", 10, &out), 0,
                      MUXANDU_REFUSED_SYNTAX, MUXANDU_REASON_HOUR));

@@ -145,7 +145,7 @@ pub const REASON_NO_ESCAPE: u32 = 15;
 pub const REASON_NO_FIRST: u32 = 16;
 /// A group of more items than the description, or the group around it, has.
 pub const REASON_PAST_END: u32 = 17;
-/// The year.
+/// The year, -999999 to 999999.
 pub const REASON_YEAR: u32 = 18;
 /// The year without its last two digits.
 pub const REASON_YEAR_CENTURY: u32 = 19;
@@ -157,45 +157,45 @@ pub const REASON_ISO_YEAR: u32 = 21;
 pub const REASON_ISO_YEAR_CENTURY: u32 = 22;
 /// The last two digits of the year of the ISO week.
 pub const REASON_ISO_YEAR_LAST_TWO: u32 = 23;
-/// The month.
+/// The month, 1 to 12.
 pub const REASON_MONTH: u32 = 24;
-/// The day of the month.
+/// The day of the month, 1 to 31.
 pub const REASON_DAY: u32 = 25;
-/// The day of the year.
+/// The day of the year, 1 to 366.
 pub const REASON_ORDINAL: u32 = 26;
 /// The day of the week.
 pub const REASON_WEEKDAY: u32 = 27;
-/// The ISO week.
+/// The ISO week, 1 to 53.
 pub const REASON_ISO_WEEK: u32 = 28;
-/// The week by the Sundays of the year.
+/// The week by the Sundays of the year, 0 to 53.
 pub const REASON_SUNDAY_WEEK: u32 = 29;
-/// The week by the Mondays of the year.
+/// The week by the Mondays of the year, 0 to 53.
 pub const REASON_MONDAY_WEEK: u32 = 30;
-/// The hour of the day.
+/// The hour of the day, 0 to 23.
 pub const REASON_HOUR: u32 = 31;
-/// The hour on a clock of 12 hours.
+/// The hour on a clock of 12 hours, 1 to 12.
 pub const REASON_HOUR12: u32 = 32;
 /// The half of the day.
 pub const REASON_PERIOD: u32 = 33;
-/// The minute.
+/// The minute, 0 to 59.
 pub const REASON_MINUTE: u32 = 34;
-/// The second.
+/// The second, 0 to 59.
 pub const REASON_SECOND: u32 = 35;
 /// The fraction of the second.
 pub const REASON_SUBSECOND: u32 = 36;
-/// The hours of the offset.
+/// The hours of the offset, -25 to 25.
 pub const REASON_OFFSET_HOUR: u32 = 37;
-/// The minutes of the offset.
+/// The minutes of the offset, 0 to 59.
 pub const REASON_OFFSET_MINUTE: u32 = 38;
-/// The seconds of the offset.
+/// The seconds of the offset, 0 to 59.
 pub const REASON_OFFSET_SECOND: u32 = 39;
-/// The Unix time in seconds.
+/// The Unix time in seconds, -31619087596800 to 31494784780799.
 pub const REASON_UNIX_SECOND: u32 = 40;
-/// The Unix time in milliseconds.
+/// The Unix time in milliseconds, -31619087596800000 to 31494784780799999.
 pub const REASON_UNIX_MILLISECOND: u32 = 41;
-/// The Unix time in microseconds.
+/// The Unix time in microseconds, -31619087596800000000 to 31494784780799999999.
 pub const REASON_UNIX_MICROSECOND: u32 = 42;
-/// The Unix time in nanoseconds.
+/// The Unix time in nanoseconds, -31619087596800000000000 to 31494784780799999999999.
 pub const REASON_UNIX_NANOSECOND: u32 = 43;
 
 /// The year, -999999 to 999999.
@@ -704,7 +704,7 @@ unsafe extern "C" {
     /// `buffer`. `size` is its length. muxandu_description_parse reads it back as the same items.
     /// Errors, in this order: UNIT if the version is neither 1 nor 2. UNIT if a number is no item,
     /// or for more than 128 items. NO_TEXT or BUFFER, with the index of the item and the reason.
-    /// The call can change `buffer` then.
+    /// After UNIT the call writes nothing. After the other errors it can have changed `buffer`.
     pub unsafe fn muxandu_description_text(version: u32, items: *const MuxanduItem, items_count: usize, buffer: *mut u8, buffer_count: usize) -> MuxanduOutcome;
     /// Writes the RFC 3339 text of a date-time with `digits` digits of the fraction, in at most 35
     /// bytes, as muxandu_date_time_text does. With three it is `1985-04-12T23:20:50.520Z`. The call
@@ -991,7 +991,9 @@ unsafe extern "C" {
     /// this order: UNIT if a number is no item, or for more than 128 items. SYNTAX with the index
     /// of the byte where the item begins that the text lacks. UNIT if `kind` is none. SYNTAX with a
     /// part as the reason, without which the text names no one value. RESULT with the first part
-    /// that is out of range, or that is not a part of the value.
+    /// that is out of range, or that is not a part of the value. Its place is the byte where the
+    /// item of the part begins, or the length of the text if no item gives the part. If the other
+    /// parts contradict a Unix timestamp, the reason is the finest timestamp of the text.
     pub unsafe fn muxandu_parse_items(kind: u32, items: *const MuxanduItem, items_count: usize, text: *const u8, text_count: usize, out: &mut MuxanduDateTime) -> MuxanduOutcome;
     /// The date-time of a text by a description in version 2 of its language, such as
     /// `[year]-[month]-[day]`, as muxandu_parse_items reads it. Errors, in this order: SYNTAX if

@@ -184,7 +184,7 @@ fn parses_by_items(rt: HostRuntime) {
     let found = muxandu_parse_items(3, &items, b"2024-2-29", &mut out);
     is(&rt, (found.size, found.status, found.reason), (5, 22, 0));
     let found = muxandu_parse_items(3, &items, b"2023-02-29", &mut out);
-    is(&rt, (found.size, found.status, found.reason), (0, 19, 25));
+    is(&rt, (found.size, found.status, found.reason), (8, 19, 25));
     let found = muxandu_parse_items(4, &items, b"2023-02-28", &mut out);
     is(&rt, (found.size, found.status, found.reason), (0, 22, 31));
     let found = muxandu_parse_items(9, &items, b"2023-02-28", &mut out);
@@ -231,6 +231,25 @@ fn parses_of_kinds(rt: HostRuntime) {
     let found = muxandu_parse(1, b"[year]", b"2024", &mut out);
     is(&rt, (found.size, found.status, found.reason), (0, 22, 24));
     is(&rt, date(out.year, out.month, out.day).year, 1970);
+}
+
+#[test]
+fn places_of_parts(rt: HostRuntime) {
+    let mut out = midnight(7, 7, 7, 7);
+    let weekday = b"[year]-[month]-[day][optional [ [weekday repr:short]]]";
+    let found = muxandu_parse(3, weekday, b"2024-02-29 Fri", &mut out);
+    is(&rt, (found.size, found.status, found.reason), (11, 19, 27));
+    let found = muxandu_parse(5, b"[offset_hour]:[offset_minute]", b"+01:60", &mut out);
+    is(&rt, (found.size, found.status, found.reason), (4, 19, 38));
+    let found = muxandu_parse(1, b"[unix_timestamp] [hour]", b"3600 25", &mut out);
+    is(&rt, (found.size, found.status, found.reason), (5, 19, 31));
+    let form = b"[hour] [unix_timestamp precision:millisecond]";
+    let found = muxandu_parse(1, form, b"02 3600000", &mut out);
+    is(&rt, (found.size, found.status, found.reason), (3, 19, 41));
+    // The day of the timestamp, 2024-02-29, is none of the year in the text.
+    let found = muxandu_parse(1, b"[unix_timestamp] [year]", b"1709190296 2023", &mut out);
+    is(&rt, (found.size, found.status, found.reason), (15, 19, 25));
+    is(&rt, (out.year, out.day), (7, 7));
 }
 
 #[test]

@@ -39,7 +39,7 @@ fn texts(rt: HostRuntime) {
     ] {
         is(&rt, told, expected);
     }
-    // What lies behind the last text is of the one before.
+    // What follows the last text is of the one before.
     is(
         &rt,
         (buffer[0], buffer[3], buffer[4], buffer[29]),
