@@ -22,7 +22,7 @@ one_more count = min (count + 1) most
 abbrev pub first_tally : Tally
 first_tally = record { lines = 0; last = None; row = None; back = None }
 
--- so many rows without lines at most, from a bucket on and before another
+-- at most this number of rows without lines, from a bucket on and before another
 unfoldable pub empty_rows : Counting → ℕ → ℤ → ℤ → List ℕ
 empty_rows counting zero from to = []
 empty_rows counting (suc more) from to =

@@ -6,7 +6,7 @@ use Rattle.line_devices.specs.Lines.{lines_of}
 use Rattle.line_counts.specs.Counting.{Counting}
 use Rattle.line_counts.specs.Counts.{bucket_at, count_input, most}
 
--- so many bytes
+-- this number of bytes
 unfoldable pub marks : ℕ → List ℕ
 marks zero = []
 marks (suc more) = 0 ∷ marks more

@@ -1,5 +1,5 @@
 -- The parts of a device, and the state of a reader and a writer together.
-use Rattle.std.specs.Prelude.{ℕ, ◌==◌, Bool, true, List, Option, Some, None}
+use Rattle.std.specs.Prelude.{ℕ, ◌-◌, ◌==◌, Bool, true, if◌then◌else◌, List, slice_get, Option, Some, None, Result, Ok, Err}
 use Rattle.line_devices.specs.declared.devices.Device.{Device}
 
 -- the reader or the writer
@@ -17,6 +17,11 @@ is_pipe_closed device = device.is_pipe_closed
 -- the last byte that was written, if any was
 abbrev pub last_of : {T : Type 0} → Device T → Option ℕ
 last_of device = device.last
+
+-- the last byte that was written after a write of the first bytes of a text; one of no byte, or a failed one, leaves it
+abbrev pub last_after : {E : Type 0} → Result ℕ E → List ℕ → Option ℕ → Option ℕ
+last_after (Ok count) text before = if count == 0 then before else slice_get text (count - 1)
+last_after (Err fault) text before = before
 
 -- whether a line starts after the last byte
 abbrev pub is_at_start : Option ℕ → Bool

@@ -1,5 +1,5 @@
 //! The devices that bytes come from and go to.
-ghost use Rattle.std.specs.Prelude.{◌≡◌, ℕ, ◌-◌, ◌<◌, Bool, false, List, length, Option, Some, None, IfOk, slice_get};
+ghost use Rattle.std.specs.Prelude.{◌≡◌, ℕ, ◌<◌, Bool, false, List, length, Option, Some, None, IfOk};
 ghost use Rattle.std.specs.Io.{ReadsAtMost, WritesAtMost};
 ghost use Rattle.std.specs.Io.KnownBytes.{ReadConsumes, WriteAppends};
 ghost use Rattle.line_devices.specs.Writing.{MarksFailure, WritesAll};
@@ -107,13 +107,20 @@ impl<T> Device<T> {
 }
 
 impl<T: Read> Source for Device<T> {
-    ghost use Rattle.line_devices.specs.Device.{inner_of, has_failed};
+    ghost use Rattle.line_devices.specs.Device.{inner_of, has_failed, is_pipe_closed, last_of};
 
     ghost left = { λ device. T.remaining (inner_of device) };
 
     ghost is_marked = { has_failed };
 
-    fn read_some(&mut self, buffer: &mut [u8]) -> Result<usize, DeviceFault> {
+    fn read_some(&mut self, buffer: &mut [u8]) -> Result<usize, DeviceFault>
+        ensures bound { ReadsAtMost result buffer.new }
+        ensures consumed { ReadConsumes (T.remaining (inner_of self.old))
+            (T.remaining (inner_of self.new)) result buffer.new }
+        ensures mark { MarksFailure result (has_failed self.old) (has_failed self.new) }
+        ensures last { last_of self.new ≡ last_of self.old }
+        ensures pipe { is_pipe_closed self.new ≡ is_pipe_closed self.old }
+    {
         match self.inner.read(buffer) {
             Ok(count) => Ok(count),
             Err(_) => {
@@ -129,7 +136,8 @@ impl<T: Read> Source for Device<T> {
 }
 
 impl<T: Write> Sink for Device<T> {
-    ghost use Rattle.line_devices.specs.Device.{inner_of, has_failed, last_of};
+    ghost use Rattle.line_devices.specs.Device.{inner_of, has_failed, is_pipe_closed, last_of, last_after};
+    ghost use Rattle.std.specs.Prelude.{OnOk};
 
     ghost written = { λ device. T.contents (inner_of device) };
 
@@ -141,8 +149,8 @@ impl<T: Write> Sink for Device<T> {
         ensures appended { WriteAppends (T.contents (inner_of self.old))
             (T.contents (inner_of self.new)) result text.now }
         ensures mark { MarksFailure result (has_failed self.old) (has_failed self.new) }
-        ensures last { IfOk result (λ count. 0 < count
-            → slice_get text.now (count - 1) ≡ last_of self.new) }
+        ensures last { last_of self.new ≡ last_after result text.now (last_of self.old) }
+        ensures pipe { OnOk result (is_pipe_closed self.new ≡ is_pipe_closed self.old) }
     {
         match self.inner.write(text) {
             Ok(count) if count > 0 => {

@@ -17,10 +17,10 @@ pub fn place_of(byte: u8, text: &[u8], from: usize) -> usize
     let mut place = from;
     'runs: while LANES <= text.len() - place {
         let count = count_before(byte, text, place);
-        place += count;
         if count < LANES {
-            return place;
+            return place + count;
         }
+        place += LANES;
     }
     'bytes: while place < text.len() && text[place] != byte {
         place += 1;

@@ -1,5 +1,5 @@
 -- The lines of bytes, one after another.
-use Rattle.std.proofs.Common.{◌≡◌, ◌≢◌, ℕ, zero, suc, ◌+◌, ◌<◌, ◌≤◌, ◌⊎◌, inl, inr, Bool, true, false, nat_eq, List, [], ◌∷◌, ◌++◌, length, take}
+use Rattle.std.proofs.Common.{◌≡◌, ◌≢◌, ℕ, zero, suc, ◌+◌, ◌<◌, ◌≤◌, ◌⊎◌, inl, inr, Bool, true, false, nat_eq, nat_lt, List, [], ◌∷◌, ◌++◌, length, take}
 use Rattle.std.proofs.Common.{drop, get_or, ℤ, Option, refl, sym, ap, subst, ◌∙◌, arith, append_assoc, append-nil}
 use Rattle.std.proofs.lemmas.Bool.{cases_Bool, cases_lt, eqb-true, false≢true}
 use Rattle.std.proofs.lemmas.Bool.Decides.{nat_tests}
@@ -126,6 +126,20 @@ no_line_feed (byte ∷ bytes) none =
     let other : byte ≢ 10 = none 0 (omega arith) (omega arith) in
     let t : nat_eq byte 10 ≡ false = grind (arith, nat_tests) in
     rw t (no_line_feed bytes (λ k a b. none (suc k) (omega arith) (omega arith)))
+
+-- a line feed is found exactly if there is one
+pub feed_found : (bytes : List ℕ) (end : ℕ) → HasNone 10 bytes 0 end → (end < length bytes → get_or bytes end 0 ≡ 10) → end ≤ length bytes
+    → nat_lt end (length bytes) ≡ has_line_feed bytes
+feed_found bytes end none there high =
+    elim (cases_lt end (length bytes)) [
+      | inl low ↦
+          let t : nat_lt end (length bytes) ≡ true = grind (arith, nat_tests) in
+          t ∙ sym (line_up_to bytes end none low (there low)).feed
+      | inr past ↦
+          let t : nat_lt end (length bytes) ≡ false = grind (arith, nat_tests) in
+          let all : end ≡ length bytes = omega arith in
+          t ∙ sym (no_line_feed bytes (subst (HasNone 10 bytes 0) all none))
+    ]
 
 -- the first line with its line feed, as so many bytes
 pub record FrontIs (bytes : List ℕ) (count : ℕ) (feed : Bool) : Type 0 where

@@ -152,12 +152,12 @@ future_is front future (inr (inr feed)) more same = inr (inr (sym (ap has_line_f
 pub look_ready : (instant : LogInstants) (old new : Front) (end : ℕ) (bytes : List ℕ) (own : Option ℤ) (is_empty : Bool)
     → ((last : Option ℤ) (is_first : Bool) (line : List ℕ) → instant last is_first (take 1027 line) ≡ instant last is_first line)
     → IsEnough old → bytes ≡ old.buffer
-    → end ≤ length bytes → HasNone 10 bytes 0 end → (end < length bytes → get_or bytes end 0 ≡ 10)
+    → end ≤ length old.buffer → HasNone 10 old.buffer 0 end → (end < length old.buffer → get_or old.buffer end 0 ≡ 10)
     → own ≡ instant old.place.last (nat_eq old.place.lines 0) (take end bytes) → is_empty ≡ nat_eq (length bytes) 0 → new.buffer ≡ old.buffer
     → new.is_ended ≡ old.is_ended
     → new.place ≡ old.place → new.has_line ≡ not is_empty → new.next ≡ up_to old.place.last own → IsReady instant new
 look_ready instant old new end bytes own is_empty by_head enough whole high none there is empty buffer ended place has next =
-    let line : take end bytes ≡ line_in bytes = line_in-found bytes end high none there in
+    let line : take end bytes ≡ line_in bytes = rw whole (line_in-found old.buffer end high none there) in
     let here : new.buffer ≡ bytes = buffer ∙ sym whole in
     record {
       line = λ some. rw here (not_empty bytes is_empty empty (sym has ∙ some));

@@ -1,4 +1,4 @@
--- Bytes that are read behind others.
+-- Bytes that are read after others.
 use Rattle.std.specs.Prelude.{◌≡◌, ℕ, Bool, true, List, ◌++◌, length, Option, Result, MatchResult}
 use Rattle.std.specs.Io.KnownBytes.{Consumes, IsAtEnd, Keeps}
 use Rattle.line_devices.specs.declared.devices.DeviceFault.{DeviceFault}
@@ -11,7 +11,7 @@ pub record Behind (count : ℕ) (old new : List ℕ) (was_left left : Option (Li
   pub consumed : Consumes was_left left more
   pub end : count ≡ 0 → IsAtEnd left
 
--- more bytes were read behind those that were there, or the reader failed, which sets its mark
+-- more bytes were read after those that were there, or the reader failed, which sets its mark
 abbrev pub ReadsMore : Result ℕ DeviceFault → List ℕ → List ℕ → Option (List ℕ) → Option (List ℕ) → Bool → Bool → Type 0
 ReadsMore result old new was_left left was_marked is_marked =
     MatchResult result (λ count. Behind count old new was_left left × (is_marked ≡ was_marked))

@@ -7,11 +7,19 @@ use Rattle.line_devices.specs.Device.{Devices}
 use Rattle.line_devices.specs.Writing.{AppendsBeginning, Sends}
 use Rattle.line_merges.specs.Instants.{LogInstants, is_before}
 use Rattle.line_merges.specs.LineFronts.{front_line, has_line_feed, line_in}
-use Rattle.line_merges.specs.Lines.{instant_at}
+use Rattle.line_merges.specs.Lines.{first_place, instant_at}
 use Rattle.line_merges.specs.declared.logs.Front.{Front}
+use Rattle.line_merges.specs.declared.logs.Log.{Log}
 use Rattle.line_merges.specs.declared.logs.LogFault.{LogFault}
 use Rattle.line_merges.specs.declared.logs.LogFault.TheVariants.{Read, Write, Endless}
 use Rattle.line_merges.specs.declared.logs.Place.{Place}
+
+-- the log of a reader, of which nothing was read
+abbrev pub new_log : {R : Type 0} → R → Log R
+new_log reader = record {
+  reader = reader;
+  front = record { buffer = []; is_ended = false; place = first_place; has_line = false; next = None };
+}
 
 -- the bytes decide on the instant of the next line: a line feed ends it, or the log is at its end, or it is long
 abbrev pub IsEnough : Front → Type 0
@@ -28,7 +36,7 @@ pub record IsReady (instant : LogInstants) (front : Front) : Type 0 where
 abbrev pub IsAtEndAfter : Option (List ℕ) → Option (List ℕ) → Type 0
 IsAtEndAfter before after = IfSome before (λ _. after ≡ Some [])
 
--- more bytes were read behind those that were there
+-- more bytes were read after those that were there
 pub record Reads (old new : Front) (before after : Devices) (more : List ℕ) : Type 0 where
   pub added : new.buffer ≡ old.buffer ++ more
   pub consumed : Consumes before.left after.left more

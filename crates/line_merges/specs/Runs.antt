@@ -123,7 +123,7 @@ pub record IsCutByBack (k number : ℕ) (instants : ℕ → LogInstants) (old ne
   pub number_is : line.number ≡ number
   pub no_write_failed : after.has_failed ≡ false
 
--- a log has 2^64 - 1 bytes at least, or the merge so many lines: some of it was written
+-- a log has 2^64 - 1 bytes at least, or the merge has that number of lines: some of it was written
 pub record IsEndless (instants : ℕ → LogInstants) (old new : ℕ → Option LogState) (before after : Output) : Type 0 where
   pub bytes : ℕ → List ℕ
   pub out : List (ℕ × Line)

@@ -1,11 +1,11 @@
 //! A log, read line by line.
-ghost use Rattle.std.specs.Prelude.{◌≡◌, ◌<◌, ◌≤◌, ◌++◌, true, false, [], drop, length, take, Some, None, IfOk, OnOk, if◌then◌else◌};
+ghost use Rattle.std.specs.Prelude.{◌≡◌, ◌<◌, ◌≤◌, ◌++◌, true, false, drop, length, take, Some, None, IfOk, OnOk, if◌then◌else◌};
 ghost use Rattle.line_devices.specs.Device.{devices};
 ghost use Rattle.line_devices.specs.Writing.{MarksFailure, SendsAll};
 ghost use Rattle.line_merges.specs.Instants.{is_before};
 ghost use Rattle.line_merges.specs.LineFronts.{behind_line, front_line, has_line_feed};
 ghost use Rattle.line_merges.specs.Lines.{first_place};
-ghost use Rattle.line_merges.specs.Logs.{FindsNext, IsEnough, IsReady, PassesLine, ReadsOn, place_behind};
+ghost use Rattle.line_merges.specs.Logs.{FindsNext, IsEnough, IsReady, PassesLine, ReadsOn, new_log, place_behind};
 
 use crate::buffers::Buffer;
 use crate::instants::{Instants, LONGEST_HEAD, is_before, up_to};
@@ -85,10 +85,7 @@ impl Place {
 impl<R: Source> Log<R> {
     /// Returns the log of a reader, before its first line.
     pub(crate) fn new(reader: R) -> Log<R>
-        ensures reader { result.reader ≡ reader }
-        ensures empty { result.front.buffer ≡ [] }
-        ensures unended { result.front.is_ended ≡ false }
-        ensures place { result.front.place ≡ first_place }
+        ensures { result ≡ new_log reader }
     {
         Log {
             reader,
@@ -144,22 +141,22 @@ fn send_part<W: Sink>(
     ensures feed { IfOk result (λ is_ended. is_ended ≡ has_line_feed buffer.old) }
     ensures left { OnOk result (buffer.new ≡ behind_line buffer.old) }
 {
-    let bytes = buffer.bytes();
-    let (count, is_ended) = front_of(bytes);
-    send(writer, pending, &bytes[..count])?;
+    let (count, is_ended) = front_of(buffer);
+    send(writer, pending, &buffer.bytes()[..count])?;
     buffer.skip(count);
     Ok(is_ended)
 }
 
 // The number of bytes of the first line, with its line feed, and whether it has one.
-fn front_of(bytes: &[u8]) -> (usize, bool)
-    ensures bound { result.0 ≤ length bytes.now }
-    ensures line { take result.0 bytes.now ≡ front_line bytes.now }
-    ensures rest { drop result.0 bytes.now ≡ behind_line bytes.now }
-    ensures feed { result.1 ≡ has_line_feed bytes.now }
+fn front_of(buffer: &mut Buffer) -> (usize, bool)
+    ensures same { buffer.new ≡ buffer.old }
+    ensures bound { result.0 ≤ length buffer.old }
+    ensures line { take result.0 buffer.old ≡ front_line buffer.old }
+    ensures rest { drop result.0 buffer.old ≡ behind_line buffer.old }
+    ensures feed { result.1 ≡ has_line_feed buffer.old }
 {
-    let end = place_of(b'\n', bytes, 0);
-    if end < bytes.len() {
+    let end = buffer.line_end();
+    if end < buffer.len() {
         (end + 1, true)
     } else {
         (end, false)
@@ -167,6 +164,7 @@ fn front_of(bytes: &[u8]) -> (usize, bool)
 }
 
 /// Reads until the next line of the log with this number is known, and its instant.
+#[inline(always)]
 pub(crate) fn find_next<I: Instants, R: Source, W: Sink>(
     instants: &I,
     log: usize,
@@ -197,8 +195,14 @@ fn needs_more(front: &Front) -> bool
     if front.is_ended || front.buffer.len() >= LONGEST_HEAD {
         return false;
     }
-    let (_, is_ended) = front_of(front.buffer.bytes());
-    !is_ended
+    !has_line_feed(front.buffer.bytes())
+}
+
+// Whether some bytes have a line feed.
+fn has_line_feed(bytes: &[u8]) -> bool
+    ensures { result ≡ has_line_feed bytes.now }
+{
+    place_of(b'\n', bytes, 0) < bytes.len()
 }
 
 // Finds the next line in the bytes that were read, and its instant.
@@ -209,8 +213,8 @@ fn look<I: Instants>(instants: &I, log: usize, front: &mut Front)
     ensures ended { front.new.is_ended ≡ front.old.is_ended }
     ensures place { front.new.place ≡ front.old.place }
 {
+    let end = front.buffer.line_end();
     let bytes = front.buffer.bytes();
-    let end = place_of(b'\n', bytes, 0);
     let own = instants.instant_of(log, front.place.last, front.place.lines == 0, &bytes[..end]);
     let is_empty = bytes.is_empty();
     front.has_line = !is_empty;

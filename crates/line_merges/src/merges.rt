@@ -1,9 +1,10 @@
 //! The merge of logs.
-ghost use Rattle.std.specs.Prelude.{◌≡◌, ◌≢◌, ◌<◌, ◌++◌, ℕ, Bool, false, length, Option};
+ghost use Rattle.std.specs.Prelude.{◌≡◌, ◌≢◌, ◌<◌, ◌≤◌, [], ◌∷◌, ◌++◌, ℕ, Bool, false, length, vec_capacity, vec_len, OnErr, OnOk, Option};
 ghost use Rattle.line_devices.specs.Writing.{MarksFailure, SendsAll};
 ghost use Rattle.line_merges.specs.Choices.{IsNext};
 ghost use Rattle.line_merges.specs.Instants.{LogInstants};
 ghost use Rattle.line_merges.specs.LineFronts.{feed_if};
+ghost use Rattle.line_merges.specs.Logs.{new_log};
 ghost use Rattle.line_merges.specs.Runs.{AreNew, Ends, LogState, Output, log_states, output};
 ghost use Rattle.line_merges.specs.Steps.{AreKnown, FindsLine, SendsNext, back_line, fault_at, fronts_of};
 
@@ -124,6 +125,7 @@ fn send_feed<W: Sink>(
 }
 
 // Finds the next line of a log.
+#[inline(always)]
 fn find<I: Instants, R: Source, W: Sink>(
     instants: &I,
     is_strict: bool,
@@ -186,11 +188,15 @@ fn fault_at(k: usize, fault: LogFault) -> MergeFault
     }
 }
 
-/// Adds the log of a reader to logs of which nothing was read.
+/// Adds the log of a reader after the logs, and gives it their number. Nothing was read of any.
+/// Fails only if no memory is left, and then the logs stay the same.
 pub fn add<R: Source + Drop>(logs: &mut Vec<Log<R>>, reader: R) -> Result<(), AllocError>
     requires reader { R.is_marked reader ≡ false }
     requires logs { AreNew R.left R.is_marked logs.old.items }
-    ensures { AreNew R.left R.is_marked logs.new.items }
+    ensures ok { OnOk result (logs.new.items ≡ logs.old.items ++ new_log reader ∷ []) }
+    ensures err { OnErr result (logs.new.items ≡ logs.old.items) }
+    ensures full { OnErr result (vec_capacity logs.old ≤ vec_len logs.old) }
+    ensures new { AreNew R.left R.is_marked logs.new.items }
 {
     logs.push(Log::new(reader))?;
     Ok(())

@@ -3,3 +3,5 @@ mod ChoiceLemmas
 mod FrontLemmas
 mod RangeLemmas
 mod ReadBackLemmas
+mod SplitLemmas
+mod ZoneWordLemmas

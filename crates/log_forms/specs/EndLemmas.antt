@@ -11,7 +11,7 @@ use Rattle.log_forms.specs.declared.json.JsonState.TheVariants.{Outside, Inside,
 use Rattle.log_forms.specs.declared.places.Place.{Place}
 use Rattle.log_forms.specs.declared.places.Place.TheVariants.{Front, Field, After, Json}
 
--- a text is another one without so many bytes in front
+-- a text is another one without this number of bytes in front
 pub record IsEnd (text rest : List ℕ) : Type 0 where
   pub count : ℕ
   pub is : rest ≡ drop count text
@@ -38,7 +38,7 @@ end_if : (a b : List ℕ) (r : Option (List ℕ)) → IsEnd a b → EndIf b r �
 end_if a b None h k = tt
 end_if a b (Some c) h k = end_of_end a b c h k
 
--- behind the first byte
+-- after the first byte
 end_more : (byte : ℕ) (line : List ℕ) (r : Option (List ℕ)) → EndIf line r → EndIf (byte ∷ line) r
 end_more byte line r h = end_if (byte ∷ line) line r (end_behind byte line) h
 
@@ -83,7 +83,7 @@ without_quote-end text (Some rest) h = h
 value_text-end : (text : List ℕ) → IsEnd text (value_text text)
 value_text-end text = without_quote-end text (mark_at 34 text) (mark_at-end 34 text)
 
--- the value behind a colon
+-- the value after a colon
 colon-end : (blanks : List ℕ) → EndIf blanks (mark_at 58 (past_blanks blanks) >>= λ value. Some (value_text (past_blanks value)))
 colon-end blanks =
     end_if blanks (past_blanks blanks) (mark_at 58 (past_blanks blanks) >>= λ value. Some (value_text (past_blanks value))) (past_blanks-end blanks)

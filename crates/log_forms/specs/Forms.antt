@@ -183,7 +183,7 @@ ahead_of Mysql56 = 0
 ahead_of Hdfs = 0
 ahead_of Spark = 0
 
--- how many digits a text has behind these items, if they are counted
+-- how many digits a text has after these items, if they are counted
 abbrev pub digits_of : FormName → Option ℕ
 digits_of Rfc3339 = Some 4
 digits_of Rfc3339Comma = Some 4

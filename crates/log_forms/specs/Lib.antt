@@ -13,3 +13,4 @@ pub mod FieldNames
 pub mod PlaceWords
 pub mod EndLemmas
 pub mod WithinLemmas
+pub mod Splits

@@ -31,7 +31,7 @@ abbrev pub front_reading : List Item → List ℕ → Result (Parts × ℕ) ℕ
 front_reading items text =
     result_map_both (λ read. (read.0, length text - length read.1)) (λ left. length text - left) (front_of items text no_parts)
 
--- whether a text has this many digits behind items that were read
+-- whether a text has this number of digits after items that were read
 abbrev pub has_digits_behind : ℕ → List ℕ → Result (Parts × ℕ) ℕ → Bool
 has_digits_behind digits text (Ok read) = length (take_while is_ascii_digit (drop read.1 text)) == digits
 has_digits_behind digits text (Err left) = false
@@ -66,7 +66,7 @@ abbrev pub stamp_in : Form → Assumed → ℕ → List ℕ → Result Stamp Sta
 stamp_in form assumed count text =
     if has_digits form text then read_stamp assumed (count - length text) text (front_reading form.items text) else Err Absent
 
--- the stamp behind what was read before it
+-- the stamp that follows what was read before it
 abbrev pub stamp_after : Form → Assumed → ℕ → List ℕ → Result (Parts × ℕ) ℕ → Result Stamp StampRefusal
 stamp_after form assumed count text (Ok read) = stamp_in form assumed count (drop read.1 text)
 stamp_after form assumed count text (Err place) = Err Absent

@@ -19,7 +19,7 @@ use Rattle.log_forms.specs.declared.stamps.Stamp.{Stamp}
 use Rattle.log_forms.specs.declared.stamps.StampRefusal.{StampRefusal}
 use Rattle.log_forms.specs.declared.stamps.StampRefusal.TheVariants.{Absent}
 
--- a stamp ends within so many bytes, if there is one
+-- a stamp ends within this number of bytes, if there is one
 abbrev pub StampWithin : Result Stamp StampRefusal → ℕ → Type 0
 StampWithin (Ok stamp) most = stamp.start + stamp.length ≤ most
 StampWithin (Err refusal) most = ⊤

@@ -38,7 +38,7 @@ pub(crate) fn opens_bracket(rest: &[u8]) -> bool
     }
 }
 
-// Whether a text goes on with a fraction that is not read yet, or with an offset or a zone.
+// Whether a text continues with a fraction that is not read yet, or with an offset or a zone.
 fn goes_on(has_fraction: bool, first: u8, more: &[u8]) -> bool
     ensures { result ≡ goes_on has_fraction first more.now }
 {
@@ -74,11 +74,12 @@ fn begins_offset(text: &[u8]) -> bool
     }
 }
 
-// Whether a text begins with one of the words.
+// Whether a text begins with one of the words. Each begins with a letter.
+#[tactic(auto, using(crate::proofs::ZoneWordLemmas::no_word))]
 fn begins_word(text: &[u8]) -> bool
     ensures { result ≡ begins_word text.now }
 {
-    ZONE_WORDS.iter().any(|word| is_word_at(word, text))
+    begins_letter(text) && ZONE_WORDS.iter().any(|word| is_word_at(word, text))
 }
 
 // Whether a text begins with a word, which spaces pad, and no letter follows it.

@@ -1,6 +1,7 @@
 //! The instant of the parts of a stamp.
 ghost use Rattle.std.specs.Prelude.{◌≡◌, ℤ, pos, ◌+ℤ◌, ◌-ℤ◌, OkIff, IfOk};
 ghost use Rattle.calendar_values.specs.Offsets.{IsOffset};
+ghost use Rattle.format_descriptions.specs.Values.{date_of_parts};
 ghost use Rattle.log_forms.specs.Instants.{assumed_year, has_count, instant_of_parts, is_whole, lacks_year, offset_known};
 ghost use Rattle.log_forms.specs.Instants.{utc_instant, with_year, year_of_month};
 
@@ -23,13 +24,16 @@ pub struct Assumed {
 
 // The instant of the parts of a stamp.
 #[tactic(auto, unfolding(crate::specs::Instants::instant_of_parts))]
-pub(crate) fn instant_of_parts(assumed: &Assumed, parts: Parts) -> Result<UtcDateTime, ValueRefusal>
-    ensures { result ≡ instant_of_parts assumed.now parts }
+pub(crate) fn instant_of_parts(
+    assumed: &Assumed,
+    parts: &Parts,
+) -> Result<UtcDateTime, ValueRefusal>
+    ensures { result ≡ instant_of_parts assumed.now parts.now }
 {
     if has_count(parts) {
         return parts.utc_date_time();
     }
-    let date = match with_year(assumed, parts).date() {
+    let date = match date_known(assumed, parts) {
         Ok(date) => date,
         Err(refusal) => return Err(refusal),
     };
@@ -44,15 +48,15 @@ pub(crate) fn instant_of_parts(assumed: &Assumed, parts: Parts) -> Result<UtcDat
 }
 
 // Whether the parts have an offset, or a count of a Unix timestamp.
-pub(crate) fn is_whole(parts: Parts) -> bool
-    ensures { result ≡ is_whole parts }
+pub(crate) fn is_whole(parts: &Parts) -> bool
+    ensures { result ≡ is_whole parts.now }
 {
     parts.offset_hour.is_some() | has_count(parts)
 }
 
 // Whether the parts have a count of a Unix timestamp.
-fn has_count(parts: Parts) -> bool
-    ensures { result ≡ has_count parts }
+fn has_count(parts: &Parts) -> bool
+    ensures { result ≡ has_count parts.now }
 {
     parts.unix_second.is_some()
         | parts.unix_millisecond.is_some()
@@ -60,23 +64,24 @@ fn has_count(parts: Parts) -> bool
         | parts.unix_nanosecond.is_some()
 }
 
-// The parts with the assumed year, if they have none.
+// The date of the parts, in the assumed year if they have none.
 #[tactic(auto, unfolding(crate::specs::Instants::with_year))]
-fn with_year(assumed: &Assumed, parts: Parts) -> Parts
-    ensures { result ≡ with_year assumed.now parts }
+fn date_known(assumed: &Assumed, parts: &Parts) -> Result<Date, ValueRefusal>
+    ensures { result ≡ date_of_parts (with_year assumed.now parts.now) }
 {
     if !lacks_year(parts) {
-        return parts;
+        return parts.date();
     }
-    Parts {
+    let dated = Parts {
         year: assumed_year(assumed, parts.month),
-        ..parts
-    }
+        ..*parts
+    };
+    dated.date()
 }
 
 // Whether the parts have no year.
-fn lacks_year(parts: Parts) -> bool
-    ensures { result ≡ lacks_year parts }
+fn lacks_year(parts: &Parts) -> bool
+    ensures { result ≡ lacks_year parts.now }
 {
     parts.year.is_none()
         & parts.year_century.is_none()
@@ -108,8 +113,8 @@ fn year_of_month(year: i32, before: u32, month: u32) -> i32
 }
 
 // The offset of the parts, or the assumed one.
-fn offset_known(assumed: &Assumed, parts: Parts) -> Result<UtcOffset, ValueRefusal>
-    ensures { result ≡ offset_known assumed.now parts }
+fn offset_known(assumed: &Assumed, parts: &Parts) -> Result<UtcOffset, ValueRefusal>
+    ensures { result ≡ offset_known assumed.now parts.now }
 {
     match parts.offset_hour {
         Some(hour) => {

@@ -308,7 +308,7 @@ pub(crate) fn ahead_of(name: FormName) -> usize
     }
 }
 
-// How many digits a text has behind these items, if they are counted.
+// How many digits a text has after these items, if they are counted.
 pub(crate) fn digits_of(name: FormName) -> Option<usize>
     ensures { result ≡ digits_of name }
 {

@@ -1,7 +1,10 @@
 //! The stamp of a line.
-ghost use Rattle.std.specs.Prelude.{◌≡◌, ◌+◌, ◌≤◌, IfOk, drop, length, take};
+ghost use Rattle.std.specs.Prelude.{◌≡◌, ◌+◌, ◌≤◌, IfOk, IfSome, drop, length, option_map, take};
 ghost use Rattle.std.specs.Char.{is_ascii_digit};
 ghost use Rattle.std.specs.List.{take_while};
+ghost use Rattle.format_descriptions.specs.Groups.{is_other};
+ghost use Rattle.format_descriptions.specs.Read.{front_of, no_parts};
+ghost use Rattle.log_forms.specs.Splits.{counted_reading, ends_within, if_read, reading_in_two, splits};
 ghost use Rattle.log_forms.specs.Stamps.{ended_stamp, has_digits, stamp_at, stamp_behind, stamp_in};
 ghost use Rattle.log_forms.specs.Stamps.{longest_front};
 
@@ -9,13 +12,13 @@ use crate::ends::{is_apart, opens_bracket};
 use crate::form::Form;
 use crate::instants::{Assumed, instant_of_parts, is_whole};
 use crate::places::{Place, text_at};
-use format_descriptions::{Item, Parts, ValueRefusal, parse_front};
+use format_descriptions::{Item, Parts, ValueRefusal, parse_front, parse_front_into};
 use utc_times::UtcDateTime;
 
 /// The most bytes of a line that decide on its stamp.
 pub const LONGEST_FRONT: usize = 1_024;
 
-// The most bytes of a line up to the end of a stamp: those behind them can have a word for a zone.
+// The most bytes of a line up to the end of a stamp: those after them can have a word for a zone.
 const LONGEST_STAMP: usize = 1_000;
 
 /// A stamp.
@@ -78,7 +81,8 @@ fn front_of(line: &[u8]) -> &[u8]
     &line[..LONGEST_FRONT]
 }
 
-// The stamp behind what is before it in a text, which is the end of this many bytes.
+// The stamp after what precedes it in a text, which is the end of this many bytes.
+#[tactic(auto, using(crate::proofs::FrontLemmas::behind_nothing))]
 fn stamp_behind(
     form: &Form,
     assumed: &Assumed,
@@ -90,6 +94,9 @@ fn stamp_behind(
     ensures stamp { result ≡ stamp_behind form.now assumed.now count text.now }
     ensures within { IfOk result (λ stamp. stamp.start + stamp.length ≤ count) }
 {
+    if form.lead.is_empty() {
+        return stamp_in(form, assumed, count, text);
+    }
     match parse_front(form.lead.items(), text) {
         Ok((_, lead)) => stamp_in(form, assumed, count, &text[lead..]),
         Err(_) => Err(StampRefusal::Absent),
@@ -97,6 +104,7 @@ fn stamp_behind(
 }
 
 // The stamp at the front of a text, which is the end of this many bytes.
+#[tactic(auto, using(crate::proofs::SplitLemmas::no_counted_stamp))]
 fn stamp_in(
     form: &Form,
     assumed: &Assumed,
@@ -108,24 +116,127 @@ fn stamp_in(
     ensures stamp { result ≡ stamp_in form.now assumed.now count text.now }
     ensures within { IfOk result (λ stamp. stamp.start + stamp.length ≤ count) }
 {
-    if !has_digits(form, text) {
-        return Err(StampRefusal::Absent);
-    }
-    match parse_front(form.items.items(), text) {
-        Ok((parts, length)) => {
-            ended_stamp(assumed, parts, count - text.len(), length, &text[length..])
+    let mut parts = Parts::none();
+    match read_counted(form, text, &mut parts) {
+        Some(rest) => {
+            let length = text.len() - rest.len();
+            let behind = behind(length, text);
+            ended_stamp(assumed, &parts, count - text.len(), length, behind)
         }
-        Err(_) => Err(StampRefusal::Absent),
+        None => Err(StampRefusal::Absent),
+    }
+}
+
+// A text without this many bytes in front.
+#[inline(always)]
+fn behind(count: usize, text: &[u8]) -> &[u8]
+    requires { count ≤ length text.now }
+    ensures { result.now ≡ drop count text.now }
+{
+    &text[count..]
+}
+
+// Reads a text into no parts if it has as many digits as the form counts, and returns what follows.
+#[tactic(auto, using(crate::proofs::SplitLemmas::counted_in_two))]
+fn read_counted<'a>(form: &Form, text: &'a [u8], parts: &mut Parts) -> Option<&'a [u8]>
+    requires { parts.old ≡ no_parts }
+    ensures value { option_map (λ rest. (parts.new, rest.now)) result
+        ≡ counted_reading form.now text.now }
+    ensures shorter { IfSome result (λ rest. length rest.now ≤ length text.now) }
+{
+    let items = form.items.items();
+    let is_split = 0 < form.ahead && form.ahead <= items.len() && splits(items, form.ahead);
+    match form.digits {
+        Some(digits) if is_split => read_in_two(items, form.ahead, digits, text, parts),
+        _ => {
+            if !has_digits(form, text) {
+                return None;
+            }
+            read_all(items, text, parts)
+        }
+    }
+}
+
+// Reads a text into parts, and returns what follows.
+#[inline(always)]
+fn read_all<'a>(items: &[Item], text: &'a [u8], parts: &mut Parts) -> Option<&'a [u8]>
+    ensures value { option_map (λ rest. (parts.new, rest.now)) result
+        ≡ if_read (front_of items.now text.now parts.old) }
+    ensures shorter { IfSome result (λ rest. length rest.now ≤ length text.now) }
+{
+    match parse_front_into(items, text, parts) {
+        Ok(rest) => Some(rest),
+        Err(_) => None,
+    }
+}
+
+// Reads a text into no parts, first by the items before the digits, and then by the others if there are as many digits.
+fn read_in_two<'a>(
+    items: &[Item],
+    ahead: usize,
+    digits: usize,
+    text: &'a [u8],
+    parts: &mut Parts,
+) -> Option<&'a [u8]>
+    requires ahead { ahead ≤ length items.now }
+    ensures value { option_map (λ rest. (parts.new, rest.now)) result
+        ≡ reading_in_two (take ahead items.now) (drop ahead items.now) digits text.now parts.old }
+    ensures shorter { IfSome result (λ rest. length rest.now ≤ length text.now) }
+{
+    let Some(rest) = read_all(&items[..ahead], text, parts) else {
+        return None;
+    };
+    if digit_count(&text[text.len() - rest.len()..]) != digits {
+        return None;
+    }
+    read_all(&items[ahead..], rest, parts)
+}
+
+// Whether no group goes past the first items, as many as the count, and none after them is in place of one of theirs.
+#[tactic(auto, unfolding(crate::specs::Splits::splits))]
+fn splits(items: &[Item], count: usize) -> bool
+    ensures { result ≡ splits count items.now }
+{
+    let Some((item, others)) = items.split_first() else {
+        return true;
+    };
+    if count == 0 {
+        return !is_other(*item);
+    }
+    ends_within(count - 1, *item) && splits(others, count - 1)
+}
+
+// Whether an item is the head of a group in place of another.
+fn is_other(item: Item) -> bool
+    ensures { result ≡ is_other item }
+{
+    match item {
+        Item::Or(_) => true,
+        Item::Byte(_) | Item::Part(_) | Item::Optional(_) | Item::First(_) => false,
+    }
+}
+
+// Whether the group of an item ends within the next items, as many as the count.
+fn ends_within(count: usize, item: Item) -> bool
+    ensures { result ≡ ends_within count item }
+{
+    match item {
+        Item::Byte(_) | Item::Part(_) => true,
+        Item::Optional(size) | Item::First(size) | Item::Or(size) => !(count < size),
     }
 }
 
 // Whether a text has as many digits as the form counts.
+#[tactic(auto, using(crate::proofs::FrontLemmas::counted_in_front))]
 fn has_digits(form: &Form, text: &[u8]) -> bool
     ensures { result ≡ has_digits form.now text.now }
 {
     let Some(digits) = form.digits else {
         return true;
     };
+    if form.ahead == 0 {
+        return digit_count(text) == digits;
+    }
     match parse_front(ahead_of(form), text) {
         Ok((_, ahead)) => digit_count(&text[ahead..]) == digits,
         Err(_) => false,
@@ -158,13 +269,13 @@ fn digit_count(text: &[u8]) -> usize
 // The stamp of these parts, with this many bytes before it and in it, if it ends before the rest.
 fn ended_stamp(
     assumed: &Assumed,
-    parts: Parts,
+    parts: &Parts,
     start: usize,
     length: usize,
     rest: &[u8],
 ) -> Result<Stamp, StampRefusal>
     requires { start + length ≤ 1_024 }
-    ensures stamp { result ≡ ended_stamp assumed.now parts start length rest.now }
+    ensures stamp { result ≡ ended_stamp assumed.now parts.now start length rest.now }
     ensures within { IfOk result (λ stamp. stamp.start + stamp.length ≤ start + length) }
 {
     let is_ended = is_apart(is_whole(parts), parts.nanosecond.is_some(), rest);

@@ -1,12 +1,12 @@
 -- A front that was read, and where the date-time in it ends.
 use Rattle.std.proofs.Common.{◌≡◌, ◌≢◌, refl, sym, ap, subst, ◌∙◌, ℕ, ◌+◌, ◌-◌, ◌≤◌, Bool, true, false, cond, List, [], ◌++◌, take, length, length-append}
-use Rattle.std.proofs.Common.{append_assoc, Option, Some, None, Result, Ok, Err, arith}
+use Rattle.std.proofs.Common.{append_assoc, ℤ, Option, Some, None, Result, Ok, Err, arith}
 use Rattle.std.specs.Prelude.{slice_get}
 use Rattle.std.specs.Result.{result_map_both}
 use Rattle.std.proofs.Math.Seq.{take-append-add, take-append_seam}
 use Rattle.std.proofs.lemmas.List.{append-nil, length-take}
 use Rattle.std.proofs.lemmas.Option.{same_Some}
-use Rattle.offset_times.specs.Local.{Local}
+use Rattle.offset_times.specs.Local.{Local, instant_of}
 use Rattle.rfc3339.specs.Form.{IsDateTime}
 use Rattle.rfc3339.specs.Front.{front_meaning}
 use Rattle.rfc3339.specs.Meaning.{meaning}
@@ -14,8 +14,10 @@ use Rattle.rfc3339.specs.Reading.{front_at}
 use Rattle.rfc3339.specs.TextLemmas.{front_again, front_takes}
 use Rattle.rfc3339.specs.declared.parts.Parts.{Parts}
 use Rattle.rfc3339.specs.declared.refusal.TextRefusal.{TextRefusal}
-use Rattle.rfc3339.specs.declared.refusal.TextRefusal.TheVariants.{Syntax}
-use Rattle.stamps.specs.LineStamps.{ended_stamp, ends, front_stamp}
+use Rattle.rfc3339.specs.declared.refusal.TextRefusal.TheVariants.{Syntax, OutOfRange}
+use Rattle.stamps.specs.LineInstants.{stamp_instant}
+use Rattle.stamps.specs.LineStamps.{ended_stamp, ends, front_stamp, stamp}
+use Rattle.stamps.specs.Readers.{plain_at}
 use Rattle.stamps.specs.declared.decide.Stamp.{Stamp}
 
 -- a value, and a number of bytes
@@ -37,6 +39,22 @@ pub front_accepted : (front : List ℕ) (o : Option (Parts × List ℕ)) (read :
 front_accepted front None read e = absurd cc
 front_accepted front (Some taken) read e = accepted_at front (length front - length taken.1) (meaning taken.0) read e
 
+-- its instant, or none if it does not end there
+either_instant : (it_ends : Bool) (before : ℕ) (s : Stamp)
+    → cond it_ends (Some s.instant) None ≡ stamp_instant (plain_at before (cond it_ends (Ok s) (Err Syntax)))
+either_instant true before s = refl
+either_instant false before s = refl
+
+ended_instant : (before : ℕ) (at : Local) (count : ℕ) (next : Option ℕ)
+    → cond (ends count next) (Some (instant_of at)) None ≡ stamp_instant (plain_at before (ended_stamp (Ok at) count next))
+ended_instant before at count next = either_instant (ends count next) before (stamp (instant_of at) count next)
+
+pub front_instant : (before : ℕ) (front : List ℕ) (o : Option (Parts × List ℕ)) (read : Local × ℕ) (r : Option ℤ) → front_meaning front o ≡ Ok read
+    → r ≡ cond (ends read.1 (slice_get front read.1)) (Some (instant_of read.0)) None → r ≡ stamp_instant (plain_at before (front_stamp front o))
+front_instant before front o read r e h =
+    h ∙ ended_instant before read.0 read.1 (slice_get front read.1)
+    ∙ ap (λ (z : Result Stamp TextRefusal). stamp_instant (plain_at before z)) (sym (front_accepted front o read e))
+
 -- ---- no date-time
 
 either_syntax : (it_ends : Bool) → ◌≡◌ {A = Result Stamp TextRefusal} (cond it_ends (Err Syntax) (Err Syntax)) (Err Syntax)
@@ -52,6 +70,23 @@ syntax_at front count (Err refusal) e =
 pub front_syntax : (front : List ℕ) (o : Option (Parts × List ℕ)) → front_meaning front o ≡ Err Syntax → front_stamp front o ≡ Err Syntax
 front_syntax front None e = refl
 front_syntax front (Some read) e = syntax_at front (length front - length read.1) (meaning read.0) e
+
+-- an error has no instant
+either_none : (it_ends : Bool) (before : ℕ) (r : TextRefusal) → None ≡ stamp_instant (plain_at before (cond it_ends (Err r) (Err Syntax)))
+either_none true before Syntax = refl
+either_none true before (OutOfRange component) = refl
+either_none false before r = refl
+
+none_at : (before count : ℕ) (m : Result Local TextRefusal) (refusal : TextRefusal) (next : Option ℕ)
+    → result_map_both (counted count) (λ refusal. refusal) m ≡ Err refusal → None ≡ stamp_instant (plain_at before (ended_stamp m count next))
+none_at before count (Ok x) refusal next e = absurd cc
+none_at before count (Err r) refusal next e = either_none (ends count next) before r
+
+pub front_none : (before : ℕ) (front : List ℕ) (o : Option (Parts × List ℕ)) (refusal : TextRefusal) → front_meaning front o ≡ Err refusal
+    → None ≡ stamp_instant (plain_at before (front_stamp front o))
+front_none before front None refusal e = refl
+front_none before front (Some read) refusal e =
+    let count = length front - length read.1 in none_at before count (meaning read.0) refusal (slice_get front count) e
 
 -- ---- a date-time that is refused
 

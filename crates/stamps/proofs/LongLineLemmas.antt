@@ -237,6 +237,13 @@ pub kept_within : (task : Task) (state : State) (line text : List ℕ) (start co
 kept_within task state line text start count e =
     within_is (decision_of task state line) start text count line e (decision_of-within task state line)
 
+-- the decision on a line, by its stamp and the state after it
+pub decision_of-read : (task : Task) (state after : State) (line : List ℕ) (stamp : Result LineStamp LineRefusal)
+    → stamp ≡ line_stamp task.reader state.last (is_first state) line → after ≡ state_after task state line
+    → decision_by task.action state.last after stamp ≡ decision_of task state line
+unfolding decision_of state_after
+decision_of-read task state after line stamp e h = rw (h, e) refl
+
 -- ---- more bytes behind those that decide change nothing
 
 stamp_of-longer : (text part : List ℕ) → 1024 ≤ length text → stamp_of (text ++ part) ≡ stamp_of text

@@ -74,7 +74,7 @@ check_task words =
     if starts_all words then result_map_both CheckAll (λ misuse. misuse) (strictness (drop 1 words))
     else result_map_both Check (λ misuse. misuse) (strictness words)
 
--- the limit of so many seconds
+-- the limit of this number of seconds
 abbrev pub limit_of : ℕ → ℤ
 limit_of seconds = pos seconds *ℤ pos nanos_per_second
 

@@ -1,13 +1,19 @@
 //! The decision about a line.
-ghost use Rattle.std.specs.Prelude.{◌≡◌, ◌≢◌, ◌≤◌, true, if◌then◌else◌, length, slice_get, take, Ok, Err};
+ghost use Rattle.std.specs.Prelude.{◌≡◌, ◌≢◌, ◌≤◌, ℕ, ℤ, true, if◌then◌else◌, List, length, slice_get, take, Option, Some, None, IfSome, Ok, Err};
+ghost use Rattle.offset_times.specs.Local.{instant_of};
 ghost use Rattle.rfc3339.specs.Front.{front_meaning};
 ghost use Rattle.rfc3339.specs.Reading.{front_at};
 ghost use Rattle.rfc3339.specs.declared.refusal.TextRefusal.TheVariants.{Syntax};
-ghost use Rattle.stamps.specs.Decisions.{as_it_is, cause_of, check_line, decision_by, decision_of, finding_at_end, first_state, gap_after, gap_line};
+ghost use Rattle.stamps.specs.Decisions.{as_it_is, cause_of, check_line, decision_by, finding_at_end, first_state, gap_after, gap_line};
 ghost use Rattle.stamps.specs.Decisions.{as_note, going_on, stop_if};
-ghost use Rattle.stamps.specs.Decisions.{goes_on, is_earlier, last_of, rewritten, state_after, state_by};
+ghost use Rattle.stamps.specs.Decisions.{goes_on, is_earlier, is_first, last_of, rewritten, state_after, state_by};
+ghost use Rattle.stamps.specs.LineInstants.{stamp_instant};
 ghost use Rattle.stamps.specs.LineStamps.{ends, front_stamp, has_mark, is_continued};
 ghost use Rattle.stamps.specs.LineStamps.{opens_bracket, stamp, stamp_of};
+ghost use Rattle.stamps.specs.Readers.{line_stamp, plain_at};
+ghost use Rattle.stamps.specs.Styles.{text_in};
+ghost use Rattle.stamps.specs.declared.decide.Decision.TheVariants.{Keep};
+ghost use Rattle.stamps.specs.declared.decide.State.{State};
 
 use crate::finding::{Cause, Finding};
 use crate::notes::Note;
@@ -16,6 +22,7 @@ use crate::style::text_in;
 use crate::task::{Action, Style, Task};
 use calendar_values::{SignedDuration, Text};
 use log_forms::continues;
+use offset_times::OffsetDateTime;
 use rfc3339::{TextRefusal, parse_rfc3339_front, syntax_fault};
 use utc_times::UtcDateTime;
 
@@ -79,16 +86,32 @@ pub fn first_state(task: &Task) -> State
     }
 }
 
-/// Decides what becomes of a line, and updates what is known of the lines.
-#[tactic(auto, unfolding(crate::specs::Decisions::decision_of, crate::specs::Decisions::state_after))]
-pub fn decide(task: &Task, state: &mut State, line: &[u8]) -> Decision
-    ensures decision { result ≡ decision_of task.now state.old line.now }
+/// Reads the stamp of a line, and updates the state.
+#[tactic(auto, unfolding(crate::specs::Decisions::state_after))]
+#[inline(always)]
+pub fn read_stamp(task: &Task, state: &mut State, line: &[u8]) -> Result<LineStamp, LineRefusal>
+    ensures stamp { result ≡ line_stamp task.now.reader state.old.last
+        (is_first state.old) line.now }
     ensures state { state.new ≡ state_after task.now state.old line.now }
 {
-    let last = state.last;
     let stamp = line_stamp(&task.reader, state.last, state.lines == 0, line);
     *state = state_by(&task.action, state, &stamp);
-    decision_by(&task.action, last, state, &stamp)
+    stamp
+}
+
+/// The style in which a stamp is written anew, if it is. Then the decision keeps the line with the
+/// text in that style, if there is one.
+#[inline(always)]
+pub fn style_of<'a>(action: &'a Action, stamp: &LineStamp) -> Option<&'a Style>
+    ensures { IfSome result (λ style. (last : Option ℤ) (after : State) (text : List ℕ)
+        → text_in style.now stamp.now.instant ≡ Some text
+        → decision_by action.now last after (Ok stamp.now)
+        ≡ Keep stamp.now.start text stamp.now.length) }
+{
+    match action {
+        Action::Write(style, is_strict) if !(*is_strict && stamp.is_zoned) => Some(style),
+        _ => None,
+    }
 }
 
 /// The finding at the end of the input, if there is one.
@@ -112,9 +135,9 @@ pub(crate) fn has_mark(is_first: bool, line: &[u8]) -> bool
     is_first && line.starts_with(&BYTE_ORDER_MARK)
 }
 
-// What becomes of a line with this stamp, by the last instant before it and the state after it.
+/// The decision on a line with this stamp, by the last instant before it and the state after it.
 #[inline(always)]
-fn decision_by(
+pub fn decision_by(
     action: &Action,
     last: Option<UtcDateTime>,
     after: &State,
@@ -131,7 +154,7 @@ fn decision_by(
     }
 }
 
-// What is known behind a line with this stamp.
+// What is known after a line with this stamp.
 #[inline(always)]
 fn state_by(action: &Action, state: &State, stamp: &Result<LineStamp, LineRefusal>) -> State
     ensures { result ≡ state_by action.now state.now stamp.now }
@@ -187,7 +210,40 @@ fn stamp_in(front: &[u8]) -> Result<Stamp, TextRefusal>
     }
 }
 
-// The stamp of so many bytes before the next byte. Where that byte continues it, there is none.
+/// The instant of the stamp in front of a text in nanoseconds, if there is a stamp.
+#[tactic(auto, unfolding(crate::specs::LineStamps::stamp_of))]
+#[inline(always)]
+pub(crate) fn nanos_of(text: &[u8]) -> Option<i128>
+    ensures { (before : ℕ) → result ≡ stamp_instant (plain_at before (stamp_of text.now)) }
+{
+    nanos_in(front_of(text))
+}
+
+// The instant of the stamp in front of a text of at most 1,024 bytes.
+#[inline(always)]
+fn nanos_in(front: &[u8]) -> Option<i128>
+    ensures { (before : ℕ) → result
+        ≡ stamp_instant (plain_at before (front_stamp front.now (front_at front.now))) }
+{
+    match parse_rfc3339_front(front) {
+        Ok((at, length)) => nanos_before(byte_at(front, length), at, length),
+        Err(_) => None,
+    }
+}
+
+// The instant of a date-time of this number of bytes before the next byte. If that byte continues it, there is none.
+#[inline(always)]
+fn nanos_before(next: Option<u8>, at: OffsetDateTime, length: usize) -> Option<i128>
+    ensures { result ≡ if ends length next then Some (instant_of at) else None }
+{
+    if ends(length, next) {
+        Some(at.unix_timestamp_nanos())
+    } else {
+        None
+    }
+}
+
+// The stamp of this number of bytes before the next byte. If that byte continues it, there is none.
 #[inline(always)]
 fn stamp_before(next: Option<u8>, instant: UtcDateTime, length: usize) -> Result<Stamp, TextRefusal>
     ensures { result ≡ if ends length next then Ok (stamp instant length next) else Err Syntax }
@@ -202,7 +258,7 @@ fn stamp_before(next: Option<u8>, instant: UtcDateTime, length: usize) -> Result
     })
 }
 
-// The refusal of the date-time in a front. Where the byte behind it continues it, there is no stamp.
+// The refusal of the date-time in a front. If the byte after it continues it, there is no stamp.
 fn refusal_before(front: &[u8], refusal: TextRefusal) -> Result<Stamp, TextRefusal>
     requires meaning { front_meaning front.now (front_at front.now) ≡ Err refusal }
     requires other { refusal ≢ Syntax }
@@ -224,7 +280,7 @@ fn byte_at(text: &[u8], place: usize) -> Option<u8>
     text.get(place).copied()
 }
 
-// Whether a date-time of so many bytes ends before the next byte, and has no more than a stamp may have.
+// Whether a date-time of this number of bytes ends before the next byte, and has no more than a stamp may have.
 #[inline(always)]
 fn ends(length: usize, next: Option<u8>) -> bool
     ensures { result ≡ ends length next }
@@ -232,7 +288,7 @@ fn ends(length: usize, next: Option<u8>) -> bool
     !(length > LONGEST_STAMP || is_continued(next))
 }
 
-// Whether the byte behind a date-time continues it.
+// Whether the byte after a date-time continues it.
 #[inline(always)]
 fn is_continued(next: Option<u8>) -> bool
     ensures { result ≡ is_continued next }
@@ -244,7 +300,7 @@ fn is_continued(next: Option<u8>) -> bool
     }
 }
 
-// Whether the byte behind a date-time opens a bracket.
+// Whether the byte after a date-time opens a bracket.
 #[inline(always)]
 fn opens_bracket(next: Option<u8>) -> bool
     ensures { result ≡ opens_bracket next }
@@ -255,7 +311,7 @@ fn opens_bracket(next: Option<u8>) -> bool
     }
 }
 
-// Whether a line goes on.
+// Whether a line is written.
 #[inline(always)]
 fn goes_on(action: &Action, was: bool, stamp: &Result<LineStamp, LineRefusal>) -> bool
     ensures { result ≡ goes_on action.now was stamp.now }

@@ -1,10 +1,12 @@
 //! The instants of lines, for a merge.
-ghost use Rattle.std.specs.Prelude.{◌≡◌, slice_get};
+ghost use Rattle.std.specs.Prelude.{◌≡◌, None, slice_get};
 ghost use Rattle.std.specs.Option.{option_and_then};
 ghost use Rattle.plain_times.specs.Sums.{wall_clock_if_any};
-ghost use Rattle.stamps.specs.LineInstants.{instant_after, log_instant, reader_or};
+ghost use Rattle.stamps.specs.LineInstants.{instant_after, line_instant, log_instant, reader_or};
+ghost use Rattle.stamps.specs.declared.readers.Reader.TheVariants.{Plain};
 
-use crate::readers::{Reader, line_stamp};
+use crate::decide::nanos_of;
+use crate::readers::{Reader, line_stamp, mark_length};
 use crate::reading::needs_lines_before;
 use line_merges::instants::Instants;
 use utc_times::UtcDateTime;
@@ -52,6 +54,9 @@ fn reader_at(instants: &StampInstants, log: usize) -> &Reader
 fn instant_after(reader: &Reader, last: Option<i128>, is_first: bool, line: &[u8]) -> Option<i128>
     ensures { result ≡ instant_after reader.now last is_first line.now }
 {
+    if let Reader::Plain = reader {
+        return plain_instant(is_first, line);
+    }
     let before = if needs_lines_before(reader) {
         instant_of_nanos(last)
     } else {
@@ -61,6 +66,15 @@ fn instant_after(reader: &Reader, last: Option<i128>, is_first: bool, line: &[u8
         Ok(stamp) => Some(stamp.instant.unix_timestamp_nanos()),
         Err(_) => None,
     }
+}
+
+// The instant of a line of RFC 3339 in nanoseconds, if it has a stamp.
+#[tactic(auto, unfolding(crate::specs::LineInstants::line_instant))]
+#[inline(always)]
+fn plain_instant(is_first: bool, line: &[u8]) -> Option<i128>
+    ensures { result ≡ line_instant Plain None is_first line.now }
+{
+    nanos_of(&line[mark_length(is_first, line)..])
 }
 
 // The instant of a number of nanoseconds, if there is a number, and an instant of it in the range.

@@ -1,5 +1,5 @@
 //! Lines out of blocks of bytes.
-ghost use Rattle.std.specs.Prelude.{◌≡◌, ◌≢◌, ◌≤◌, ◌<◌, ℕ, true, false, List, [], ◌∷◌, ◌++◌, take, drop, length, Option, OnOk, IfOk, IfErr, IsOk};
+ghost use Rattle.std.specs.Prelude.{◌≡◌, ◌≢◌, ◌+◌, ◌≤◌, ◌<◌, ℕ, true, false, List, [], ◌∷◌, ◌++◌, take, drop, length, Option, OnOk, IfOk, IfErr, IsOk};
 ghost use Rattle.line_devices.specs.LineParts.{HasNone};
 ghost use Rattle.line_devices.specs.Writing.{MarksFailure, SendsAll};
 ghost use Rattle.stamps.specs.Decisions.{decision_of, first_state, state_after};
@@ -9,9 +9,12 @@ ghost use Rattle.stamps.specs.Progress.{Settled, Stands, TellsNote, WritesPendin
 ghost use Rattle.stamps.specs.declared.lines.LineFault.TheVariants.{Write};
 ghost use Rattle.stamps.specs.declared.lines.Progress.TheVariants.{Kept};
 
-use crate::decide::{Decision, LONGEST_HEAD, State, decide, finding_at_end, first_state};
+use crate::decide::{
+    Decision, LONGEST_HEAD, State, decision_by, finding_at_end, first_state, read_stamp, style_of,
+};
 use crate::finding::Finding;
 use crate::notes::{Note, end_of, front_of, middle_of};
+use crate::style::text_in;
 use crate::task::Task;
 use line_devices::devices::{DeviceFault, Sink};
 use line_devices::places::place_of;
@@ -179,7 +182,7 @@ fn keep_part<W: Sink>(
     pass(writer, pending, work.progress, rest_of(part, room))
 }
 
-// Ends a line with its last part, behind which the line feed stands.
+// Ends a line with its last part, which the line feed follows.
 fn end_line<W: Sink>(
     task: &Task,
     writer: &mut W,
@@ -268,7 +271,7 @@ fn write_pending<W: Sink>(writer: &mut W, pending: &mut Pending) -> Result<(), L
     Ok(())
 }
 
-// Decides what stands behind the last line feed, if anything does, and sends what was not sent of it.
+// Decides what follows the last line feed, if anything does, and sends what was not sent of it.
 fn decide_rest<W: Sink>(
     task: &Task,
     writer: &mut W,
@@ -327,11 +330,20 @@ fn begin<W: Sink>(
         (W.written writer.old) (W.written writer.new) pending.old pending.new line.now }
     ensures mark { W.is_marked writer.new ≡ mark_after result (W.is_marked writer.old) }
 {
-    match decide(task, state, line) {
+    let last = state.last;
+    let stamp = read_stamp(task, state, line);
+    // A text that replaces a stamp is sent from where it was written.
+    if let Ok(stamp) = &stamp {
+        if let Some(style) = style_of(&task.action, stamp) {
+            if let Some(text) = &text_in(style, stamp.instant) {
+                let (start, count) = (stamp.start, stamp.length);
+                return keep_text(writer, pending, line, start, text.as_bytes(), count);
+            }
+        }
+    }
+    match decision_by(&task.action, last, state, &stamp) {
         Decision::Keep(start, text, count) => {
-            let behind = rest_of(line, start);
-            let rest = rest_of(behind, count);
-            keep_line(writer, pending, &line[..start], text.as_bytes(), rest)
+            keep_text(writer, pending, line, start, text.as_bytes(), count)
         }
         Decision::Skip => Ok(Progress::Skipped),
         Decision::Tell(note) => tell(writer, pending, &note),
@@ -342,7 +354,7 @@ fn begin<W: Sink>(
     }
 }
 
-// A line without so many bytes in front.
+// A line without this number of bytes in front.
 #[inline(always)]
 fn rest_of(line: &[u8], count: usize) -> &[u8]
     requires { count ≤ length line.now }
@@ -351,7 +363,27 @@ fn rest_of(line: &[u8], count: usize) -> &[u8]
     &line[count..]
 }
 
-// Sends a line that goes on: its first bytes, a text, and the rest of the line.
+// Sends a line with a text in place of a number of its bytes, after the first ones.
+#[inline(always)]
+fn keep_text<W: Sink>(
+    writer: &mut W,
+    pending: &mut Pending,
+    line: &[u8],
+    start: usize,
+    text: &[u8],
+    count: usize,
+) -> Result<Progress, LineFault>
+    requires { start + count ≤ length line.now }
+    ensures kept { KeepsLine result (W.written writer.old) (W.written writer.new) pending.new
+        (pending.old ++ (take start line.now ++ (text.now ++ drop (start + count) line.now))) }
+    ensures mark { W.is_marked writer.new ≡ mark_after result (W.is_marked writer.old) }
+{
+    let behind = rest_of(line, start);
+    let rest = rest_of(behind, count);
+    keep_line(writer, pending, &line[..start], text, rest)
+}
+
+// Sends a line that is written: its first bytes, a text, and the rest of the line.
 fn keep_line<W: Sink>(
     writer: &mut W,
     pending: &mut Pending,
@@ -384,7 +416,7 @@ fn tell<W: Sink>(writer: &mut W, pending: &mut Pending, note: &Note) -> Result<P
     Ok(Progress::Skipped)
 }
 
-// Sends the first bytes, a text, and another behind it.
+// Sends the first bytes, a text, and another after it.
 fn send_all<W: Sink>(
     writer: &mut W,
     pending: &mut Pending,
@@ -403,7 +435,7 @@ fn send_all<W: Sink>(
     send_both(writer, pending, first, second)
 }
 
-// Sends a text, and another behind it.
+// Sends a text, and another after it.
 fn send_both<W: Sink>(
     writer: &mut W,
     pending: &mut Pending,

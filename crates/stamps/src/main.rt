@@ -214,7 +214,7 @@ fn bytes_of<'a>(rt: &HostRuntime, given: &'a [String]) -> Result<Vec<&'a [u8]>, 
     Ok(words)
 }
 
-// The name of the program, and the words behind it.
+// The name of the program, and the words after it.
 fn words_given(rt: &HostRuntime) -> io::Result<Vec<String>> {
     Ok(env::args(rt)?.collect(rt.alloc())?)
 }

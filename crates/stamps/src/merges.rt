@@ -1,5 +1,7 @@
 //! The merge of files by the instants of their lines.
-ghost use Rattle.std.specs.Prelude.{◌≡◌};
+ghost use Rattle.std.specs.Prelude.{◌≡◌, [], ◌∷◌, ◌++◌, false, length, OnOk};
+ghost use Rattle.line_merges.specs.Logs.{new_log};
+ghost use Rattle.line_merges.specs.Runs.{AreNew};
 ghost use Rattle.stamps.specs.MergeFaults.{merge_status};
 
 use crate::files::{is_compressed, is_dashes};
@@ -8,7 +10,8 @@ use crate::first_lines::{Given, reader_chosen};
 use crate::instants::StampInstants;
 use crate::readers::Reader;
 use crate::sources::{FAILED, Input, clear_progress, say, say_compressed, say_unwritten};
-use line_devices::devices::Device;
+use line_devices::devices::{Device, Source};
+use line_merges::logs::Log;
 use line_merges::merges::{MergeFault, add, merge};
 use std::alloc::AllocError;
 
@@ -57,7 +60,7 @@ pub fn run(
             Err(status) => return status,
         };
         shows_progress |= input.shows_progress();
-        if instants.chosen.push(own).is_err() || add(&mut logs, Device::new(input)).is_err() {
+        if add_log(&mut instants, &mut logs, own, Device::new(input)).is_err() {
             say(rt, "", "no memory is left");
             return FAILED;
         }
@@ -79,6 +82,27 @@ pub fn run(
         }
     }
     merge_status(&ended, goes_back)
+}
+
+// Adds the log of a reader, and how its stamps are read. Both have the number of the logs before.
+fn add_log<R: Source + Drop>(
+    instants: &mut StampInstants,
+    logs: &mut Vec<Log<R>>,
+    own: Option<Reader>,
+    reader: R,
+) -> Result<(), AllocError>
+    requires reader { R.is_marked reader ≡ false }
+    requires logs { AreNew R.left R.is_marked logs.old.items }
+    requires numbers { length instants.old.chosen.items ≡ length logs.old.items }
+    ensures log { OnOk result (logs.new.items ≡ logs.old.items ++ new_log reader ∷ []) }
+    ensures own { OnOk result (instants.new.chosen.items ≡ instants.old.chosen.items ++ own ∷ []) }
+    ensures words { instants.new.reader ≡ instants.old.reader }
+    ensures new { AreNew R.left R.is_marked logs.new.items }
+    ensures numbers { OnOk result (length instants.new.chosen.items ≡ length logs.new.items) }
+{
+    instants.chosen.push(own)?;
+    add(logs, reader)?;
+    Ok(())
 }
 
 // The name of standard input, as of a file.

@@ -50,7 +50,7 @@ pub fn middle_of(note: &Note) -> Text
     }
 }
 
-// The length of a gap in seconds, and what it is.
+// The length of a gap in seconds, and its text.
 fn gap_text(gap: SignedDuration) -> Text
     ensures { result ≡ gap_text gap }
 {

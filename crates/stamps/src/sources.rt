@@ -30,7 +30,7 @@ enum Origin {
     Regular(File),
 }
 
-// The progress of a large file: its bytes, those that were read, and when it began and was shown.
+// The progress of a large file: its bytes, those that were read, when it began, and when it was last printed.
 #[derive(Drop)]
 struct Progress {
     size: u64,
@@ -153,7 +153,7 @@ impl Read for Input<'_> {
     }
 }
 
-// The progress of a file, if it is to be shown.
+// The progress of a file, if it is to be printed.
 fn progress_of(rt: &HostRuntime, path: &str, may_show: bool) -> Option<Progress> {
     if !may_show || !rt.stderr().is_terminal() {
         return None;
@@ -173,7 +173,7 @@ fn progress_of(rt: &HostRuntime, path: &str, may_show: bool) -> Option<Progress>
     }
 }
 
-// Shows the progress after a read of so many bytes, once a second.
+// Prints the progress after a read of this number of bytes, once a second.
 fn show(rt: &HostRuntime, progress: &mut Progress, count: usize) {
     progress.done = progress.done.saturating_add(count as u64);
     let Ok(now) = Instant::now(rt) else {

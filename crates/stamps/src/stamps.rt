@@ -65,7 +65,7 @@ pub fn stamps<R: Source, W: Sink>(
     requires reader { R.is_marked reader.old ≡ false }
     requires writer { W.is_marked writer.old ≡ false }
 
-    // At the end of the input: all of it was read, exactly what it comes to was written, and it has no finding.
+    // At the end of the input: all of it was read, exactly its output was written, and it has no finding.
     ensures end { OnOk result (IfSome (R.left reader.old) (λ _. R.left reader.new ≡ Some [])) }
     ensures written { OnOk result (IfSome (R.left reader.old) (λ input.
         Appends (W.written writer.old) (W.written writer.new) (input_run task.now input).text)) }
@@ -83,14 +83,14 @@ pub fn stamps<R: Source, W: Sink>(
         × Appends (W.written writer.old) (W.written writer.new) (open_run task.now taken).text }
     ensures only_a_read { IsErrOf result StampFault.Read → W.is_marked writer.new ≡ false }
 
-    // A write failed: a beginning of what the input comes to was written, and not all of it.
+    // A write failed: a beginning of the output of the input was written, and not all of it.
     ensures write { IsErrOf result StampFault.Write → W.is_marked writer.new ≡ true }
     ensures beginning { IsErrOf result StampFault.Write → IfSome (R.left reader.old) (λ input.
         AppendsBeginning (W.written writer.old) (W.written writer.new)
         (input_run task.now input).text) }
     ensures only_a_write { IsErrOf result StampFault.Write → R.is_marked reader.new ≡ false }
 
-    // A line ends the run: it is the one that the task names, and exactly what stands before it was written.
+    // A line ends the run: it is the one that the task names, and exactly the output before it was written.
     ensures found { (found : Finding) → result ≡ Err (StampFault.Found found)
         → IfSome (R.left reader.old) (λ input.
         FoundIn (W.written writer.old) (W.written writer.new) (input_run task.now input) found) }

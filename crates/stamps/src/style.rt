@@ -12,6 +12,7 @@ use utc_times::UtcDateTime;
 /// The text of an instant in a style. None if the year that clocks there show is not one of 0 to
 /// 9999.
 #[tactic(auto, unfolding(crate::specs::Styles::text_in))]
+#[inline(always)]
 pub fn text_in(style: &Style, at: UtcDateTime) -> Option<Text>
     ensures text { result ≡ text_in style.now at }
     ensures length { IfSome result (λ text. length text ≤ 35) }

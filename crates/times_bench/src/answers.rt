@@ -22,7 +22,7 @@ use stamp_times::{Call, Held, Step, StoppedAt, Timestamp, chain};
 use std::alloc::{AllocError, Global};
 use utc_times::UtcDateTime;
 
-// The most bytes of a reply, and of `; ` behind it.
+// The most bytes of a reply, and of `; ` after it.
 const REPLY_ROOM: usize = 64;
 
 /// Puts the answer to a line after the pending bytes, and nothing if there is no memory for its

@@ -38,7 +38,7 @@ fn read_of(name: &[u8]) -> Option<Call>
     Some(Call::ReadClock(clock_read(name)?))
 }
 
-// What stands beside a name.
+// What is next to a name.
 macro_rules! entry_of {
     ($name:expr, $($text:literal => $value:expr,)*) => {{
         $(if is($name, $text) {

@@ -82,7 +82,7 @@ pub fn read_chain(words: &[u8], steps: &mut Steps) -> Option<(i64, u32, Step)>
     Some((second, nanosecond, start))
 }
 
-// The start that words begin with. The steps behind it take the place of those in the table.
+// The start that words begin with. The steps after it take the place of those in the table.
 #[tactic(auto, unfolding(crate::specs::Requests::chain_from))]
 #[inline(always)]
 fn read_steps(words: Option<&[u8]>, steps: &mut Steps) -> Option<Step>
