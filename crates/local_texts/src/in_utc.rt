@@ -1,5 +1,5 @@
 //! Texts without an offset as texts in UTC, which have at most 30 bytes.
-ghost use Rattle.std.specs.Prelude.{◌≡◌, ◌≤◌, ◌+◌, ◌++◌, codes, length, take, IfSome, IfNone, None};
+ghost use Rattle.std.specs.Prelude.{◌≡◌, ◌≤◌, ◌+◌, ◌-◌, ◌++◌, codes, drop, length, take, IfSome, IfNone, IsTrue, None, SomeIff};
 ghost use Rattle.std.specs.Char.{is_ascii_digit};
 ghost use Rattle.std.specs.List.{list_all};
 ghost use Rattle.rfc3339.specs.Reading.{parts_at};
@@ -31,6 +31,12 @@ pub fn write_date_time_in_utc(text: &[u8], room: &mut [u8; 30]) -> Option<usize>
     ensures same { IfSome result (λ n.
         parts_at (take n room.new) ≡ parts_at (date_time_in_utc text.now)) }
     ensures other { IfNone result (parts_at (date_time_in_utc text.now) ≡ None) }
+    // Each byte of the room, and when there is a text.
+    ensures written { IfSome result (λ n.
+        room.new ≡ date_time_in_utc (take 29 text.now) ++ drop n room.old) }
+    ensures some { SomeIff result (IsTrue (list_all is_ascii_digit (drop 29 text.now)))
+        (length (take 29 text.now) + 1) }
+    ensures unchanged { IfNone result (room.new ≡ room.old) }
 {
     write_in_utc(b"", text, room)
 }
@@ -48,6 +54,11 @@ pub fn write_time_in_utc(text: &[u8], room: &mut [u8; 30]) -> Option<usize>
     ensures same { IfSome result (λ n.
         parts_at (take n room.new) ≡ parts_at (time_in_utc text.now)) }
     ensures other { IfNone result (parts_at (time_in_utc text.now) ≡ None) }
+    ensures written { IfSome result (λ n.
+        room.new ≡ time_in_utc (take 18 text.now) ++ drop n room.old) }
+    ensures some { SomeIff result (IsTrue (list_all is_ascii_digit (drop 18 text.now)))
+        (length (take 18 text.now) + 12) }
+    ensures unchanged { IfNone result (room.new ≡ room.old) }
 {
     write_in_utc(SOME_DATE, text, room)
 }
@@ -59,6 +70,12 @@ pub(crate) fn write_in_utc(date: &[u8], text: &[u8], room: &mut [u8; 30]) -> Opt
     ensures same { IfSome result (λ n.
         parts_at (take n room.new) ≡ parts_at (date.now ++ text.now ++ codes "Z")) }
     ensures other { IfNone result (parts_at (date.now ++ text.now ++ codes "Z") ≡ None) }
+    ensures written { let most = 29 - length date.now in IfSome result (λ n.
+        room.new ≡ (date.now ++ take most text.now ++ codes "Z") ++ drop n room.old) }
+    ensures some { let most = 29 - length date.now in
+        SomeIff result (IsTrue (list_all is_ascii_digit (drop most text.now)))
+        (length date.now + length (take most text.now) + 1) }
+    ensures unchanged { IfNone result (room.new ≡ room.old) }
 {
     let most = TO_NINTH_DIGIT - date.len();
     if text.len() <= most {
@@ -77,6 +94,8 @@ fn put_in_utc(date: &[u8], text: &[u8], room: &mut [u8; 30]) -> usize
     requires { length date.now + length text.now ≤ 29 }
     ensures length { result ≡ length date.now + length text.now + 1 }
     ensures written { take result room.new ≡ date.now ++ text.now ++ codes "Z" }
+    ensures whole { room.new
+        ≡ (date.now ++ text.now ++ codes "Z") ++ drop result room.old }
 {
     let end = date.len() + text.len();
     room[..date.len()].copy_from_slice(date);

@@ -79,7 +79,7 @@ fn wall_bytes(parts: Parts) -> [u8; 19]
     ]
 }
 
-// Puts the fraction at a place, if there is one, and gives the place behind it.
+// Puts the fraction at a place, if there is one, and returns the place after it.
 #[inline(always)]
 fn put_fraction(bytes: &mut [u8], place: usize, nanosecond: u32) -> usize
     requires nanosecond { nanosecond ≤ 999_999_999 }
@@ -96,7 +96,7 @@ fn put_fraction(bytes: &mut [u8], place: usize, nanosecond: u32) -> usize
     }
 }
 
-// The same for a nanosecond that is not 0. It stands apart, since many texts have no fraction.
+// The same for a nanosecond that is not 0. It is not in line, since many texts have no fraction.
 #[inline(never)]
 fn put_some_fraction(bytes: &mut [u8], place: usize, nanosecond: u32) -> usize
     requires nanosecond { nanosecond ≤ 999_999_999 }
@@ -203,7 +203,7 @@ fn three_digits(number: u32) -> [u8; 4]
     [b'.', b'0' + (number / 100) as u8, b, c]
 }
 
-// Puts the offset of so many hours and minutes at a place, and gives the place behind it.
+// Puts the offset of these hours and minutes at a place, and returns the place after it.
 #[inline(always)]
 fn put_offset(bytes: &mut [u8], place: usize, is_west: bool, hour: u8, minute: u8) -> usize
     requires room { place + 6 ≤ length bytes.old }
@@ -238,7 +238,7 @@ fn offset_bytes(is_west: bool, hour: u8, minute: u8) -> [u8; 6]
     }
 }
 
-// Puts bytes at a place, and gives the place behind them.
+// Puts bytes at a place, and returns the place after them.
 #[inline(always)]
 fn write_at(bytes: &mut [u8], place: usize, text: &[u8]) -> usize
     requires { place + length text.now ≤ length bytes.old }

@@ -12,7 +12,7 @@ mod places;
 mod shortest;
 mod texts;
 
-// Ends the test unless what is shown is what is wanted.
+// Ends the test unless the two values are equal.
 fn is<T: Copy + PartialEq + Debug>(rt: &impl Abort, shown: T, wanted: T) {
     assert_eq!(rt; shown, wanted);
 }

@@ -1,4 +1,6 @@
+pub mod ExtremeByKeyLemmas
 pub mod FarInsideLemmas
+pub mod FirstByKeyLemmas
 pub mod HeldInstantLemmas
 pub mod LogSearchLemmas
 pub mod MomentLemmas

@@ -84,7 +84,7 @@ pub use Rattle.stamp_times.specs.Counter.{reply_of_instant}
 pub use Rattle.stamp_times.specs.Instants.{instant_of_microseconds, instant_of_milliseconds, instant_of_parts, unix_microseconds_of}
 pub use Rattle.stamp_times.specs.Instants.{unix_milliseconds_of, unix_nanosecond_of}
 unfoldable pub use Rattle.stamp_times.specs.Instants.{hashed_instant}
-pub use Rattle.stamp_times.specs.Logs.{ContainsByKey}
+pub use Rattle.stamp_times.specs.Logs.{ContainsByKey, first_by_key, last_by_key}
 unfoldable pub use Rattle.stamp_times.specs.Numbered.{month_numbered, weekday_numbered}
 pub use Rattle.stamp_times.specs.Refusals.{timestamp_outcome}
 unfoldable pub use Rattle.stamp_times.specs.Refusals.{timestamp_of_parts}

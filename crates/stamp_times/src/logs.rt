@@ -29,6 +29,8 @@ pub fn enter(log: &mut Vec<Timestamp>, at: Timestamp) -> Result<bool, AllocError
     ensures entered { OnOk result (Contains log.new.items at) }
     ensures was_new { IfOk result (λ is_new. IsTrue is_new ↔ (¬ Contains log.old.items at)) }
     ensures kept { (entry : ℤ) → Contains log.old.items entry → Contains log.new.items entry }
+    ensures no_other { (entry : ℤ) → Contains log.new.items entry →
+        Contains log.old.items entry ⊎ (entry ≡ at) }
     ensures unchanged { OnErr result (log.new.items ≡ log.old.items) }
 {
     moment_logs::enter(log, at)

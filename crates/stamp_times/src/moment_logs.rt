@@ -1,9 +1,10 @@
 //! Logs of instants of any type, in the order of time. Values of one instant count as one entry.
-ghost use Rattle.std.specs.Prelude.{◌≡◌, ◌≢◌, ◌<◌, ◌↔◌, ◌⊎◌, ◌≤ℤ◌, [], All, Contains, IfNone, IfOk, IfSome, IsNone, IsSortedByKey, IsTrue, OnErr, OnOk, length};
+ghost use Rattle.std.specs.Prelude.{◌≡◌, ◌≢◌, ◌<◌, ◌↔◌, ◌⊎◌, ◌≤ℤ◌, ◌+◌, ◌-◌, ◌++◌, ◌∷◌, ℕ, [], All, Contains, IfNone, IfOk, IfSome, IsNone};
+ghost use Rattle.std.specs.Prelude.{IsSortedByKey, IsTrue, OnErr, OnOk, Some, drop, false, length, take};
 ghost use Rattle.std.specs.List.{HoldsAt};
 ghost use Rattle.std.specs.List.Sorted.{IsStrictlySortedBy};
 ghost use Rattle.std.specs.Ordering.{int_cmp, on};
-ghost use Rattle.stamp_times.specs.Logs.{ContainsByKey};
+ghost use Rattle.stamp_times.specs.Logs.{ContainsByKey, first_by_key, last_by_key};
 
 use crate::runs::moment::Moment;
 use std::alloc::AllocError;
@@ -32,6 +33,12 @@ pub fn enter<M: Moment>(log: &mut Vec<M>, at: M) -> Result<bool, AllocError>
         IsTrue is_new ↔ (¬ ContainsByKey M.instant log.old.items at)) }
     ensures kept { (entry : M) → ContainsByKey M.instant log.old.items entry →
         ContainsByKey M.instant log.new.items entry }
+    ensures no_other { (entry : M) → Contains log.new.items entry →
+        Contains log.old.items entry ⊎ (entry ≡ at) }
+    // The whole log: with the instant at a place, or as before.
+    ensures inserted { IfOk result (λ is_new. IsTrue is_new → (place : ℕ) ×
+        (log.new.items ≡ take place log.old.items ++ at ∷ drop place log.old.items)) }
+    ensures same { IfOk result (λ is_new. is_new ≡ false → log.new.items ≡ log.old.items) }
     ensures unchanged { OnErr result (log.new.items ≡ log.old.items) }
 {
     match log.binary_search(&at) {
@@ -54,6 +61,10 @@ pub fn remove<M: Moment>(log: &mut Vec<M>, at: M) -> bool
         M.instant entry ≢ M.instant at → ContainsByKey M.instant log.new.items entry }
     ensures no_other { (entry : M) → ContainsByKey M.instant log.new.items entry →
         ContainsByKey M.instant log.old.items entry }
+    // The whole log: without the entry at a place, or as before.
+    ensures removed { IsTrue result → (place : ℕ) ×
+        (log.new.items ≡ take place log.old.items ++ drop (place + 1) log.old.items) }
+    ensures same { result ≡ false → log.new.items ≡ log.old.items }
 {
     match log.binary_search(&at) {
         Ok(place) => {
@@ -64,13 +75,16 @@ pub fn remove<M: Moment>(log: &mut Vec<M>, at: M) -> bool
     }
 }
 
-/// Puts a log in order, and leaves each instant once. `AllocError` if there is no memory for it.
+/// Puts a log in order, and leaves each instant once: the first value of it. `AllocError`, with the
+/// log as before, if there is no memory to sort it.
 pub fn put_in_order<M: Moment>(log: &mut Vec<M>) -> Result<(), AllocError>
     ensures in_order { OnOk result (IsStrictlySortedBy (on M.instant int_cmp) log.new.items) }
     ensures kept { (entry : M) → ContainsByKey M.instant log.old.items entry →
         ContainsByKey M.instant log.new.items entry }
     ensures no_other { (entry : M) → ContainsByKey M.instant log.new.items entry →
         ContainsByKey M.instant log.old.items entry }
+    ensures first { OnOk result ((entry : M) → Contains log.new.items entry →
+        first_by_key M.instant log.old.items entry ≡ Some entry) }
     ensures unchanged { OnErr result (log.new.items ≡ log.old.items) }
 {
     log.sort()?;
@@ -78,8 +92,9 @@ pub fn put_in_order<M: Moment>(log: &mut Vec<M>) -> Result<(), AllocError>
     Ok(())
 }
 
-/// Adds the entries of another list, puts all in order, and leaves each instant once.
-/// `AllocError`, with the log as before, if there is no memory for them or to sort them.
+/// Adds the entries of another list, puts all in order, and leaves each instant once: its value in
+/// the log, or else the first in the other list. `AllocError`, with the log as before, if there is
+/// no memory for them or to sort them.
 pub fn merge<M: Moment>(log: &mut Vec<M>, other: &[M]) -> Result<(), AllocError>
     ensures in_order { OnOk result (IsStrictlySortedBy (on M.instant int_cmp) log.new.items) }
     ensures entered { OnOk result ((entry : M) →
@@ -88,6 +103,8 @@ pub fn merge<M: Moment>(log: &mut Vec<M>, other: &[M]) -> Result<(), AllocError>
         ContainsByKey M.instant log.new.items entry }
     ensures no_other { (entry : M) → ContainsByKey M.instant log.new.items entry →
         ContainsByKey M.instant log.old.items entry ⊎ ContainsByKey M.instant other.now entry }
+    ensures first { OnOk result ((entry : M) → Contains log.new.items entry →
+        first_by_key M.instant (log.old.items ++ other.now) entry ≡ Some entry) }
     ensures unchanged { OnErr result (log.new.items ≡ log.old.items) }
 {
     let before = log.len();
@@ -104,13 +121,16 @@ pub fn last<M: Moment>(log: &[M]) -> Option<M>
     requires { IsSortedByKey M.instant int_cmp log.now }
     ensures none { IsNone result ↔ (log.now ≡ []) }
     ensures present { IfSome result (Contains log.now) }
+    ensures place { IfSome result (λ last.
+        HoldsAt (λ entry. entry ≡ last) log.now (length log.now - 1)) }
     ensures none_later { IfSome result (λ last.
         All (λ entry. M.instant entry ≤ℤ M.instant last) log.now) }
 {
     log.last().copied()
 }
 
-/// Returns the latest of instants in any order. None if there are none.
+/// Returns the latest of instants in any order, the last of them if several are equal. None if
+/// there are none.
 ///
 /// ```
 /// let instants = [UtcDateTime::UNIX_EPOCH, UtcDateTime::MIN];
@@ -124,11 +144,14 @@ pub fn latest<M: Moment>(instants: &[M]) -> Option<M>
     ensures present { IfSome result (Contains instants.now) }
     ensures none_later { IfSome result (λ latest.
         All (λ at. M.instant at ≤ℤ M.instant latest) instants.now) }
+    ensures last { IfSome result (λ latest.
+        last_by_key M.instant instants.now latest ≡ Some latest) }
 {
     instants.iter().copied().max()
 }
 
-/// Returns the earliest of instants in any order. None if there are none.
+/// Returns the earliest of instants in any order, the first of them if several are equal. None if
+/// there are none.
 ///
 /// ```
 /// let instants = [UtcDateTime::UNIX_EPOCH, UtcDateTime::MIN];
@@ -139,6 +162,8 @@ pub fn earliest<M: Moment>(instants: &[M]) -> Option<M>
     ensures present { IfSome result (Contains instants.now) }
     ensures none_earlier { IfSome result (λ earliest.
         All (λ at. M.instant earliest ≤ℤ M.instant at) instants.now) }
+    ensures first { IfSome result (λ earliest.
+        first_by_key M.instant instants.now earliest ≡ Some earliest) }
 {
     instants.iter().copied().min()
 }

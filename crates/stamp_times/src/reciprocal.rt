@@ -12,7 +12,7 @@ ghost use Rattle.calendar_values.specs.Refusals.{IsOrdinalDateOfRange};
 ghost use Rattle.calendar_values.specs.Reciprocal.{shifted_day, IsShiftedDay, century_of, century_fraction_of, julian_count, IsJulianCount};
 ghost use Rattle.calendar_values.specs.Reciprocal.{julian_year_of, julian_year_fraction_of, years_of, step_year, step_leap, step_ordinal};
 
-// Days and years are counted from the year 0 by so many spans of 400 years, and from there to 1970.
+// Days and years are counted from the year 0 by this number of spans of 400 years, and from there to 1970.
 const ERAS: i32 = 5_949;
 
 const DAY_SHIFT: i32 = 146_097 * ERAS + 719_528;
@@ -106,7 +106,7 @@ fn shifted_day(day: i32) -> u32
     (day + DAY_SHIFT) as u32
 }
 
-// The year that comes so many years after the year -2379600.
+// The year this number of years after the year -2379600.
 fn year_of_shift(years: u32) -> i32
     requires { years < 2 ^ 31 }
     ensures { result ≡ pos years -ℤ pos 2_379_600 }

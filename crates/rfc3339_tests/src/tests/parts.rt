@@ -30,7 +30,7 @@ fn parts(nanosecond: u32, is_west: bool, offset_hour: u8, offset_minute: u8) -> 
     }
 }
 
-// Whether this text is written, and the bytes behind it stay.
+// Whether this text is written, and the bytes after it stay.
 fn is_text(rt: &impl Abort, parts: Parts, text: &str)
     requires in_range { AreInRange parts }
     requires year { parts.year ≤ 9_999 }
@@ -68,7 +68,7 @@ fn texts_of_parts(rt: HostRuntime) {
     is_text(&rt, parts(0, false, 0, 20), "1985-04-12T23:20:50+00:20");
 }
 
-// Whether this is read behind a second of the first example: the nanosecond and the offset, or nothing.
+// Whether this is read after a second of the first example: the nanosecond and the offset, or nothing.
 fn is_read(rt: &impl Abort, text: &str, expected: Option<(u32, bool, u8, u8)>) {
     let read = parts_after_second(parts(0, false, 0, 0), text.as_bytes());
     let found = read.map(|it| (it.nanosecond, it.is_west, it.offset_hour, it.offset_minute));

@@ -4,7 +4,7 @@ use offset_times::{Assume, OffsetDateTime};
 use stamp_times::{Held, Step, Timestamp, chain};
 use std::test::Fail;
 
-// Whether both are held by one type, at one instant and at one offset.
+// Whether both are of one type, at one instant and at one offset.
 fn is_same(held: Held, wanted: Held) -> bool {
     match held {
         Held::Stamp(stamp) => match wanted {

@@ -2,6 +2,7 @@ use Rattle.std.proofs.Common.{int_cmp}
 use Rattle.std.proofs.lemmas.List.Sorted.{IsPermutation-sym}
 use Rattle.std.specs.Ordering.{int_eq}
 use Rattle.stamp_times.specs.LogLemmas.{strictly-deduped, ContainsByKey-deduped, ContainsByKey-before_dedup, ContainsByKey-permuted}
+use Rattle.stamp_times.proofs.FirstByKeyLemmas.{first_by_key-left}
 use Rattle.stamp_times.proofs.LogSearchLemmas.{by_key}
 use Rattle.stamp_times.proofs.moment_logs.put_in_order.Goals as goal
 
@@ -24,3 +25,10 @@ returns-clause-no_other g c =
     λ entry. λ found.
     let there = ContainsByKey-before_dedup g.M.Moment.instant _ _ entry filtered found in
     ContainsByKey-permuted g.M.Moment.instant _ _ entry (IsPermutation-sym _ _ c.sort.ensures.permutation) there
+
+pub returns-clause-first : goal.returns-clause-first
+returns-clause-first g c =
+    let sorted = rw (by_key g.M.Moment.instant int_cmp g.met.M.Moment.cmp_by_instant) at c.in_ok-sort.ensures.sorted in
+    let stable = rw (by_key g.M.Moment.instant int_cmp g.met.M.Moment.cmp_by_instant) at c.sort.ensures.stable in
+    let filtered = rw (by_key g.M.Moment.instant int_eq g.met.M.Moment.eq_by_instant) at c.dedup.ensures.filtered in
+    λ entry. λ found. first_by_key-left g.M.Moment.instant _ _ _ entry stable sorted filtered found

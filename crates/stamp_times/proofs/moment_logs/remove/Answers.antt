@@ -1,4 +1,4 @@
-use Rattle.std.proofs.Common.{◌≡◌, ◌<◌, refl, length, slice_index_or, int_cmp}
+use Rattle.std.proofs.Common.{◌≡◌, ◌<◌, ◌+◌, suc, arith, refl, length, slice_index_or, int_cmp}
 use Rattle.stamp_times.specs.LogLemmas.{strictly-removed, ContainsByKey-removed, ContainsByKey-before_removal, not_ContainsByKey-removed}
 use Rattle.stamp_times.proofs.LogSearchLemmas.{by_key, equal-int_cmp, not_ContainsByKey-strictly}
 use Rattle.stamp_times.proofs.moment_logs.remove.Given.{Over}
@@ -35,3 +35,7 @@ returns-in-Err-clause-absent g c =
 
 pub returns-in-Err-clause-was_there : goal.returns-in-Err-clause-was_there
 returns-in-Err-clause-was_there g c = ((λ no. absurd cc), (λ found. absurd (returns-in-Err-clause-absent g c found)))
+
+pub returns-in-Ok-clause-removed : goal.returns-in-Ok-clause-removed
+returns-in-Ok-clause-removed g c = λ found.
+    let next : suc c.in-Ok.place ≡ c.in-Ok.place + 1 = omega arith in (c.in-Ok.place, rw next at c.remove.ensures.items)
