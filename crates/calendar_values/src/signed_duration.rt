@@ -150,7 +150,7 @@ impl SignedDuration {
         SignedDuration::from_parts(seconds, nanoseconds).unwrap()
     }
 
-    // The duration of so many seconds and nanoseconds together, if it is one.
+    // The duration of these seconds and nanoseconds together, if it is in range.
     fn from_parts(seconds: i64, nanoseconds: i32) -> Option<SignedDuration>
         ensures { SomeDuration result (duration_of_parts seconds nanoseconds) }
     {
@@ -295,7 +295,7 @@ impl SignedDuration {
         }
     }
 
-    // The duration of so many nanoseconds, if it is one.
+    // The duration of this number of nanoseconds, if it is in range.
     fn from_whole_nanoseconds(nanoseconds: i128) -> Option<SignedDuration>
         ensures { SomeDuration result nanoseconds }
     {
@@ -309,7 +309,7 @@ impl SignedDuration {
         })
     }
 
-    // The duration that is nearest to so many nanoseconds.
+    // The duration that is nearest to this number of nanoseconds.
     fn nearest(nanoseconds: i128) -> SignedDuration
         ensures { IsNearestDuration nanoseconds result }
     {

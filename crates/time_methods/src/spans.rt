@@ -70,7 +70,7 @@ fn days_from_first_cycle(day: i32) -> u32
     (day + DAYS_BEFORE_1970) as u32
 }
 
-// The year that comes so many years after 1 January of the year -1000000.
+// The year this number of years after 1 January of the year -1000000.
 #[tactic(auto, using(calendar_values::specs::SignedArith::signed_casts))]
 fn year_from_first_cycle(years: u32) -> i32
     requires { years < 2_000_000 }

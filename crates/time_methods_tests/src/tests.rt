@@ -8,7 +8,7 @@ use time_methods::{
     adjusting_add, from_days_since_epoch, from_julian_day, iso_week, laws, to_calendar_date,
 };
 
-// Ends the test unless what is shown is what is wanted.
+// Ends the test unless the two values are equal.
 fn is<T: Copy + PartialEq + Debug>(rt: &impl Abort, shown: T, wanted: T) {
     assert_eq!(rt; shown, wanted);
 }

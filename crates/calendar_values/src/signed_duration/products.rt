@@ -33,7 +33,7 @@ impl SignedDuration {
         SignedDuration::nearest(self.nanoseconds_times(factor as i64))
     }
 
-    // The duration so many times as long, if it is one.
+    // The duration multiplied by a factor, if that is in range.
     fn times(self, factor: i64) -> Option<SignedDuration>
         requires { unsigned_abs factor ≤ 4_294_967_296 }
         ensures { SomeDuration result (self *ℤ factor) }

@@ -83,7 +83,7 @@ impl Time {
         (matches!(adjustment, DateAdjustment::Previous), time)
     }
 
-    // The time at so many nanoseconds since midnight.
+    // The time at this number of nanoseconds since midnight.
     fn from_nanosecond_of_day(nanoseconds: u64) -> Time
         requires { IsClock nanoseconds }
         ensures { result ≡ nanoseconds }
@@ -94,7 +94,7 @@ impl Time {
         )
     }
 
-    // The time so many nanoseconds later, or earlier where they are negative, and the day it is on.
+    // The time this number of nanoseconds later, or earlier if it is negative, and its day.
     #[tactic(auto, using(crate::specs::SignedArith::signed_casts))]
     fn moved_by(self, nanoseconds: i64) -> (DateAdjustment, Time)
         requires low { neg_ℤ (pos nanos_per_day) <ℤ nanoseconds }
@@ -108,7 +108,7 @@ impl Time {
     }
 }
 
-// The nanosecond of the day that so many nanoseconds from midnight lie at, and the day that it is on.
+// The nanosecond of the day at this number of nanoseconds from midnight, and its day.
 #[inline(always)]
 #[tactic(auto, using(crate::specs::SignedArith::signed_casts))]
 fn within_day(nanoseconds: i64) -> (DateAdjustment, u64)

@@ -39,7 +39,7 @@ impl OffsetDateTime {
         self.cmp(&OffsetDateTime::from(other))
     }
 
-    // The instant, shown in UTC.
+    // The instant, as clocks in UTC show it.
     #[tactic(auto, using(crate::specs::InstantLemmas::instants))]
     pub(crate) fn from_utc(at: UtcDateTime) -> OffsetDateTime
         ensures value { result ≡ local_in_utc at }
