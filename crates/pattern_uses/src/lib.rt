@@ -5,3 +5,4 @@
 pub mod log_stamps;
 pub mod patterns;
 pub mod written_patterns;
+pub mod wrong_parts;

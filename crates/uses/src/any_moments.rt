@@ -1,8 +1,9 @@
 //! Lists of instants of any type.
-ghost use Rattle.std.specs.Prelude.{◌≡◌, ◌↔◌, ◌<ℤ◌, ◌≤ℤ◌, [], All, Contains, IfSome, IsNone, IsPermutation, IsSorted, IsSortedByKey, IsTrue, OnOk};
+ghost use Rattle.std.specs.Prelude.{◌≡◌, ◌≢◌, ◌↔◌, ◌⊎◌, ◌<ℤ◌, ◌≤ℤ◌, [], All, Contains, IfSome, IsNone, IsPermutation};
+ghost use Rattle.std.specs.Prelude.{IsSorted, IsSortedByKey, IsTrue, OnErr, OnOk, Some};
 ghost use Rattle.std.specs.List.Sorted.{IsStrictlySortedBy};
 ghost use Rattle.std.specs.Ordering.{int_cmp, on};
-ghost use Rattle.stamp_times.specs.Logs.{ContainsByKey};
+ghost use Rattle.stamp_times.specs.Logs.{ContainsByKey, last_by_key};
 
 use stamp_times::{Moment, moment_logs};
 use std::alloc::AllocError;
@@ -14,6 +15,8 @@ pub fn latest<M: Moment>(ats: &[M]) -> Option<M>
     ensures present { IfSome result (Contains ats.now) }
     ensures none_later { IfSome result (λ latest.
         All (λ at. M.instant at ≤ℤ M.instant latest) ats.now) }
+    ensures last { IfSome result (λ latest.
+        last_by_key M.instant ats.now latest ≡ Some latest) }
 {
     moment_logs::latest(ats)
 }
@@ -22,6 +25,7 @@ pub fn latest<M: Moment>(ats: &[M]) -> Option<M>
 pub fn sort<M: Moment>(log: &mut Vec<M>) -> Result<(), AllocError>
     ensures same { IsPermutation log.old.items log.new.items }
     ensures in_order { OnOk result (IsSortedByKey M.instant int_cmp log.new.items) }
+    ensures unchanged { OnErr result (log.new.items ≡ log.old.items) }
 {
     log.sort()
 }
@@ -49,6 +53,9 @@ pub fn enter<M: Moment>(log: &mut Vec<M>, at: M) -> Result<(), AllocError>
     ensures entered { OnOk result (ContainsByKey M.instant log.new.items at) }
     ensures kept { (entry : M) → ContainsByKey M.instant log.old.items entry →
         ContainsByKey M.instant log.new.items entry }
+    ensures no_other { (entry : M) → Contains log.new.items entry →
+        Contains log.old.items entry ⊎ (entry ≡ at) }
+    ensures unchanged { OnErr result (log.new.items ≡ log.old.items) }
 {
     moment_logs::enter(log, at)?;
     Ok(())
@@ -60,6 +67,10 @@ pub fn withdraw<M: Moment>(log: &mut Vec<M>, at: M) -> bool
     ensures in_order { IsStrictlySortedBy (on M.instant int_cmp) log.new.items }
     ensures gone { ¬ ContainsByKey M.instant log.new.items at }
     ensures was_there { IsTrue result ↔ ContainsByKey M.instant log.old.items at }
+    ensures kept { (entry : M) → ContainsByKey M.instant log.old.items entry →
+        M.instant entry ≢ M.instant at → ContainsByKey M.instant log.new.items entry }
+    ensures no_other { (entry : M) → ContainsByKey M.instant log.new.items entry →
+        ContainsByKey M.instant log.old.items entry }
 {
     moment_logs::remove(log, at)
 }
@@ -67,7 +78,7 @@ pub fn withdraw<M: Moment>(log: &mut Vec<M>, at: M) -> bool
 /// Whether a date-time is after every entry of a log in order.
 pub fn is_news(log: &[UtcDateTime], at: UtcDateTime) -> bool
     requires { IsSorted int_cmp log.now }
-    ensures { IsTrue result → All (λ entry. entry <ℤ at) log.now }
+    ensures { IsTrue result ↔ All (λ entry. entry <ℤ at) log.now }
 {
     moment_logs::last(log).is_none_or(|last| last < at)
 }

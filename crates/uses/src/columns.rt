@@ -1,5 +1,5 @@
 //! Columns of tables that store dates and times of day as numbers.
-ghost use Rattle.std.specs.Prelude.{◌≡◌, ◌↔◌, ◌/◌, ◌%◌, ◌<◌, ◌+ℤ◌, ◌*ℤ◌, ◌≤ℤ◌, pos, IsTrue, IfSome, SomeIff};
+ghost use Rattle.std.specs.Prelude.{◌≡◌, ◌↔◌, ◌/◌, ◌%◌, ◌<◌, ◌+ℤ◌, ◌*ℤ◌, ◌≤ℤ◌, pos, IsSome, IsTrue, IfSome, SomeIff};
 ghost use Rattle.std.specs.Int.{int_rem_euclid};
 ghost use Rattle.calendar_values.specs.Calendar.{day_of_ordinal_date};
 ghost use Rattle.calendar_values.specs.Clock.{nanos_per_day, nanos_per_second, hour_of, minute_of};
@@ -47,7 +47,8 @@ pub fn stored_second(time: Time) -> i32
 
 /// The time of day that a column of seconds stores. None where the number is no second of a day.
 pub fn time_of(stored: u32) -> Option<Time>
-    ensures { IfSome result (λ time. time / nanos_per_second ≡ stored) }
+    ensures value { IfSome result (λ time. time / nanos_per_second ≡ stored) }
+    ensures some { IsSome result ↔ (stored < 86_400) }
 {
     Time::from_second_of_day(stored, 0)
 }
@@ -63,7 +64,8 @@ pub fn second_of_day_of(stored: i32) -> u32
 /// The day of the week that a column of small numbers stores, 0 for Monday. None where the number
 /// is none.
 pub fn weekday_of_number(stored: u8) -> Option<Weekday>
-    ensures { IfSome result (λ weekday. weekday_number weekday ≡ stored) }
+    ensures value { IfSome result (λ weekday. weekday_number weekday ≡ stored) }
+    ensures some { IsSome result ↔ (stored < 7) }
 {
     Weekday::from_number_days_from_monday(stored)
 }

@@ -3,7 +3,7 @@
 ghost use Rattle.std.specs.Prelude.{◌≡◌, ◌↔◌, ◌<◌, ◌≤◌, ◌+◌, ◌+ℤ◌, ◌-ℤ◌, ◌*ℤ◌, ◌≤ℤ◌, ◌<ℤ◌, pos, IfSome, IsTrue, SomeIff};
 ghost use Rattle.calendar_values.specs.Calendar.{days_in_month, is_leap_year, year_of, month_of, day_of_month_of};
 ghost use Rattle.calendar_values.specs.Clock.{hour_of, minute_of};
-ghost use Rattle.calendar_values.specs.Range.{IsDay};
+ghost use Rattle.calendar_values.specs.Range.{IsDay, SomeDay};
 ghost use Rattle.calendar_values.specs.Weekday.{weekday_number};
 ghost use Rattle.calendar_values.specs.Weeks.{iso_week_of, iso_year_of, monday_of, weekday_of, weeks_in_year};
 
@@ -69,7 +69,7 @@ pub fn weekday_weeks_later(date: Date, weeks: i32) -> Weekday
 
 /// The day a number of days before the date, or None before the range.
 pub fn days_before(date: Date, days: u8) -> Option<Date>
-    ensures { IfSome result (λ earlier. earlier ≡ date -ℤ pos days) }
+    ensures { SomeDay result (date -ℤ pos days) }
 {
     date.checked_sub(SignedDuration::days(i64::from(days)))
 }
@@ -84,7 +84,7 @@ pub fn monday_of(date: Date) -> Option<Date>
 
 /// The day a number of days after the date, or None past the range.
 pub fn days_after(date: Date, days: u8) -> Option<Date>
-    ensures { IfSome result (λ later. later ≡ date +ℤ pos days) }
+    ensures { SomeDay result (date +ℤ pos days) }
 {
     date.checked_add(SignedDuration::days(i64::from(days)))
 }
@@ -127,7 +127,7 @@ pub fn working_day_after(date: Date) -> Option<Date>
 
 /// The same day of the week, a week later, or None past the range.
 pub fn a_week_later(date: Date) -> Option<Date>
-    ensures later { IfSome result (λ later. later ≡ date +ℤ pos 7) }
+    ensures later { SomeDay result (date +ℤ pos 7) }
     ensures weekday { IfSome result (λ later. weekday_of later ≡ weekday_of date) }
 {
     date.checked_add_days(7)

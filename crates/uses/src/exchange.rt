@@ -1,5 +1,5 @@
 //! Date-times that are exchanged as texts of RFC 3339.
-ghost use Rattle.std.specs.Prelude.{◌≡◌, ℤ, is_ok, map, IfOk, IfSome, OnOk, OkIff, SomeIff};
+ghost use Rattle.std.specs.Prelude.{◌≡◌, ℤ, is_ok, map, IfOk, IfSome, OnErr, OnOk, OkIff, SomeIff};
 ghost use Rattle.std.specs.Prelude.{IsPermutation, IsSorted};
 ghost use Rattle.std.specs.Cmp.Lexicographic.{slice_cmp};
 ghost use Rattle.std.specs.Ordering.{nat_cmp, int_cmp};
@@ -96,6 +96,7 @@ pub fn receive(sent: OffsetDateTime) -> Option<OffsetDateTime>
 pub fn sort(texts: &mut Vec<&[u8]>) -> Result<(), AllocError>
     ensures same_texts { IsPermutation texts.old.items texts.new.items }
     ensures sorted { OnOk result (IsSorted (λ a b. slice_cmp nat_cmp a.now b.now) texts.new.items) }
+    ensures unchanged { OnErr result (texts.new.items ≡ texts.old.items) }
 {
     texts.sort()
 }

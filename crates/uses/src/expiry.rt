@@ -1,7 +1,7 @@
 //! Rules of expiry: when something expires, and whether it has.
 ghost use Rattle.std.specs.Prelude.{◌≡◌, ◌↔◌, ◌*◌, ◌+ℤ◌, ◌*ℤ◌, ◌≤ℤ◌, ◌<ℤ◌, pos, IfSome, IsTrue, SomeIff};
 ghost use Rattle.calendar_values.specs.Clock.{nanos_per_minute, nanos_per_day};
-ghost use Rattle.calendar_values.specs.WallClock.{first_wall_clock, last_wall_clock, IsWallClock};
+ghost use Rattle.calendar_values.specs.WallClock.{first_wall_clock, last_wall_clock, IsWallClock, SomeInRange};
 
 use calendar_values::SignedDuration;
 use utc_times::UtcDateTime;
@@ -60,7 +60,7 @@ pub fn since_ever(until: UtcDateTime) -> UtcDateTime
 
 /// The instant a number of minutes later, or None past the range.
 pub fn minutes_later(at: UtcDateTime, minutes: u16) -> Option<UtcDateTime>
-    ensures { IfSome result (λ later. later ≡ at +ℤ pos (minutes * nanos_per_minute)) }
+    ensures { SomeInRange result (at +ℤ pos (minutes * nanos_per_minute)) }
 {
     at.checked_add(SignedDuration::minutes(i64::from(minutes)))
 }

@@ -1,9 +1,9 @@
 //! A log in the order of instants.
 
-ghost use Rattle.std.specs.Prelude.{◌≡◌, ◌↔◌, ◌-ℤ◌, ◌<ℤ◌, ◌≤ℤ◌, ℤ, All, IsSortedByKey, true, ◌++◌, [], ◌∷◌, Contains, IfOk, IfSome, IsPermutation};
-ghost use Rattle.std.specs.Prelude.{IsSorted, IsTrue, OnOk, if◌then◌else◌};
+ghost use Rattle.std.specs.Prelude.{◌≡◌, ◌≢◌, ◌↔◌, ◌⊎◌, ◌-ℤ◌, ◌<ℤ◌, ◌≤ℤ◌, ℤ, All, IsSortedByKey, true, ◌++◌, [], ◌∷◌, Contains, IfOk, IfSome};
+ghost use Rattle.std.specs.Prelude.{◌-◌, ◌<◌, false, vec_len, IsNone, IsPermutation, IsSorted, IsTrue, OnErr, OnOk, if◌then◌else◌};
 ghost use Rattle.std.specs.List.{HoldsAt};
-ghost use Rattle.std.specs.List.Sorted.{IsStrictlySortedBy};
+ghost use Rattle.std.specs.List.Sorted.{IsStableByKey, IsStrictlySortedBy};
 ghost use Rattle.std.specs.Ordering.{int_cmp, on};
 ghost use Rattle.std.specs.declared.cmp.Ordering.TheVariants.{Equal};
 ghost use Rattle.calendar_values.specs.WallClock.{IsWallClock};
@@ -22,6 +22,7 @@ use utc_times::UtcDateTime;
 pub fn sort(entries: &mut Vec<UtcDateTime>) -> Result<(), AllocError>
     ensures same_entries { IsPermutation entries.old.items entries.new.items }
     ensures sorted { OnOk result (IsSorted int_cmp entries.new.items) }
+    ensures unchanged { OnErr result (entries.new.items ≡ entries.old.items) }
 {
     entries.sort()
 }
@@ -35,8 +36,13 @@ pub fn position(entries: &[UtcDateTime], at: UtcDateTime) -> Option<usize>
 
 /// Adds an entry, unless it is before the last.
 pub fn accept(entries: &mut Vec<UtcDateTime>, at: UtcDateTime) -> Result<bool, AllocError>
-    ensures { IfOk result (λ accepted. entries.new.items ≡
+    ensures entries { IfOk result (λ accepted. entries.new.items ≡
         (if accepted then entries.old.items ++ at ∷ [] else entries.old.items)) }
+    ensures refused { IfOk result (λ accepted. accepted ≡ false →
+        HoldsAt (λ last. at <ℤ last) entries.old.items (vec_len entries.old - 1)) }
+    ensures accepted { IfOk result (λ accepted. IsTrue accepted → 0 < vec_len entries.old →
+        HoldsAt (λ last. last ≤ℤ at) entries.old.items (vec_len entries.old - 1)) }
+    ensures unchanged { OnErr result (entries.new.items ≡ entries.old.items) }
 {
     if entries.last().is_some_and(|last| at < *last) {
         return Ok(false);
@@ -59,6 +65,9 @@ pub fn enter(log: &mut Vec<Timestamp>, at: Timestamp) -> Result<(), AllocError>
     ensures in_order { IsStrictlySortedBy int_cmp log.new.items }
     ensures entered { OnOk result (Contains log.new.items at) }
     ensures kept { (entry : ℤ) → Contains log.old.items entry → Contains log.new.items entry }
+    ensures no_other { (entry : ℤ) → Contains log.new.items entry →
+        Contains log.old.items entry ⊎ (entry ≡ at) }
+    ensures unchanged { OnErr result (log.new.items ≡ log.old.items) }
 {
     logs::enter(log, at)?;
     Ok(())
@@ -72,7 +81,8 @@ pub fn enter_shift(
 ) -> Result<(), AllocError>
     requires { IsStrictlySortedBy int_cmp log.old.items }
     ensures in_order { IsStrictlySortedBy int_cmp log.new.items }
-    ensures entered { OnOk result (Contains log.new.items from) }
+    ensures from { OnOk result (Contains log.new.items from) }
+    ensures until { OnOk result (Contains log.new.items until) }
     ensures kept { (entry : ℤ) → Contains log.old.items entry → Contains log.new.items entry }
 {
     enter(log, from)?;
@@ -83,6 +93,9 @@ pub fn enter_shift(
 pub fn joined_has(log: &mut Vec<Timestamp>, at: Timestamp) -> Result<bool, AllocError>
     ensures in_order { OnOk result (IsStrictlySortedBy int_cmp log.new.items) }
     ensures found { IfOk result (λ found. IsTrue found ↔ Contains log.new.items at) }
+    ensures kept { (entry : ℤ) → Contains log.old.items entry → Contains log.new.items entry }
+    ensures no_other { (entry : ℤ) → Contains log.new.items entry → Contains log.old.items entry }
+    ensures unchanged { OnErr result (log.new.items ≡ log.old.items) }
 {
     logs::put_in_order(log)?;
     Ok(logs::find(log, at).is_some())
@@ -94,6 +107,9 @@ pub fn take_in(log: &mut Vec<Timestamp>, other: &[Timestamp]) -> Result<(), Allo
     ensures taken_in { OnOk result ((entry : ℤ) →
         Contains other.now entry → Contains log.new.items entry) }
     ensures kept { (entry : ℤ) → Contains log.old.items entry → Contains log.new.items entry }
+    ensures no_other { (entry : ℤ) → Contains log.new.items entry →
+        Contains log.old.items entry ⊎ Contains other.now entry }
+    ensures unchanged { OnErr result (log.new.items ≡ log.old.items) }
 {
     logs::merge(log, other)
 }
@@ -110,7 +126,7 @@ pub fn gather(log: &mut Vec<Timestamp>, other: &[Timestamp]) -> Result<(), Alloc
 /// Whether an instant is after every entry of a log in order.
 pub fn is_news(log: &[Timestamp], at: Timestamp) -> bool
     requires { IsSorted int_cmp log.now }
-    ensures { IsTrue result → All (λ entry. entry <ℤ at) log.now }
+    ensures { IsTrue result ↔ All (λ entry. entry <ℤ at) log.now }
 {
     logs::last(log).is_none_or(|last| last < at)
 }
@@ -121,14 +137,20 @@ pub fn withdraw(log: &mut Vec<Timestamp>, at: Timestamp) -> bool
     ensures in_order { IsStrictlySortedBy int_cmp log.new.items }
     ensures gone { ¬ Contains log.new.items at }
     ensures was_there { IsTrue result ↔ Contains log.old.items at }
+    ensures kept { (entry : ℤ) → Contains log.old.items entry → entry ≢ at →
+        Contains log.new.items entry }
+    ensures no_other { (entry : ℤ) → Contains log.new.items entry → Contains log.old.items entry }
 {
     logs::remove(log, at)
 }
 
 /// The duration from the earliest of the entries to the latest, in any order.
 pub fn span(entries: &[Timestamp]) -> Option<SignedDuration>
-    ensures { IfSome result (λ span. (first : ℤ) × (last : ℤ) × Contains entries.now first ×
-        Contains entries.now last × (span ≡ last -ℤ first)) }
+    ensures none { IsNone result ↔ (entries.now ≡ []) }
+    ensures span { IfSome result (λ span. (first : ℤ) × (last : ℤ) ×
+        Contains entries.now first × All (λ at. first ≤ℤ at) entries.now ×
+        Contains entries.now last × All (λ at. at ≤ℤ last) entries.now ×
+        (span ≡ last -ℤ first)) }
 {
     let first = logs::earliest(entries)?;
     let last = logs::latest(entries)?;
@@ -154,6 +176,8 @@ impl Stamped for Entry {
 pub fn sort_lines(lines: &mut Vec<Entry>) -> Result<(), AllocError>
     ensures same_lines { IsPermutation lines.old.items lines.new.items }
     ensures in_order { OnOk result (IsSortedByKey (λ line. line.at) int_cmp lines.new.items) }
+    ensures stable { IsStableByKey (λ line. line.at) int_cmp lines.old.items lines.new.items }
+    ensures unchanged { OnErr result (lines.new.items ≡ lines.old.items) }
 {
     logs::sort_by_stamp(lines)
 }
@@ -179,6 +203,9 @@ pub fn sort_sales(sales: &mut Vec<Sale>) -> Result<(), AllocError>
     ensures same_sales { IsPermutation sales.old.items sales.new.items }
     ensures in_order { OnOk result
         (IsSortedByKey (λ sale. sale.at) (on instant_of int_cmp) sales.new.items) }
+    ensures stable { IsStableByKey (λ sale. sale.at) (on instant_of int_cmp)
+        sales.old.items sales.new.items }
+    ensures unchanged { OnErr result (sales.new.items ≡ sales.old.items) }
 {
     logs::sort_by_date_time(sales)
 }

@@ -1,6 +1,6 @@
 //! Instants as a browser counts them: Unix milliseconds.
 ghost use Rattle.std.specs.Prelude.{◌≡◌, ◌≤ℤ◌, ◌<ℤ◌, ◌+ℤ◌, pos, IfSome};
-ghost use Rattle.calendar_values.specs.WallClock.{unix_seconds_of};
+ghost use Rattle.calendar_values.specs.WallClock.{SomeInRange, unix_seconds_of};
 ghost use Rattle.offset_times.specs.Local.{instant_of};
 ghost use Rattle.stamp_times.specs.Instants.{instant_of_milliseconds, unix_milliseconds_of};
 
@@ -11,7 +11,7 @@ use utc_times::UtcDateTime;
 
 /// The instant of Unix milliseconds. None where the range has no such instant.
 pub fn stamp_of(milliseconds: i64) -> Option<Timestamp>
-    ensures { IfSome result (λ at. at ≡ instant_of_milliseconds milliseconds) }
+    ensures { SomeInRange result (instant_of_milliseconds milliseconds) }
 {
     Some(Timestamp::from_milliseconds(milliseconds).ok()?)
 }

@@ -1,5 +1,5 @@
 //! Callers that do not care which type holds an instant, and records that are exchanged.
-ghost use Rattle.std.specs.Prelude.{◌≡◌, ◌↔◌, ◌≤◌, codes, IfErr, IfOk, IfSome, IsOk, IsPermutation, IsSorted, OnOk, pos, ◌+ℤ◌, ◌≤ℤ◌};
+ghost use Rattle.std.specs.Prelude.{◌≡◌, ◌↔◌, ◌≤◌, codes, IfErr, IfOk, IfSome, IsOk, IsPermutation, IsSorted, OnErr, OnOk, pos, ◌+ℤ◌, ◌≤ℤ◌};
 ghost use Rattle.std.specs.Ordering.{on, int_cmp};
 ghost use Rattle.calendar_values.specs.Calendar.{day_of_month_of, year_of};
 ghost use Rattle.calendar_values.specs.Clock.{nanos_per_day, hour_of};
@@ -110,6 +110,7 @@ pub fn next_midnight_at(at: UtcDateTime, offset: UtcOffset) -> Option<OffsetDate
 pub fn sort(entries: &mut Vec<OffsetDateTime>) -> Result<(), AllocError>
     ensures same_entries { IsPermutation entries.old.items entries.new.items }
     ensures sorted { OnOk result (IsSorted (on instant_of int_cmp) entries.new.items) }
+    ensures unchanged { OnErr result (entries.new.items ≡ entries.old.items) }
 {
     entries.sort()
 }

@@ -5,8 +5,9 @@ use std::process::Abort;
 mod callers;
 mod dates;
 mod examples;
+mod patterns;
 
-// Ends the test unless what is shown is what is wanted.
+// Ends the test unless the two values are equal.
 fn is<T: Copy + PartialEq + Debug>(rt: &impl Abort, shown: T, wanted: T) {
     assert_eq!(rt; shown, wanted);
 }

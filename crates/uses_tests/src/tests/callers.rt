@@ -1,11 +1,7 @@
 //! Each caller is called.
 use super::is;
 use calendar_values::{Date, Month, SignedDuration, Time, UtcOffset, Weekday};
-use format_descriptions::{
-    Component, DescriptionFault, Iso8601, Item, Padding, Sign, UnixPrecision,
-};
 use offset_times::OffsetDateTime;
-use pattern_uses::{patterns, written_patterns};
 use stamp_times::{Call, ClockRead, Held, Shift, Step, Timestamp, ToTimestamp};
 use std::cmp::Ordering;
 use std::test::Fail;
@@ -119,7 +115,7 @@ fn texts_of_fixed_width_are_sorted(rt: HostRuntime) -> Result<(), Fail> {
     Ok(())
 }
 
-// The instant of a Unix second, as clocks so many hours ahead of UTC show it.
+// The instant of a Unix second, as clocks this number of hours ahead of UTC show it.
 fn local(second: i64, hours: i8) -> Result<OffsetDateTime, Fail> {
     let offset = UtcOffset::from_hms(hours, 0, 0)?;
     let shown = OffsetDateTime::from_unix_timestamp(second)?.checked_to_offset(offset);
@@ -488,95 +484,6 @@ fn periods_in_common(rt: HostRuntime) -> Result<(), Fail> {
 }
 
 #[test]
-fn headings_of_days(rt: HostRuntime) -> Result<(), Fail> {
-    let day = Date::from_ordinal_date(2024, 60)?;
-    match patterns::heading(day) {
-        Some(text) => is(&rt, text.as_str(), "2024-02-29"),
-        None => is(&rt, "no heading", "2024-02-29"),
-    }
-    is(
-        &rt,
-        patterns::parts_of_heading(b"2024-02-29").map(|parts| parts.day),
-        Ok(Some(29)),
-    );
-    is(&rt, patterns::parts_of_heading(b"2024-02").err(), Some(7));
-    is(
-        &rt,
-        patterns::parts_of_mail_date(b"Thu, 29 Feb 2024 12:00:00 +0530").map(|parts| parts.day),
-        Some(Some(29)),
-    );
-    is(
-        &rt,
-        patterns::parts_of_short_day(b"17/06/09").map(|parts| parts.year),
-        Some(Some(2017)),
-    );
-    is(
-        &rt,
-        patterns::parts_of_short_day(b"17/6/09").is_none(),
-        true,
-    );
-    Ok(())
-}
-
-#[test]
-fn patterns_of_users(rt: HostRuntime) -> Result<(), Fail> {
-    is(
-        &rt,
-        patterns::fault_of_pattern("[hours]"),
-        Some(DescriptionFault::UnknownComponent),
-    );
-    is(&rt, patterns::fault_of_pattern("[hour]h"), None);
-    let second = Item::Part(Component::UnixTimestamp(UnixPrecision::Seconds, Sign::Automatic));
-    let last_second = Timestamp::new(-1, 0)?;
-    is(
-        &rt,
-        patterns::timestamp_by(&[second], b"-1"),
-        Some(last_second),
-    );
-    is(&rt, patterns::timestamp_by(&[second], b"one"), None);
-    let day = Item::Part(Component::Day(Padding::Zero));
-    is(&rt, patterns::first_of_pattern("[day].[month]"), Some(day));
-    is(&rt, patterns::first_of_pattern(""), None);
-    Ok(())
-}
-
-#[test]
-fn texts_of_well_known_forms(rt: HostRuntime) -> Result<(), Fail> {
-    let last = patterns::instant_of_mail(b"31 Dec 2016 23:59:60 GMT");
-    is(
-        &rt,
-        last.map(|read| (read.0.unix_timestamp(), read.1)),
-        Some((1_483_228_799, true)),
-    );
-    is(
-        &rt,
-        patterns::instant_of_mail(b"31 Dec 2016").is_none(),
-        true,
-    );
-    let form = Iso8601 {
-        time: None,
-        offset: None,
-        ..Iso8601::DEFAULT
-    };
-    match patterns::text_in_form(form, OffsetDateTime::UNIX_EPOCH) {
-        Some(text) => is(&rt, text.as_str(), "1970-01-01"),
-        None => is(&rt, "no text", "1970-01-01"),
-    }
-    is(
-        &rt,
-        patterns::parts_in_form(form, b"1970-01-01").map(|parts| parts.day),
-        Some(Some(1)),
-    );
-    let read = patterns::date_and_time(b"1970-001", b"12.5");
-    is(
-        &rt,
-        read,
-        Some((Date::UNIX_EPOCH, Time::from_hms(12, 30, 0)?)),
-    );
-    Ok(())
-}
-
-#[test]
 fn logs_of_any_instants(rt: HostRuntime) -> Result<(), Fail> {
     let (one, two) = (utc(60)?, utc(120)?);
     let mut log = [two, one].to_vec(rt.alloc())?;
@@ -775,21 +682,5 @@ fn calls_cost_by_the_minute(rt: HostRuntime) -> Result<(), Fail> {
     is(&rt, nights::cost(local(0, 0)?, call), 30);
     is(&rt, nights::cost(local(0, 6)?, call), 60);
     is(&rt, wholes::days_agree(call), true);
-    Ok(())
-}
-
-#[test]
-fn descriptions_are_stored_and_restored(rt: HostRuntime) -> Result<(), Fail> {
-    let items = [Item::Byte(b'['), Item::Byte(b'h')];
-    let mut room = [0_u8; 8];
-    is(&rt, written_patterns::store(&items, &mut room), Some(3));
-    assert_eq!(rt; &room[..3], b"\\[h".as_slice());
-    let mut places = [Item::Byte(0); 4];
-    is(
-        &rt,
-        written_patterns::restore(b"\\[h", &mut places),
-        Some(2),
-    );
-    is(&rt, written_patterns::restore(b"[h", &mut places), None);
     Ok(())
 }
