@@ -670,8 +670,8 @@ static PyObject *description_parse(PyObject *self, PyObject *const *words, Py_ss
 /* Writes the text of items as a description in version 1 or 2 of its language to the front of
  * 'buffer'. 'size' is its length. muxandu_description_parse reads it back as the same items.
  * Errors, in this order: UNIT if the version is neither 1 nor 2. UNIT if a number is no item, or
- * for more than 128 items. NO_TEXT or BUFFER, with the index of the item and the reason. The
- * call can change 'buffer' then. */
+ * for more than 128 items. NO_TEXT or BUFFER, with the index of the item and the reason. After
+ * UNIT the call writes nothing. After the other errors it can have changed 'buffer'. */
 static PyObject *description_text(PyObject *self, PyObject *const *words, Py_ssize_t count)
 {
     (void)self;
@@ -1967,7 +1967,9 @@ static PyObject *offset_to_parts(PyObject *self, PyObject *const *words, Py_ssiz
  * UNIT if a number is no item, or for more than 128 items. SYNTAX with the index of the byte
  * where the item begins that the text lacks. UNIT if 'kind' is none. SYNTAX with a part as the
  * reason, without which the text names no one value. RESULT with the first part that is out of
- * range, or that is not a part of the value. */
+ * range, or that is not a part of the value. Its place is the byte where the item of the part
+ * begins, or the length of the text if no item gives the part. If the other parts contradict a
+ * Unix timestamp, the reason is the finest timestamp of the text. */
 static PyObject *parse_items(PyObject *self, PyObject *const *words, Py_ssize_t count)
 {
     (void)self;

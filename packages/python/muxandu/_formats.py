@@ -19,7 +19,7 @@ _MOST_ITEMS, MOST_BYTES, _MOST_OF_ITEM = 128, 64, 96
 _SYNTAX, _NO_TEXT = RefusedSyntax.status, RefusedNoText.status
 
 # The number of the hours of an offset as a reason, and how the reason of a part that a text lacks begins.
-_OFFSET_HOUR = next(number for number, said in REASONS.items() if said == "The hours of the offset.")
+_OFFSET_HOUR = next(number for number, said in REASONS.items() if said.startswith("The hours of the offset"))
 _MISSING = "the text lacks a part: "
 
 
@@ -111,16 +111,26 @@ def _text_and_status(kind: int, items: Any, count: int, value: MuxanduDateTime) 
 
 
 def read_value(kind: int, described: Items, text: Any) -> MuxanduDateTime:
-    """The parts of a text. The error of a text of another form names the byte and the item."""
+    """The parts of a text. The error names the byte, and the item that it lacks or the part."""
     source, made = as_bytes(text), MuxanduDateTime()
     place, status, reason = engine.parse_items(kind, described.items, described.size, source, len(source), made, 1)
     if status == _SYNTAX and not reason:
         raise RefusedSyntax(value=text, place=place, reason=_lacking_item(kind, described, source, place))
     if status == _SYNTAX:
         raise RefusedSyntax(value=text, reason=_MISSING + REASONS[reason])
+    if status and reason:
+        at = place if place < len(source) else None
+        raise REFUSALS[status](value=text, place=at, reason=_wrong_part(REASONS[reason]))
     if status:
-        raise REFUSALS[status](value=text, reason=REASONS.get(reason, ""))
+        raise REFUSALS[status](value=text)
     return made
+
+
+def _wrong_part(reason: str) -> str:
+    """The error of a wrong part, with its range if it has one: the reason has both."""
+    part, _, ends = reason.rstrip(".").partition(", ")
+    told = f" ({ends})" if ends else ""
+    return f"{part} is out of range{told}, or contradicts another part"
 
 
 def _text_of_item(described: Items, index: int) -> str:

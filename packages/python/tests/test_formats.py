@@ -121,24 +121,122 @@ class Formats(unittest.TestCase):
             with self.assertRaises(muxandu.RefusedSyntax) as caught:
                 Date.parse(text, form)
             self.assertEqual((caught.exception.value, caught.exception.place, caught.exception.reason), (text, place, reason))
-        for text, pattern, refusal, reason in (
-            ("2023-02-29", form, muxandu.RefusedResult, "The day of the month."),
-            ("2024-13-29", form, muxandu.RefusedResult, "The month."),
-            ("2024-060 01-01", "[year]-[ordinal] [month]-[day]", muxandu.RefusedResult, "The day of the year."),
-            ("2024-02", "[year]-[month]", muxandu.RefusedSyntax, "the text lacks a part: The day of the month."),
-        ):
-            with self.assertRaises(refusal) as caught:
-                Date.parse(text, pattern)
-            self.assertEqual(caught.exception.reason, reason)
+        with self.assertRaises(muxandu.RefusedSyntax) as caught:
+            Date.parse("2024-02", "[year]-[month]")
+        self.assertEqual(caught.exception.reason, "the text lacks a part: The day of the month, 1 to 31.")
         self.assertRaises(muxandu.RefusedSyntax, OffsetDateTime.parse, "2024-02-29 12", "[year]-[month]-[day] [hour]")
         self.assertRaises(muxandu.RefusedResult, Timestamp.parse, "3600 02", "[unix_timestamp] [hour]")
         self.assertEqual(Timestamp.parse("3600 01", "[unix_timestamp] [hour]"), Timestamp(3_600))
+
+    def test_places_of_wrong_parts(self):
+        form = "[year]-[month]-[day][optional [ [weekday repr:short]]]"
+        for kind, text, pattern, place, part, ends in (
+            (Date, "2023-02-29", form, 8, "The day of the month", " (1 to 31)"),
+            (Date, "2024-13-29", form, 5, "The month", " (1 to 12)"),
+            (Date, "2024-02-29 Fri", form, 11, "The day of the week", ""),
+            (Date, "2024-060 01-01", "[year]-[ordinal] [month]-[day]", 5, "The day of the year", " (1 to 366)"),
+            (Date, "31.04 2024", "[first [[day]/[month]] [[day].[month]]] [year]", 0, "The day of the month", " (1 to 31)"),
+            (Time, "23:60", "[hour]:[minute]", 3, "The minute", " (0 to 59)"),
+            (UtcOffset, b"+01:60", "[offset_hour]:[offset_minute]", 4, "The minutes of the offset", " (0 to 59)"),
+            (Timestamp, "3600 25", "[unix_timestamp] [hour]", 5, "The hour of the day", " (0 to 23)"),
+            (Timestamp, "3600 02", "[unix_timestamp] [hour]", 0, *unix_range("seconds", 0)),
+            (Timestamp, "02 3600000", "[hour] [unix_timestamp precision:millisecond]", 3, *unix_range("milliseconds", 3)),
+            (
+                Timestamp,
+                "1971 0 0",
+                "[year] [unix_timestamp] [unix_timestamp precision:nanosecond]",
+                7,
+                *unix_range("nanoseconds", 9),
+            ),
+            (Timestamp, "1709190296 2023", "[unix_timestamp] [year]", None, "The day of the month", " (1 to 31)"),
+        ):
+            with self.assertRaises(muxandu.RefusedResult) as caught:
+                kind.parse(text, pattern)
+            reason = f"{part} is out of range{ends}, or contradicts another part"
+            self.assertEqual((caught.exception.value, caught.exception.place, caught.exception.reason), (text, place, reason))
+            at = "" if place is None else f", at byte {place}"
+            self.assertTrue(str(caught.exception).endswith(f": {text!r}{at}: {reason}"), str(caught.exception))
+
+    def test_ranges_of_parts(self):
+        """Each part that has a range: both ends are read, and the number before and after them is not."""
+        weeks = "[year]-[week_number repr:{0}]-[weekday repr:{0}]"
+        first, last = "-31619087596800", "31494784780799"
+        for kind, pattern, accepted, rejected, ends in (
+            (Date, "[year]-[month]-[day]", ("-999999-01-01", "+999999-12-31"), (), "The year, -999999 to 999999."),
+            (Date, "[year]-[month]-[day]", ("2024-01-01", "2024-12-31"), ("2024-00-01", "2024-13-01"), "The month, 1 to 12."),
+            (
+                Date,
+                "[month]/[day]/[year]",
+                ("01/01/2023", "01/31/2023"),
+                ("01/00/2023", "01/32/2023"),
+                "The day of the month, 1 to 31.",
+            ),
+            (Date, "[year]-[ordinal]", ("2024-001", "2024-366"), ("2024-000", "2024-367"), "The day of the year, 1 to 366."),
+            (
+                Date,
+                "[year base:iso_week]-W[week_number]-[weekday repr:monday]",
+                ("2026-W01-1", "2026-W53-1"),
+                ("2026-W00-1", "2026-W54-1"),
+                "The ISO week, 1 to 53.",
+            ),
+            (
+                Date,
+                weeks.format("sunday"),
+                ("2024-00-2", "2012-53-1"),
+                ("2012-54-1",),
+                "The week by the Sundays of the year, 0 to 53.",
+            ),
+            (
+                Date,
+                weeks.format("monday"),
+                ("2023-00-7", "2024-53-1"),
+                ("2024-54-1",),
+                "The week by the Mondays of the year, 0 to 53.",
+            ),
+            (Time, "[hour]", ("00", "23"), ("24",), "The hour of the day, 0 to 23."),
+            (Time, "[hour repr:12][period]", ("01AM", "12PM"), ("00AM", "13PM"), "The hour on a clock of 12 hours, 1 to 12."),
+            (Time, "[hour][minute]", ("0000", "0059"), ("0060",), "The minute, 0 to 59."),
+            (Time, "[hour][minute][second]", ("000000", "000059"), ("000060",), "The second, 0 to 59."),
+            (UtcOffset, "[offset_hour sign:mandatory]", ("-25", "+25"), ("-26", "+26"), "The hours of the offset, -25 to 25."),
+            (UtcOffset, "[offset_hour][offset_minute]", ("0000", "0059"), ("0060",), "The minutes of the offset, 0 to 59."),
+            (
+                UtcOffset,
+                "[offset_hour]00[offset_second]",
+                ("000000", "000059"),
+                ("000060",),
+                "The seconds of the offset, 0 to 59.",
+            ),
+            *(
+                (
+                    Timestamp,
+                    f"[unix_timestamp precision:{unit}]",
+                    (first + "0" * digits, last + "9" * digits),
+                    (f"-{int(first[1:] + '0' * digits) + 1}", f"{int(last + '9' * digits) + 1}"),
+                    f"The Unix time in {unit}s, {first}{'0' * digits} to {last}{'9' * digits}.",
+                )
+                for unit, digits in (("second", 0), ("millisecond", 3), ("microsecond", 6), ("nanosecond", 9))
+            ),
+        ):
+            self.assertIn(ends, _formats.REASONS.values())
+            part, numbers = ends[:-1].split(", ")
+            for text in accepted:
+                self.assertEqual(kind.parse(text, pattern).format(pattern), text)
+            for text in rejected:
+                with self.assertRaises(muxandu.RefusedResult) as caught:
+                    kind.parse(text, pattern)
+                self.assertEqual(caught.exception.reason, f"{part} is out of range ({numbers}), or contradicts another part")
+        self.assertEqual(sum(" to " in reason for reason in _formats.REASONS.values()), 18)
 
     def test_patterns_are_kept(self):
         _formats.items_of.cache_clear()
         for _ in range(3):
             self.assertEqual(AT.format("[day].[month]"), "29.02")
         self.assertEqual(_formats.items_of.cache_info()[:2], (2, 1))
+
+
+def unix_range(unit, digits):
+    """The part of a Unix timestamp, by its unit, and its range in the text of an error."""
+    return f"The Unix time in {unit}", f" (-31619087596800{'0' * digits} to 31494784780799{'9' * digits})"
 
 
 class ManyFormats(unittest.TestCase):
@@ -191,7 +289,7 @@ class Strftime(unittest.TestCase):
         self.assertEqual(Timestamp.strptime("2024-02-29 12:34", "%F %R"), UtcDateTime(2024, 2, 29, 12, 34).to_timestamp())
         with self.assertRaises(muxandu.RefusedSyntax) as caught:
             Date.strptime("29/02/24", "%d/%m/%y")
-        self.assertEqual(caught.exception.reason, "the text lacks a part: The year.")
+        self.assertEqual(caught.exception.reason, "the text lacks a part: The year, -999999 to 999999.")
 
     def test_directives_that_no_description_says(self):
         for pattern, name, place, why in (

@@ -41,7 +41,7 @@ impl Value {
             return put_all(put, self.component(component)?.as_bytes());
         };
         let mut text = Text::new();
-        if !proved::format_component_into(component.to_proved(), date, time, offset, &mut text) {
+        if !component.write(date, time, offset, &mut text) {
             return Err(Format::InsufficientTypeInformation);
         }
         put_all(put, text.as_bytes())

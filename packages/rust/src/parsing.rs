@@ -8,7 +8,7 @@ use crate::error::{ComponentRange, Parse, ParseFromDescription, TryFromParsed};
 use crate::format_description::well_known::{Rfc2822, Rfc3339};
 use crate::format_description::{BorrowedFormatItem, Component, OwnedFormatItem};
 use crate::proved::Part;
-use crate::proved::format_descriptions::{self as proved, Field, Parts, ValueRefusal};
+use crate::proved::format_descriptions::{Field, Parts, ValueRefusal};
 use crate::{
     Date, Month, OffsetDateTime, PlainDateTime, Time, Timestamp, UtcDateTime, UtcOffset, Weekday,
 };
@@ -63,8 +63,7 @@ impl Parsed {
     /// Reads a component, and gives what follows it.
     #[inline(never)]
     fn read<'a>(&mut self, input: &'a [u8], component: Component) -> Result<&'a [u8], Fault> {
-        proved::parse_component_into(component.to_proved(), input, &mut self.parts)
-            .ok_or(Fault(Some(component)))
+        component.read(input, &mut self.parts).ok_or(Fault(Some(component)))
     }
 
     /// No part is known.
@@ -390,14 +389,26 @@ impl Parsed {
     }
 }
 
+/// A value of parts. It takes them by reference, since they have 300 bytes.
+trait OfParts: Sized {
+    fn of_parts(parsed: &Parsed) -> Result<Self, TryFromParsed>;
+}
+
 macro_rules! of_parts {
     ($($Type:ident: $parsed:ident => $value:expr;)+) => {
         $(
+            impl OfParts for $Type {
+                #[inline]
+                fn of_parts($parsed: &Parsed) -> Result<$Type, TryFromParsed> {
+                    $value
+                }
+            }
+
             impl TryFrom<Parsed> for $Type {
                 type Error = TryFromParsed;
 
-                fn try_from($parsed: Parsed) -> Result<$Type, TryFromParsed> {
-                    $value
+                fn try_from(parsed: Parsed) -> Result<$Type, TryFromParsed> {
+                    <$Type>::of_parts(&parsed)
                 }
             }
         )+
@@ -417,13 +428,13 @@ of_parts! {
         Err(refusal) => Err(refusal.into()),
     };
     UtcDateTime: parsed => {
-        let mut parsed = parsed;
+        let mut parsed = *parsed;
         parsed.parts.offset_hour = parsed.parts.offset_hour.or(Some(0));
-        OffsetDateTime::try_from(parsed)?
+        OffsetDateTime::of_parts(&parsed)?
             .checked_to_utc()
             .ok_or(ComponentRange::of_part(Part::Year, true).into())
     };
-    Timestamp: parsed => Ok(UtcDateTime::try_from(parsed)?.into());
+    Timestamp: parsed => Ok(UtcDateTime::of_parts(parsed)?.into());
 }
 
 /// A form that reads a text: a description, or a format of
@@ -553,13 +564,13 @@ impl Parsed {
 }
 
 /// Reads a whole text into a value.
-fn parse_as<T>(description: &(impl sealed::Sealed + ?Sized), input: &[u8]) -> Result<T, Parse>
-where
-    T: TryFrom<Parsed, Error: Into<Parse>>,
-{
+fn parse_as<T: OfParts>(
+    description: &(impl sealed::Sealed + ?Sized),
+    input: &[u8],
+) -> Result<T, Parse> {
     let mut parsed = Parsed::new();
     description.parse_whole(input, &mut parsed)?;
-    parsed.try_into().map_err(Into::into)
+    Ok(T::of_parts(&parsed)?)
 }
 
 macro_rules! parsed {

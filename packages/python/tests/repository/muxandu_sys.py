@@ -314,7 +314,7 @@ CALLS = {
     "muxandu_description_text": (
         [ctypes.c_uint32, ctypes.c_void_p, ctypes.c_size_t, ctypes.c_void_p, ctypes.c_size_t],
         MuxanduOutcome,
-        "Writes the text of items as a description in version 1 or 2 of its language to the front of `buffer`. `size` is its length. muxandu_description_parse reads it back as the same items. Errors, in this order: UNIT if the version is neither 1 nor 2. UNIT if a number is no item, or for more than 128 items. NO_TEXT or BUFFER, with the index of the item and the reason. The call can change `buffer` then.",
+        "Writes the text of items as a description in version 1 or 2 of its language to the front of `buffer`. `size` is its length. muxandu_description_parse reads it back as the same items. Errors, in this order: UNIT if the version is neither 1 nor 2. UNIT if a number is no item, or for more than 128 items. NO_TEXT or BUFFER, with the index of the item and the reason. After UNIT the call writes nothing. After the other errors it can have changed `buffer`.",
     ),
     "muxandu_date_time_to_rfc3339_digits": (
         [MuxanduDateTime, ctypes.c_uint32, ctypes.c_void_p, ctypes.c_size_t, ctypes.POINTER(ctypes.c_size_t)],
@@ -589,7 +589,7 @@ CALLS = {
     "muxandu_parse_items": (
         [ctypes.c_uint32, ctypes.c_void_p, ctypes.c_size_t, ctypes.c_void_p, ctypes.c_size_t, ctypes.POINTER(MuxanduDateTime)],
         MuxanduOutcome,
-        "The date-time of a text that is written as the items say, to its end. `kind` says which parts it has: the others are those of 1970-01-01 0:00 UTC. A Unix timestamp alone gives a date-time, in UTC if the text has no offset. `size` is the length of the text. Errors, in this order: UNIT if a number is no item, or for more than 128 items. SYNTAX with the index of the byte where the item begins that the text lacks. UNIT if `kind` is none. SYNTAX with a part as the reason, without which the text names no one value. RESULT with the first part that is out of range, or that is not a part of the value.",
+        "The date-time of a text that is written as the items say, to its end. `kind` says which parts it has: the others are those of 1970-01-01 0:00 UTC. A Unix timestamp alone gives a date-time, in UTC if the text has no offset. `size` is the length of the text. Errors, in this order: UNIT if a number is no item, or for more than 128 items. SYNTAX with the index of the byte where the item begins that the text lacks. UNIT if `kind` is none. SYNTAX with a part as the reason, without which the text names no one value. RESULT with the first part that is out of range, or that is not a part of the value. Its place is the byte where the item of the part begins, or the length of the text if no item gives the part. If the other parts contradict a Unix timestamp, the reason is the finest timestamp of the text.",
     ),
     "muxandu_parse": (
         [ctypes.c_uint32, ctypes.c_void_p, ctypes.c_size_t, ctypes.c_void_p, ctypes.c_size_t, ctypes.POINTER(MuxanduDateTime)],

@@ -4,7 +4,8 @@ use core::num::NonZeroU16;
 
 use super::modifier;
 use crate::proved::format_descriptions as proved;
-use proved::Component as Proved;
+use crate::{Date, Text, Time, UtcOffset};
+use proved::{Component as Proved, Parts};
 
 macro_rules! components {
     ($($Name:ident: $name:literal;)+) => {
@@ -100,67 +101,112 @@ conditions! {
     case, is_upper: proved::Case, Upper or Lower;
 }
 
-impl Component {
-    /// The component as the proved functions have it.
-    #[inline(always)]
-    pub(crate) const fn to_proved(self) -> Proved {
-        match self {
-            Component::Day(it) => Proved::Day(padding(it.padding)),
+/// Gives the component, as the proved functions have it, to a macro. Each form has its own code, so
+/// the compiler knows the form there.
+macro_rules! by_form {
+    ($component:expr, $act:ident) => {
+        match $component {
+            Component::Day(it) => $act!(Proved::Day(padding(it.padding))),
             Component::Month(it) => {
                 let case = read_case(it.case_sensitive);
                 match it.repr {
-                    modifier::MonthRepr::Numerical => Proved::Month(padding(it.padding)),
-                    modifier::MonthRepr::Long => Proved::MonthName(proved::NameForm::Long, case),
-                    modifier::MonthRepr::Short => Proved::MonthName(proved::NameForm::Short, case),
+                    modifier::MonthRepr::Numerical => $act!(Proved::Month(padding(it.padding))),
+                    modifier::MonthRepr::Long => {
+                        $act!(Proved::MonthName(proved::NameForm::Long, case))
+                    }
+                    modifier::MonthRepr::Short => {
+                        $act!(Proved::MonthName(proved::NameForm::Short, case))
+                    }
                 }
             }
-            Component::Ordinal(it) => Proved::Ordinal(padding(it.padding)),
+            Component::Ordinal(it) => $act!(Proved::Ordinal(padding(it.padding))),
             Component::Weekday(it) => {
                 let (case, count) = (read_case(it.case_sensitive), count(it.one_indexed));
                 match it.repr {
                     modifier::WeekdayRepr::Long => {
-                        Proved::WeekdayName(proved::NameForm::Long, case)
+                        $act!(Proved::WeekdayName(proved::NameForm::Long, case))
                     }
                     modifier::WeekdayRepr::Short => {
-                        Proved::WeekdayName(proved::NameForm::Short, case)
+                        $act!(Proved::WeekdayName(proved::NameForm::Short, case))
                     }
                     modifier::WeekdayRepr::Sunday => {
-                        Proved::WeekdayNumber(proved::WeekStart::Sunday, count)
+                        $act!(Proved::WeekdayNumber(proved::WeekStart::Sunday, count))
                     }
                     modifier::WeekdayRepr::Monday => {
-                        Proved::WeekdayNumber(proved::WeekStart::Monday, count)
+                        $act!(Proved::WeekdayNumber(proved::WeekStart::Monday, count))
                     }
                 }
             }
-            Component::WeekNumber(it) => Proved::WeekNumber(rule(it.repr), padding(it.padding)),
+            Component::WeekNumber(it) => {
+                $act!(Proved::WeekNumber(rule(it.repr), padding(it.padding)))
+            }
             Component::Year(it) => {
                 let (base, sign) = (base(it.iso_week_based), sign(it.sign_is_mandatory));
                 let (padding, range) = (padding(it.padding), range(it.range));
                 match it.repr {
-                    modifier::YearRepr::Full => Proved::Year(base, sign, padding, range),
-                    modifier::YearRepr::Century => Proved::YearCentury(base, sign, padding, range),
-                    modifier::YearRepr::LastTwo => Proved::YearLastTwo(base, padding),
+                    modifier::YearRepr::Full => $act!(Proved::Year(base, sign, padding, range)),
+                    modifier::YearRepr::Century => {
+                        $act!(Proved::YearCentury(base, sign, padding, range))
+                    }
+                    modifier::YearRepr::LastTwo => $act!(Proved::YearLastTwo(base, padding)),
                 }
             }
-            Component::Hour(it) if it.is_12_hour_clock => Proved::Hour12(padding(it.padding)),
-            Component::Hour(it) => Proved::Hour(padding(it.padding)),
-            Component::Minute(it) => Proved::Minute(padding(it.padding)),
+            Component::Hour(it) if it.is_12_hour_clock => {
+                $act!(Proved::Hour12(padding(it.padding)))
+            }
+            Component::Hour(it) => $act!(Proved::Hour(padding(it.padding))),
+            Component::Minute(it) => $act!(Proved::Minute(padding(it.padding))),
             Component::Period(it) => {
-                Proved::Period(case(it.is_uppercase), read_case(it.case_sensitive))
+                $act!(Proved::Period(case(it.is_uppercase), read_case(it.case_sensitive)))
             }
-            Component::Second(it) => Proved::Second(padding(it.padding)),
-            Component::Subsecond(it) => Proved::Subsecond(it.digits),
+            Component::Second(it) => $act!(Proved::Second(padding(it.padding))),
+            Component::Subsecond(it) => $act!(Proved::Subsecond(it.digits)),
             Component::OffsetHour(it) => {
-                Proved::OffsetHour(sign(it.sign_is_mandatory), padding(it.padding))
+                $act!(Proved::OffsetHour(sign(it.sign_is_mandatory), padding(it.padding)))
             }
-            Component::OffsetMinute(it) => Proved::OffsetMinute(padding(it.padding)),
-            Component::OffsetSecond(it) => Proved::OffsetSecond(padding(it.padding)),
-            Component::Ignore(it) => Proved::Ignore(it.count.get()),
+            Component::OffsetMinute(it) => $act!(Proved::OffsetMinute(padding(it.padding))),
+            Component::OffsetSecond(it) => $act!(Proved::OffsetSecond(padding(it.padding))),
+            Component::Ignore(it) => $act!(Proved::Ignore(it.count.get())),
             Component::UnixTimestamp(it) => {
-                Proved::UnixTimestamp(precision(it.precision), sign(it.sign_is_mandatory))
+                $act!(Proved::UnixTimestamp(precision(it.precision), sign(it.sign_is_mandatory)))
             }
-            Component::End(_) => Proved::End,
+            Component::End(_) => $act!(Proved::End),
         }
+    };
+}
+
+impl Component {
+    /// The component as the proved functions have it.
+    #[inline(always)]
+    pub(crate) const fn to_proved(self) -> Proved {
+        macro_rules! same {
+            ($form:expr) => {
+                $form
+            };
+        }
+        by_form!(self, same)
+    }
+
+    /// Reads the component at the front of a text into the parts, as the proved function does.
+    #[inline(always)]
+    pub(crate) fn read<'a>(self, text: &'a [u8], parts: &mut Parts) -> Option<&'a [u8]> {
+        macro_rules! read {
+            ($form:expr) => {
+                proved::parse_component_into($form, text, parts)
+            };
+        }
+        by_form!(self, read)
+    }
+
+    /// Adds the text of the component to a text, as the proved function does.
+    #[inline(never)]
+    pub(crate) fn write(self, date: Date, time: Time, offset: UtcOffset, text: &mut Text) -> bool {
+        macro_rules! write {
+            ($form:expr) => {
+                proved::format_component_into($form, date, time, offset, text)
+            };
+        }
+        by_form!(self, write)
     }
 
     /// The component that the proved functions have so.

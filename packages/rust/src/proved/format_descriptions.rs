@@ -30,6 +30,7 @@ mod modifiers;
 mod names;
 mod numbers;
 mod offset_values;
+mod part_places;
 mod parts;
 mod pieces;
 mod read;
@@ -57,8 +58,11 @@ pub use modifiers::{
     Case, NameForm, Padding, ReadCase, Sign, SubsecondDigits, UnixPrecision, UtcWord, WeekRule,
     WeekStart, WeekdayCount, YearBase, YearRange,
 };
+pub use part_places::{PartPlace, part_place};
 pub use parts::Parts;
-pub use read::{parse, parse_component, parse_component_into, parse_front};
+pub use read::{
+    parse, parse_component, parse_component_into, parse_front, parse_front_into, parse_into,
+};
 pub use value_refusal::{Field, ValueRefusal};
 pub use well_known::{format_rfc2822, parse_rfc2822, parse_rfc3339};
 pub use write::{format, format_component, format_component_into, format_date_time};

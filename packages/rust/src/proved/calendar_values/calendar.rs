@@ -259,7 +259,7 @@ pub(crate) const fn year_start(year: i32) -> i32 {
     days_before_year(years_from_first_cycle(year)) as i32 - DAYS_BEFORE_1970
 }
 
-// The days of so many years from the first cycle of 400 years on. Centuries begin with the years that 100
+// The days of a number of years from the first cycle of 400 years on. Centuries begin with the years that 100
 // divides, so that one division gives their number and that of the cycles.
 /// # Contract
 ///
@@ -323,7 +323,7 @@ const fn days_from_first_cycle(day: i32) -> u32 {
     (day + DAYS_BEFORE_1970) as u32
 }
 
-// The year that comes so many years after the first cycle of 400 years began.
+// The year that is this number of years after the beginning of the first cycle of 400 years.
 /// # Contract
 ///
 /// ```text

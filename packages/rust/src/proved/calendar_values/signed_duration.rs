@@ -154,7 +154,7 @@ impl SignedDuration {
         SignedDuration::from_parts(seconds, nanoseconds).unwrap()
     }
 
-    // The duration of so many seconds and nanoseconds together, if it is one.
+    // The duration of these seconds and nanoseconds together, if it is in range.
     /// # Contract
     ///
     /// ```text
@@ -408,7 +408,7 @@ impl SignedDuration {
         }
     }
 
-    // The duration of so many nanoseconds, if it is one.
+    // The duration of this number of nanoseconds, if it is in range.
     /// # Contract
     ///
     /// ```text
@@ -429,7 +429,7 @@ impl SignedDuration {
         })
     }
 
-    // The duration that is nearest to so many nanoseconds.
+    // The duration that is nearest to this number of nanoseconds.
     /// # Contract
     ///
     /// ```text

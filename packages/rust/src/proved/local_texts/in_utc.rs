@@ -33,6 +33,11 @@ const SOME_DATE: &[u8] = b"1970-01-01T";
 /// ensures same { IfSome result (λ n.
 ///     parts_at (take n room.new) ≡ parts_at (date_time_in_utc text.now)) }
 /// ensures other { IfNone result (parts_at (date_time_in_utc text.now) ≡ None) }
+/// ensures written { IfSome result (λ n.
+///     room.new ≡ date_time_in_utc (take 29 text.now) ++ drop n room.old) }
+/// ensures some { SomeIff result (IsTrue (list_all is_ascii_digit (drop 29 text.now)))
+///     (length (take 29 text.now) + 1) }
+/// ensures unchanged { IfNone result (room.new ≡ room.old) }
 /// ```
 ///
 /// [docs/proofs/STATEMENT.md](crate::proved#contracts) explains the words.
@@ -61,6 +66,11 @@ pub fn write_date_time_in_utc(text: &[u8], room: &mut [u8; 30]) -> Option<usize>
 /// ensures same { IfSome result (λ n.
 ///     parts_at (take n room.new) ≡ parts_at (time_in_utc text.now)) }
 /// ensures other { IfNone result (parts_at (time_in_utc text.now) ≡ None) }
+/// ensures written { IfSome result (λ n.
+///     room.new ≡ time_in_utc (take 18 text.now) ++ drop n room.old) }
+/// ensures some { SomeIff result (IsTrue (list_all is_ascii_digit (drop 18 text.now)))
+///     (length (take 18 text.now) + 12) }
+/// ensures unchanged { IfNone result (room.new ≡ room.old) }
 /// ```
 ///
 /// [docs/proofs/STATEMENT.md](crate::proved#contracts) explains the words.
@@ -78,6 +88,12 @@ pub fn write_time_in_utc(text: &[u8], room: &mut [u8; 30]) -> Option<usize> {
 /// ensures same { IfSome result (λ n.
 ///     parts_at (take n room.new) ≡ parts_at (date.now ++ text.now ++ codes "Z")) }
 /// ensures other { IfNone result (parts_at (date.now ++ text.now ++ codes "Z") ≡ None) }
+/// ensures written { let most = 29 - length date.now in IfSome result (λ n.
+///     room.new ≡ (date.now ++ take most text.now ++ codes "Z") ++ drop n room.old) }
+/// ensures some { let most = 29 - length date.now in
+///     SomeIff result (IsTrue (list_all is_ascii_digit (drop most text.now)))
+///     (length date.now + length (take most text.now) + 1) }
+/// ensures unchanged { IfNone result (room.new ≡ room.old) }
 /// ```
 ///
 /// [docs/proofs/STATEMENT.md](crate::proved#contracts) explains the words.
@@ -102,6 +118,8 @@ pub(crate) fn write_in_utc(date: &[u8], text: &[u8], room: &mut [u8; 30]) -> Opt
 /// requires { length date.now + length text.now ≤ 29 }
 /// ensures length { result ≡ length date.now + length text.now + 1 }
 /// ensures written { take result room.new ≡ date.now ++ text.now ++ codes "Z" }
+/// ensures whole { room.new
+///     ≡ (date.now ++ text.now ++ codes "Z") ++ drop result room.old }
 /// ```
 ///
 /// [docs/proofs/STATEMENT.md](crate::proved#contracts) explains the words.

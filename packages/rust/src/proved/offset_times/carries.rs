@@ -255,7 +255,7 @@ const fn moved_part(part: u8, from: i8, to: i8) -> i32 {
     part as i32 + to as i32 - from as i32
 }
 
-// The day that comes so many days later: at most three, so that it lies in the same year or in one beside it.
+// The day this number of days later: at most three, so that it is in the same year or in the next or last one.
 /// # Contract
 ///
 /// ```text
@@ -284,7 +284,7 @@ const fn ordinal_date_after(year: i32, ordinal: u16, days: i8) -> (i32, u16) {
     (year + 1, (moved - length) as u16)
 }
 
-// The day of the year that comes so many days later, if the year is long enough.
+// The day of the year this number of days later, if the year is long enough.
 /// # Contract
 ///
 /// ```text

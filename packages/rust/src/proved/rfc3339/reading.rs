@@ -148,7 +148,7 @@ const fn of_digits(tens: u8, units: u8) -> u8 {
         .wrapping_add(units.wrapping_sub(b'0'))
 }
 
-// The same, one part after another. It stands apart, since few texts come here.
+// The same, one part after another. It is not in line, since few texts need it.
 /// # Contract
 ///
 /// ```text

@@ -17,7 +17,7 @@ pub(crate) fn text_of(at: OffsetDateTime) -> Option<Text> {
     text_with(at, None)
 }
 
-// The text of RFC 3339, if there is one: with so many digits of the fraction, or with those that it takes.
+// The text of RFC 3339, if there is one: with this number of digits of the fraction, or with those that it takes.
 /// # Contract
 ///
 /// ```text
@@ -152,7 +152,7 @@ pub(crate) fn push_fraction(text: &mut Text, nanosecond: u32) {
     }
 }
 
-// Adds the fraction, of so many digits or of those that it takes.
+// Adds the fraction, of this number of digits or of those that it takes.
 /// # Contract
 ///
 /// ```text
@@ -170,7 +170,7 @@ fn push_digits(text: &mut Text, nanosecond: u32, digits: Option<u8>) {
     }
 }
 
-// Adds the point and the first of the nine digits, so many, or nothing for none.
+// Adds the point and this number of the nine digits, or nothing for none.
 /// # Contract
 ///
 /// ```text
@@ -207,7 +207,7 @@ pub(crate) fn push_whole_fraction(text: &mut Text, nanosecond: u32) {
     push_nine_digits(text, nanosecond);
 }
 
-// Adds the offset of so many hours and minutes, of one sign.
+// Adds the offset of these hours and minutes, of one sign.
 /// # Contract
 ///
 /// ```text

@@ -83,7 +83,7 @@ const fn wall_bytes(parts: Parts) -> [u8; 19] {
     ]
 }
 
-// Puts the fraction at a place, if there is one, and gives the place behind it.
+// Puts the fraction at a place, if there is one, and returns the place after it.
 /// # Contract
 ///
 /// ```text
@@ -105,7 +105,7 @@ fn put_fraction(bytes: &mut [u8], place: usize, nanosecond: u32) -> usize {
     }
 }
 
-// The same for a nanosecond that is not 0. It stands apart, since many texts have no fraction.
+// The same for a nanosecond that is not 0. It is not in line, since many texts have no fraction.
 /// # Contract
 ///
 /// ```text
@@ -240,7 +240,7 @@ const fn three_digits(number: u32) -> [u8; 4] {
     [b'.', b'0' + (number / 100) as u8, b, c]
 }
 
-// Puts the offset of so many hours and minutes at a place, and gives the place behind it.
+// Puts the offset of these hours and minutes at a place, and returns the place after it.
 /// # Contract
 ///
 /// ```text
@@ -284,7 +284,7 @@ const fn offset_bytes(is_west: bool, hour: u8, minute: u8) -> [u8; 6] {
     }
 }
 
-// Puts bytes at a place, and gives the place behind them.
+// Puts bytes at a place, and returns the place after them.
 /// # Contract
 ///
 /// ```text

@@ -33,6 +33,8 @@ pub(in crate::proved) fn find(log: &[Timestamp], at: Timestamp) -> Option<usize>
 /// ensures entered { OnOk result (Contains log.new.items at) }
 /// ensures was_new { IfOk result (λ is_new. IsTrue is_new ↔ (¬ Contains log.old.items at)) }
 /// ensures kept { (entry : ℤ) → Contains log.old.items entry → Contains log.new.items entry }
+/// ensures no_other { (entry : ℤ) → Contains log.new.items entry →
+///     Contains log.old.items entry ⊎ (entry ≡ at) }
 /// ensures unchanged { OnErr result (log.new.items ≡ log.old.items) }
 /// ```
 ///

@@ -37,6 +37,11 @@ pub(in crate::proved) fn find<M: Moment>(log: &[M], at: M) -> Option<usize> {
 ///     IsTrue is_new ↔ (¬ ContainsByKey M.instant log.old.items at)) }
 /// ensures kept { (entry : M) → ContainsByKey M.instant log.old.items entry →
 ///     ContainsByKey M.instant log.new.items entry }
+/// ensures no_other { (entry : M) → Contains log.new.items entry →
+///     Contains log.old.items entry ⊎ (entry ≡ at) }
+/// ensures inserted { IfOk result (λ is_new. IsTrue is_new → (place : ℕ) ×
+///     (log.new.items ≡ take place log.old.items ++ at ∷ drop place log.old.items)) }
+/// ensures same { IfOk result (λ is_new. is_new ≡ false → log.new.items ≡ log.old.items) }
 /// ensures unchanged { OnErr result (log.new.items ≡ log.old.items) }
 /// ```
 ///
@@ -69,6 +74,9 @@ pub(in crate::proved) fn enter<M: Moment>(
 ///     M.instant entry ≢ M.instant at → ContainsByKey M.instant log.new.items entry }
 /// ensures no_other { (entry : M) → ContainsByKey M.instant log.new.items entry →
 ///     ContainsByKey M.instant log.old.items entry }
+/// ensures removed { IsTrue result → (place : ℕ) ×
+///     (log.new.items ≡ take place log.old.items ++ drop (place + 1) log.old.items) }
+/// ensures same { result ≡ false → log.new.items ≡ log.old.items }
 /// ```
 ///
 /// [docs/proofs/STATEMENT.md](crate::proved#contracts) explains the words.
@@ -83,7 +91,8 @@ pub(in crate::proved) fn remove<M: Moment>(log: &mut crate::proved::memory::Vec<
     }
 }
 
-/// Puts a log in order, and leaves each instant once. `AllocError` if there is no memory for it.
+/// Puts a log in order, and leaves each instant once: the first value of it. `AllocError`, with the
+/// log as before, if there is no memory to sort it.
 ///
 /// # Contract
 ///
@@ -93,6 +102,8 @@ pub(in crate::proved) fn remove<M: Moment>(log: &mut crate::proved::memory::Vec<
 ///     ContainsByKey M.instant log.new.items entry }
 /// ensures no_other { (entry : M) → ContainsByKey M.instant log.new.items entry →
 ///     ContainsByKey M.instant log.old.items entry }
+/// ensures first { OnOk result ((entry : M) → Contains log.new.items entry →
+///     first_by_key M.instant log.old.items entry ≡ Some entry) }
 /// ensures unchanged { OnErr result (log.new.items ≡ log.old.items) }
 /// ```
 ///
@@ -104,8 +115,9 @@ pub fn put_in_order<M: Moment>(log: &mut crate::proved::memory::Vec<M>) -> Resul
     Ok(())
 }
 
-/// Adds the entries of another list, puts all in order, and leaves each instant once.
-/// `AllocError`, with the log as before, if there is no memory for them or to sort them.
+/// Adds the entries of another list, puts all in order, and leaves each instant once: its value in
+/// the log, or else the first in the other list. `AllocError`, with the log as before, if there is
+/// no memory for them or to sort them.
 ///
 /// # Contract
 ///
@@ -117,6 +129,8 @@ pub fn put_in_order<M: Moment>(log: &mut crate::proved::memory::Vec<M>) -> Resul
 ///     ContainsByKey M.instant log.new.items entry }
 /// ensures no_other { (entry : M) → ContainsByKey M.instant log.new.items entry →
 ///     ContainsByKey M.instant log.old.items entry ⊎ ContainsByKey M.instant other.now entry }
+/// ensures first { OnOk result ((entry : M) → Contains log.new.items entry →
+///     first_by_key M.instant (log.old.items ++ other.now) entry ≡ Some entry) }
 /// ensures unchanged { OnErr result (log.new.items ≡ log.old.items) }
 /// ```
 ///
@@ -143,6 +157,8 @@ pub fn merge<M: Moment>(
 /// requires { IsSortedByKey M.instant int_cmp log.now }
 /// ensures none { IsNone result ↔ (log.now ≡ []) }
 /// ensures present { IfSome result (Contains log.now) }
+/// ensures place { IfSome result (λ last.
+///     HoldsAt (λ entry. entry ≡ last) log.now (length log.now - 1)) }
 /// ensures none_later { IfSome result (λ last.
 ///     All (λ entry. M.instant entry ≤ℤ M.instant last) log.now) }
 /// ```
@@ -153,7 +169,8 @@ pub(in crate::proved) const fn last<M: Moment>(log: &[M]) -> Option<M> {
     log.last().copied()
 }
 
-/// Returns the latest of instants in any order. None if there are none.
+/// Returns the latest of instants in any order, the last of them if several are equal. None if
+/// there are none.
 ///
 /// ```
 /// # use muxandu::proved::*;
@@ -174,6 +191,8 @@ pub(in crate::proved) const fn last<M: Moment>(log: &[M]) -> Option<M> {
 /// ensures present { IfSome result (Contains instants.now) }
 /// ensures none_later { IfSome result (λ latest.
 ///     All (λ at. M.instant at ≤ℤ M.instant latest) instants.now) }
+/// ensures last { IfSome result (λ latest.
+///     last_by_key M.instant instants.now latest ≡ Some latest) }
 /// ```
 ///
 /// [docs/proofs/STATEMENT.md](crate::proved#contracts) explains the words.
@@ -182,7 +201,8 @@ pub fn latest<M: Moment>(instants: &[M]) -> Option<M> {
     instants.iter().copied().max()
 }
 
-/// Returns the earliest of instants in any order. None if there are none.
+/// Returns the earliest of instants in any order, the first of them if several are equal. None if
+/// there are none.
 ///
 /// ```
 /// # use muxandu::proved::*;
@@ -200,6 +220,8 @@ pub fn latest<M: Moment>(instants: &[M]) -> Option<M> {
 /// ensures present { IfSome result (Contains instants.now) }
 /// ensures none_earlier { IfSome result (λ earliest.
 ///     All (λ at. M.instant earliest ≤ℤ M.instant at) instants.now) }
+/// ensures first { IfSome result (λ earliest.
+///     first_by_key M.instant instants.now earliest ≡ Some earliest) }
 /// ```
 ///
 /// [docs/proofs/STATEMENT.md](crate::proved#contracts) explains the words.

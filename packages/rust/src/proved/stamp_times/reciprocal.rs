@@ -5,7 +5,7 @@
 //! first product gives its century, and with it how many leap days the rule on centuries has left
 //! out. The second gives the year and the day of the year, as in a calendar without that rule. Each
 //! product has two words: the quotient, and the fraction of the quotient.
-// Days and years are counted from the year 0 by so many spans of 400 years, and from there to 1970.
+// Days and years are counted from the year 0 by this number of spans of 400 years, and from there to 1970.
 const ERAS: i32 = 5_949;
 
 const DAY_SHIFT: i32 = 146_097 * ERAS + 719_528;
@@ -137,7 +137,7 @@ const fn shifted_day(day: i32) -> u32 {
     (day + DAY_SHIFT) as u32
 }
 
-// The year that comes so many years after the year -2379600.
+// The year this number of years after the year -2379600.
 /// # Contract
 ///
 /// ```text

@@ -53,7 +53,7 @@ impl SignedDuration {
         SignedDuration::nearest(self.nanoseconds_times(factor as i64))
     }
 
-    // The duration so many times as long, if it is one.
+    // The duration multiplied by a factor, if that is in range.
     /// # Contract
     ///
     /// ```text

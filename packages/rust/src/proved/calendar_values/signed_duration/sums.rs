@@ -61,7 +61,7 @@ impl SignedDuration {
             Some(seconds) => {
                 SignedDuration::from_parts(seconds, self.nanoseconds - other.nanoseconds)
             }
-            // 2^63 seconds still fit where negative nanoseconds are beside them.
+            // 2^63 seconds still fit with negative nanoseconds.
             None => SignedDuration::from_whole_nanoseconds(
                 self.whole_nanoseconds() - other.whole_nanoseconds(),
             ),

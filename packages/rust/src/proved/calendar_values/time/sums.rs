@@ -121,7 +121,7 @@ impl Time {
         (matches!(adjustment, DateAdjustment::Previous), time)
     }
 
-    // The time at so many nanoseconds since midnight.
+    // The time at this number of nanoseconds since midnight.
     /// # Contract
     ///
     /// ```text
@@ -138,7 +138,7 @@ impl Time {
         )
     }
 
-    // The time so many nanoseconds later, or earlier where they are negative, and the day it is on.
+    // The time this number of nanoseconds later, or earlier if it is negative, and its day.
     /// # Contract
     ///
     /// ```text
@@ -157,7 +157,7 @@ impl Time {
     }
 }
 
-// The nanosecond of the day that so many nanoseconds from midnight lie at, and the day that it is on.
+// The nanosecond of the day at this number of nanoseconds from midnight, and its day.
 /// # Contract
 ///
 /// ```text

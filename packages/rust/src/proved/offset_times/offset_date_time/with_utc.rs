@@ -56,7 +56,7 @@ impl OffsetDateTime {
         self.cmp(&OffsetDateTime::from(other))
     }
 
-    // The instant, shown in UTC.
+    // The instant, as clocks in UTC show it.
     /// # Contract
     ///
     /// ```text

@@ -120,7 +120,7 @@ impl PlainDateTime {
         self.add_days_at(-(whole_days(duration) + a_day_if(is_previous_day)), time)
     }
 
-    // The date-time of a time of day, so many days later, if the range has it.
+    // The date-time of a time of day, this number of days later, if the range has it.
     /// # Contract
     ///
     /// ```text

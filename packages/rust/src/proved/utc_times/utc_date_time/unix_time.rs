@@ -66,7 +66,7 @@ impl UtcDateTime {
         UtcDateTime::after_second(second as i64, nanosecond)
     }
 
-    // The instant so many nanoseconds after the beginning of a Unix second.
+    // The instant this number of nanoseconds after the beginning of a Unix second.
     /// # Contract
     ///
     /// ```text
@@ -171,7 +171,7 @@ const fn date_of_second(second: i64) -> Option<Date> {
     Date::from_days_since_epoch(day_and_second(second).0)
 }
 
-// The time of day so many nanoseconds after the beginning of a Unix second.
+// The time of day this number of nanoseconds after the beginning of a Unix second.
 /// # Contract
 ///
 /// ```text
