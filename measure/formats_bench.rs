@@ -101,7 +101,8 @@ mod of_items {
         with_items(form, |items| {
             let mut sum = 0;
             for n in 0..rounds {
-                let parts = proved::parse(black_box(items), black_box(texts[n % COUNT].as_bytes())).unwrap();
+                let mut parts = proved::Parts::none();
+                proved::parse_into(black_box(items), black_box(texts[n % COUNT].as_bytes()), &mut parts).unwrap();
                 sum += i64::from(black_box(&parts).second.unwrap());
             }
             sum
