@@ -10,6 +10,7 @@ import tempfile
 from shared.definitions import declarations, imports, module_of, words_of
 from shared.gate import GATE, write_text
 from shared.items import contracts, exports_of, first_sentence, implementations, public_items
+from shared.seen import modules_that_see
 from shared.wrong import Wrong, is_in_function, put_body, read, right_bodies, unread_files, wrong_bodies
 
 ROOT = """//! A library.
@@ -334,6 +335,46 @@ def changes_of_wrong_bodies_are_in_their_function_or_not():
             assert is_in_function(folder, wrong) == is_in, f"{function}: {old!r}"
         twice = Wrong("", "", function="next", changes=[("src/lib.rt", "", old, "") for old in ("n + STEP", "u64 = 1")])
         assert not is_in_function(folder, twice)
+
+
+# A crate with a law and a definition that a contract cites, and changes of it: the function, the file, the old text, and the modules
+# whose functions can see the change, or None where any may.
+SEEN_CRATE = {
+    "src/lib.rt": "mod laws;\nmod numbers;\nmod texts;\n",
+    "src/laws.rt": "pub fn sums_are_even()\n    ensures { SumsAreEven }\n{}\n",
+    "src/numbers.rt": "const STEP: u64 = 1;\npub const FIRST: u64 = 0;\n\npub fn next(n: u64) -> u64\n    ensures { result ≡ sum n }\n"
+    "{\n    n + STEP\n}\n\n/// The last number.\nfn last() -> u64 {\n    next(0)\n}\n",
+    "src/texts.rt": "fn text() -> u64 {\n    numbers::FIRST\n}\n",
+    "specs/Sums.antt": "-- a sum\npub sum : ℕ → ℕ\nsum n = n + 1\n\n-- an even sum\npub record Even (n : ℕ) : Type 0 where\n"
+    "  pub half : ℕ\n  pub twice : n ≡ half + half\n\n-- sums are even\nabbrev pub SumsAreEven : Type 0\n"
+    "SumsAreEven = (n : ℕ) → Even (n + n)\n",
+    "proofs/SumLemmas.antt": "pub even : (n : ℕ) → Even (n + n)\neven n = record { half = n; twice = refl }\n",
+    "proofs/laws/sums_are_even/Answers.antt": "pub returns : goal.returns\nreturns c = even\n",
+    "proofs/numbers/next/Answers.antt": "pub returns : goal.returns\nreturns c = refl\n",
+}
+SEEN = (
+    ("numbers::next", "src/numbers.rt", "n + STEP", []),
+    ("numbers::next", "src/numbers.rt", "STEP: u64 = 1", ["numbers"]),
+    ("numbers::next", "src/numbers.rt", "/// The last", ["numbers"]),
+    ("numbers::next", "src/numbers.rt", "next(0)", None),
+    ("numbers::next", "src/numbers.rt", "FIRST: u64 = 0", None),
+    ("numbers::next", "proofs/numbers/next/Answers.antt", "returns c", ["numbers"]),
+    ("numbers::next", "proofs/SumLemmas.antt", "even n", None),
+    ("laws::sums_are_even", "specs/Sums.antt", "→ Even (n + n)", ["laws"]),
+    ("laws::sums_are_even", "specs/Sums.antt", "n ≡ half + half", ["laws"]),
+    ("laws::sums_are_even", "specs/Sums.antt", "sum n = n + 1", None),
+)
+
+
+def changes_are_seen_by_modules_or_by_any_function():
+    with tempfile.TemporaryDirectory() as folder:
+        crate_with(folder, **SEEN_CRATE)
+        for function, file, old, modules in SEEN:
+            found = modules_that_see(folder, [Wrong("", "", function=function, changes=[(file, "", old, "")])])
+            assert found == modules, f"{function}: {old!r}: {found}"
+        write_text(os.path.join(folder, "src", "texts.rt"), "ghost use Rattle.a.specs.Sums.{Even};\n")
+        wrong = Wrong("", "", function="laws::sums_are_even", changes=[("specs/Sums.antt", "", "n ≡ half + half", "")])
+        assert modules_that_see(folder, [wrong]) is None
 
 
 def list_of(name):
