@@ -88,30 +88,53 @@ macro_rules! of_system {
 
 of_system! { UtcDateTime OffsetDateTime }
 
+/// The duration from 1970 on to a time of a clock, also to one that no value of the range has.
+fn since_epoch(time: SystemTime) -> SignedDuration {
+    match time.duration_since(SystemTime::UNIX_EPOCH) {
+        Ok(after) => SignedDuration::ZERO + after,
+        Err(before) => SignedDuration::ZERO - before.duration(),
+    }
+}
+
+/// The order of an instant and a time of a clock.
+macro_rules! order {
+    ($Type:ident, $at:expr, $time:expr) => {
+        ($at - $Type::UNIX_EPOCH).cmp(&since_epoch($time))
+    };
+}
+
 compared! {
-    Timestamp, SystemTime: at, time => at == Timestamp::from(time), at.cmp(&Timestamp::from(time));
-    UtcDateTime, SystemTime: at, time => at == UtcDateTime::from(time), at.cmp(&UtcDateTime::from(time));
-    OffsetDateTime, SystemTime: at, time => at == OffsetDateTime::from(time), at.cmp(&OffsetDateTime::from(time));
+    Timestamp, SystemTime: at, time => order!(Timestamp, at, time).is_eq(), order!(Timestamp, at, time);
+    UtcDateTime, SystemTime: at, time => order!(UtcDateTime, at, time).is_eq(), order!(UtcDateTime, at, time);
+    OffsetDateTime, SystemTime: at, time => order!(OffsetDateTime, at, time).is_eq(), order!(OffsetDateTime, at, time);
 }
 
 macro_rules! differences {
     ($($Type:ident)+) => {
         $(
+            /// # Panics
+            ///
+            /// 64 bits do not hold the seconds of the difference.
             impl Sub<SystemTime> for $Type {
                 type Output = SignedDuration;
 
+                #[track_caller]
                 #[inline]
                 fn sub(self, earlier: SystemTime) -> SignedDuration {
-                    self - $Type::from(earlier)
+                    (self - $Type::UNIX_EPOCH) - since_epoch(earlier)
                 }
             }
 
+            /// # Panics
+            ///
+            /// 64 bits do not hold the seconds of the difference.
             impl Sub<$Type> for SystemTime {
                 type Output = SignedDuration;
 
+                #[track_caller]
                 #[inline]
                 fn sub(self, earlier: $Type) -> SignedDuration {
-                    $Type::from(self) - earlier
+                    since_epoch(self) - (earlier - $Type::UNIX_EPOCH)
                 }
             }
         )+

@@ -293,26 +293,29 @@ parts! {
         weekday => weekday.number_days_from_monday() as u32;
 }
 
+/// The parts of an offset, the greatest first, each with those that are greater.
 macro_rules! offset_parts {
-    ($($name:ident $set_name:ident $with_name:ident: $part:ident;)+) => {
+    ($($name:ident $set_name:ident $with_name:ident: $part:ident, [$($greater:ident)*];)+) => {
         impl Parsed {
             $(
                 /// This part of the offset with its sign, if it is known.
                 #[must_use]
                 pub const fn $name(&self) -> Option<i8> {
                     match self.parts.$part {
-                        Some(number) if matches!(self.parts.is_west, Some(true)) => Some(-(number as i8)),
+                        Some(number) if matches!(self.parts.is_west, Some(true)) => Some((number as i8).wrapping_neg()),
                         Some(number) => Some(number as i8),
                         None => None,
                     }
                 }
 
-                /// Sets this part of the offset, and its sign where it is not 0.
+                /// Sets this part of the offset. All parts have the sign of the greatest that is
+                /// not 0.
                 pub const fn $set_name(&mut self, value: i8) -> Option<()> {
-                    self.parts.$part = Some(value.unsigned_abs() as u32);
-                    if value != 0 || self.parts.is_west.is_none() {
+                    let has_sign = value != 0 $(&& !matches!(self.parts.$greater, Some(1..)))*;
+                    if has_sign || self.parts.is_west.is_none() {
                         self.parts.is_west = Some(value < 0);
                     }
+                    self.parts.$part = Some(value.unsigned_abs() as u32);
                     Some(())
                 }
 
@@ -328,9 +331,9 @@ macro_rules! offset_parts {
 }
 
 offset_parts! {
-    offset_hour set_offset_hour with_offset_hour: offset_hour;
-    offset_minute_signed set_offset_minute_signed with_offset_minute_signed: offset_minute;
-    offset_second_signed set_offset_second_signed with_offset_second_signed: offset_second;
+    offset_hour set_offset_hour with_offset_hour: offset_hour, [];
+    offset_minute_signed set_offset_minute_signed with_offset_minute_signed: offset_minute, [offset_hour];
+    offset_second_signed set_offset_second_signed with_offset_second_signed: offset_second, [offset_hour offset_minute];
 }
 
 /// The part that an error names.

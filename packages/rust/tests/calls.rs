@@ -205,6 +205,19 @@ fn clocks_of_the_machine() {
     assert_eq!(moved - (-82_802).seconds(), SystemTime::UNIX_EPOCH);
     let began = std::time::Instant::now();
     assert_eq!(began + 1.seconds() - 1.seconds(), began);
+    // Times that no value of the range has compare too.
+    let year = StdDuration::from_secs(31_556_952);
+    for (later, far) in [
+        (true, SystemTime::UNIX_EPOCH + year * 2_000_000),
+        (false, SystemTime::UNIX_EPOCH - year * 2_000_000),
+    ] {
+        assert_ne!(Timestamp::UNIX_EPOCH, far);
+        assert_eq!(Timestamp::MAX < far, later);
+        assert_eq!(UtcDateTime::MIN < far, later);
+        assert_eq!(far > datetime!(+999999-12-31 23:59 -25:59:59), later);
+        assert_eq!((far - Timestamp::UNIX_EPOCH).is_positive(), later);
+        assert_eq!(UtcDateTime::UNIX_EPOCH - far, datetime!(1970-01-01 0:00 UTC) - far);
+    }
 }
 
 /// `x.to_string().parse()` gives x.

@@ -301,6 +301,43 @@ fn parts_are_set_and_read() {
     );
 }
 
+// As `UtcOffset::from_hms` and `time` read signs that contradict each other.
+#[test]
+fn an_offset_has_the_sign_of_its_greatest_part() {
+    let rows = [(-1, 30, 0), (1, -30, 0), (0, -30, 0), (0, 30, -5), (0, 0, -5), (1, 0, -5)];
+    for (hours, minutes, seconds) in rows {
+        let mut parsed = Parsed::new();
+        let mut backwards = Parsed::new();
+        parsed.set_offset_hour(hours).unwrap();
+        parsed.set_offset_minute_signed(minutes).unwrap();
+        parsed.set_offset_second_signed(seconds).unwrap();
+        backwards.set_offset_second_signed(seconds).unwrap();
+        backwards.set_offset_minute_signed(minutes).unwrap();
+        backwards.set_offset_hour(hours).unwrap();
+        let offset = UtcOffset::from_hms(hours, minutes, seconds).unwrap();
+        assert_eq!(UtcOffset::try_from(parsed), Ok(offset), "{hours} {minutes} {seconds}");
+        assert_eq!(UtcOffset::try_from(backwards), Ok(offset), "{hours} {minutes} {seconds}");
+        assert_eq!(parsed.offset_hour(), Some(hours));
+    }
+    let least = Parsed::new().with_offset_hour(i8::MIN).unwrap();
+    assert_eq!(least.offset_hour(), Some(i8::MIN));
+    assert!(UtcOffset::try_from(least).is_err());
+}
+
+#[test]
+fn items_equal_lists_of_items() {
+    let items = [BorrowedFormatItem::Literal(b"-"), BorrowedFormatItem::Literal(b":")];
+    assert_eq!(BorrowedFormatItem::Compound(&items), &items[..]);
+    assert_eq!(&items[..], BorrowedFormatItem::Compound(&items));
+    assert_ne!(BorrowedFormatItem::Compound(&items[..1]), &items[..]);
+    assert_ne!(&items[..1], BorrowedFormatItem::Literal(b"-"));
+    let owned = items.map(OwnedFormatItem::from);
+    assert_eq!(OwnedFormatItem::from(&items[..]), &owned[..]);
+    assert_ne!(&owned[..1], OwnedFormatItem::from(&items[..]));
+    let digits = modifier::Subsecond::default().digits;
+    assert_eq!(modifier::SubsecondDigits::default(), digits);
+}
+
 #[test]
 fn defaults_stand_for_parts_that_a_text_lacks() {
     let month = format_description!("[year]-[month]");

@@ -83,6 +83,18 @@ macro_rules! shown {
                     other == self
                 }
             }
+
+            impl PartialEq<&[$Item]> for $Item {
+                fn eq(&self, other: &&[$Item]) -> bool {
+                    matches!(self, Self::Compound(items) if **items == **other)
+                }
+            }
+
+            impl PartialEq<$Item> for &[$Item] {
+                fn eq(&self, other: &$Item) -> bool {
+                    other == self
+                }
+            }
         )+
     };
 }

@@ -97,6 +97,12 @@ pub enum UnixTimestampPrecision {
     Nanosecond,
 }
 
+impl Default for SubsecondDigits {
+    fn default() -> SubsecondDigits {
+        SubsecondDigits::OneOrMore
+    }
+}
+
 macro_rules! modifiers {
     ($($(#[$doc:meta])* $Name:ident { $($(#[$of:meta])* $field:ident: $Type:ty = $value:expr, $with:ident;)* })+) => {
         $(
