@@ -427,8 +427,20 @@ static int take_datetime_attributes(Module *module, PyObject *at, MuxanduDateTim
                take_attribute(module, at, module->words[MICROSECOND], &microsecond) &&
                take_attribute_or_0(module, at, module->words[NANOSECOND], &nanosecond);
     for (place = YEAR; place < NANOSECOND; place++) Py_XDECREF(words[place]);
+    if (is_taken && (microsecond < 0 || microsecond > 999999 || nanosecond < 0 || nanosecond > 999)) {
+        refuse(module, MUXANDU_REFUSED_NANOSECOND);
+        is_taken = 0;
+    }
     if (is_taken) value->nanosecond = (uint32_t)(microsecond * 1000 + nanosecond);
     return is_taken;
+}
+
+/* Says of an object without the attributes of a datetime that it is none. */
+static void is_no_datetime(Module *module, PyObject *at) {
+    PyTypeObject *type = Py_TYPE(at);
+    if (PyType_IsSubtype(type, (PyTypeObject *)module->datetime) || !PyErr_ExceptionMatches(PyExc_AttributeError))
+        return;
+    PyErr_Format(PyExc_TypeError, "the argument must be a datetime.datetime, not %R", type);
 }
 
 /* The parts of a datetime, and whether it has an offset. -1 for an error. */
@@ -438,7 +450,9 @@ static int take_datetime(Module *module, PyObject *at, MuxanduDateTime *value) {
     value->offset_seconds = 0;
     if ((PyObject *)Py_TYPE(at) != module->datetime || !module->datetime_is_so) {
         int has_offset = take_datetime_offset(module, at, NULL, &value->offset_seconds);
-        return has_offset < 0 || !take_datetime_attributes(module, at, value) ? -1 : has_offset;
+        if (has_offset >= 0 && take_datetime_attributes(module, at, value)) return has_offset;
+        is_no_datetime(module, at);
+        return -1;
     }
     value->year = parts[0] << 8 | parts[1];
     value->month = parts[2], value->day = parts[3];
@@ -465,9 +479,12 @@ static PyObject *shown_from_datetime(PyObject *class, PyObject *at) {
 }
 
 static PyObject *utc_from_datetime(PyObject *class, PyObject *at) {
+    static PyObject *const words[PARTS];
     Module *module = OWNER_OF_OffsetDateTime((PyTypeObject *)class);
     MuxanduDateTime value;
-    return take_aware(module, at, &value) ? at_offset(module, (PyTypeObject *)class, value, 0, NULL) : NULL;
+    if (!take_aware(module, at, &value)) return NULL;
+    return value.offset_seconds ? at_offset(module, (PyTypeObject *)class, value, 0, NULL)
+                                : clock_checked(module, (PyTypeObject *)class, words, value);
 }
 
 static PyObject *plain_from_datetime(PyObject *class, PyObject *at) {

@@ -72,10 +72,9 @@ def numbers(*parts: str) -> list[int]:
     return [*map(int, first), int(last.ljust(9, "0")) if len(parts) in (4, 7) else int(last)]
 
 
-def seconds(sign: str, hours: str, minutes: str, left: str) -> int:
-    """The seconds of an offset."""
-    whole = int(hours) * 3_600 + int(minutes) * 60 + int(left)
-    return -whole if sign == "-" else whole
+def seconds(sign: str, *parts: str) -> int:
+    """The seconds of an offset. The error of the first part that is out of range."""
+    return engine.offset_from_parts(*(int(sign + part) for part in parts))
 
 
 def nanoseconds(sign: str, whole: str, fraction: Any) -> int:

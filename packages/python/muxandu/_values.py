@@ -9,7 +9,7 @@ from typing import Any, Callable, ClassVar, NamedTuple, SupportsIndex, TypeVar, 
 
 from . import _formats, _own_texts
 from . import _extension as engine
-from ._refusals import REFUSALS, RefusedResult
+from ._refusals import REFUSALS, RefusedResult, RefusedTimestamp
 from ._words import as_bytes, nanoseconds_of, to_int
 
 _PARTS = ("year", "month", "day", "hour", "minute", "second", "nanosecond")
@@ -298,15 +298,23 @@ class Timestamp(_Formatted, engine.Timestamp):
         """The instant of a count of microseconds from 1970-01-01 0:00 UTC. RefusedTimestamp if out
         of range."""
         count = to_int(microseconds)
-        seconds, left = divmod(count, 1_000_000)
-        return cls._from_microseconds(count) if -(2**63) <= count < 2**63 else cls(seconds, left * 1_000)
+        return cls._from_microseconds(count) if -(2**63) <= count < 2**63 else cls._of_count(count, 1_000_000)
 
     @classmethod
     def from_nanoseconds(cls: type[_Stamp], nanoseconds: int) -> _Stamp:
         """The instant of a count of nanoseconds from 1970-01-01 0:00 UTC, as time.time_ns() counts;
         also past 64 bits. RefusedTimestamp if out of range."""
         count = to_int(nanoseconds)
-        return cls._from_nanoseconds(count) if -(2**63) <= count < 2**63 else cls(*divmod(count, _SECOND))
+        return cls._from_nanoseconds(count) if -(2**63) <= count < 2**63 else cls._of_count(count, _SECOND)
+
+    @classmethod
+    def _of_count(cls: type[_Stamp], count: int, of_second: int) -> _Stamp:
+        """The instant of a count of a unit that a second has so many of."""
+        seconds, left = divmod(count, of_second)
+        try:
+            return cls(seconds, left * (_SECOND // of_second))
+        except RefusedTimestamp:
+            raise RefusedTimestamp(None, count) from None
 
     def as_microseconds(self) -> int:
         """The microseconds from 1970-01-01 0:00 UTC, rounded down."""
@@ -366,8 +374,9 @@ class OffsetDateTime(_Formatted, engine.OffsetDateTime):
         RefusedSyntax for another text."""
 
         def make(*parts: str) -> _Shown:
-            numbers = [*_own_texts.numbers(*parts[:7]), _own_texts.seconds(*parts[7:])]
-            return cls(*numbers)
+            numbers = _own_texts.numbers(*parts[:7])
+            cls(*numbers)  # A part before the offset is refused before it.
+            return cls(*numbers, _own_texts.seconds(*parts[7:]))
 
         return _own_texts.read("OffsetDateTime", text, make)
 

@@ -52,7 +52,10 @@ class Timestamps(unittest.TestCase):
             self.assertEqual(Timestamp.from_nanoseconds(at.as_nanoseconds()), at)
             self.assertEqual(Timestamp.from_microseconds(at.as_microseconds()).seconds, at.seconds)
         for read in (Timestamp.from_nanoseconds, Timestamp.from_microseconds, Timestamp.from_milliseconds):
-            self.assertRaises(muxandu.RefusedTimestamp, read, 2**100)
+            for count in (2**100 + 1, -(2**90)):
+                with self.assertRaises(muxandu.RefusedTimestamp) as caught:
+                    read(count)
+                self.assertEqual(caught.exception.value, count)
 
     def test_sums_and_differences(self):
         half, at = Duration(0, 500_000_000), Timestamp(-1, 500_000_000)

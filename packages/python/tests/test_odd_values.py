@@ -74,6 +74,12 @@ def length(**parts):
     return type("Length", (datetime.timedelta,), {name: property(lambda _, part=part: part) for name, part in parts.items()})()
 
 
+def moment(**parts):
+    """A datetime of a class whose parts are other ones."""
+    told = {name: property(lambda _, part=part: part) for name, part in parts.items()}
+    return type("Moment", (datetime.datetime,), told)(2024, 2, 29, tzinfo=datetime.timezone.utc)
+
+
 def pretender(kind):
     """A value that tells that it is of another class."""
     return type("Pretender", (), {"__class__": property(lambda _: kind)})()
@@ -173,6 +179,41 @@ class Lengths(unittest.TestCase):
         self.assertEqual((type(Length.of(Duration(1, 2))), Length.of(Duration(1, 2))), (Length, Duration(1, 2)))
         self.assertIs(type(Length.of(datetime.timedelta(1))), Length)
         self.assertIs(type(Duration.of(Length(1))), Length)
+
+
+class Datetimes(unittest.TestCase):
+    READ = (Timestamp.from_datetime, OffsetDateTime.from_datetime, UtcDateTime.from_datetime)
+
+    def test_of_classes_with_other_parts(self):
+        for parts in (
+            {"microsecond": 2**32 // 1_000 + 1},
+            {"microsecond": -1, "nanosecond": 1_000},
+            {"microsecond": 2**62},
+            {"microsecond": 10**6},
+            {"nanosecond": 1_000},
+            {"nanosecond": -1},
+        ):
+            for read in self.READ:
+                self.assertRaises(muxandu.RefusedNanosecond, read, moment(**parts))
+        for read in self.READ:
+            self.assertRaises(muxandu.RefusedMonth, read, moment(month=13))
+            self.assertRaises(TypeError, read, moment(microsecond=0.5))
+
+    def test_of_other_types(self):
+        at = datetime.datetime(2024, 2, 29)
+        for other in (None, 5, "2024-02-29", at.date(), at.time(), datetime.timedelta(1), Timestamp(0)):
+            for read in (*self.READ, PlainDateTime.from_datetime):
+                self.assertRaisesRegex(TypeError, "must be a datetime.datetime, not <class", read, other)
+
+    def test_of_a_class_with_a_fault_of_its_own(self):
+        class Zone(datetime.tzinfo):
+            """A zone whose offset is a fault."""
+
+            def utcoffset(self, at):
+                return at.offset
+
+        for read in self.READ:
+            self.assertRaisesRegex(AttributeError, "offset", read, moment().replace(tzinfo=Zone()))
 
 
 class Classes(unittest.TestCase):
