@@ -31,10 +31,14 @@ MUXANDU_INLINE MuxanduStatus muxandu_timestamp_from_timespec(const struct timesp
     return status;
 }
 
-/* The struct timespec of an instant. Refused as the timestamp. */
+/* The struct timespec of an instant. Refused as the timestamp, then RESULT if time_t has 32 bits
+ * and does not hold the second. */
 MUXANDU_INLINE MuxanduStatus muxandu_timespec_from_timestamp(MuxanduTimestamp at, struct timespec *out) {
     MuxanduStatus status = muxandu_timestamp_check(at);
     if (status != MUXANDU_OK) return status;
+    if (sizeof(time_t) < sizeof at.seconds && (at.seconds < INT32_MIN || at.seconds > INT32_MAX)) {
+        return MUXANDU_REFUSED_RESULT;
+    }
     out->tv_sec = at.seconds;
     out->tv_nsec = at.nanoseconds;
     return MUXANDU_OK;
