@@ -23,6 +23,64 @@ impl Date {
         Some(date)
     }
 
+    /// The day of the week that comes next after this day.
+    ///
+    /// ```
+    /// use muxandu::Weekday::Monday;
+    /// use muxandu::macros::date;
+    ///
+    /// assert_eq!(date!(2023-06-28).next_occurrence(Monday), date!(2023-07-03));
+    /// assert_eq!(date!(2023-06-28).prev_occurrence(Monday), date!(2023-06-26));
+    /// assert_eq!(date!(2023-06-26).nth_next_occurrence(Monday, 5), date!(2023-07-31));
+    /// assert_eq!(date!(2023-06-27).nth_prev_occurrence(Monday, 5), date!(2023-05-29));
+    /// ```
+    ///
+    /// # Panics
+    ///
+    /// The range does not have it.
+    #[must_use]
+    #[track_caller]
+    pub fn next_occurrence(self, weekday: Weekday) -> Date {
+        self.nth_next_occurrence(weekday, 1)
+    }
+
+    /// The day of the week that came last before this day.
+    ///
+    /// # Panics
+    ///
+    /// The range does not have it.
+    #[must_use]
+    #[track_caller]
+    pub fn prev_occurrence(self, weekday: Weekday) -> Date {
+        self.nth_prev_occurrence(weekday, 1)
+    }
+
+    /// The `n`th day of the week after this day.
+    ///
+    /// # Panics
+    ///
+    /// The range does not have it, or `n` is 0.
+    #[must_use]
+    #[track_caller]
+    pub fn nth_next_occurrence(self, weekday: Weekday, n: u8) -> Date {
+        let weeks = weeks_past_first(n);
+        let first = self.checked_next_occurrence(weekday);
+        first.and_then(|first| first.checked_add(weeks)).expect(NO_OCCURRENCE)
+    }
+
+    /// The `n`th day of the week before this day.
+    ///
+    /// # Panics
+    ///
+    /// The range does not have it, or `n` is 0.
+    #[must_use]
+    #[track_caller]
+    pub fn nth_prev_occurrence(self, weekday: Weekday, n: u8) -> Date {
+        let weeks = weeks_past_first(n);
+        let last = self.checked_prev_occurrence(weekday);
+        last.and_then(|last| last.checked_sub(weeks)).expect(NO_OCCURRENCE)
+    }
+
     /// The day later by the whole days of a duration, or the end of the range that it is beyond.
     #[must_use]
     #[inline]
@@ -52,6 +110,16 @@ impl Date {
     pub const fn with_time(self, time: Time) -> PlainDateTime {
         PlainDateTime::new(self, time)
     }
+}
+
+const NO_OCCURRENCE: &str =
+    "the day is out of range: use `checked_next_occurrence` or `checked_prev_occurrence`";
+
+/// The duration from the first day of some that are a week apart to the `n`th.
+#[track_caller]
+fn weeks_past_first(n: u8) -> SignedDuration {
+    assert!(n > 0, "the first occurrence has the number 1");
+    SignedDuration::weeks(i64::from(n) - 1)
 }
 
 /// The day at the time of day that a call of `Time` makes.

@@ -5,7 +5,9 @@ use std::sync::Mutex;
 
 use muxandu::ext::{NumericalDuration, NumericalStdDuration};
 use muxandu::macros::{datetime, offset};
-use muxandu::{Date, OffsetDateTime, PlainDateTime, SignedDuration, Timestamp, UtcDateTime};
+use muxandu::{
+    Date, OffsetDateTime, PlainDateTime, SignedDuration, Timestamp, UtcDateTime, Weekday,
+};
 
 /// The file in which the last panic was.
 static FILE: Mutex<String> = Mutex::new(String::new());
@@ -50,6 +52,8 @@ fn a_panic_names_its_caller() {
         file_of(|| 1.seconds() / 0),
         file_of(|| SignedDuration::seconds_f64(f64::NAN)),
         file_of(|| (-1.0).std_seconds()),
+        file_of(|| Date::MAX.next_occurrence(Weekday::Friday)),
+        file_of(|| Date::MIN.nth_prev_occurrence(Weekday::Friday, 0)),
     ];
     let _ = panic::take_hook();
     for (place, file) in files.iter().enumerate() {

@@ -74,6 +74,29 @@ fn dates_move() {
 }
 
 #[test]
+fn days_of_the_week_are_counted() {
+    let start = date!(2024 - 02 - 21);
+    for (weekday, n) in (0..7).map(|n| Weekday::Monday.nth_next(n)).zip([1, 2, 5, 53, 255, 3, 4]) {
+        let (mut later, mut earlier) = (start, start);
+        for _ in 0..n {
+            later = later.checked_next_occurrence(weekday).unwrap();
+            earlier = earlier.checked_prev_occurrence(weekday).unwrap();
+        }
+        assert_eq!(start.nth_next_occurrence(weekday, n), later, "{weekday} {n}");
+        assert_eq!(start.nth_prev_occurrence(weekday, n), earlier, "{weekday} {n}");
+    }
+    assert_eq!(start.next_occurrence(Weekday::Wednesday), date!(2024 - 02 - 28));
+    assert_eq!(start.prev_occurrence(Weekday::Wednesday), date!(2024 - 02 - 14));
+    fn panics(call: impl FnOnce() -> Date + std::panic::UnwindSafe) -> bool {
+        std::panic::catch_unwind(call).is_err()
+    }
+    assert!(panics(|| start.nth_next_occurrence(Weekday::Monday, 0)));
+    assert!(panics(|| start.nth_prev_occurrence(Weekday::Monday, 0)));
+    assert!(panics(|| Date::MAX.next_occurrence(Weekday::Monday)));
+    assert!(panics(|| Date::MIN.prev_occurrence(Weekday::Monday)));
+}
+
+#[test]
 fn times_of_day() {
     assert_eq!(name(Time::from_hms(24, 60, 60)), ("hour", false));
     assert_eq!(name(Time::from_hms(23, 60, 60)), ("minute", false));
