@@ -9,7 +9,7 @@ from typing import Any
 from . import _batch, _missing, _texts
 from . import _extension as _engine
 from ._structures import MuxanduDateTime
-from ._words import as_bytes, limit
+from ._words import as_bytes, one_offset
 
 # An offset that each call rejects.
 _NO_OFFSET = 2**31 - 1
@@ -27,8 +27,9 @@ def _in_utc(text: Any) -> Any:
 def _known_offsets(offset_seconds: Any, count: int) -> tuple[Any, Any]:
     """The offset of each text, as numbers, and the places of those that are missing. One offset is
     for all."""
-    if hasattr(offset_seconds, "__index__") and not _batch._is_like_numpy(offset_seconds):
-        return [limit(offset_seconds, ctypes.c_int32)] * count, []
+    one = one_offset(offset_seconds)
+    if one is not None:
+        return [one] * count, []
     known, missing = _missing.fill_masked(offset_seconds, _NO_OFFSET)
     known = _batch._as_array(known)
     if _missing.is_float(known):

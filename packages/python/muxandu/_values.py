@@ -376,7 +376,8 @@ class OffsetDateTime(_Formatted, engine.OffsetDateTime):
         def make(*parts: str) -> _Shown:
             numbers = _own_texts.numbers(*parts[:7])
             cls(*numbers)  # A part before the offset is refused before it.
-            return cls(*numbers, _own_texts.seconds(*parts[7:]))
+            numbers.append(_own_texts.seconds(*parts[7:]))
+            return cls(*numbers)
 
         return _own_texts.read("OffsetDateTime", text, make)
 

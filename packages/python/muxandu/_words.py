@@ -6,7 +6,7 @@ import ctypes
 import datetime
 import functools
 import operator
-from typing import Any
+from typing import Any, Optional
 
 from . import _buffers
 
@@ -28,6 +28,14 @@ def limit(number: Any, kind: Any) -> int:
     low, high = ends(kind)
     number = to_int(number)
     return int(number) if low <= number <= high else low if number < low else high
+
+
+def one_offset(offset: Any) -> Optional[int]:
+    """The seconds of one offset, which is for all rows, or None for a column of offsets."""
+    try:
+        return limit(offset, ctypes.c_int32)
+    except TypeError:
+        return None
 
 
 def nanoseconds_of(length: datetime.timedelta) -> int:

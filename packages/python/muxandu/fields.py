@@ -15,14 +15,18 @@ from typing import Any, Callable, Union
 from . import _batch, _texts
 from . import _extension as _engine
 from ._structures import MuxanduMoment, MuxanduSpan
-from ._words import limit
+from ._words import one_offset
 
 __all__ = ["field_spans", "moments_from_each_local", "moments_from_local"]
+
+_Call = Callable[..., tuple[int, int]]
 
 
 def _byte(text: Union[str, bytes], name: str) -> int:
     """The only byte of a separator or a quote."""
-    held = text.encode() if isinstance(text, str) else bytes(text)
+    if not isinstance(text, (str, bytes)):
+        raise TypeError(f"`{name}` must be a str or bytes, not {type(text).__name__}")
+    held = text.encode() if isinstance(text, str) else text
     if len(held) != 1:
         raise ValueError(f"`{name}` must be one byte, got {len(held)}: pass it as an ASCII letter or mark")
     return held[0]
@@ -45,14 +49,20 @@ def field_spans(block: Any, field: int, separator: Union[str, bytes] = ",", quot
     return (MuxanduSpan * count).from_buffer(spans)
 
 
-def _with_offset(call: Callable[..., Any], call_at: Callable[..., Any], offset: Any) -> Callable[..., tuple[int, int]]:
+def _with_offset(call: _Call, call_at: _Call, offset: Any) -> _Call:
     """A call over texts at one offset, or at the offsets of a column."""
-    one = getattr(offset, "whole_seconds", lambda: offset)()
-    if isinstance(one, int):
-        seconds = limit(one, ctypes.c_int32)
-        return lambda block, size, spans, count, *places: call(block, size, spans, count, seconds, *places)
+    one = one_offset(offset)
+    if one is not None:
+        return lambda block, size, spans, count, *places: call(block, size, spans, count, one, *places)
     each = _batch._reading(_batch._numbers(offset, ctypes.c_int32), ctypes.c_int32)
-    return lambda block, size, spans, count, *places: call_at(block, size, spans, count, each.data, each.count, *places)
+
+    def call_at_each(block: Any, size: int, spans: Any, count: int, *places: Any) -> tuple[int, int]:
+        if each.count != count:
+            raise ValueError(f"there must be one offset, or one for each text: {count}, not {each.count}")
+        # The results may be in the memory of the offsets.
+        return call_at(block, size, spans, count, each.copy(), count, *places)
+
+    return call_at_each
 
 
 def moments_from_local(texts: Any, offset: Any, spans: Any = None, out: Any = None) -> Any:

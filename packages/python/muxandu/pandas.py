@@ -44,6 +44,7 @@ from ._blocks import COMPARE, DIFFERENCE, ROW, by_blocks, row_of
 from .columns import NO_SECOND
 from ._datetime64 import split, test_errors
 from ._missing import is_missing, places_of
+from ._words import one_offset
 
 __all__ = ["MomentArray", "MomentDtype", "from_arrow", "from_block", "from_texts"]
 
@@ -725,7 +726,7 @@ def _read_plain_texts(items: list[Any], offset_seconds: Any, rows: Any, statuses
     """Reads the texts that lack an offset, of those that are no RFC 3339."""
     places = numpy.flatnonzero(statuses == RefusedSyntax.status)
     offsets = offset_seconds
-    if not hasattr(offset_seconds, "__index__") or hasattr(offset_seconds, "__array__"):
+    if one_offset(offset_seconds) is None:
         each = list(offset_seconds)
         if len(each) != len(items):
             raise ValueError(f"there must be one offset, or one for each text: {len(items)}, not {len(each)}")

@@ -354,6 +354,8 @@ class Columns(unittest.TestCase):
         ):
             found, statuses = columns.moments_from_each_plain_text(["1970-01-01T00:00:01"] * 2, offsets)
             self.assertEqual((told(found[0]), list(statuses)), ((0, 0, 1), [0, MISSING]))
+        found, _ = columns.moments_from_each_plain_text(["1970-01-01T00:00:01"], numpy.int64(1))
+        self.assertEqual(told(found[0]), (0, 0, 1))
         found = columns.moments_subtract(column[:1], numpy.array([1], "m8[ms]"))
         self.assertEqual(
             columns.moments_compare(found, columns.moments_add(column[:1], numpy.array([-1], "m8[ms]"))).tolist(), [0]

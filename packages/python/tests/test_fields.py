@@ -1,5 +1,6 @@
 """Fields of lines beside Python's csv, and texts without an offset beside Python's datetime."""
 
+import array
 import csv
 import datetime
 import io
@@ -61,12 +62,38 @@ class Fields(unittest.TestCase):
             fields.field_spans(b"a", 0, "é")
         with self.assertRaises(ValueError):
             fields.field_spans(b"a", -1)
+        for mark in (1, 44, None, [44]):
+            self.assertRaises(TypeError, fields.field_spans, b"a", 0, mark)
+            self.assertRaises(TypeError, fields.field_spans, b"a", 0, ",", mark)
         with self.assertRaises(TypeError):
             fields.field_spans("a", 0)
         self.assertEqual(len(fields.field_spans(b"", 0)), 0)
 
 
+class Scalar:
+    """A number that is like an array too, as those of NumPy are."""
+
+    __array_interface__ = {}
+
+    def __index__(self):
+        return 3_600
+
+
 class LocalTexts(unittest.TestCase):
+    def test_offsets(self):
+        texts, calls = ["1970-01-01T01:00:00"] * 2, (fields.moments_from_local, fields.moments_from_each_local)
+        self.assertEqual([row.offset_seconds for row in fields.moments_from_local(texts, Scalar())], [3_600] * 2)
+        for call in calls:
+            for offsets in ([0], [0] * 3, array.array("i", [0] * 3), []):
+                with self.assertRaisesRegex(ValueError, f"one for each text: 2, not {len(offsets)}"):
+                    call(texts, offsets)
+
+    def test_offsets_in_the_memory_of_the_statuses(self):
+        held = array.array("i", [3_600, 7_200, 5])
+        statuses = memoryview(held).cast("B").cast("I")[1:]
+        rows, _ = fields.moments_from_each_local(["1970-01-01T00:00:00"] * 2, memoryview(held)[:2], statuses=statuses)
+        self.assertEqual(([row.offset_seconds for row in rows], list(statuses)), ([3_600, 7_200], [0, 0]))
+
     def test_random_clocks(self):
         pick = random.Random(59)
         epoch = datetime.datetime(1970, 1, 1, tzinfo=datetime.timezone.utc)

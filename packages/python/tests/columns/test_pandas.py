@@ -243,6 +243,8 @@ class Columns(unittest.TestCase):
         for each in (offsets, offsets.tolist(), offsets.to_numpy()):
             found = pandas.Series(muxandu.pandas.from_texts(texts, offset_seconds=each)).moment
             self.assertEqual(found.offset_seconds.tolist(), [3_600, pandas.NA, 0, -60])
+        found = pandas.Series(muxandu.pandas.from_texts(texts, offset_seconds=offsets[2])).moment
+        self.assertEqual(found.offset_seconds.tolist(), [7_200, pandas.NA, 0, 7_200])
         with self.assertRaises(RefusedSyntax) as caught:
             muxandu.pandas.from_texts(texts)
         self.assertEqual(caught.exception.count, 0)
