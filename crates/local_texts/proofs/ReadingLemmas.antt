@@ -87,11 +87,14 @@ or_else-meaning p second =
     let in_day = or_guard no_day Day hour second in_hour in
     or_guard (nat_eq p.month 0 || nat_lt 12 p.month) Month day second in_day
 
+pub reading_at-spelled : (offset : ℤ) (t : List ℕ) (p : Parts) → IsDateTime t p → reading_at offset t ≡ meaning p
+reading_at-spelled offset t p h =
+    let second = reading_as (λ at. wall_at at.wall offset) (date_time_in_utc t) in
+    ap (λ (first : Result Local TextRefusal). or_else first second) (reading_of-spelled t p h) ∙ or_else-meaning p second
+
 pub reading_at-own : (offset : ℤ) (t : List ℕ) (r : Result Local TextRefusal) (p : Parts) → r ≡ reading_at offset t → IsDateTime t p
     → OkIff r (AreInRange p) (value_of p)
-reading_at-own offset t r p e h =
-    let second = reading_as (λ at. wall_at at.wall offset) (date_time_in_utc t) in
-    accepted_of p r (e ∙ ap (λ (first : Result Local TextRefusal). or_else first second) (reading_of-spelled t p h) ∙ or_else-meaning p second)
+reading_at-own offset t r p e h = accepted_of p r (e ∙ reading_at-spelled offset t p h)
 
 -- no text has the form both with an offset and without
 not_both : (t : List ℕ) (p q : Parts) → IsDateTime (t ++ codes "Z") p → IsDateTime t q → ⊥
@@ -106,12 +109,21 @@ syntax_of_local t p h =
       | inr some ↦ absurd (not_both t p some.0 h some.1)
     ]
 
+reading_at-local : (offset : ℤ) (t : List ℕ) (p : Parts) → IsLocalDateTime t p
+    → reading_at offset t ≡ reading_as (λ at. wall_at at.wall offset) (date_time_in_utc t)
+reading_at-local offset t p h =
+    let second = reading_as (λ at. wall_at at.wall offset) (date_time_in_utc t) in
+    ap (λ (first : Result Local TextRefusal). or_else first second) (syntax_of_local t p h)
+
+pub reading_at-spelled_local : (offset : ℤ) (t : List ℕ) (p : Parts) → IsLocalDateTime t p
+    → reading_at offset t ≡ meaning_as (λ at. wall_at at.wall offset) p
+reading_at-spelled_local offset t p h =
+    reading_at-local offset t p h ∙ reading_as-spelled (λ at. wall_at at.wall offset) (date_time_in_utc t) p h
+
 pub reading_at-assumed : (offset : ℤ) (t : List ℕ) (r : Result Local TextRefusal) (p : Parts) → r ≡ reading_at offset t → IsLocalDateTime t p
     → OkIff r (AreInRange p) (value_at offset p)
 reading_at-assumed offset t r p e h =
-    let second = reading_as (λ at. wall_at at.wall offset) (date_time_in_utc t) in
-    reading_as-value (λ at. wall_at at.wall offset) (date_time_in_utc t) r p
-    (e ∙ ap (λ (first : Result Local TextRefusal). or_else first second) (syntax_of_local t p h)) h
+    reading_as-value (λ at. wall_at at.wall offset) (date_time_in_utc t) r p (e ∙ reading_at-local offset t p h) h
 
 pub reading_at-syntax : (offset : ℤ) (t : List ℕ)
     → (reading_at offset t ≡ Err Syntax) ⊎ (((p : Parts) × IsDateTime t p) ⊎ ((p : Parts) × IsLocalDateTime t p))

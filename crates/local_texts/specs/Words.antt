@@ -97,7 +97,7 @@ pub use Rattle.stamp_times.specs.declared.runs.calls.Shift.TheVariants.{CheckedA
 unfoldable pub use Rattle.rfc3339.specs.Faults.{may_stand, next_place, place_in_offset, standing}
 pub use Rattle.rfc3339.specs.Form.{IsDateTime, IsOffsetText, is_separator}
 unfoldable pub use Rattle.rfc3339.specs.Form.{fraction_value}
-pub use Rattle.rfc3339.specs.Front.{offset_numbers}
+pub use Rattle.rfc3339.specs.Front.{offset_numbers, offset_of_numbers, with_length}
 unfoldable pub use Rattle.rfc3339.specs.Front.{front_reading_of, offset_reading_of}
 pub use Rattle.rfc3339.specs.FullDates.{HasFullDate, IsFullDate, full_date_meaning}
 unfoldable pub use Rattle.rfc3339.specs.FullDates.{full_date_at, full_date_reading_of, full_date_text}
@@ -112,7 +112,7 @@ pub use Rattle.rfc3339.specs.Refusals.{component_name}
 pub use Rattle.rfc3339.specs.Texts.{HasFixedText, HasText, fraction_with}
 unfoldable pub use Rattle.rfc3339.specs.Texts.{digits_text, fixed_text, fixed_text_at, fraction_of_digits, rfc3339_text, text_with, time_offset_text}
 unfoldable pub use Rattle.rfc3339.specs.UnixTexts.{unix_text}
-pub use Rattle.rfc3339.specs.Walls.{fraction_on, parts_on}
+pub use Rattle.rfc3339.specs.Walls.{IsAfterSecond, fraction_on, parts_on}
 unfoldable pub use Rattle.rfc3339.specs.Walls.{wall_text}
 pub use Rattle.rfc3339.specs.declared.parts.Parts.{Parts}
 pub use Rattle.rfc3339.specs.declared.refusal.Component.TheVariants.{Day, Hour, Minute, Month, OffsetHour, OffsetMinute, Second}

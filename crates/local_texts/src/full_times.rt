@@ -7,7 +7,7 @@ ghost use Rattle.rfc3339.specs.declared.parts.Parts.{Parts};
 ghost use Rattle.rfc3339.specs.declared.refusal.TextRefusal.TheVariants.{Syntax};
 ghost use Rattle.calendar_values.specs.WallClock.{wall_time};
 ghost use Rattle.local_texts.specs.LocalForms.{IsFullTime, time_on_date, time_in_utc};
-ghost use Rattle.local_texts.specs.LocalForms.{time_and_offset, time_of_parts, both_readings};
+ghost use Rattle.local_texts.specs.LocalForms.{time_and_offset, time_of_parts, both_readings, meaning_as};
 
 use crate::faults::valid_bytes;
 use crate::readings::parse_time;
@@ -32,6 +32,7 @@ pub fn parse_time_with_offset(text: &[u8]) -> Result<(Time, UtcOffset), TextRefu
     // The same by the form of the text.
     ensures value { (p : Parts) → IsFullTime text.now p → OkIff result (AreInRange p)
         (time_of_parts p, offset_of p.is_west p.offset_hour p.offset_minute) }
+    ensures equation { (p : Parts) → IsFullTime text.now p → result ≡ meaning_as time_and_offset p }
     ensures syntax { (result ≡ Err Syntax) ⊎ ((p : Parts) × IsFullTime text.now p) }
     ensures accepted { IfOk result (λ read.
         (p : Parts) × IsFullTime text.now p × AreInRange p × (read ≡

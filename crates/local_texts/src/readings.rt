@@ -3,7 +3,7 @@ ghost use Rattle.std.specs.Prelude.{◌≡◌, ◌≤◌, ◌++◌, ◌⊎◌, L
 ghost use Rattle.calendar_values.specs.WallClock.{wall_time};
 ghost use Rattle.offset_times.specs.Local.{wall_at};
 ghost use Rattle.rfc3339.specs.Form.{IsDateTime};
-ghost use Rattle.rfc3339.specs.Meaning.{value_of, AreInRange};
+ghost use Rattle.rfc3339.specs.Meaning.{meaning, value_of, AreInRange};
 ghost use Rattle.rfc3339.specs.Reading.{reading_of, reading_as};
 ghost use Rattle.rfc3339.specs.declared.parts.Parts.{Parts};
 ghost use Rattle.rfc3339.specs.declared.refusal.TextRefusal.TheVariants.{Syntax};
@@ -70,6 +70,8 @@ pub fn parse_time(text: &[u8]) -> Result<Time, TextRefusal>
     // The same by the form of the text.
     ensures value { (p : Parts) → IsLocalTime text.now p →
         OkIff result (AreInRange p) (time_of_parts p) }
+    ensures equation { (p : Parts) → IsLocalTime text.now p →
+        result ≡ meaning_as (λ at. wall_time at.wall) p }
     ensures syntax { (result ≡ Err Syntax) ⊎ ((p : Parts) × IsLocalTime text.now p) }
     ensures accepted { IfOk result (λ shown.
         (p : Parts) × IsLocalTime text.now p × AreInRange p × (shown ≡ time_of_parts p)) }
@@ -99,11 +101,17 @@ fn read_time(text: &[u8]) -> Result<Time, TextRefusal>
 /// assert_eq!(rt; at.unix_timestamp(), 3_600);
 /// ```
 pub fn parse_date_time_at(text: &[u8], assumed: UtcOffset) -> Result<OffsetDateTime, TextRefusal>
+    // The whole answer, as a word that computes.
     ensures reading { result ≡ reading_at assumed text.now }
-    // A text with an offset keeps it, and one without has the offset that is assumed.
+
+    // A text with an offset keeps it, and one without has the offset that is assumed. Each fails by its first part that
+    // is out of range.
     ensures own { (p : Parts) → IsDateTime text.now p → OkIff result (AreInRange p) (value_of p) }
+    ensures own_equation { (p : Parts) → IsDateTime text.now p → result ≡ meaning p }
     ensures assumed { (p : Parts) → IsLocalDateTime text.now p →
         OkIff result (AreInRange p) (value_at assumed p) }
+    ensures assumed_equation { (p : Parts) → IsLocalDateTime text.now p →
+        result ≡ meaning_as (λ at. wall_at at.wall assumed) p }
     ensures syntax { (result ≡ Err Syntax)
         ⊎ (((p : Parts) × IsDateTime text.now p) ⊎ ((p : Parts) × IsLocalDateTime text.now p)) }
     ensures accepted { IfOk result (λ at.

@@ -1,24 +1,23 @@
 -- What the front of a text is read as.
 use Rattle.std.proofs.Common.{◌≡◌, ℕ, ℤ, ◌-◌, ◌≤◌, ◌<◌, Bool, true, false, cond, nat_lt, List, [], ◌++◌, length}
 use Rattle.std.proofs.Common.{Err, drop, length-append, append-nil, Option, Some, None, Result, Ok}
-use Rattle.std.proofs.Common.{refl, sym, ap, ◌∙◌, arith}
-use Rattle.std.specs.Prelude.{IfOk, OkIff}
-use Rattle.std.specs.Result.{result_map_both}
+use Rattle.std.proofs.Common.{refl, sym, ap, ◌∙◌, arith, inl, inr, ◌∷◌}
+use Rattle.std.specs.Prelude.{IfOk, OkIff, ◌⊎◌}
 use Rattle.calendar_values.specs.WallClock.{IsWallClock}
 use Rattle.offset_times.specs.Local.{Local, instant_of}
 use Rattle.rfc3339.specs.declared.parts.Parts.{Parts}
 use Rattle.rfc3339.specs.declared.refusal.TextRefusal.{TextRefusal}
 use Rattle.rfc3339.specs.declared.refusal.Component.TheVariants.{OffsetHour, OffsetMinute}
-use Rattle.rfc3339.specs.declared.refusal.TextRefusal.TheVariants.{OutOfRange}
+use Rattle.rfc3339.specs.declared.refusal.TextRefusal.TheVariants.{OutOfRange, Syntax}
 use Rattle.rfc3339.specs.Form.{IsDateTime, IsOffsetText}
 use Rattle.std.proofs.Math.Seq.{drop-append_seam}
-use Rattle.rfc3339.specs.Front.{front_meaning, front_reading_of, offset_reading_of}
+use Rattle.rfc3339.specs.Front.{with_length, front_meaning, front_reading_of, offset_of_numbers, offset_meaning, offset_reading_of}
 use Rattle.rfc3339.specs.ReadInstantLemmas.{instant_of-in_range}
 use Rattle.rfc3339.specs.Meaning.{AreInRange, offset_of, value_of, meaning}
-use Rattle.rfc3339.specs.Reading.{front_at}
+use Rattle.rfc3339.specs.Reading.{◌>>=◌, front_at, with_no_rest, zone_at}
 use Rattle.rfc3339.specs.Texts.{HasText}
 use Rattle.std.proofs.lemmas.Bool.Decides.{nat_tests}
-use Rattle.rfc3339.specs.FractionLemmas.{zone_again}
+use Rattle.rfc3339.specs.FractionLemmas.{zone_again, zone_takes}
 use Rattle.rfc3339.specs.MeaningLemmas.{meaning-ok, meaning-in_range, has_text_of}
 use Rattle.rfc3339.specs.TextLemmas.{front_takes, front_again}
 
@@ -33,11 +32,8 @@ has_text_of-front p at e n y = has_text_of p (Ok at) e n y
 
 pub ruleset fronts = (length-rest)
 
--- with the number of bytes
-abbrev with_length : ℕ → Result Local TextRefusal → Result (Local × ℕ) TextRefusal
-with_length n r = result_map_both (λ at. (at, n)) (λ refusal. refusal) r
-
-front_reading_of-spelled : (text stamp rest : List ℕ) (p : Parts) → text ≡ stamp ++ rest → IsDateTime stamp p
+-- the reading of a text that begins with a stamp is the meaning of its numbers, with the number of its bytes
+pub front_reading_of-spelled : (text stamp rest : List ℕ) (p : Parts) → text ≡ stamp ++ rest → IsDateTime stamp p
     → front_reading_of text ≡ with_length (length stamp) (meaning p)
 unfolding front_reading_of
 front_reading_of-spelled text stamp rest p e h =
@@ -94,6 +90,18 @@ pub longest_front : (text : List ℕ) (r : Result (Local × ℕ) TextRefusal) �
 longest_front text r e stamp rest p s h =
     rw (e, front_reading_of-spelled text stamp rest p s h) (longest_with (length stamp) (meaning p))
 
+-- a text with no such beginning has another form
+syntax_at : (text : List ℕ) (o : Option (Parts × List ℕ)) → front_at text ≡ o
+    → (front_meaning text o ≡ Err Syntax) ⊎ ((stamp : List ℕ) × (rest : List ℕ) × (p : Parts) × (text ≡ stamp ++ rest) × IsDateTime stamp p)
+syntax_at text None e = inl refl
+syntax_at text (Some read) e =
+    let front = front_takes text read.0 read.1 e in inr (front.0, read.1, read.0, front.1.parts, front.1.is)
+
+pub front_reading_of-syntax : (text : List ℕ) → (front_reading_of text ≡ Err Syntax)
+    ⊎ ((stamp : List ℕ) × (rest : List ℕ) × (p : Parts) × (text ≡ stamp ++ rest) × IsDateTime stamp p)
+unfolding front_reading_of
+front_reading_of-syntax text = syntax_at text (front_at text) refl
+
 -- its instant lies in the range
 pub instant_in_range : (r : Result (Local × ℕ) TextRefusal) → IfOk r (λ read. HasText read.0) → IfOk r (λ read. IsWallClock (instant_of read.0))
 instant_in_range (Ok read) h = instant_of-in_range read.0 h
@@ -108,10 +116,39 @@ accepted-numbers is_west hour minute true over e f = λ h. grind (arith, nat_tes
 accepted-numbers is_west hour minute false true e f = λ h. grind (arith, nat_tests, h.1)
 accepted-numbers is_west hour minute false false e f = ((grind (arith, nat_tests), grind (arith, nat_tests)), refl)
 
+-- the reading of a text that spells numbers is their offset
+pub offset_reading_of-spelled : (text : List ℕ) (is_west : Bool) (hour minute : ℕ)
+    → IsOffsetText text is_west hour minute → hour < 100 → minute < 100 → offset_reading_of text ≡ offset_of_numbers is_west hour minute
+unfolding offset_reading_of
+offset_reading_of-spelled text is_west hour minute is h m =
+    let zone = rw (append-nil text) at (zone_again text is_west hour minute [] is h m) in rw zone refl
+
 pub accepted_offset : (text : List ℕ) (r : Result ℤ TextRefusal) → r ≡ offset_reading_of text → (is_west : Bool) (hour minute : ℕ)
     → IsOffsetText text is_west hour minute → hour < 100 → minute < 100
     → OkIff r ((hour ≤ 23) × (minute ≤ 59)) (offset_of is_west hour minute)
-unfolding offset_reading_of
 accepted_offset text r e is_west hour minute is h m =
-    let zone = rw (append-nil text) at (zone_again text is_west hour minute [] is h m) in
-    rw (e, zone) (accepted-numbers is_west hour minute (nat_lt 23 hour) (nat_lt 59 minute) refl refl)
+    rw (e, offset_reading_of-spelled text is_west hour minute is h m)
+    (accepted-numbers is_west hour minute (nat_lt 23 hour) (nat_lt 59 minute) refl refl)
+
+-- the text is an offset of these numbers, of two digits each
+abbrev SpellsOffset : List ℕ → Type 0
+SpellsOffset text = (is_west : Bool) × (hour : ℕ) × (minute : ℕ) × IsOffsetText text is_west hour minute × (hour < 100) × (minute < 100)
+
+-- a text whose numbers are read spells them
+ended_zone : (text : List ℕ) (x : Bool × ℕ × ℕ) (rest : List ℕ) → zone_at text ≡ Some (x, rest)
+    → (offset_meaning (with_no_rest x rest) ≡ Err Syntax) ⊎ SpellsOffset text
+ended_zone text x (first ∷ rest) e = inl refl
+ended_zone text x [] e =
+    let zone = zone_takes text x.0 x.1 x.2 [] e in
+    let whole : text ≡ zone.0 = zone.1.parts ∙ append-nil zone.0 in
+    inr (x.0, x.1, x.2, rw whole zone.1.is, zone.1.hour_fits, zone.1.minute_fits)
+
+zone_or_syntax : (text : List ℕ) (o : Option ((Bool × ℕ × ℕ) × List ℕ)) → zone_at text ≡ o
+    → (offset_meaning (o >>= λ read. with_no_rest read.0 read.1) ≡ Err Syntax) ⊎ SpellsOffset text
+zone_or_syntax text None e = inl refl
+zone_or_syntax text (Some read) e = ended_zone text read.0 read.1 e
+
+-- any other text has another form
+pub offset_reading_of-syntax : (text : List ℕ) → (offset_reading_of text ≡ Err Syntax) ⊎ SpellsOffset text
+unfolding offset_reading_of
+offset_reading_of-syntax text = zone_or_syntax text (zone_at text) refl

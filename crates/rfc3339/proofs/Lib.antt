@@ -1,4 +1,5 @@
 mod AbnfLemmas
+mod AfterSecondLemmas
 mod RecogniserLemmas
 mod SuffixLemmas
 mod GrammarLemmas

@@ -1,12 +1,13 @@
 //! Texts read at the front of others, and offsets alone.
-ghost use Rattle.std.specs.Prelude.{◌≡◌, ◌≤◌, ◌<◌, ◌++◌, List, ℕ, Bool, IfOk, OkIff, length, drop};
+ghost use Rattle.std.specs.Prelude.{◌≡◌, ◌≤◌, ◌<◌, ◌++◌, ◌⊎◌, List, ℕ, Bool, IfOk, OkIff, Err, length, drop};
 ghost use Rattle.calendar_values.specs.WallClock.{IsInstant};
 ghost use Rattle.offset_times.specs.Local.{instant_of};
 ghost use Rattle.rfc3339.specs.Form.{IsDateTime, IsOffsetText};
-ghost use Rattle.rfc3339.specs.Front.{front_reading_of, offset_numbers, offset_reading_of};
-ghost use Rattle.rfc3339.specs.Meaning.{offset_of, value_of, AreInRange};
+ghost use Rattle.rfc3339.specs.Front.{front_reading_of, offset_numbers, offset_reading_of, with_length, offset_of_numbers};
+ghost use Rattle.rfc3339.specs.Meaning.{meaning, offset_of, value_of, AreInRange};
 ghost use Rattle.rfc3339.specs.Texts.{HasText};
 ghost use Rattle.rfc3339.specs.declared.parts.Parts.{Parts};
+ghost use Rattle.rfc3339.specs.declared.refusal.TextRefusal.TheVariants.{Syntax};
 
 use crate::parse::{date_time, offset};
 use crate::reading::{front, zone};
@@ -24,10 +25,18 @@ use offset_times::OffsetDateTime;
 /// assert_eq!(rt; length, 20);
 /// ```
 pub fn parse_rfc3339_front(text: &[u8]) -> Result<(OffsetDateTime, usize), TextRefusal>
+    // The whole answer, as a word that computes.
     ensures reading { result ≡ front_reading_of text.now }
-    // A beginning that spells parts is accepted exactly where they are in their ranges, and then as what they mean.
+
+    // A beginning that spells parts is accepted exactly where they are in their ranges, and then as what they mean. Else
+    // the error has the first that is not. Any other text fails for its form.
     ensures value { (stamp rest : List ℕ) (p : Parts) → text.now ≡ stamp ++ rest
         → IsDateTime stamp p → OkIff result (AreInRange p) (value_of p, length stamp) }
+    ensures equation { (stamp rest : List ℕ) (p : Parts) → text.now ≡ stamp ++ rest
+        → IsDateTime stamp p → result ≡ with_length (length stamp) (meaning p) }
+    ensures syntax { (result ≡ Err Syntax) ⊎ ((stamp : List ℕ) × (rest : List ℕ) × (p : Parts) ×
+        (text.now ≡ stamp ++ rest) × IsDateTime stamp p) }
+
     // What is accepted begins with such a stamp, in its ranges, and the rest follows it.
     ensures accepted { IfOk result (λ read. (stamp : List ℕ) × (rest : List ℕ) × (p : Parts) ×
         (text.now ≡ stamp ++ rest) × (length stamp ≡ read.1) × (rest ≡ drop read.1 text.now) ×
@@ -71,10 +80,18 @@ fn read_front(text: &[u8]) -> Result<(OffsetDateTime, usize), TextRefusal>
 /// );
 /// ```
 pub fn parse_rfc3339_offset(text: &[u8]) -> Result<UtcOffset, TextRefusal>
+    // The whole answer, as a word that computes.
     ensures reading { result ≡ offset_reading_of text.now }
+
+    // The same by the form of the text.
     ensures value { (is_west : Bool) (hour minute : ℕ)
         → IsOffsetText text.now is_west hour minute → hour < 100 → minute < 100
         → OkIff result ((hour ≤ 23) × (minute ≤ 59)) (offset_of is_west hour minute) }
+    ensures equation { (is_west : Bool) (hour minute : ℕ)
+        → IsOffsetText text.now is_west hour minute → hour < 100 → minute < 100
+        → result ≡ offset_of_numbers is_west hour minute }
+    ensures syntax { (result ≡ Err Syntax) ⊎ ((is_west : Bool) × (hour : ℕ) × (minute : ℕ) ×
+        IsOffsetText text.now is_west hour minute × (hour < 100) × (minute < 100)) }
 {
     read_offset(text)
 }

@@ -1,12 +1,12 @@
 //! Texts read.
-ghost use Rattle.std.specs.Prelude.{◌≡◌, ◌≤◌, ◌⊎◌, IfOk, OkIff, Err, Ok, ℤ, pos};
+ghost use Rattle.std.specs.Prelude.{◌≡◌, ◌≤◌, ◌⊎◌, IfOk, OkIff, IfSome, Err, Ok, Some, ℤ, pos};
 ghost use Rattle.calendar_values.specs.WallClock.{IsInstant};
 ghost use Rattle.offset_times.specs.Local.{Local, local_in_utc, instant_of};
 ghost use Rattle.rfc3339.specs.Form.{IsDateTime};
 ghost use Rattle.rfc3339.specs.Meaning.{meaning, offset_of, value_of, AreInRange};
 ghost use Rattle.rfc3339.specs.Reading.{reading_of};
 ghost use Rattle.rfc3339.specs.Texts.{HasText, rfc3339_text, HasFixedText, fixed_text};
-ghost use Rattle.rfc3339.specs.Walls.{parts_on};
+ghost use Rattle.rfc3339.specs.Walls.{parts_on, IsAfterSecond};
 ghost use Rattle.rfc3339.specs.declared.parts.Parts.{Parts};
 ghost use Rattle.rfc3339.specs.declared.refusal.TextRefusal.TheVariants.{Syntax};
 
@@ -62,7 +62,12 @@ pub fn parse_rfc3339(text: &[u8]) -> Result<OffsetDateTime, TextRefusal>
 #[inline(always)]
 pub fn parts_after_second(parts: Parts, text: &[u8]) -> Option<Parts>
     requires { parts.year ≤ 9_999 }
+    // The whole answer, as a word that computes.
     ensures value { result ≡ parts_on parts text.now }
+
+    // The same by the form of the text.
+    ensures equation { (p : Parts) → IsAfterSecond parts text.now p → result ≡ Some p }
+    ensures spelled { IfSome result (IsAfterSecond parts text.now) }
 {
     let (parts, rest) = after_second(parts, text)?;
     if rest.is_empty() { Some(parts) } else { None }

@@ -1,4 +1,4 @@
-use Rattle.std.proofs.Common.{get_or, arith}
+use Rattle.std.proofs.Common.{get_or}
 use Rattle.rfc3339.proofs.WallLemmas.{wall_at-digits, wall_digits, wall_year}
 use Rattle.rfc3339.proofs.reading.wall.Goals as goal
 

@@ -27,6 +27,7 @@ use crate::proved::rfc3339::{TextRefusal, parse_rfc3339_offset};
 /// ensures reading { result ≡ reading_as time_and_offset (time_on_date text.now) }
 /// ensures value { (p : Parts) → IsFullTime text.now p → OkIff result (AreInRange p)
 ///     (time_of_parts p, offset_of p.is_west p.offset_hour p.offset_minute) }
+/// ensures equation { (p : Parts) → IsFullTime text.now p → result ≡ meaning_as time_and_offset p }
 /// ensures syntax { (result ≡ Err Syntax) ⊎ ((p : Parts) × IsFullTime text.now p) }
 /// ensures accepted { IfOk result (λ read.
 ///     (p : Parts) × IsFullTime text.now p × AreInRange p × (read ≡

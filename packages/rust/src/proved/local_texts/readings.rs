@@ -78,6 +78,8 @@ fn read_date_time(text: &[u8]) -> Result<PlainDateTime, TextRefusal> {
 /// ensures reading { result ≡ reading_as (λ at. wall_time at.wall) (time_in_utc text.now) }
 /// ensures value { (p : Parts) → IsLocalTime text.now p →
 ///     OkIff result (AreInRange p) (time_of_parts p) }
+/// ensures equation { (p : Parts) → IsLocalTime text.now p →
+///     result ≡ meaning_as (λ at. wall_time at.wall) p }
 /// ensures syntax { (result ≡ Err Syntax) ⊎ ((p : Parts) × IsLocalTime text.now p) }
 /// ensures accepted { IfOk result (λ shown.
 ///     (p : Parts) × IsLocalTime text.now p × AreInRange p × (shown ≡ time_of_parts p)) }
@@ -126,8 +128,11 @@ fn read_time(text: &[u8]) -> Result<Time, TextRefusal> {
 /// ```text
 /// ensures reading { result ≡ reading_at assumed text.now }
 /// ensures own { (p : Parts) → IsDateTime text.now p → OkIff result (AreInRange p) (value_of p) }
+/// ensures own_equation { (p : Parts) → IsDateTime text.now p → result ≡ meaning p }
 /// ensures assumed { (p : Parts) → IsLocalDateTime text.now p →
 ///     OkIff result (AreInRange p) (value_at assumed p) }
+/// ensures assumed_equation { (p : Parts) → IsLocalDateTime text.now p →
+///     result ≡ meaning_as (λ at. wall_at at.wall assumed) p }
 /// ensures syntax { (result ≡ Err Syntax)
 ///     ⊎ (((p : Parts) × IsDateTime text.now p) ⊎ ((p : Parts) × IsLocalDateTime text.now p)) }
 /// ensures accepted { IfOk result (λ at.

@@ -26,6 +26,10 @@ use crate::proved::offset_times::OffsetDateTime;
 /// ensures reading { result ≡ front_reading_of text.now }
 /// ensures value { (stamp rest : List ℕ) (p : Parts) → text.now ≡ stamp ++ rest
 ///     → IsDateTime stamp p → OkIff result (AreInRange p) (value_of p, length stamp) }
+/// ensures equation { (stamp rest : List ℕ) (p : Parts) → text.now ≡ stamp ++ rest
+///     → IsDateTime stamp p → result ≡ with_length (length stamp) (meaning p) }
+/// ensures syntax { (result ≡ Err Syntax) ⊎ ((stamp : List ℕ) × (rest : List ℕ) × (p : Parts) ×
+///     (text.now ≡ stamp ++ rest) × IsDateTime stamp p) }
 /// ensures accepted { IfOk result (λ read. (stamp : List ℕ) × (rest : List ℕ) × (p : Parts) ×
 ///     (text.now ≡ stamp ++ rest) × (length stamp ≡ read.1) × (rest ≡ drop read.1 text.now) ×
 ///     IsDateTime stamp p × AreInRange p × (read.0 ≡ value_of p)) }
@@ -85,6 +89,11 @@ fn read_front(text: &[u8]) -> Result<(OffsetDateTime, usize), TextRefusal> {
 /// ensures value { (is_west : Bool) (hour minute : ℕ)
 ///     → IsOffsetText text.now is_west hour minute → hour < 100 → minute < 100
 ///     → OkIff result ((hour ≤ 23) × (minute ≤ 59)) (offset_of is_west hour minute) }
+/// ensures equation { (is_west : Bool) (hour minute : ℕ)
+///     → IsOffsetText text.now is_west hour minute → hour < 100 → minute < 100
+///     → result ≡ offset_of_numbers is_west hour minute }
+/// ensures syntax { (result ≡ Err Syntax) ⊎ ((is_west : Bool) × (hour : ℕ) × (minute : ℕ) ×
+///     IsOffsetText text.now is_west hour minute × (hour < 100) × (minute < 100)) }
 /// ```
 ///
 /// [docs/proofs/STATEMENT.md](crate::proved#contracts) explains the words.

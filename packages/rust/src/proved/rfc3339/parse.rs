@@ -56,6 +56,8 @@ pub fn parse_rfc3339(text: &[u8]) -> Result<OffsetDateTime, TextRefusal> {
 /// ```text
 /// requires { parts.year ≤ 9_999 }
 /// ensures value { result ≡ parts_on parts text.now }
+/// ensures equation { (p : Parts) → IsAfterSecond parts text.now p → result ≡ Some p }
+/// ensures spelled { IfSome result (IsAfterSecond parts text.now) }
 /// ```
 ///
 /// [docs/proofs/STATEMENT.md](crate::proved#contracts) explains the words.
