@@ -309,7 +309,7 @@ class Timestamp(_Formatted, engine.Timestamp):
 
     @classmethod
     def _of_count(cls: type[_Stamp], count: int, of_second: int) -> _Stamp:
-        """The instant of a count of a unit that a second has so many of."""
+        """The instant of a count of a unit. A second has `of_second` of them."""
         seconds, left = divmod(count, of_second)
         try:
             return cls(seconds, left * (_SECOND // of_second))
