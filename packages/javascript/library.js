@@ -56,10 +56,20 @@ export const BILLION = 1_000_000_000n;
 /** The mark of parts that the library has returned, which need no test. */
 export const KNOWN = Symbol("known");
 
+/** The most characters of a value in a message. */
+const MOST_SHOWN = 60;
+
+/** A value for a message, as a program writes it. */
+function spell(value) {
+    if (typeof value === "object" && value !== null) return Object.prototype.toString.call(value);
+    if (typeof value === "function") return "a function";
+    const text = typeof value === "string" ? JSON.stringify(value) : typeof value === "bigint" ? `${value}n` : String(value);
+    return text.length <= MOST_SHOWN ? text : `${text.slice(0, MOST_SHOWN)}..`;
+}
+
 /** Throws a TypeError: the name, the type that it must have, and the value. */
 export function refuseType(name, type, value) {
-    const text = typeof value === "object" && value !== null ? Object.prototype.toString.call(value) : String(value);
-    throw new TypeError(`${name} must be ${type}, not ${text}`);
+    throw new TypeError(`${name} must be ${type}, not ${spell(value)}`);
 }
 
 /** A BigInt of an integer. */

@@ -58,6 +58,25 @@ test("bad texts are refused by name", () => {
     for (const value of [undefined, null, 5, new Date(0)]) assert.throws(() => Timestamp.parse(value), TypeError);
 });
 
+test("an error of a type spells the value", () => {
+    for (const [value, text] of [
+        ["5", '"5"'],
+        [5.5, "5.5"],
+        [Symbol("5"), "Symbol(5)"],
+        [[5], "[object Array]"],
+        [class Five {}, "a function"],
+        ["x".repeat(1_000), `"${"x".repeat(59)}..`],
+    ]) {
+        assert.throws(() => new Timestamp(value), { name: "TypeError", message: `seconds must be an integer, not ${text}` });
+    }
+    for (const [value, text] of [
+        [5n, "5n"],
+        [-(10n ** 100n), `-1${"0".repeat(58)}..`],
+    ]) {
+        assert.throws(() => new Timestamp(0).toOffset(value), { message: `offsetSeconds must be an integer, not ${text}` });
+    }
+});
+
 test("a leap second is read as the last nanosecond of a month in UTC", () => {
     for (const [text, wanted, isLeap] of [
         ["2016-12-31T23:59:59.9Z", "2016-12-31T23:59:59.9Z", false],

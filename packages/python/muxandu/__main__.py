@@ -20,7 +20,7 @@ def _read(text: str) -> OffsetDateTime:
     if len(seconds.lstrip("0")) > 20:
         raise RefusedTimestamp
     whole = int(seconds) * 10**9 + int((fraction or "0").ljust(9, "0"))
-    return OffsetDateTime.from_parts(Timestamp.from_nanoseconds(-whole if sign == "-" else whole).to_offset(0))
+    return OffsetDateTime.from_parts(Timestamp(*divmod(-whole if sign == "-" else whole, 10**9)).to_offset(0))
 
 
 USAGE = """\

@@ -291,7 +291,7 @@ class Timestamp(_Formatted, engine.Timestamp):
     def from_text(cls: type[_Stamp], text: str) -> _Stamp:
         """The instant whose str() is this text, a decimal of Unix seconds such as -0.5.
         RefusedSyntax for another text."""
-        return _own_texts.read("Timestamp", text, lambda *parts: cls.from_nanoseconds(_own_texts.nanoseconds(*parts)))
+        return _own_texts.read("Timestamp", text, lambda *parts: cls(*divmod(_own_texts.nanoseconds(*parts), _SECOND)))
 
     @classmethod
     def from_microseconds(cls: type[_Stamp], microseconds: int) -> _Stamp:
@@ -309,7 +309,7 @@ class Timestamp(_Formatted, engine.Timestamp):
 
     @classmethod
     def _of_count(cls: type[_Stamp], count: int, of_second: int) -> _Stamp:
-        """The instant of a count of a unit that a second has so many of."""
+        """The instant of a count of a unit. A second has `of_second` of them."""
         seconds, left = divmod(count, of_second)
         try:
             return cls(seconds, left * (_SECOND // of_second))

@@ -482,6 +482,9 @@ class Moments(unittest.TestCase):
             (Timestamp, "-0", muxandu.RefusedSyntax),
         ):
             self.assertRaises(refusal, kind.from_text, text)
+        with self.assertRaises(muxandu.RefusedTimestamp) as caught:
+            Timestamp.from_text("31494784780800.5")
+        self.assertEqual(caught.exception.value, 31_494_784_780_800)
 
     def test_texts_of_files(self):
         """`json.dumps` with `default=str` writes the text that `from_text` reads; `isoformat` and `to_rfc3339` write others."""

@@ -97,6 +97,8 @@ pub enum UnixTimestampPrecision {
     Nanosecond,
 }
 
+// The type is of the proved text, which derives nothing.
+#[allow(clippy::derivable_impls)]
 impl Default for SubsecondDigits {
     fn default() -> SubsecondDigits {
         SubsecondDigits::OneOrMore
